@@ -1,0 +1,9 @@
+pub mod Abstraction
+pub mod Term
+pub mod Free
+pub mod Cond
+pub mod Distinction
+pub mod Definitions
+pub mod Published
+pub mod OpenBisimulation
+pub mod FiniteControl
