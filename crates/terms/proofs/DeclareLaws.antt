@@ -1,0 +1,43 @@
+-- Declaring two names apart: the question so made is accepted exactly if check 12 allows the pair, and then differs in that pair alone.
+use mathlib.Core.Path.{_≡_, refl, sym, ap, _∙_}
+use mathlib.Core.List.{List, [], _∷_, _++_}
+use mathlib.Core.Bool.{Bool, true, false, _&&_, not}
+use Prim.Native.Nat.{ℕ, _+_, _≤_}
+use native.Mathlib.Omega.{arith}
+use lib.ListN.{length, length-append}
+use lib.Dec.{leb}
+use Rattle.calculus.specs.Cond.{Pairs}
+use Rattle.terms.specs.Limits.{longestApart}
+use Rattle.terms.specs.Answer.{Answer, refused, result, _>>=_, _>>_, need}
+use Rattle.terms.specs.Framing.{joined}
+use Rattle.terms.specs.Operations.{declaredFields, declaredQuestion, mayDeclare}
+use Rattle.terms.specs.Question.{Question, differentNames, readPairs, readApart, checkOf, pairBytes, fieldsOf, write}
+use Rattle.terms.proofs.Answers.{Every, need-both}
+use Rattle.terms.proofs.WellFormed.{WellFormed, PairAllowed, withApart, decided-by-apart, pairs-read-before, accepted-well-formed}
+
+last-pair : (D : Pairs) (a b : ℕ) → Every PairAllowed D →
+    readPairs (pairBytes D ++ (a ∷ b ∷ [])) ≡ (need 12 (differentNames a b) >> result (D ++ ((a, b) ∷ [])))
+unfolding readPairs need _>>_ _>>=_
+last-pair D a b h = pairs-read-before D (a ∷ b ∷ []) h ∙ go (differentNames a b)
+  where
+    go : (t : Bool) →
+        ((need 12 t >> (readPairs [] >>= λ E. result ((a, b) ∷ E))) >>= λ E. result (D ++ E)) ≡ (need 12 t >> result (D ++ ((a, b) ∷ [])))
+    go true = refl
+    go false = refl
+
+pub declared-answer : (q : Question) → WellFormed q → (a b : ℕ) →
+    checkOf (joined (declaredFields a b (fieldsOf q))) ≡ (need 12 (mayDeclare a b q) >> result (declaredQuestion a b q))
+unfolding declaredFields declaredQuestion mayDeclare fieldsOf withApart readApart
+declared-answer q w a b =
+    let xs = pairBytes (q .apart) ++ (a ∷ b ∷ []) in
+    let l : length xs ≡ length (pairBytes (q .apart)) + 2 = length-append (pairBytes (q .apart)) (a ∷ b ∷ []) in
+    let few = w .apartSize in
+    decided-by-apart q w xs (omega arith)
+    ∙ rw
+    (last-pair (q .apart) a b (w .apart), l)
+    (need-both
+    12
+    (leb (length (pairBytes (q .apart)) + 2) longestApart)
+    (differentNames a b)
+    (q .apart ++ ((a, b) ∷ []))
+    (λ D. record { arities = q .arities; bodies = q .bodies; first = q .first; second = q .second; apart = D }))

@@ -1,0 +1,189 @@
+-- Every refusal has one of document 01's numbers. Assumes nothing.
+use mathlib.Core.Path.{_≡_, refl, sym, _∙_}
+use mathlib.Core.Bool.{Bool, true, false, cond, _&&_}
+use mathlib.Core.List.{List, [], _∷_}
+use Prim.Native.Nat.{ℕ, zero, suc, _+_, _-_, _<_, _≤_}
+use native.Mathlib.Omega.{arith}
+use lib.ListN.{length, getD}
+use lib.Dec.{ltb, leb, eqb}
+use borrow.Author.Tests.{leb-true}
+use Rattle.calculus.specs.Term.{Term, nil, tau, inp, out, bout, mat, sum, par, res, call}
+use Rattle.terms.specs.Answer.{Answer, refused, result, _>>=_, _>>_, need}
+use Rattle.terms.specs.Framing.{Fields, cut, field, fields, framed}
+use Rattle.terms.specs.Grammar.{parallelOutermost}
+use Rattle.terms.specs.Limits.{longestQuestion}
+use Rattle.terms.specs.Operations.{merged, placedBeside, writtenWithin, mergeOf, besideOf}
+use Rattle.terms.specs.Question.{Question, version, readBodies, readPart, readPairs, readApart, differentNames, checkTerms, checkFields, checkOf}
+use Rattle.terms.specs.Reading.{byte, readName, readNames, Tag, inaction, silent, input, output, newOutput, match, choice, parallel, restriction, calling, unknown, tagOf, readTerm, readWhole}
+use Rattle.terms.proofs.Answers.{bind-result, need-result}
+
+-- the last number of a check
+abbrev pub lastCheck : ℕ
+lastCheck = 15
+
+module _ {A : Type 0} where
+  -- where m is a refusal, its number is that of a check
+  unfoldable pub Numbered : Answer A → Type 0
+  Numbered (refused k) = k ≤ lastCheck
+  Numbered (result a) = Unit {0}
+
+  pub numbered-at : (m : Answer A) (k : ℕ) → Numbered m → m ≡ refused k → k ≤ lastCheck
+  unfolding Numbered
+  numbered-at (refused j) k h e = let z : j ≡ k = cc in omega arith
+  numbered-at (result a) k h e = let z : _≡_ {A = ℕ} 0 1 = cc in absurd (omega arith)
+
+  numbered-cond : (t : Bool) (m n : Answer A) → Numbered m → Numbered n → Numbered (cond t m n)
+  numbered-cond true m n h k = h
+  numbered-cond false m n h k = k
+
+module _ {A B : Type 0} where
+  pub numbered-bind : (m : Answer A) (f : A → Answer B) → Numbered m → ((a : A) → Numbered (f a)) → Numbered (m >>= f)
+  unfolding Numbered _>>=_
+  numbered-bind (refused k) f h g = h
+  numbered-bind (result a) f h g = g a
+
+module _ {B : Type 0} where
+  pub numbered-need : (k : ℕ) (t : Bool) (r : Answer B) → k ≤ lastCheck → Numbered r → Numbered (need k t >> r)
+  unfolding Numbered _>>_ need
+  numbered-need k true r h g = g
+  numbered-need k false r h g = h
+
+done : {A : Type 0} (a : A) → Numbered (result a)
+unfolding Numbered
+done a = tt
+
+turned : (A : Type 0) (k : ℕ) → k ≤ lastCheck → Numbered {A = A} (refused k)
+unfolding Numbered
+turned A k h = h
+
+byte-numbered : (bs : List ℕ) → Numbered (byte bs)
+unfolding byte Numbered
+byte-numbered [] = omega arith
+byte-numbered (b ∷ bs) = tt
+
+name-numbered : (free d : ℕ) (bs : List ℕ) → Numbered (readName free d bs)
+unfolding readName
+name-numbered free d bs =
+    numbered-bind (byte bs) _ (byte-numbered bs)
+    (λ p. numbered-cond (ltb (p .0) free) _ _ (done _) (numbered-cond (leb 128 (p .0) && ltb (p .0 - 128) d) _ _ (done _) (turned _ 9 (omega arith))))
+
+names-numbered : (free d n : ℕ) (bs : List ℕ) → Numbered (readNames free d n bs)
+unfolding readNames
+names-numbered free d zero bs = done _
+names-numbered free d (suc n) bs =
+    numbered-bind (readName free d bs) _ (name-numbered free d bs)
+    (λ p. numbered-bind (readNames free d n (p .1)) _ (names-numbered free d n (p .1)) (λ q. done _))
+
+module _ (free : ℕ) (arities : List ℕ) where
+  -- one name, then a subterm; two names, then a subterm; two subterms
+  one-name : {A : Type 0} (d : ℕ) (bs : List ℕ) (f : ℕ × List ℕ → Answer A) → ((p : ℕ × List ℕ) → Numbered (f p)) → Numbered (readName free d bs >>= f)
+  one-name d bs f h = numbered-bind (readName free d bs) f (name-numbered free d bs) h
+
+  term-numbered : (n d : ℕ) (bs : List ℕ) → Numbered (readTerm free arities n d bs)
+  unfolding readTerm byte tagOf _>>=_ _>>_ need Numbered
+  term-numbered zero d bs = omega arith
+  term-numbered (suc n) d [] = omega arith
+  term-numbered (suc n) d (zero ∷ bs) = tt
+  term-numbered (suc n) d ((suc zero) ∷ bs) = numbered-bind (readTerm free arities n d bs) _ (term-numbered n d bs) (λ p. tt)
+  term-numbered (suc n) d ((suc (suc zero)) ∷ bs) = one-name d bs _ (λ a. numbered-bind (readTerm free arities n (1 + d) (a .1)) _ (term-numbered n (1 + d) (a .1)) (λ p. tt))
+  term-numbered (suc n) d ((suc (suc (suc zero))) ∷ bs) = one-name d bs _ (λ a. one-name d (a .1) _ (λ b. numbered-bind (readTerm free arities n d (b .1)) _ (term-numbered n d (b .1)) (λ p. tt)))
+  term-numbered (suc n) d ((suc (suc (suc (suc zero)))) ∷ bs) = one-name d bs _ (λ a. numbered-bind (readTerm free arities n (1 + d) (a .1)) _ (term-numbered n (1 + d) (a .1)) (λ p. tt))
+  term-numbered (suc n) d ((suc (suc (suc (suc (suc zero))))) ∷ bs) = one-name d bs _ (λ a. one-name d (a .1) _ (λ b. numbered-bind (readTerm free arities n d (b .1)) _ (term-numbered n d (b .1)) (λ p. tt)))
+  term-numbered (suc n) d ((suc (suc (suc (suc (suc (suc zero)))))) ∷ bs) = numbered-bind (readTerm free arities n d bs) _ (term-numbered n d bs) (λ p. numbered-bind (readTerm free arities n d (p .1)) _ (term-numbered n d (p .1)) (λ q. tt))
+  term-numbered (suc n) d ((suc (suc (suc (suc (suc (suc (suc zero))))))) ∷ bs) = numbered-bind (readTerm free arities n d bs) _ (term-numbered n d bs) (λ p. numbered-bind (readTerm free arities n d (p .1)) _ (term-numbered n d (p .1)) (λ q. tt))
+  term-numbered (suc n) d ((suc (suc (suc (suc (suc (suc (suc (suc zero)))))))) ∷ bs) = numbered-bind (readTerm free arities n (1 + d) bs) _ (term-numbered n (1 + d) bs) (λ p. tt)
+  term-numbered (suc n) d ((suc (suc (suc (suc (suc (suc (suc (suc (suc zero))))))))) ∷ bs) = numbered-bind (byte bs) _ (byte-numbered bs) (λ k. numbered-need 8 (ltb (k .0) (length arities)) _ (omega arith) (numbered-bind (readNames free d (getD arities (k .0) 0) (k .1)) _ (names-numbered free d (getD arities (k .0) 0) (k .1)) (λ p. tt)))
+  term-numbered (suc n) d ((suc (suc (suc (suc (suc (suc (suc (suc (suc (suc b)))))))))) ∷ bs) = omega arith
+
+  whole-numbered : (d : ℕ) (bs : List ℕ) → Numbered (readWhole free arities d bs)
+  unfolding readWhole
+  whole-numbered d bs =
+      numbered-bind (readTerm free arities (length bs) d bs) _ (term-numbered (length bs) d bs)
+      (λ p. numbered-need 7 (eqb (length (p .1)) 0) _ (omega arith) (done _))
+
+part-numbered : (arities bs : List ℕ) → Numbered (readPart arities bs)
+unfolding readPart
+part-numbered arities bs = whole-numbered _ arities 0 bs
+
+bodies-numbered : (arities sizes : List ℕ) (bodies : List (List ℕ)) → Numbered (readBodies arities sizes bodies)
+unfolding readBodies
+bodies-numbered arities (a ∷ as′) (b ∷ bs) =
+    numbered-bind (readWhole 0 arities a b) _ (whole-numbered 0 arities a b)
+    (λ P. numbered-bind (readBodies arities as′ bs) _ (bodies-numbered arities as′ bs) (λ Ps. done _))
+bodies-numbered arities (a ∷ as′) [] = done _
+bodies-numbered arities [] bs = done _
+
+pairs-numbered : (bs : List ℕ) → Numbered (readPairs bs)
+unfolding readPairs
+pairs-numbered [] = done _
+pairs-numbered (a ∷ []) = turned _ 12 (omega arith)
+pairs-numbered (a ∷ b ∷ bs) =
+    numbered-need 12 (differentNames a b) _ (omega arith) (numbered-bind (readPairs bs) _ (pairs-numbered bs) (λ D. done _))
+
+cut-numbered : (n : ℕ) (bs : List ℕ) → Numbered (cut n bs)
+unfolding cut
+cut-numbered n bs = numbered-cond (leb n (length bs)) _ _ (done _) (turned _ 4 (omega arith))
+
+field-numbered : (bs : List ℕ) → Numbered (field bs)
+unfolding field
+field-numbered bs = numbered-bind (cut 2 bs) _ (cut-numbered 2 bs) (λ p. cut-numbered _ (p .1))
+
+fields-numbered : (n : ℕ) (bs : List ℕ) → Numbered (fields n bs)
+unfolding fields
+fields-numbered zero bs = done _
+fields-numbered (suc n) bs =
+    numbered-bind (field bs) _ (field-numbered bs) (λ f. numbered-bind (fields n (f .1)) _ (fields-numbered n (f .1)) (λ fs. done _))
+
+framed-numbered : (bs : List ℕ) → Numbered (framed bs)
+unfolding framed
+framed-numbered bs =
+    numbered-bind (cut 1 bs) _ (cut-numbered 1 bs) (λ n.
+    numbered-bind (cut (getD (n .0) 0 0) (n .1)) _ (cut-numbered _ (n .1)) (λ a.
+    numbered-bind (fields (getD (n .0) 0 0) (a .1)) _ (fields-numbered _ (a .1)) (λ b.
+    numbered-bind (field (b .1)) _ (field-numbered (b .1)) (λ p.
+    numbered-bind (field (p .1)) _ (field-numbered (p .1)) (λ q.
+    numbered-bind (field (q .1)) _ (field-numbered (q .1)) (λ d.
+    numbered-need 4 (eqb (length (d .1)) 0) _ (omega arith) (done _)))))))
+
+version-numbered : (bs : List ℕ) → Numbered (version bs)
+unfolding version
+version-numbered [] = turned _ 3 (omega arith)
+version-numbered (b ∷ bs) = numbered-need 3 (eqb b 1) _ (omega arith) (done _)
+
+pub check-numbered : (bs : List ℕ) → Numbered (checkOf bs)
+unfolding checkOf checkFields checkTerms readApart
+check-numbered bs =
+    numbered-bind (version bs) _ (version-numbered bs) (λ rest.
+    numbered-need 4 _ _ (omega arith)
+    (numbered-bind (framed rest) _ (framed-numbered rest) (λ f.
+    numbered-need 5 _ _ (omega arith) (numbered-need 6 _ _ (omega arith)
+    (numbered-bind (readBodies (f .arities) (f .arities) (f .bodies)) _ (bodies-numbered (f .arities) (f .arities) (f .bodies)) (λ bodies.
+    numbered-bind (readPart (f .arities) (f .first)) _ (part-numbered (f .arities) (f .first)) (λ first.
+    numbered-bind (readPart (f .arities) (f .second)) _ (part-numbered (f .arities) (f .second)) (λ second.
+    numbered-need 10 _ _ (omega arith) (numbered-need 11 _ _ (omega arith)
+    (numbered-bind (readApart (f .apart)) _ (numbered-need 12 _ _ (omega arith) (pairs-numbered (f .apart))) (λ D. done _)))))))))))
+
+written-numbered : (room : ℕ) (q : Question) → Numbered (writtenWithin room q)
+unfolding writtenWithin
+written-numbered room q = numbered-need 15 _ _ (omega arith) (done _)
+
+pub merge-numbered : (bs : List ℕ) (a b room : ℕ) → Numbered (mergeOf bs a b room)
+unfolding mergeOf merged
+merge-numbered bs a b room =
+    numbered-bind (merged bs a b) _
+    (numbered-bind (checkOf bs) _ (check-numbered bs) (λ q. numbered-need 14 _ _ (omega arith) (done _))) (written-numbered room)
+
+pub beside-numbered : (bs third : List ℕ) (room : ℕ) → Numbered (besideOf bs third room)
+unfolding besideOf placedBeside
+beside-numbered bs third room =
+    numbered-bind (placedBeside bs third) _
+    (numbered-bind (checkOf bs) _ (check-numbered bs) (λ q.
+    numbered-need 6 _ _ (omega arith) (numbered-bind (readPart (q .arities) third) _ (part-numbered (q .arities) third) (λ R.
+    numbered-need 10 (parallelOutermost R) _ (omega arith) (done _))))) (written-numbered room)
+
+-- An accepted question is not longer than check 4 allows.
+pub accepted-length : (bs : List ℕ) (q : Question) → checkOf bs ≡ result q → length bs ≤ longestQuestion
+unfolding checkOf
+accepted-length bs q e =
+    let (rest, _, e₁) = bind-result (version bs) _ q e in
+    leb-true (length bs) longestQuestion (need-result 4 (leb (length bs) longestQuestion) _ q e₁ .0)

@@ -1,0 +1,16 @@
+pub mod Answer
+pub mod Checking
+pub mod Encoding
+pub mod FieldPlaces
+pub mod Framing
+pub mod FreeFlags
+pub mod Grammar
+pub mod Limits
+pub mod NameTable
+pub mod Operations
+pub mod Question
+pub mod Reading
+pub mod Renaming
+pub mod Scanning
+pub mod Shape
+pub mod Writing

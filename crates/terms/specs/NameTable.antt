@@ -1,0 +1,44 @@
+-- A renaming as a table of name bytes. One routine renames a term's bytes by any such table, so a caller that merges names, rewrites by a
+-- condition, instantiates, binds a name or opens a call's body fills a table and shows `Represents`.
+use mathlib.Core.Path.{_≡_}
+use mathlib.Core.Bool.{cond}
+use mathlib.Core.List.{List}
+use Prim.Native.Nat.{ℕ, _+_, _-_, _<_}
+use lib.ListN.{length, getD}
+use lib.Dec.{ltb, eqb}
+use Rattle.terms.specs.Limits.{tableNames}
+use Rattle.terms.specs.Encoding.{nameByte}
+
+-- Where the table has the name m of a term under D binders: free names first, then the binders, the innermost first.
+unfoldable pub slot : ℕ → ℕ → ℕ
+slot D m = cond (ltb m D) (tableNames + m) (m - D)
+
+-- The table has ρ, from terms under D binders, in which `free` names may stand free, to terms under D′ binders.
+unfoldable pub Represents : ℕ → ℕ → ℕ → List ℕ → (ℕ → ℕ) → Type 0
+Represents free D D′ table ρ =
+    (m : ℕ) → m < D + free → (getD table (slot D m) 0 ≡ nameByte D′ (ρ m)) × (ρ m < D′ + tableNames)
+
+-- A byte of the table beneath `inner` binders more, which are those of the term itself: only a binder's byte moves. 0 where there is none.
+unfoldable pub beneath : ℕ → ℕ → ℕ
+beneath inner b = cond (ltb b 128) b (cond (ltb (b + inner) 256) (b + inner) 0)
+
+-- What becomes of a name byte beneath `inner` binders of the term: the term's own binders stay, so that nothing is captured.
+unfoldable pub renamedByte : ℕ → List ℕ → ℕ → ℕ
+renamedByte inner table b =
+    cond (ltb b 128) (beneath inner (getD table b 0))
+    (cond (ltb (b - 128) inner) b (beneath inner (getD table (tableNames + (b - 128 - inner)) 0)))
+
+-- The same of a subterm, beneath `inner` binders of the term: d and d′ count these too.
+unfoldable pub RepresentsBeneath : ℕ → ℕ → ℕ → ℕ → List ℕ → (ℕ → ℕ) → Type 0
+RepresentsBeneath inner free d d′ table ρ =
+    (m : ℕ) → m < d + free → (renamedByte inner table (nameByte d m) ≡ nameByte d′ (ρ m)) × (ρ m < d′ + tableNames)
+
+-- The table that opens a body: its parameters, the last innermost, become the call's names, whose bytes these are. A body has no free names.
+unfoldable pub openingEntry : List ℕ → ℕ → ℕ
+openingEntry names k =
+    cond (ltb k tableNames) 0
+    (cond (ltb (k - tableNames) (length names)) (getD names (length names - 1 - (k - tableNames)) 0) 0)
+
+-- The table that instantiates the innermost binder by the name whose byte b is: the other binders come down by one.
+unfoldable pub instantiatingEntry : ℕ → ℕ → ℕ
+instantiatingEntry b k = cond (ltb k tableNames) k (cond (eqb k tableNames) b (k - tableNames - 1 + 128))

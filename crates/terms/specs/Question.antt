@@ -1,0 +1,113 @@
+-- A question: checks 3 to 12 of document 01 in their order, and its bytes.
+use mathlib.Core.Bool.{Bool, true, false, _&&_, not}
+use mathlib.Core.List.{List, [], _∷_, _++_}
+use Prim.Native.Nat.{ℕ}
+use lib.ListN.{length}
+use lib.Dec.{ltb, leb, eqb}
+use Rattle.calculus.specs.Cond.{Pairs}
+use Rattle.calculus.specs.Term.{Term}
+use Rattle.terms.specs.Limits.{nameCount, longestQuestion, mostDefinitions, greatestArity, longestTerm, longestApart}
+use Rattle.terms.specs.Answer.{Answer, refused, result, _>>=_, _>>_, need}
+use Rattle.terms.specs.Encoding.{encode}
+use Rattle.terms.specs.Reading.{readWhole}
+use Rattle.terms.specs.Grammar.{sequential, parallelOutermost, guarded}
+use Rattle.terms.specs.Framing.{Fields, framed, joined}
+
+-- Document 01 calls its two terms the parts, and the pairs of names that are never equal the apart list.
+pub record Question : Type 0 where
+  pub arities : List ℕ
+  pub bodies : List Term
+  pub first : Term
+  pub second : Term
+  pub apart : Pairs
+
+module _ {A : Type 0} where
+  unfoldable pub all : (A → Bool) → List A → Bool
+  all p [] = true
+  all p (x ∷ xs) = p x && all p xs
+
+-- Check 3: the version byte; the bytes behind it.
+unfoldable pub version : List ℕ → Answer (List ℕ)
+version [] = refused 3
+version (b ∷ bs) = need 3 (eqb b 1) >> result bs
+
+-- Check 6.
+unfoldable pub fits : List ℕ → Bool
+fits bs = leb 1 (length bs) && leb (length bs) longestTerm
+
+-- Checks 7 to 9 over the bodies: a body's parameters are its outermost binders, and no name is free in it.
+unfoldable pub readBodies : List ℕ → List ℕ → List (List ℕ) → Answer (List Term)
+readBodies arities (a ∷ as′) (b ∷ bs) = do
+  P ← readWhole 0 arities a b
+  Ps ← readBodies arities as′ bs
+  result (P ∷ Ps)
+readBodies arities (a ∷ as′) [] = result []
+readBodies arities [] bs = result []
+
+-- Checks 7 to 9 over a part.
+unfoldable pub readPart : List ℕ → List ℕ → Answer Term
+readPart arities bs = readWhole nameCount arities 0 bs
+
+-- Check 12.
+unfoldable pub differentNames : ℕ → ℕ → Bool
+differentNames a b = ltb a nameCount && ltb b nameCount && not (eqb a b)
+
+unfoldable pub readPairs : List ℕ → Answer Pairs
+readPairs [] = result []
+readPairs (a ∷ []) = refused 12
+readPairs (a ∷ b ∷ bs) = do
+  need 12 (differentNames a b)
+  D ← readPairs bs
+  result ((a, b) ∷ D)
+
+unfoldable pub readApart : List ℕ → Answer Pairs
+readApart bs = need 12 (leb (length bs) longestApart) >> readPairs bs
+
+-- Checks 7 to 12, over the fields that checks 4 to 6 have passed.
+unfoldable pub checkTerms : Fields → Answer Question
+checkTerms f = do
+  bodies ← readBodies (f .arities) (f .arities) (f .bodies)
+  first ← readPart (f .arities) (f .first)
+  second ← readPart (f .arities) (f .second)
+  need 10 (all sequential bodies && parallelOutermost first && parallelOutermost second)
+  need 11 (all guarded bodies)
+  apart ← readApart (f .apart)
+  result (record { arities = f .arities; bodies = bodies; first = first; second = second; apart = apart })
+
+-- Checks 5 to 12.
+unfoldable pub checkFields : Fields → Answer Question
+checkFields f = do
+  need 5 (leb (length (f .arities)) mostDefinitions && all (λ a. leb a greatestArity) (f .arities))
+  need 6 (all fits (f .bodies) && fits (f .first) && fits (f .second))
+  checkTerms f
+
+-- Checks 3 to 12, in their order.
+unfoldable pub checkOf : List ℕ → Answer Question
+checkOf question = do
+  rest ← version question
+  need 4 (leb (length question) longestQuestion)
+  f ← framed rest
+  checkFields f
+
+-- The bytes of a question.
+unfoldable pub bodyFields : List ℕ → List Term → List (List ℕ)
+bodyFields (a ∷ as′) (P ∷ Ps) = encode a P ∷ bodyFields as′ Ps
+bodyFields (a ∷ as′) [] = []
+bodyFields [] Ps = []
+
+unfoldable pub pairBytes : Pairs → List ℕ
+pairBytes [] = []
+pairBytes (p ∷ D) = p .0 ∷ p .1 ∷ pairBytes D
+
+unfoldable pub fieldsOf : Question → Fields
+fieldsOf q =
+    record {
+      arities = q .arities;
+      bodies = bodyFields (q .arities) (q .bodies);
+      first = encode 0 (q .first);
+      second = encode 0 (q .second);
+      apart = pairBytes (q .apart);
+    }
+
+unfoldable pub write : Question → List ℕ
+write q = joined (fieldsOf q)
