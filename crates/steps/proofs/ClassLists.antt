@@ -1,0 +1,67 @@
+-- The list of the classes of the names below a number is the condition, where that matches no other names. Assumes nothing.
+use mathlib.Core.List.{map}
+use mathlib.Core.Path.{_≡_, refl, sym, _∙_, ap, fun-ext, subst}
+use native.Mathlib.Decide.{ℕ-discrete, decLt}
+use native.Mathlib.Omega.{arith}
+use Prim.Native.Nat.{ℕ, zero, suc, _+_, _<_, _≤_}
+use lib.ListN.{length, getD, length-map, List·getD-eq-default}
+use Rattle.calculus.specs.Cond.{Cond, Unif, cls, _~_}
+use Rattle.calculus.proofs.Conditions.{E1, E2, E4, Occ, cls-~}
+use Rattle.steps.specs.Listed.{namesFrom, classesOf, classIn}
+
+length-names : (n k : ℕ) → length (namesFrom n k) ≡ k
+unfolding namesFrom
+length-names n zero = refl
+length-names n (suc k) = ap suc (length-names (suc n) k)
+
+getD-names : (f : ℕ → ℕ) (n k i d : ℕ) → i < k → getD (map f (namesFrom n k)) i d ≡ f (n + i)
+unfolding namesFrom
+getD-names f n zero i d h = absurd (omega arith)
+getD-names f n (suc k) zero d h = let e : n + 0 ≡ n = omega arith in ap f (sym e)
+getD-names f n (suc k) (suc i) d h =
+    let e : suc n + i ≡ n + suc i = omega arith in
+    getD-names f (suc n) k i d (omega arith) ∙ ap f e
+
+pub length-classes : (names : ℕ) (M : Cond) → length (classesOf names M) ≡ names
+unfolding classesOf
+length-classes names M = length-map (namesFrom 0 names) (cls M) ∙ length-names 0 names
+
+pub class-of : (names : ℕ) (M : Cond) (n d : ℕ) → n < names → getD (classesOf names M) n d ≡ cls M n
+unfolding classesOf
+class-of names M n d h = let e : 0 + n ≡ n = omega arith in getD-names (cls M) 0 names n d h ∙ ap (cls M) e
+
+-- M matches no name with another but those below `names`
+abbrev pub Within : ℕ → Cond → Type 0
+Within names M = (n : ℕ) → Occ n M → n < names
+
+pub unmatched : (M : Cond) (n : ℕ) → ¬ Occ n M → cls M n ≡ n
+unmatched M n h = go (ℕ-discrete (cls M n) n)
+  where
+    go : Dec (cls M n ≡ n) → cls M n ≡ n
+    go (yes e) = e
+    go (no k) = absurd (h (E4 M (cls M n) n (E1 M n) k))
+
+class-at : (names : ℕ) (M : Cond) → Within names M → (n : ℕ) → classIn (classesOf names M) n ≡ cls M n
+unfolding classIn classesOf
+class-at names M w n = go (decLt n names)
+  where
+    go : Dec (n < names) → getD (map (cls M) (namesFrom 0 names)) n n ≡ cls M n
+    go (yes h) = class-of names M n n h
+    go (no h) =
+        let l : length (map (cls M) (namesFrom 0 names)) ≤ n = omega (arith, length-map (namesFrom 0 names) (cls M), length-names 0 names) in
+        List·getD-eq-default (map (cls M) (namesFrom 0 names)) n l ∙ sym (unmatched M n (λ o. h (w n o)))
+
+-- to rewrite by the list is to rewrite by the condition
+pub class-list : (names : ℕ) (M : Cond) → Within names M → classIn (classesOf names M) ≡ cls M
+class-list names M w = fun-ext (class-at names M w)
+
+pub same-classes : (names : ℕ) (M N : Cond) → M ~ N → classesOf names M ≡ classesOf names N
+unfolding classesOf
+same-classes names M N s = ap (λ f. map f (namesFrom 0 names)) (cls-~ M N s)
+
+same-cls : (M N : Cond) → cls M ≡ cls N → M ~ N
+same-cls M N e = (subst (λ f. Unif f N) (sym e) (E2 N), subst (λ f. Unif f M) e (E2 M))
+
+pub classes-determine : (names : ℕ) (M N : Cond) → Within names M → Within names N → classesOf names M ≡ classesOf names N → M ~ N
+classes-determine names M N v w e =
+    same-cls M N (sym (class-list names M v) ∙ ap classIn e ∙ class-list names N w)

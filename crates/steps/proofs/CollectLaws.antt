@@ -1,0 +1,236 @@
+-- Candidates put one by one into the list that stands in the area: after each the area holds what `collect` has, or a limit is passed for good.
+-- Assumes nothing.
+use mathlib.Core.Bool.{cond}
+use mathlib.Core.List.{List, [], _∷_, _++_}
+use mathlib.Core.Logic.{_⊎_, inl, inr}
+use mathlib.Core.Path.{_≡_, refl, sym, _∙_, ap, subst}
+use native.Mathlib.Nat.{mul-le-mul-right}
+use native.Mathlib.Numerals.{add-one}
+use native.Mathlib.Omega.{arith}
+use borrow.Author.Tests.{le-leb}
+use Prim.Native.Nat.{ℕ, suc, _+_, _*_, _<_, _≤_, Ordering, Ordering·lt, Ordering·eq, Ordering·gt}
+use lib.ListN.{length, getD, take, drop, set, take-append-drop}
+use lib.Seq.{sets, sets-eq, set-set, take-suc, take-at, take-all, split-at}
+use Rattle.calculus.specs.Abstraction.{Act, tauA, inpA, outA, boutA}
+use Rattle.calculus.specs.Cond.{Cond}
+use Rattle.calculus.specs.Term.{Term}
+use Rattle.terms.specs.Limits.{nameCount, longestTerm}
+use Rattle.steps.specs.Collecting.{Stands, Found, PutInto, PutIs, CollectIs}
+use Rattle.steps.specs.Derived.{Ascending}
+use Rattle.steps.specs.Entries.{Sized, InsertIs}
+use Rattle.steps.specs.Limits.{mostSteps, stepBytes}
+use Rattle.steps.specs.Listed.{ListedStep, listedAs, canonStep, resultBytes, bytes}
+use Rattle.steps.specs.Listing.{order, insert, collect, unsettled, limited}
+use Rattle.steps.specs.Lists.{_∈_, All}
+use Rattle.steps.specs.Operations.{listBytes}
+use Rattle.steps.specs.Raw.{Candidate, step, blocked}
+use Rattle.steps.proofs.ClassLists.{length-classes}
+use Rattle.steps.proofs.InsertLaws.{length-listBytes, stored-again}
+use Rattle.steps.proofs.Limited.{limited-within, limited-many, limited-long}
+use Rattle.steps.proofs.ListedBytes.{step-length, step-size}
+use Rattle.steps.proofs.Membership.{all-∈, all-imp}
+use Rattle.steps.proofs.Moves.{set-before}
+use Rattle.steps.proofs.Sorted.{placed, insert-all, insert-sorted, insert-new, sorted-ascending, ascending-sorted, collect-old}
+
+-- `collect` only grows.
+insert-length : (longest : ℕ) (s : ListedStep) (ts : List ListedStep) → length ts ≤ length (insert longest s ts)
+unfolding insert
+insert-length longest s [] = omega arith
+insert-length longest s (t ∷ ts) = go (order (bytes longest s) (bytes longest t)) (insert-length longest s ts)
+  where
+    go : (o : Ordering) → length ts ≤ length (insert longest s ts)
+        → length (t ∷ ts) ≤ length (placed longest s t ts (insert longest s ts) o)
+    go Ordering·lt h = omega arith
+    go Ordering·eq h = omega arith
+    go Ordering·gt h = omega arith
+
+module _ (names longest x : ℕ) where
+  collect-length : (cs : List Candidate) (found : List ListedStep) → length found ≤ length (collect names longest x cs found)
+  unfolding collect
+  collect-length [] found = omega arith
+  collect-length (step M α P ∷ cs) found =
+      omega (arith, insert-length longest (canonStep names x M α P) found, collect-length cs (insert longest (canonStep names x M α P) found))
+  collect-length (blocked ∷ cs) found = collect-length cs found
+
+  pub collect-++ : (cs ds : List Candidate) (found : List ListedStep)
+      → collect names longest x (cs ++ ds) found ≡ collect names longest x ds (collect names longest x cs found)
+  unfolding collect
+  collect-++ [] ds found = refl
+  collect-++ (step M α P ∷ cs) ds found = collect-++ cs ds (insert longest (canonStep names x M α P) found)
+  collect-++ (blocked ∷ cs) ds found = collect-++ cs ds found
+
+  canon-classes : (M : Cond) (α : Act) (A : Term) → length (canonStep names x M α A .classes) ≡ names
+  unfolding canonStep listedAs
+  canon-classes M tauA A = length-classes names M
+  canon-classes M (inpA a) A = length-classes names M
+  canon-classes M (outA a b) A = length-classes names M
+  canon-classes M (boutA a) A = length-classes names M
+
+-- a later run over an earlier one that is no longer
+sets-over : (l : List ℕ) (p : ℕ) (xs ys : List ℕ) → length xs ≤ length ys → sets (sets l p xs) p ys ≡ sets l p ys
+sets-over l p [] ys h = refl
+sets-over l p (x ∷ xs) [] h = absurd (omega arith)
+sets-over l p (x ∷ xs) (y ∷ ys) h =
+    ap (λ m. sets m (suc p) ys) (set-before (set l p x) p (suc p) y xs (omega arith) ∙ ap (λ m. sets m (suc p) xs) (set-set l p x y))
+    ∙ sets-over (set l p y) (suc p) xs ys (omega arith)
+
+take-sets : (l xs : List ℕ) (n : ℕ) → length xs ≡ n → n ≤ length l → take n (sets l 0 xs) ≡ xs
+take-sets l xs n e h = ap (take n) (sets-eq xs l 0 (omega arith)) ∙ take-at xs (drop (0 + length xs) l) n e
+
+-- A list that stands in the area may be stored again.
+stands-again : (area : List ℕ) (count : ℕ) (found : List ListedStep) → Stands area count found → area ≡ sets area 0 (listBytes found)
+stands-again area count found s =
+    let rest : List ℕ = drop (count * stepBytes) area in
+    let whole : area ≡ listBytes found ++ rest = sym (take-append-drop (count * stepBytes) area) ∙ ap (λ l. l ++ rest) (s .bytes) in
+    whole ∙ sym (stored-again (listBytes found) rest) ∙ ap (λ l. sets l 0 (listBytes found)) (sym whole)
+
+-- Stored over the list that stood there, a list stands there.
+module _ (area : List ℕ) (room : mostSteps * stepBytes ≤ length area) where
+  stands-stored : (found : List ListedStep) (r : ℕ) → Sized found → Ascending longestTerm found → All (λ s. length (resultBytes s) ≤ longestTerm) found
+      → r ≡ length found → r ≤ mostSteps → (area′ : List ℕ) → area′ ≡ sets area 0 (listBytes found) → Stands area′ r found
+  stands-stored found r z a f e h area′ p =
+      let l : length (listBytes found) ≡ r * stepBytes = length-listBytes found z ∙ ap (λ n. n * stepBytes) (sym e) in
+      let k : r * stepBytes ≤ mostSteps * stepBytes = mul-le-mul-right stepBytes h in
+      record {
+        sized = z;
+        ascending = a;
+        fit = f;
+        number = sym e;
+        bytes = ap (take (r * stepBytes)) p ∙ take-sets area (listBytes found) (r * stepBytes) l (omega arith);
+      }
+
+  module _ (x count : ℕ) (found : List ListedStep) (s : Stands area count found) where
+    pub put-blocked : count ≤ mostSteps → PutInto blocked x area count count area found
+    unfolding collect
+    put-blocked h = record { stands = λ _. s; stored = λ _. stands-again area count found s; passed = λ g. absurd (omega arith) }
+
+    module _ (M : Cond) (α : Act) (A : Term) where
+      abbrev listedStep : ListedStep
+      listedStep = canonStep nameCount x M α A
+
+      pub put-step : length (resultBytes (canonStep nameCount x M α A)) ≤ longestTerm
+          → (entry : List ℕ) → entry ≡ bytes longestTerm (canonStep nameCount x M α A)
+          → (r : ℕ) (area′ : List ℕ) → InsertIs area count entry r area′ → PutInto (step M α A) x area count r area′ found
+      unfolding collect InsertIs
+      put-step f entry e r area′ i =
+          let t : ListedStep = canonStep nameCount x M α A in
+          let (n, p) = i t found e (s .sized) (s .ascending) (s .number) (s .bytes) in
+          let size : length (bytes longestTerm t) ≡ stepBytes = step-size nameCount longestTerm t (canon-classes nameCount longestTerm x M α A) f in
+          let sorted = insert-sorted longestTerm t found (ascending-sorted longestTerm found (s .ascending)) in
+          let q : r ≤ mostSteps → area′ ≡ sets area 0 (listBytes (insert longestTerm t found)) =
+          λ h. p ∙ ap (λ b. cond b (sets area 0 (listBytes (insert longestTerm t found))) area) (le-leb r mostSteps h) in
+          record {
+            stands = λ h.
+                stands-stored (insert longestTerm t found) r
+                (insert-all longestTerm (λ u. length (bytes longestTerm u) ≡ stepBytes) t found size (s .sized))
+                (sorted-ascending longestTerm (insert longestTerm t found) sorted)
+                (insert-all longestTerm (λ u. length (resultBytes u) ≤ longestTerm) t found f (s .fit))
+                n h area′ (q h);
+            stored = q;
+            passed = λ h cs.
+                limited-many longestTerm mostSteps (collect nameCount longestTerm x cs (insert longestTerm t found))
+                (omega (arith, n, collect-length nameCount longestTerm x cs (insert longestTerm t found)));
+          }
+
+      -- a step whose result is too long stands in the list, whatever comes after it
+      pub put-long : longestTerm < length (resultBytes (canonStep nameCount x M α A)) → (area′ : List ℕ)
+          → PutInto (step M α A) x area count (mostSteps + 1) area′ found
+      unfolding collect
+      put-long f area′ =
+          let t : ListedStep = canonStep nameCount x M α A in
+          let all : All (λ u. (u ≡ t) ⊎ (length (bytes longestTerm u) ≡ stepBytes)) (insert longestTerm t found) =
+          insert-all longestTerm (λ u. (u ≡ t) ⊎ (length (bytes longestTerm u) ≡ stepBytes)) t found (inl refl)
+          (all-imp (λ u. length (bytes longestTerm u) ≡ stepBytes) (λ u. (u ≡ t) ⊎ (length (bytes longestTerm u) ≡ stepBytes)) found (λ u h. inr h) (s .sized)) in
+          let (u, m, b) = insert-new longestTerm t found in
+          let there : t ∈ insert longestTerm t found =
+          is-t u m b (all-∈ (λ u. (u ≡ t) ⊎ (length (bytes longestTerm u) ≡ stepBytes)) (insert longestTerm t found) all u m) in
+          record {
+            stands = λ h. absurd (omega arith);
+            stored = λ h. absurd (omega arith);
+            passed = λ h cs.
+                limited-long longestTerm mostSteps (collect nameCount longestTerm x cs (insert longestTerm t found))
+                (t, collect-old nameCount longestTerm x cs (insert longestTerm t found) t there, f);
+          }
+        where
+          is-t : (u : ListedStep) → u ∈ insert longestTerm (canonStep nameCount x M α A) found
+              → bytes longestTerm (canonStep nameCount x M α A) ≡ bytes longestTerm u
+              → (u ≡ canonStep nameCount x M α A) ⊎ (length (bytes longestTerm u) ≡ stepBytes)
+              → canonStep nameCount x M α A ∈ insert longestTerm (canonStep nameCount x M α A) found
+          is-t u m b (inl e) = subst (λ v. v ∈ insert longestTerm (canonStep nameCount x M α A) found) e m
+          is-t u m b (inr e) =
+              let c = canon-classes nameCount longestTerm x M α A in
+              absurd (omega (arith, step-length longestTerm (canonStep nameCount x M α A), ap length b))
+
+-- What the area holds when the first i candidates have been put into it.
+module _ (cs : List Candidate) (x : ℕ) (area₀ : List ℕ) (count₀ : ℕ) where
+  abbrev after : ℕ → List ListedStep → List ListedStep
+  after i found = collect nameCount longestTerm x (take i cs) found
+
+  pub record Progress (i n : ℕ) (area : List ℕ) (found : List ListedStep) : Type 0 where
+    pub stands : Stands area n (collect nameCount longestTerm x (take i cs) found)
+    pub stored : area ≡ sets area₀ 0 (listBytes (collect nameCount longestTerm x (take i cs) found))
+
+  abbrev pub Progresses : ℕ → ℕ → List ℕ → Type 0
+  Progresses i n area = (found : List ListedStep) → Stands area₀ count₀ found → Progress i n area found
+
+  pub progress-start : Progresses 0 count₀ area₀
+  unfolding collect
+  progress-start found s = record { stands = s; stored = stands-again area₀ count₀ found s }
+
+  next : (i : ℕ) → i < length cs → (found : List ListedStep)
+      → collect nameCount longestTerm x (getD cs i blocked ∷ []) (after i found) ≡ after (i + 1) found
+  next i h found =
+      sym (collect-++ nameCount longestTerm x (take i cs) (getD cs i blocked ∷ []) found)
+      ∙ ap (λ ds. collect nameCount longestTerm x ds found) (sym (take-suc cs i blocked h) ∙ ap (λ k. take k cs) (sym (add-one i)))
+
+  pub progress-step : (i n m : ℕ) (area area′ : List ℕ) → i < length cs → Progresses i n area → PutIs (getD cs i blocked) x area n m area′
+      → m ≤ mostSteps → Progresses (i + 1) m area′
+  unfolding PutIs
+  progress-step i n m area area′ h p u k found s =
+      let f : List ListedStep = after i found in
+      let g : List ListedStep = collect nameCount longestTerm x (getD cs i blocked ∷ []) f in
+      let before = p found s in
+      let put = u f (before .stands) in
+      let more : length f ≤ length g = collect-length nameCount longestTerm x (getD cs i blocked ∷ []) f in
+      let longer : length (listBytes f) ≤ length (listBytes g) = omega (
+        arith,
+        length-listBytes f (before .stands .sized),
+        length-listBytes g (put .stands k .sized),
+        mul-le-mul-right stepBytes more,
+      ) in
+      let e : g ≡ after (i + 1) found = next i h found in
+      record {
+        stands = subst (Stands area′ m) e (put .stands k);
+        stored =
+            put .stored k
+            ∙ ap (λ l. sets l 0 (listBytes g)) (before .stored)
+            ∙ sets-over area₀ 0 (listBytes f) (listBytes g) longer
+            ∙ ap (λ l. sets area₀ 0 (listBytes l)) e;
+      }
+
+  pub progress-done : (i n : ℕ) (area : List ℕ) → length cs ≤ i → n ≤ mostSteps → Progresses i n area → CollectIs cs x area₀ count₀ n area
+  unfolding CollectIs
+  progress-done i n area h k p found s =
+      let now = p found s in
+      let e : after i found ≡ collect nameCount longestTerm x cs found = ap (λ ds. collect nameCount longestTerm x ds found) (take-all i cs h) in
+      subst (λ l. Found l area₀ n area) e (record {
+        given = λ _. (
+          limited-within longestTerm mostSteps (after i found) (omega (arith, now .stands .number)) (now .stands .fit),
+          sym (now .stands .number),
+          now .stored,
+        );
+        passed = λ l. absurd (omega arith);
+      })
+
+  pub progress-passed : (i n m : ℕ) (area area′ : List ℕ) → i < length cs → Progresses i n area → PutIs (getD cs i blocked) x area n m area′
+      → mostSteps < m → CollectIs cs x area₀ count₀ m area′
+  unfolding CollectIs PutIs
+  progress-passed i n m area area′ h p u k found s =
+      let now = p found s in
+      let e : collect nameCount longestTerm x (getD cs i blocked ∷ drop (suc i) cs) (after i found) ≡ collect nameCount longestTerm x cs found =
+      sym (collect-++ nameCount longestTerm x (take i cs) (getD cs i blocked ∷ drop (suc i) cs) found)
+      ∙ ap (λ ds. collect nameCount longestTerm x ds found) (sym (split-at cs i blocked h)) in
+      record {
+        given = λ l. absurd (omega arith);
+        passed = λ _. subst (λ l. limited longestTerm mostSteps l ≡ unsettled) e (u (after i found) (now .stands) .passed k (drop (suc i) cs));
+      }

@@ -1,0 +1,56 @@
+-- Runs of stores that do not touch each other, and bytes moved up by a run from the last to the first. Assumes nothing.
+use mathlib.Core.Path.{_≡_, refl, sym, _∙_, ap, ap₂}
+use mathlib.Core.List.{List, [], _∷_}
+use native.Mathlib.Omega.{arith}
+use Prim.Native.Nat.{ℕ, zero, suc, _+_, _-_, _<_, _≤_}
+use lib.ListN.{length, getD, set}
+use lib.Seq.{sets, set-comm, getD-set-other, drop-cons}
+use Rattle.terms.proofs.Stores.{span}
+
+-- a store before a run
+pub set-before : (l : List ℕ) (p q v : ℕ) (xs : List ℕ) → p < q → set (sets l q xs) p v ≡ sets (set l p v) q xs
+set-before l p q v [] h = refl
+set-before l p q v (x ∷ xs) h =
+    set-before (set l q x) p (suc q) v xs (omega arith)
+    ∙ ap (λ m. sets m (suc q) xs) (set-comm l q p x v (λ e. omega arith))
+
+pub getD-before : (l : List ℕ) (p q : ℕ) (xs : List ℕ) → p < q → getD (sets l q xs) p 0 ≡ getD l p 0
+getD-before l p q [] h = refl
+getD-before l p q (x ∷ xs) h = getD-before (set l q x) p (suc q) xs (omega arith) ∙ getD-set-other l q p x 0 (λ e. omega arith)
+
+-- two runs, the second before the first
+pub sets-before : (l : List ℕ) (p q : ℕ) (xs ys : List ℕ) → p + length xs ≤ q → sets (sets l q ys) p xs ≡ sets (sets l p xs) q ys
+sets-before l p q [] ys h = refl
+sets-before l p q (x ∷ xs) ys h =
+    ap (λ m. sets m (suc p) xs) (set-before l p q x ys (omega arith)) ∙ sets-before (set l p x) (suc p) q xs ys (omega arith)
+
+span-cons : (l : List ℕ) (j n : ℕ) → j < length l → span l j (suc n) ≡ getD l j 0 ∷ span l (suc j) n
+span-cons l j n h = rw (drop-cons l j 0 h) refl
+
+-- the bytes from i up to `end`, each moved by n, with one more before them
+pub moved-more : (l : List ℕ) (n i end : ℕ) → 0 < i → i ≤ end → end ≤ length l → (l′ : List ℕ) → l′ ≡ sets l (i + n) (span l i (end - i))
+    → set l′ (i - 1 + n) (getD l′ (i - 1) 0) ≡ sets l (i - 1 + n) (span l (i - 1) (end - (i - 1)))
+moved-more l n zero end h k m l′ e = absurd (omega arith)
+moved-more l n (suc j) end h k m l′ e =
+    let p : suc j - 1 ≡ j = omega arith in
+    let q : suc j + n ≡ suc (j + n) = omega arith in
+    let w : end - j ≡ suc (end - suc j) = omega arith in
+    let run : List ℕ = span l (suc j) (end - suc j) in
+    let f : l′ ≡ sets l (suc (j + n)) run = e ∙ ap (λ z. sets l z run) q in
+    let g : getD l′ j 0 ≡ getD l j 0 = ap (λ z. getD z j 0) f ∙ getD-before l j (suc (j + n)) run (omega arith) in
+    let s : set l′ (j + n) (getD l′ j 0) ≡ sets (set l (j + n) (getD l j 0)) (suc (j + n)) run =
+    ap₂ (λ z v. set z (j + n) v) f g ∙ set-before l (j + n) (suc (j + n)) (getD l j 0) run (omega arith) in
+    let t : span l j (end - j) ≡ getD l j 0 ∷ run = ap (span l j) w ∙ span-cons l j (end - suc j) (omega arith) in
+    rw p (s ∙ ap (sets l (j + n)) (sym t))
+
+-- where the run begins and ends
+pub moved-none : (l : List ℕ) (n end : ℕ) → l ≡ sets l (end + n) (span l end (end - end))
+moved-none l n end =
+    let e : end - end ≡ 0 = omega arith in
+    rw e refl
+
+pub moved-all : (l : List ℕ) (n from i end : ℕ) → from ≤ i → i ≤ from → (l′ : List ℕ) → l′ ≡ sets l (i + n) (span l i (end - i))
+    → l′ ≡ sets l (from + n) (span l from (end - from))
+moved-all l n from i end h k l′ e =
+    let q : i ≡ from = omega arith in
+    e ∙ ap (λ j. sets l (j + n) (span l j (end - j))) q

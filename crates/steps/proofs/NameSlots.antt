@@ -1,0 +1,185 @@
+-- Tables of names by slots: what they have beneath a binder, in a called body, and as tables for renaming. Assumes nothing.
+use mathlib.Core.Path.{_≡_, refl, sym, ap, _∙_}
+use mathlib.Core.Bool.{Bool, true, false}
+use mathlib.Core.List.{List, [], _∷_, map, reverse}
+use Prim.Native.Nat.{ℕ, zero, suc, _+_, _-_, _<_, _≤_}
+use native.Mathlib.Nat.{eq-or-lt-of-le}
+use mathlib.Core.Logic.{⊎-elim}
+use native.Mathlib.Omega.{arith}
+use lib.ListN.{length, getD, set}
+use lib.Seq.{getD-set-same, getD-set-other}
+use lib.Dec.{ltb}
+use borrow.Author.Tests.{ltb-true, ltb-false, lt-ltb, le-ltb}
+use Rattle.calculus.specs.Term.{_•_}
+use Rattle.terms.specs.Limits.{nameCount, tableNames}
+use Rattle.terms.specs.Encoding.{nameByte}
+use Rattle.terms.specs.NameTable.{slot, Represents}
+use Rattle.terms.proofs.NameTables.{byte-bound, byte-free}
+use Rattle.steps.specs.Slots.{slotOf}
+use Rattle.steps.specs.Names.{mostBinders, nameSlots, HasNames, HasNew, turn, CalledIs, TableIs}
+
+pub turn-free : (from to D w : ℕ) → w < from → turn from to D w ≡ w
+unfolding turn
+turn-free from to D w h = simp (lt-ltb w from h)
+
+pub turn-bound : (from to D w : ℕ) → from ≤ w → w - from < D → turn from to D w ≡ to + (D - 1 - (w - from))
+unfolding turn
+turn-bound from to D w h l = simp (le-ltb w from h, lt-ltb (w - from) D l)
+
+pub turn-past : (from to D w : ℕ) → from ≤ w → D ≤ w - from → turn from to D w ≡ 0
+unfolding turn
+turn-past from to D w h l = simp (le-ltb w from h, le-ltb (w - from) D l)
+
+pub turn-small : (from to D w : ℕ) → from ≤ 256 → to + D ≤ 256 → turn from to D w < 256
+turn-small from to D w f t = go (ltb w from) refl (ltb (w - from) D) refl
+  where
+    go : (x : Bool) → ltb w from ≡ x → (y : Bool) → ltb (w - from) D ≡ y → turn from to D w < 256
+    go true x y e = rw (turn-free from to D w (ltb-true w from x)) (omega (arith, ltb-true w from x))
+    go false x true y =
+        let l = ltb-true (w - from) D y in
+        rw (turn-bound from to D w (ltb-false w from x) l) (omega arith)
+    go false x false y = rw (turn-past from to D w (ltb-false w from x) (ltb-false (w - from) D y)) (omega arith)
+
+-- A binder's slot, and a free name's.
+pub slot-bound : (names d n : ℕ) → n < d → slotOf names d n ≡ names + (d - 1 - n)
+unfolding slotOf
+slot-bound names d n h = simp (lt-ltb n d h)
+
+pub slot-free : (names d n : ℕ) → d ≤ n → slotOf names d n ≡ n - d
+unfolding slotOf
+slot-free names d n h = simp (le-ltb n d h)
+
+-- Nothing moves beneath a binder.
+pub slot-inner : (names d n : ℕ) → slotOf names (1 + d) (suc n) ≡ slotOf names d n
+slot-inner names d n = go (ltb n d) refl
+  where
+    go : (t : Bool) → ltb n d ≡ t → slotOf names (1 + d) (suc n) ≡ slotOf names d n
+    go true t =
+        let l = ltb-true n d t in
+        slot-bound names (1 + d) (suc n) (omega arith) ∙ omega arith ∙ sym (slot-bound names d n l)
+    go false t =
+        let l = ltb-false n d t in
+        slot-free names (1 + d) (suc n) (omega arith) ∙ omega arith ∙ sym (slot-free names d n l)
+
+-- A level that is not there yet is no name's slot.
+pub below-level : (D n : ℕ) → n < D + tableNames → slotOf tableNames D n ≡ tableNames + D → ⊥
+below-level D n l e = go (ltb n D) refl
+  where
+    go : (t : Bool) → ltb n D ≡ t → ⊥
+    go true t = omega (arith, ltb-true n D t, slot-bound tableNames D n (ltb-true n D t))
+    go false t = omega (arith, ltb-false n D t, slot-free tableNames D n (ltb-false n D t))
+
+-- The slot of a name's byte, and the byte of a name's slot.
+pub slot-of-byte : (D m : ℕ) → m < D + tableNames → turn 128 tableNames D (nameByte D m) ≡ slotOf tableNames D m
+slot-of-byte D m h = go (ltb m D) refl
+  where
+    go : (t : Bool) → ltb m D ≡ t → turn 128 tableNames D (nameByte D m) ≡ slotOf tableNames D m
+    go true t =
+        let l = ltb-true m D t in
+        rw (byte-bound D m l, slot-bound tableNames D m l) (turn-bound 128 tableNames D (128 + m) (omega arith) (omega arith) ∙ omega arith)
+    go false t =
+        let l = ltb-false m D t in
+        rw (byte-free D m l, slot-free tableNames D m l) (turn-free 128 tableNames D (m - D) (omega arith))
+
+pub byte-of-slot : (D n : ℕ) → n < D + tableNames → turn tableNames 128 D (slotOf tableNames D n) ≡ nameByte D n
+byte-of-slot D n h = go (ltb n D) refl
+  where
+    go : (t : Bool) → ltb n D ≡ t → turn tableNames 128 D (slotOf tableNames D n) ≡ nameByte D n
+    go true t =
+        let l = ltb-true n D t in
+        rw (byte-bound D n l, slot-bound tableNames D n l)
+        (turn-bound tableNames 128 D (tableNames + (D - 1 - n)) (omega arith) (omega arith) ∙ omega arith)
+    go false t =
+        let l = ltb-false n D t in
+        rw (byte-free D n l, slot-free tableNames D n l) (turn-free tableNames 128 D (n - D) (omega arith))
+
+slot-of-place : (D m : ℕ) → m < D + tableNames → turn tableNames tableNames D (slot D m) ≡ slotOf tableNames D m
+unfolding slot
+slot-of-place D m h = go (ltb m D) refl
+  where
+    go : (t : Bool) → ltb m D ≡ t → turn tableNames tableNames D (slot D m) ≡ slotOf tableNames D m
+    go true t =
+        let l = ltb-true m D t in
+        rw (slot-bound tableNames D m l, t) (turn-bound tableNames tableNames D (tableNames + m) (omega arith) (omega arith) ∙ omega arith)
+    go false t =
+        let l = ltb-false m D t in
+        rw (slot-free tableNames D m l, t) (turn-free tableNames tableNames D (m - D) (omega arith))
+
+place-within : (D m : ℕ) → D ≤ mostBinders → m < D + tableNames → slot D m < nameSlots
+unfolding slot
+place-within D m d h = go (ltb m D) refl
+  where
+    go : (t : Bool) → ltb m D ≡ t → slot D m < nameSlots
+    go true t = rw t (omega (arith, ltb-true m D t))
+    go false t = rw t (omega (arith, ltb-false m D t))
+
+module _ (free D D′ : ℕ) (names : List ℕ) (τ : ℕ → ℕ) (has : HasNames free D D′ names τ) where
+  -- As a table for renaming.
+  pub names-represent : (table : List ℕ) → free ≤ tableNames → D ≤ mostBinders → TableIs names D D′ table → Represents free D D′ table τ
+  unfolding HasNames TableIs Represents
+  names-represent table few deep is m h =
+      let (e, r) = has m h in (
+        is (slot D m) (place-within D m deep (omega arith))
+            ∙ ap (λ (k : ℕ). turn tableNames 128 D′ (getD names k 0)) (slot-of-place D m (omega arith))
+            ∙ ap (turn tableNames 128 D′) e ∙ byte-of-slot D′ (τ m) r,
+        r,
+      )
+
+  -- Beneath a binder of these bytes, whose name stands for y.
+  pub names-enter : (v y : ℕ) → free ≤ tableNames → tableNames + D < length names → v ≡ slotOf tableNames D′ y → y < D′ + tableNames
+      → HasNames free (1 + D) D′ (set names (tableNames + D) v) (y • τ)
+  unfolding HasNames
+  names-enter v y few room e r zero h =
+      let s : slotOf tableNames (1 + D) 0 ≡ tableNames + D = slot-bound tableNames (1 + D) 0 (omega arith) ∙ omega arith in
+      (ap (λ (k : ℕ). getD (set names (tableNames + D) v) k 0) s ∙ getD-set-same names (tableNames + D) v 0 room ∙ e, r)
+  names-enter v y few room e r (suc n) h =
+      let (f, l) = has n (omega arith) in (
+        ap (λ (k : ℕ). getD (set names (tableNames + D) v) k 0) (slot-inner tableNames D n)
+            ∙ getD-set-other names (tableNames + D) (slotOf tableNames D n) v 0 (below-level D n (omega arith)) ∙ f,
+        l,
+      )
+
+  -- Outside stands one restriction more.
+  pub names-beneath : HasNames free D (1 + D′) names (λ n. suc (τ n))
+  unfolding HasNames
+  names-beneath m h = let (e, r) = has m h in (e ∙ sym (slot-inner tableNames D′ (τ m)), omega arith)
+
+  -- Another new name.
+  pub names-renew : (v : ℕ) → free ≤ nameCount → HasNames free D D′ (set names nameCount v) τ
+  unfolding HasNames
+  names-renew v few m h =
+      let (e, r) = has m h in
+      (getD-set-other names nameCount (slotOf tableNames D m) v 0 (other (ltb m D) refl) ∙ e, r)
+    where
+      other : (t : Bool) → ltb m D ≡ t → slotOf tableNames D m ≡ nameCount → ⊥
+      other true t e = omega (arith, slot-bound tableNames D m (ltb-true m D t))
+      other false t e = omega (arith, slot-free tableNames D m (ltb-false m D t), ltb-false m D t)
+
+module _ (D′ : ℕ) (names : List ℕ) (x : ℕ) (has : HasNew D′ names x) where
+  pub new-enter : (D v : ℕ) → HasNew D′ (set names (tableNames + D) v) x
+  unfolding HasNew
+  new-enter D v = (getD-set-other names (tableNames + D) nameCount v 0 (λ z. omega arith) ∙ has .0, has .1)
+
+  pub new-beneath : HasNew (1 + D′) names (suc x)
+  unfolding HasNew
+  new-beneath = (has .0 ∙ sym (slot-inner tableNames D′ x), omega (arith, has .1))
+
+pub new-renew : (D′ : ℕ) (names : List ℕ) (v x : ℕ) → nameCount < length names → v ≡ slotOf tableNames D′ x → x < D′ + tableNames
+    → HasNew D′ (set names nameCount v) x
+unfolding HasNew
+new-renew D′ names v x room e r = (getD-set-same names nameCount v 0 room ∙ e, r)
+
+-- The table of a called body, filled one parameter after the other.
+pub called-none : (s : List ℕ) (at D : ℕ) (names : List ℕ) → CalledIs s at 0 D names names
+called-none s at D names = record { parameters = λ j h. absurd (omega arith); new = refl }
+
+pub called-more : (s : List ℕ) (at j D : ℕ) (names r : List ℕ) (v : ℕ) → tableNames + j < length r
+    → v ≡ getD names (turn 128 tableNames D (getD s (at + j) 0)) 0 → CalledIs s at j D names r → CalledIs s at (j + 1) D names (set r (tableNames + j) v)
+called-more s at j D names r v room e is = record {
+  parameters = λ n h. ⊎-elim
+      (λ q. ap (λ (k : ℕ). getD (set r (tableNames + j) v) (tableNames + k) 0) q ∙ getD-set-same r (tableNames + j) v 0 room ∙ e
+      ∙ ap (λ (k : ℕ). getD names (turn 128 tableNames D (getD s (at + k) 0)) 0) (sym q))
+      (λ q. getD-set-other r (tableNames + j) (tableNames + n) v 0 (λ z. omega arith) ∙ is .parameters n q)
+      (eq-or-lt-of-le {n = n} {m = j} (omega arith));
+  new = getD-set-other r (tableNames + j) nameCount v 0 (λ z. omega arith) ∙ is .new;
+}

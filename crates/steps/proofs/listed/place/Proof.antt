@@ -1,0 +1,68 @@
+-- `steps::listed::place` meets its contract. Assumes nothing.
+use Prim.Native.Nat.{_/_, _+_, _-_, _≤_}
+use borrow.Author.Needs.{needs}
+use mathlib.Core.Path.{sym, _∙_}
+use native.Mathlib.Omega.{arith}
+use Rattle.steps.proofs.EntryOrder.{Behind, Ahead, behind-middle, ahead-middle}
+use Rattle.steps.specs.Entries.{entryAt, entryFrom}
+use Rattle.steps.proofs.listed.place.Statement.{statement}
+use Rattle.steps.proofs.listed.place.Tie as tie
+
+abbrev Inv-loop : tie.InvT-loop
+Inv-loop list count entry low₀ high₀ low high = (low ≤ high) × (high ≤ count) × Behind list count (entryFrom entry 0) low × Ahead list count (entryFrom entry 0) high
+
+abbrev μ-loop : tie.MeasureT-loop
+μ-loop list count entry low₀ high₀ low high = high - low
+
+loop-holds : tie.Need-loop-holds Inv-loop μ-loop
+loop-holds c = (search needs, search needs, λ up i h. absurd (omega arith), λ up i h k. absurd (omega arith))
+
+sub-middle : tie.Need-sub-middle Inv-loop μ-loop
+sub-middle c = search needs
+
+add-middle : tie.Need-add-middle Inv-loop μ-loop
+add-middle c = search needs
+
+mul-precedes : tie.Need-mul-precedes Inv-loop μ-loop
+mul-precedes c = search needs
+
+precedes-requires : tie.Need-precedes-requires Inv-loop μ-loop
+precedes-requires c κs = search needs
+
+add-low : tie.Need-add-low Inv-loop μ-loop
+add-low c = search needs
+
+loop-less : tie.Need-loop-less Inv-loop μ-loop
+loop-less c = search needs
+
+loop-again : tie.Need-loop-again Inv-loop μ-loop
+unfolding entryAt
+loop-again c = (search needs, search needs, behind-middle (c .before .before .before .before .before .before .args .list .now) (c .before .before .before .before .before .before .args .count) (entryFrom (c .before .before .before .before .before .before .args .entry .now) 0) (c .before .before .before .loop .low + (c .before .before .before .loop .high - c .before .before .before .loop .low) / 2) (search needs) (sym (c .if1 .taken) ∙ c .before .precedes .ensures), c .before .before .before .loop .inv .3)
+
+loop-less-2 : tie.Need-loop-less-2 Inv-loop μ-loop
+loop-less-2 c = search needs
+
+loop-again-2 : tie.Need-loop-again-2 Inv-loop μ-loop
+unfolding entryAt
+loop-again-2 c = (search needs, search needs, c .before .before .before .loop .inv .2, ahead-middle (c .before .before .before .before .before .before .args .list .now) (c .before .before .before .before .before .before .args .count) (entryFrom (c .before .before .before .before .before .before .args .entry .now) 0) (c .before .before .before .loop .low + (c .before .before .before .loop .high - c .before .before .before .loop .low) / 2) (search needs) (sym (c .if1 .left) ∙ c .before .precedes .ensures))
+
+returns : tie.Need-returns Inv-loop μ-loop
+returns c = record { within = search needs; behind = c .before .loop .inv .2; ahead = λ up i h. c .before .loop .inv .3 up i (omega arith) }
+
+pub place-spec : {M : Type 1} → statement M
+place-spec =
+    tie.close
+    (tie.spec
+    Inv-loop
+    μ-loop
+    loop-holds
+    sub-middle
+    add-middle
+    mul-precedes
+    precedes-requires
+    add-low
+    loop-less
+    loop-again
+    loop-less-2
+    loop-again-2
+    returns)

@@ -1,0 +1,17 @@
+pub mod Bodies
+pub mod Collecting
+pub mod Conditions
+pub mod Counting
+pub mod Derived
+pub mod Entries
+pub mod EntryBytes
+pub mod Labels
+pub mod Limits
+pub mod Listed
+pub mod Listing
+pub mod Lists
+pub mod Names
+pub mod Operations
+pub mod Passing
+pub mod Raw
+pub mod Slots

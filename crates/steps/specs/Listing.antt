@@ -1,0 +1,60 @@
+-- The list of a term's steps: ascending byte order, no duplicates, or "unsettled" (document 01, "Steps").
+use mathlib.Core.Bool.{Bool, true, cond, _&&_}
+use mathlib.Core.List.{List, [], _∷_, _++_}
+use Prim.Native.Nat.{ℕ, compare, Ordering, Ordering·lt, Ordering·eq, Ordering·gt}
+use lib.ListN.{length, getD}
+use lib.Dec.{leb}
+use Rattle.calculus.specs.Term.{Term, nil}
+use Rattle.terms.specs.Limits.{nameCount, longestTerm}
+use Rattle.steps.specs.Limits.{mostSteps}
+use Rattle.steps.specs.Raw.{Candidate, step, blocked, visible, silent}
+use Rattle.steps.specs.Listed.{ListedStep, canonStep, resultBytes, bytes}
+
+-- byte order: the first byte that differs decides
+unfoldable pub order : List ℕ → List ℕ → Ordering
+order [] [] = Ordering·eq
+order [] (y ∷ ys) = Ordering·lt
+order (x ∷ xs) [] = Ordering·gt
+order (x ∷ xs) (y ∷ ys) = elim (compare x y) [ Ordering·lt ↦ Ordering·lt | Ordering·eq ↦ order xs ys | Ordering·gt ↦ Ordering·gt ]
+
+module _ (longest : ℕ) where
+  -- s in its place, unless its bytes are there already
+  unfoldable pub insert : ListedStep → List ListedStep → List ListedStep
+  insert s [] = s ∷ []
+  insert s (t ∷ ts) =
+      elim (order (bytes longest s) (bytes longest t)) [
+        | Ordering·lt ↦ s ∷ t ∷ ts
+        | Ordering·eq ↦ t ∷ ts
+        | Ordering·gt ↦ t ∷ insert s ts
+      ]
+
+  unfoldable pub allFit : List ListedStep → Bool
+  allFit [] = true
+  allFit (s ∷ ss) = leb (length (resultBytes s)) longest && allFit ss
+
+-- the candidates that are not blocked, for the new name x, put into a list one by one
+unfoldable pub collect : (names longest x : ℕ) → List Candidate → List ListedStep → List ListedStep
+collect names longest x [] found = found
+collect names longest x (step M α P ∷ cs) found = collect names longest x cs (insert longest (canonStep names x M α P) found)
+collect names longest x (blocked ∷ cs) found = collect names longest x cs found
+
+pub data Listing : Type 0 where
+  unsettled : Listing
+  listed : List ListedStep → Listing
+
+-- unsettled if there are more than `most` distinct steps, or a result above `longest` bytes
+unfoldable pub limited : (longest most : ℕ) → List ListedStep → Listing
+limited longest most found = cond (leb (length found) most && allFit longest found) (listed found) unsettled
+
+-- the steps of P, for the new name x, which open at most `calls` calls one within the other
+unfoldable pub listing : (names longest most : ℕ) (body : ℕ → Term) (calls x : ℕ) → Term → Listing
+listing names longest most body calls x P =
+    limited longest most (collect names longest x (visible body calls P ++ silent body calls P) [])
+
+-- the body of definition k (from 0)
+unfoldable pub bodyOf : List Term → ℕ → Term
+bodyOf bodies k = getD bodies k nil
+
+-- The steps of a part of a question with these definitions. In a body every call is beneath a prefix (check 11): one call is opened.
+unfoldable pub stepsOf : List Term → ℕ → Term → Listing
+stepsOf bodies x P = listing nameCount longestTerm mostSteps (bodyOf bodies) 1 x P

@@ -1,0 +1,94 @@
+// The names of the bytes that a walk is at. A called body is walked in place, so its parameters stand for the names that its call gives; a table
+// says which. Nothing is copied or shifted when a call is opened, and no name can be captured.
+ghost use mathlib.Core.Path.{_≡_};
+ghost use Prim.Native.Nat.{_+_, _≤_, _<_};
+ghost use lib.ListN.{set};
+ghost use Rattle.terms.specs.Limits.{tableNames, greatestArity};
+ghost use Rattle.steps.specs.Names.{mostBinders, turn, CalledIs, TableIs};
+use terms::bytes::get;
+use terms::limits::TABLE_NAMES;
+
+// The most binders around a term: a body's parameters, and one for each of its bytes.
+pub const MOST_BINDERS: usize = 120;
+
+// A slot for each name that may stand free and for each binder.
+pub const NAME_SLOTS: usize = 137;
+
+// A binder by its index, counted from the innermost, as a binder by its level, counted from the outermost, and the other way round: binders are
+// numbered from `from` on, and from `to` on in the answer. What is below `from` is a free name and stays.
+fn turned(w: usize, from: usize, to: usize, binders: usize) -> usize
+    requires { ⌜ (to ≤ 128) × (binders ≤ 128) ⌝ }
+    ensures { λ r. ⌜ r ≡ turn from to binders w ⌝ }
+{
+    if w < from {
+        return w;
+    }
+    let j = w - from;
+    if j < binders {
+        return to + (binders - 1 - j);
+    }
+    0
+}
+
+// The slot of the name byte `b` under so many binders.
+pub fn slot_of(b: u8, binders: usize) -> usize
+    requires { ⌜ binders ≤ mostBinders ⌝ }
+    ensures { λ r. ⌜ r ≡ turn 128 tableNames binders b ⌝ }
+{
+    turned(b as usize, 128, TABLE_NAMES, binders)
+}
+
+// The table beneath one binder more, whose name stands for `slot`.
+pub fn entered(names: [u8; NAME_SLOTS], binders: usize, slot: u8) -> [u8; NAME_SLOTS]
+    requires { ⌜ binders < mostBinders ⌝ }
+    ensures { λ r. ⌜ r ≡ set names (tableNames + binders) slot ⌝ }
+{
+    let mut inner = names;
+    inner[TABLE_NAMES + binders] = slot;
+    inner
+}
+
+// The table for the body of a call whose `count` names stand at `at`: each parameter stands for what the call's name stands for.
+pub fn called(
+    src: &[u8],
+    at: usize,
+    count: usize,
+    binders: usize,
+    names: [u8; NAME_SLOTS],
+) -> [u8; NAME_SLOTS]
+    requires { ⌜ (count ≤ greatestArity) × (binders ≤ mostBinders) × (at ≤ 256) ⌝ }
+    ensures { λ r. ⌜ CalledIs (now (src .entry)) at count binders names r ⌝ }
+{
+    let mut inner = names;
+    let mut j = 0;
+    while j < count {
+        let s = slot_of(get(src, at + j), binders);
+        inner[TABLE_NAMES + j] = get(&names, s);
+        j += 1;
+    }
+    inner
+}
+
+// The byte of the name in `slot` under `levels` restrictions.
+fn byte_of(slot: u8, levels: usize) -> u8
+    requires { ⌜ levels ≤ 128 ⌝ }
+    ensures { λ r. ⌜ r ≡ turn tableNames 128 levels slot ⌝ }
+{
+    turned(slot as usize, TABLE_NAMES, 128, levels) as u8
+}
+
+// The same names as a table for renaming, to terms under `levels` restrictions.
+pub fn renaming(names: [u8; NAME_SLOTS], binders: usize, levels: usize) -> [u8; NAME_SLOTS]
+    requires { ⌜ (binders ≤ mostBinders) × (levels ≤ 128) ⌝ }
+    ensures { λ r. ⌜ TableIs names binders levels r ⌝ }
+{
+    let mut table = [0u8; NAME_SLOTS];
+    let mut i = 0;
+    while i < NAME_SLOTS {
+        let s = turned(i, TABLE_NAMES, TABLE_NAMES, binders);
+        let b = byte_of(get(&names, s), levels);
+        table[i] = b;
+        i += 1;
+    }
+    table
+}
