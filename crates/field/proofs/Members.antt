@@ -1,0 +1,28 @@
+-- Members of joined and of mapped lists, and when a joined list is distinct. Assumes nothing.
+use mathlib.Core.List.{List, [], _∷_, _++_, map}
+use mathlib.Core.Logic.{_⊎_, inl, inr}
+use mathlib.Core.Path.{_≡_, refl}
+use Rattle.steps.specs.Lists.{_∈_, Distinct}
+
+module _ {A : Type 0} where
+  pub ∈-either : (x : A) (xs ys : List A) → x ∈ (xs ++ ys) → (x ∈ xs) ⊎ (x ∈ ys)
+  ∈-either x [] ys m = inr m
+  ∈-either x (y ∷ xs) ys (inl e) = inl (inl e)
+  ∈-either x (y ∷ xs) ys (inr m) = go (∈-either x xs ys m)
+    where
+      go : (x ∈ xs) ⊎ (x ∈ ys) → (x ∈ (y ∷ xs)) ⊎ (x ∈ ys)
+      go (inl n) = inl (inr n)
+      go (inr n) = inr n
+
+  pub distinct-++ : (xs ys : List A) → Distinct xs → Distinct ys → ((x : A) → x ∈ xs → ¬ (x ∈ ys)) → Distinct (xs ++ ys)
+  distinct-++ [] ys d e h = e
+  distinct-++ (x ∷ xs) ys d e h = (λ m. go (∈-either x xs ys m), distinct-++ xs ys (d .1) e (λ y n. h y (inr n)))
+    where
+      go : (x ∈ xs) ⊎ (x ∈ ys) → ⊥
+      go (inl m) = d .0 m
+      go (inr m) = h x (inl refl) m
+
+module _ {A B : Type 0} (f : A → B) where
+  pub map-∈ : (y : B) (xs : List A) → y ∈ map f xs → (x : A) × (x ∈ xs) × (y ≡ f x)
+  map-∈ y (x ∷ xs) (inl e) = (x, inl refl, e)
+  map-∈ y (x ∷ xs) (inr m) = let (z, n, e) = map-∈ y xs m in (z, inr n, e)

@@ -1,0 +1,105 @@
+-- The tables of pairs, by computing. Assumes nothing.
+use mathlib.Core.Path.{_≡_, refl, sym, ap, ap₂, _∙_}
+use mathlib.Core.Bool.{Bool, true, false, _&&_, _||_}
+use mathlib.Core.List.{List, [], _∷_, map}
+use Prim.Native.Nat.{ℕ, zero, suc, _+_, _-_, _<_, _≤_}
+use native.Mathlib.Decide.{ℕ-discrete}
+use native.Mathlib.Omega.{arith}
+use lib.ListN.{length, getD, List·getD-map}
+use lib.Dec.{ltb, leb, eqb}
+use borrow.Author.Tests.{ltb-true, eqb-true, lt-leb}
+use Rattle.terms.specs.Limits.{nameCount}
+use Rattle.terms.proofs.Answers.{both-true}
+use Rattle.steps.specs.Listed.{namesFrom}
+use Rattle.field.specs.PairFlags.{pairCount, pairAt, FirstIs, SecondIs, NumberIs}
+use Rattle.field.specs.Situation.{pairsOf}
+use Rattle.field.specs.Slot.{allPairs}
+
+-- A test of all numbers below n.
+every : ℕ → (ℕ → Bool) → Bool
+every zero f = true
+every (suc n) f = f n && every n f
+
+every-at : (n : ℕ) (f : ℕ → Bool) → every n f ≡ true → (i : ℕ) → i < n → f i ≡ true
+unfolding every
+every-at zero f e i h = absurd (omega arith)
+every-at (suc n) f e i h =
+    let (p, q) = both-true (f n) (every n f) e in
+    go (ℕ-discrete i n) p (λ l. every-at n f q i l)
+  where
+    go : Dec (i ≡ n) → f n ≡ true → (i < n → f i ≡ true) → f i ≡ true
+    go (yes q) t r = ap f q ∙ t
+    go (no k) t r = r (omega arith)
+
+-- where the pairs begin whose smaller name is the index
+unfoldable pub rows : List ℕ
+rows = 0 ∷ 15 ∷ 29 ∷ 42 ∷ 54 ∷ 65 ∷ 75 ∷ 84 ∷ 92 ∷ 99 ∷ 105 ∷ 110 ∷ 114 ∷ 117 ∷ 119 ∷ 120 ∷ []
+
+-- the number of a pair
+numbered : ℕ → ℕ → ℕ
+numbered a b = getD rows a 0 + (b - a - 1)
+
+rightNumber : ℕ → ℕ → Bool
+rightNumber a b = leb b a || (ltb (numbered a b) pairCount && eqb (pairAt (numbered a b) .0) a && eqb (pairAt (numbered a b) .1) b)
+
+rightPair : ℕ → Bool
+rightPair k = ltb (pairAt k .0) (pairAt k .1) && ltb (pairAt k .1) nameCount && eqb (numbered (pairAt k .0) (pairAt k .1)) k
+
+all-numbers : every nameCount (λ a. every nameCount (rightNumber a)) ≡ true
+unfolding every rightNumber numbered rows pairAt allPairs pairsOf namesFrom
+all-numbers = refl
+
+all-pairs : every pairCount rightPair ≡ true
+unfolding every rightPair numbered rows pairAt allPairs pairsOf namesFrom
+all-pairs = refl
+
+three : (a b c : Bool) → (a && b && c) ≡ true → (a ≡ true) × (b ≡ true) × (c ≡ true)
+three a b c e =
+    let (h, k) = both-true (a && b) c e in
+    let (l, m) = both-true a b h in
+    (l, m, k)
+
+pub number-right : (a b : ℕ) → a < b → b < nameCount → NumberIs a b (getD rows a 0 + (b - a - 1))
+unfolding rightNumber numbered
+number-right a b l h =
+    let e : rightNumber a b ≡ true = every-at nameCount (rightNumber a) (every-at nameCount (λ a. every nameCount (rightNumber a)) all-numbers a (omega arith)) b h in
+    let n : ℕ = numbered a b in
+    let (p, q, r) = three (ltb n pairCount) (eqb (pairAt n .0) a) (eqb (pairAt n .1) b) (rw (lt-leb b a l) at e) in
+    record { below = ltb-true n pairCount p; first = eqb-true (pairAt n .0) a q; second = eqb-true (pairAt n .1) b r }
+
+module _ (k : ℕ) (h : k < pairCount) where
+  right : (ltb (pairAt k .0) (pairAt k .1) ≡ true) × (ltb (pairAt k .1) nameCount ≡ true) × (eqb (numbered (pairAt k .0) (pairAt k .1)) k ≡ true)
+  unfolding rightPair
+  right =
+      three (ltb (pairAt k .0) (pairAt k .1)) (ltb (pairAt k .1) nameCount) (eqb (numbered (pairAt k .0) (pairAt k .1)) k)
+      (every-at pairCount rightPair all-pairs k h)
+
+  pub pair-ordered : pairAt k .0 < pairAt k .1
+  pair-ordered = ltb-true (pairAt k .0) (pairAt k .1) (right .0)
+
+  pub pair-below : pairAt k .1 < nameCount
+  pair-below = ltb-true (pairAt k .1) nameCount (right .1)
+
+  own-number : numbered (pairAt k .0) (pairAt k .1) ≡ k
+  own-number = eqb-true (numbered (pairAt k .0) (pairAt k .1)) k (right .2)
+
+-- no pair stands twice
+pub pair-once : (j k : ℕ) → j < pairCount → k < pairCount → pairAt j .0 ≡ pairAt k .0 → pairAt j .1 ≡ pairAt k .1 → j ≡ k
+pair-once j k l m p q = sym (own-number j l) ∙ ap₂ numbered p q ∙ own-number k m
+
+pub length-pairs : length allPairs ≡ pairCount
+unfolding allPairs pairsOf namesFrom
+length-pairs = refl
+
+-- the tables of the smaller and of the larger names
+pub firsts : (k : ℕ) → k < pairCount → FirstIs k (getD (map (λ p. p .0) allPairs) k 0)
+unfolding pairAt
+firsts k h =
+    let e = List·getD-map (λ (p : ℕ × ℕ). p .0) allPairs k (0, 0) in
+    record { is = e; below = rw e (omega (arith, pair-ordered k h, pair-below k h)) }
+
+pub seconds : (k : ℕ) → k < pairCount → SecondIs k (getD (map (λ p. p .1) allPairs) k 0)
+unfolding pairAt
+seconds k h =
+    let e = List·getD-map (λ (p : ℕ × ℕ). p .1) allPairs k (0, 0) in
+    record { is = e; below = rw e (omega (arith, pair-below k h)) }

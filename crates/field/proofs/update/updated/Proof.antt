@@ -1,0 +1,35 @@
+-- `field::update::updated` meets its contract. Assumes nothing.
+use Prim.Native.Nat.{_-_}
+use Rattle.field.proofs.UpdateLaws.{updated-is}
+use borrow.Author.Needs.{needs}
+use Rattle.field.proofs.update.updated.Statement.{statement}
+use Rattle.field.proofs.update.updated.Tie as tie
+
+slice-aggregate-mark-extruded : tie.Need-slice-aggregate-mark-extruded
+slice-aggregate-mark-extruded c = search needs
+
+mark-extruded-requires : tie.Need-mark-extruded-requires
+mark-extruded-requires c κs = search needs
+
+slice-aggregate-rewrite : tie.Need-slice-aggregate-rewrite
+slice-aggregate-rewrite c = search needs
+
+slice-aggregate-rewrite-2 : tie.Need-slice-aggregate-rewrite-2
+slice-aggregate-rewrite-2 c = search needs
+
+rewrite-requires : tie.Need-rewrite-requires
+rewrite-requires c κs = search needs
+
+returns : tie.Need-returns
+returns c = updated-is _ _ _ _ _ _ (c .before .before .before .before .before .mark-extruded .ensures) (c .before .rewrite .ensures)
+
+pub updated-spec : {M : Type 1} → statement M
+updated-spec =
+    tie.close
+    (tie.spec
+    slice-aggregate-mark-extruded
+    mark-extruded-requires
+    slice-aggregate-rewrite
+    slice-aggregate-rewrite-2
+    rewrite-requires
+    returns)

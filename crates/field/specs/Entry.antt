@@ -1,0 +1,31 @@
+-- A listed step as it stands in a list (document 01, "Steps": 132 bytes), and what the tests over such entries promise.
+use mathlib.Core.Path.{_≡_}
+use mathlib.Core.Bool.{Bool}
+use mathlib.Core.List.{List, _++_}
+use Prim.Native.Nat.{ℕ, _<_, _≤_}
+use lib.ListN.{length, drop}
+use Rattle.terms.specs.Limits.{nameCount, longestTerm}
+use Rattle.steps.specs.Listed.{ListedStep, namesFrom, classIn, resultBytes, bytes}
+use Rattle.field.specs.Successors.{answers, bindsName, implies}
+
+-- The step s stands at `at`: as many classes as names, each class one of the names, and a result that fits.
+pub record EntryAt (area : List ℕ) (at : ℕ) (s : ListedStep) : Type 0 where
+  pub rest : List ℕ
+  pub there : drop at area ≡ bytes longestTerm s ++ rest
+  pub count : length (s .classes) ≡ nameCount
+  pub within : (n : ℕ) → n < nameCount → classIn (s .classes) n < nameCount
+  pub fits : length (resultBytes s) ≤ longestTerm
+
+unfoldable pub ClassOfIs : List ℕ → ℕ → ℕ → ℕ → Type 0
+ClassOfIs area at n r = (s : ListedStep) → EntryAt area at s → r ≡ classIn (s .classes) n
+
+unfoldable pub BindsIs : List ℕ → ℕ → Bool → Type 0
+BindsIs area at r = (s : ListedStep) → EntryAt area at s → r ≡ bindsName s
+
+unfoldable pub ImpliesIs : List ℕ → ℕ → List ℕ → ℕ → Bool → Type 0
+ImpliesIs area at others place r =
+    (s t : ListedStep) → EntryAt area at s → EntryAt others place t → r ≡ implies (s .classes) (t .classes) (namesFrom 0 nameCount)
+
+unfoldable pub AnswersIs : List ℕ → ℕ → List ℕ → ℕ → Bool → Type 0
+AnswersIs area at others place r =
+    (s t : ListedStep) → EntryAt area at s → EntryAt others place t → r ≡ answers nameCount s t

@@ -1,0 +1,83 @@
+-- The field and its limits in the terms of the published transitions: document 01, "The field and the verdict".
+use mathlib.Core.List.{List}
+use mathlib.Core.Logic.{_⊎_, _↔_}
+use mathlib.Core.Path.{_≡_}
+use Prim.Native.Nat.{ℕ, _<_}
+use lib.ListN.{length}
+use Rattle.calculus.specs.Term.{Term, ren}
+use Rattle.calculus.specs.Free.{In}
+use Rattle.calculus.specs.Cond.{Cond, cls, _▷_}
+use Rattle.calculus.specs.Distinction.{Resp}
+use Rattle.calculus.specs.Definitions.{Defs}
+use Rattle.calculus.specs.Published.{Action, boundNames, renAction, Transition}
+use Rattle.calculus.specs.OpenBisimulation.{update}
+use Rattle.steps.specs.Derived.{TooMany, TooLong}
+use Rattle.steps.specs.Lists.{_∈_, All, Distinct}
+use Rattle.field.specs.Setting.{Setting}
+use Rattle.field.specs.Situation.{Situation, situation, newName}
+
+module _ (Δ : Defs) (S : Setting) where
+  -- the new name of a situation
+  abbrev pub fresh : Situation → ℕ
+  fresh s = newName (S .names) (s .first) (s .second)
+
+  -- a transition of P, whose received or extruded name is x
+  pub record Move (x : ℕ) (P : Term) : Type 0 where
+    pub condition : Cond
+    pub action : Action
+    pub result : Term
+    pub transition : Transition Δ P condition action result
+    pub binds : (y : ℕ) → In y (boundNames action) → y ≡ x
+
+  -- n answers m: a condition implied by that of m, and an action equal under it
+  pub record Matches {x : ℕ} {P Q : Term} (m : Move x P) (n : Move x Q) : Type 0 where
+    pub implied : m .condition ▷ n .condition
+    pub equal : m .action ≡ renAction (cls (m .condition)) (n .action)
+
+  -- The resulting situation: both results rewritten by the condition, the apart pairs updated as in Definition 15.
+  pub data Successor (s t : Situation) : Type 0 where
+    first-moves : (m : Move (fresh s) (s .first)) (n : Move (fresh s) (s .second)) → Resp (m .condition) (s .apart) → Matches m n
+        → t ≡ situation (S .names) (m .result) (ren (cls (m .condition)) (n .result))
+        (update (s .apart) (s .first) (s .second) (m .action) (m .condition))
+        → Successor s t
+    second-moves : (m : Move (fresh s) (s .second)) (n : Move (fresh s) (s .first)) → Resp (m .condition) (s .apart) → Matches m n
+        → t ≡ situation (S .names) (ren (cls (m .condition)) (n .result)) (m .result)
+        (update (s .apart) (s .second) (s .first) (m .action) (m .condition))
+        → Successor s t
+
+  -- The limits of one part of a situation whose new name is x: steps, a result, and names, where all of them are free and a step binds one.
+  pub data PartPast (x : ℕ) (P : Term) : Type 0 where
+    too-many : TooMany Δ (S .names) (S .most) x P → PartPast x P
+    too-long : TooLong Δ (S .names) (S .longest) x P → PartPast x P
+    no-name : x ≡ S .names → (m : Move x P) (y : ℕ) → In y (boundNames (m .action)) → PartPast x P
+
+  abbrev pub Past : Situation → Type 0
+  Past s = PartPast (fresh s) (s .first) ⊎ PartPast (fresh s) (s .second)
+
+  -- "Field" is document 01's word: the smallest set that holds the start and the successors of its members. A situation past a limit has none.
+  pub data InField (start : Situation) : Situation → Type 0 where
+    at-start : InField start start
+    successor : {s t : Situation} → InField start s → ¬ Past s → Successor s t → InField start t
+
+  -- Past a limit: the field has more situations than the capacity,
+  pub record TooLarge (start : Situation) (capacity : ℕ) : Type 0 where
+    pub situations : List Situation
+    pub distinct : Distinct situations
+    pub members : All (InField start) situations
+    pub many : capacity < length situations
+
+  -- or one of them has a part past one of the other limits.
+  pub record SomePast (start : Situation) : Type 0 where
+    pub there : Situation
+    pub member : InField start there
+    pub past : Past there
+
+  abbrev pub PastLimit : Situation → ℕ → Type 0
+  PastLimit start capacity = TooLarge start capacity ⊎ SomePast start
+
+  -- The field has n situations: a list of them holds the field, each once.
+  pub record FieldSize (start : Situation) (n : ℕ) : Type 0 where
+    pub situations : List Situation
+    pub distinct : Distinct situations
+    pub members : (s : Situation) → (s ∈ situations) ↔ InField start s
+    pub size : length situations ≡ n

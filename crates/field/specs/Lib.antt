@@ -1,0 +1,10 @@
+pub mod Entry
+pub mod Exploration
+pub mod Field
+pub mod NameFlags
+pub mod PairFlags
+pub mod Setting
+pub mod Situation
+pub mod Slot
+pub mod Successors
+pub mod Update

@@ -1,0 +1,26 @@
+-- What stays the same while one question is judged: the definitions and the limits of document 01.
+use mathlib.Core.List.{List}
+use Prim.Native.Nat.{ℕ}
+use Rattle.calculus.specs.Term.{Term}
+use Rattle.terms.specs.Limits.{nameCount, longestTerm}
+use Rattle.steps.specs.Limits.{mostSteps}
+use Rattle.steps.specs.Listing.{Listing, listing, bodyOf}
+
+pub record Setting : Type 0 where
+  -- how many names there are
+  pub names : ℕ
+  -- how many bytes a result may have
+  pub longest : ℕ
+  -- how many distinct steps a part may have
+  pub most : ℕ
+  -- how many calls a step may open: one, since a call in a body is beneath a prefix (check 11)
+  pub calls : ℕ
+  pub body : ℕ → Term
+
+unfoldable pub settingOf : List Term → Setting
+settingOf bodies =
+    record { names = nameCount; longest = longestTerm; most = mostSteps; calls = 1; body = bodyOf bodies }
+
+-- the list of a part's steps for the new name x
+unfoldable pub stepsIn : Setting → ℕ → Term → Listing
+stepsIn S x P = listing (S .names) (S .longest) (S .most) (S .body) (S .calls) x P

@@ -1,0 +1,71 @@
+// Tests over listed steps, each an entry of a list: the list, and where the entry begins.
+ghost use Prim.Native.Nat.{_≤_};
+ghost use lib.ListN.{length};
+ghost use Rattle.field.specs.Entry.{ClassOfIs, BindsIs, ImpliesIs, AnswersIs};
+use terms::bytes::get;
+use terms::limits::NAME_COUNT;
+
+// Where an entry has its action: behind the classes.
+pub const KIND: usize = NAME_COUNT;
+
+pub const CHANNEL: usize = NAME_COUNT + 1;
+
+pub const OBJECT: usize = NAME_COUNT + 2;
+
+// The class of the name `n`; a number that is no name is alone in its class.
+pub fn class_of(area: &[u8], at: usize, n: usize) -> usize
+    requires { ⌜ at ≤ length (now area) ⌝ }
+    ensures { λ r. ⌜ ClassOfIs (now (area .entry)) at n r ⌝ }
+{
+    if n < NAME_COUNT {
+        return get(area, at + n) as usize;
+    }
+    n
+}
+
+// Whether the step receives or extrudes a name.
+pub fn binds(area: &[u8], at: usize) -> bool
+    requires { ⌜ at ≤ length (now area) ⌝ }
+    ensures { λ r. ⌜ BindsIs (now (area .entry)) at r ⌝ }
+{
+    let kind = get(area, at + KIND);
+    if kind == 1 {
+        return true;
+    }
+    kind == 3
+}
+
+// Whether the condition of the one step implies that of the other.
+fn implies(area: &[u8], at: usize, others: &[u8], place: usize) -> bool
+    requires { ⌜ (at ≤ length (now area)) × (place ≤ length (now others)) ⌝ }
+    ensures { λ r. ⌜ ImpliesIs (now (area .entry)) at (now (others .entry)) place r ⌝ }
+{
+    let mut n = 0;
+    while n < NAME_COUNT {
+        let merged = class_of(area, at, class_of(others, place, n));
+        if merged != class_of(area, at, n) {
+            return false;
+        }
+        n += 1;
+    }
+    true
+}
+
+// Whether the step at `place` of the other side's list answers the one at `at`: Definition 13.
+pub fn answers(area: &[u8], at: usize, others: &[u8], place: usize) -> bool
+    requires { ⌜ (at ≤ length (now area)) × (place ≤ length (now others)) ⌝ }
+    ensures { λ r. ⌜ AnswersIs (now (area .entry)) at (now (others .entry)) place r ⌝ }
+{
+    if get(area, at + KIND) != get(others, place + KIND) {
+        return false;
+    }
+    let channel = get(others, place + CHANNEL) as usize;
+    if get(area, at + CHANNEL) as usize != class_of(area, at, channel) {
+        return false;
+    }
+    let object = get(others, place + OBJECT) as usize;
+    if get(area, at + OBJECT) as usize != class_of(area, at, object) {
+        return false;
+    }
+    implies(area, at, others, place)
+}
