@@ -1,0 +1,13 @@
+pub mod AnyOrder
+pub mod Completeness
+pub mod DecidedField
+pub mod EntriesKeep
+pub mod FieldRows
+pub mod ListOfEntries
+pub mod Living
+pub mod OutcomeLaws
+pub mod RelatedVerdicts
+pub mod Rounds
+pub mod Soundness
+pub mod VerdictIsDefinition13
+pub mod WorkedExchanges

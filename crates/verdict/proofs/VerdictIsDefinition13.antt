@@ -1,0 +1,93 @@
+-- The verdict on an accepted question is Definition 13's, whose names are unlimited, under the whole apart list; it is unsettled exactly in the
+-- cases that document 01 lists ("The field and the verdict"); and its number is the size of the field. Assumes nothing.
+use mathlib.Core.Path.{_≡_}
+use mathlib.Core.List.{List}
+use mathlib.Core.Logic.{_↔_}
+use Prim.Native.Nat.{ℕ, _<_, _≤_}
+use native.Mathlib.Omega.{arith}
+use Rattle.calculus.specs.Definitions.{Defs}
+use Rattle.calculus.specs.OpenBisimulation.{Related}
+use Rattle.terms.specs.Answer.{result}
+use Rattle.terms.specs.Limits.{nameCount}
+use Rattle.terms.specs.Question.{Question, checkOf}
+use Rattle.terms.proofs.ApartLaws.{apart-irreflexive}
+use Rattle.terms.proofs.WellFormed.{WellFormed, accepted-well-formed}
+use Rattle.steps.proofs.QuestionDefinitions.{bodies-in-scope, opens-one}
+use Rattle.field.specs.Field.{PastLimit, FieldSize}
+use Rattle.field.specs.Setting.{settingOf}
+use Rattle.field.specs.Situation.{situation}
+use Rattle.field.proofs.Link.{SettingFor}
+use Rattle.field.proofs.Proper.{Proper, either-below, related-situation, situation-proper}
+use Rattle.verdict.specs.Entries.{Defines}
+use Rattle.verdict.specs.Verdict.{Numbered, unsettled, same, different, startOf, verdictOf}
+use Rattle.verdict.proofs.DecidedField.{number-within, decided-within, decided-past, decided-same, decided-different, decided-unsettled, decided-size}
+
+-- what the field asks of the definitions
+pub question-setting : (q : Question) → WellFormed q → (Δ : Defs) → Defines q Δ → SettingFor Δ (settingOf (q .bodies)) (q .arities)
+unfolding settingOf
+question-setting q w Δ d = record {
+  bodies = d .bodies;
+  calls = bodies-in-scope (q .arities) (q .bodies) (w .bodies) Δ (d .arities) (d .bodies);
+  opens = opens-one (q .arities) (q .bodies) (w .bodies) Δ (d .arities) (d .bodies);
+  few = omega arith;
+}
+
+pub start-proper : (q : Question) → WellFormed q → Proper nameCount (q .arities) (startOf q)
+unfolding startOf
+start-proper q w =
+    situation-proper nameCount (q .arities) (q .first) (q .second) (w .first .scope) (w .second .scope) (q .apart)
+    (apart-irreflexive (q .apart) (w .apart))
+
+-- the whole apart list, and the pairs of the start
+pub start-related : (q : Question) → WellFormed q → (Δ : Defs)
+    → Related Δ (q .apart) (q .first) (q .second) ↔ Related Δ (startOf q .apart) (startOf q .first) (startOf q .second)
+unfolding startOf situation
+start-related q w Δ =
+    related-situation nameCount (q .first) (q .second)
+    (either-below nameCount (q .arities) (q .first) (q .second) (w .first .scope) (w .second .scope)) (q .apart)
+    (apart-irreflexive (q .apart) (w .apart)) Δ
+
+module _ (question : List ℕ) (q : Question) (accepted : checkOf question ≡ result q) (Δ : Defs) (defines : Defines q Δ) (capacity : ℕ) where
+  well : WellFormed q
+  well = accepted-well-formed question q accepted
+
+  setting : SettingFor Δ (settingOf (q .bodies)) (q .arities)
+  setting = question-setting q well Δ defines
+
+  start : Proper (settingOf (q .bodies) .names) (q .arities) (startOf q)
+  unfolding settingOf
+  start = start-proper q well
+
+  pub same-is-related : (n : ℕ) → verdictOf q capacity ≡ same n → Related Δ (q .apart) (q .first) (q .second)
+  unfolding verdictOf
+  same-is-related n e =
+      start-related q well Δ .1 (decided-same Δ (settingOf (q .bodies)) (q .arities) setting (startOf q) start capacity n e)
+
+  pub different-is-unrelated : (n : ℕ) → verdictOf q capacity ≡ different n → ¬ Related Δ (q .apart) (q .first) (q .second)
+  unfolding verdictOf
+  different-is-unrelated n e r =
+      decided-different Δ (settingOf (q .bodies)) (q .arities) setting (startOf q) start capacity n e (start-related q well Δ .0 r)
+
+  pub unsettled-iff-past-a-limit : (verdictOf q capacity ≡ unsettled) ↔ PastLimit Δ (settingOf (q .bodies)) (startOf q) capacity
+  unfolding verdictOf
+  unsettled-iff-past-a-limit =
+      decided-unsettled Δ (settingOf (q .bodies)) (q .arities) setting (startOf q) start capacity
+
+  pub number-is-field-size : (n : ℕ) → Numbered (verdictOf q capacity) n → FieldSize Δ (settingOf (q .bodies)) (startOf q) n
+  unfolding verdictOf
+  number-is-field-size n h =
+      decided-size Δ (settingOf (q .bodies)) (q .arities) setting (startOf q) start capacity n h
+
+-- The same question under another capacity: the same verdict with the same number exactly if the capacity is at least that number.
+module _ (q : Question) (capacity n : ℕ) (h : Numbered (verdictOf q capacity) n) where
+  pub number-at-most-capacity : n ≤ capacity
+  unfolding verdictOf
+  number-at-most-capacity = number-within (settingOf (q .bodies)) (startOf q) capacity n h
+
+  pub enough-capacity : (other : ℕ) → n ≤ other → verdictOf q other ≡ verdictOf q capacity
+  unfolding verdictOf
+  enough-capacity = decided-within (settingOf (q .bodies)) (startOf q) capacity n h
+
+  pub too-little-capacity : (other : ℕ) → other < n → verdictOf q other ≡ unsettled
+  unfolding verdictOf
+  too-little-capacity = decided-past (settingOf (q .bodies)) (startOf q) capacity n h

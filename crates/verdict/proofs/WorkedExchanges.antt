@@ -1,0 +1,85 @@
+-- Document 01, "Exchanges to try": the rows marked P, proved together on the definitions, and rows for those of its wrong turnings that these
+-- do not show. Assumes nothing.
+use mathlib.Core.Path.{_≡_, refl}
+use mathlib.Core.List.{List, [], _∷_, _++_}
+use Prim.Native.Nat.{ℕ}
+use Rattle.calculus.specs.Cond.{Pairs, join, cls}
+use Rattle.calculus.specs.Distinction.{among, keep}
+use Rattle.calculus.specs.Free.{lowerL, fn}
+use Rattle.calculus.specs.Term.{Term, nil, tau, inp, out, bout, mat, sum, par, res, call}
+use Rattle.terms.specs.Answer.{Answer, result, _>>=_, _>>_, need}
+use Rattle.terms.specs.Encoding.{nameByte, encode}
+use Rattle.terms.specs.Framing.{cut, field, fields, framed, joined, sized, allSized}
+use Rattle.terms.specs.Grammar.{sequential, parallelOutermost, guarded}
+use Rattle.terms.specs.Operations.{holdsApart}
+use Rattle.terms.specs.Question.{all, fits, readBodies, readPart, readApart, differentNames, readPairs, version, checkTerms, checkFields, checkOf, bodyFields, pairBytes, fieldsOf, write}
+use Rattle.terms.specs.Reading.{byte, readName, readNames, tagOf, readTerm, readWhole}
+use Rattle.steps.specs.Listed.{namesFrom, classesOf, classIn, kindOf, channelOf, objectOf, listedAs, canonStep, resultBytes, bytes}
+use Rattle.steps.specs.Listing.{order, insert, allFit, collect, limited, listing, bodyOf}
+use Rattle.steps.specs.Raw.{matching, leftSteps, rightSteps, meet, communication, communications, spares, sparesRestricted, outside, restrictedAction, restricted, visibleOf, silentOf, visibleCalls, silentCalls, visible, silent}
+use Rattle.field.specs.Setting.{settingOf, stepsIn}
+use Rattle.field.specs.Situation.{freeFrom, freeIn, pairsOf, situation, missing, newName, sameBytes, sameSituation}
+use Rattle.field.specs.Successors.{select, permitted, implies, answers, extrudedBy, updatedBy, moves, bindsName, someBinds, ledTo, withSteps, successors}
+use Rattle.field.specs.Exploration.{found, unseen, together, withRow, explore, fieldOf}
+use Rattle.verdict.specs.Verdict.{Verdict, same, different, answered, allAnswered, strike, rounds, startOf, decided, verdictOf}
+use Rattle.verdict.specs.Judge.{judgeOf}
+
+pub record Exchange : Type 0 where
+  pub question : List ℕ
+  pub answer : Answer Verdict
+
+-- two parts without definitions under the apart pairs D
+unfoldable pub ask : Term → Term → Pairs → Verdict → Exchange
+ask P Q D v = record { question = write (record { arities = []; bodies = []; first = P; second = Q; apart = D }); answer = result v }
+
+-- one definition, of arity n
+unfoldable pub askWith : ℕ → Term → Term → Term → Verdict → Exchange
+askWith n K P Q v = record { question = write (record { arities = n ∷ []; bodies = K ∷ []; first = P; second = Q; apart = [] }); answer = result v }
+
+-- The rows marked P: a, b, c are the names 0, 1, 2; a free name n stands as n plus the number of binders around it.
+unfoldable pub exchanges : List Exchange
+exchanges =
+    ask nil nil [] (same 1)
+    ∷ ask (mat 0 1 (tau nil)) nil [] (different 1)
+    ∷ ask (mat 0 1 (tau nil)) nil ((0, 1) ∷ []) (same 1)
+    -- the whole file
+    ∷ record {
+      question = 0x01 ∷ 0x00 ∷ 0x00 ∷ 0x08 ∷ 0x06 ∷ 0x01 ∷ 0x00 ∷ 0x05 ∷ 0x00 ∷ 0x01 ∷ 0x01 ∷ 0x00 ∷ 0x00 ∷ 0x02 ∷ 0x01 ∷ 0x00 ∷ 0x00 ∷ 0x00 ∷ [];
+      answer = result (same 2);
+    }
+    ∷ ask (par (inp 0 nil) (out 1 2 nil)) (sum (inp 0 (out 2 3 nil)) (out 1 2 (inp 0 nil))) [] (different 4)
+    ∷ ask (par (inp 0 nil) (out 1 2 nil)) (sum (inp 0 (out 2 3 nil)) (out 1 2 (inp 0 nil))) ((0, 1) ∷ []) (same 4)
+    ∷ ask (res (out 1 0 nil)) (bout 0 nil) [] (same 2)
+    ∷ ask (bout 0 (mat 0 2 (tau nil))) (bout 0 nil) [] (same 2)
+    ∷ ask (inp 0 (mat 0 2 (tau nil))) (inp 0 nil) [] (different 2)
+    ∷ ask (res (mat 0 0 (tau nil))) (tau nil) [] (same 2)
+    ∷ []
+
+-- Wrong turnings of document 01 that no row above shows: the other side rewritten by a step's condition, and the step's own result; apart
+-- pairs that last; a call's names that meet binders of its body, and their order.
+unfoldable pub turnings : List Exchange
+turnings =
+    ask (sum (tau (out 1 1 nil)) (mat 0 1 (tau (out 0 0 nil)))) (tau (out 1 1 nil)) [] (same 4)
+    ∷ ask (mat 0 1 (tau (out 1 1 nil))) (mat 0 1 (tau (out 0 0 nil))) [] (same 3)
+    ∷ ask (tau (tau (mat 0 1 (tau nil)))) (tau (tau nil)) ((0, 1) ∷ []) (same 3)
+    ∷ askWith 1 (inp 0 (out 1 0 nil)) (call 0 (0 ∷ [])) (inp 0 (out 1 0 nil)) (same 3)
+    ∷ askWith 1 (res (out 1 0 nil)) (res (out 1 0 (call 0 (0 ∷ [])))) (bout 0 (bout 0 nil)) (same 3)
+    ∷ askWith 2 (out 1 0 nil) (call 0 (0 ∷ 1 ∷ [])) (out 0 1 nil) (same 2)
+    ∷ askWith 2 (out 1 0 nil) (res (call 0 (1 ∷ 0 ∷ []))) (bout 0 nil) (same 2)
+    ∷ ask (par (res (out 1 0 (inp 0 nil))) (inp 0 (out 0 0 nil))) nil [] (different 1)
+    ∷ ask (res (par (out 0 1 nil) (inp 0 (out 0 0 nil)))) (tau (out 0 0 nil)) [] (same 3)
+    ∷ ask (res (par (out 0 0 nil) (inp 0 (out 0 2 nil)))) (tau nil) [] (same 2)
+    ∷ []
+
+-- by `judge`, whose capacity is 256
+unfoldable pub judged : List Exchange → List (Answer Verdict)
+judged [] = []
+judged (e ∷ es) = judgeOf (e .question) 256 65536 ∷ judged es
+
+unfoldable pub expected : List Exchange → List (Answer Verdict)
+expected [] = []
+expected (e ∷ es) = e .answer ∷ expected es
+
+pub worked-exchanges : judged (exchanges ++ turnings) ≡ expected (exchanges ++ turnings)
+unfolding judged expected exchanges turnings ask askWith judgeOf _>>=_ _>>_ need checkOf checkFields checkTerms version framed cut field fields all fits readBodies readPart readWhole readTerm readName readNames byte tagOf sequential parallelOutermost guarded readApart differentNames readPairs joined sized allSized write fieldsOf bodyFields pairBytes encode nameByte verdictOf startOf decided rounds strike allAnswered answered found unseen together withRow explore fieldOf successors withSteps ledTo someBinds bindsName moves updatedBy extrudedBy answers implies permitted select freeFrom freeIn pairsOf situation missing newName sameBytes sameSituation settingOf stepsIn holdsApart among keep fn lowerL bodyOf listing limited collect insert order allFit bytes resultBytes canonStep listedAs kindOf channelOf objectOf classesOf classIn namesFrom visible silent visibleCalls silentCalls visibleOf silentOf restricted restrictedAction outside sparesRestricted spares communications communication meet leftSteps rightSteps matching cls join
+worked-exchanges = refl

@@ -1,0 +1,30 @@
+-- What judge answers and what it leaves in the work area: document 01, "Turned back, in checking order" and "The field and the verdict".
+use mathlib.Core.Bool.{_&&_}
+use mathlib.Core.List.{List, _++_}
+use Prim.Native.Nat.{ℕ, _*_}
+use lib.ListN.{drop, replicate}
+use lib.Dec.{leb}
+use Rattle.terms.specs.Answer.{Answer, refused, result, _>>=_, _>>_, need}
+use Rattle.terms.specs.Question.{checkOf}
+use Rattle.verdict.specs.Verdict.{Verdict, verdictOf}
+
+-- Check 1.
+abbrev pub greatestCapacity : ℕ
+greatestCapacity = 4096
+
+-- the bytes of the work area for each situation of the capacity
+abbrev pub slotBytes : ℕ
+slotBytes = 256
+
+-- Checks 1 and 2, then 3 to 12, then the verdict. `room` is the length of the work area.
+unfoldable pub judgeOf : List ℕ → ℕ → ℕ → Answer Verdict
+judgeOf question capacity room = do
+  need 1 (leb 1 capacity && leb capacity greatestCapacity)
+  need 2 (leb (slotBytes * capacity) room)
+  q ← checkOf question
+  result (verdictOf q capacity)
+
+-- After every verdict the first 256 × capacity bytes are 0 and the rest untouched; after a refusal nothing is changed.
+unfoldable pub workAfter : Answer Verdict → ℕ → List ℕ → List ℕ
+workAfter (refused k) capacity work = work
+workAfter (result v) capacity work = replicate (slotBytes * capacity) 0 ++ drop (slotBytes * capacity) work

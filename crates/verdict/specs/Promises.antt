@@ -1,0 +1,23 @@
+-- What check, merge, beside and judge promise: the answer's number and every lent byte. The contracts of the exported operations are these.
+use mathlib.Core.Path.{_≡_}
+use mathlib.Core.List.{List}
+use Prim.Native.Nat.{ℕ}
+use lib.ListN.{length}
+use Rattle.terms.specs.Operations.{checkAnswer, mergeOf, besideOf, lengthWritten, areaAfter}
+use Rattle.verdict.specs.Judge.{judgeOf, workAfter}
+use Rattle.verdict.specs.Outcome.{codeOf, ofNumber, ofVerdict}
+
+pub record CheckIs (question : List ℕ) (r : ℕ) : Type 0 where
+  pub answer : r ≡ codeOf (ofNumber (checkAnswer question))
+
+pub record MergeIs (question : List ℕ) (a b : ℕ) (area : List ℕ) (r : ℕ) (after : List ℕ) : Type 0 where
+  pub answer : r ≡ codeOf (ofNumber (lengthWritten (mergeOf question a b (length area))))
+  pub left : after ≡ areaAfter (mergeOf question a b (length area)) area
+
+pub record BesideIs (question third area : List ℕ) (r : ℕ) (after : List ℕ) : Type 0 where
+  pub answer : r ≡ codeOf (ofNumber (lengthWritten (besideOf question third (length area))))
+  pub left : after ≡ areaAfter (besideOf question third (length area)) area
+
+pub record JudgeIs (question : List ℕ) (capacity : ℕ) (work : List ℕ) (r : ℕ) (after : List ℕ) : Type 0 where
+  pub answer : r ≡ codeOf (ofVerdict (judgeOf question capacity (length work)))
+  pub left : after ≡ workAfter (judgeOf question capacity (length work)) capacity work
