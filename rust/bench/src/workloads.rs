@@ -1,0 +1,294 @@
+//! The workloads.
+
+use crate::task::{Operation, Task};
+use compare::{Answer, CAPACITY};
+use generate::{Draft, Fields, Random, Worked, APPENDIX, EXCHANGES};
+
+/// Tasks that are timed together.
+pub struct Workload {
+    /// The name on the command line and in the table.
+    pub name: &'static str,
+    /// What it is.
+    pub about: &'static str,
+    /// Its tasks.
+    pub tasks: Vec<Task>,
+    /// Whether it is run only if it is named.
+    pub on_request: bool,
+}
+
+/// All workloads, those that judge before those that list.
+pub fn all() -> Vec<Workload> {
+    let appendix = APPENDIX.split_last().expect("the appendix has pairs");
+    vec![
+        judging("exchanges", "the worked exchanges of document 01", worked(EXCHANGES)),
+        judging("appendix", "appendix B.1 of document 000, but P7", worked(appendix.1)),
+        judging("appendix-p7", "P7 and P7 of that appendix", worked(&[*appendix.0])),
+        judging("random", "300 random questions, capacity 256", random()),
+        judging("field-64", "12 components, 6 of them with two states", full(field(6))),
+        judging("field-512", "12 components, 9 of them with two states", full(field(9))),
+        judging("field-4096", "12 components, each with two states", full(field(12))),
+        judging("wide", "37 components, 5 of them with two states", full(wide())),
+        judging("blocked", "985 raw steps, of which 6 are not blocked", full(blocked())),
+        judging("far-end", "a ten-bit counter: all is alike until it overflows", full(far_end())),
+        judging("worst", "80,829 raw steps, all blocked", full(worst(0, WORST))),
+        judging("worst-repeated", "143,444 raw steps, all blocked", full(worst(0, REPEATED))),
+        judging("worst-16", "69,324 raw steps in each of 16 situations", full(worst(2, WORST))),
+        Workload {
+            on_request: true,
+            ..judging("worst-4096", "53,830 raw steps in each of 4,096", full(worst(6, WORST)))
+        },
+        listing("list-256", "256 distinct steps", many_steps()),
+        listing("list-blocked", "a part of the workload blocked", blocked()),
+        listing("list-worst", "a part of the workload worst", worst(0, WORST)),
+        listing("list-repeated", "a part of the workload worst-repeated", worst(0, REPEATED)),
+        listing("list-surviving", "142,688 raw silent steps, 182 of them distinct", surviving()),
+    ]
+}
+
+fn judging(name: &'static str, about: &'static str, tasks: Vec<Task>) -> Workload {
+    Workload { name, about, tasks, on_request: false }
+}
+
+fn listing(name: &'static str, about: &'static str, fields: Fields) -> Workload {
+    let task = Task { question: fields.bytes(), operation: Operation::List { new_name: 15 } };
+    Workload { name, about, tasks: vec![task], on_request: false }
+}
+
+/// Judging the question with the greatest capacity.
+fn full(fields: Fields) -> Vec<Task> {
+    let operation = Operation::Judge { capacity: CAPACITY };
+    vec![Task { question: fields.bytes(), operation }]
+}
+
+fn worked(questions: &[Worked]) -> Vec<Task> {
+    let task = |worked: &Worked| {
+        let operation = Operation::Judge { capacity: worked.capacity };
+        Task { question: worked.bytes(), operation }
+    };
+    questions.iter().map(task).collect()
+}
+
+fn random() -> Vec<Task> {
+    let question = |seed| {
+        let random = &mut Random::new(seed);
+        let draft = match random.below(4) {
+            0 => Draft::unrelated(random),
+            1 => Draft::busy(random),
+            _ => Draft::near_miss(random),
+        };
+        draft.bytes()
+    };
+    let operation = Operation::Judge { capacity: 256 };
+    (0..300).map(|seed| Task { question: question(seed), operation }).collect()
+}
+
+/// A definition: its arity and its body.
+type Definition = (u8, Vec<u8>);
+
+fn definition(arity: u8, body: &[u8]) -> Definition {
+    (arity, body.to_vec())
+}
+
+fn question(definitions: Vec<Definition>, first: Vec<u8>, second: Vec<u8>) -> Fields {
+    Fields { definitions, first, second, apart: vec![] }
+}
+
+fn call(k: u8, names: &[u8]) -> Vec<u8> {
+    [&[0x09, k], names].concat()
+}
+
+/// Components in parallel, grouped to the left: a walk passes all before it comes to the last.
+fn grouped_left(components: &[Vec<u8>]) -> Vec<u8> {
+    [vec![0x07; components.len() - 1], components.concat()].concat()
+}
+
+/// Components in parallel, grouped to the right.
+fn grouped_right(components: &[Vec<u8>]) -> Vec<u8> {
+    let (last, others) = components.split_last().expect("there are components");
+    let mut part: Vec<u8> = others.iter().flat_map(|one| [&[0x07], &one[..]].concat()).collect();
+    part.extend(last);
+    part
+}
+
+/// Beneath this many restrictions.
+fn restricted(count: usize, part: Vec<u8>) -> Vec<u8> {
+    [vec![0x08; count], part].concat()
+}
+
+fn turned(components: &[Vec<u8>]) -> Vec<Vec<u8>> {
+    components.iter().rev().cloned().collect()
+}
+
+/// Two definitions, with these numbers, of a component with two states: it puts out its name and
+/// goes over to the other.
+fn two_states(k: u8, other: u8) -> [Definition; 2] {
+    let state = |next: u8| definition(1, &[0x03, 0x80, 0x80, 0x09, next, 0x80]);
+    [state(other), state(k)]
+}
+
+/// Twelve components that put out a name each, in another order on the other side. So many of them
+/// have two states; the others have one. Every situation has the same number of steps.
+fn field(with_two_states: u8) -> Fields {
+    let mut definitions = two_states(0, 1).to_vec();
+    definitions.push(definition(1, &[0x03, 0x80, 0x80, 0x09, 0x02, 0x80]));
+    let component = |name: u8| call(if name < with_two_states { 0 } else { 2 }, &[name]);
+    let components: Vec<Vec<u8>> = (0..12).map(component).collect();
+    question(definitions, grouped_right(&components), grouped_right(&turned(&components)))
+}
+
+/// Definitions, with these numbers, of components that only make silent steps: the first two are
+/// the states of one, the third has one state.
+fn silent_states(first: u8) -> [Definition; 3] {
+    [first + 1, first, first + 2].map(|next| definition(0, &[0x01, 0x09, next]))
+}
+
+/// So many silent components with two states and one with one.
+fn silent_components(first: u8, with_two_states: usize) -> Vec<Vec<u8>> {
+    let mut components = vec![call(first, &[]); with_two_states];
+    components.push(call(first + 2, &[]));
+    components
+}
+
+/// 37 components, as many as fit, which all make silent steps. Five of them have two states.
+fn wide() -> Fields {
+    let mut components = silent_components(0, 5);
+    components.resize(37, call(2, &[]));
+    let definitions = silent_states(0).to_vec();
+    question(definitions, grouped_left(&components), grouped_right(&turned(&components)))
+}
+
+/// The numbers of the definitions without a step that [`continuations`] calls.
+const IDLE: std::ops::Range<u8> = 6..16;
+
+/// The definitions, followed by those without a step.
+fn with_idle(mut definitions: Vec<Definition>) -> Vec<Definition> {
+    definitions.resize(IDLE.end.into(), definition(0, &[0x00]));
+    definitions
+}
+
+/// Different terms, the shortest first.
+fn continuations() -> impl Iterator<Item = Vec<u8>> {
+    let two: Vec<Vec<u8>> = [vec![0x01, 0x00], vec![0x08, 0x00]]
+        .into_iter()
+        .chain(IDLE.map(|k| call(k, &[])))
+        .collect();
+    let three =
+        two.clone().into_iter().flat_map(|two| [0x01, 0x08].map(|tag| prefixed(&[tag], &two)));
+    let three: Vec<Vec<u8>> = three.collect();
+    std::iter::once(vec![0x00]).chain(two).chain(three)
+}
+
+fn prefixed(prefix: &[u8], term: &[u8]) -> Vec<u8> {
+    [prefix, term].concat()
+}
+
+/// A choice of these branches.
+fn choice(branches: &[Vec<u8>]) -> Vec<u8> {
+    [vec![0x06; branches.len() - 1], branches.concat()].concat()
+}
+
+/// A body that offers the prefix so many times, with different continuations.
+fn offering(prefix: &[u8], count: usize) -> Definition {
+    let branches: Vec<Vec<u8>> =
+        continuations().take(count).map(|term| prefixed(prefix, &term)).collect();
+    definition(1, &choice(&branches))
+}
+
+const INPUT: &[u8] = &[0x02, 0x80];
+const OUTPUT: &[u8] = &[0x03, 0x80, 0x80];
+const NEW_OUTPUT: &[u8] = &[0x04, 0x80];
+
+/// Three calls that offer 11 inputs each on one restricted name, two that offer 11 outputs each on
+/// another, and six components with two states each. Of 33 + 28 visible steps and 33 × 28
+/// meetings only those of the six are not blocked.
+fn blocked() -> Fields {
+    let mut definitions = vec![offering(INPUT, 11), offering(OUTPUT, 11)];
+    definitions.extend(two_states(2, 3));
+    let mut components = vec![call(0, &[0x80]); 3];
+    components.extend(vec![call(1, &[0x81]); 2]);
+    components.extend((0..6).map(|name| call(2, &[name])));
+    let first = restricted(2, grouped_left(&components));
+    let second = restricted(2, grouped_left(&turned(&components)));
+    question(with_idle(definitions), first, second)
+}
+
+/// A counter of ten bits that counts by silent steps alone, one after another, and puts out a name
+/// when it overflows; that name is all in which the sides differ.
+///
+/// Bit i listens on its own channel. Told to count, a bit at 0 goes to 1 and confirms on the same
+/// channel; a bit at 1 first tells the next bit and waits for that one to confirm, and then goes
+/// to 0 and confirms. The clock tells bit 0. Each channel has two users only, so there is never
+/// more than one step.
+fn far_end() -> Fields {
+    const BITS: u8 = 10;
+    // Parameters are the bit's own channel, 81, and that of the next, 80.
+    let definitions = vec![
+        definition(2, &[0x02, 0x81, 0x09, 0x01, 0x82, 0x81]), // 0: at 0, told, then 1
+        definition(2, &[0x03, 0x81, 0x81, 0x09, 0x02, 0x81, 0x80]), // 1: confirms, then 2
+        definition(2, &[0x02, 0x81, 0x09, 0x03, 0x82, 0x81]), // 2: at 1, told, then 3
+        definition(2, &[0x03, 0x80, 0x80, 0x09, 0x04, 0x81, 0x80]), // 3: tells the next, then 4
+        definition(2, &[0x02, 0x80, 0x09, 0x05, 0x82, 0x81]), // 4: the next confirms, then 5
+        definition(2, &[0x03, 0x81, 0x81, 0x09, 0x00, 0x81, 0x80]), // 5: confirms, then 0
+        definition(1, &[0x03, 0x80, 0x80, 0x09, 0x07, 0x80]), // 6: the clock tells, then 7
+        definition(1, &[0x02, 0x80, 0x09, 0x06, 0x81]),       // 7: bit 0 confirms, then 6
+    ];
+    let side = |overflow: u8| {
+        let mut components = vec![call(6, &[0x80])];
+        components.extend((1..BITS).map(|bit| call(0, &[0x7F + bit, 0x80 + bit])));
+        components.push(call(0, &[0x7F + BITS, overflow]));
+        restricted(BITS.into(), grouped_right(&components))
+    };
+    question(definitions, side(0), side(1))
+}
+
+/// How many inputs and new-name outputs a body can offer within its 112 bytes: with different
+/// continuations, or with inaction after each.
+const WORST: fn(&[u8]) -> Definition = |prefix| offering(prefix, 21);
+const REPEATED: fn(&[u8]) -> Definition =
+    |prefix| definition(1, &choice(&vec![prefixed(prefix, &[0x00]); 28]));
+
+/// The most steps that a walk can be made to go through and that come to nothing: as many calls as
+/// fit, half of which offer inputs on one restricted name and half outputs on another. Silent
+/// components, so many of them with two states, make a field of situations that are all alike.
+fn worst(with_two_states: usize, body: fn(&[u8]) -> Definition) -> Fields {
+    let mut definitions = vec![body(INPUT), body(NEW_OUTPUT)];
+    definitions.extend(silent_states(2));
+    let mut components = match with_two_states {
+        0 => vec![],
+        count => silent_components(2, count),
+    };
+    let room = 112 - 2 + 1 - 3 * components.len();
+    let calls = room / 4;
+    components.extend(vec![call(0, &[0x80]); calls.div_ceil(2)]);
+    components.extend(vec![call(1, &[0x81]); calls / 2]);
+    let first = restricted(2, grouped_left(&components));
+    let second = restricted(2, grouped_left(&turned(&components)));
+    question(with_idle(definitions), first, second)
+}
+
+/// The same on one restricted name: all meetings survive, and many are equal.
+fn surviving() -> Fields {
+    let mut fields = worst(0, REPEATED);
+    for part in [&mut fields.first, &mut fields.second] {
+        part.remove(0);
+        part.iter_mut().filter(|byte| **byte == 0x81).for_each(|byte| *byte = 0x80);
+    }
+    fields
+}
+
+/// 20 inputs beside 11 outputs, which can all meet, beside 5 silent steps.
+fn many_steps() -> Fields {
+    let definitions = with_idle(vec![offering(INPUT, 10), offering(OUTPUT, 11)]);
+    let silent: Vec<Vec<u8>> =
+        continuations().take(5).map(|term| prefixed(&[0x01], &term)).collect();
+    let components = [call(0, &[0]), call(0, &[0]), call(1, &[0]), choice(&silent)];
+    question(definitions, grouped_left(&components), vec![0x00])
+}
+
+/// Panics if a task is refused: a workload is then not what it should be.
+pub fn assert_accepted(workload: &Workload) {
+    for task in &workload.tasks {
+        let answer = compare::check(&task.question);
+        assert_eq!(answer, Answer::Result(0), "{}", workload.name);
+    }
+}

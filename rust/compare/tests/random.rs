@@ -1,0 +1,190 @@
+//! Random questions: all five operations with random numbers and areas, the two implementations
+//! side by side. What may change in an area is tested beside their agreement.
+
+use compare::{Answer, CAPACITY, QUESTION_BYTES, SITUATION_BYTES, STEPS, STEP_BYTES};
+use generate::{each_seed, Draft, Random};
+use std::collections::BTreeMap;
+
+/// A lent area and what it was filled with.
+struct Area {
+    lent: Vec<u8>,
+    filled: Vec<u8>,
+}
+
+impl Area {
+    fn new(random: &mut Random, length: usize) -> Area {
+        let (start, stride) = (random.byte(), random.byte() | 1);
+        let byte = |place: usize| (place as u8).wrapping_mul(stride).wrapping_add(start);
+        let filled: Vec<u8> = (0..length).map(byte).collect();
+        Area { lent: filled.clone(), filled }
+    }
+
+    /// Panics if a byte has changed past the front bytes.
+    fn assert_untouched_past(&self, front: usize) {
+        assert!(self.lent[front..] == self.filled[front..], "a byte past {front} has changed");
+    }
+}
+
+/// A length about the one that is needed: mostly enough, now and then too short.
+fn about(random: &mut Random, needed: usize) -> usize {
+    match random.below(20) {
+        0 => needed.saturating_sub(1),
+        1 => random.below(needed + 1),
+        2 => 0,
+        3..=9 => needed,
+        _ => needed + random.below(200),
+    }
+}
+
+/// How often each operation gave each kind of answer.
+#[derive(Default)]
+struct Tally(BTreeMap<String, usize>);
+
+impl Tally {
+    fn add(&mut self, operation: &str, answer: Answer) {
+        let kind = match answer {
+            Answer::Refused(check) => format!("refused {check:2}"),
+            Answer::Unsettled => "unsettled".into(),
+            Answer::Result(_) => "result".into(),
+            Answer::Same(_) => "same".into(),
+            Answer::Different(_) => "different".into(),
+        };
+        *self.0.entry(format!("{operation}: {kind}")).or_default() += 1;
+    }
+
+    /// Panics unless each operation gave each of its answers this often.
+    fn assert_all(&self, least: usize) {
+        let refusals = |operation, rules: &[u8]| -> Vec<String> {
+            rules.iter().map(|rule| format!("{operation}: refused {rule:2}")).collect()
+        };
+        let question: Vec<u8> = (3..=12).collect();
+        let kinds = [
+            refusals("check", &question),
+            refusals("steps", &[&question[..], &[13, 15]].concat()),
+            refusals("merge", &[&question[..], &[14, 15]].concat()),
+            refusals("beside", &[&question[..], &[15]].concat()),
+            refusals("judge", &[&[1, 2], &question[..]].concat()),
+            ["check", "steps", "merge", "beside"].map(|name| format!("{name}: result")).to_vec(),
+            ["steps", "judge"].map(|name| format!("{name}: unsettled")).to_vec(),
+            ["same", "different"].map(|verdict| format!("judge: {verdict}")).to_vec(),
+        ];
+        for kind in kinds.concat() {
+            let count = self.0.get(&kind).copied().unwrap_or(0);
+            assert!(count >= least, "{kind} only {count} times");
+        }
+    }
+}
+
+/// A question, and a draft with its names and definitions, or with others if it is damaged.
+fn question(random: &mut Random) -> (Vec<u8>, Draft) {
+    let draft = match random.below(10) {
+        0..=2 => Draft::unrelated(random),
+        3..=6 => Draft::near_miss(random),
+        _ => Draft::busy(random),
+    };
+    let question = match random.below(20) {
+        0..=2 => generate::near_limit(random),
+        3..=5 => generate::damaged(random),
+        _ => draft.bytes(),
+    };
+    (question, draft)
+}
+
+/// A number that is often a name of the draft, and sometimes far from a name.
+fn name(random: &mut Random, draft: &Draft) -> u64 {
+    match random.below(20) {
+        0 => random.number(),
+        1 => random.between(14, 17) as u64,
+        _ => random.below(draft.names) as u64,
+    }
+}
+
+/// A name that is likely not to be in the draft.
+fn new_name(random: &mut Random, draft: &Draft) -> u64 {
+    match random.below(20) {
+        0 => name(random, draft),
+        _ => random.between(draft.names.min(15), 15) as u64,
+    }
+}
+
+fn steps(random: &mut Random, question: &[u8], draft: &Draft, tally: &mut Tally) {
+    for side in [1, 2] {
+        let side = if random.chance(5) { random.number() % 5 } else { side };
+        let length = about(random, STEPS * STEP_BYTES);
+        let mut area = Area::new(random, length);
+        let answer = compare::steps(question, side, new_name(random, draft), &mut area.lent);
+        let count = match answer {
+            Answer::Result(count) => count as usize,
+            _ => 0,
+        };
+        area.assert_untouched_past(count * STEP_BYTES);
+        let listed: Vec<&[u8]> = area.lent[..count * STEP_BYTES].chunks(STEP_BYTES).collect();
+        assert!(listed.windows(2).all(|two| two[0] < two[1]), "the steps do not ascend");
+        tally.add("steps", answer);
+    }
+}
+
+fn merge(random: &mut Random, question: &[u8], draft: &Draft, tally: &mut Tally) {
+    let length = about(random, question.len());
+    let mut area = Area::new(random, length);
+    let (a, b) = (name(random, draft), name(random, draft));
+    let answer = compare::merge(question, a, b, &mut area.lent);
+    written(&area, answer);
+    tally.add("merge", answer);
+}
+
+fn beside(random: &mut Random, question: &[u8], draft: &Draft, tally: &mut Tally) {
+    let third = generate::third_part(random, draft);
+    let length = about(random, question.len() + 2 * (1 + third.len()));
+    let mut area = Area::new(random, length);
+    let answer = compare::beside(question, &third, &mut area.lent);
+    written(&area, answer);
+    tally.add("beside", answer);
+}
+
+/// What a merge or beside leaves: an accepted question, or nothing changed.
+fn written(area: &Area, answer: Answer) {
+    let length = match answer {
+        Answer::Result(length) => length as usize,
+        _ => 0,
+    };
+    area.assert_untouched_past(length);
+    if length > 0 {
+        assert!(length <= QUESTION_BYTES);
+        assert_eq!(compare::check(&area.lent[..length]), Answer::Result(0));
+    }
+}
+
+fn judge(random: &mut Random, question: &[u8], tally: &mut Tally) {
+    let capacity = match random.below(100) {
+        0..=2 => *random.pick(&[0, CAPACITY + 1, 1 << 32, u64::MAX]),
+        3..=39 => random.between(1, 30) as u64,
+        40..=97 => random.between(30, 256) as u64,
+        _ => random.between(256, CAPACITY as usize) as u64,
+    };
+    let used = (SITUATION_BYTES * capacity.min(CAPACITY)) as usize;
+    let length = about(random, used);
+    let mut area = Area::new(random, length);
+    let answer = compare::judge(question, capacity, &mut area.lent);
+    let cleared = if matches!(answer, Answer::Refused(_)) { 0 } else { used };
+    assert!(area.lent[..cleared].iter().all(|&byte| byte == 0), "the work area is not cleared");
+    area.assert_untouched_past(cleared);
+    tally.add("judge", answer);
+}
+
+#[test]
+fn all_operations_agree() {
+    let mut tally = Tally::default();
+    each_seed(10_000, |random| {
+        let (question, draft) = question(random);
+        tally.add("check", compare::check(&question));
+        steps(random, &question, &draft, &mut tally);
+        merge(random, &question, &draft, &mut tally);
+        beside(random, &question, &draft, &mut tally);
+        judge(random, &question, &mut tally);
+    });
+    for (kind, count) in &tally.0 {
+        println!("{kind}: {count}");
+    }
+    tally.assert_all(10);
+}

@@ -1,0 +1,54 @@
+//! The verdict: the situations of the field that no open bisimulation relates are struck out.
+
+use crate::answer::{Answer, Check};
+use crate::field::{field, Field};
+use crate::question::Question;
+
+/// The greatest capacity.
+pub const CAPACITY: u64 = 4096;
+/// The bytes of work area for each situation of the capacity.
+pub const SITUATION_BYTES: u64 = 256;
+
+/// Checks 1 to 12, then the verdict.
+pub fn judge(question: &[u8], capacity: u64, work: &mut [u8]) -> Result<Answer, Check> {
+    if !(1..=CAPACITY).contains(&capacity) {
+        return Err(Check::Capacity);
+    }
+    let used = SITUATION_BYTES * capacity;
+    if (work.len() as u64) < used {
+        return Err(Check::WorkArea);
+    }
+    let question = Question::read(question)?;
+    let verdict = match field(&question, capacity as usize) {
+        None => Answer::Unsettled,
+        Some(field) if start_stays(&field) => Answer::Same(field.size() as u64),
+        Some(field) => Answer::Different(field.size() as u64),
+    };
+    work[..used as usize].fill(0);
+    Ok(verdict)
+}
+
+/// Whether the start is in the greatest set of situations in which every permitted step has an
+/// answer that stays in the set. A situation goes when the last answer to one of its steps goes.
+fn start_stays(field: &Field) -> bool {
+    let mut left: Vec<u32> = field.demands.iter().map(|demand| demand.answers).collect();
+    let mut struck = vec![false; field.size()];
+    let mut going: Vec<u32> = Vec::new();
+    let mut strike = |owner: u32, going: &mut Vec<u32>| {
+        if !std::mem::replace(&mut struck[owner as usize], true) {
+            going.push(owner);
+        }
+    };
+    for demand in field.demands.iter().filter(|demand| demand.answers == 0) {
+        strike(demand.owner, &mut going);
+    }
+    while let Some(gone) = going.pop() {
+        for &number in &field.answering[gone as usize] {
+            left[number as usize] -= 1;
+            if left[number as usize] == 0 {
+                strike(field.demands[number as usize].owner, &mut going);
+            }
+        }
+    }
+    !struck[0]
+}

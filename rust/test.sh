@@ -1,0 +1,12 @@
+#!/usr/bin/env bash
+# The Rust tests, for release and offline. They need the proved library: `rt staticlib exchange` at the root of
+# the repository writes it to target/staticlib, or EXCHANGE_LIB_DIR names the folder that has it.
+set -euo pipefail
+cd "$(dirname "$0")"
+library="${EXCHANGE_LIB_DIR:-../target/staticlib}/libexchange.a"
+if [[ ! -f $library ]]; then
+    echo "rust/test.sh: $library is missing: run \`rt staticlib exchange\` at the root of the repository" >&2
+    exit 1
+fi
+cargo fmt --check
+cargo test --release --offline --workspace
