@@ -52,13 +52,13 @@ reversed-onto (x ∷ xs) ys m h = ⊎-elim
     reversed-onto xs (x ∷ ys) m q ∙ ap (λ (k : ℕ). getD (x ∷ xs) k 0) (sym e))
     (eq-or-lt-of-le {n = m} {m = length xs} (omega arith))
 
-parameter-is : (σ : ℕ → ℕ) (xs : List ℕ) (m : ℕ) → m < length xs → params σ xs m ≡ σ (getD xs (length xs - 1 - m) 0)
+pub parameter-is : (σ : ℕ → ℕ) (xs : List ℕ) (m : ℕ) → m < length xs → params σ xs m ≡ σ (getD xs (length xs - 1 - m) 0)
 parameter-is σ xs m h =
     let l = length-map xs σ in
     reversed-onto (map σ xs) [] m (omega arith) ∙ ap (λ (n : ℕ). getD (map σ xs) (n - 1 - m) 0) l
     ∙ getD-map σ xs (length xs - 1 - m) (omega arith)
 
-name-within : (free d : ℕ) (ns : List ℕ) → NamesInScope free d ns → (j : ℕ) → j < length ns → getD ns j 0 < d + free
+pub name-within : (free d : ℕ) (ns : List ℕ) → NamesInScope free d ns → (j : ℕ) → j < length ns → getD ns j 0 < d + free
 unfolding NamesInScope
 name-within free d [] h j l = absurd (not-suc-le-zero l)
 name-within free d (n ∷ ns) h zero l = h .0

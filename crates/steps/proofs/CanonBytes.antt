@@ -23,6 +23,16 @@ use Rattle.steps.specs.Listed.{classesOf, kindOf, channelOf, objectOf, l
 use Rattle.steps.specs.declared.listed.ActionBytes.{ActionBytes}
 use Rattle.steps.proofs.ClassLists.{length-classes, class-of}
 
+-- An action rewritten by the condition, for the new name x, and its bytes.
+abbrev pub actionOfStep : Cond → ℕ → Act → Action
+actionOfStep M x tauA = silent
+actionOfStep M x (inpA a) = input (cls M a) x
+actionOfStep M x (outA a b) = output (cls M a) (cls M b)
+actionOfStep M x (boutA a) = newOutput (cls M a) x
+
+abbrev pub coded : Action → ActionBytes
+coded α = record { kind = kindOf α; channel = channelOf α; object = objectOf α }
+
 module _ (class : List ℕ) (M : Cond) (many : nameCount ≤ length class) (classes : (n : ℕ) → n < nameCount → getD class n 0 ≡ cls M n) where
   pub classes-are : take nameCount class ≡ classesOf nameCount M
   classes-are =
@@ -52,16 +62,6 @@ module _ (class : List ℕ) (M : Cond) (many : nameCount ≤ length class) (clas
         go zero f = new-is
         go (suc n) f = name-is n (h n f)
 
-    -- the bytes of an action rewritten by the condition
-    abbrev pub actionOfStep : Act → Action
-    actionOfStep tauA = silent
-    actionOfStep (inpA a) = input (cls M a) x
-    actionOfStep (outA a b) = output (cls M a) (cls M b)
-    actionOfStep (boutA a) = newOutput (cls M a) x
-
-    abbrev pub coded : Action → ActionBytes
-    coded α = record { kind = kindOf α; channel = channelOf α; object = objectOf α }
-
     entry-listed : (α : Action) (R A : Term) → ren (rewriting class x) R ≡ A
         → entryBytes class (coded α) x R ≡ bytes longestTerm (listedAs nameCount M α A)
     unfolding entryBytes bytes listedAs resultBytes
@@ -70,7 +70,7 @@ module _ (class : List ℕ) (M : Cond) (many : nameCount ≤ length class) (clas
         rw (classes-are, e, l) refl
 
     pub entry-canonical : (α : Act) (A : Term) → ((n : ℕ) → Free (shift α n) A → n < nameCount)
-        → entryBytes class (coded (actionOfStep α)) x (withoutNew α A) ≡ bytes longestTerm (canonStep nameCount x M α A)
+        → entryBytes class (coded (actionOfStep M x α)) x (withoutNew α A) ≡ bytes longestTerm (canonStep nameCount x M α A)
     unfolding withoutNew canonStep
     entry-canonical tauA A h = entry-listed silent A (ren (cls M) A) (free-rewritten A h)
     entry-canonical (inpA a) A h = entry-listed (input (cls M a) x) (ren (inst nameCount) A) (ren (x • cls M) A) (bound-rewritten A h)

@@ -26,7 +26,7 @@ use Rattle.steps.specs.Operations.{listBytes}
 use Rattle.steps.specs.Raw.{Candidate, step, blocked}
 use Rattle.steps.proofs.ClassLists.{length-classes}
 use Rattle.steps.proofs.InsertLaws.{length-listBytes, stored-again}
-use Rattle.steps.proofs.Limited.{limited-within, limited-many, limited-long}
+use Rattle.steps.proofs.Limited.{Long, limited-passed, limited-many, limited-long}
 use Rattle.steps.proofs.ListedBytes.{step-length, step-size}
 use Rattle.steps.proofs.Membership.{all-∈, all-imp}
 use Rattle.steps.proofs.Moves.{set-before}
@@ -66,6 +66,15 @@ module _ (names longest x : ℕ) where
   canon-classes M (outA a b) A = length-classes names M
   canon-classes M (boutA a) A = length-classes names M
 
+-- A limit once passed stays passed.
+pub limited-grows : (names longest x most : ℕ) (cs : List Candidate) (found : List ListedStep) → limited longest most found ≡ unsettled
+    → limited longest most (collect names longest x cs found) ≡ unsettled
+limited-grows names longest x most cs found e = go (limited-passed longest most found e)
+  where
+    go : (most < length found) ⊎ Long longest found → limited longest most (collect names longest x cs found) ≡ unsettled
+    go (inl h) = limited-many longest most (collect names longest x cs found) (omega (arith, collect-length names longest x cs found))
+    go (inr (s, m, l)) = limited-long longest most (collect names longest x cs found) (s, collect-old names longest x cs found s m, l)
+
 -- a later run over an earlier one that is no longer
 sets-over : (l : List ℕ) (p : ℕ) (xs ys : List ℕ) → length xs ≤ length ys → sets (sets l p xs) p ys ≡ sets l p ys
 sets-over l p [] ys h = refl
@@ -74,7 +83,7 @@ sets-over l p (x ∷ xs) (y ∷ ys) h =
     ap (λ m. sets m (suc p) ys) (set-before (set l p x) p (suc p) y xs (omega arith) ∙ ap (λ m. sets m (suc p) xs) (set-set l p x y))
     ∙ sets-over (set l p y) (suc p) xs ys (omega arith)
 
-take-sets : (l xs : List ℕ) (n : ℕ) → length xs ≡ n → n ≤ length l → take n (sets l 0 xs) ≡ xs
+pub take-sets : (l xs : List ℕ) (n : ℕ) → length xs ≡ n → n ≤ length l → take n (sets l 0 xs) ≡ xs
 take-sets l xs n e h = ap (take n) (sets-eq xs l 0 (omega arith)) ∙ take-at xs (drop (0 + length xs) l) n e
 
 -- A list that stands in the area may be stored again.
@@ -161,6 +170,21 @@ module _ (area : List ℕ) (room : mostSteps * stepBytes ≤ length area) where
               let c = canon-classes nameCount longestTerm x M α A in
               absurd (omega (arith, step-length longestTerm (canonStep nameCount x M α A), ap length b))
 
+-- A list stored over one that it has grown from.
+pub stored-twice : (area₀ : List ℕ) (cs : List Candidate) (x : ℕ) (f : List ListedStep) (n : ℕ) {area : List ℕ} → Stands area n f
+    → area ≡ sets area₀ 0 (listBytes f) → (m : ℕ) (area′ : List ℕ) → Stands area′ m (collect nameCount longestTerm x cs f)
+    → area′ ≡ sets area 0 (listBytes (collect nameCount longestTerm x cs f)) → area′ ≡ sets area₀ 0 (listBytes (collect nameCount longestTerm x cs f))
+stored-twice area₀ cs x f n s p m area′ t q =
+    let g : List ListedStep = collect nameCount longestTerm x cs f in
+    let longer : length (listBytes f) ≤ length (listBytes g) =
+    omega (
+      arith,
+      length-listBytes f (s .sized),
+      length-listBytes g (t .sized),
+      mul-le-mul-right stepBytes (collect-length nameCount longestTerm x cs f),
+    ) in
+    q ∙ ap (λ l. sets l 0 (listBytes g)) p ∙ sets-over area₀ 0 (listBytes f) (listBytes g) longer
+
 -- What the area holds when the first i candidates have been put into it.
 module _ (cs : List Candidate) (x : ℕ) (area₀ : List ℕ) (count₀ : ℕ) where
   abbrev after : ℕ → List ListedStep → List ListedStep
@@ -191,20 +215,11 @@ module _ (cs : List Candidate) (x : ℕ) (area₀ : List ℕ) (count₀ : ℕ) w
       let g : List ListedStep = collect nameCount longestTerm x (getD cs i blocked ∷ []) f in
       let before = p found s in
       let put = u f (before .stands) in
-      let more : length f ≤ length g = collect-length nameCount longestTerm x (getD cs i blocked ∷ []) f in
-      let longer : length (listBytes f) ≤ length (listBytes g) = omega (
-        arith,
-        length-listBytes f (before .stands .sized),
-        length-listBytes g (put .stands k .sized),
-        mul-le-mul-right stepBytes more,
-      ) in
       let e : g ≡ after (i + 1) found = next i h found in
       record {
         stands = subst (Stands area′ m) e (put .stands k);
         stored =
-            put .stored k
-            ∙ ap (λ l. sets l 0 (listBytes g)) (before .stored)
-            ∙ sets-over area₀ 0 (listBytes f) (listBytes g) longer
+            stored-twice area₀ (getD cs i blocked ∷ []) x f n (before .stands) (before .stored) m area′ (put .stands k) (put .stored k)
             ∙ ap (λ l. sets area₀ 0 (listBytes l)) e;
       }
 
@@ -213,14 +228,8 @@ module _ (cs : List Candidate) (x : ℕ) (area₀ : List ℕ) (count₀ : ℕ) w
   progress-done i n area h k p found s =
       let now = p found s in
       let e : after i found ≡ collect nameCount longestTerm x cs found = ap (λ ds. collect nameCount longestTerm x ds found) (take-all i cs h) in
-      subst (λ l. Found l area₀ n area) e (record {
-        given = λ _. (
-          limited-within longestTerm mostSteps (after i found) (omega (arith, now .stands .number)) (now .stands .fit),
-          sym (now .stands .number),
-          now .stored,
-        );
-        passed = λ l. absurd (omega arith);
-      })
+      subst (λ l. Found l area₀ n area) e
+      (record { stands = λ _. now .stands; stored = λ _. now .stored; passed = λ l. absurd (omega arith) })
 
   pub progress-passed : (i n m : ℕ) (area area′ : List ℕ) → i < length cs → Progresses i n area → PutIs (getD cs i blocked) x area n m area′
       → mostSteps < m → CollectIs cs x area₀ count₀ m area′
@@ -231,6 +240,7 @@ module _ (cs : List Candidate) (x : ℕ) (area₀ : List ℕ) (count₀ : ℕ) w
       sym (collect-++ nameCount longestTerm x (take i cs) (getD cs i blocked ∷ drop (suc i) cs) found)
       ∙ ap (λ ds. collect nameCount longestTerm x ds found) (sym (split-at cs i blocked h)) in
       record {
-        given = λ l. absurd (omega arith);
+        stands = λ l. absurd (omega arith);
+        stored = λ l. absurd (omega arith);
         passed = λ _. subst (λ l. limited longestTerm mostSteps l ≡ unsettled) e (u (after i found) (now .stands) .passed k (drop (suc i) cs));
       }

@@ -21,7 +21,8 @@ use Rattle.steps.specs.declared.action.Status.the-variants.{Past, Blocke
 use Rattle.steps.specs.declared.action.Label.{Label}
 use Rattle.steps.specs.declared.rules.Meeting.{Meeting}
 use Rattle.steps.specs.declared.rules.Meeting.the-variants.{Never, At}
-use Rattle.steps.proofs.SlotLaws.{slot-restricted, slot-suc, slot-outside, below-slots, below-more, below-append, classes-outside, below-outside}
+use Rattle.steps.proofs.NameSlots.{slot-inner}
+use Rattle.steps.proofs.SlotLaws.{slot-restricted, slot-outside, below-slots, below-more, below-append, classes-outside, below-outside}
 
 -- The three kinds of answers exclude one another.
 found-past : {s : Status} → s ≡ Found → s ≡ Past → ⊥
@@ -132,7 +133,7 @@ module _ (s : Label) (level : ℕ) where
     keeps M (inpA (suc a)) P h sp = record {
       found = h .found;
       classes = outside-classes M (inpA (suc a)) h sp;
-      action = h .action ∙ ap Input (slot-suc nameCount level a);
+      action = h .action ∙ ap Input (slot-inner nameCount level a);
       below = outside-below M (inpA (suc a)) h sp;
       names = let n = h .names in omega arith;
     }
@@ -141,7 +142,7 @@ module _ (s : Label) (level : ℕ) where
     keeps M (outA (suc a) (suc b)) P h sp = record {
       found = h .found;
       classes = outside-classes M (outA (suc a) (suc b)) h sp;
-      action = h .action ∙ ap₂ Output (slot-suc nameCount level a) (slot-suc nameCount level b);
+      action = h .action ∙ ap₂ Output (slot-inner nameCount level a) (slot-inner nameCount level b);
       below = outside-below M (outA (suc a) (suc b)) h sp;
       names = let n = h .names in (omega arith, omega arith);
     }
@@ -149,7 +150,7 @@ module _ (s : Label) (level : ℕ) where
     keeps M (boutA (suc a)) P h sp = record {
       found = h .found;
       classes = outside-classes M (boutA (suc a)) h sp;
-      action = h .action ∙ ap NewOutput (slot-suc nameCount level a);
+      action = h .action ∙ ap NewOutput (slot-inner nameCount level a);
       below = outside-below M (boutA (suc a)) h sp;
       names = let n = h .names in omega arith;
     }
@@ -185,7 +186,7 @@ module _ (s : Label) (level : ℕ) where
         record {
           found = f;
           classes = subst (λ (c : List ℕ). HasClasses c level (mapP outside M)) (sym k) (outside-classes M (outA (suc x) zero) h sp);
-          action = w ∙ ap NewOutput (q ∙ slot-suc nameCount level x);
+          action = w ∙ ap NewOutput (q ∙ slot-inner nameCount level x);
           below = outside-below M (outA (suc x) zero) h sp;
           names = let n = h .names in omega arith;
         }

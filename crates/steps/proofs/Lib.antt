@@ -1,7 +1,8 @@
+pub mod ArgumentSlots
 pub mod BodyPlaces
 pub mod ByteOrder
-pub mod Calls
 pub mod CallLaws
+pub mod Calls
 pub mod CandidateCount
 pub mod CandidateForms
 pub mod CanonBytes
@@ -14,8 +15,11 @@ pub mod DerivedLaws
 pub mod EntryLaws
 pub mod EntryOrder
 pub mod Examples
+pub mod GatherLaws
 pub mod InsertLaws
+pub mod LabelNumbers
 pub mod LabelRules
+pub mod LabelWalks
 pub mod Limited
 pub mod ListedBytes
 pub mod ListedIffDerived
@@ -24,6 +28,7 @@ pub mod Membership
 pub mod Moves
 pub mod NameSlots
 pub mod Numbering
+pub mod OperationLaws
 pub mod PassLaws
 pub mod Premises
 pub mod QuestionDefinitions
@@ -33,4 +38,6 @@ pub mod Restriction
 pub mod Scope
 pub mod SlotLaws
 pub mod Sorted
+pub mod StepEntries
+pub mod TakeLaws
 pub mod TwoSides

@@ -60,7 +60,7 @@ module _ (arities : List ℕ) (bodies : List Term) (allowed : BodiesAllowed arit
   result-in-scope x below fresh s d =
       derived-well Δ nameCount nameCount (omega arith) arities closed-calls x below P scope longestTerm 1 opens fresh (omega arith) s d .scope
 
-side-allowed : (q : Question) → WellFormed q → (side : ℕ) (P : Term) → sideOf q side ≡ result P → PartAllowed (q .arities) P
+pub side-allowed : (q : Question) → WellFormed q → (side : ℕ) (P : Term) → sideOf q side ≡ result P → PartAllowed (q .arities) P
 unfolding sideOf
 side-allowed q w side P e =
     go (eqb side 1) (result-injective (need-result 13 (eqb side 1 || eqb side 2) (result (cond (eqb side 1) (q .first) (q .second))) P e .1))

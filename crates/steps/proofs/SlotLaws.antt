@@ -2,38 +2,20 @@
 use mathlib.Core.Path.{_≡_, refl, sym, _∙_, ap, fun-ext}
 use mathlib.Core.Bool.{Bool, true, false, _&&_}
 use mathlib.Core.List.{List, [], _∷_, _++_}
-use Prim.Native.Nat.{ℕ, zero, suc, _+_, _-_, _<_, _≤_}
+use Prim.Native.Nat.{ℕ, zero, suc, _+_, _<_, _≤_}
 use native.Mathlib.Omega.{arith}
 use lib.Dec.{ltb}
-use borrow.Author.Tests.{ltb-true, ltb-false, lt-ltb, le-ltb}
+use borrow.Author.Tests.{ltb-true, ltb-false}
 use Rattle.calculus.specs.Cond.{Cond, mapP, Unif, cls}
 use Rattle.calculus.proofs.Conditions.{E2, E3, δ, δ-self, δ-eq, δ-ne, Unif-mapP, cls-le, cls-~, mapP-~, mapP-∘}
 use Rattle.terms.specs.Limits.{nameCount}
 use Rattle.steps.specs.Raw.{spares, sparesRestricted, outside}
 use Rattle.steps.specs.Slots.{slotOf, HasClasses, Below}
+use Rattle.steps.proofs.NameSlots.{slot-bound, slot-free, slot-inner}
 use Rattle.steps.proofs.Restriction.{spared-alone, outside-~}
-
-pub slot-bound : (names d n : ℕ) → n < d → slotOf names d n ≡ names + (d - 1 - n)
-unfolding slotOf
-slot-bound names d n h = simp (lt-ltb n d h)
-
-pub slot-free : (names d n : ℕ) → d ≤ n → slotOf names d n ≡ n - d
-unfolding slotOf
-slot-free names d n h = simp (le-ltb n d h)
 
 pub slot-restricted : (names d : ℕ) → slotOf names (1 + d) 0 ≡ names + d
 slot-restricted names d = slot-bound names (1 + d) 0 (omega arith) ∙ omega arith
-
-pub slot-suc : (names d n : ℕ) → slotOf names (1 + d) (suc n) ≡ slotOf names d n
-slot-suc names d n = go (ltb n d) refl
-  where
-    go : (t : Bool) → ltb n d ≡ t → slotOf names (1 + d) (suc n) ≡ slotOf names d n
-    go true e =
-        let h = ltb-true n d e in
-        slot-bound names (1 + d) (suc n) (omega arith) ∙ omega (arith, slot-bound names d n h)
-    go false e =
-        let h = ltb-false n d e in
-        slot-free names (1 + d) (suc n) (omega arith) ∙ omega (arith, slot-free names d n h)
 
 pub slot-below : (names d n : ℕ) → n < d + names → slotOf names d n < names + d
 slot-below names d n h = go (ltb n d) refl
@@ -44,7 +26,7 @@ slot-below names d n h = go (ltb n d) refl
 
 -- The restricted name alone has the largest slot.
 pub slot-outside : (names d n : ℕ) → n < d + names → slotOf names (1 + d) (suc n) < names + d
-slot-outside names d n h = omega (arith, slot-suc names d n, slot-below names d n h)
+slot-outside names d n h = omega (arith, slot-inner names d n, slot-below names d n h)
 
 pub below-slots : (names d : ℕ) (M : Cond) → Below (d + names) M → Below (names + d) (mapP (slotOf names d) M)
 unfolding Below
@@ -108,7 +90,7 @@ unfolding HasClasses
 classes-outside c d M s H k h =
     let N : Cond = mapP outside M in
     let e : mapP (slotOf nameCount (1 + d)) (mapP suc N) ≡ mapP (slotOf nameCount d) N =
-    mapP-∘ (slotOf nameCount (1 + d)) suc N ∙ ap (λ f. mapP f N) (fun-ext (slot-suc nameCount d)) in
+    mapP-∘ (slotOf nameCount (1 + d)) suc N ∙ ap (λ f. mapP f N) (fun-ext (slot-inner nameCount d)) in
     let q = cls-~ (mapP (slotOf nameCount (1 + d)) M) (mapP (slotOf nameCount (1 + d)) (mapP suc N))
     (mapP-~ (slotOf nameCount (1 + d)) M (mapP suc N) (outside-~ M (spared-alone M s))) in
     H k h ∙ ap (λ f. f k) q ∙ ap (λ K. cls K k) e

@@ -9,7 +9,7 @@ use Rattle.steps.specs.Derived.{Ascending}
 use Rattle.steps.specs.Entries.{Sized}
 use Rattle.steps.specs.Limits.{mostSteps, stepBytes}
 use Rattle.steps.specs.Listed.{ListedStep, resultBytes}
-use Rattle.steps.specs.Listing.{collect, unsettled, listed, limited}
+use Rattle.steps.specs.Listing.{collect, unsettled, limited}
 use Rattle.steps.specs.Lists.{All}
 use Rattle.steps.specs.Operations.{listBytes}
 use Rattle.steps.specs.Raw.{Candidate}
@@ -25,7 +25,8 @@ pub record Stands (area : List ℕ) (count : ℕ) (found : List ListedStep) : Ty
 -- The steps found have been put into the area, and the answer is their number; an answer above the limit says that a limit is passed, and then
 -- the area is not determined.
 pub record Found (found : List ListedStep) (area : List ℕ) (r : ℕ) (area′ : List ℕ) : Type 0 where
-  pub given : r ≤ mostSteps → (limited longestTerm mostSteps found ≡ listed found) × (r ≡ length found) × (area′ ≡ sets area 0 (listBytes found))
+  pub stands : r ≤ mostSteps → Stands area′ r found
+  pub stored : r ≤ mostSteps → area′ ≡ sets area 0 (listBytes found)
   pub passed : mostSteps < r → limited longestTerm mostSteps found ≡ unsettled
 
 -- One candidate c put into the list found, which stands in the area, for the new name x. An answer above the limit says that a limit is passed,

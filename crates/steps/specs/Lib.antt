@@ -1,3 +1,4 @@
+pub mod Answering
 pub mod Bodies
 pub mod Collecting
 pub mod Conditions
@@ -6,12 +7,14 @@ pub mod Derived
 pub mod Entries
 pub mod EntryBytes
 pub mod Labels
+pub mod LabelWalk
 pub mod Limits
 pub mod Listed
 pub mod Listing
 pub mod Lists
 pub mod Names
 pub mod Operations
+pub mod PartLister
 pub mod Passing
 pub mod Raw
 pub mod Slots

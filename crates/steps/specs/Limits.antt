@@ -8,3 +8,7 @@ mostSteps = 256
 -- the bytes of a listed step
 abbrev pub stepBytes : ℕ
 stepBytes = 132
+
+-- No part has more candidates of one kind (proofs/CandidateCount).
+abbrev pub mostCandidates : ℕ
+mostCandidates = 157351936

@@ -5,8 +5,10 @@ ghost use lib.ListN.{length, getD, take, drop};
 ghost use lib.Seq.{sets};
 ghost use Rattle.terms.specs.Limits.{nameCount, tableNames, longestTerm};
 ghost use Rattle.steps.specs.Entries.{entryFrom, comesBefore, PlaceIs, InsertIs};
-ghost use Rattle.steps.specs.EntryBytes.{rewriting, EntryIs};
+ghost use Rattle.steps.specs.EntryBytes.{rewriting, actionBytes, EntryIs, StepEntryIs};
 ghost use Rattle.steps.specs.Limits.{stepBytes, mostSteps};
+use crate::action::Action;
+use crate::action::Label;
 use crate::limits::MOST_STEPS;
 use crate::limits::STEP_BYTES;
 use terms::bytes::copy;
@@ -42,11 +44,11 @@ fn entry_of(
     action: ActionBytes,
     x: u8,
     arities: &[u8],
-    bytes: &[u8],
+    raw: &[u8],
     n: usize,
 ) -> [u8; STEP_BYTES]
     requires { ⌜ (nameCount ≤ length (now class)) × (n ≤ longestTerm) ⌝ }
-    ensures { λ r. ⌜ EntryIs (now (class .entry)) action x (now (arities .entry)) (now (bytes .entry)) n r ⌝ }
+    ensures { λ r. ⌜ EntryIs (now (class .entry)) action x (now (arities .entry)) (now (raw .entry)) n r ⌝ }
 {
     let mut entry = [0u8; STEP_BYTES];
     copy(class, 0, NAME_COUNT, &mut entry, 0);
@@ -55,8 +57,47 @@ fn entry_of(
     entry[NAME_COUNT + 2] = action.object;
     entry[NAME_COUNT + 3] = n as u8;
     let table = rewriting_table(class, x);
-    rename(bytes, 0, arities, &table, &mut entry, NAME_COUNT + 4);
+    rename(raw, 0, arities, &table, &mut entry, NAME_COUNT + 4);
     entry
+}
+
+// The bytes of an action outside every restriction: channel and object are rewritten by the condition, and the new name is `x`.
+fn action_bytes(class: &[u8], action: Action, x: u8) -> ActionBytes
+    ensures { λ r. ⌜ r ≡ actionBytes (now (class .entry)) x action ⌝ }
+{
+    match action {
+        Action::Silent => ActionBytes {
+            kind: 0,
+            channel: 0,
+            object: 0,
+        },
+        Action::Input(a) => ActionBytes {
+            kind: 1,
+            channel: get(class, a as usize),
+            object: x,
+        },
+        Action::Output(a, b) => ActionBytes {
+            kind: 2,
+            channel: get(class, a as usize),
+            object: get(class, b as usize),
+        },
+        Action::NewOutput(a) => ActionBytes {
+            kind: 3,
+            channel: get(class, a as usize),
+            object: x,
+        },
+    }
+}
+
+// The entry of a step from its header and the `n` bytes of its raw result.
+pub fn step_entry(header: Label, x: u8, arities: &[u8], raw: &[u8], n: usize) -> [u8; STEP_BYTES]
+    requires { ⌜ n ≤ longestTerm ⌝ }
+    ensures { λ r. ⌜ StepEntryIs header x (now (arities .entry)) (now (raw .entry)) n r ⌝ }
+{
+    let condition = header.condition;
+    let class = condition.class;
+    let action = header.action;
+    entry_of(&class, action_bytes(&class, action, x), x, arities, raw, n)
 }
 
 // Whether the entry at `i` comes before the entry at `j`: the first byte that differs decides.

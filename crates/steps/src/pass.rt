@@ -116,7 +116,7 @@ fn returned(p: Passed, src: &[u8], at: usize, binders: usize, end: usize) -> Pas
 }
 
 // Whether a term that begins with `t`, one of the bytes 0 to 4, has a candidate of the kind asked for.
-fn counts(t: usize, silently: bool) -> bool
+pub fn counts(t: usize, silently: bool) -> bool
     ensures { λ r. ⌜ r ≡ counted silently t ⌝ }
 {
     if t == 0 {

@@ -50,7 +50,7 @@ rename-requires : tie.Need-rename-requires
 rename-requires c κs = search needs
 
 returns : tie.Need-returns
-returns c = entry-stored (c .before .before .before .before .before .before .before .before .before .before .before .args .class .now) (c .before .before .before .before .before .before .before .before .before .before .before .args .action) (c .before .before .before .before .before .before .before .before .before .before .before .args .x) (c .before .before .before .before .before .before .before .before .before .before .before .args .arities .now) (c .before .before .before .before .before .before .before .before .before .before .before .args .bytes .now) (c .before .before .before .before .before .before .before .before .before .before .before .args .n) (c .before .before .before .before .before .before .before .before .before .before .before .pre .0) (c .before .before .before .before .before .before .before .before .before .before .before .pre .1) (c .before .before .before .before .rewriting-table .result) (c .before .before .before .before .rewriting-table .ensures) _ _ (c .before .before .before .before .before .before .copy .ensures) _ (c .before .rename .ensures)
+returns c = entry-stored (c .before .before .before .before .before .before .before .before .before .before .before .args .class .now) (c .before .before .before .before .before .before .before .before .before .before .before .args .action) (c .before .before .before .before .before .before .before .before .before .before .before .args .x) (c .before .before .before .before .before .before .before .before .before .before .before .args .arities .now) (c .before .before .before .before .before .before .before .before .before .before .before .args .raw .now) (c .before .before .before .before .before .before .before .before .before .before .before .args .n) (c .before .before .before .before .before .before .before .before .before .before .before .pre .0) (c .before .before .before .before .before .before .before .before .before .before .before .pre .1) (c .before .before .before .before .rewriting-table .result) (c .before .before .before .before .rewriting-table .ensures) _ _ (c .before .before .before .before .before .before .copy .ensures) _ (c .before .rename .ensures)
 
 pub entry-of-spec : {M : Type 1} → statement M
 entry-of-spec =

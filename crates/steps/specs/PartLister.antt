@@ -1,0 +1,59 @@
+-- The steps of a part put into an area, one candidate after the other: what the functions that do so promise. The definitions are those of an
+-- accepted question; the part need not be one of its sides.
+use mathlib.Core.Bool.{Bool}
+use mathlib.Core.List.{List}
+use mathlib.Core.Path.{_≡_}
+use Prim.Native.Nat.{ℕ, _<_, _≤_}
+use lib.ListN.{length, getD}
+use lib.Seq.{sets}
+use Rattle.calculus.specs.Term.{Term}
+use Rattle.terms.specs.Answer.{result}
+use Rattle.terms.specs.Encoding.{encode, InScope}
+use Rattle.terms.specs.Limits.{nameCount, longestTerm}
+use Rattle.terms.specs.Question.{Question, checkOf}
+use Rattle.steps.specs.Collecting.{PutIs, CollectIs}
+use Rattle.steps.specs.Limits.{mostSteps}
+use Rattle.steps.specs.Listing.{Listing, unsettled, listed, bodyOf, stepsOf}
+use Rattle.steps.specs.Operations.{listBytes}
+use Rattle.steps.specs.Passing.{candidates}
+use Rattle.steps.specs.Raw.{Candidate, blocked}
+use Rattle.steps.specs.declared.list.ListAnswer.{ListAnswer}
+use Rattle.steps.specs.declared.list.ListAnswer.the-variants.{Unsettled, Count}
+use Rattle.steps.specs.declared.list.Taken.{Taken}
+use Rattle.steps.specs.declared.list.Taken.the-variants.{Past, Now}
+
+-- The bytes are those of a part of a question with the definitions of q, and x may be the new name: one of the names, or the one behind them where
+-- they are all in use.
+pub record Lists (question part : List ℕ) (x : ℕ) (q : Question) (P : Term) : Type 0 where
+  pub accepted : checkOf question ≡ result q
+  pub scope : InScope nameCount (q .arities) 0 P
+  pub bytes : part ≡ encode 0 P
+  pub size : length (encode 0 P) ≤ longestTerm
+  pub new : x ≤ nameCount
+
+-- the silent candidates of the part, or its visible ones
+unfoldable pub candidatesOf : Bool → Question → Term → List Candidate
+candidatesOf silently q P = candidates silently (bodyOf (q .bodies)) 1 P
+
+-- One candidate by its number: past the last nothing changes.
+pub record TakesFrom (cs : List Candidate) (i x : ℕ) (area : List ℕ) (count : ℕ) (r : Taken) (area′ : List ℕ) : Type 0 where
+  pub past : length cs ≤ i → (r ≡ Past) × (area′ ≡ area)
+  pub there : i < length cs → (m : ℕ) × (r ≡ Now m) × PutIs (getD cs i blocked) x area count m area′
+
+unfoldable pub TakeIs : List ℕ → List ℕ → Bool → ℕ → ℕ → List ℕ → ℕ → Taken → List ℕ → Type 0
+TakeIs question part silently i x area count r area′ =
+    (q : Question) (P : Term) → Lists question part x q P → TakesFrom (candidatesOf silently q P) i x area count r area′
+
+-- All of one kind.
+unfoldable pub GatherIs : List ℕ → List ℕ → Bool → ℕ → List ℕ → ℕ → ℕ → List ℕ → Type 0
+GatherIs question part silently x area count r area′ =
+    (q : Question) (P : Term) → Lists question part x q P → CollectIs (candidatesOf silently q P) x area count r area′
+
+-- The answer: after "unsettled" the area is not determined, and the operation restores it.
+unfoldable pub AnswersListing : Listing → List ℕ → ListAnswer → List ℕ → Type 0
+AnswersListing unsettled area r area′ = r ≡ Unsettled
+AnswersListing (listed ss) area r area′ = (r ≡ Count (length ss)) × (area′ ≡ sets area 0 (listBytes ss))
+
+pub record ListPartIs (question part : List ℕ) (x : ℕ) (area : List ℕ) (r : ListAnswer) (area′ : List ℕ) : Type 0 where
+  pub few : (n : ℕ) → r ≡ Count n → n ≤ mostSteps
+  pub is : (q : Question) (P : Term) → Lists question part x q P → AnswersListing (stepsOf (q .bodies) x P) area r area′
