@@ -4,6 +4,7 @@ pub mod Explored
 pub mod FieldIsSmallest
 pub mod Growth
 pub mod KeptPairs
+pub mod KeyLaws
 pub mod Link
 pub mod Members
 pub mod Loops
@@ -16,6 +17,7 @@ pub mod PairLaws
 pub mod PairTables
 pub mod Proper
 pub mod Reached
+pub mod ResultLaws
 pub mod Run
 pub mod Selections
 pub mod SuccessorsLinked

@@ -1,8 +1,10 @@
 pub mod Entry
 pub mod Exploration
 pub mod Field
+pub mod Key
 pub mod NameFlags
 pub mod PairFlags
+pub mod Resulting
 pub mod Setting
 pub mod Situation
 pub mod Slot

@@ -1,0 +1,51 @@
+-- `field::results::rewrite_result` meets its contract. Assumes nothing.
+use Prim.Native.Nat.{_-_}
+use Rattle.field.proofs.ResultLaws.{rewrites-result}
+use borrow.Author.Needs.{needs}
+use Rattle.field.proofs.results.rewrite_result.Statement.{statement}
+use Rattle.field.proofs.results.rewrite_result.Tie as tie
+
+copy-result-requires : tie.Need-copy-result-requires
+copy-result-requires c κs = search needs
+
+add-rename : tie.Need-add-rename
+add-rename c = search needs
+
+add-rename-2 : tie.Need-add-rename-2
+add-rename-2 c = search needs
+
+sub-rename : tie.Need-sub-rename
+sub-rename c = search needs
+
+part-rename-start : tie.Need-part-rename-start
+part-rename-start c = search needs
+
+part-rename-end : tie.Need-part-rename-end
+part-rename-end c = search needs
+
+add-rename-3 : tie.Need-add-rename-3
+add-rename-3 c = search needs
+
+rename-requires : tie.Need-rename-requires
+rename-requires c κs = search needs
+
+same-length : tie.Need-same-length
+same-length c = search needs
+
+returns : tie.Need-returns
+returns c = rewrites-result _ _ _ _ _ _ _ (search needs) (search needs) _ _ _ (c .before .before .before .before .before .before .before .copy-result .ensures) (c .before .before .rename .ensures)
+
+pub rewrite-result-spec : {M : Type 1} → statement M
+rewrite-result-spec =
+    tie.close
+    (tie.spec
+    copy-result-requires
+    add-rename
+    add-rename-2
+    sub-rename
+    part-rename-start
+    part-rename-end
+    add-rename-3
+    rename-requires
+    same-length
+    returns)

@@ -1,0 +1,135 @@
+-- `field::slots::octet` meets its contract. Assumes nothing.
+use Prim.Native.Nat.{_-_}
+use Rattle.field.proofs.KeyLaws.{octet-is}
+use borrow.Author.Needs.{needs}
+use Rattle.field.proofs.slots.octet.Statement.{statement}
+use Rattle.field.proofs.slots.octet.Tie as tie
+
+mul-i : tie.Need-mul-i
+mul-i c = search needs
+
+flag-bit-requires : tie.Need-flag-bit-requires
+flag-bit-requires c κs = search needs
+
+add-flag-bit : tie.Need-add-flag-bit
+add-flag-bit c = search needs
+
+flag-bit-requires-2 : tie.Need-flag-bit-requires-2
+flag-bit-requires-2 c κs = search needs
+
+mul-low : tie.Need-mul-low
+mul-low c = search needs
+
+add-low : tie.Need-add-low
+add-low c = search needs
+
+add-flag-bit-2 : tie.Need-add-flag-bit-2
+add-flag-bit-2 c = search needs
+
+flag-bit-requires-3 : tie.Need-flag-bit-requires-3
+flag-bit-requires-3 c κs = search needs
+
+mul-low-2 : tie.Need-mul-low-2
+mul-low-2 c = search needs
+
+add-low-2 : tie.Need-add-low-2
+add-low-2 c = search needs
+
+add-flag-bit-3 : tie.Need-add-flag-bit-3
+add-flag-bit-3 c = search needs
+
+flag-bit-requires-4 : tie.Need-flag-bit-requires-4
+flag-bit-requires-4 c κs = search needs
+
+mul-low-3 : tie.Need-mul-low-3
+mul-low-3 c = search needs
+
+add-low-3 : tie.Need-add-low-3
+add-low-3 c = search needs
+
+add-flag-bit-4 : tie.Need-add-flag-bit-4
+add-flag-bit-4 c = search needs
+
+flag-bit-requires-5 : tie.Need-flag-bit-requires-5
+flag-bit-requires-5 c κs = search needs
+
+add-flag-bit-5 : tie.Need-add-flag-bit-5
+add-flag-bit-5 c = search needs
+
+flag-bit-requires-6 : tie.Need-flag-bit-requires-6
+flag-bit-requires-6 c κs = search needs
+
+mul-high : tie.Need-mul-high
+mul-high c = search needs
+
+add-high : tie.Need-add-high
+add-high c = search needs
+
+add-flag-bit-6 : tie.Need-add-flag-bit-6
+add-flag-bit-6 c = search needs
+
+flag-bit-requires-7 : tie.Need-flag-bit-requires-7
+flag-bit-requires-7 c κs = search needs
+
+mul-high-2 : tie.Need-mul-high-2
+mul-high-2 c = search needs
+
+add-high-2 : tie.Need-add-high-2
+add-high-2 c = search needs
+
+add-flag-bit-7 : tie.Need-add-flag-bit-7
+add-flag-bit-7 c = search needs
+
+flag-bit-requires-8 : tie.Need-flag-bit-requires-8
+flag-bit-requires-8 c κs = search needs
+
+mul-high-3 : tie.Need-mul-high-3
+mul-high-3 c = search needs
+
+add-high-3 : tie.Need-add-high-3
+add-high-3 c = search needs
+
+mul-result : tie.Need-mul-result
+mul-result c = search needs
+
+add-result : tie.Need-add-result
+add-result c = search needs
+
+returns : tie.Need-returns
+returns c = octet-is _ _ _ _ _ _ _ _ _ _ (c .before .before .before .before .before .before .before .flag-bit .ensures) (c .before .before .before .before .before .before .flag-bit2 .ensures) (c .before .before .before .before .before .flag-bit3 .ensures) (c .before .before .before .before .flag-bit4 .ensures) (c .before .before .before .flag-bit5 .ensures) (c .before .before .flag-bit6 .ensures) (c .before .flag-bit7 .ensures) (c .flag-bit8 .ensures)
+
+pub octet-spec : {M : Type 1} → statement M
+octet-spec =
+    tie.close
+    (tie.spec
+    mul-i
+    flag-bit-requires
+    add-flag-bit
+    flag-bit-requires-2
+    mul-low
+    add-low
+    add-flag-bit-2
+    flag-bit-requires-3
+    mul-low-2
+    add-low-2
+    add-flag-bit-3
+    flag-bit-requires-4
+    mul-low-3
+    add-low-3
+    add-flag-bit-4
+    flag-bit-requires-5
+    add-flag-bit-5
+    flag-bit-requires-6
+    mul-high
+    add-high
+    add-flag-bit-6
+    flag-bit-requires-7
+    mul-high-2
+    add-high-2
+    add-flag-bit-7
+    flag-bit-requires-8
+    mul-high-3
+    add-high-3
+    mul-result
+    add-result
+    returns)

@@ -1,0 +1,134 @@
+// A situation in the work area: its two parts, and its apart pairs as bits.
+ghost use mathlib.Core.Path.{_≡_};
+ghost use Prim.Native.Nat.{_+_, _<_, _≤_};
+ghost use lib.ListN.{length};
+ghost use Rattle.field.specs.Key.{PartIs, FirstPartIs, SecondPartIs, ApartFlagsIs, bitAt, BitIs, OctetIs, Packs, Unpacks};
+ghost use Rattle.field.specs.PairFlags.{pairCount};
+ghost use Rattle.field.specs.Slot.{octets, keyBytes};
+use crate::pairs::PAIR_COUNT;
+use terms::bytes::get;
+
+// A part and its length.
+pub const PART_BYTES: usize = 113;
+
+// Where the bits are: behind the two parts.
+pub const BITS: usize = 226;
+
+const OCTETS: usize = 15;
+
+// The part whose length stands at `at`; nothing where it runs past the end.
+pub fn part_at(area: &[u8], at: usize) -> &[u8]
+    requires { ⌜ at ≤ length (now area) ⌝ }
+    ensures { λ r. ⌜ PartIs (now (area .entry)) at (now r) ⌝ }
+{
+    let n = get(area, at) as usize;
+    let from = at + 1;
+    let end = from + n;
+    if area.len() < end {
+        return &area[0..0];
+    }
+    &area[from..end]
+}
+
+pub fn first_part(area: &[u8], at: usize) -> &[u8]
+    requires { ⌜ at + keyBytes ≤ length (now area) ⌝ }
+    ensures { λ r. ⌜ FirstPartIs (now (area .entry)) at (now r) ⌝ }
+{
+    part_at(area, at)
+}
+
+pub fn second_part(area: &[u8], at: usize) -> &[u8]
+    requires { ⌜ at + keyBytes ≤ length (now area) ⌝ }
+    ensures { λ r. ⌜ SecondPartIs (now (area .entry)) at (now r) ⌝ }
+{
+    part_at(area, at + PART_BYTES)
+}
+
+// Bit `j` of a byte.
+fn bit_of(b: u8, j: usize) -> u8
+    requires { ⌜ j < 8 ⌝ }
+    ensures { λ r. ⌜ r ≡ bitAt b j ⌝ }
+{
+    if j < 1 {
+        return b % 2;
+    }
+    if j < 2 {
+        return b / 2 % 2;
+    }
+    if j < 3 {
+        return b / 4 % 2;
+    }
+    if j < 4 {
+        return b / 8 % 2;
+    }
+    if j < 5 {
+        return b / 16 % 2;
+    }
+    if j < 6 {
+        return b / 32 % 2;
+    }
+    if j < 7 {
+        return b / 64 % 2;
+    }
+    b / 128 % 2
+}
+
+// Flag `i` as a bit.
+fn flag_bit(flags: &[u8], i: usize) -> u8
+    ensures { λ r. ⌜ BitIs (now (flags .entry)) i r ⌝ }
+{
+    if get(flags, i) == 0 { 0 } else { 1 }
+}
+
+// Eight flags in a byte, the lowest bit first.
+fn octet(flags: &[u8], k: usize) -> u8
+    requires { ⌜ k < octets ⌝ }
+    ensures { λ r. ⌜ OctetIs (now (flags .entry)) k r ⌝ }
+{
+    let i = 8 * k;
+    let low = flag_bit(flags, i)
+        + 2 * flag_bit(flags, i + 1)
+        + 4 * flag_bit(flags, i + 2)
+        + 8 * flag_bit(flags, i + 3);
+    let high = flag_bit(flags, i + 4)
+        + 2 * flag_bit(flags, i + 5)
+        + 4 * flag_bit(flags, i + 6)
+        + 8 * flag_bit(flags, i + 7);
+    low + 16 * high
+}
+
+// Writes the flags as bits from `put` on.
+pub fn pack(flags: &[u8], out: &mut [u8], put: usize)
+    requires { ⌜ put + octets ≤ length (now out) ⌝ }
+    ensures { λ _. ⌜ Packs (now (flags .entry)) (now (out .entry)) put (now (out .exit)) ⌝ }
+{
+    let mut k = 0;
+    while k < OCTETS {
+        let b = octet(flags, k);
+        out[put + k] = b;
+        k += 1;
+    }
+}
+
+// Reads the flags from the bits at `at`.
+fn unpack(area: &[u8], at: usize, flags: &mut [u8])
+    requires { ⌜ (at ≤ length (now area)) × (length (now flags) ≡ pairCount) ⌝ }
+    ensures { λ _. ⌜ Unpacks (now (area .entry)) at (now (flags .exit)) ⌝ }
+{
+    let mut i = 0;
+    while i < PAIR_COUNT {
+        let b = bit_of(get(area, at + i / 8), i % 8);
+        flags[i] = b;
+        i += 1;
+    }
+}
+
+// The apart pairs of the situation at `at`.
+pub fn apart_flags(area: &[u8], at: usize) -> [u8; PAIR_COUNT]
+    requires { ⌜ at + keyBytes ≤ length (now area) ⌝ }
+    ensures { λ r. ⌜ ApartFlagsIs (now (area .entry)) at r ⌝ }
+{
+    let mut flags = [0u8; PAIR_COUNT];
+    unpack(area, at + BITS, &mut flags);
+    flags
+}
