@@ -1,7 +1,9 @@
 pub mod Entry
 pub mod Exploration
 pub mod Field
+pub mod Holding
 pub mod Key
+pub mod Leading
 pub mod NameFlags
 pub mod PairFlags
 pub mod Resulting
@@ -9,4 +11,5 @@ pub mod Setting
 pub mod Situation
 pub mod Slot
 pub mod Successors
+pub mod TakingUp
 pub mod Update

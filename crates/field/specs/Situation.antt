@@ -8,8 +8,9 @@ use Rattle.calculus.specs.Distinction.{among, keep}
 use Rattle.calculus.specs.Free.{fn}
 use Rattle.calculus.specs.Term.{Term}
 use Rattle.terms.specs.Encoding.{encode}
+use Rattle.terms.specs.Limits.{nameCount}
 use Rattle.terms.specs.Operations.{holdsApart}
-use Rattle.terms.specs.Question.{pairBytes}
+use Rattle.terms.specs.Question.{Question, pairBytes}
 
 -- "Situation" is document 01's word.
 pub record Situation : Type 0 where
@@ -33,6 +34,10 @@ pairsOf (a ∷ bs) = map (λ b. (a, b)) bs ++ pairsOf bs
 -- Two parts under the pairs D. The pairs stand in order, each once and its smaller name first, so that equal situations are equal.
 unfoldable pub situation : ℕ → Term → Term → Pairs → Situation
 situation names P Q D = record { first = P; second = Q; apart = keep (holdsApart D) (pairsOf (freeIn names P Q)) }
+
+-- The start: the two parts under the apart list.
+unfoldable pub startOf : Question → Situation
+startOf q = situation nameCount (q .first) (q .second) (q .apart)
 
 -- the smallest name that is not in F, of those from n on, k of them; the one behind them if all are in F
 unfoldable pub missing : List ℕ → ℕ → ℕ → ℕ

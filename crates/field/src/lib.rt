@@ -1,8 +1,10 @@
 // Situations, their steps and the field.
 pub mod entries;
+pub mod explore;
 pub mod find;
 pub mod names;
 pub mod pairs;
 pub mod results;
 pub mod slots;
+pub mod taking;
 pub mod update;

@@ -15,11 +15,11 @@ use Rattle.terms.proofs.WellFormed.{WellFormed, accepted-well-formed}
 use Rattle.steps.proofs.QuestionDefinitions.{bodies-in-scope, opens-one}
 use Rattle.field.specs.Field.{PastLimit, FieldSize}
 use Rattle.field.specs.Setting.{settingOf}
-use Rattle.field.specs.Situation.{situation}
+use Rattle.field.specs.Situation.{situation, startOf}
 use Rattle.field.proofs.Link.{SettingFor}
 use Rattle.field.proofs.Proper.{Proper, either-below, related-situation, situation-proper}
 use Rattle.verdict.specs.Entries.{Defines}
-use Rattle.verdict.specs.Verdict.{Numbered, unsettled, same, different, startOf, verdictOf}
+use Rattle.verdict.specs.Verdict.{Numbered, unsettled, same, different, verdictOf}
 use Rattle.verdict.proofs.DecidedField.{number-within, decided-within, decided-past, decided-same, decided-different, decided-unsettled, decided-size}
 
 -- what the field asks of the definitions

@@ -18,10 +18,10 @@ use Rattle.steps.specs.Listed.{namesFrom, classesOf, classIn, kindOf, channelOf
 use Rattle.steps.specs.Listing.{order, insert, allFit, collect, limited, listing, bodyOf}
 use Rattle.steps.specs.Raw.{matching, leftSteps, rightSteps, meet, communication, communications, spares, sparesRestricted, outside, restrictedAction, restricted, visibleOf, silentOf, visibleCalls, silentCalls, visible, silent}
 use Rattle.field.specs.Setting.{settingOf, stepsIn}
-use Rattle.field.specs.Situation.{freeFrom, freeIn, pairsOf, situation, missing, newName, sameBytes, sameSituation}
+use Rattle.field.specs.Situation.{freeFrom, freeIn, pairsOf, situation, startOf, missing, newName, sameBytes, sameSituation}
 use Rattle.field.specs.Successors.{select, permitted, implies, answers, extrudedBy, updatedBy, moves, bindsName, someBinds, ledTo, withSteps, successors}
 use Rattle.field.specs.Exploration.{found, unseen, together, withRow, explore, fieldOf}
-use Rattle.verdict.specs.Verdict.{Verdict, same, different, answered, allAnswered, strike, rounds, startOf, decided, verdictOf}
+use Rattle.verdict.specs.Verdict.{Verdict, same, different, answered, allAnswered, strike, rounds, decided, verdictOf}
 use Rattle.verdict.specs.Judge.{judgeOf}
 
 pub record Exchange : Type 0 where

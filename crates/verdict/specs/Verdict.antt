@@ -8,10 +8,9 @@ use mathlib.Core.Path.{_≡_}
 use Prim.Native.Nat.{ℕ, zero, suc}
 use lib.ListN.{length}
 use lib.Dec.{eqb}
-use Rattle.terms.specs.Limits.{nameCount}
 use Rattle.terms.specs.Question.{Question}
 use Rattle.field.specs.Setting.{settingOf}
-use Rattle.field.specs.Situation.{Situation, situation}
+use Rattle.field.specs.Situation.{Situation, startOf}
 use Rattle.field.specs.Successors.{select}
 use Rattle.field.specs.Exploration.{found, Row, Exploration, incomplete, explored, fieldOf}
 
@@ -41,9 +40,6 @@ pub data Verdict : Type 0 where
 -- the verdict says same or different, with the number n
 abbrev pub Numbered : Verdict → ℕ → Type 0
 Numbered v n = (v ≡ same n) ⊎ (v ≡ different n)
-
-unfoldable pub startOf : Question → Situation
-startOf q = situation nameCount (q .first) (q .second) (q .apart)
 
 -- n is the size of the field
 unfoldable pub decided : Situation → Exploration → Verdict
