@@ -40,11 +40,14 @@ body-field arities (a ∷ sizes) (P ∷ Ps) rest w (suc k) h =
 body-field arities [] [] rest w k h = absurd (not-suc-le-zero h)
 
 pub body-is : (question : List ℕ) (k : ℕ) → Bytes question → BodyIs question k (fieldAt question (fieldPlace question k))
-unfolding BodyIs fieldsOf allFields
-body-is question k b q e h =
-    let w = accepted-well-formed question q e in
-    let f = body-field (q .arities) (q .arities) (q .bodies) _ (w .bodies) k h in
-    ap (λ (s : List ℕ). fieldAt s (fieldPlace s k)) (sym (accepted-joined question q b e)) ∙ field-is (fieldsOf q) (framable q w) k (f .0) ∙ f .1
+unfolding fieldsOf allFields
+body-is question k b = record {
+  piece = refl;
+  is = λ q e h.
+      let w = accepted-well-formed question q e in
+      let f = body-field (q .arities) (q .arities) (q .bodies) _ (w .bodies) k h in
+      ap (λ (s : List ℕ). fieldAt s (fieldPlace s k)) (sym (accepted-joined question q b e)) ∙ field-is (fieldsOf q) (framable q w) k (f .0) ∙ f .1;
+}
 
 -- No term stands past the end, nor one that is cut off.
 length-parts : (d : ℕ) (P : Term) → length (encode d P) ≡ length (frontBytes d P) + length (encodeAll (binders P + d) (subterms P))

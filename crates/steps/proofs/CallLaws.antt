@@ -18,7 +18,7 @@ use Rattle.terms.specs.Question.{Question, checkOf}
 use Rattle.terms.proofs.Answers.{Every}
 use Rattle.terms.proofs.Stores.{getD-front, getD-map}
 use Rattle.terms.proofs.WellFormed.{WellFormed, accepted-well-formed}
-use Rattle.steps.specs.Bodies.{AritiesIs, BodyIs}
+use Rattle.steps.specs.Bodies.{AritiesIs, BodyIs, MayOpenIs, OpeningIs}
 use Rattle.steps.specs.Listing.{bodyOf}
 use Rattle.steps.specs.Names.{turn, HasNames, CalledIs}
 use Rattle.steps.specs.Passing.{candidates, Sent, Does, PassedIs, PassIs, pastAt, returnedAt}
@@ -135,30 +135,49 @@ module _ (question : List ℕ) (q : Question) (ok : checkOf question ≡ result 
   pub few-parameters : getD (q .arities) k 0 ≤ greatestArity
   few-parameters = each-below greatestArity (q .arities) (well .parameters) k
 
+-- A call, and whether it may be opened.
+pub opening-is : (question s : List ℕ) (at calls : ℕ) (arities body : List ℕ) (k n : ℕ) (may : Bool) → AritiesIs question arities → BodyIs question k body
+    → k ≡ getD s (at + 1) 0 → n ≡ getD arities k 0 → MayOpenIs calls n (length body) may
+    → OpeningIs question s at calls (record { allowed = may; definition = k; arity = n; end = at + 2 + n })
+unfolding AritiesIs
+opening-is question s at calls arities body k n may ar B ek en M = record {
+  definition = ek;
+  arity = λ q ok. en ∙ ap (λ (l : List ℕ). getD l k 0) (ar q ok);
+  end = refl;
+  may = λ t. let m = M .may t in (m .0, m .1, subst (λ (l : List ℕ). length l ≤ longestTerm) (B .piece) (m .2));
+  not = λ t q ok l. go t q ok l calls refl;
+}
+  where
+    go : may ≡ false → (q : Question) → checkOf question ≡ result q → k < length (q .arities) → (c : ℕ) → calls ≡ c → calls ≡ 0
+    go t q ok l zero z = z
+    go t q ok l (suc c) z =
+        let a : n ≡ getD (q .arities) k 0 = en ∙ ap (λ (l : List ℕ). getD l k 0) (ar q ok) in
+        absurd (M .not t (omega arith) (omega (arith, few-parameters question q ok k)) (omega (arith, ap length (B .is q ok l), body-size question q ok k)))
+
 -- The call at `at`.
-module _ (question s : List ℕ) (at D calls : ℕ) (t : Bool) (i : ℕ) (g : 8 < getD s at 0) (arities : List ℕ) (ar : AritiesIs question arities)
-    (k n : ℕ) (K : k ≡ getD s (at + 1) 0) (N : n ≡ getD arities k 0) where
+module _ (question s : List ℕ) (at D calls : ℕ) (t : Bool) (i : ℕ) (g : 8 < getD s at 0) (k n : ℕ) (K : k ≡ getD s (at + 1) 0)
+    (N : (q : Question) → checkOf question ≡ result q → n ≡ getD (q .arities) k 0) where
   -- To show something of what stands there, show it of the calls.
   pub at-call : (C : Term → Type 0) (q : Question) (free : ℕ) (P : Term) (rest : List ℕ) → checkOf question ≡ result q → InScope free (q .arities) D P
       → drop at s ≡ encode D P ++ rest
       → ((xs : List ℕ) → n ≡ length xs → n ≡ getD (q .arities) k 0 → k < length (q .arities) → NamesInScope free D xs
       → drop (at + 2) s ≡ map (nameByte D) xs ++ rest → C (call k xs))
       → C P
-  unfolding encode InScope AritiesIs
+  unfolding encode InScope
   at-call C q free P rest ok scope st f = only-call (λ (P : Term). InScope free (q .arities) D P → drop at s ≡ encode D P ++ rest → C P)
       (λ j xs scope st.
       let e : k ≡ j = K ∙ getD-front s at (encode D (call j xs)) rest 1 st (omega arith) in
-      let a : n ≡ getD (q .arities) k 0 = N ∙ ap (λ (l : List ℕ). getD l k 0) (ar q ok) in
+      let a = N q ok in
       let b : length xs ≡ getD (q .arities) k 0 = scope .1 ∙ ap (λ (k : ℕ). getD (q .arities) k 0) (sym e) in
       let l = scope .0 in
       subst (λ (j : ℕ). C (call j xs)) e
       (f xs (a ∙ sym b) a (omega arith) (scope .2) (sym (drop-drop 2 at s) ∙ ap (drop 2) st)))
       P (let b = tag-at s at D P rest st in omega arith) scope st
 
-  -- No call is left to open.
-  pub pass-no-call : calls ≡ 0 → PassIs question s at D calls t i (pastAt i (at + 2 + n))
+  -- No call is left to open, or the question is not accepted.
+  pub pass-closed : ((q : Question) → checkOf question ≡ result q → k < length (q .arities) → calls ≡ 0) → PassIs question s at D calls t i (pastAt i (at + 2 + n))
   unfolding encode
-  pass-no-call z = record {
+  pass-closed z = record {
     on = omega arith;
     slot = omega arith;
     fewer = omega arith;
@@ -167,7 +186,7 @@ module _ (question s : List ℕ) (at D calls : ℕ) (t : Bool) (i : ℕ) (g : 8 
         q free P rest ok scope st
         (λ xs m a l names st.
         let c : candidates t (bodyOf (q .bodies)) calls (call k (map σ xs)) ≡ [] =
-        ap (λ (c : ℕ). candidates t (bodyOf (q .bodies)) c (call k (map σ xs))) z ∙ candidates-no-call (bodyOf (q .bodies)) t k (map σ xs) in
+        ap (λ (c : ℕ). candidates t (bodyOf (q .bodies)) c (call k (map σ xs))) (z q ok l) ∙ candidates-no-call (bodyOf (q .bodies)) t k (map σ xs) in
         record {
           end = omega (arith, length-map xs (nameByte D));
           past = λ f. rw c (omega arith);
@@ -179,33 +198,12 @@ module _ (question s : List ℕ) (at D calls : ℕ) (t : Bool) (i : ℕ) (g : 8 
   module _ (bytes : List ℕ) (B : BodyIs question k bytes) where
     -- An accepted question has no such body.
     pub no-long : (q : Question) → checkOf question ≡ result q → n ≡ getD (q .arities) k 0 → k < length (q .arities) → longestTerm < length bytes → ⊥
-    unfolding BodyIs
-    no-long q ok a l long = omega (arith, ap length (B q ok l), body-size question q ok k)
-
-    pub pass-long : longestTerm < length bytes → PassIs question s at D calls t i (pastAt i (at + 2 + n))
-    pass-long long = record {
-      on = omega arith;
-      slot = omega arith;
-      fewer = omega arith;
-      is = λ q free σ P rest ok few scope st. at-call
-          (λ (P : Term). PassedIs free D σ (candidates t (bodyOf (q .bodies)) calls (ren σ P)) (length (encode D P)) at i (pastAt i (at + 2 + n)))
-          q free P rest ok scope st (λ xs m a l names st. absurd (no-long q ok a l long));
-    }
-
-    pub pass-many : greatestArity < n → PassIs question s at D calls t i (pastAt i (at + 2 + n))
-    pass-many many = record {
-      on = omega arith;
-      slot = omega arith;
-      fewer = omega arith;
-      is = λ q free σ P rest ok few scope st. at-call
-          (λ (P : Term). PassedIs free D σ (candidates t (bodyOf (q .bodies)) calls (ren σ P)) (length (encode D P)) at i (pastAt i (at + 2 + n)))
-          q free P rest ok scope st (λ xs m a l names st. absurd (omega (arith, few-parameters question q ok k)));
-    }
+    no-long q ok a l long = omega (arith, ap length (B .is q ok l), body-size question q ok k)
 
     -- [Con]: the candidates are those of the body.
     pub pass-call : D + 128 ≤ 256 → (c : ℕ) → calls ≡ suc c → (r : Passed) → PassIs question bytes 0 n c t i r
         → PassIs question s at D calls t i (returnedAt s (at + 2) D (at + 2 + n) r)
-    unfolding encode returnedAt BodyIs
+    unfolding encode returnedAt
     pass-call deep c z r R = record {
       on = omega arith;
       slot = turn-small 128 tableNames D (getD s (at + 2 + (r .object - tableNames)) 0) (omega arith) (omega arith);
@@ -218,7 +216,7 @@ module _ (question s : List ℕ) (at D calls : ℕ) (t : Bool) (i : ℕ) (g : 8 
           let e : candidates t body calls (call k (map σ xs)) ≡ candidates t body c (ren (params σ xs) (body k)) =
           ap (λ (c : ℕ). candidates t body c (call k (map σ xs))) z ∙ candidates-call body t c k (map σ xs) in
           let x = R .is q 0 (params σ xs) (body k) [] ok (omega arith) (subst (λ (n : ℕ). InScope 0 (q .arities) n (body k)) (sym a) (body-scope question q ok k))
-          (B q ok l ∙ ap (λ (n : ℕ). encode n (body k)) (sym a) ∙ sym (append-nil (encode n (body k)))) in
+          (B .is q ok l ∙ ap (λ (n : ℕ). encode n (body k)) (sym a) ∙ sym (append-nil (encode n (body k)))) in
           record {
             end = omega (arith, length-map xs (nameByte D));
             past = λ f. rw e (x .past f);

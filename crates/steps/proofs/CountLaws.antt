@@ -226,10 +226,9 @@ module _ (question s : List ℕ) (at : ℕ) (arities : List ℕ) (A : AritiesIs 
     module _ (k : ℕ) (body : List ℕ) (t : h .tag ≡ 9) (ek : k ≡ getD s (at + 1) 0) (B : BodyIs question k body) where
       the-body : (q : Question) → checkOf question ≡ result q → (k′ : ℕ) → getD s (at + 1) 0 ≡ k′ → k′ < length (q .arities)
           → body ≡ encode (getD (q .arities) k′ 0) (bodyOf (q .bodies) k′)
-      unfolding BodyIs
       the-body q c k′ e lt =
           let w : k ≡ k′ = ek ∙ e in
-          subst (λ (n : ℕ). n < length (q .arities) → body ≡ encode (getD (q .arities) n 0) (bodyOf (q .bodies) n)) w (B q c) lt
+          subst (λ (n : ℕ). n < length (q .arities) → body ≡ encode (getD (q .arities) n 0) (bodyOf (q .bodies) n)) w (B .is q c) lt
 
       pub count-call-long : (r : Count) → longestTerm < length body → r .number ≡ 0 → r .end ≡ h .next → CountIs question s at calls r
       count-call-long r long n m = nothing r n m (λ q free D σ P rest c g e.

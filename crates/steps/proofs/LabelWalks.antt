@@ -348,13 +348,17 @@ module _ (question s : List ℕ) (at i : ℕ) (t : Bool) (args : List ℕ) (inne
 
   -- [Con]
   module _ (g : 8 < getD s at 0) (arities : List ℕ) (ar : AritiesIs question arities) (k n : ℕ) (K : k ≡ getD s (at + 1) 0) (N : n ≡ getD arities k 0) where
+    names-of : (q : Question) → checkOf question ≡ result q → n ≡ getD (q .arities) k 0
+    unfolding AritiesIs
+    names-of q ok = N ∙ ap (λ (l : List ℕ). getD l k 0) (ar q ok)
+
     calling : (q : Question) (free D : ℕ) (σ : ℕ → ℕ) (P : Term) (rest : List ℕ) (r : Label) → checkOf question ≡ result q → InScope free (q .arities) D P → drop at s ≡ encode D P ++ rest
         → ((xs : List ℕ) → n ≡ length xs → n ≡ getD (q .arities) k 0 → k < length (q .arities) → NamesInScope free D xs → drop (at + 2) s ≡ map (nameByte D) xs ++ rest
         → LabelIs depth (candidates t (bodyOf (q .bodies)) calls (call k (map σ xs))) i (at + 2 + n) r)
         → LabelIs depth (candidates t (bodyOf (q .bodies)) calls (ren σ P)) i (at + length (encode D P)) r
     unfolding encode
     calling q free D σ P rest r ok scope st f =
-        at-call question s at D calls t i g arities ar k n K N
+        at-call question s at D calls t i g k n K names-of
         (λ (P : Term). LabelIs depth (candidates t (bodyOf (q .bodies)) calls (ren σ P)) i (at + length (encode D P)) r) q free P rest ok scope st
         (λ xs m a l names st. subst (λ (e : ℕ). LabelIs depth (candidates t (bodyOf (q .bodies)) calls (call k (map σ xs))) i e r) (omega (arith, length-map xs (nameByte D))) (f xs m a l names st))
 
@@ -377,7 +381,7 @@ module _ (question s : List ℕ) (at i : ℕ) (t : Bool) (args : List ℕ) (inne
     call-cut h r e = record {
       left = omega arith;
       is = λ q free D σ T rest ok few has scope st.
-          at-call question s at D calls t i g arities ar k n K N
+          at-call question s at D calls t i g k n K names-of
           (λ (P : Term). at + length (encode D P) ≤ length s → LabelIs depth (candidates t (bodyOf (q .bodies)) calls (ren σ P)) i (at + length (encode D P)) r)
           q free T rest ok scope st (λ xs m a l names st whole. absurd (omega (arith, length-map xs (nameByte D)))) (stands s at D T rest st .1);
     }
@@ -387,12 +391,12 @@ module _ (question s : List ℕ) (at i : ℕ) (t : Bool) (args : List ℕ) (inne
       call-long h r e = record {
         left = omega arith;
         is = λ q free D σ T rest ok few has scope st. calling q free D σ T rest r ok scope st
-            (λ xs m a l names st. absurd (no-long question s at D calls t i g arities ar k n K N bytes B q ok a l h));
+            (λ xs m a l names st. absurd (no-long question s at D calls t i g k n K names-of bytes B q ok a l h));
       }
 
       pub nth-called : (calls ≡ 0 → ⊥) → (given : List ℕ) → ArgumentsIs s (at + 2) n args inner depth given → (p : Label)
           → NthIs question bytes 0 i t given 0 depth (calls - 1) p → (r : Label) → r ≡ endingWith (at + 2 + n) p → NthIs question s at i t args inner depth calls r
-      unfolding BodyIs endingWith
+      unfolding endingWith
       nth-called z given G p X r e = record {
         left = let x = X .left in let w : r .rest ≡ p .rest = ap (λ (l : Label). l .rest) e in omega arith;
         is = λ q free D σ T rest ok few has scope st. calling q free D σ T rest r ok scope st
@@ -403,7 +407,7 @@ module _ (question s : List ℕ) (at i : ℕ) (t : Bool) (args : List ℕ) (inne
             ap (λ (c : ℕ). candidates t body c (call k (map σ xs))) c ∙ candidates-call body t (calls - 1) k (map σ xs) in
             let L = X .is q 0 n (params σ xs) (body k) [] ok (omega arith) (slots-call free D args inner depth σ few has s (at + 2) xs rest n given names st m G)
             (subst (λ (n : ℕ). InScope 0 (q .arities) n (body k)) (sym a) (body-scope question q ok k))
-            (B q ok l ∙ ap (λ (n : ℕ). encode n (body k)) (sym a) ∙ sym (append-nil (encode n (body k)))) in
+            (B .is q ok l ∙ ap (λ (n : ℕ). encode n (body k)) (sym a) ∙ sym (append-nil (encode n (body k)))) in
             subst (λ (l : List Candidate). LabelIs depth l i (at + 2 + n) r) (sym opens)
             (subst (λ (l : Label). LabelIs depth (candidates t body (calls - 1) (ren (params σ xs) (body k))) i (at + 2 + n) l) (sym e)
             (label-ending depth _ i _ p L (at + 2 + n))));

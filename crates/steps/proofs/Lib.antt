@@ -1,4 +1,5 @@
 pub mod ArgumentSlots
+pub mod AskLaws
 pub mod BodyPlaces
 pub mod ByteOrder
 pub mod CallLaws
@@ -30,11 +31,13 @@ pub mod NameSlots
 pub mod Numbering
 pub mod OperationLaws
 pub mod PassLaws
+pub mod PlanLaws
 pub mod Premises
 pub mod QuestionDefinitions
 pub mod RawComplete
 pub mod RawSound
 pub mod Restriction
+pub mod ResultLaws
 pub mod Scope
 pub mod SlotLaws
 pub mod Sorted

@@ -41,7 +41,7 @@ pass-none question s at D calls t i past = record {
 }
 
 -- A prefix has one candidate, or none of this kind.
-unfoldable prefixStep : Term → List Candidate
+unfoldable pub prefixStep : Term → List Candidate
 prefixStep nil = []
 prefixStep (tau P) = step [] tauA P ∷ []
 prefixStep (inp a P) = step [] (inpA a) P ∷ []
@@ -53,7 +53,7 @@ prefixStep (par P Q) = []
 prefixStep (res P) = []
 prefixStep (call k xs) = []
 
-prefix-candidates : (body : ℕ → Term) (t : Bool) (n : ℕ) (P : Term) → tag P < 5 → candidates t body n P ≡ cond (counted t (tag P)) (prefixStep P) []
+pub prefix-candidates : (body : ℕ → Term) (t : Bool) (n : ℕ) (P : Term) → tag P < 5 → candidates t body n P ≡ cond (counted t (tag P)) (prefixStep P) []
 unfolding candidates visible silent visibleOf silentOf counted prefixStep
 prefix-candidates body true n nil h = refl
 prefix-candidates body false n nil h = refl

@@ -17,4 +17,5 @@ pub mod Operations
 pub mod PartLister
 pub mod Passing
 pub mod Raw
+pub mod Results
 pub mod Slots

@@ -1,9 +1,14 @@
 // The definitions of an accepted question: their arities and bodies as pieces of it. And where a term ends.
-ghost use Rattle.steps.specs.Bodies.{AritiesIs, BodyIs, EndIs};
+ghost use Prim.Native.Nat.{_<_};
+ghost use lib.ListN.{length};
+ghost use Rattle.steps.specs.Bodies.{AritiesIs, BodyIs, MayOpenIs, OpeningIs, EndIs};
+use terms::bytes::get;
 use terms::bytes::room;
 use terms::frame::arities;
 use terms::frame::field_at;
 use terms::frame::field_place;
+use terms::limits::GREATEST_ARITY;
+use terms::limits::LONGEST_TERM;
 use terms::shape::shape_at;
 
 // The arities.
@@ -18,6 +23,47 @@ pub fn body_of(question: &[u8], k: usize) -> &[u8]
     ensures { λ r. ⌜ BodyIs (now (question .entry)) k (now r) ⌝ }
 {
     field_at(question, field_place(question, k))
+}
+
+// Whether a call may be opened: one is left to open, and its definition keeps within the limits of an accepted question.
+fn may_open(calls: usize, arity: usize, size: usize) -> bool
+    ensures { λ r. ⌜ MayOpenIs calls arity size r ⌝ }
+{
+    if calls == 0 {
+        return false;
+    }
+    if GREATEST_ARITY < arity {
+        return false;
+    }
+    if LONGEST_TERM < size {
+        return false;
+    }
+    true
+}
+
+// A call: its definition and how many names it has, where it ends, and whether it may be opened.
+pub struct Opening {
+    pub allowed: bool,
+    pub definition: usize,
+    pub arity: usize,
+    pub end: usize,
+}
+
+// The call at `at`, where so many calls may be opened one within the other.
+pub fn call_at(question: &[u8], src: &[u8], at: usize, calls: usize) -> Opening
+    requires { ⌜ at < length (now src) ⌝ }
+    ensures { λ r. ⌜ OpeningIs (now (question .entry)) (now (src .entry)) at calls r ⌝ }
+{
+    let k = get(src, at + 1) as usize;
+    let n = get(arities_of(question), k) as usize;
+    let body = body_of(question, k);
+    let allowed = may_open(calls, n, body.len());
+    Opening {
+        allowed,
+        definition: k,
+        arity: n,
+        end: at + 2 + n,
+    }
 }
 
 // Where the term at `at` ends.

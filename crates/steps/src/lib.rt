@@ -10,4 +10,5 @@ pub mod listed;
 pub mod names;
 pub mod operation;
 pub mod pass;
+pub mod result;
 pub mod rules;

@@ -8,6 +8,8 @@ ghost use Rattle.terms.specs.Limits.{tableNames, greatestArity, longestTerm};
 ghost use Rattle.steps.specs.Names.{mostBinders};
 ghost use Rattle.steps.specs.Passing.{pastAt, endingAt, opensAt, leavingAt, returnedAt, counted, PassIs, SplitIs, metAt};
 use crate::bodies::arities_of;
+use crate::bodies::body_of;
+use crate::bodies::call_at;
 use crate::bodies::end_of;
 use crate::names::slot_of;
 use terms::bytes::get;
@@ -211,4 +213,67 @@ fn met(x: Passed, n: Numbers, end: usize, j: usize) -> Passed
         };
     }
     past(x.rest * n.width + n.right, end)
+}
+
+// The candidate number `i` of the term at `at`, among its silent candidates or among its visible ones, where so many calls may be opened one
+// within the other.
+pub fn pass(
+    question: &[u8],
+    src: &[u8],
+    at: usize,
+    binders: usize,
+    calls: usize,
+    silently: bool,
+    i: usize,
+) -> Passed
+    requires { ⌜ (length (now src) ≤ longestTerm) × (binders ≤ at + greatestArity) ⌝ }
+    ensures { λ r. ⌜ PassIs (now (question .entry)) (now (src .entry)) at binders calls silently i r ⌝ }
+{
+    if src.len() <= at {
+        return past(0, at);
+    }
+    let t = get(src, at);
+    if t < 5 {
+        return pass_prefix(question, src, at, binders, calls, silently, i);
+    }
+    if t == 5 {
+        return pass(question, src, at + 3, binders, calls, silently, i);
+    }
+    if t == 8 {
+        let p = pass(question, src, at + 1, binders + 1, calls, silently, i);
+        return leaving(p, binders);
+    }
+    if 8 < t {
+        let o = call_at(question, src, at, calls);
+        let n = o.arity;
+        if !o.allowed {
+            return past(i, o.end);
+        }
+        let body = body_of(question, o.definition);
+        let p = pass(question, body, 0, n, calls - 1, silently, i);
+        return returned(p, src, at + 2, binders, o.end);
+    }
+    let p = pass(question, src, at + 1, binders, calls, silently, i);
+    let right = p.end;
+    if p.found {
+        return ending(p, end_of(src, right, arities_of(question)));
+    }
+    let q = pass(question, src, right, binders, calls, silently, p.rest);
+    if q.found {
+        return q;
+    }
+    if t == 6 {
+        return q;
+    }
+    if !silently {
+        return q;
+    }
+    let j = q.rest;
+    let y = pass(question, src, right, binders, calls, false, j);
+    let n = split(j, y.found, y.rest);
+    if n.none {
+        return q;
+    }
+    let x = pass(question, src, at + 1, binders, calls, false, n.left);
+    met(x, n, q.end, j)
 }

@@ -1,0 +1,481 @@
+-- What a task asks for of a parallel is what its sides are asked for, one after the other: [Par], [Com] and [Close]. Assumes nothing.
+use mathlib.Core.Path.{_≡_, refl, sym, ap, ap₂, subst, _∙_, fun-ext}
+use mathlib.Core.Bool.{Bool, true, false, cond}
+use mathlib.Core.List.{List, [], _∷_, _++_}
+use Prim.Native.Nat.{ℕ, zero, suc, _+_, _-_, _*_, _<_, _≤_}
+use native.Mathlib.Nat.{mul-zero, mul-le-mul-right}
+use native.Mathlib.Omega.{arith}
+use lib.ListN.{length, getD, drop, set}
+use lib.Seq.{drop-drop, drop-append-seam}
+use lib.Dec.{leb, eqb}
+use borrow.Author.Tests.{leb-true, leb-false, eqb-true, eqb-false}
+use Rattle.calculus.specs.Abstraction.{Act, tauA, inpA, outA, boutA, weak}
+use Rattle.calculus.specs.Cond.{Cond}
+use Rattle.calculus.specs.Term.{Term, par, res, ren, lift, inst, _•_}
+use Rattle.calculus.proofs.Renaming.{ren-∘, ren-triangle}
+use Rattle.terms.specs.Answer.{result}
+use Rattle.terms.specs.Encoding.{encode, InScope}
+use Rattle.terms.specs.Limits.{nameCount, tableNames}
+use Rattle.terms.specs.Question.{Question, checkOf}
+use Rattle.steps.specs.Listing.{bodyOf}
+use Rattle.steps.specs.Names.{nameSlots, HasNames, HasNew}
+use Rattle.steps.specs.Passing.{candidates, Sent, Does, PassedIs, PassIs, SplitIs}
+use Rattle.steps.specs.Raw.{Candidate, step, blocked, leftSteps, rightSteps, communications}
+use Rattle.steps.specs.Results.{receiving, chosen, Asks, resting, numbered, visibly, sending, closing, opening, meetingPlan, Parts, PlanIs}
+use Rattle.steps.specs.Slots.{slotOf}
+use Rattle.steps.specs.declared.pass.Numbers.{Numbers}
+use Rattle.steps.specs.declared.pass.Passed.{Passed}
+use Rattle.steps.specs.declared.result.Plan.{Plan}
+use Rattle.steps.specs.declared.result.Task.{Task}
+use Rattle.steps.proofs.AskLaws.{never, chosen-is, some-candidate, found-of}
+use Rattle.steps.proofs.CandidateForms.{meetings}
+use Rattle.steps.proofs.NameSlots.{names-beneath, names-renew, new-renew, slot-bound}
+use Rattle.steps.proofs.Numbering.{length-communications, nth-communication}
+use Rattle.steps.proofs.Premises.{Step, Meets, left-of, right-of, meeting-of}
+use Rattle.steps.proofs.TwoSides.{Sides, sides-par}
+
+-- What stands beside a step is written as it is.
+weak-received : (x : ℕ) (ρ : ℕ → ℕ) (α : Act) (Q : Term) → ren (receiving x ρ α) (weak α Q) ≡ ren ρ Q
+unfolding receiving
+weak-received x ρ tauA Q = refl
+weak-received x ρ (inpA a) Q = ren-triangle (x • ρ) suc ρ Q (λ n. refl)
+weak-received x ρ (outA a b) Q = refl
+weak-received x ρ (boutA a) Q = ren-triangle (x • ρ) suc ρ Q (λ n. refl)
+
+-- What a side that makes no step is asked for.
+rests : (task : Task) (body : ℕ → Term) (free D : ℕ) (σ ρ : ℕ → ℕ) (x : ℕ) (Q : Term) → HasNames free D (task .levels) (task .names) (λ n. ρ (σ n))
+    → HasNew (task .levels) (task .names) x → Asks (resting task) body free D σ Q (encode (task .levels) (ren ρ (ren σ Q)))
+unfolding chosen receiving
+rests task body free D σ ρ x Q has new = record {
+  ρ = ρ;
+  x = x;
+  names = has;
+  new = new;
+  condition = [];
+  action = tauA;
+  result = ren σ Q;
+  candidate = refl;
+  bytes = refl;
+}
+
+module _ (question s : List ℕ) (at D : ℕ) (task : Task) (walks : task .still ≡ false) (p : Passed)
+    (X : PassIs question s (at + 1) D (task .calls) (task .silently) (task .number) p) where
+  abbrev Shows : Plan → Type 0
+  Shows plan =
+      (q : Question) (free : ℕ) (σ : ℕ → ℕ) (P Q : Term) (rest bs : List ℕ) → checkOf question ≡ result q → free ≤ nameCount
+      → InScope free (q .arities) D P → InScope free (q .arities) D Q → drop (at + 1) s ≡ encode D P ++ (encode D Q ++ rest)
+      → Asks task (bodyOf (q .bodies)) free D σ (par P Q) bs → Parts plan (bodyOf (q .bodies)) free D σ at P Q bs
+
+  -- The left side steps.
+  pub plan-left : p .found ≡ true → PlanIs question s at D task (record { close = false; middle = p .end; left = task; right = resting task })
+  unfolding encode
+  plan-left h = record {
+    on = X .on;
+    leftLevels = omega arith;
+    rightLevels = omega arith;
+    leftCalls = refl;
+    rightCalls = refl;
+    is = λ q free σ P Q rest bs ok few sp sq st K.
+        let body = bodyOf (q .bodies) in
+        let x = X .is q free σ P (encode D Q ++ rest) ok few sp st in
+        let cs = candidates (task .silently) body (task .calls) (ren σ P) in
+        let S = sides-par body (task .silently) (task .calls) (ren σ P) (ren σ Q) in
+        let b = left-of (ren σ Q) (getD cs (task .number) blocked) (K .condition) (K .action) (K .result)
+        (sym (S .first (task .number) (x .here h)) ∙ sym (chosen-is task body (par (ren σ P) (ren σ Q)) walks) ∙ K .candidate) in
+        record {
+          middle = x .end;
+          first = encode (task .levels) (ren (receiving (K .x) (K .ρ) (K .action)) (b .result));
+          second = encode (task .levels) (ren (K .ρ) (ren σ Q));
+          left = record {
+            ρ = K .ρ;
+            x = K .x;
+            names = K .names;
+            new = K .new;
+            condition = b .premise .condition;
+            action = K .action;
+            result = b .result;
+            candidate = chosen-is task body (ren σ P) walks ∙ b .premise .is;
+            bytes = refl;
+          };
+          right = rests task body free D σ (K .ρ) (K .x) Q (K .names) (K .new);
+          bytes =
+              K .bytes ∙ ap (λ (A : Term). encode (task .levels) (ren (receiving (K .x) (K .ρ) (K .action)) A)) (b .is)
+              ∙ ap (λ (T : Term). 7 ∷ (encode (task .levels) (ren (receiving (K .x) (K .ρ) (K .action)) (b .result)) ++ encode (task .levels) T))
+              (weak-received (K .x) (K .ρ) (K .action) (ren σ Q));
+        };
+  }
+
+  module _ (h : p .found ≡ false) (r : Passed) (Y : PassIs question s (p .end) D (task .calls) (task .silently) (p .rest) r) where
+    behind : (P Q : Term) (rest : List ℕ) → drop (at + 1) s ≡ encode D P ++ (encode D Q ++ rest) → p .end ≡ at + 1 + length (encode D P)
+        → drop (p .end) s ≡ encode D Q ++ rest
+    behind P Q rest st e = rw (e, ← drop-drop, st, drop-append-seam)
+
+    -- The right side steps.
+    pub plan-right : r .found ≡ true
+        → PlanIs question s at D task (record { close = false; middle = p .end; left = resting task; right = numbered (p .rest) task })
+    unfolding encode
+    plan-right k = record {
+      on = X .on;
+      leftLevels = omega arith;
+      rightLevels = omega arith;
+      leftCalls = refl;
+      rightCalls = refl;
+      is = λ q free σ P Q rest bs ok few sp sq st K.
+          let body = bodyOf (q .bodies) in
+          let x = X .is q free σ P (encode D Q ++ rest) ok few sp st in
+          let y = Y .is q free σ Q rest ok few sq (behind P Q rest st (x .end)) in
+          let cs = candidates (task .silently) body (task .calls) (ren σ Q) in
+          let S = sides-par body (task .silently) (task .calls) (ren σ P) (ren σ Q) in
+          let b = right-of (ren σ P) (getD cs (p .rest) blocked) (K .condition) (K .action) (K .result)
+          (sym (S .second (p .rest) (y .here k))
+          ∙ ap (λ (j : ℕ). getD (candidates (task .silently) body (task .calls) (par (ren σ P) (ren σ Q))) j blocked) (sym (x .past h))
+          ∙ sym (chosen-is task body (par (ren σ P) (ren σ Q)) walks) ∙ K .candidate) in
+          record {
+            middle = x .end;
+            first = encode (task .levels) (ren (K .ρ) (ren σ P));
+            second = encode (task .levels) (ren (receiving (K .x) (K .ρ) (K .action)) (b .result));
+            left = rests task body free D σ (K .ρ) (K .x) P (K .names) (K .new);
+            right = record {
+              ρ = K .ρ;
+              x = K .x;
+              names = K .names;
+              new = K .new;
+              condition = b .premise .condition;
+              action = K .action;
+              result = b .result;
+              candidate = chosen-is (numbered (p .rest) task) body (ren σ Q) walks ∙ b .premise .is;
+              bytes = refl;
+            };
+            bytes =
+                K .bytes ∙ ap (λ (A : Term). encode (task .levels) (ren (receiving (K .x) (K .ρ) (K .action)) A)) (b .is)
+                ∙ ap (λ (T : Term). 7 ∷ (encode (task .levels) T ++ encode (task .levels) (ren (receiving (K .x) (K .ρ) (K .action)) (b .result))))
+                (weak-received (K .x) (K .ρ) (K .action) (ren σ P));
+          };
+    }
+
+-- What an action that sends a free name does, and what meets it.
+record Sends (free D : ℕ) (σ : ℕ → ℕ) (β : Act) (o : ℕ) : Type 0 where
+  channel : ℕ
+  object : ℕ
+  is : β ≡ outA channel object
+  sent : Sent free D σ object o
+
+sends : (free D : ℕ) (σ : ℕ → ℕ) (β : Act) (k o : ℕ) → Does free D σ β k o → k ≡ 2 → Sends free D σ β o
+unfolding Does
+sends free D σ tauA k o d e = absurd (omega arith)
+sends free D σ (inpA a) k o d e = absurd (omega arith)
+sends free D σ (outA a b) k o d e = record { channel = a; object = b; is = refl; sent = d .1 }
+sends free D σ (boutA a) k o d e = absurd (omega arith)
+
+record Receives (γ : Act) (T : Type 0) : Type 0 where
+  channel : ℕ
+  is : γ ≡ inpA channel
+  whole : T
+
+right-receives : (a y : ℕ) (P : Term) (γ : Act) (Q A : Term) → Meets (outA a y) P γ Q A → Receives γ (A ≡ par P (ren (inst y) Q))
+right-receives a y P tauA Q A m = absurd m
+right-receives a y P (inpA b) Q A m = record { channel = b; is = refl; whole = m }
+right-receives a y P (outA b z) Q A m = absurd m
+right-receives a y P (boutA b) Q A m = absurd m
+
+left-receives : (b y : ℕ) (β : Act) (P Q A : Term) → Meets β P (outA b y) Q A → Receives β (A ≡ par (ren (inst y) P) Q)
+left-receives b y tauA P Q A m = absurd m
+left-receives b y (inpA a) P Q A m = record { channel = a; is = refl; whole = m }
+left-receives b y (outA a z) P Q A m = absurd m
+left-receives b y (boutA a) P Q A m = absurd m
+
+-- Otherwise both results are abstractions, and the name is new.
+abbrev Bound : Act → Type 0
+Bound β = (x : ℕ) (ρ : ℕ → ℕ) → receiving x ρ β ≡ x • ρ
+
+both-bound : (free D : ℕ) (σ : ℕ → ℕ) (β : Act) (P : Term) (γ : Act) (Q A : Term) (k o l u : ℕ) → Meets β P γ Q A → Does free D σ β k o → Does free D σ γ l u
+    → (k ≡ 2 → ⊥) → (l ≡ 2 → ⊥) → (A ≡ res (par P Q)) × Bound β × Bound γ
+unfolding Does receiving
+both-bound free D σ tauA P γ Q A k o l u m d e x y = absurd m
+both-bound free D σ (inpA a) P tauA Q A k o l u m d e x y = absurd m
+both-bound free D σ (inpA a) P (inpA b) Q A k o l u m d e x y = absurd m
+both-bound free D σ (inpA a) P (outA b z) Q A k o l u m d e x y = absurd (y (e .0))
+both-bound free D σ (inpA a) P (boutA b) Q A k o l u m d e x y = (m, λ i ρ. refl, λ i ρ. refl)
+both-bound free D σ (outA a z) P γ Q A k o l u m d e x y = absurd (x (d .0))
+both-bound free D σ (boutA a) P tauA Q A k o l u m d e x y = absurd m
+both-bound free D σ (boutA a) P (inpA b) Q A k o l u m d e x y = (m, λ i ρ. refl, λ i ρ. refl)
+both-bound free D σ (boutA a) P (outA b z) Q A k o l u m d e x y = absurd m
+both-bound free D σ (boutA a) P (boutA b) Q A k o l u m d e x y = absurd m
+
+-- The name received is the one sent.
+received : (ρ : ℕ → ℕ) (y : ℕ) (Q : Term) → ren ρ (ren (inst y) Q) ≡ ren (ρ y • ρ) Q
+received ρ y Q = ren-triangle ρ (inst y) (ρ y • ρ) Q go
+  where
+    go : (n : ℕ) → ρ (inst y n) ≡ (ρ y • ρ) n
+    go zero = refl
+    go (suc n) = refl
+
+lift-is : (ρ : ℕ → ℕ) → (0 • (λ n. suc (ρ n))) ≡ lift ρ
+lift-is ρ = fun-ext go
+  where
+    go : (n : ℕ) → (0 • (λ n. suc (ρ n))) n ≡ lift ρ n
+    go zero = refl
+    go (suc n) = refl
+
+-- A communication.
+record Met (free D : ℕ) (σ : ℕ → ℕ) (c d : Candidate) (α : Act) (A : Term) (x z : Passed) : Type 0 where
+  leftAction : Act
+  leftResult : Term
+  left : Step c leftAction leftResult
+  rightAction : Act
+  rightResult : Term
+  right : Step d rightAction rightResult
+  silent : α ≡ tauA
+  meets : Meets leftAction leftResult rightAction rightResult A
+  leftDoes : Does free D σ leftAction (x .kind) (x .object)
+  rightDoes : Does free D σ rightAction (z .kind) (z .object)
+
+module _ (question s : List ℕ) (at D : ℕ) (task : Task) (walks : task .still ≡ false) (p : Passed)
+    (X : PassIs question s (at + 1) D (task .calls) (task .silently) (task .number) p)
+    (h : p .found ≡ false) (r : Passed) (Y : PassIs question s (p .end) D (task .calls) (task .silently) (p .rest) r)
+    (k : r .found ≡ false) (v : Passed) (R : PassIs question s (p .end) D (task .calls) false (r .rest) v) (u : Numbers) (U : SplitIs (r .rest) (v .found) (v .rest) u)
+    (x : Passed) (W : PassIs question s (at + 1) D (task .calls) false (u .left) x) (z : Passed) (Z : PassIs question s (p .end) D (task .calls) false (u .right) z)
+    (room : nameCount < length (task .names)) where
+  module _ (q : Question) (free : ℕ) (σ : ℕ → ℕ) (P Q : Term) (rest : List ℕ) (ok : checkOf question ≡ result q) (few : free ≤ nameCount)
+      (sp : InScope free (q .arities) D P) (sq : InScope free (q .arities) D Q) (st : drop (at + 1) s ≡ encode D P ++ (encode D Q ++ rest)) where
+    abbrev body : ℕ → Term
+    body = bodyOf (q .bodies)
+
+    abbrev ss : List Candidate
+    ss = candidates false body (task .calls) (ren σ P)
+
+    abbrev ts : List Candidate
+    ts = candidates false body (task .calls) (ren σ Q)
+
+    xs : PassedIs free D σ (candidates (task .silently) body (task .calls) (ren σ P)) (length (encode D P)) (at + 1) (task .number) p
+    xs = X .is q free σ P (encode D Q ++ rest) ok few sp st
+
+    st₂ : drop (p .end) s ≡ encode D Q ++ rest
+    st₂ = rw (xs .end, ← drop-drop, st, drop-append-seam)
+
+    ys : PassedIs free D σ (candidates (task .silently) body (task .calls) (ren σ Q)) (length (encode D Q)) (p .end) (p .rest) r
+    ys = Y .is q free σ Q rest ok few sq st₂
+
+    third : (M : Cond) (α : Act) (A : Term) → chosen task body (par (ren σ P) (ren σ Q)) ≡ step M α A
+        → getD (meetings body (task .silently) (task .calls) (ren σ P) (ren σ Q)) (r .rest) blocked ≡ step M α A
+    third M α A e =
+        let S = sides-par body (task .silently) (task .calls) (ren σ P) (ren σ Q) in
+        let i : task .number ≡ length (candidates (task .silently) body (task .calls) (ren σ P)) + (length (candidates (task .silently) body (task .calls) (ren σ Q)) + r .rest) =
+        omega (arith, xs .past h, ys .past k) in
+        sym (S .third (r .rest))
+        ∙ ap (λ (j : ℕ). getD (candidates (task .silently) body (task .calls) (par (ren σ P) (ren σ Q))) j blocked) (sym i)
+        ∙ sym (chosen-is task body (par (ren σ P) (ren σ Q)) walks) ∙ e
+
+    met : (M : Cond) (α : Act) (A : Term) → chosen task body (par (ren σ P) (ren σ Q)) ≡ step M α A
+        → Met free D σ (getD ss (u .left) blocked) (getD ts (u .right) blocked) α A x z
+    met M α A e = silently (task .silently) refl
+      where
+        w : ℕ
+        w = length ts
+
+        vs : PassedIs free D σ ts (length (encode D Q)) (p .end) (r .rest) v
+        vs = R .is q free σ Q rest ok few sq st₂
+
+        at-left : (r .rest ≡ u .left * w + u .right) → u .right < w → r .rest < length ss * w → u .left < length ss
+        at-left e l m = go (leb (length ss) (u .left)) refl
+          where
+            go : (t : Bool) → leb (length ss) (u .left) ≡ t → u .left < length ss
+            go true t = absurd (omega (arith, mul-le-mul-right w (leb-true (length ss) (u .left) t)))
+            go false t = leb-false (length ss) (u .left) t
+
+        numbers : r .rest < length ss * w → (b : Bool) → u .none ≡ b → (u .left < length ss) × (u .right < w) × (r .rest ≡ u .left * w + u .right)
+        numbers m true b =
+            let n = U .is w (vs .here) (vs .past) .0 b in
+            let o : length ss * w ≡ 0 = ap (λ (k : ℕ). length ss * k) n ∙ mul-zero (length ss) in
+            absurd (omega arith)
+        numbers m false b = let (a, c, d) = U .is w (vs .here) (vs .past) .1 b in (at-left a c m, c, a)
+
+        silently : (b : Bool) → task .silently ≡ b → Met free D σ (getD ss (u .left) blocked) (getD ts (u .right) blocked) α A x z
+        silently false b =
+            never M α A (sym (ap (λ (b : Bool). getD (meetings body b (task .calls) (ren σ P) (ren σ Q)) (r .rest) blocked) b) ∙ third M α A e)
+        silently true b =
+            let c : getD (communications ss ts) (r .rest) blocked ≡ step M α A =
+            sym (ap (λ (b : Bool). getD (meetings body b (task .calls) (ren σ P) (ren σ Q)) (r .rest) blocked) b) ∙ third M α A e in
+            let (l, m, n) = numbers (subst (λ (k : ℕ). r .rest < k) (length-communications ss ts) (some-candidate (communications ss ts) (r .rest) M α A c)) (u .none) refl in
+            let g = meeting-of (getD ss (u .left) blocked) (getD ts (u .right) blocked) M α A
+            (sym (nth-communication ss ts (u .left) (u .right) l m) ∙ ap (λ (j : ℕ). getD (communications ss ts) j blocked) (sym n) ∙ c) in
+            let ws = W .is q free σ P (encode D Q ++ rest) ok few sp st in
+            let zs = Z .is q free σ Q rest ok few sq st₂ in
+            record {
+              leftAction = g .leftAction;
+              leftResult = g .leftResult;
+              left = g .left;
+              rightAction = g .rightAction;
+              rightResult = g .rightResult;
+              right = g .right;
+              silent = g .silent;
+              meets = g .meets;
+              leftDoes = ws .does (g .left .condition) (g .leftAction) (g .leftResult) (found-of free D σ ss _ _ _ x ws l) (g .left .is);
+              rightDoes = zs .does (g .right .condition) (g .rightAction) (g .rightResult) (found-of free D σ ts _ _ _ z zs m) (g .right .is);
+            }
+
+    module _ (bs : List ℕ) (K : Asks task body free D σ (par P Q) bs) where
+      m : Met free D σ (getD ss (u .left) blocked) (getD ts (u .right) blocked) (K .action) (K .result) x z
+      m = met (K .condition) (K .action) (K .result) (K .candidate)
+
+      silent-bytes : bs ≡ encode (task .levels) (ren (K .ρ) (K .result))
+      unfolding receiving
+      silent-bytes = K .bytes ∙ ap (λ (α : Act). encode (task .levels) (ren (receiving (K .x) (K .ρ) α) (K .result))) (m .silent)
+
+      -- What a side is asked for, under any renaming and new name.
+      left-asks : (t : Task) → t .still ≡ false → t .silently ≡ false → t .calls ≡ task .calls → t .number ≡ u .left → (ρ : ℕ → ℕ) (y : ℕ)
+          → HasNames free D (t .levels) (t .names) (λ n. ρ (σ n)) → HasNew (t .levels) (t .names) y
+          → Asks t body free D σ P (encode (t .levels) (ren (receiving y ρ (m .leftAction)) (m .leftResult)))
+      left-asks t still sil calls number ρ y has new = record {
+        ρ = ρ;
+        x = y;
+        names = has;
+        new = new;
+        condition = m .left .condition;
+        action = m .leftAction;
+        result = m .leftResult;
+        candidate = chosen-is t body (ren σ P) still ∙ rw (sil, calls, number) (m .left .is);
+        bytes = refl;
+      }
+
+      right-asks : (t : Task) → t .still ≡ false → t .silently ≡ false → t .calls ≡ task .calls → t .number ≡ u .right → (ρ : ℕ → ℕ) (y : ℕ)
+          → HasNames free D (t .levels) (t .names) (λ n. ρ (σ n)) → HasNew (t .levels) (t .names) y
+          → Asks t body free D σ Q (encode (t .levels) (ren (receiving y ρ (m .rightAction)) (m .rightResult)))
+      right-asks t still sil calls number ρ y has new = record {
+        ρ = ρ;
+        x = y;
+        names = has;
+        new = new;
+        condition = m .right .condition;
+        action = m .rightAction;
+        result = m .rightResult;
+        candidate = chosen-is t body (ren σ Q) still ∙ rw (sil, calls, number) (m .right .is);
+        bytes = refl;
+      }
+
+      -- The table with the name sent.
+      sent-new : (o n : ℕ) → n < D + free → o ≡ slotOf tableNames D n
+          → HasNew (task .levels) (set (task .names) nameCount (getD (task .names) o 0)) (K .ρ (σ n))
+      unfolding HasNames
+      sent-new o n l e =
+          let (f, b) = K .names n l in
+          new-renew (task .levels) (task .names) (getD (task .names) o 0) (K .ρ (σ n)) room (ap (λ (k : ℕ). getD (task .names) k 0) e ∙ f) b
+
+      com-right : x .kind ≡ 2 → Parts (record { close = false; middle = p .end; left = visibly (u .left) task; right = sending (x .object) (visibly (u .right) task) })
+          body free D σ at P Q bs
+      unfolding encode receiving
+      com-right e =
+          let S = sends free D σ (m .leftAction) (x .kind) (x .object) (m .leftDoes) e in
+          let T = right-receives (S .channel) (S .object) (m .leftResult) (m .rightAction) (m .rightResult) (K .result)
+          (subst (λ (β : Act). Meets β (m .leftResult) (m .rightAction) (m .rightResult) (K .result)) (S .is) (m .meets)) in
+          let L = task .levels in
+          let y = K .ρ (σ (S .sent .name)) in
+          let w : K .ρ (S .object) ≡ y = ap (K .ρ) (S .sent .is) in
+          record {
+            middle = xs .end;
+            first = encode L (ren (receiving (K .x) (K .ρ) (m .leftAction)) (m .leftResult));
+            second = encode L (ren (receiving y (K .ρ) (m .rightAction)) (m .rightResult));
+            left = left-asks (visibly (u .left) task) refl refl refl refl (K .ρ) (K .x) (K .names) (K .new);
+            right = right-asks (sending (x .object) (visibly (u .right) task)) refl refl refl refl (K .ρ) y
+                (names-renew free D L (task .names) (λ n. K .ρ (σ n)) (K .names) (getD (task .names) (x .object) 0) few)
+                (sent-new (x .object) (S .sent .name) (S .sent .within) (S .sent .slot));
+            bytes =
+                silent-bytes ∙ ap (λ (A : Term). encode L (ren (K .ρ) A)) (T .whole)
+                ∙ ap (λ (B : Term). 7 ∷ (encode L (ren (K .ρ) (m .leftResult)) ++ encode L B)) (received (K .ρ) (S .object) (m .rightResult))
+                ∙ ap (λ (n : ℕ). 7 ∷ (encode L (ren (K .ρ) (m .leftResult)) ++ encode L (ren (n • K .ρ) (m .rightResult)))) w
+                ∙ ap (λ (β : Act). 7 ∷ (encode L (ren (receiving (K .x) (K .ρ) β) (m .leftResult)) ++ encode L (ren (y • K .ρ) (m .rightResult)))) (sym (S .is))
+                ∙ ap (λ (γ : Act). 7 ∷ (encode L (ren (receiving (K .x) (K .ρ) (m .leftAction)) (m .leftResult)) ++ encode L (ren (receiving y (K .ρ) γ) (m .rightResult)))) (sym (T .is));
+          }
+
+      com-left : z .kind ≡ 2 → Parts (record { close = false; middle = p .end; left = sending (z .object) (visibly (u .left) task); right = visibly (u .right) task })
+          body free D σ at P Q bs
+      unfolding encode receiving
+      com-left e =
+          let S = sends free D σ (m .rightAction) (z .kind) (z .object) (m .rightDoes) e in
+          let T = left-receives (S .channel) (S .object) (m .leftAction) (m .leftResult) (m .rightResult) (K .result)
+          (subst (λ (γ : Act). Meets (m .leftAction) (m .leftResult) γ (m .rightResult) (K .result)) (S .is) (m .meets)) in
+          let L = task .levels in
+          let y = K .ρ (σ (S .sent .name)) in
+          let w : K .ρ (S .object) ≡ y = ap (K .ρ) (S .sent .is) in
+          record {
+            middle = xs .end;
+            first = encode L (ren (receiving y (K .ρ) (m .leftAction)) (m .leftResult));
+            second = encode L (ren (receiving (K .x) (K .ρ) (m .rightAction)) (m .rightResult));
+            left = left-asks (sending (z .object) (visibly (u .left) task)) refl refl refl refl (K .ρ) y
+                (names-renew free D L (task .names) (λ n. K .ρ (σ n)) (K .names) (getD (task .names) (z .object) 0) few)
+                (sent-new (z .object) (S .sent .name) (S .sent .within) (S .sent .slot));
+            right = right-asks (visibly (u .right) task) refl refl refl refl (K .ρ) (K .x) (K .names) (K .new);
+            bytes =
+                silent-bytes ∙ ap (λ (A : Term). encode L (ren (K .ρ) A)) (T .whole)
+                ∙ ap (λ (B : Term). 7 ∷ (encode L B ++ encode L (ren (K .ρ) (m .rightResult)))) (received (K .ρ) (S .object) (m .leftResult))
+                ∙ ap (λ (n : ℕ). 7 ∷ (encode L (ren (n • K .ρ) (m .leftResult)) ++ encode L (ren (K .ρ) (m .rightResult)))) w
+                ∙ ap (λ (γ : Act). 7 ∷ (encode L (ren (y • K .ρ) (m .leftResult)) ++ encode L (ren (receiving (K .x) (K .ρ) γ) (m .rightResult)))) (sym (S .is))
+                ∙ ap (λ (β : Act). 7 ∷ (encode L (ren (receiving y (K .ρ) β) (m .leftResult)) ++ encode L (ren (receiving (K .x) (K .ρ) (m .rightAction)) (m .rightResult)))) (sym (T .is));
+          }
+
+      closed-names : HasNames free D (task .levels + 1) (set (task .names) nameCount (tableNames + task .levels)) (λ n. suc (K .ρ (σ n)))
+      closed-names =
+          let e : task .levels + 1 ≡ 1 + task .levels = omega arith in
+          rw e
+          (names-renew free D (1 + task .levels) (task .names) (λ n. suc (K .ρ (σ n)))
+          (names-beneath free D (task .levels) (task .names) (λ n. K .ρ (σ n)) (K .names)) (tableNames + task .levels) few)
+
+      closed-new : HasNew (task .levels + 1) (set (task .names) nameCount (tableNames + task .levels)) 0
+      closed-new =
+          let e : task .levels + 1 ≡ 1 + task .levels = omega arith in
+          rw e
+          (new-renew (1 + task .levels) (task .names) (tableNames + task .levels) 0 room
+          (sym (slot-bound tableNames (1 + task .levels) 0 (omega arith) ∙ omega arith)) (omega arith))
+
+      closes : (x .kind ≡ 2 → ⊥) → (z .kind ≡ 2 → ⊥)
+          → Parts (record { close = true; middle = p .end; left = closing (visibly (u .left) task); right = closing (visibly (u .right) task) }) body free D σ at P Q bs
+      unfolding encode
+      closes nx nz =
+          let (whole, bl, br) = both-bound free D σ (m .leftAction) (m .leftResult) (m .rightAction) (m .rightResult) (K .result)
+          (x .kind) (x .object) (z .kind) (z .object) (m .meets) (m .leftDoes) (m .rightDoes) nx nz in
+          let L = task .levels in
+          let e : 1 + L ≡ L + 1 = omega arith in
+          let up : ℕ → ℕ = λ n. suc (K .ρ n) in
+          record {
+            middle = xs .end;
+            first = encode (L + 1) (ren (receiving 0 up (m .leftAction)) (m .leftResult));
+            second = encode (L + 1) (ren (receiving 0 up (m .rightAction)) (m .rightResult));
+            left = left-asks (closing (visibly (u .left) task)) refl refl refl refl up 0 closed-names closed-new;
+            right = right-asks (closing (visibly (u .right) task)) refl refl refl refl up 0 closed-names closed-new;
+            bytes =
+                silent-bytes ∙ ap (λ (A : Term). encode L (ren (K .ρ) A)) whole
+                ∙ ap (λ (f : ℕ → ℕ). 8 ∷ 7 ∷ (encode (1 + L) (ren f (m .leftResult)) ++ encode (1 + L) (ren f (m .rightResult)))) (sym (lift-is (K .ρ)))
+                ∙ ap (λ (f : ℕ → ℕ). 8 ∷ 7 ∷ (encode (1 + L) (ren f (m .leftResult)) ++ encode (1 + L) (ren (0 • up) (m .rightResult)))) (sym (bl 0 up))
+                ∙ ap (λ (f : ℕ → ℕ). 8 ∷ 7 ∷ (encode (1 + L) (ren (receiving 0 up (m .leftAction)) (m .leftResult)) ++ encode (1 + L) (ren f (m .rightResult)))) (sym (br 0 up))
+                ∙ ap (λ (n : ℕ). 8 ∷ 7 ∷ (encode n (ren (receiving 0 up (m .leftAction)) (m .leftResult)) ++ encode n (ren (receiving 0 up (m .rightAction)) (m .rightResult)))) e;
+          }
+
+  pub plan-met : PlanIs question s at D task (meetingPlan task (p .end) u x z)
+  unfolding meetingPlan
+  plan-met = go (eqb (x .kind) 2) refl (eqb (z .kind) 2) refl
+    where
+      go : (b : Bool) → eqb (x .kind) 2 ≡ b → (c : Bool) → eqb (z .kind) 2 ≡ c → PlanIs question s at D task (meetingPlan task (p .end) u x z)
+      go true b c d = rw b record {
+        on = X .on;
+        leftLevels = omega arith;
+        rightLevels = omega arith;
+        leftCalls = refl;
+        rightCalls = refl;
+        is = λ q free σ P Q rest bs ok few sp sq st K. com-right q free σ P Q rest ok few sp sq st bs K (eqb-true (x .kind) 2 b);
+      }
+      go false b true d = rw (b, d) record {
+        on = X .on;
+        leftLevels = omega arith;
+        rightLevels = omega arith;
+        leftCalls = refl;
+        rightCalls = refl;
+        is = λ q free σ P Q rest bs ok few sp sq st K. com-left q free σ P Q rest ok few sp sq st bs K (eqb-true (z .kind) 2 d);
+      }
+      go false b false d = rw (b, d) record {
+        on = X .on;
+        leftLevels = omega arith;
+        rightLevels = omega arith;
+        leftCalls = refl;
+        rightCalls = refl;
+        is = λ q free σ P Q rest bs ok few sp sq st K. closes q free σ P Q rest ok few sp sq st bs K (eqb-false (x .kind) 2 b) (eqb-false (z .kind) 2 d);
+      }

@@ -1,0 +1,397 @@
+-- Writing results: runs of stores, and what the parts of a term are to be written as. Assumes nothing.
+use mathlib.Core.Path.{_≡_, refl, sym, ap, ap₂, subst, _∙_}
+use mathlib.Core.Bool.{Bool, true, false}
+use mathlib.Core.List.{List, [], _∷_, _++_, map, append-assoc, append-nil}
+use Prim.Native.Nat.{ℕ, zero, suc, _+_, _-_, _<_, _≤_}
+use native.Mathlib.Omega.{arith}
+use lib.ListN.{length, getD, drop, set, length-append, length-drop}
+use lib.Seq.{sets, drop-drop}
+use lib.Dec.{leb}
+use borrow.Author.Tests.{leb-true, leb-false}
+use Rattle.calculus.specs.Abstraction.{Act, tauA}
+use Rattle.calculus.specs.Term.{Term, mat, sum, par, res, call, ren, lift}
+use Rattle.calculus.proofs.Renaming.{ren-∘}
+use Rattle.terms.specs.Answer.{result}
+use Rattle.terms.specs.Encoding.{encode, InScope}
+use Rattle.terms.specs.Limits.{nameCount, tableNames}
+use Rattle.terms.specs.Question.{Question, checkOf}
+use Rattle.terms.specs.Renaming.{RenameIs}
+use Rattle.terms.proofs.ReadEncoded.{encode-some}
+use Rattle.terms.proofs.Shapes.{length-ren}
+use Rattle.terms.proofs.Stores.{sets-join}
+use Rattle.steps.specs.Bodies.{AritiesIs, BodyIs, OpeningIs, EndIs}
+use Rattle.steps.specs.Listing.{bodyOf}
+use Rattle.steps.specs.Passing.{candidates, Does, PassedIs, PassIs, opensAt}
+use Rattle.steps.specs.Raw.{Candidate, step, blocked}
+use Rattle.steps.specs.Names.{mostBinders, HasNames, HasNew, TableIs}
+use Rattle.steps.specs.Results.{receiving, chosen, Asks, Written, StoreIs, TermIs, WriteIs, numbered, extruding, restricting, CallingIs, opening, Parts, PlanIs}
+use Rattle.steps.specs.declared.bodies.Opening.{Opening}
+use Rattle.steps.specs.declared.pass.Passed.{Passed}
+use Rattle.steps.specs.declared.result.Plan.{Plan}
+use Rattle.steps.specs.declared.result.Task.{Task}
+use Rattle.steps.proofs.CallLaws.{params, names-call, body-scope, at-call}
+use Rattle.steps.proofs.AskLaws.{never, chosen-is, some-candidate, found-of, ask-open, res-part, ask-res}
+use Rattle.steps.proofs.CandidateForms.{candidates-mat, candidates-res, candidates-call, candidates-no-call, tag, tag-at, only-mat, only-sum, only-par, only-res}
+use Rattle.steps.proofs.NameSlots.{names-represent}
+use Rattle.steps.proofs.Numbering.{nth-matching, nth-restricted}
+use Rattle.steps.proofs.Premises.{Under, matching-of, under-of}
+use Rattle.steps.proofs.TwoSides.{sides-sum, at-left, at-right}
+
+-- What fits ends where it should.
+module _ (out : List ℕ) (put : ℕ) (bs : List ℕ) (e : ℕ) (out₁ : List ℕ) (W : Written out put bs e out₁) where
+  within : e ≤ length out → put + length bs ≤ length out
+  within h = go (leb (put + length bs) (length out)) refl
+    where
+      go : (t : Bool) → leb (put + length bs) (length out) ≡ t → put + length bs ≤ length out
+      go true t = leb-true (put + length bs) (length out) t
+      go false t = absurd (omega (arith, W .over (leb-false (put + length bs) (length out) t)))
+
+  pub written-to : e ≤ length out → e ≡ put + length bs
+  written-to h = W .fits (within h) .0
+
+  -- One run after another.
+  pub written-then : (cs : List ℕ) (r : ℕ) (out₂ : List ℕ) → e ≤ length out → length out₁ ≡ length out → Written out₁ e cs r out₂
+      → Written out put (bs ++ cs) r out₂
+  written-then cs r out₂ h same R =
+      let l = length-append bs cs in
+      let (n, w) = W .fits (within h) in
+      record {
+        fits = λ f.
+            let (m, v) = R .fits (omega arith) in
+            (omega arith, v ∙ ap (λ (o : List ℕ). sets o e cs) w ∙ sets-join out put e bs cs n);
+        over = λ f. let z = R .over (omega arith) in omega arith;
+      }
+
+  -- No room already for the first.
+  pub written-stop : (cs : List ℕ) → length out < e → Written out put (bs ++ cs) e out₁
+  written-stop cs h =
+      let l = length-append bs cs in
+      record { fits = λ f. let x = W .fits (omega arith) in absurd (omega (arith, x .0)); over = λ f. h }
+
+pub store-full : (out : List ℕ) (put b : ℕ) → length out ≤ put → put ≤ length out → StoreIs out put (b ∷ []) (length out + 1) out
+store-full out put b h k = record { on = omega arith; is = record { fits = λ f. absurd (omega arith); over = λ f. omega arith } }
+
+pub store-done : (out : List ℕ) (put b : ℕ) → put < length out → StoreIs out put (b ∷ []) (put + 1) (set out put b)
+store-done out put b h = record { on = omega arith; is = record { fits = λ f. (refl, refl); over = λ f. absurd (omega arith) } }
+
+pub plan-same : (c : Bool) (m : ℕ) (l l′ r r′ : Task) → l ≡ l′ → r ≡ r′
+    → _≡_ {A = Plan} (record { close = c; middle = m; left = l; right = r }) (record { close = c; middle = m; left = l′; right = r′ })
+plan-same c m l l′ r r′ p q = ap₂ (λ (x y : Task). record { close = c; middle = m; left = x; right = y }) p q
+
+-- A term, renamed by the table.
+module _ (question s : List ℕ) (at D : ℕ) (names : List ℕ) (levels : ℕ) (out : List ℕ) (put : ℕ) (arities : List ℕ) (ar : AritiesIs question arities) (e : ℕ)
+    (E : EndIs s at arities e) where
+  ends : (q : Question) (free : ℕ) (τ : ℕ → ℕ) (P : Term) (rest : List ℕ) → checkOf question ≡ result q → InScope free (q .arities) D P
+      → drop at s ≡ encode D P ++ rest → e - at ≡ length (encode levels (ren τ P))
+  unfolding AritiesIs
+  ends q free τ P rest ok scope st =
+      omega (arith, E .is free D P rest (subst (λ (l : List ℕ). InScope free l D P) (sym (ar q ok)) scope) st, length-ren D levels τ P)
+
+  pub term-full : put ≤ length out → length out < put + (e - at) → TermIs question s at D names levels out put (length out + 1) out
+  term-full h full = record {
+    on = omega arith;
+    is = λ q free τ P rest ok few scope st has.
+        let l = ends q free τ P rest ok scope st in
+        record { fits = λ f. absurd (omega arith); over = λ f. omega arith };
+  }
+
+  pub term-done : D ≤ mostBinders → levels + length out ≤ 128 + put → put + (e - at) ≤ length out → (table : List ℕ) → TableIs names D levels table
+      → (r : ℕ) (out′ : List ℕ) → RenameIs s at arities table out put r out′ → TermIs question s at D names levels out put (put + (e - at)) out′
+  unfolding AritiesIs RenameIs
+  term-done deep low room table T r out′ R = record {
+    on = omega arith;
+    is = λ q free τ P rest ok few scope st has.
+        let l = ends q free τ P rest ok scope st in
+        let m = length-ren D levels τ P in
+        let w = R free D levels τ P rest (omega arith) (names-represent free D levels names τ has table (omega arith) deep T)
+        (subst (λ (l : List ℕ). InScope free l D P) (sym (ar q ok)) scope) st (omega arith) (omega arith) in
+        record { fits = λ f. (omega arith, w .1); over = λ f. absurd (omega arith) };
+  }
+
+-- Where no term stands, or none that has what is asked for, anything may be answered.
+pub write-none : (question s : List ℕ) (at D : ℕ) (task : Task) (out : List ℕ) (put r : ℕ) (out′ : List ℕ) → put ≤ r → length s ≤ at
+    → WriteIs question s at D task out put r out′
+write-none question s at D task out put r out′ on past = record {
+  on = on;
+  is = λ q free σ P rest bs ok few scope st K. absurd (omega (arith, encode-some D P, simp (length-append, length-drop) at (ap length st)));
+}
+
+-- The term itself.
+pub write-still : (question s : List ℕ) (at D : ℕ) (task : Task) (out : List ℕ) (put r : ℕ) (out′ : List ℕ) → task .still ≡ true
+    → TermIs question s at D (task .names) (task .levels) out put r out′ → WriteIs question s at D task out put r out′
+unfolding chosen receiving
+write-still question s at D task out put r out′ still T = record {
+  on = T .on;
+  is = λ q free σ P rest bs ok few scope st K.
+      let e : step [] tauA (ren σ P) ≡ step (K .condition) (K .action) (K .result) = rw still at (K .candidate) in
+      let x : K .action ≡ tauA = cc in
+      let y : K .result ≡ ren σ P = cc in
+      let w : bs ≡ encode (task .levels) (ren (λ n. K .ρ (σ n)) P) =
+      K .bytes ∙ ap (λ (α : Act). encode (task .levels) (ren (receiving (K .x) (K .ρ) α) (K .result))) x
+      ∙ ap (λ (A : Term). encode (task .levels) (ren (K .ρ) A)) y ∙ ap (encode (task .levels)) (ren-∘ (K .ρ) σ P) in
+      rw w (T .is q free (λ n. K .ρ (σ n)) P rest ok few scope st (K .names));
+}
+
+module _ (question s : List ℕ) (at D : ℕ) (task : Task) (walks : task .still ≡ false) (out : List ℕ) (put : ℕ) where
+  -- What is to be shown of each form: bytes asked for of it are written.
+  abbrev Shows : ℕ → List ℕ → Question → ℕ → (ℕ → ℕ) → List ℕ → List ℕ → Term → Type 0
+  Shows r out′ q free σ rest bs P =
+      InScope free (q .arities) D P → drop at s ≡ encode D P ++ rest → Asks task (bodyOf (q .bodies)) free D σ P bs → Written out put bs r out′
+
+  -- The candidate that is asked for.
+  picked : (body : ℕ → Term) (free : ℕ) (σ : ℕ → ℕ) (P : Term) (bs : List ℕ) (K : Asks task body free D σ P bs) (cs : List Candidate)
+      → candidates (task .silently) body (task .calls) (ren σ P) ≡ cs → getD cs (task .number) blocked ≡ step (K .condition) (K .action) (K .result)
+  picked body free σ P bs K cs e =
+      ap (λ (l : List Candidate). getD l (task .number) blocked) (sym e) ∙ sym (chosen-is task body (ren σ P) walks) ∙ K .candidate
+
+  -- [Match]
+  pub write-mat : getD s at 0 ≡ 5 → (r : ℕ) (out′ : List ℕ) → WriteIs question s (at + 3) D task out put r out′ → WriteIs question s at D task out put r out′
+  unfolding encode InScope
+  write-mat g r out′ R = record {
+    on = R .on;
+    is = λ q free σ P rest bs ok few scope st K. only-mat (Shows r out′ q free σ rest bs)
+        (λ a b Q scope st K.
+        let body = bodyOf (q .bodies) in
+        let cs = candidates (task .silently) body (task .calls) (ren σ Q) in
+        let p = matching-of (σ a) (σ b) (getD cs (task .number) blocked) (K .condition) (K .action) (K .result)
+        (sym (nth-matching (σ a) (σ b) cs (task .number))
+        ∙ picked body free σ (mat a b Q) bs K _ (candidates-mat body (task .silently) (task .calls) (σ a) (σ b) (ren σ Q))) in
+        R .is q free σ Q rest bs ok few (scope .2) (sym (drop-drop 3 at s) ∙ ap (drop 3) st) (record {
+          ρ = K .ρ;
+          x = K .x;
+          names = K .names;
+          new = K .new;
+          condition = p .condition;
+          action = K .action;
+          result = K .result;
+          candidate = chosen-is task body (ren σ Q) walks ∙ p .is;
+          bytes = K .bytes;
+        }))
+        P (sym (tag-at s at D P rest st) ∙ g) scope st K;
+  }
+
+  -- [Sum]
+  module _ (g : getD s at 0 ≡ 6) (p : Passed) (X : PassIs question s (at + 1) D (task .calls) (task .silently) (task .number) p) where
+    pub write-sum-left : p .found ≡ true → (r : ℕ) (out′ : List ℕ) → WriteIs question s (at + 1) D task out put r out′
+        → WriteIs question s at D task out put r out′
+    unfolding encode InScope
+    write-sum-left h r out′ R = record {
+      on = R .on;
+      is = λ q free σ P rest bs ok few scope st K. only-sum (Shows r out′ q free σ rest bs)
+          (λ P Q scope st K.
+          let body = bodyOf (q .bodies) in
+          let S = sides-sum body (task .silently) (task .calls) (ren σ P) (ren σ Q) in
+          let x = X .is q free σ P (encode D Q ++ rest) ok few (scope .0) (at-left D s at P Q rest 6 st) in
+          R .is q free σ P (encode D Q ++ rest) bs ok few (scope .0) (at-left D s at P Q rest 6 st) (record {
+            ρ = K .ρ;
+            x = K .x;
+            names = K .names;
+            new = K .new;
+            condition = K .condition;
+            action = K .action;
+            result = K .result;
+            candidate = chosen-is task body (ren σ P) walks ∙ sym (S .first (task .number) (x .here h)) ∙ picked body free σ (sum P Q) bs K _ refl;
+            bytes = K .bytes;
+          }))
+          P (sym (tag-at s at D P rest st) ∙ g) scope st K;
+    }
+
+    pub write-sum-right : p .found ≡ false → (t : Task) → t ≡ numbered (p .rest) task → (r : ℕ) (out′ : List ℕ) → WriteIs question s (p .end) D t out put r out′
+        → WriteIs question s at D task out put r out′
+    unfolding encode InScope
+    write-sum-right h t e r out′ R₀ = record {
+      on = R₀ .on;
+      is = λ q free σ P rest bs ok few scope st K. only-sum (Shows r out′ q free σ rest bs)
+          (λ P Q scope st K.
+          let body = bodyOf (q .bodies) in
+          let R = subst (λ (t : Task). WriteIs question s (p .end) D t out put r out′) e R₀ in
+          let S = sides-sum body (task .silently) (task .calls) (ren σ P) (ren σ Q) in
+          let x = X .is q free σ P (encode D Q ++ rest) ok few (scope .0) (at-left D s at P Q rest 6 st) in
+          let c : getD (candidates (task .silently) body (task .calls) (ren σ (sum P Q))) (length (candidates (task .silently) body (task .calls) (ren σ P)) + p .rest) blocked
+          ≡ step (K .condition) (K .action) (K .result) =
+          ap (λ (j : ℕ). getD (candidates (task .silently) body (task .calls) (ren σ (sum P Q))) j blocked) (sym (x .past h)) ∙ picked body free σ (sum P Q) bs K _ refl in
+          let l = some-candidate (candidates (task .silently) body (task .calls) (ren σ (sum P Q))) (length (candidates (task .silently) body (task .calls) (ren σ P)) + p .rest)
+          (K .condition) (K .action) (K .result) c in
+          let m : p .rest < length (candidates (task .silently) body (task .calls) (ren σ Q)) = omega (arith, S .len) in
+          R .is q free σ Q rest bs ok few (scope .1) (at-right D s at P Q rest 6 st (p .end) (x .end)) (record {
+            ρ = K .ρ;
+            x = K .x;
+            names = K .names;
+            new = K .new;
+            condition = K .condition;
+            action = K .action;
+            result = K .result;
+            candidate = chosen-is (numbered (p .rest) task) body (ren σ Q) walks ∙ sym (S .second (p .rest) m) ∙ c;
+            bytes = K .bytes;
+          }))
+          P (sym (tag-at s at D P rest st) ∙ g) scope st K;
+    }
+
+  -- [Res] and [Open]
+  module _ (g : getD s at 0 ≡ 8) (p : Passed)
+      (X : PassIs question s (at + 1) (D + 1) (task .calls) (task .silently) (task .number) p) where
+    -- the candidate under the restriction, and what its action does
+    under : (q : Question) (free : ℕ) (σ : ℕ → ℕ) (Q : Term) (rest bs : List ℕ) → checkOf question ≡ result q → free ≤ nameCount
+        → InScope free (q .arities) (1 + D) Q → drop (at + 1) s ≡ encode (1 + D) Q ++ rest → (K : Asks task (bodyOf (q .bodies)) free D σ (res Q) bs)
+        → ((v : Under (getD (candidates (task .silently) (bodyOf (q .bodies)) (task .calls) (ren (lift σ) Q)) (task .number) blocked) (K .action) (K .result))
+        × Does free (1 + D) (lift σ) (v .action) (p .kind) (p .object))
+    under q free σ Q rest bs ok few scope st K =
+        let body = bodyOf (q .bodies) in
+        let d : D + 1 ≡ 1 + D = omega arith in
+        let X′ : PassIs question s (at + 1) (1 + D) (task .calls) (task .silently) (task .number) p = rw d at X in
+        let cs = candidates (task .silently) body (task .calls) (ren (lift σ) Q) in
+        let v = under-of (getD cs (task .number) blocked) (K .condition) (K .action) (K .result)
+        (sym (nth-restricted cs (task .number)) ∙ picked body free σ (res Q) bs K _ (candidates-res body (task .silently) (task .calls) (ren (lift σ) Q))) in
+        let x = X′ .is q free (lift σ) Q rest ok few scope st in
+        let l = some-candidate cs (task .number) (v .premise .condition) (v .action) (v .result) (v .premise .is) in
+        (v, x .does (v .premise .condition) (v .action) (v .result) (found-of free (1 + D) (lift σ) cs _ _ _ p x l) (v .premise .is))
+
+    pub write-open : tableNames + D < length (task .names) → opensAt D (p .kind) (p .object) ≡ true → (t : Task) → t ≡ extruding D task → (r : ℕ) (out′ : List ℕ)
+        → WriteIs question s (at + 1) (D + 1) t out put r out′ → WriteIs question s at D task out put r out′
+    unfolding encode InScope
+    write-open room o t e r out′ R₀ = record {
+      on = R₀ .on;
+      is = λ q free σ P rest bs ok few scope st K. only-res (Shows r out′ q free σ rest bs)
+          (λ Q scope st K.
+          let d : D + 1 ≡ 1 + D = omega arith in
+          let R : WriteIs question s (at + 1) (1 + D) (extruding D task) out put r out′ =
+          rw d at (subst (λ (t : Task). WriteIs question s (at + 1) (D + 1) t out put r out′) e R₀) in
+          let st₁ : drop (at + 1) s ≡ encode (1 + D) Q ++ rest = sym (drop-drop 1 at s) ∙ ap (drop 1) st in
+          let (v, does) = under q free σ Q rest bs ok few scope st₁ K in
+          R .is q free (lift σ) Q rest bs ok few scope st₁
+          (ask-open task walks D (p .kind) (p .object) room o (bodyOf (q .bodies)) free σ Q bs few K (v .action) (v .result) (v .premise) (v .restricts) does))
+          P (sym (tag-at s at D P rest st) ∙ g) scope st K;
+    }
+
+    module _ (o : opensAt D (p .kind) (p .object) ≡ false) (e : ℕ) (out₁ : List ℕ) (St : StoreIs out put (8 ∷ []) e out₁) where
+      pub write-res : tableNames + D < length (task .names) → e ≤ length out → length out₁ ≡ length out → (t : Task) → t ≡ restricting D task → (r : ℕ) (out′ : List ℕ)
+          → WriteIs question s (at + 1) (D + 1) t out₁ e r out′ → WriteIs question s at D task out put r out′
+      unfolding encode InScope
+      write-res room inside same t et r out′ R₀ = record {
+        on = omega (arith, St .on, R₀ .on);
+        is = λ q free σ P rest bs ok few scope st K. only-res (Shows r out′ q free σ rest bs)
+            (λ Q scope st K.
+            let d : D + 1 ≡ 1 + D = omega arith in
+            let R : WriteIs question s (at + 1) (1 + D) (restricting D task) out₁ e r out′ =
+            rw d at (subst (λ (t : Task). WriteIs question s (at + 1) (D + 1) t out₁ e r out′) et R₀) in
+            let st₁ : drop (at + 1) s ≡ encode (1 + D) Q ++ rest = sym (drop-drop 1 at s) ∙ ap (drop 1) st in
+            let (v, does) = under q free σ Q rest bs ok few scope st₁ K in
+            let b = res-part task walks D (p .kind) (p .object) o (bodyOf (q .bodies)) free σ Q bs K (v .action) (v .result) (v .restricts) does in
+            rw b
+            (written-then out put (8 ∷ []) e out₁ (St .is) _ r out′ inside same
+            (R .is q free (lift σ) Q rest _ ok few scope st₁
+            (ask-res task walks D (p .kind) (p .object) room (bodyOf (q .bodies)) free σ Q bs few K (v .action) (v .result) (v .premise)))))
+            P (sym (tag-at s at D P rest st) ∙ g) scope st K;
+      }
+
+      pub write-res-stop : length out < e → WriteIs question s at D task out put e out₁
+      unfolding encode InScope
+      write-res-stop past = record {
+        on = St .on;
+        is = λ q free σ P rest bs ok few scope st K. only-res (Shows e out₁ q free σ rest bs)
+            (λ Q scope st K.
+            let st₁ : drop (at + 1) s ≡ encode (1 + D) Q ++ rest = sym (drop-drop 1 at s) ∙ ap (drop 1) st in
+            let (v, does) = under q free σ Q rest bs ok few scope st₁ K in
+            let b = res-part task walks D (p .kind) (p .object) o (bodyOf (q .bodies)) free σ Q bs K (v .action) (v .result) (v .restricts) does in
+            rw b (written-stop out put (8 ∷ []) e out₁ (St .is) _ past))
+            P (sym (tag-at s at D P rest st) ∙ g) scope st K;
+      }
+
+  -- [Con]
+  module _ (g : 8 < getD s at 0) (o : Opening) (O : OpeningIs question s at (task .calls) o) where
+    -- no call is left to open
+    pub write-closed : o .allowed ≡ false → (r : ℕ) (out′ : List ℕ) → put ≤ r → WriteIs question s at D task out put r out′
+    write-closed z r out′ on = record {
+      on = on;
+      is = λ q free σ P rest bs ok few scope st K. at-call question s at D (task .calls) (task .silently) (task .number) g (o .definition) (o .arity) (O .definition) (O .arity)
+          (λ (P : Term). Asks task (bodyOf (q .bodies)) free D σ P bs → Written out put bs r out′) q free P rest ok scope st
+          (λ xs m a l names st K.
+          let body = bodyOf (q .bodies) in
+          let c : candidates (task .silently) body (task .calls) (call (o .definition) (map σ xs)) ≡ [] =
+          ap (λ (c : ℕ). candidates (task .silently) body c (call (o .definition) (map σ xs))) (O .not z q ok l)
+          ∙ candidates-no-call body (task .silently) (o .definition) (map σ xs) in
+          never (K .condition) (K .action) (K .result) (picked body free σ (call (o .definition) xs) bs K [] c))
+          K;
+    }
+
+    pub write-call : (bytes : List ℕ) → BodyIs question (o .definition) bytes → (c : ℕ) → task .calls ≡ suc c → (t : Task) → CallingIs s (at + 2) (o .arity) D task t
+        → (r : ℕ) (out′ : List ℕ) → WriteIs question bytes 0 (o .arity) t out put r out′ → WriteIs question s at D task out put r out′
+    unfolding HasNew
+    write-call bytes B c z t C r out′ R = record {
+      on = R .on;
+      is = λ q free σ P rest bs ok few scope st K. at-call question s at D (task .calls) (task .silently) (task .number) g (o .definition) (o .arity) (O .definition) (O .arity)
+          (λ (P : Term). Asks task (bodyOf (q .bodies)) free D σ P bs → Written out put bs r out′) q free P rest ok scope st
+          (λ xs m a l names st K.
+          let body = bodyOf (q .bodies) in
+          let e : candidates (task .silently) body (task .calls) (call (o .definition) (map σ xs)) ≡ candidates (task .silently) body c (ren (params σ xs) (body (o .definition))) =
+          ap (λ (c : ℕ). candidates (task .silently) body c (call (o .definition) (map σ xs))) z ∙ candidates-call body (task .silently) c (o .definition) (map σ xs) in
+          let f = picked body free σ (call (o .definition) xs) bs K _ e in
+          let tc : t .calls ≡ c = omega (arith, C .calls) in
+          R .is q 0 (params σ xs) (body (o .definition)) [] bs ok (omega arith)
+          (subst (λ (n : ℕ). InScope 0 (q .arities) n (body (o .definition))) (sym a) (body-scope question q ok (o .definition)))
+          (B .is q ok l ∙ ap (λ (n : ℕ). encode n (body (o .definition))) (sym a) ∙ sym (append-nil (encode (o .arity) (body (o .definition)))))
+          (record {
+            ρ = K .ρ;
+            x = K .x;
+            names = rw (C .levels) (names-call free D s (at + 2) xs rest few names st (task .levels) (task .names) (t .names) σ (K .ρ) (K .names) (o .arity) m (C .names));
+            new = rw (C .levels) (C .names .new ∙ K .new .0, K .new .1);
+            condition = K .condition;
+            action = K .action;
+            result = K .result;
+            candidate = chosen-is t body (ren (params σ xs) (body (o .definition))) (C .still ∙ walks) ∙ rw (C .silently, tc, C .number) f;
+            bytes = rw (C .levels) (K .bytes);
+          }))
+          K;
+    }
+
+  -- [Par], [Com] and [Close]
+  module _ (g : getD s at 0 ≡ 7) (plan : Plan) (L : PlanIs question s at D task plan) (e : ℕ) (out₁ : List ℕ) (St : StoreIs out put (opening (plan .close)) e out₁) where
+    parts : (q : Question) (free : ℕ) (σ : ℕ → ℕ) (P Q : Term) (rest bs : List ℕ) → checkOf question ≡ result q → free ≤ nameCount
+        → InScope free (q .arities) D (par P Q) → drop at s ≡ encode D (par P Q) ++ rest → Asks task (bodyOf (q .bodies)) free D σ (par P Q) bs
+        → Parts plan (bodyOf (q .bodies)) free D σ at P Q bs
+    unfolding encode InScope
+    parts q free σ P Q rest bs ok few scope st K = L .is q free σ P Q rest bs ok few (scope .0) (scope .1) (at-left D s at P Q rest 7 st) K
+
+    pub write-par-stop : length out < e → WriteIs question s at D task out put e out₁
+    write-par-stop past = record {
+      on = St .on;
+      is = λ q free σ P rest bs ok few scope st K. only-par (Shows e out₁ q free σ rest bs)
+          (λ P Q scope st K.
+          let a = parts q free σ P Q rest bs ok few scope st K in
+          rw (a .bytes) (written-stop out put (opening (plan .close)) e out₁ (St .is) (a .first ++ a .second) past))
+          P (sym (tag-at s at D P rest st) ∙ g) scope st K;
+    }
+
+    module _ (inside : e ≤ length out) (same : length out₁ ≡ length out) (m : ℕ) (out₂ : List ℕ) (A : WriteIs question s (at + 1) D (plan .left) out₁ e m out₂) where
+      first : (q : Question) (free : ℕ) (σ : ℕ → ℕ) (P Q : Term) (rest bs : List ℕ) → checkOf question ≡ result q → free ≤ nameCount
+          → InScope free (q .arities) D (par P Q) → drop at s ≡ encode D (par P Q) ++ rest → (a : Parts plan (bodyOf (q .bodies)) free D σ at P Q bs)
+          → Written out put (opening (plan .close) ++ a .first) m out₂
+      unfolding encode InScope
+      first q free σ P Q rest bs ok few scope st a =
+          written-then out put (opening (plan .close)) e out₁ (St .is) (a .first) m out₂ inside same
+          (A .is q free σ P (encode D Q ++ rest) (a .first) ok few (scope .0) (at-left D s at P Q rest 7 st) (a .left))
+
+      pub write-left-stop : length out < m → WriteIs question s at D task out put m out₂
+      write-left-stop past = record {
+        on = omega (arith, St .on, A .on);
+        is = λ q free σ P rest bs ok few scope st K. only-par (Shows m out₂ q free σ rest bs)
+            (λ P Q scope st K.
+            let a = parts q free σ P Q rest bs ok few scope st K in
+            rw (a .bytes, ← append-assoc)
+            (written-stop out put (opening (plan .close) ++ a .first) m out₂ (first q free σ P Q rest bs ok few scope st a) (a .second) past))
+            P (sym (tag-at s at D P rest st) ∙ g) scope st K;
+      }
+
+      pub write-par : m ≤ length out → length out₂ ≡ length out → (r : ℕ) (out′ : List ℕ) → WriteIs question s (plan .middle) D (plan .right) out₂ m r out′
+          → WriteIs question s at D task out put r out′
+      unfolding encode InScope
+      write-par within₂ same₂ r out′ B = record {
+        on = omega (arith, St .on, A .on, B .on);
+        is = λ q free σ P rest bs ok few scope st K. only-par (Shows r out′ q free σ rest bs)
+            (λ P Q scope st K.
+            let a = parts q free σ P Q rest bs ok few scope st K in
+            rw (a .bytes, ← append-assoc)
+            (written-then out put (opening (plan .close) ++ a .first) m out₂ (first q free σ P Q rest bs ok few scope st a) (a .second) r out′ within₂ same₂
+            (B .is q free σ Q rest (a .second) ok few (scope .1) (at-right D s at P Q rest 7 st (plan .middle) (a .middle)) (a .right))))
+            P (sym (tag-at s at D P rest st) ∙ g) scope st K;
+      }

@@ -1,0 +1,78 @@
+-- `steps::result::write_prefix` meets its contract. Assumes nothing.
+use mathlib.Core.Path.{_≡_, sym, ap, _∙_}
+use native.Mathlib.Omega.{arith}
+use lib.ListN.{length}
+use borrow.Author.Needs.{needs}
+use Rattle.steps.specs.Names.{nameSlots}
+use Rattle.steps.specs.declared.result.Task.{Task}
+use Rattle.steps.proofs.AskLaws.{write-tau, write-out, write-bound}
+use Rattle.steps.proofs.result.write_prefix.Statement.{statement}
+use Rattle.steps.proofs.result.write_prefix.Tie as tie
+
+get-requires : tie.Need-get-requires
+get-requires c κs = search needs
+
+add-write-term : tie.Need-add-write-term
+add-write-term c = search needs
+
+write-term-requires : tie.Need-write-term-requires
+write-term-requires c κs = search needs
+
+same-length : tie.Need-same-length
+same-length c = search needs
+
+returns : tie.Need-returns
+returns c = let a = c .before .before .before .before .before .before .before .before .before .args in write-tau (a .question .now) (a .src .now) (a .at) (a .binders) (a .task) (a .out .now) (a .put) (c .before .before .write-term .result) _ (c .before .before .before .before .before .before .before .before .before .pre .3) (sym (c .before .before .before .before .before .get .ensures) ∙ c .before .before .before .before .if1 .taken) (c .before .before .write-term .ensures)
+
+add-write-term-2 : tie.Need-add-write-term-2
+add-write-term-2 c = search needs
+
+write-term-requires-2 : tie.Need-write-term-requires-2
+write-term-requires-2 c κs = search needs
+
+same-length-2 : tie.Need-same-length-2
+same-length-2 c = search needs
+
+returns-2 : tie.Need-returns-2
+returns-2 c = let a = c .before .before .before .before .before .before .before .before .before .before .args in write-out (a .question .now) (a .src .now) (a .at) (a .binders) (a .task) (a .out .now) (a .put) (c .before .before .write-term2 .result) _ (c .before .before .before .before .before .before .before .before .before .before .pre .3) (sym (c .before .before .before .before .before .before .get .ensures) ∙ c .before .before .before .before .if2 .taken) (c .before .before .write-term2 .ensures)
+
+extrude-requires : tie.Need-extrude-requires
+extrude-requires c κs = search needs
+
+add-write-term-3 : tie.Need-add-write-term-3
+add-write-term-3 c = search needs
+
+add-write-term-4 : tie.Need-add-write-term-4
+add-write-term-4 c = search needs
+
+write-term-requires-3 : tie.Need-write-term-requires-3
+write-term-requires-3 c κs = let l : c .before .extrude .result .levels ≡ c .before .before .before .before .before .before .before .before .args .task .levels = ap (λ (t : Task). t .levels) (c .before .extrude .ensures .0) in omega (arith, l, c .before .before .before .before .before .before .before .before .pre)
+
+same-length-3 : tie.Need-same-length-3
+same-length-3 c = search needs
+
+returns-3 : tie.Need-returns-3
+returns-3 c = let a = c .before .before .before .before .before .before .before .before .before .before .before .args in
+    let l : length (a .task .names) ≡ nameSlots = search needs in
+    write-bound (a .question .now) (a .src .now) (a .at) (a .binders) (a .task) (a .out .now) (a .put) (c .before .before .write-term3 .result) _ (c .before .before .before .before .before .before .before .before .before .before .before .pre .3) (omega (arith, l, c .before .before .before .before .before .before .before .before .before .before .before .pre)) (c .before .before .before .before .extrude .result) (c .before .before .before .before .extrude .ensures .0) (c .before .before .write-term3 .ensures)
+    (c .before .before .before .before .before .before .before .before .before .before .before .pre .1) (λ e. c .before .before .before .before .before .before .if1 .left (c .before .before .before .before .before .before .before .get .ensures ∙ e)) (λ e. c .before .before .before .before .before .if2 .left (c .before .before .before .before .before .before .before .get .ensures ∙ e))
+
+pub write-prefix-spec : {M : Type 1} → statement M
+write-prefix-spec =
+    tie.close
+    (tie.spec
+    get-requires
+    add-write-term
+    write-term-requires
+    same-length
+    returns
+    add-write-term-2
+    write-term-requires-2
+    same-length-2
+    returns-2
+    extrude-requires
+    add-write-term-3
+    add-write-term-4
+    write-term-requires-3
+    same-length-3
+    returns-3)
