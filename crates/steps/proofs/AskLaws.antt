@@ -28,10 +28,7 @@ use Rattle.steps.specs.declared.result.Task.{Task}
 use Rattle.steps.proofs.CandidateForms.{tag, tag-at, only-prefix}
 use Rattle.steps.proofs.NameSlots.{names-enter, names-beneath, new-enter, new-beneath, slot-bound, slot-inner, below-level}
 use Rattle.steps.proofs.PassLaws.{prefixStep, prefix-candidates}
-use Rattle.steps.proofs.Premises.{Step, Restricts}
-
-pub never : {T : Type 0} (M : Cond) (α : Act) (A : Term) → blocked ≡ step M α A → T
-never M α A e = let z : _≡_ {A = ℕ} 0 1 = cc in absurd (omega arith)
+use Rattle.steps.proofs.Premises.{never, Step, Restricts}
 
 -- A table has any renaming that does the same.
 pub names-same : (free D D′ : ℕ) (names : List ℕ) (τ τ′ : ℕ → ℕ) → ((n : ℕ) → τ n ≡ τ′ n) → HasNames free D D′ names τ → HasNames free D D′ names τ′

@@ -27,11 +27,11 @@ use Rattle.steps.specs.declared.pass.Numbers.{Numbers}
 use Rattle.steps.specs.declared.pass.Passed.{Passed}
 use Rattle.steps.specs.declared.result.Plan.{Plan}
 use Rattle.steps.specs.declared.result.Task.{Task}
-use Rattle.steps.proofs.AskLaws.{never, chosen-is, some-candidate, found-of}
+use Rattle.steps.proofs.AskLaws.{chosen-is, some-candidate, found-of}
 use Rattle.steps.proofs.CandidateForms.{meetings}
 use Rattle.steps.proofs.NameSlots.{names-beneath, names-renew, new-renew, slot-bound}
 use Rattle.steps.proofs.Numbering.{length-communications, nth-communication}
-use Rattle.steps.proofs.Premises.{Step, Meets, left-of, right-of, meeting-of}
+use Rattle.steps.proofs.Premises.{never, Meets, Meeting, left-of, right-of, meeting-of}
 use Rattle.steps.proofs.TwoSides.{Sides, sides-par}
 
 -- What stands beside a step is written as it is.
@@ -219,16 +219,9 @@ lift-is ρ = fun-ext go
 
 -- A communication.
 record Met (free D : ℕ) (σ : ℕ → ℕ) (c d : Candidate) (α : Act) (A : Term) (x z : Passed) : Type 0 where
-  leftAction : Act
-  leftResult : Term
-  left : Step c leftAction leftResult
-  rightAction : Act
-  rightResult : Term
-  right : Step d rightAction rightResult
-  silent : α ≡ tauA
-  meets : Meets leftAction leftResult rightAction rightResult A
-  leftDoes : Does free D σ leftAction (x .kind) (x .object)
-  rightDoes : Does free D σ rightAction (z .kind) (z .object)
+  meeting : Meeting c d α A
+  leftDoes : Does free D σ (meeting .leftAction) (x .kind) (x .object)
+  rightDoes : Does free D σ (meeting .rightAction) (z .kind) (z .object)
 
 module _ (question s : List ℕ) (at D : ℕ) (task : Task) (walks : task .still ≡ false) (p : Passed)
     (X : PassIs question s (at + 1) D (task .calls) (task .silently) (task .number) p)
@@ -302,14 +295,7 @@ module _ (question s : List ℕ) (at D : ℕ) (task : Task) (walks : task .still
             let ws = W .is q free σ P (encode D Q ++ rest) ok few sp st in
             let zs = Z .is q free σ Q rest ok few sq st₂ in
             record {
-              leftAction = g .leftAction;
-              leftResult = g .leftResult;
-              left = g .left;
-              rightAction = g .rightAction;
-              rightResult = g .rightResult;
-              right = g .right;
-              silent = g .silent;
-              meets = g .meets;
+              meeting = g;
               leftDoes = ws .does (g .left .condition) (g .leftAction) (g .leftResult) (found-of free D σ ss _ _ _ x ws l) (g .left .is);
               rightDoes = zs .does (g .right .condition) (g .rightAction) (g .rightResult) (found-of free D σ ts _ _ _ z zs m) (g .right .is);
             }
@@ -320,36 +306,36 @@ module _ (question s : List ℕ) (at D : ℕ) (task : Task) (walks : task .still
 
       silent-bytes : bs ≡ encode (task .levels) (ren (K .ρ) (K .result))
       unfolding receiving
-      silent-bytes = K .bytes ∙ ap (λ (α : Act). encode (task .levels) (ren (receiving (K .x) (K .ρ) α) (K .result))) (m .silent)
+      silent-bytes = K .bytes ∙ ap (λ (α : Act). encode (task .levels) (ren (receiving (K .x) (K .ρ) α) (K .result))) (m .meeting .silent)
 
       -- What a side is asked for, under any renaming and new name.
       left-asks : (t : Task) → t .still ≡ false → t .silently ≡ false → t .calls ≡ task .calls → t .number ≡ u .left → (ρ : ℕ → ℕ) (y : ℕ)
           → HasNames free D (t .levels) (t .names) (λ n. ρ (σ n)) → HasNew (t .levels) (t .names) y
-          → Asks t body free D σ P (encode (t .levels) (ren (receiving y ρ (m .leftAction)) (m .leftResult)))
+          → Asks t body free D σ P (encode (t .levels) (ren (receiving y ρ (m .meeting .leftAction)) (m .meeting .leftResult)))
       left-asks t still sil calls number ρ y has new = record {
         ρ = ρ;
         x = y;
         names = has;
         new = new;
-        condition = m .left .condition;
-        action = m .leftAction;
-        result = m .leftResult;
-        candidate = chosen-is t body (ren σ P) still ∙ rw (sil, calls, number) (m .left .is);
+        condition = m .meeting .left .condition;
+        action = m .meeting .leftAction;
+        result = m .meeting .leftResult;
+        candidate = chosen-is t body (ren σ P) still ∙ rw (sil, calls, number) (m .meeting .left .is);
         bytes = refl;
       }
 
       right-asks : (t : Task) → t .still ≡ false → t .silently ≡ false → t .calls ≡ task .calls → t .number ≡ u .right → (ρ : ℕ → ℕ) (y : ℕ)
           → HasNames free D (t .levels) (t .names) (λ n. ρ (σ n)) → HasNew (t .levels) (t .names) y
-          → Asks t body free D σ Q (encode (t .levels) (ren (receiving y ρ (m .rightAction)) (m .rightResult)))
+          → Asks t body free D σ Q (encode (t .levels) (ren (receiving y ρ (m .meeting .rightAction)) (m .meeting .rightResult)))
       right-asks t still sil calls number ρ y has new = record {
         ρ = ρ;
         x = y;
         names = has;
         new = new;
-        condition = m .right .condition;
-        action = m .rightAction;
-        result = m .rightResult;
-        candidate = chosen-is t body (ren σ Q) still ∙ rw (sil, calls, number) (m .right .is);
+        condition = m .meeting .right .condition;
+        action = m .meeting .rightAction;
+        result = m .meeting .rightResult;
+        candidate = chosen-is t body (ren σ Q) still ∙ rw (sil, calls, number) (m .meeting .right .is);
         bytes = refl;
       }
 
@@ -365,52 +351,52 @@ module _ (question s : List ℕ) (at D : ℕ) (task : Task) (walks : task .still
           body free D σ at P Q bs
       unfolding encode receiving
       com-right e =
-          let S = sends free D σ (m .leftAction) (x .kind) (x .object) (m .leftDoes) e in
-          let T = right-receives (S .channel) (S .object) (m .leftResult) (m .rightAction) (m .rightResult) (K .result)
-          (subst (λ (β : Act). Meets β (m .leftResult) (m .rightAction) (m .rightResult) (K .result)) (S .is) (m .meets)) in
+          let S = sends free D σ (m .meeting .leftAction) (x .kind) (x .object) (m .leftDoes) e in
+          let T = right-receives (S .channel) (S .object) (m .meeting .leftResult) (m .meeting .rightAction) (m .meeting .rightResult) (K .result)
+          (subst (λ (β : Act). Meets β (m .meeting .leftResult) (m .meeting .rightAction) (m .meeting .rightResult) (K .result)) (S .is) (m .meeting .meets)) in
           let L = task .levels in
           let y = K .ρ (σ (S .sent .name)) in
           let w : K .ρ (S .object) ≡ y = ap (K .ρ) (S .sent .is) in
           record {
             middle = xs .end;
-            first = encode L (ren (receiving (K .x) (K .ρ) (m .leftAction)) (m .leftResult));
-            second = encode L (ren (receiving y (K .ρ) (m .rightAction)) (m .rightResult));
+            first = encode L (ren (receiving (K .x) (K .ρ) (m .meeting .leftAction)) (m .meeting .leftResult));
+            second = encode L (ren (receiving y (K .ρ) (m .meeting .rightAction)) (m .meeting .rightResult));
             left = left-asks (visibly (u .left) task) refl refl refl refl (K .ρ) (K .x) (K .names) (K .new);
             right = right-asks (sending (x .object) (visibly (u .right) task)) refl refl refl refl (K .ρ) y
                 (names-renew free D L (task .names) (λ n. K .ρ (σ n)) (K .names) (getD (task .names) (x .object) 0) few)
                 (sent-new (x .object) (S .sent .name) (S .sent .within) (S .sent .slot));
             bytes =
                 silent-bytes ∙ ap (λ (A : Term). encode L (ren (K .ρ) A)) (T .whole)
-                ∙ ap (λ (B : Term). 7 ∷ (encode L (ren (K .ρ) (m .leftResult)) ++ encode L B)) (received (K .ρ) (S .object) (m .rightResult))
-                ∙ ap (λ (n : ℕ). 7 ∷ (encode L (ren (K .ρ) (m .leftResult)) ++ encode L (ren (n • K .ρ) (m .rightResult)))) w
-                ∙ ap (λ (β : Act). 7 ∷ (encode L (ren (receiving (K .x) (K .ρ) β) (m .leftResult)) ++ encode L (ren (y • K .ρ) (m .rightResult)))) (sym (S .is))
-                ∙ ap (λ (γ : Act). 7 ∷ (encode L (ren (receiving (K .x) (K .ρ) (m .leftAction)) (m .leftResult)) ++ encode L (ren (receiving y (K .ρ) γ) (m .rightResult)))) (sym (T .is));
+                ∙ ap (λ (B : Term). 7 ∷ (encode L (ren (K .ρ) (m .meeting .leftResult)) ++ encode L B)) (received (K .ρ) (S .object) (m .meeting .rightResult))
+                ∙ ap (λ (n : ℕ). 7 ∷ (encode L (ren (K .ρ) (m .meeting .leftResult)) ++ encode L (ren (n • K .ρ) (m .meeting .rightResult)))) w
+                ∙ ap (λ (β : Act). 7 ∷ (encode L (ren (receiving (K .x) (K .ρ) β) (m .meeting .leftResult)) ++ encode L (ren (y • K .ρ) (m .meeting .rightResult)))) (sym (S .is))
+                ∙ ap (λ (γ : Act). 7 ∷ (encode L (ren (receiving (K .x) (K .ρ) (m .meeting .leftAction)) (m .meeting .leftResult)) ++ encode L (ren (receiving y (K .ρ) γ) (m .meeting .rightResult)))) (sym (T .is));
           }
 
       com-left : z .kind ≡ 2 → Parts (record { close = false; middle = p .end; left = sending (z .object) (visibly (u .left) task); right = visibly (u .right) task })
           body free D σ at P Q bs
       unfolding encode receiving
       com-left e =
-          let S = sends free D σ (m .rightAction) (z .kind) (z .object) (m .rightDoes) e in
-          let T = left-receives (S .channel) (S .object) (m .leftAction) (m .leftResult) (m .rightResult) (K .result)
-          (subst (λ (γ : Act). Meets (m .leftAction) (m .leftResult) γ (m .rightResult) (K .result)) (S .is) (m .meets)) in
+          let S = sends free D σ (m .meeting .rightAction) (z .kind) (z .object) (m .rightDoes) e in
+          let T = left-receives (S .channel) (S .object) (m .meeting .leftAction) (m .meeting .leftResult) (m .meeting .rightResult) (K .result)
+          (subst (λ (γ : Act). Meets (m .meeting .leftAction) (m .meeting .leftResult) γ (m .meeting .rightResult) (K .result)) (S .is) (m .meeting .meets)) in
           let L = task .levels in
           let y = K .ρ (σ (S .sent .name)) in
           let w : K .ρ (S .object) ≡ y = ap (K .ρ) (S .sent .is) in
           record {
             middle = xs .end;
-            first = encode L (ren (receiving y (K .ρ) (m .leftAction)) (m .leftResult));
-            second = encode L (ren (receiving (K .x) (K .ρ) (m .rightAction)) (m .rightResult));
+            first = encode L (ren (receiving y (K .ρ) (m .meeting .leftAction)) (m .meeting .leftResult));
+            second = encode L (ren (receiving (K .x) (K .ρ) (m .meeting .rightAction)) (m .meeting .rightResult));
             left = left-asks (sending (z .object) (visibly (u .left) task)) refl refl refl refl (K .ρ) y
                 (names-renew free D L (task .names) (λ n. K .ρ (σ n)) (K .names) (getD (task .names) (z .object) 0) few)
                 (sent-new (z .object) (S .sent .name) (S .sent .within) (S .sent .slot));
             right = right-asks (visibly (u .right) task) refl refl refl refl (K .ρ) (K .x) (K .names) (K .new);
             bytes =
                 silent-bytes ∙ ap (λ (A : Term). encode L (ren (K .ρ) A)) (T .whole)
-                ∙ ap (λ (B : Term). 7 ∷ (encode L B ++ encode L (ren (K .ρ) (m .rightResult)))) (received (K .ρ) (S .object) (m .leftResult))
-                ∙ ap (λ (n : ℕ). 7 ∷ (encode L (ren (n • K .ρ) (m .leftResult)) ++ encode L (ren (K .ρ) (m .rightResult)))) w
-                ∙ ap (λ (γ : Act). 7 ∷ (encode L (ren (y • K .ρ) (m .leftResult)) ++ encode L (ren (receiving (K .x) (K .ρ) γ) (m .rightResult)))) (sym (S .is))
-                ∙ ap (λ (β : Act). 7 ∷ (encode L (ren (receiving y (K .ρ) β) (m .leftResult)) ++ encode L (ren (receiving (K .x) (K .ρ) (m .rightAction)) (m .rightResult)))) (sym (T .is));
+                ∙ ap (λ (B : Term). 7 ∷ (encode L B ++ encode L (ren (K .ρ) (m .meeting .rightResult)))) (received (K .ρ) (S .object) (m .meeting .leftResult))
+                ∙ ap (λ (n : ℕ). 7 ∷ (encode L (ren (n • K .ρ) (m .meeting .leftResult)) ++ encode L (ren (K .ρ) (m .meeting .rightResult)))) w
+                ∙ ap (λ (γ : Act). 7 ∷ (encode L (ren (y • K .ρ) (m .meeting .leftResult)) ++ encode L (ren (receiving (K .x) (K .ρ) γ) (m .meeting .rightResult)))) (sym (S .is))
+                ∙ ap (λ (β : Act). 7 ∷ (encode L (ren (receiving y (K .ρ) β) (m .meeting .leftResult)) ++ encode L (ren (receiving (K .x) (K .ρ) (m .meeting .rightAction)) (m .meeting .rightResult)))) (sym (T .is));
           }
 
       closed-names : HasNames free D (task .levels + 1) (set (task .names) nameCount (tableNames + task .levels)) (λ n. suc (K .ρ (σ n)))
@@ -431,23 +417,23 @@ module _ (question s : List ℕ) (at D : ℕ) (task : Task) (walks : task .still
           → Parts (record { close = true; middle = p .end; left = closing (visibly (u .left) task); right = closing (visibly (u .right) task) }) body free D σ at P Q bs
       unfolding encode
       closes nx nz =
-          let (whole, bl, br) = both-bound free D σ (m .leftAction) (m .leftResult) (m .rightAction) (m .rightResult) (K .result)
-          (x .kind) (x .object) (z .kind) (z .object) (m .meets) (m .leftDoes) (m .rightDoes) nx nz in
+          let (whole, bl, br) = both-bound free D σ (m .meeting .leftAction) (m .meeting .leftResult) (m .meeting .rightAction) (m .meeting .rightResult) (K .result)
+          (x .kind) (x .object) (z .kind) (z .object) (m .meeting .meets) (m .leftDoes) (m .rightDoes) nx nz in
           let L = task .levels in
           let e : 1 + L ≡ L + 1 = omega arith in
           let up : ℕ → ℕ = λ n. suc (K .ρ n) in
           record {
             middle = xs .end;
-            first = encode (L + 1) (ren (receiving 0 up (m .leftAction)) (m .leftResult));
-            second = encode (L + 1) (ren (receiving 0 up (m .rightAction)) (m .rightResult));
+            first = encode (L + 1) (ren (receiving 0 up (m .meeting .leftAction)) (m .meeting .leftResult));
+            second = encode (L + 1) (ren (receiving 0 up (m .meeting .rightAction)) (m .meeting .rightResult));
             left = left-asks (closing (visibly (u .left) task)) refl refl refl refl up 0 closed-names closed-new;
             right = right-asks (closing (visibly (u .right) task)) refl refl refl refl up 0 closed-names closed-new;
             bytes =
                 silent-bytes ∙ ap (λ (A : Term). encode L (ren (K .ρ) A)) whole
-                ∙ ap (λ (f : ℕ → ℕ). 8 ∷ 7 ∷ (encode (1 + L) (ren f (m .leftResult)) ++ encode (1 + L) (ren f (m .rightResult)))) (sym (lift-is (K .ρ)))
-                ∙ ap (λ (f : ℕ → ℕ). 8 ∷ 7 ∷ (encode (1 + L) (ren f (m .leftResult)) ++ encode (1 + L) (ren (0 • up) (m .rightResult)))) (sym (bl 0 up))
-                ∙ ap (λ (f : ℕ → ℕ). 8 ∷ 7 ∷ (encode (1 + L) (ren (receiving 0 up (m .leftAction)) (m .leftResult)) ++ encode (1 + L) (ren f (m .rightResult)))) (sym (br 0 up))
-                ∙ ap (λ (n : ℕ). 8 ∷ 7 ∷ (encode n (ren (receiving 0 up (m .leftAction)) (m .leftResult)) ++ encode n (ren (receiving 0 up (m .rightAction)) (m .rightResult)))) e;
+                ∙ ap (λ (f : ℕ → ℕ). 8 ∷ 7 ∷ (encode (1 + L) (ren f (m .meeting .leftResult)) ++ encode (1 + L) (ren f (m .meeting .rightResult)))) (sym (lift-is (K .ρ)))
+                ∙ ap (λ (f : ℕ → ℕ). 8 ∷ 7 ∷ (encode (1 + L) (ren f (m .meeting .leftResult)) ++ encode (1 + L) (ren (0 • up) (m .meeting .rightResult)))) (sym (bl 0 up))
+                ∙ ap (λ (f : ℕ → ℕ). 8 ∷ 7 ∷ (encode (1 + L) (ren (receiving 0 up (m .meeting .leftAction)) (m .meeting .leftResult)) ++ encode (1 + L) (ren f (m .meeting .rightResult)))) (sym (br 0 up))
+                ∙ ap (λ (n : ℕ). 8 ∷ 7 ∷ (encode n (ren (receiving 0 up (m .meeting .leftAction)) (m .meeting .leftResult)) ++ encode n (ren (receiving 0 up (m .meeting .rightAction)) (m .meeting .rightResult)))) e;
           }
 
   pub plan-met : PlanIs question s at D task (meetingPlan task (p .end) u x z)

@@ -9,7 +9,7 @@ use Rattle.calculus.specs.Cond.{Cond, mapP}
 use Rattle.calculus.specs.Term.{Term, par, res, ren, inst}
 use Rattle.steps.specs.Raw.{Candidate, step, blocked, matching, leftSteps, rightSteps, meet, communication, sparesRestricted, outside, restrictedAction, restricted}
 
-never : {T : Type 0} (M : Cond) (α : Act) (A : Term) → blocked ≡ step M α A → T
+pub never : {T : Type 0} (M : Cond) (α : Act) (A : Term) → blocked ≡ step M α A → T
 never M α A e = let z : _≡_ {A = ℕ} 0 1 = cc in absurd (omega arith)
 
 -- A candidate with this action and result, whatever its condition.

@@ -30,11 +30,11 @@ use Rattle.steps.specs.declared.pass.Passed.{Passed}
 use Rattle.steps.specs.declared.result.Plan.{Plan}
 use Rattle.steps.specs.declared.result.Task.{Task}
 use Rattle.steps.proofs.CallLaws.{params, names-call, body-scope, at-call}
-use Rattle.steps.proofs.AskLaws.{never, chosen-is, some-candidate, found-of, ask-open, res-part, ask-res}
+use Rattle.steps.proofs.AskLaws.{chosen-is, some-candidate, found-of, ask-open, res-part, ask-res}
 use Rattle.steps.proofs.CandidateForms.{candidates-mat, candidates-res, candidates-call, candidates-no-call, tag, tag-at, only-mat, only-sum, only-par, only-res}
 use Rattle.steps.proofs.NameSlots.{names-represent}
 use Rattle.steps.proofs.Numbering.{nth-matching, nth-restricted}
-use Rattle.steps.proofs.Premises.{Under, matching-of, under-of}
+use Rattle.steps.proofs.Premises.{never, Under, matching-of, under-of}
 use Rattle.steps.proofs.TwoSides.{sides-sum, at-left, at-right}
 
 -- What fits ends where it should.
