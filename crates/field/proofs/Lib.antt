@@ -5,6 +5,7 @@ pub mod FieldIsSmallest
 pub mod Growth
 pub mod KeptPairs
 pub mod KeyLaws
+pub mod LeadingLaws
 pub mod Link
 pub mod Members
 pub mod Loops

@@ -1,11 +1,23 @@
 // The results of a step and of its answer, written as the parts of a situation: document 01, "The field and the verdict".
+ghost use mathlib.Core.Path.{_≡_};
 ghost use Prim.Native.Nat.{_+_, _≤_};
 ghost use lib.ListN.{length};
+ghost use Rattle.field.specs.Leading.{PlacesResults, FreeOfParts, CompletesKey, SuccessorIs};
 ghost use Rattle.field.specs.Resulting.{CopiesResult, RewritesResult};
+ghost use Rattle.field.specs.Slot.{keyBytes};
 ghost use Rattle.steps.specs.Limits.{stepBytes};
 use crate::entries::OBJECT;
+use crate::find::KEY_BYTES;
+use crate::names::free_in_either;
+use crate::pairs::PAIR_COUNT;
+use crate::slots::BITS;
 use crate::slots::PART_BYTES;
+use crate::slots::pack;
+use crate::slots::part_at;
+use crate::update::kept;
+use crate::update::updated;
 use terms::bytes::copy;
+use terms::limits::NAME_COUNT;
 use terms::rename::rename;
 
 // Writes the step's result.
@@ -38,4 +50,65 @@ fn rewrite_result(
         slot,
         put + 1,
     );
+}
+
+// Writes both results, each on its side.
+fn place_results(
+    arities: &[u8],
+    second: bool,
+    area: &[u8],
+    at: usize,
+    others: &[u8],
+    place: usize,
+    key: &mut [u8],
+)
+    requires { ⌜ (at + stepBytes ≤ length (now area)) × (place + stepBytes ≤ length (now others)) × (length (now key) ≡ keyBytes) ⌝ }
+    ensures { λ _. ⌜ PlacesResults (now (arities .entry)) second (now (area .entry)) at (now (others .entry)) place (now (key .entry)) (now (key .exit)) ⌝ }
+{
+    if second {
+        rewrite_result(area, at, others, place, arities, key, 0);
+        copy_result(area, at, key, PART_BYTES);
+        return;
+    }
+    copy_result(area, at, key, 0);
+    rewrite_result(area, at, others, place, arities, key, PART_BYTES);
+}
+
+// The names free in the two parts of a key.
+fn free_of_parts(key: &[u8], arities: &[u8]) -> [u8; NAME_COUNT]
+    requires { ⌜ length (now key) ≡ keyBytes ⌝ }
+    ensures { λ r. ⌜ FreeOfParts (now (key .entry)) (now (arities .entry)) r ⌝ }
+{
+    free_in_either(part_at(key, 0), part_at(key, PART_BYTES), arities)
+}
+
+// Puts the pairs behind the two parts of a key, those of which each name is free in at least one part.
+pub fn complete(key: &mut [u8], arities: &[u8], apart: [u8; PAIR_COUNT])
+    requires { ⌜ length (now key) ≡ keyBytes ⌝ }
+    ensures { λ _. ⌜ CompletesKey (now (arities .entry)) apart (now (key .entry)) (now (key .exit)) ⌝ }
+{
+    let free = free_of_parts(key, arities);
+    let flags = kept(&apart, &free);
+    pack(&flags, key, BITS);
+}
+
+// The key of the situation that the answer at `place` to the step at `at` leads to; `second`: the second side makes the step.
+pub fn successor(
+    arities: &[u8],
+    free: &[u8],
+    apart: [u8; PAIR_COUNT],
+    second: bool,
+    area: &[u8],
+    at: usize,
+    others: &[u8],
+    place: usize,
+) -> [u8; KEY_BYTES]
+    requires { ⌜ (at + stepBytes ≤ length (now area)) × (place + stepBytes ≤ length (now others)) ⌝ }
+    ensures { λ r. ⌜ SuccessorIs (now (arities .entry)) (now (free .entry)) apart second (now (area .entry)) at (now (others .entry)) place r ⌝ }
+{
+    let mut key = [0u8; KEY_BYTES];
+    place_results(arities, second, area, at, others, place, &mut key);
+    let new = updated(apart, free, area, at);
+    complete(&mut key, arities, new);
+    key
 }
