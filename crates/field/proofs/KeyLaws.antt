@@ -158,6 +158,12 @@ packed-at fs k h =
     inside (packed fs) k 0 (octet fs 0) (omega (arith, length-packed fs)) ∙ List·getD-map (octet fs) (namesFrom 0 octets) k 0
     ∙ ap (octet fs) (names-at 0 octets k 0 h ∙ omega arith)
 
+-- a flag, read back from the octets
+pub packed-bit : (D : Pairs) (k : ℕ) → k < pairCount → bitAt (getD (packed (flagsOf D)) (k / 8) 0) (k % 8) ≡ getD (flagsOf D) k 0
+packed-bit D k l =
+    let m : 8 * (k / 8) + k % 8 ≡ k = omega arith in
+    ap (λ c. bitAt c (k % 8)) (packed-at (flagsOf D) (k / 8) (omega arith)) ∙ bit-octet D (k / 8) (k % 8) (omega arith) ∙ ap (λ j. getD (flagsOf D) j 0) m
+
 abbrev pub Packing : List ℕ → List ℕ → ℕ → List ℕ → ℕ → Type 0
 Packing flags out₀ put out k = (D : Pairs) → flags ≡ flagsOf D → out ≡ sets out₀ put (take k (packed (flagsOf D)))
 
@@ -184,11 +190,7 @@ unpacked area at flags flags′ i n h F D rest e =
   where
     bit : (k : ℕ) → k < pairCount → bitFrom area at k ≡ getD (flagsOf D) k 0
     bit k l =
-        let q : k / 8 < octets = omega arith in
-        let b : getD area (at + k / 8) 0 ≡ octet (flagsOf D) (k / 8) =
-        getD-front area at (packed (flagsOf D)) rest (k / 8) e (omega (arith, length-packed (flagsOf D))) ∙ packed-at (flagsOf D) (k / 8) q in
-        let m : 8 * (k / 8) + k % 8 ≡ k = omega arith in
-        ap (λ c. bitAt c (k % 8)) b ∙ bit-octet D (k / 8) (k % 8) (omega arith) ∙ ap (λ j. getD (flagsOf D) j 0) m
+        ap (λ c. bitAt c (k % 8)) (getD-front area at (packed (flagsOf D)) rest (k / 8) e (omega (arith, length-packed (flagsOf D)))) ∙ packed-bit D k l
 
 -- The three pieces of a key.
 module _ (area : List ℕ) (at : ℕ) (s : Situation) (h : SituationAt area at s) where

@@ -24,6 +24,7 @@ use Rattle.field.specs.Slot.{partBytes, flagsOf, octets, packed, keyOf, 
 use Rattle.field.specs.Successors.{updatedBy}
 use Rattle.field.specs.Update.{KeptIs, UpdatedIs}
 use Rattle.field.proofs.KeyLaws.{length-part, length-packed}
+use Rattle.field.proofs.KeysDiffer.{Fits}
 
 -- The parts that stand at the front of a key.
 pub free-of-parts : (key arities first second free : List ℕ) → PartIs key 0 first → PartIs key 113 second → FreeInEitherIs first second arities free
@@ -56,6 +57,14 @@ module _ (arities : List ℕ) (second : Bool) (area : List ℕ) (at : ℕ) (othe
   other-fits : (s t : ListedStep) → EntryAt others place t → length (encode 0 (ren (classIn (s .classes)) (t .result))) ≤ longestTerm
   unfolding resultBytes
   other-fits s t f = omega (arith, f .fits, length-ren 0 0 (classIn (s .classes)) (t .result))
+
+  pub leading-fits : (F : List ℕ) (D : Pairs) (s t : ListedStep) → EntryAt area at s → EntryAt others place t → Fits (leading second F D s t)
+  unfolding leading placed situation
+  leading-fits F D s t e f = go second
+    where
+      go : (b : Bool) → Fits (placed b (s .result) (ren (classIn (s .classes)) (t .result)) (updatedBy F D s))
+      go false = record { first = own-fits s e; second = other-fits s t f }
+      go true = record { first = other-fits s t f; second = own-fits s e }
 
   module _ (key : List ℕ) where
     pub places-first : second ≡ false → (key₁ key₂ : List ℕ) → CopiesResult area at key 0 key₁ → RewritesResult area at others place arities key₁ 113 key₂

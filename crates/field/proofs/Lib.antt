@@ -5,10 +5,11 @@ pub mod FieldIsSmallest
 pub mod Growth
 pub mod KeptPairs
 pub mod KeyLaws
+pub mod KeysDiffer
 pub mod LeadingLaws
 pub mod Link
-pub mod Members
 pub mod Loops
+pub mod Members
 pub mod MoveLaws
 pub mod NameFlagLaws
 pub mod NameLimit

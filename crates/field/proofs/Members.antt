@@ -1,7 +1,10 @@
--- Members of joined and of mapped lists, and when a joined list is distinct. Assumes nothing.
+-- Members of joined and of mapped lists, members by their numbers, and when a joined list is distinct. Assumes nothing.
 use mathlib.Core.List.{List, [], _∷_, _++_, map}
 use mathlib.Core.Logic.{_⊎_, inl, inr}
 use mathlib.Core.Path.{_≡_, refl}
+use native.Mathlib.Omega.{arith}
+use Prim.Native.Nat.{ℕ, zero, suc, _<_}
+use lib.ListN.{length, getD}
 use Rattle.steps.specs.Lists.{_∈_, Distinct}
 
 module _ {A : Type 0} where
@@ -13,6 +16,16 @@ module _ {A : Type 0} where
       go : (x ∈ xs) ⊎ (x ∈ ys) → (x ∈ (y ∷ xs)) ⊎ (x ∈ ys)
       go (inl n) = inl (inr n)
       go (inr n) = inr n
+
+  -- the member of number i, and the number of a member
+  pub getD-∈ : (xs : List A) (i : ℕ) (d : A) → i < length xs → getD xs i d ∈ xs
+  getD-∈ [] i d h = absurd (omega arith)
+  getD-∈ (x ∷ xs) zero d h = inl refl
+  getD-∈ (x ∷ xs) (suc i) d h = inr (getD-∈ xs i d (omega arith))
+
+  pub ∈-number : (x : A) (xs : List A) → x ∈ xs → (i : ℕ) × (i < length xs) × ((d : A) → x ≡ getD xs i d)
+  ∈-number x (y ∷ xs) (inl e) = (0, omega arith, λ d. e)
+  ∈-number x (y ∷ xs) (inr m) = let (i, l, e) = ∈-number x xs m in (suc i, omega arith, e)
 
   pub distinct-++ : (xs ys : List A) → Distinct xs → Distinct ys → ((x : A) → x ∈ xs → ¬ (x ∈ ys)) → Distinct (xs ++ ys)
   distinct-++ [] ys d e h = e
