@@ -2,8 +2,7 @@
 -- Assumes nothing.
 use mathlib.Core.Path.{_≡_, refl, sym, ap, subst, _∙_}
 use mathlib.Core.Bool.{Bool, true, false}
-use mathlib.Core.List.{List, _∷_, _++_}
-use mathlib.Core.Logic.{_↔_}
+use mathlib.Core.List.{List, _++_}
 use Prim.Native.Nat.{ℕ, _+_, _-_, _*_, _/_, _%_, _<_, _≤_}
 use native.Mathlib.Decide.{decLt}
 use native.Mathlib.Omega.{arith}
@@ -23,7 +22,7 @@ use Rattle.steps.proofs.Membership.{all-∈}
 use Rattle.field.specs.Exploration.{found}
 use Rattle.field.specs.Holding.{SlotsHold}
 use Rattle.field.specs.Key.{SituationAt, bitAt, keyAt, FoundIs}
-use Rattle.field.specs.PairFlags.{pairCount, pairAt}
+use Rattle.field.specs.PairFlags.{pairCount}
 use Rattle.field.specs.Situation.{Situation, situation}
 use Rattle.field.specs.Slot.{partBytes, flag, flagsOf, packed, keyOf, keyBytes, slotBytes}
 use Rattle.field.specs.declared.find.Found.the-variants.{At, Nothing}

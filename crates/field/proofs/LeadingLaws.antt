@@ -2,9 +2,9 @@
 use mathlib.Core.Path.{_≡_, refl, sym, ap, _∙_}
 use mathlib.Core.Bool.{Bool, true, false}
 use mathlib.Core.List.{List, [], _++_, append-assoc, append-nil}
-use Prim.Native.Nat.{ℕ, _+_, _<_, _≤_}
+use Prim.Native.Nat.{ℕ, _≤_}
 use native.Mathlib.Omega.{arith}
-use lib.ListN.{length, drop, replicate, length-append, length-drop, length-replicate}
+use lib.ListN.{length, drop, length-append, length-drop}
 use lib.Seq.{sets, drop-at}
 use Rattle.calculus.specs.Cond.{Pairs}
 use Rattle.calculus.specs.Term.{Term, ren}
@@ -17,10 +17,10 @@ use Rattle.steps.specs.Listed.{ListedStep, classIn, resultBytes}
 use Rattle.field.specs.Entry.{EntryAt}
 use Rattle.field.specs.Key.{PartIs, Packs}
 use Rattle.field.specs.Leading.{placed, leading, PartsStand, PlacesResults, FreeOfParts, CompletesKey, SuccessorIs}
-use Rattle.field.specs.NameFlags.{HasNames, FreeInEitherIs}
+use Rattle.field.specs.NameFlags.{FreeInEitherIs}
 use Rattle.field.specs.Resulting.{CopiesResult, RewritesResult}
-use Rattle.field.specs.Situation.{Situation, freeFrom, situation}
-use Rattle.field.specs.Slot.{partBytes, flagsOf, octets, packed, keyOf, keyBytes}
+use Rattle.field.specs.Situation.{freeFrom, situation}
+use Rattle.field.specs.Slot.{partBytes, flagsOf, packed, keyOf, keyBytes}
 use Rattle.field.specs.Successors.{updatedBy}
 use Rattle.field.specs.Update.{KeptIs, UpdatedIs}
 use Rattle.field.proofs.KeyLaws.{length-part, length-packed}

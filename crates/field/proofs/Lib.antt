@@ -22,6 +22,7 @@ pub mod Reached
 pub mod ResultLaws
 pub mod Run
 pub mod Selections
+pub mod StartLaws
 pub mod SuccessorsLinked
 pub mod Unseen
 pub mod UpdateLaws

@@ -10,6 +10,7 @@ pub mod Resulting
 pub mod Setting
 pub mod Situation
 pub mod Slot
+pub mod Starting
 pub mod Successors
 pub mod TakingUp
 pub mod Update

@@ -6,5 +6,6 @@ pub mod names;
 pub mod pairs;
 pub mod results;
 pub mod slots;
+pub mod start;
 pub mod taking;
 pub mod update;
