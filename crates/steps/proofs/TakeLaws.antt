@@ -1,119 +1,148 @@
--- A candidate by its number, from its label and the bytes of its raw result: what is put into the list. Assumes nothing.
+-- A candidate by its number, from its label and the bytes of its result: what is put into the list. Assumes nothing.
+use borrow.Author.Tests.{leb-true, leb-false}
 use mathlib.Core.Bool.{Bool, true, false}
-use mathlib.Core.List.{List, [], _∷_, append-nil}
-use mathlib.Core.Path.{_≡_, refl, sym, _∙_, subst}
+use mathlib.Core.List.{List, [], _++_, append-nil}
+use mathlib.Core.Path.{_≡_, refl, sym, _∙_, ap}
 use native.Mathlib.Omega.{arith}
-use Prim.Native.Nat.{ℕ, zero, suc, _+_, _*_, _<_, _≤_}
-use lib.ListN.{length, getD}
+use Prim.Native.Nat.{ℕ, _+_, _*_, _<_, _≤_}
+use lib.Dec.{leb}
+use lib.ListN.{length, getD, take, drop, replicate, length-replicate, List·getD-append}
+use lib.Seq.{sets, sets-eq, getD-take, length-take-le, getD-append-add}
 use Rattle.calculus.specs.Abstraction.{Act, tauA, inpA, outA, boutA}
 use Rattle.calculus.specs.Cond.{Cond, cls}
-use Rattle.calculus.specs.Definitions.{Defs}
-use Rattle.calculus.specs.Free.{Free}
-use Rattle.calculus.specs.Term.{Term, inst, _•_}
+use Rattle.calculus.specs.Term.{Term, ren}
+use Rattle.calculus.proofs.Conditions.{cls-le}
 use Rattle.calculus.proofs.Renaming.{ren-id}
-use Rattle.calculus.proofs.Working.{Trans, shift}
-use Rattle.calculus.proofs.WorkingNames.{resid-free}
-use Rattle.terms.specs.Encoding.{encode, InScope}
-use Rattle.terms.specs.Limits.{nameCount}
+use Rattle.terms.specs.Encoding.{encode}
+use Rattle.terms.specs.Limits.{nameCount, tableNames, longestTerm}
 use Rattle.terms.specs.Question.{Question}
-use Rattle.terms.proofs.ScopeLaws.{free-below}
-use Rattle.terms.proofs.Shapes.{length-ren}
-use Rattle.terms.proofs.WellFormed.{accepted-well-formed}
 use Rattle.steps.specs.Collecting.{PutIs}
-use Rattle.steps.specs.EntryBytes.{withoutNew, ResultInScope}
-use Rattle.steps.specs.LabelWalk.{NthIs}
+use Rattle.steps.specs.Entries.{InsertIs}
+use Rattle.steps.specs.EntryBytes.{StepEntryIs}
+use Rattle.steps.specs.LabelWalk.{PartLabelIs}
 use Rattle.steps.specs.Labels.{HeaderIs, Labels, LabelIs}
 use Rattle.steps.specs.Limits.{mostSteps, stepBytes}
 use Rattle.steps.specs.Listed.{listedAs, canonStep, resultBytes}
 use Rattle.steps.specs.Listing.{bodyOf}
-use Rattle.steps.specs.Lists.{All}
-use Rattle.steps.specs.PartLister.{Lists, candidatesOf, TakesFrom}
+use Rattle.steps.specs.Names.{nameSlots, HasNames, HasNew}
+use Rattle.steps.specs.PartLister.{Lists, candidatesOf, NamesAre, ResultIs, PutStepIs, TakesFrom, TakeIs}
 use Rattle.steps.specs.Passing.{candidates}
 use Rattle.steps.specs.Raw.{Candidate, step, blocked}
+use Rattle.steps.specs.Results.{receiving, chosen, WriteIs}
 use Rattle.steps.specs.declared.action.Label.{Label}
 use Rattle.steps.specs.declared.action.Status.the-variants.{Past, Blocked, Found}
 use Rattle.steps.specs.declared.list.Taken.the-variants.{Now}
 use Rattle.steps.specs.declared.list.Taken.the-variants as taken
-use Rattle.steps.proofs.ArgumentSlots.{slots-part}
-use Rattle.steps.proofs.Calls.{Opens}
-use Rattle.steps.proofs.CollectLaws.{put-blocked}
+use Rattle.steps.proofs.CollectLaws.{put-blocked, put-step, put-long, take-sets}
 use Rattle.steps.proofs.LabelRules.{labels-not-past}
-use Rattle.steps.proofs.QuestionDefinitions.{definitions, bodies-in-scope, opens-one}
-use Rattle.steps.proofs.RawSound.{Sound, visible-sound, silent-sound}
-use Rattle.steps.proofs.Scope.{CallsInScope, scope-calls, in-scope, calls-residual}
+use Rattle.steps.proofs.StepEntries.{slot-name, class-names}
 
--- The result of a step of a term in scope is in scope.
-result-scope : (Δ : Defs) (arities : List ℕ) (bodies : (k : ℕ) → CallsInScope arities (Δ .body k)) (P : Term) → InScope nameCount arities 0 P
-    → (M : Cond) (α : Act) (A : Term) → Trans Δ P M α A → ResultInScope arities α A
-unfolding ResultInScope
-result-scope Δ arities bodies P s M α A t = go α (calls-residual arities Δ bodies t (scope-calls nameCount arities 0 P s)) (resid-free Δ t)
-  where
-    free : (n : ℕ) → Free n P → n < nameCount
-    free n f = omega (arith, free-below nameCount arities 0 P s n f)
+-- The table of a result, filled with x, and the classes stored over it.
+pub names-stored : (class : List ℕ) (x : ℕ) (names : List ℕ) → nameCount ≤ length class
+    → names ≡ sets (replicate nameSlots x) 0 (take nameCount class) → NamesAre class x names
+names-stored class x names many e =
+    let xs : List ℕ = take nameCount class in
+    let ys : List ℕ = drop nameCount (replicate nameSlots x) in
+    let l : length xs ≡ nameCount = length-take-le nameCount class many in
+    let k : 0 + length xs ≡ nameCount = omega arith in
+    let whole : names ≡ xs ++ ys =
+    e ∙ sets-eq xs (replicate nameSlots x) 0 (omega (arith, length-replicate {A = ℕ} nameSlots x))
+    ∙ ap (λ n. xs ++ drop n (replicate nameSlots x)) k in
+    let seam : nameCount ≡ length xs + 0 = omega arith in
+    record {
+      free = λ n h.
+          ap (λ t. getD t n 0) whole ∙ List·getD-append xs ys 0 n (omega arith) ∙ getD-take nameCount class n 0 h;
+      new = ap (λ t. getD t nameCount 0) whole ∙ ap (λ n. getD (xs ++ ys) n 0) seam ∙ getD-append-add xs ys 0 0;
+    }
 
-    plain : CallsInScope arities A → ((n : ℕ) → Free n A → Free n P) → InScope nameCount arities 0 A
-    plain c h = in-scope nameCount arities 0 A (λ n f. omega (arith, free n (h n f))) c
+module _ (x : ℕ) (names : List ℕ) (class : List ℕ) (has : NamesAre class x names) (M : Cond) (classes : (n : ℕ) → n < nameCount → getD class n 0 ≡ cls M n) where
+  has-names : HasNames nameCount 0 0 names (λ n. cls M n)
+  unfolding HasNames
+  has-names m h =
+      let k : m < nameCount = omega arith in (
+        ap (λ n. getD names n 0) (slot-name tableNames m) ∙ has .free m k ∙ classes m k ∙ sym (slot-name tableNames (cls M m)),
+        omega (arith, cls-le M m),
+      )
 
-    under : CallsInScope arities A → ((n : ℕ) → Free (suc n) A → Free n P) → InScope nameCount arities 1 A
-    under c h = in-scope nameCount arities 1 A below c
-      where
-        below : (n : ℕ) → Free n A → n < 1 + nameCount
-        below zero f = omega arith
-        below (suc n) f = omega (arith, free n (h n f))
+  has-new : x ≤ nameCount → HasNew 0 names x
+  unfolding HasNew
+  has-new h = (has .new ∙ sym (slot-name tableNames x), omega arith)
 
-    go : (β : Act) → CallsInScope arities A → ((n : ℕ) → Free (shift β n) A → Free n P) → ResultInScope arities β A
-    go tauA c h = plain c h
-    go (inpA a) c h = under c h
-    go (outA a b) c h = plain c h
-    go (boutA a) c h = under c h
+-- The result that the writer writes by this table is that in canonical form.
+receiving-canonical : (x : ℕ) (M : Cond) (α : Act) (A : Term)
+    → resultBytes (canonStep nameCount x M α A) ≡ encode 0 (ren (receiving x (cls M) α) A)
+unfolding resultBytes canonStep listedAs receiving
+receiving-canonical x M tauA A = refl
+receiving-canonical x M (inpA a) A = refl
+receiving-canonical x M (outA a b) A = refl
+receiving-canonical x M (boutA a) A = refl
 
-all-nth : (S : Candidate → Type 0) (cs : List Candidate) (i : ℕ) → All S cs → i < length cs → S (getD cs i blocked)
-all-nth S [] i a h = absurd (omega arith)
-all-nth S (c ∷ cs) zero a h = a .0
-all-nth S (c ∷ cs) (suc i) a h = all-nth S cs i (a .1) (omega arith)
+pub result-written : (question part : List ℕ) (silently : Bool) (i : ℕ) (class : List ℕ) (x : ℕ) (names : List ℕ) → NamesAre class x names
+    → (out : List ℕ) (r : ℕ) (out′ : List ℕ)
+    → WriteIs question part 0 0 (record { names = names; levels = 0; calls = 1; still = false; silently = silently; number = i }) out 0 r out′
+    → ResultIs question part silently i class x out r out′
+unfolding ResultIs chosen candidatesOf
+result-written question part silently i class x names has out r out′ w q P l M α A e classes =
+    w .is q nameCount (λ n. n) P [] (resultBytes (canonStep nameCount x M α A)) (l .accepted) (omega arith) (l .scope)
+    (l .bytes ∙ sym (append-nil (encode 0 P)))
+    (record {
+      ρ = cls M;
+      x = x;
+      names = has-names x names class has M classes;
+      new = has-new x names class has M classes (l .new);
+      condition = M;
+      action = α;
+      result = A;
+      candidate = ap (λ R. getD (candidates silently (bodyOf (q .bodies)) 1 R) i blocked) (ren-id P) ∙ e;
+      bytes = receiving-canonical x M α A;
+    })
 
--- Every candidate of a part has its result in scope.
-candidate-scope : (silently : Bool) (question part : List ℕ) (x : ℕ) (q : Question) (P : Term) → Lists question part x q P
-    → (i : ℕ) → i < length (candidatesOf silently q P) → (M : Cond) (α : Act) (A : Term) → getD (candidatesOf silently q P) i blocked ≡ step M α A
-    → ResultInScope (q .arities) α A
-unfolding candidatesOf candidates definitions
-candidate-scope silently question part x q P l i h M α A e =
-    result-scope Δ (q .arities) closed P (l .scope) M α A
-    (subst (Sound Δ P) e (all-nth (Sound Δ P) (candidates silently (bodyOf (q .bodies)) 1 P) i (sound silently) h))
-  where
-    Δ : Defs
-    Δ = definitions (q .arities) (q .bodies) (accepted-well-formed question q (l .accepted) .bodies)
+-- A step is put into the list from its header and the bytes written for its result; a result too long passes a limit.
+module _ (question part : List ℕ) (silently : Bool) (i : ℕ) (h : Label) (x : ℕ) (area : List ℕ) (count : ℕ)
+    (room : mostSteps * stepBytes ≤ length area) (out out′ : List ℕ) (size : length out ≡ longestTerm) (n : ℕ)
+    (written : ResultIs question part silently i (h .condition .class) x out n out′) where
+  pub put-step-long : longestTerm < n → (area′ : List ℕ) → PutStepIs question part silently i h x area count (mostSteps + 1) area′
+  unfolding PutStepIs ResultIs PutIs
+  put-step-long long area′ q P l M α A e hd found s =
+      let w = written q P l M α A e (class-names (h .condition .class) M (hd .classes)) in
+      let bs : List ℕ = resultBytes (canonStep nameCount x M α A) in
+      put-long area room x count found s M α A (over (length bs) (λ k. w .fits (omega arith) .0)) area′
+    where
+      over : (b : ℕ) → (b ≤ longestTerm → n ≡ 0 + b) → longestTerm < b
+      over b f = go (leb b longestTerm) refl
+        where
+          go : (t : Bool) → leb b longestTerm ≡ t → longestTerm < b
+          go true d = let k = leb-true b longestTerm d in absurd (omega (arith, f k))
+          go false d = leb-false b longestTerm d
 
-    closed : (k : ℕ) → CallsInScope (q .arities) (Δ .body k)
-    closed = bodies-in-scope (q .arities) (q .bodies) (accepted-well-formed question q (l .accepted) .bodies) Δ (λ k. refl) refl
-
-    opens : Opens Δ 1 P
-    opens =
-        opens-one (q .arities) (q .bodies) (accepted-well-formed question q (l .accepted) .bodies) Δ (λ k. refl) refl P
-        (scope-calls nameCount (q .arities) 0 P (l .scope))
-
-    sound : (b : Bool) → All (Sound Δ P) (candidates b (bodyOf (q .bodies)) 1 P)
-    sound true = silent-sound Δ 1 P opens
-    sound false = visible-sound Δ 1 P opens
-
--- A result is as long in canonical form as it is raw.
-result-length : (x : ℕ) (M : Cond) (α : Act) (A : Term) → length (resultBytes (canonStep nameCount x M α A)) ≡ length (encode 0 (withoutNew α A))
-unfolding resultBytes canonStep listedAs withoutNew
-result-length x M tauA A = length-ren 0 0 (cls M) A
-result-length x M (inpA a) A = length-ren 1 0 (x • cls M) A ∙ sym (length-ren 1 0 (inst nameCount) A)
-result-length x M (outA a b) A = length-ren 0 0 (cls M) A
-result-length x M (boutA a) A = length-ren 1 0 (x • cls M) A ∙ sym (length-ren 1 0 (inst nameCount) A)
+  pub put-step-inserted : n ≤ longestTerm → (entry : List ℕ) → StepEntryIs h x (take n out′) entry
+      → (r : ℕ) (area′ : List ℕ) → InsertIs area count entry r area′ → PutStepIs question part silently i h x area count r area′
+  unfolding PutStepIs ResultIs PutIs StepEntryIs
+  put-step-inserted short entry made r area′ inserted q P l M α A e hd found s =
+      let w = written q P l M α A e (class-names (h .condition .class) M (hd .classes)) in
+      let bs : List ℕ = resultBytes (canonStep nameCount x M α A) in
+      let fit : length bs ≤ longestTerm = within (length bs) (λ k. omega (arith, w .over (omega arith))) in
+      let f = w .fits (omega arith) in
+      let t : take n out′ ≡ bs = ap (take n) (f .1) ∙ take-sets out bs n (omega (arith, f .0)) (omega arith) in
+      put-step area room x count found s M α A fit entry (made M α A hd t) r area′ inserted
+    where
+      within : (b : ℕ) → (longestTerm < b → longestTerm < n) → b ≤ longestTerm
+      within b f = go (leb b longestTerm) refl
+        where
+          go : (t : Bool) → leb b longestTerm ≡ t → b ≤ longestTerm
+          go true d = leb-true b longestTerm d
+          go false d = absurd (omega (arith, f (leb-false b longestTerm d)))
 
 -- What a label says of the candidate of its number.
 module _ (cs : List Candidate) (i e : ℕ) (h : Label) (label : LabelIs 0 cs i e h) (x : ℕ) (area : List ℕ) (count : ℕ) where
-  pub take-past : h .status ≡ Past → TakesFrom cs i x area count taken.Past area
+  take-past : h .status ≡ Past → TakesFrom cs i x area count taken.Past area
   take-past p = record { past = λ _. (refl, refl); there = λ l. absurd (labels-not-past 0 h (getD cs i blocked) (label .there l) p) }
 
   -- a status that is not past is a candidate's
   not-past : {C : Type 0} → (h .status ≡ Past → ⊥) → length cs ≤ i → C
   not-past n l = absurd (n (label .past l .past))
 
-  pub take-blocked : mostSteps * stepBytes ≤ length area → count ≤ mostSteps → h .status ≡ Blocked → TakesFrom cs i x area count (Now count) area
+  take-blocked : mostSteps * stepBytes ≤ length area → count ≤ mostSteps → h .status ≡ Blocked → TakesFrom cs i x area count (Now count) area
   unfolding Labels PutIs
   take-blocked room few b = record {
     past = not-past (λ p. let z : _≡_ {A = ℕ} 0 1 = cc in omega arith);
@@ -124,7 +153,7 @@ module _ (cs : List Candidate) (i e : ℕ) (h : Label) (label : LabelIs 0 cs i e
       go (step M α A) t = let f = t .found in let z : _≡_ {A = ℕ} 0 1 = cc in absurd (omega arith)
       go blocked t = λ found s. put-blocked area room x count found s few
 
-  pub take-found : h .status ≡ Found → (m : ℕ) (area′ : List ℕ)
+  take-found : h .status ≡ Found → (m : ℕ) (area′ : List ℕ)
       → ((M : Cond) (α : Act) (A : Term) → i < length cs → getD cs i blocked ≡ step M α A → HeaderIs 0 M α h → PutIs (step M α A) x area count m area′)
       → TakesFrom cs i x area count (Now m) area′
   unfolding Labels
@@ -137,10 +166,24 @@ module _ (cs : List Candidate) (i e : ℕ) (h : Label) (label : LabelIs 0 cs i e
       go (step M α A) d l t = put M α A l d t
       go blocked d l t = let z : _≡_ {A = ℕ} 0 1 = cc in absurd (omega arith)
 
--- The label of a number over the bytes of a part is that of the part's candidate.
-pub part-label : (question part : List ℕ) (i : ℕ) (silently : Bool) (r : Label) → NthIs question part 0 i silently [] 0 0 1 r
-    → (x : ℕ) (q : Question) (P : Term) → Lists question part x q P → LabelIs 0 (candidatesOf silently q P) i (0 + length (encode 0 P)) r
-unfolding candidatesOf
-part-label question part i silently r n x q P l =
-    subst (λ R. LabelIs 0 (candidates silently (bodyOf (q .bodies)) 1 R) i (0 + length (encode 0 P)) r) (ren-id P)
-    (n .is q nameCount 0 (λ m. m) P [] (l .accepted) (omega arith) (slots-part 0 []) (l .scope) (l .bytes ∙ sym (append-nil (encode 0 P))))
+-- The candidate of a number over the bytes of a part, by its label.
+module _ (question part : List ℕ) (silently : Bool) (i : ℕ) (h : Label) (label : PartLabelIs question part i silently h) (x : ℕ) (area : List ℕ)
+    (count : ℕ) where
+  label-is : (q : Question) (P : Term) → Lists question part x q P → LabelIs 0 (candidatesOf silently q P) i (length part) h
+  unfolding candidatesOf
+  label-is q P l = label .is q P (l .accepted) (l .scope) (l .bytes)
+
+  pub takes-past : h .status ≡ Past → TakeIs question part silently i x area count taken.Past area
+  unfolding TakeIs
+  takes-past s q P l = take-past (candidatesOf silently q P) i (length part) h (label-is q P l) x area count s
+
+  pub takes-blocked : mostSteps * stepBytes ≤ length area → count ≤ mostSteps → h .status ≡ Blocked
+      → TakeIs question part silently i x area count (Now count) area
+  unfolding TakeIs
+  takes-blocked room few s q P l = take-blocked (candidatesOf silently q P) i (length part) h (label-is q P l) x area count room few s
+
+  pub takes-found : h .status ≡ Found → (m : ℕ) (area′ : List ℕ) → PutStepIs question part silently i h x area count m area′
+      → TakeIs question part silently i x area count (Now m) area′
+  unfolding TakeIs PutStepIs
+  takes-found s m area′ put q P l =
+      take-found (candidatesOf silently q P) i (length part) h (label-is q P l) x area count s m area′ (λ M α A k e hd. put q P l M α A e hd)

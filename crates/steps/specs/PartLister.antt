@@ -6,17 +6,23 @@ use mathlib.Core.Path.{_≡_}
 use Prim.Native.Nat.{ℕ, _<_, _≤_}
 use lib.ListN.{length, getD}
 use lib.Seq.{sets}
+use Rattle.calculus.specs.Abstraction.{Act}
+use Rattle.calculus.specs.Cond.{Cond, cls}
 use Rattle.calculus.specs.Term.{Term}
 use Rattle.terms.specs.Answer.{result}
 use Rattle.terms.specs.Encoding.{encode, InScope}
 use Rattle.terms.specs.Limits.{nameCount, longestTerm}
 use Rattle.terms.specs.Question.{Question, checkOf}
 use Rattle.steps.specs.Collecting.{PutIs, CollectIs}
+use Rattle.steps.specs.Labels.{HeaderIs}
 use Rattle.steps.specs.Limits.{mostSteps}
+use Rattle.steps.specs.Listed.{canonStep, resultBytes}
 use Rattle.steps.specs.Listing.{Listing, unsettled, listed, bodyOf, stepsOf}
 use Rattle.steps.specs.Operations.{listBytes}
 use Rattle.steps.specs.Passing.{candidates}
-use Rattle.steps.specs.Raw.{Candidate, blocked}
+use Rattle.steps.specs.Raw.{Candidate, step, blocked}
+use Rattle.steps.specs.Results.{Written}
+use Rattle.steps.specs.declared.action.Label.{Label}
 use Rattle.steps.specs.declared.list.ListAnswer.{ListAnswer}
 use Rattle.steps.specs.declared.list.ListAnswer.the-variants.{Unsettled, Count}
 use Rattle.steps.specs.declared.list.Taken.{Taken}
@@ -34,6 +40,26 @@ pub record Lists (question part : List ℕ) (x : ℕ) (q : Question) (P : Term) 
 -- the silent candidates of the part, or its visible ones
 unfoldable pub candidatesOf : Bool → Question → Term → List Candidate
 candidatesOf silently q P = candidates silently (bodyOf (q .bodies)) 1 P
+
+-- What the names are written as in a result: each as its class, and the name received or extruded as x.
+pub record NamesAre (class : List ℕ) (x : ℕ) (names : List ℕ) : Type 0 where
+  pub free : (n : ℕ) → n < nameCount → getD names n 0 ≡ getD class n 0
+  pub new : getD names nameCount 0 ≡ x
+
+-- The result of a candidate in canonical form (document 01, "Action and result are rewritten by the condition").
+unfoldable pub ResultIs : List ℕ → List ℕ → Bool → ℕ → List ℕ → ℕ → List ℕ → ℕ → List ℕ → Type 0
+ResultIs question part silently i class x out r out′ =
+    (q : Question) (P : Term) → Lists question part x q P
+    → (M : Cond) (α : Act) (A : Term) → getD (candidatesOf silently q P) i blocked ≡ step M α A
+    → ((n : ℕ) → n < nameCount → getD class n 0 ≡ cls M n)
+    → Written out 0 (resultBytes (canonStep nameCount x M α A)) r out′
+
+-- A step with this header.
+unfoldable pub PutStepIs : List ℕ → List ℕ → Bool → ℕ → Label → ℕ → List ℕ → ℕ → ℕ → List ℕ → Type 0
+PutStepIs question part silently i h x area count r area′ =
+    (q : Question) (P : Term) → Lists question part x q P
+    → (M : Cond) (α : Act) (A : Term) → getD (candidatesOf silently q P) i blocked ≡ step M α A → HeaderIs 0 M α h
+    → PutIs (step M α A) x area count r area′
 
 -- One candidate by its number: past the last nothing changes.
 pub record TakesFrom (cs : List Candidate) (i x : ℕ) (area : List ℕ) (count : ℕ) (r : Taken) (area′ : List ℕ) : Type 0 where

@@ -1,4 +1,95 @@
-// The steps of a part, listed: its answers.
+// The steps of a part, listed.
+ghost use Prim.Native.Nat.{_*_, _≤_};
+ghost use lib.ListN.{length};
+ghost use Rattle.terms.specs.Limits.{nameCount, longestTerm};
+ghost use Rattle.steps.specs.LabelWalk.{PartLabelIs};
+ghost use Rattle.steps.specs.Limits.{stepBytes, mostSteps};
+ghost use Rattle.steps.specs.PartLister.{NamesAre, ResultIs, PutStepIs, TakeIs, GatherIs, ListPartIs};
+use crate::action::Label;
+use crate::action::Status;
+use crate::label::nth_silent;
+use crate::label::nth_visible;
+use crate::limits::MOST_CANDIDATES;
+use crate::limits::MOST_STEPS;
+use crate::listed::insert;
+use crate::listed::step_entry;
+use crate::names::NAME_SLOTS;
+use crate::result::Task;
+use crate::result::write;
+use terms::bytes::copy;
+use terms::limits::LONGEST_TERM;
+use terms::limits::NAME_COUNT;
+
+// The label of the candidate number `i`.
+fn label_of(question: &[u8], part: &[u8], silently: bool, i: usize) -> Label
+    requires { ⌜ length (now part) ≤ longestTerm ⌝ }
+    ensures { λ r. ⌜ PartLabelIs (now (question .entry)) (now (part .entry)) i silently r ⌝ }
+{
+    if silently {
+        return nth_silent(question, part, i);
+    }
+    nth_visible(question, part, i)
+}
+
+// What the names are written as in a result: each as its class, and the name received or extruded as `x`.
+fn result_names(class: &[u8], x: u8) -> [u8; NAME_SLOTS]
+    requires { ⌜ nameCount ≤ length (now class) ⌝ }
+    ensures { λ r. ⌜ NamesAre (now (class .entry)) x r ⌝ }
+{
+    let mut names = [x; NAME_SLOTS];
+    copy(class, 0, NAME_COUNT, &mut names, 0);
+    names
+}
+
+// The result of the candidate number `i`, rewritten by the classes of its condition. The answer is where its bytes end, or past the end of `out`
+// where there is no room.
+fn write_result(
+    question: &[u8],
+    part: &[u8],
+    silently: bool,
+    i: usize,
+    class: &[u8],
+    x: u8,
+    out: &mut [u8],
+) -> usize
+    requires { ⌜ (length (now part) ≤ longestTerm) × (nameCount ≤ length (now class)) × (length (now out) ≤ longestTerm) ⌝ }
+    ensures { λ r. ⌜ ResultIs (now (question .entry)) (now (part .entry)) silently i (now (class .entry)) x (now (out .entry)) r (now (out .exit)) ⌝ }
+{
+    let task = Task {
+        names: result_names(class, x),
+        levels: 0,
+        calls: 1,
+        still: false,
+        silently,
+        number: i,
+    };
+    write(question, part, 0, 0, task, out, 0)
+}
+
+// Puts the step with this header, the candidate number `i`, into the list. A result that is too long passes a limit.
+fn put_step(
+    question: &[u8],
+    part: &[u8],
+    silently: bool,
+    i: usize,
+    header: Label,
+    x: u8,
+    area: &mut [u8],
+    count: usize,
+) -> usize
+    requires { ⌜ (count ≤ mostSteps) × (mostSteps * stepBytes ≤ length (now area)) × (length (now part) ≤ longestTerm) ⌝ }
+    ensures { λ r. ⌜ PutStepIs (now (question .entry)) (now (part .entry)) silently i header x (now (area .entry)) count r (now (area .exit)) ⌝ }
+{
+    let condition = header.condition;
+    let class = condition.class;
+    let mut result = [0u8; LONGEST_TERM];
+    let n = write_result(question, part, silently, i, &class, x, &mut result);
+    if LONGEST_TERM < n {
+        return MOST_STEPS + 1;
+    }
+    let entry = step_entry(header, x, &result, n);
+    insert(area, count, &entry)
+}
 
 // What becomes of the list when a candidate's number is asked for: nothing, past the last, or the number of steps now.
 pub enum Taken {
@@ -6,7 +97,77 @@ pub enum Taken {
     Now(usize),
 }
 
+// Puts the candidate number `i` into the list.
+fn take_candidate(
+    question: &[u8],
+    part: &[u8],
+    silently: bool,
+    i: usize,
+    x: u8,
+    area: &mut [u8],
+    count: usize,
+) -> Taken
+    requires { ⌜ (count ≤ mostSteps) × (mostSteps * stepBytes ≤ length (now area)) × (length (now part) ≤ longestTerm) ⌝ }
+    ensures { λ r. ⌜ TakeIs (now (question .entry)) (now (part .entry)) silently i x (now (area .entry)) count r (now (area .exit)) ⌝ }
+{
+    let label = label_of(question, part, silently, i);
+    let status = label.status;
+    match status {
+        Status::Past => Taken::Past,
+        Status::Blocked => Taken::Now(count),
+        Status::Found => {
+            let n = put_step(question, part, silently, i, label, x, area, count);
+            Taken::Now(n)
+        }
+    }
+}
+
+// Puts all candidates of one kind into the list, until a limit is passed. Answers how many steps there are then.
+fn gather(
+    question: &[u8],
+    part: &[u8],
+    silently: bool,
+    x: u8,
+    area: &mut [u8],
+    count: usize,
+) -> usize
+    requires { ⌜ (count ≤ mostSteps) × (mostSteps * stepBytes ≤ length (now area)) × (length (now part) ≤ longestTerm) ⌝ }
+    ensures { λ r. ⌜ GatherIs (now (question .entry)) (now (part .entry)) silently x (now (area .entry)) count r (now (area .exit)) ⌝ }
+{
+    let mut n = count;
+    let mut i = 0;
+    while i < MOST_CANDIDATES {
+        let taken = take_candidate(question, part, silently, i, x, area, n);
+        let Taken::Now(m) = taken else {
+            return n;
+        };
+        if MOST_STEPS < m {
+            return m;
+        }
+        n = m;
+        i += 1;
+    }
+    n
+}
+
 pub enum ListAnswer {
     Unsettled,
     Count(usize),
+}
+
+// Lists the steps of a part under the definitions of an accepted question, for the new name `x`. The area must hold as many steps as the limit
+// allows.
+pub fn list_part(question: &[u8], part: &[u8], x: u8, area: &mut [u8]) -> ListAnswer
+    requires { ⌜ (mostSteps * stepBytes ≤ length (now area)) × (length (now part) ≤ longestTerm) ⌝ }
+    ensures { λ r. ⌜ ListPartIs (now (question .entry)) (now (part .entry)) x (now (area .entry)) r (now (area .exit)) ⌝ }
+{
+    let visible = gather(question, part, false, x, area, 0);
+    if MOST_STEPS < visible {
+        return ListAnswer::Unsettled;
+    }
+    let all = gather(question, part, true, x, area, visible);
+    if MOST_STEPS < all {
+        return ListAnswer::Unsettled;
+    }
+    ListAnswer::Count(all)
 }

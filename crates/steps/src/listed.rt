@@ -1,11 +1,11 @@
 // The listed steps: the bytes of one, and the sorted list of them, entries of 132 bytes each in ascending byte order without duplicates.
 ghost use mathlib.Core.Path.{_≡_};
-ghost use Prim.Native.Nat.{ℕ, _+_, _*_, _-_, _<_, _≤_};
-ghost use lib.ListN.{length, getD, take, drop};
+ghost use Prim.Native.Nat.{_+_, _*_, _-_, _≤_};
+ghost use lib.ListN.{length, take, drop};
 ghost use lib.Seq.{sets};
-ghost use Rattle.terms.specs.Limits.{nameCount, tableNames, longestTerm};
+ghost use Rattle.terms.specs.Limits.{nameCount, longestTerm};
 ghost use Rattle.steps.specs.Entries.{entryFrom, comesBefore, PlaceIs, InsertIs};
-ghost use Rattle.steps.specs.EntryBytes.{rewriting, actionBytes, EntryIs, StepEntryIs};
+ghost use Rattle.steps.specs.EntryBytes.{actionBytes, entryBytes, StepEntryIs};
 ghost use Rattle.steps.specs.Limits.{stepBytes, mostSteps};
 use crate::action::Action;
 use crate::action::Label;
@@ -14,8 +14,6 @@ use crate::limits::STEP_BYTES;
 use terms::bytes::copy;
 use terms::bytes::get;
 use terms::limits::NAME_COUNT;
-use terms::limits::TABLE_NAMES;
-use terms::rename::rename;
 
 // The bytes of an action.
 pub struct ActionBytes {
@@ -24,31 +22,10 @@ pub struct ActionBytes {
     pub object: u8,
 }
 
-// The table that rewrites names by their classes and puts `x` where the new name is to stand.
-fn rewriting_table(class: &[u8], x: u8) -> [u8; TABLE_NAMES]
-    ensures { λ r. ⌜ ((n : ℕ) → n < tableNames → getD r n 0 ≡ rewriting (now (class .entry)) x n) ⌝ }
-{
-    let mut table = [x; TABLE_NAMES];
-    let mut i = 0;
-    while i < NAME_COUNT {
-        let c = get(class, i);
-        table[i] = c;
-        i += 1;
-    }
-    table
-}
-
-// The entry of a step with the condition's classes, the action's bytes and the `n` bytes of a raw result.
-fn entry_of(
-    class: &[u8],
-    action: ActionBytes,
-    x: u8,
-    arities: &[u8],
-    raw: &[u8],
-    n: usize,
-) -> [u8; STEP_BYTES]
-    requires { ⌜ (nameCount ≤ length (now class)) × (n ≤ longestTerm) ⌝ }
-    ensures { λ r. ⌜ EntryIs (now (class .entry)) action x (now (arities .entry)) (now (raw .entry)) n r ⌝ }
+// The entry of a step with the condition's classes, the action's bytes and the first `n` bytes of a result.
+fn entry_of(class: &[u8], action: ActionBytes, result: &[u8], n: usize) -> [u8; STEP_BYTES]
+    requires { ⌜ (nameCount ≤ length (now class)) × (n ≤ length (now result)) × (n ≤ longestTerm) ⌝ }
+    ensures { λ r. ⌜ r ≡ entryBytes (now (class .entry)) action (take n (now (result .entry))) ⌝ }
 {
     let mut entry = [0u8; STEP_BYTES];
     copy(class, 0, NAME_COUNT, &mut entry, 0);
@@ -56,8 +33,7 @@ fn entry_of(
     entry[NAME_COUNT + 1] = action.channel;
     entry[NAME_COUNT + 2] = action.object;
     entry[NAME_COUNT + 3] = n as u8;
-    let table = rewriting_table(class, x);
-    rename(raw, 0, arities, &table, &mut entry, NAME_COUNT + 4);
+    copy(result, 0, n, &mut entry, NAME_COUNT + 4);
     entry
 }
 
@@ -89,15 +65,15 @@ fn action_bytes(class: &[u8], action: Action, x: u8) -> ActionBytes
     }
 }
 
-// The entry of a step from its header and the `n` bytes of its raw result.
-pub fn step_entry(header: Label, x: u8, arities: &[u8], raw: &[u8], n: usize) -> [u8; STEP_BYTES]
-    requires { ⌜ n ≤ longestTerm ⌝ }
-    ensures { λ r. ⌜ StepEntryIs header x (now (arities .entry)) (now (raw .entry)) n r ⌝ }
+// The entry of a step from its header and the first `n` bytes of its result.
+pub fn step_entry(header: Label, x: u8, result: &[u8], n: usize) -> [u8; STEP_BYTES]
+    requires { ⌜ (n ≤ length (now result)) × (n ≤ longestTerm) ⌝ }
+    ensures { λ r. ⌜ StepEntryIs header x (take n (now (result .entry))) r ⌝ }
 {
     let condition = header.condition;
     let class = condition.class;
     let action = header.action;
-    entry_of(&class, action_bytes(&class, action, x), x, arities, raw, n)
+    entry_of(&class, action_bytes(&class, action, x), result, n)
 }
 
 // Whether the entry at `i` comes before the entry at `j`: the first byte that differs decides.

@@ -1,17 +1,51 @@
-// The listing operation: its answers, and the side that it lists.
+// The listing operation: checks 3 to 12, 13 and 15 of document 01, and the steps of one side.
 ghost use mathlib.Core.Bool.{_||_};
 ghost use mathlib.Core.Path.{_≡_};
+ghost use Prim.Native.Nat.{_*_, _≤_};
 ghost use lib.Dec.{eqb};
-ghost use Rattle.steps.specs.Answering.{SideIs};
+ghost use lib.ListN.{length};
+ghost use Rattle.terms.specs.Limits.{longestTerm};
+ghost use Rattle.terms.specs.Writing.{Accepted};
+ghost use Rattle.steps.specs.Answering.{DoesList, SideIs, ListsInto};
+ghost use Rattle.steps.specs.Limits.{stepBytes, mostSteps};
+ghost use Rattle.steps.specs.Operations.{listOf};
+use crate::bodies::arities_of;
+use crate::limits::STEP_BYTES;
+use crate::list::ListAnswer;
+use crate::list::list_part;
+use terms::bytes::copy;
+use terms::check::Checked;
+use terms::check::check;
 use terms::frame::after_field;
 use terms::frame::definitions;
 use terms::frame::field_at;
 use terms::frame::field_place;
+use terms::free::is_free;
+use terms::limits::NAME_COUNT;
+
+// The bytes of as many steps as the limit allows.
+const LISTING_BYTES: usize = 33792;
 
 pub enum StepsAnswer {
     Refused(u8),
     Unsettled,
     Count(usize),
+}
+
+// Lists the steps of a part into the area, which does not change where they are unsettled.
+fn list_into(question: &[u8], part: &[u8], x: u8, area: &mut [u8]) -> StepsAnswer
+    requires { ⌜ (mostSteps * stepBytes ≤ length (now area)) × (length (now part) ≤ longestTerm) ⌝ }
+    ensures { λ r. ⌜ ListsInto (now (question .entry)) (now (part .entry)) x (now (area .entry)) r (now (area .exit)) ⌝ }
+{
+    let mut listing = [0u8; LISTING_BYTES];
+    let answer = list_part(question, part, x, &mut listing);
+    match answer {
+        ListAnswer::Unsettled => StepsAnswer::Unsettled,
+        ListAnswer::Count(n) => {
+            copy(&listing, 0, n * STEP_BYTES, area, 0);
+            StepsAnswer::Count(n)
+        }
+    }
 }
 
 // Whether the number is one of a side.
@@ -36,4 +70,36 @@ fn side_of(question: &[u8], side: u64) -> &[u8]
         return field_at(question, first);
     }
     field_at(question, after_field(question, first))
+}
+
+// Checks 13 and 15 of an accepted question, then the list.
+fn steps_accepted(question: &[u8], side: u64, name: u64, area: &mut [u8]) -> StepsAnswer
+    requires { ⌜ Accepted (now question) ⌝ }
+    ensures { λ r. ⌜ DoesList (listOf (now (question .entry)) side name (length (now (area .entry)))) (now (area .entry)) r (now (area .exit)) ⌝ }
+{
+    if !is_side(side) {
+        return StepsAnswer::Refused(13);
+    }
+    if NAME_COUNT as u64 <= name {
+        return StepsAnswer::Refused(13);
+    }
+    let part = side_of(question, side);
+    if is_free(part, arities_of(question), name as usize) {
+        return StepsAnswer::Refused(13);
+    }
+    if area.len() < LISTING_BYTES {
+        return StepsAnswer::Refused(15);
+    }
+    list_into(question, part, name as u8, area)
+}
+
+// Lists the steps of one side of the question, for the new name, into the area.
+pub fn steps(question: &[u8], side: u64, name: u64, area: &mut [u8]) -> StepsAnswer
+    ensures { λ r. ⌜ DoesList (listOf (now (question .entry)) side name (length (now (area .entry)))) (now (area .entry)) r (now (area .exit)) ⌝ }
+{
+    let checked = check(question);
+    match checked {
+        Checked::Refused(k) => StepsAnswer::Refused(k),
+        Checked::Accepted => steps_accepted(question, side, name, area),
+    }
 }

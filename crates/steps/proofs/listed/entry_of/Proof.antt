@@ -1,6 +1,9 @@
 -- `steps::listed::entry_of` meets its contract. Assumes nothing.
 use borrow.Author.Needs.{needs}
-use Rattle.steps.proofs.EntryLaws.{entry-stored}
+use lib.ListN.{length}
+use native.Mathlib.Omega.{arith}
+use Prim.Native.Nat.{_+_, _≤_}
+use Rattle.steps.proofs.EntryLaws.{entry-room, entry-stored}
 use Rattle.steps.proofs.listed.entry_of.Statement.{statement}
 use Rattle.steps.proofs.listed.entry_of.Tie as tie
 
@@ -34,23 +37,17 @@ add-entry-3 c = search needs
 array-write-entry-4 : tie.Need-array-write-entry-4
 array-write-entry-4 c = search needs
 
-rewriting-table-requires : tie.Need-rewriting-table-requires
-rewriting-table-requires c κs = search needs
+slice-aggregate-copy-2 : tie.Need-slice-aggregate-copy-2
+slice-aggregate-copy-2 c = search needs
 
-slice-aggregate-rename : tie.Need-slice-aggregate-rename
-slice-aggregate-rename c = search needs
+add-copy : tie.Need-add-copy
+add-copy c = search needs
 
-slice-aggregate-rename-2 : tie.Need-slice-aggregate-rename-2
-slice-aggregate-rename-2 c = search needs
-
-add-rename : tie.Need-add-rename
-add-rename c = search needs
-
-rename-requires : tie.Need-rename-requires
-rename-requires c κs = search needs
+copy-requires-2 : tie.Need-copy-requires-2
+copy-requires-2 c κs = (let h : 0 + c .before .before .before .before .before .before .args .n ≤ length (c .before .before .before .before .before .before .args .result .now) = omega (arith, c .before .before .before .before .before .before .pre .1) in h, entry-room (c .before .before .before .before .before .before .args .class .now) (c .before .before .before .before .before .before .args .action) (c .before .before .before .before .before .before .args .n) (c .before .before .before .before .before .before .pre .2) _ (c .before .before .copy .ensures))
 
 returns : tie.Need-returns
-returns c = entry-stored (c .before .before .before .before .before .before .before .before .before .before .before .args .class .now) (c .before .before .before .before .before .before .before .before .before .before .before .args .action) (c .before .before .before .before .before .before .before .before .before .before .before .args .x) (c .before .before .before .before .before .before .before .before .before .before .before .args .arities .now) (c .before .before .before .before .before .before .before .before .before .before .before .args .raw .now) (c .before .before .before .before .before .before .before .before .before .before .before .args .n) (c .before .before .before .before .before .before .before .before .before .before .before .pre .0) (c .before .before .before .before .before .before .before .before .before .before .before .pre .1) (c .before .before .before .before .rewriting-table .result) (c .before .before .before .before .rewriting-table .ensures) _ _ (c .before .before .before .before .before .before .copy .ensures) _ (c .before .rename .ensures)
+returns c = entry-stored (c .before .before .before .before .before .before .before .before .args .class .now) (c .before .before .before .before .before .before .before .before .args .action) (c .before .before .before .before .before .before .before .before .args .result .now) (c .before .before .before .before .before .before .before .before .args .n) (c .before .before .before .before .before .before .before .before .pre .0) (c .before .before .before .before .before .before .before .before .pre .1) (c .before .before .before .before .before .before .before .before .pre .2) _ _ (c .before .before .before .before .copy .ensures) (c .before .copy2 .ensures)
 
 pub entry-of-spec : {M : Type 1} → statement M
 entry-of-spec =
@@ -66,9 +63,7 @@ entry-of-spec =
     cast-entry
     add-entry-3
     array-write-entry-4
-    rewriting-table-requires
-    slice-aggregate-rename
-    slice-aggregate-rename-2
-    add-rename
-    rename-requires
+    slice-aggregate-copy-2
+    add-copy
+    copy-requires-2
     returns)

@@ -1,0 +1,17 @@
+-- `steps::list::result_names` meets its contract. Assumes nothing.
+use borrow.Author.Needs.{needs}
+use Rattle.steps.proofs.TakeLaws.{names-stored}
+use Rattle.steps.proofs.list.result_names.Statement.{statement}
+use Rattle.steps.proofs.list.result_names.Tie as tie
+
+slice-aggregate-copy : tie.Need-slice-aggregate-copy
+slice-aggregate-copy c = search needs
+
+copy-requires : tie.Need-copy-requires
+copy-requires c κs = search needs
+
+returns : tie.Need-returns
+returns c = names-stored (c .before .before .before .before .args .class .now) (c .before .before .before .before .args .x) _ (search needs) (c .before .copy .ensures)
+
+pub result-names-spec : {M : Type 1} → statement M
+result-names-spec = tie.close (tie.spec slice-aggregate-copy copy-requires returns)
