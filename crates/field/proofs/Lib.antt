@@ -8,6 +8,7 @@ pub mod KeyLaws
 pub mod KeysDiffer
 pub mod LeadingLaws
 pub mod Link
+pub mod ListedParts
 pub mod Loops
 pub mod Members
 pub mod MoveLaws
@@ -24,5 +25,6 @@ pub mod Run
 pub mod Selections
 pub mod StartLaws
 pub mod SuccessorsLinked
+pub mod TakingLaws
 pub mod Unseen
 pub mod UpdateLaws

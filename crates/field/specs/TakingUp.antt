@@ -1,8 +1,9 @@
 -- A situation of the work area taken up: its free names, its apart pairs and the steps of both sides, and what the code promises of them.
 use mathlib.Core.Path.{_≡_}
-use mathlib.Core.Bool.{true, false}
+use mathlib.Core.Bool.{Bool, true, false, _&&_, _||_}
 use mathlib.Core.List.{List, _++_}
 use Prim.Native.Nat.{ℕ, _*_, _<_, _≤_}
+use lib.Dec.{eqb}
 use lib.ListN.{length, getD}
 use Rattle.calculus.specs.Free.{fn}
 use Rattle.terms.specs.Answer.{result}
@@ -11,14 +12,15 @@ use Rattle.terms.specs.Limits.{nameCount}
 use Rattle.terms.specs.Question.{Question, checkOf}
 use Rattle.steps.specs.Limits.{stepBytes, mostSteps}
 use Rattle.steps.specs.Listed.{ListedStep}
+use Rattle.steps.specs.PartLister as lister
 use Rattle.field.specs.Entry.{EntryAt}
 use Rattle.field.specs.Key.{SituationAt}
 use Rattle.field.specs.Leading.{placed}
 use Rattle.field.specs.NameFlags.{HasNames}
 use Rattle.field.specs.Setting.{settingOf}
-use Rattle.field.specs.Situation.{Situation, freeIn}
+use Rattle.field.specs.Situation.{Situation, freeIn, newName}
 use Rattle.field.specs.Slot.{flagsOf}
-use Rattle.field.specs.Successors.{pastLimit, leads, moves, successors}
+use Rattle.field.specs.Successors.{pastLimit, leads, moves, someBinds, successors}
 use Rattle.field.specs.declared.taking.Lists.{Lists}
 use Rattle.field.specs.declared.taking.Lists.the-variants.{Past, Listed}
 use Rattle.field.specs.declared.taking.TakenUp.{TakenUp}
@@ -28,6 +30,18 @@ pub record ListAt (arities area : List ℕ) (count : ℕ) (ss : List ListedStep)
   pub number : length ss ≡ count
   pub entry : (i : ℕ) (d : ListedStep) → i < count → EntryAt area (stepBytes * i) (getD ss i d)
   pub scope : (i : ℕ) (d : ListedStep) → i < count → InScope nameCount arities 0 (getD ss i d .result)
+
+-- The steps of a list at their places, whatever names their results have; and whether one of them binds a name.
+unfoldable pub EntriesAt : List ℕ → ℕ → List ListedStep → Type 0
+EntriesAt area count ss = (length ss ≡ count) × ((i : ℕ) (d : ListedStep) → i < count → EntryAt area (stepBytes * i) (getD ss i d))
+
+unfoldable pub SomeBindsIs : List ℕ → ℕ → Bool → Type 0
+SomeBindsIs area count r = (ss : List ListedStep) → EntriesAt area count ss → r ≡ someBinds ss
+
+-- The limit of names, for the new name x.
+unfoldable pub PastNamesIs : ℕ → List ℕ → ℕ → List ℕ → ℕ → Bool → Type 0
+PastNamesIs x firsts n seconds m r =
+    (ps qs : List ListedStep) → EntriesAt firsts n ps → EntriesAt seconds m qs → r ≡ (eqb x nameCount && (someBinds ps || someBinds qs))
 
 -- The lists of both sides, n and m steps, and that the situation's successors come of them.
 pub record SidesListed (q : Question) (s : Situation) (n m : ℕ) (firsts seconds : List ℕ) : Type 0 where
@@ -42,6 +56,16 @@ pub record SidesListed (q : Question) (s : Situation) (n m : ℕ) (firsts second
 unfoldable pub ListsAre : Question → Situation → Lists → List ℕ → List ℕ → Type 0
 ListsAre q s Past firsts seconds = successors (settingOf (q .bodies)) s ≡ pastLimit
 ListsAre q s (Listed n m) firsts seconds = SidesListed q s n m firsts seconds
+
+-- The bytes of the two parts of s, of a question with the definitions of q, and its new name.
+pub record Sides (question first second : List ℕ) (x : ℕ) (q : Question) (s : Situation) : Type 0 where
+  pub left : lister.Lists question first x q (s .first)
+  pub right : lister.Lists question second x q (s .second)
+  pub new : x ≡ newName nameCount (s .first) (s .second)
+
+pub record ListsSides (question first second : List ℕ) (x : ℕ) (r : Lists) (firsts seconds : List ℕ) : Type 0 where
+  pub few : (n m : ℕ) → r ≡ Listed n m → (n ≤ mostSteps) × (m ≤ mostSteps)
+  pub is : (q : Question) (s : Situation) → Sides question first second x q s → ListsAre q s r firsts seconds
 
 pub record TakenAs (q : Question) (s : Situation) (r : TakenUp) (firsts seconds : List ℕ) : Type 0 where
   pub free : HasNames (r .free) (fn (s .first) ++ fn (s .second))

@@ -1,5 +1,23 @@
 // A situation taken up: its free names, its apart pairs and the steps of both sides.
+ghost use Prim.Native.Nat.{_+_, _*_, _≤_};
+ghost use lib.ListN.{length};
+ghost use Rattle.terms.specs.Limits.{nameCount};
+ghost use Rattle.steps.specs.Limits.{stepBytes, mostSteps};
+ghost use Rattle.steps.specs.PartLister.{ListPartIs};
+ghost use Rattle.field.specs.Slot.{keyBytes};
+ghost use Rattle.field.specs.TakingUp.{SomeBindsIs, PastNamesIs, ListsSides, TakesUp};
+use crate::entries::binds;
+use crate::names::free_in_either;
+use crate::names::new_name;
 use crate::pairs::PAIR_COUNT;
+use crate::slots::apart_flags;
+use crate::slots::first_part;
+use crate::slots::second_part;
+use steps::bodies::arities_of;
+use steps::limits::STEP_BYTES;
+use steps::list::ListAnswer;
+use steps::list::list_part;
+use terms::limits::LONGEST_TERM;
 use terms::limits::NAME_COUNT;
 
 // The numbers of steps of the first and of the second side, or a limit is passed.
@@ -12,4 +30,92 @@ pub struct TakenUp {
     pub free: [u8; NAME_COUNT],
     pub apart: [u8; PAIR_COUNT],
     pub lists: Lists,
+}
+
+// Whether one of the first `count` steps receives or extrudes a name.
+fn some_binds(area: &[u8], count: usize) -> bool
+    requires { ⌜ stepBytes * count ≤ length (now area) ⌝ }
+    ensures { λ r. ⌜ SomeBindsIs (now (area .entry)) count r ⌝ }
+{
+    let mut i = 0;
+    while i < count {
+        if binds(area, STEP_BYTES * i) {
+            return true;
+        }
+        i += 1;
+    }
+    false
+}
+
+// The limit of names: a step of either side binds a name while all names are free.
+fn past_names(x: usize, firsts: &[u8], n: usize, seconds: &[u8], m: usize) -> bool
+    requires { ⌜ (stepBytes * n ≤ length (now firsts)) × (stepBytes * m ≤ length (now seconds)) ⌝ }
+    ensures { λ r. ⌜ PastNamesIs x (now (firsts .entry)) n (now (seconds .entry)) m r ⌝ }
+{
+    if x != NAME_COUNT {
+        return false;
+    }
+    if some_binds(firsts, n) {
+        return true;
+    }
+    some_binds(seconds, m)
+}
+
+// Lists one side. A part above the limit stands in no slot.
+fn list_side(question: &[u8], part: &[u8], x: usize, area: &mut [u8]) -> ListAnswer
+    requires { ⌜ (mostSteps * stepBytes ≤ length (now area)) × (x ≤ nameCount) ⌝ }
+    ensures { λ r. ⌜ ListPartIs (now (question .entry)) (now (part .entry)) x (now (area .entry)) r (now (area .exit)) ⌝ }
+{
+    if LONGEST_TERM < part.len() {
+        return ListAnswer::Unsettled;
+    }
+    list_part(question, part, x as u8, area)
+}
+
+// Lists both sides, each in its area, for the new name `x`.
+fn list_sides(
+    question: &[u8],
+    first: &[u8],
+    second: &[u8],
+    x: usize,
+    firsts: &mut [u8],
+    seconds: &mut [u8],
+) -> Lists
+    requires { ⌜ (x ≤ nameCount) × (mostSteps * stepBytes ≤ length (now firsts)) × (mostSteps * stepBytes ≤ length (now seconds)) ⌝ }
+    ensures { λ r. ⌜ ListsSides (now (question .entry)) (now (first .entry)) (now (second .entry)) x r (now (firsts .exit)) (now (seconds .exit)) ⌝ }
+{
+    let n = match list_side(question, first, x, firsts) {
+        ListAnswer::Unsettled => return Lists::Past,
+        ListAnswer::Count(n) => n,
+    };
+    let m = match list_side(question, second, x, seconds) {
+        ListAnswer::Unsettled => return Lists::Past,
+        ListAnswer::Count(m) => m,
+    };
+    if past_names(x, firsts, n, seconds, m) {
+        return Lists::Past;
+    }
+    Lists::Listed(n, m)
+}
+
+// Takes up the situation at `at`.
+pub fn take_up(
+    question: &[u8],
+    work: &[u8],
+    at: usize,
+    firsts: &mut [u8],
+    seconds: &mut [u8],
+) -> TakenUp
+    requires { ⌜ (at + keyBytes ≤ length (now work)) × (mostSteps * stepBytes ≤ length (now firsts)) × (mostSteps * stepBytes ≤ length (now seconds)) ⌝ }
+    ensures { λ r. ⌜ TakesUp (now (question .entry)) (now (work .entry)) at r (now (firsts .exit)) (now (seconds .exit)) ⌝ }
+{
+    let first = first_part(work, at);
+    let second = second_part(work, at);
+    let free = free_in_either(first, second, arities_of(question));
+    let x = new_name(&free);
+    TakenUp {
+        free: free,
+        apart: apart_flags(work, at),
+        lists: list_sides(question, first, second, x, firsts, seconds),
+    }
 }

@@ -1,0 +1,24 @@
+-- `field::taking::list_side` meets its contract. Assumes nothing.
+use borrow.Author.Needs.{needs}
+use Rattle.field.proofs.TakingLaws.{long-part}
+use Rattle.field.proofs.taking.list_side.Statement.{statement}
+use Rattle.field.proofs.taking.list_side.Tie as tie
+
+returns : tie.Need-returns
+returns c = long-part _ _ _ _ _ (c .if1 .taken)
+
+cast-list-part : tie.Need-cast-list-part
+cast-list-part c = search needs
+
+list-part-requires : tie.Need-list-part-requires
+list-part-requires c κs = search needs
+
+same-length : tie.Need-same-length
+same-length c = search needs
+
+returns-2 : tie.Need-returns-2
+returns-2 c = search needs
+
+pub list-side-spec : {M : Type 1} → statement M
+list-side-spec =
+    tie.close (tie.spec returns cast-list-part list-part-requires same-length returns-2)

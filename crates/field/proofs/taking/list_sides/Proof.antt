@@ -1,0 +1,94 @@
+-- `field::taking::list_sides` meets its contract. Assumes nothing.
+use native.Mathlib.Omega.{arith}
+use borrow.Author.Needs.{needs}
+use Rattle.field.proofs.TakingLaws.{sides-first-past, sides-second-past, sides-names-past, sides-listed}
+use Rattle.field.proofs.taking.list_sides.Statement.{statement}
+use Rattle.field.proofs.taking.list_sides.Tie as tie
+
+list-side-requires : tie.Need-list-side-requires
+list-side-requires c κs = search needs
+
+enum-told : tie.Need-enum-told
+enum-told c = search needs
+
+same-length : tie.Need-same-length
+same-length c = search needs
+
+returns : tie.Need-returns
+returns c = sides-first-past _ _ _ _ _ _ _ _ (c .before .before .before .before .list-side .ensures) (c .enum-told .given .1)
+
+enum-known-n : tie.Need-enum-known-n
+enum-known-n c = search needs
+
+list-side-requires-2 : tie.Need-list-side-requires-2
+list-side-requires-2 c κs = search needs
+
+enum-told-2 : tie.Need-enum-told-2
+enum-told-2 c = search needs
+
+same-length-2 : tie.Need-same-length-2
+same-length-2 c = search needs
+
+same-length-3 : tie.Need-same-length-3
+same-length-3 c = search needs
+
+returns-2 : tie.Need-returns-2
+returns-2 c = sides-second-past _ _ _ _ _ _ _ _ (c .before .before .before .before .list-side2 .ensures) (c .enum-told2 .given .1)
+
+enum-known-m : tie.Need-enum-known-m
+enum-known-m c = search needs
+
+past-names-requires : tie.Need-past-names-requires
+past-names-requires c κs =
+    let n = c .before .before .before .before .before .before .before .before .before .before .before .before .before .before .list-side .ensures .few _ (c .before .before .before .before .before .before .before .before .before .before .n .given .1) in
+    let m = c .before .before .before .before .before .before .before .list-side2 .ensures .few _ (c .before .before .before .m .given .1) in
+    let k = c .before .before .before .before .before .before .before .before .before .before .before .before .before .before .list-side .kept in
+    let l = c .before .before .before .before .before .before .before .list-side2 .kept in
+    (omega arith, omega arith)
+
+same-length-4 : tie.Need-same-length-4
+same-length-4 c = search needs
+
+same-length-5 : tie.Need-same-length-5
+same-length-5 c = search needs
+
+returns-3 : tie.Need-returns-3
+returns-3 c =
+    sides-names-past _ _ _ _ _ _ _ _ (c .before .before .before .before .before .before .before .before .before .before .before .before .before .before .before .before .before .before .before .before .before .before .before .pre .1) (c .before .before .before .before .before .before .before .before .before .before .before .before .before .before .before .before .before .before .before .before .before .before .before .pre .2) _ _ _ _
+    (c .before .before .before .before .before .before .before .before .before .before .before .before .before .before .before .before .list-side .ensures) (c .before .before .before .before .before .before .before .before .before .list-side2 .ensures)
+    (c .before .before .before .before .before .before .before .before .before .before .before .before .n .given .1) (c .before .before .before .before .before .m .given .1) _ (c .before .past-names .ensures) (c .if1 .taken)
+
+same-length-6 : tie.Need-same-length-6
+same-length-6 c = search needs
+
+same-length-7 : tie.Need-same-length-7
+same-length-7 c = search needs
+
+returns-4 : tie.Need-returns-4
+returns-4 c =
+    sides-listed _ _ _ _ _ _ _ _ (c .before .before .before .before .before .before .before .before .before .before .before .before .before .before .before .before .before .before .before .before .before .before .before .pre .1) (c .before .before .before .before .before .before .before .before .before .before .before .before .before .before .before .before .before .before .before .before .before .before .before .pre .2) _ _ _ _
+    (c .before .before .before .before .before .before .before .before .before .before .before .before .before .before .before .before .list-side .ensures) (c .before .before .before .before .before .before .before .before .before .list-side2 .ensures)
+    (c .before .before .before .before .before .before .before .before .before .before .before .before .n .given .1) (c .before .before .before .before .before .m .given .1) _ (c .before .past-names .ensures) (c .if1 .left)
+
+pub list-sides-spec : {M : Type 1} → statement M
+list-sides-spec =
+    tie.close
+    (tie.spec
+    list-side-requires
+    enum-told
+    same-length
+    returns
+    enum-known-n
+    list-side-requires-2
+    enum-told-2
+    same-length-2
+    same-length-3
+    returns-2
+    enum-known-m
+    past-names-requires
+    same-length-4
+    same-length-5
+    returns-3
+    same-length-6
+    same-length-7
+    returns-4)

@@ -1,0 +1,56 @@
+-- `field::taking::take_up` meets its contract. Assumes nothing.
+use borrow.Author.Needs.{needs}
+use Rattle.field.proofs.TakingLaws.{taken-up}
+use Rattle.field.proofs.taking.take_up.Statement.{statement}
+use Rattle.field.proofs.taking.take_up.Tie as tie
+
+first-part-requires : tie.Need-first-part-requires
+first-part-requires c κs = search needs
+
+second-part-requires : tie.Need-second-part-requires
+second-part-requires c κs = search needs
+
+arities-of-requires : tie.Need-arities-of-requires
+arities-of-requires c κs = search needs
+
+free-in-either-requires : tie.Need-free-in-either-requires
+free-in-either-requires c κs = search needs
+
+slice-aggregate-new-name : tie.Need-slice-aggregate-new-name
+slice-aggregate-new-name c = search needs
+
+new-name-requires : tie.Need-new-name-requires
+new-name-requires c κs = search needs
+
+apart-flags-requires : tie.Need-apart-flags-requires
+apart-flags-requires c κs = search needs
+
+list-sides-requires : tie.Need-list-sides-requires
+list-sides-requires c κs = search needs
+
+same-length : tie.Need-same-length
+same-length c = search needs
+
+same-length-2 : tie.Need-same-length-2
+same-length-2 c = search needs
+
+returns : tie.Need-returns
+returns c =
+    taken-up _ _ _ _ _ _ _ _ _ _ _ _
+    (c .before .before .before .before .before .before .before .before .before .before .before .before .before .first-part .ensures) (c .before .before .before .before .before .before .before .before .before .before .before .before .second-part .ensures) (c .before .before .before .before .before .before .before .before .before .before .before .arities-of .ensures) (c .before .before .before .before .before .before .before .before .before .before .free-in-either .ensures) (c .before .before .before .before .before .before .before .before .new-name .ensures) (c .before .before .before .before .before .before .before .apart-flags .ensures) (c .before .before .before .before .list-sides .ensures)
+
+pub take-up-spec : {M : Type 1} → statement M
+take-up-spec =
+    tie.close
+    (tie.spec
+    first-part-requires
+    second-part-requires
+    arities-of-requires
+    free-in-either-requires
+    slice-aggregate-new-name
+    new-name-requires
+    apart-flags-requires
+    list-sides-requires
+    same-length
+    same-length-2
+    returns)
