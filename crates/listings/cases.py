@@ -1,0 +1,103 @@
+#!/usr/bin/env python3
+"""Questions whose steps are listed. Writes stdin: the number of cases; for each its length in two bytes, the greater half first, then the
+side, the new name and the question. What stdout must have is written by the comparison implementation:
+
+    python3 cases.py && (cd ../../rust && cargo run --release --offline --bin reference-listings) < stdin > stdout
+
+Run it in this folder after a change of the cases.
+"""
+
+
+def field(bs):
+    return [len(bs) // 256, len(bs) % 256, *bs]
+
+
+def question(first, second=(0,), definitions=()):
+    bs = [1, len(definitions), *(arity for arity, body in definitions)]
+    for _, body in definitions:
+        bs += field(body)
+    return bs + field(first) + field(second) + field([])
+
+
+def taus(n):
+    """A term of n bytes."""
+    return [1] * (n - 1) + [0]
+
+
+def choice(terms):
+    bs = []
+    for t in terms[:-1]:
+        bs += [6, *t]
+    return bs + terms[-1]
+
+
+def small(n):
+    """n distinct terms without names, the shortest first."""
+    terms = [[0]]
+    for t in terms:
+        if len(terms) >= n:
+            return terms[:n]
+        terms += [[1, *t], [8, *t]]
+
+
+OUTPUT, INPUT = 3, 2
+# K and L over one channel: outputs and inputs with distinct continuations
+K = (1, choice([[OUTPUT, 128, 128, *t] for t in small(15)]))
+L = (1, choice([[INPUT, 128, *t] for t in small(17)]))
+MEET = [8, 7, 9, 0, 128, 9, 1, 128]
+# many of each, all with the same continuation
+MANY_OUT = (1, choice([[OUTPUT, 128, 128, 0]] * 22))
+MANY_IN = (1, choice([[INPUT, 128, 0]] * 28))
+
+# document 01, "Exchanges to try": the two sides of each, and their definitions
+EXCHANGES = [
+    ([0], [0], []),
+    ([5, 0, 1, 1, 0], [0], []),
+    ([6, 1, 0, 5, 0, 1, 1, 0], [1, 0], []),
+    ([7, 2, 0, 0, 3, 1, 2, 0], [6, 2, 0, 3, 1, 2, 0, 3, 1, 2, 2, 0, 0], []),
+    ([8, 3, 0, 128, 0], [4, 0, 0], []),
+    ([4, 0, 5, 128, 1, 1, 0], [4, 0, 0], []),
+    ([2, 0, 5, 128, 1, 1, 0], [2, 0, 0], []),
+    ([8, 5, 128, 128, 1, 0], [1, 0], []),
+    ([9, 0, 0], [3, 0, 0, 9, 0, 0], [(1, [3, 128, 128, 9, 0, 128])]),
+    ([9, 0, 0], [9, 0, 0], [(1, [3, 128, 128, 8, 9, 0, 129])]),
+]
+
+CASES = [
+    *[(side, 15, question(*e)) for e in EXCHANGES for side in (1, 2)],
+    # check 13: no side, no name, a name that is free
+    (0, 15, question([0])),
+    (3, 15, question([0])),
+    (1, 16, question([0])),
+    (1, 0, question([2, 0, 0])),
+    # check 3 comes first
+    (0, 16, []),
+    # the new name is received, extruded, and put for a parameter of a called body without capture
+    (1, 1, question([2, 0, 3, 128, 0, 0])),
+    (1, 1, question([8, 3, 0, 128, 2, 128, 0])),
+    (1, 3, question([8, 9, 0, 0, 128], definitions=[(2, [8, 3, 130, 129, 3, 128, 129, 0])])),
+    # Open does not apply on the restricted channel; a match of two restricted names blocks, a trivial one does not
+    (1, 1, question([8, 3, 128, 0, 0])),
+    (1, 1, question([8, 8, 5, 128, 129, 1, 0])),
+    (1, 1, question([8, 8, 5, 129, 129, 1, 0])),
+    # Com merges the channels; Close binds the extruded name
+    (1, 15, question([7, 2, 0, 3, 128, 2, 0, 3, 1, 3, 0])),
+    (1, 15, question([7, 2, 0, 3, 128, 2, 0, 8, 3, 1, 128, 3, 128, 2, 0])),
+    # 616 communications and 50 visible steps before a restriction leave one step
+    (1, 1, question([8, 7, 9, 0, 128, 9, 1, 128], definitions=[MANY_OUT, MANY_IN])),
+    # exactly 256 and 257 distinct steps
+    (1, 15, question([7, *MEET, 3, 0, 0, 0], definitions=[K, L])),
+    (1, 15, question([7, 7, *MEET, 3, 0, 0, 0, 3, 1, 1, 0], definitions=[K, L])),
+    # a result of 112 and of 113 bytes
+    (1, 0, question([7, 9, 0, 0], definitions=[(0, taus(111))])),
+    (1, 0, question([7, 9, 0, 0], definitions=[(0, taus(112))])),
+    # one of 113 that an outer restriction blocks
+    (1, 0, question([8, 7, 9, 0, 128, 1, 0], definitions=[(1, [3, 128, 128, *taus(109)])])),
+    # 37 parallel components
+    (1, 0, question([7] * 36 + [1, 0] * 37)),
+]
+
+with open("stdin", "wb") as f:
+    f.write(bytes([len(CASES)]))
+    for side, name, q in CASES:
+        f.write(bytes(field([side, name, *q])))
