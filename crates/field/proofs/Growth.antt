@@ -12,16 +12,9 @@ use native.Mathlib.Nat.{sub-zero}
 use Rattle.field.specs.Setting.{Setting}
 use Rattle.field.specs.Situation.{Situation, sameSituation}
 use Rattle.field.specs.Successors.{Outcome, pastLimit, leads, successors}
+use Rattle.field.specs.Growing.{grownBy, grown}
 use Rattle.field.specs.Exploration.{found, unseen, together, Row, Exploration, incomplete, explored, withRow, explore, fieldOf}
 use Rattle.field.proofs.Run.{explore-past, explore-leads, freshIn}
-
--- the known situations with s put behind them, if it is not one of them
-unfoldable pub grownBy : List Situation → Situation → List Situation
-grownBy known s = cond (found known s) known (known ++ (s ∷ []))
-
-unfoldable pub grown : List Situation → List Situation → List Situation
-grown known [] = known
-grown known (s ∷ ss) = grown (grownBy known s) ss
 
 -- Which situations are unseen depends on what is found among the known ones alone.
 unseen-alike : (k l ss : List Situation) → ((t : Situation) → found k t ≡ found l t) → unseen k ss ≡ unseen l ss

@@ -3,7 +3,7 @@
 use mathlib.Core.Path.{_≡_, refl, sym, ap, subst, _∙_}
 use mathlib.Core.Bool.{Bool, true, false}
 use mathlib.Core.List.{List, _++_}
-use Prim.Native.Nat.{ℕ, _+_, _-_, _*_, _/_, _%_, _<_, _≤_}
+use Prim.Native.Nat.{ℕ, _+_, _-_, _*_, _/_, _%_, _<_}
 use native.Mathlib.Decide.{decLt}
 use native.Mathlib.Omega.{arith}
 use lib.ListN.{length, getD, take, drop, replicate, length-append}
@@ -20,6 +20,7 @@ use Rattle.terms.proofs.ApartLaws.{holds-apart, apart-holds}
 use Rattle.steps.specs.Lists.{_∈_, All}
 use Rattle.steps.proofs.Membership.{all-∈}
 use Rattle.field.specs.Exploration.{found}
+pub use Rattle.field.specs.Growing.{Fits}
 use Rattle.field.specs.Holding.{SlotsHold}
 use Rattle.field.specs.Key.{SituationAt, bitAt, keyAt, FoundIs}
 use Rattle.field.specs.PairFlags.{pairCount}
@@ -32,11 +33,6 @@ use Rattle.field.proofs.PairLaws.{length-flags, flag-at}
 use Rattle.field.proofs.PairTables.{rows, number-right}
 use Rattle.field.proofs.Proper.{Proper, situation-agreed, either-below, encode-same, same-equal}
 use Rattle.field.proofs.Unseen.{∈-found, found-∈}
-
--- Both parts fit a slot.
-pub record Fits (s : Situation) : Type 0 where
-  pub first : length (encode 0 (s .first)) ≤ longestTerm
-  pub second : length (encode 0 (s .second)) ≤ longestTerm
 
 pub length-key : (s : Situation) → Fits s → length (keyOf s) ≡ keyBytes
 unfolding keyOf
@@ -123,7 +119,7 @@ module _ (arities : List ℕ) where
       ∙ (λ i. situation nameCount (x i) (y i) (t .apart)) ∙ sym (q .canonical)
 
 -- The slot of a situation's key.
-slot-key : (work : List ℕ) (i : ℕ) (s : Situation) → SituationAt work (slotBytes * i) s → keyAt work i ≡ keyOf s
+pub slot-key : (work : List ℕ) (i : ℕ) (s : Situation) → SituationAt work (slotBytes * i) s → keyAt work i ≡ keyOf s
 unfolding keyAt
 slot-key work i s h =
     ap (take keyBytes) (h .there) ∙ take-at (keyOf s) (h .rest) keyBytes (length-key s (record { first = h .first; second = h .second }))

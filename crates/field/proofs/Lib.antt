@@ -1,7 +1,9 @@
 pub mod ClassTests
 pub mod EntryLaws
 pub mod Explored
+pub mod ExploringLaws
 pub mod FieldIsSmallest
+pub mod GrowingLaws
 pub mod Growth
 pub mod KeptPairs
 pub mod KeyLaws
@@ -19,10 +21,12 @@ pub mod OneSide
 pub mod PairLaws
 pub mod PairTables
 pub mod Proper
+pub mod QuestionField
 pub mod Reached
 pub mod ResultLaws
 pub mod Run
 pub mod Selections
+pub mod SlotWriting
 pub mod StartLaws
 pub mod SuccessorsLinked
 pub mod TakingLaws

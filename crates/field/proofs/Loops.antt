@@ -13,7 +13,8 @@ use Rattle.steps.specs.Listed.{ListedStep, classIn}
 use Rattle.field.specs.Situation.{Situation}
 use Rattle.field.specs.Successors.{select, permitted, answers, updatedBy, moves}
 use Rattle.field.specs.Exploration.{together}
-use Rattle.field.proofs.Growth.{grownBy, grown, grown-longer}
+use Rattle.field.specs.Growing.{grownBy, grown}
+use Rattle.field.proofs.Growth.{grown-longer}
 
 pub grown-++ : (known xs ys : List Situation) → grown known (xs ++ ys) ≡ grown (grown known xs) ys
 unfolding grown
@@ -30,7 +31,7 @@ unfolding together
 together-one m = append-nil m
 
 module _ {A : Type 0} (f : A → Bool) where
-  select-++ : (xs ys : List A) → select f (xs ++ ys) ≡ select f xs ++ select f ys
+  pub select-++ : (xs ys : List A) → select f (xs ++ ys) ≡ select f xs ++ select f ys
   unfolding select
   select-++ [] ys = refl
   select-++ (x ∷ xs) ys = go (f x) (select-++ xs ys)

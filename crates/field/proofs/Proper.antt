@@ -28,15 +28,9 @@ use Rattle.terms.proofs.ApartLaws.{holds-apart, apart-holds}
 use Rattle.terms.proofs.ReadEncoded.{read-whole}
 use Rattle.terms.proofs.ScopeLaws.{free-below}
 use Rattle.steps.specs.Lists.{_∈_}
+pub use Rattle.field.specs.Growing.{Proper}
 use Rattle.field.specs.Situation.{Situation, freeFrom, freeIn, pairsOf, situation, sameBytes, sameSituation}
 use Rattle.field.proofs.Selections.{∈-select, select-∈, select-same, keep-select}
-
-pub record Proper (names : ℕ) (arities : List ℕ) (s : Situation) : Type 0 where
-  pub first : InScope names arities 0 (s .first)
-  pub second : InScope names arities 0 (s .second)
-  pub distinction : Irr (s .apart)
-  -- the apart pairs stand as `situation` writes them
-  pub canonical : s ≡ situation names (s .first) (s .second) (s .apart)
 
 -- Pairs of a list, read symmetrically.
 abbrev Holds : Pairs → ℕ → ℕ → Type 0

@@ -1,6 +1,7 @@
 pub mod Entry
 pub mod Exploration
 pub mod Field
+pub mod Growing
 pub mod Holding
 pub mod Key
 pub mod Leading

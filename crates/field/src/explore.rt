@@ -1,7 +1,317 @@
-// Exploration of the field.
+// Exploration of the field: document 01, "The field and the verdict".
+ghost use mathlib.Core.Path.{_≡_};
+ghost use Prim.Native.Nat.{_+_, _*_, _<_, _≤_};
+ghost use lib.ListN.{length};
+ghost use Rattle.steps.specs.Limits.{stepBytes, mostSteps};
+ghost use Rattle.field.specs.Growing.{slotWith, AddIs, GrowsAnswer, GrowsAnswers, GrowsStep, GrowsSide, GrowsSides, GrowIs};
+ghost use Rattle.field.specs.Holding.{ExploreIs};
+ghost use Rattle.field.specs.Slot.{keyBytes, slotBytes};
+use crate::entries::answers;
+use crate::find::Found;
+use crate::find::KEY_BYTES;
+use crate::find::SLOT_BYTES;
+use crate::find::find;
+use crate::pairs::PAIR_COUNT;
+use crate::pairs::permitted;
+use crate::results::successor;
+use crate::start::start_key;
+use crate::taking::Lists;
+use crate::taking::take_up;
+use steps::bodies::arities_of;
+use steps::limits::MOST_STEPS;
+use steps::limits::STEP_BYTES;
+use terms::bytes::copy;
 
 // The size of the field, or a limit is passed.
 pub enum Explored {
     Incomplete,
     Field(usize),
+}
+
+// The number of situations known, or a limit is passed: they outgrow the capacity, or one of them is past a limit.
+pub enum Growth {
+    Full,
+    Known(usize),
+}
+
+// Writes the key into slot `i`; the byte behind it says that the situation is left.
+fn put(work: &mut [u8], i: usize, key: &[u8])
+    requires { ⌜ (i < 4096) × (slotBytes * i + slotBytes ≤ length (now work)) × (keyBytes ≤ length (now key)) ⌝ }
+    ensures { λ _. ⌜ now (work .exit) ≡ slotWith (now (work .entry)) i (now (key .entry)) ⌝ }
+{
+    let at = SLOT_BYTES * i;
+    copy(key, 0, KEY_BYTES, work, at);
+    work[at + KEY_BYTES] = 0;
+}
+
+// Puts the situation with this key behind the known ones if it is new.
+fn add(work: &mut [u8], capacity: usize, known: usize, key: &[u8]) -> Growth
+    requires { ⌜ (known ≤ capacity) × (capacity ≤ 4096) × (slotBytes * capacity ≤ length (now work)) × (keyBytes ≤ length (now key)) ⌝ }
+    ensures { λ r. ⌜ AddIs capacity (now (work .entry)) known (now (key .entry)) r (now (work .exit)) ⌝ }
+{
+    let place = find(work, known, key);
+    match place {
+        Found::At(_) => Growth::Known(known),
+        Found::Nothing => {
+            if known == capacity {
+                return Growth::Full;
+            }
+            put(work, known, key);
+            Growth::Known(known + 1)
+        }
+    }
+}
+
+// What the step at `place` of the other side leads to, if it answers the one at `at`.
+fn grow_answer(
+    arities: &[u8],
+    free: &[u8],
+    apart: [u8; PAIR_COUNT],
+    second: bool,
+    area: &[u8],
+    at: usize,
+    others: &[u8],
+    place: usize,
+    work: &mut [u8],
+    capacity: usize,
+    known: usize,
+) -> Growth
+    requires { ⌜ (known ≤ capacity) × (capacity ≤ 4096) × (slotBytes * capacity ≤ length (now work)) × (at + stepBytes ≤ length (now area)) × (place + stepBytes ≤ length (now others)) ⌝ }
+    ensures { λ r. ⌜ GrowsAnswer (now (arities .entry)) (now (free .entry)) apart second (now (area .entry)) at (now (others .entry)) place capacity (now (work .entry)) known r (now (work .exit)) ⌝ }
+{
+    if !answers(area, at, others, place) {
+        return Growth::Known(known);
+    }
+    let key = successor(arities, free, apart, second, area, at, others, place);
+    add(work, capacity, known, &key)
+}
+
+// What every answer of the other side, which has `count` steps, leads to.
+fn grow_answers(
+    arities: &[u8],
+    free: &[u8],
+    apart: [u8; PAIR_COUNT],
+    second: bool,
+    area: &[u8],
+    at: usize,
+    others: &[u8],
+    count: usize,
+    work: &mut [u8],
+    capacity: usize,
+    known: usize,
+) -> Growth
+    requires { ⌜ (known ≤ capacity) × (capacity ≤ 4096) × (slotBytes * capacity ≤ length (now work)) × (at + stepBytes ≤ length (now area)) × (count ≤ mostSteps) × (mostSteps * stepBytes ≤ length (now others)) ⌝ }
+    ensures { λ r. ⌜ GrowsAnswers (now (arities .entry)) (now (free .entry)) apart second (now (area .entry)) at (now (others .entry)) count capacity (now (work .entry)) known r (now (work .exit)) ⌝ }
+{
+    let mut so_far = known;
+    let mut j = 0;
+    while j < count {
+        let growth = grow_answer(
+            arities,
+            free,
+            apart,
+            second,
+            area,
+            at,
+            others,
+            STEP_BYTES * j,
+            work,
+            capacity,
+            so_far,
+        );
+        let Growth::Known(n) = growth else {
+            return Growth::Full;
+        };
+        so_far = n;
+        j += 1;
+    }
+    Growth::Known(so_far)
+}
+
+// What the step at `at` leads to, if it is permitted.
+fn grow_step(
+    arities: &[u8],
+    free: &[u8],
+    apart: [u8; PAIR_COUNT],
+    second: bool,
+    area: &[u8],
+    at: usize,
+    others: &[u8],
+    count: usize,
+    work: &mut [u8],
+    capacity: usize,
+    known: usize,
+) -> Growth
+    requires { ⌜ (known ≤ capacity) × (capacity ≤ 4096) × (slotBytes * capacity ≤ length (now work)) × (at + stepBytes ≤ length (now area)) × (count ≤ mostSteps) × (mostSteps * stepBytes ≤ length (now others)) ⌝ }
+    ensures { λ r. ⌜ GrowsStep (now (arities .entry)) (now (free .entry)) apart second (now (area .entry)) at (now (others .entry)) count capacity (now (work .entry)) known r (now (work .exit)) ⌝ }
+{
+    if !permitted(&apart, area, at) {
+        return Growth::Known(known);
+    }
+    grow_answers(
+        arities,
+        free,
+        apart,
+        second,
+        area,
+        at,
+        others,
+        count,
+        work,
+        capacity,
+        known,
+    )
+}
+
+// What every permitted step of one side, which has `steps` of them, leads to.
+fn grow_side(
+    arities: &[u8],
+    free: &[u8],
+    apart: [u8; PAIR_COUNT],
+    second: bool,
+    area: &[u8],
+    steps: usize,
+    others: &[u8],
+    count: usize,
+    work: &mut [u8],
+    capacity: usize,
+    known: usize,
+) -> Growth
+    requires { ⌜ (known ≤ capacity) × (capacity ≤ 4096) × (slotBytes * capacity ≤ length (now work)) × (steps ≤ mostSteps) × (mostSteps * stepBytes ≤ length (now area)) × (count ≤ mostSteps) × (mostSteps * stepBytes ≤ length (now others)) ⌝ }
+    ensures { λ r. ⌜ GrowsSide (now (arities .entry)) (now (free .entry)) apart second (now (area .entry)) steps (now (others .entry)) count capacity (now (work .entry)) known r (now (work .exit)) ⌝ }
+{
+    let mut so_far = known;
+    let mut i = 0;
+    while i < steps {
+        let growth = grow_step(
+            arities,
+            free,
+            apart,
+            second,
+            area,
+            STEP_BYTES * i,
+            others,
+            count,
+            work,
+            capacity,
+            so_far,
+        );
+        let Growth::Known(n) = growth else {
+            return Growth::Full;
+        };
+        so_far = n;
+        i += 1;
+    }
+    Growth::Known(so_far)
+}
+
+// What the steps of both sides lead to: `n` of the first and `m` of the second.
+fn grow_sides(
+    arities: &[u8],
+    free: &[u8],
+    apart: [u8; PAIR_COUNT],
+    firsts: &[u8],
+    n: usize,
+    seconds: &[u8],
+    m: usize,
+    work: &mut [u8],
+    capacity: usize,
+    known: usize,
+) -> Growth
+    requires { ⌜ (known ≤ capacity) × (capacity ≤ 4096) × (slotBytes * capacity ≤ length (now work)) × (n ≤ mostSteps) × (mostSteps * stepBytes ≤ length (now firsts)) × (m ≤ mostSteps) × (mostSteps * stepBytes ≤ length (now seconds)) ⌝ }
+    ensures { λ r. ⌜ GrowsSides (now (arities .entry)) (now (free .entry)) apart (now (firsts .entry)) n (now (seconds .entry)) m capacity (now (work .entry)) known r (now (work .exit)) ⌝ }
+{
+    let growth = grow_side(
+        arities,
+        free,
+        apart,
+        false,
+        firsts,
+        n,
+        seconds,
+        m,
+        work,
+        capacity,
+        known,
+    );
+    match growth {
+        Growth::Full => Growth::Full,
+        Growth::Known(so_far) => grow_side(
+            arities,
+            free,
+            apart,
+            true,
+            seconds,
+            m,
+            firsts,
+            n,
+            work,
+            capacity,
+            so_far,
+        ),
+    }
+}
+
+// Takes up the situation in slot `taken`; the two lists are for the steps of its sides.
+fn grow(
+    question: &[u8],
+    taken: usize,
+    firsts: &mut [u8],
+    seconds: &mut [u8],
+    work: &mut [u8],
+    capacity: usize,
+    known: usize,
+) -> Growth
+    requires { ⌜ (taken < known) × (known ≤ capacity) × (capacity ≤ 4096) × (slotBytes * capacity ≤ length (now work)) × (mostSteps * stepBytes ≤ length (now firsts)) × (mostSteps * stepBytes ≤ length (now seconds)) ⌝ }
+    ensures { λ r. ⌜ GrowIs (now (question .entry)) taken capacity (now (work .entry)) known r (now (work .exit)) ⌝ }
+{
+    let up = take_up(question, work, SLOT_BYTES * taken, firsts, seconds);
+    let free = up.free;
+    let apart = up.apart;
+    let lists = up.lists;
+    match lists {
+        Lists::Past => Growth::Full,
+        Lists::Listed(n, m) => grow_sides(
+            arities_of(question),
+            &free,
+            apart,
+            firsts,
+            n,
+            seconds,
+            m,
+            work,
+            capacity,
+            known,
+        ),
+    }
+}
+
+// Takes up the situations from the start on until none waits.
+pub fn explore(question: &[u8], capacity: usize, work: &mut [u8]) -> Explored
+    requires { ⌜ (1 ≤ capacity) × (capacity ≤ 4096) × (slotBytes * capacity ≤ length (now work)) ⌝ }
+    ensures { λ r. ⌜ ExploreIs (now (question .entry)) capacity (now (work .entry)) r (now (work .exit)) ⌝ }
+{
+    let key = start_key(question);
+    put(work, 0, &key);
+    let mut firsts = [0u8; MOST_STEPS * STEP_BYTES];
+    let mut seconds = [0u8; MOST_STEPS * STEP_BYTES];
+    let mut known = 1;
+    let mut taken = 0;
+    while taken < known {
+        let growth = grow(
+            question,
+            taken,
+            &mut firsts,
+            &mut seconds,
+            work,
+            capacity,
+            known,
+        );
+        let Growth::Known(n) = growth else {
+            return Explored::Incomplete;
+        };
+        known = n;
+        taken += 1;
+    }
+    Explored::Field(known)
 }

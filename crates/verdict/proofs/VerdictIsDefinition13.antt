@@ -4,7 +4,6 @@ use mathlib.Core.Path.{_≡_}
 use mathlib.Core.List.{List}
 use mathlib.Core.Logic.{_↔_}
 use Prim.Native.Nat.{ℕ, _<_, _≤_}
-use native.Mathlib.Omega.{arith}
 use Rattle.calculus.specs.Definitions.{Defs}
 use Rattle.calculus.specs.OpenBisimulation.{Related}
 use Rattle.terms.specs.Answer.{result}
@@ -12,31 +11,15 @@ use Rattle.terms.specs.Limits.{nameCount}
 use Rattle.terms.specs.Question.{Question, checkOf}
 use Rattle.terms.proofs.ApartLaws.{apart-irreflexive}
 use Rattle.terms.proofs.WellFormed.{WellFormed, accepted-well-formed}
-use Rattle.steps.proofs.QuestionDefinitions.{bodies-in-scope, opens-one}
 use Rattle.field.specs.Field.{PastLimit, FieldSize}
 use Rattle.field.specs.Setting.{settingOf}
 use Rattle.field.specs.Situation.{situation, startOf}
 use Rattle.field.proofs.Link.{SettingFor}
-use Rattle.field.proofs.Proper.{Proper, either-below, related-situation, situation-proper}
+use Rattle.field.proofs.Proper.{Proper, either-below, related-situation}
+use Rattle.field.proofs.QuestionField.{question-setting, start-proper}
 use Rattle.verdict.specs.Entries.{Defines}
 use Rattle.verdict.specs.Verdict.{Numbered, unsettled, same, different, verdictOf}
 use Rattle.verdict.proofs.DecidedField.{number-within, decided-within, decided-past, decided-same, decided-different, decided-unsettled, decided-size}
-
--- what the field asks of the definitions
-pub question-setting : (q : Question) → WellFormed q → (Δ : Defs) → Defines q Δ → SettingFor Δ (settingOf (q .bodies)) (q .arities)
-unfolding settingOf
-question-setting q w Δ d = record {
-  bodies = d .bodies;
-  calls = bodies-in-scope (q .arities) (q .bodies) (w .bodies) Δ (d .arities) (d .bodies);
-  opens = opens-one (q .arities) (q .bodies) (w .bodies) Δ (d .arities) (d .bodies);
-  few = omega arith;
-}
-
-pub start-proper : (q : Question) → WellFormed q → Proper nameCount (q .arities) (startOf q)
-unfolding startOf
-start-proper q w =
-    situation-proper nameCount (q .arities) (q .first) (q .second) (w .first .scope) (w .second .scope) (q .apart)
-    (apart-irreflexive (q .apart) (w .apart))
 
 -- the whole apart list, and the pairs of the start
 pub start-related : (q : Question) → WellFormed q → (Δ : Defs)
@@ -52,7 +35,7 @@ module _ (question : List ℕ) (q : Question) (accepted : checkOf question ≡ r
   well = accepted-well-formed question q accepted
 
   setting : SettingFor Δ (settingOf (q .bodies)) (q .arities)
-  setting = question-setting q well Δ defines
+  setting = question-setting q well Δ (defines .arities) (defines .bodies)
 
   start : Proper (settingOf (q .bodies) .names) (q .arities) (startOf q)
   unfolding settingOf

@@ -1,0 +1,215 @@
+-- A situation taken up, and exploration over all of them. Assumes nothing.
+use mathlib.Core.Bool.{true, false}
+use mathlib.Core.List.{List, [], _∷_, _++_}
+use mathlib.Core.Path.{_≡_, refl, sym, _∙_, ap, subst}
+use native.Mathlib.Omega.{arith}
+use native.Mathlib.Numerals.{add-one}
+use Prim.Native.Nat.{ℕ, _+_, _*_, _<_, _≤_}
+use lib.ListN.{length, getD, drop}
+use lib.Seq.{take-all}
+use Rattle.calculus.specs.Definitions.{Defs}
+use Rattle.calculus.specs.Free.{fn}
+use Rattle.terms.specs.Answer.{result}
+use Rattle.terms.specs.Limits.{nameCount}
+use Rattle.terms.specs.Question.{Question, checkOf}
+use Rattle.terms.proofs.WellFormed.{WellFormed, accepted-well-formed}
+use Rattle.steps.specs.Bodies.{AritiesIs}
+use Rattle.steps.specs.Lists.{All}
+use Rattle.steps.proofs.Membership.{∈-all, all-∈}
+use Rattle.steps.proofs.QuestionDefinitions.{definitions}
+use Rattle.field.specs.Exploration.{incomplete, fieldOf, together}
+use Rattle.field.specs.Growing.{Proper, Fitting, grown, Knows, GrowsTo, Puts, slotWith, Flagged, moved, GrowsSides, Follows, GrowIs}
+use Rattle.field.specs.Holding.{Explores, ExploreIs}
+use Rattle.field.specs.Leading.{placed, StartIs}
+use Rattle.field.specs.Setting.{Setting, settingOf}
+use Rattle.field.specs.Situation.{Situation, freeIn, situation, startOf}
+use Rattle.field.specs.Slot.{keyBytes, slotBytes}
+use Rattle.field.specs.Successors.{Outcome, pastLimit, leads, moves, successors}
+use Rattle.field.specs.TakingUp.{SidesListed, ListsAre, TakenAs, TakesUp}
+use Rattle.field.specs.declared.explore.Explored.{Explored}
+use Rattle.field.specs.declared.explore.Explored.the-variants.{Incomplete, Field}
+use Rattle.field.specs.declared.explore.Growth.{Growth}
+use Rattle.field.specs.declared.explore.Growth.the-variants.{Full, Known}
+use Rattle.field.specs.declared.taking.Lists.the-variants.{Past, Listed}
+use Rattle.field.specs.declared.taking.TakenUp.{TakenUp}
+use Rattle.field.proofs.FieldIsSmallest.{invariant}
+use Rattle.field.proofs.Growth.{Exploring, exploring-start, exploring-past, exploring-full, exploring-on, exploring-end}
+use Rattle.field.proofs.GrowingLaws.{grows-full, whole-key}
+use Rattle.field.proofs.Loops.{together-++}
+use Rattle.field.proofs.Members.{getD-∈}
+use Rattle.field.proofs.QuestionField.{question-setting, start-proper}
+use Rattle.field.proofs.Reached.{together-leads}
+use Rattle.field.proofs.SlotWriting.{slot-rest, knows-more}
+
+-- What a proper situation of an accepted question leads to is proper.
+module _ (question : List ℕ) (q : Question) (accepted : checkOf question ≡ result q) where
+  well : WellFormed q
+  well = accepted-well-formed question q accepted
+
+  abbrev S : Setting
+  S = settingOf (q .bodies)
+
+  together-proper : (s : Situation) (ms : List (List Situation)) → Proper nameCount (q .arities) s → successors S s ≡ leads ms
+      → All (Proper nameCount (q .arities)) (together ms)
+  unfolding settingOf definitions
+  together-proper s ms p e =
+      let Δ : Defs = definitions (q .arities) (q .bodies) (well .bodies) in
+      ∈-all (Proper nameCount (q .arities)) (together ms)
+      (λ t i. invariant Δ S (q .arities) (question-setting q well Δ (λ k. refl) refl) .kept s t p (together-leads S s ms e t i))
+
+  start-fitting : Fitting (q .arities) (startOf q)
+  unfolding startOf situation
+  start-fitting = record { proper = start-proper q well; fits = record { first = well .first .size; second = well .second .size } }
+
+-- The situation of number `taken`.
+module _ (question : List ℕ) (taken capacity : ℕ) (work : List ℕ) (known : ℕ) (waits : taken < known) (up : TakenUp) (firsts seconds : List ℕ)
+    (T : TakesUp question work (slotBytes * taken) up firsts seconds) where
+  module _ (q : Question) (accepted : checkOf question ≡ result q) (ks : List Situation) (d : Situation) (K : Knows (q .arities) work known ks) where
+    abbrev s : Situation
+    s = getD ks taken d
+
+    inside : taken < length ks
+    inside = omega (arith, K .count)
+
+    proper : Proper nameCount (q .arities) s
+    proper = all-∈ (Fitting (q .arities)) ks (K .fitting) s (getD-∈ ks taken d inside) .proper
+
+    taken-as : TakenAs q s up firsts seconds
+    taken-as = T .is q s accepted (K .slots .held taken d inside) (proper .first) (proper .second)
+
+    follows-past : up .lists ≡ Past → Follows (q .arities) capacity ks (successors (settingOf (q .bodies)) s) Full work
+    unfolding ListsAre Follows
+    follows-past e =
+        let p : successors (settingOf (q .bodies)) s ≡ pastLimit = subst (λ l. ListsAre q s l firsts seconds) e (taken-as .lists) in
+        subst (λ o. Follows (q .arities) capacity ks o Full work) (sym p) refl
+
+    module _ (n m : ℕ) (e : up .lists ≡ Listed n m) (r : Growth) (work′ : List ℕ)
+        (g : GrowsSides (q .arities) (up .free) (up .apart) firsts n seconds m capacity work known r work′) where
+      sides : SidesListed q s n m firsts seconds
+      unfolding ListsAre
+      sides = subst (λ l. ListsAre q s l firsts seconds) e (taken-as .lists)
+
+      abbrev names : List ℕ
+      names = fn (s .first) ++ fn (s .second)
+
+      abbrev ms : List (List Situation)
+      ms = moves nameCount (placed false) (freeIn nameCount (s .first) (s .second)) (s .apart) (sides .ps) (sides .qs)
+          ++ moves nameCount (placed true) (freeIn nameCount (s .first) (s .second)) (s .apart) (sides .qs) (sides .ps)
+
+      both : together ms ≡ moved false names (s .apart) (sides .ps) (sides .qs) ++ moved true names (s .apart) (sides .qs) (sides .ps)
+      unfolding moved freeIn
+      both = together-++ (moves nameCount (placed false) (freeIn nameCount (s .first) (s .second)) (s .apart) (sides .ps) (sides .qs))
+          (moves nameCount (placed true) (freeIn nameCount (s .first) (s .second)) (s .apart) (sides .qs) (sides .ps))
+
+      follows-listed : Follows (q .arities) capacity ks (successors (settingOf (q .bodies)) s) r work′
+      unfolding Follows Puts
+      follows-listed =
+          let flags : Flagged (up .free) (up .apart) names (s .apart) =
+          record { names = taken-as .free; pairs = taken-as .apart; distinction = proper .distinction } in
+          subst (λ o. Follows (q .arities) capacity ks o r work′) (sym (sides .leading))
+          (subst (λ l. GrowsTo (q .arities) capacity (grown ks l) r work′) (sym both)
+          (g .is names (s .apart) (sides .ps) (sides .qs) flags (sides .first) (sides .second)
+          (subst (All (Proper nameCount (q .arities))) both (together-proper question q accepted s ms proper (sides .leading))) ks K))
+
+  pub grow-past : up .lists ≡ Past → GrowIs question taken capacity work known Full work
+  grow-past e = record { grows = grows-full capacity work known; is = λ q a ks d K. follows-past q a ks d K e }
+
+  pub grow-listed : (n m : ℕ) → up .lists ≡ Listed n m → (arities : List ℕ) → AritiesIs question arities → (r : Growth) (work′ : List ℕ)
+      → GrowsSides arities (up .free) (up .apart) firsts n seconds m capacity work known r work′ → GrowIs question taken capacity work known r work′
+  unfolding AritiesIs
+  grow-listed n m e arities A r work′ g = record {
+    grows = g .grows;
+    is = λ q a ks d K. follows-listed q a ks d K n m e r work′
+        (subst (λ l. GrowsSides l (up .free) (up .apart) firsts n seconds m capacity work known r work′) (A q a) g);
+  }
+
+-- Exploration: the known situations, of which the first `taken` have been taken up.
+pub record Explorer (q : Question) (capacity : ℕ) (work : List ℕ) (known taken : ℕ) : Type 0 where
+  pub ks : List Situation
+  pub exploring : Exploring (settingOf (q .bodies)) capacity (startOf q) ks taken
+  pub knows : Knows (q .arities) work known ks
+
+module _ (question : List ℕ) (capacity : ℕ) (work₀ : List ℕ) where
+  pub record Explorers (work : List ℕ) (known taken : ℕ) : Type 0 where
+    pub rest : drop (slotBytes * capacity) work ≡ drop (slotBytes * capacity) work₀
+    pub is : (q : Question) → checkOf question ≡ result q → Explorer q capacity work known taken
+
+  module _ (work : List ℕ) (known taken : ℕ) (x : Explorers work known taken) (waits : taken < known) (work′ : List ℕ) where
+    pub explorers-next : (n : ℕ) → GrowIs question taken capacity work known (Known n) work′ → Explorers work′ n (taken + 1)
+    unfolding Follows GrowsTo
+    explorers-next n g = record {
+      rest = g .grows .rest ∙ x .rest;
+      is = λ q a.
+          let y = x .is q a in
+          next q y (successors (settingOf (q .bodies)) (getD (y .ks) taken (startOf q))) refl (g .is q a (y .ks) (startOf q) (y .knows));
+    }
+      where
+        next : (q : Question) (y : Explorer q capacity work known taken) (o : Outcome) → successors (settingOf (q .bodies)) (getD (y .ks) taken (startOf q)) ≡ o
+            → Follows (q .arities) capacity (y .ks) o (Known n) work′ → Explorer q capacity work′ n (taken + 1)
+        next q y pastLimit e f = let z : _≡_ {A = ℕ} 0 1 = cc in absurd (omega arith)
+        next q y (leads ms) e f = record {
+          ks = grown (y .ks) (together ms);
+          exploring = rw add-one (exploring-on (settingOf (q .bodies)) capacity (startOf q) (y .ks) taken (y .exploring) (omega (arith, y .knows .count)) ms e
+              (omega (arith, f .count, g .grows .within n refl .1)));
+          knows = f;
+        }
+
+    pub explorers-full : GrowIs question taken capacity work known Full work′ → ExploreIs question capacity work₀ Incomplete work′
+    unfolding Explores Follows GrowsTo
+    explorers-full g = record {
+      rest = g .grows .rest ∙ x .rest;
+      within = λ n e. let z : _≡_ {A = ℕ} 0 1 = cc in absurd (omega arith);
+      is = λ q a.
+          let y = x .is q a in
+          rw (none q y (successors (settingOf (q .bodies)) (getD (y .ks) taken (startOf q))) refl (g .is q a (y .ks) (startOf q) (y .knows))) refl;
+    }
+      where
+        none : (q : Question) (y : Explorer q capacity work known taken) (o : Outcome) → successors (settingOf (q .bodies)) (getD (y .ks) taken (startOf q)) ≡ o
+            → Follows (q .arities) capacity (y .ks) o Full work′ → fieldOf (settingOf (q .bodies)) capacity (startOf q) ≡ incomplete
+        none q y pastLimit e f = exploring-past (settingOf (q .bodies)) capacity (startOf q) (y .ks) taken (y .exploring) (omega (arith, y .knows .count)) e
+        none q y (leads ms) e f = exploring-full (settingOf (q .bodies)) capacity (startOf q) (y .ks) taken (y .exploring) (omega (arith, y .knows .count)) ms e f
+
+  pub explorers-end : (work : List ℕ) (known taken : ℕ) → Explorers work known taken → taken ≡ known → 1 ≤ known → known ≤ capacity
+      → ExploreIs question capacity work₀ (Field known) work
+  unfolding Explores
+  explorers-end work known taken x h some few = record {
+    rest = x .rest;
+    within = λ n e. let z : known ≡ n = cc in (omega arith, omega arith);
+    is = λ q a. whole q (x .is q a);
+  }
+    where
+      whole : (q : Question) → Explorer q capacity work known taken → Explores (fieldOf (settingOf (q .bodies)) capacity (startOf q)) (Field known) work
+      whole q y =
+          let n : taken ≡ length (y .ks) = omega (arith, y .knows .count) in
+          let z : Exploring (settingOf (q .bodies)) capacity (startOf q) (y .ks) (length (y .ks)) = subst (Exploring (settingOf (q .bodies)) capacity (startOf q) (y .ks)) n (y .exploring) in
+          let m : known ≡ length (z .rows) = omega (arith, z .count, y .knows .count) in
+          rw (exploring-end (settingOf (q .bodies)) capacity (startOf q) (y .ks) z)
+          (ap Field m, rw (z .selves ∙ take-all (length (y .ks)) (y .ks) (omega arith)) (y .knows .slots))
+
+-- The start in the first slot.
+module _ (question : List ℕ) (capacity : ℕ) (some : 1 ≤ capacity) (work : List ℕ) (room : slotBytes * capacity ≤ length work) (key : List ℕ)
+    (long : keyBytes ≤ length key) (work₀ : List ℕ) (w : work₀ ≡ slotWith work 0 key) where
+  slot : slotBytes * 0 + slotBytes ≤ length work
+  slot = omega arith
+
+  pub explorers-start : StartIs question key → Explorers question capacity work₀ work₀ 1 0
+  unfolding StartIs
+  explorers-start S = record {
+    rest = refl;
+    is = λ q a.
+        let f = start-fitting question q a in
+        let none : Knows (q .arities) work 0 [] =
+        record { count = refl; fitting = tt; slots = record { held = λ i d k. absurd (omega arith); left = λ i k. absurd (omega arith) } } in
+        record {
+          ks = startOf q ∷ [];
+          exploring = exploring-start (settingOf (q .bodies)) capacity (startOf q) some;
+          knows = rw w (knows-more work key 0 slot long (q .arities) [] none (startOf q) f (whole-key key (startOf q) (f .fits) (S q a)));
+        };
+  }
+
+  pub explored-from : (r : Explored) (work′ : List ℕ) → ExploreIs question capacity work₀ r work′ → ExploreIs question capacity work r work′
+  explored-from r work′ x = record {
+    rest = x .rest ∙ ap (drop (slotBytes * capacity)) w ∙ slot-rest work key 0 slot long capacity some;
+    within = x .within;
+    is = x .is;
+  }

@@ -1,0 +1,34 @@
+-- What an accepted question gives the field: its definitions, and a proper start. Assumes nothing.
+use mathlib.Core.Path.{_≡_}
+use native.Mathlib.Omega.{arith}
+use Prim.Native.Nat.{ℕ}
+use lib.ListN.{getD}
+use Rattle.calculus.specs.Definitions.{Defs}
+use Rattle.terms.specs.Limits.{nameCount}
+use Rattle.terms.specs.Question.{Question}
+use Rattle.terms.proofs.ApartLaws.{apart-irreflexive}
+use Rattle.terms.proofs.WellFormed.{WellFormed}
+use Rattle.steps.specs.Listing.{bodyOf}
+use Rattle.steps.proofs.QuestionDefinitions.{bodies-in-scope, opens-one}
+use Rattle.field.specs.Growing.{Proper}
+use Rattle.field.specs.Setting.{settingOf}
+use Rattle.field.specs.Situation.{startOf}
+use Rattle.field.proofs.Link.{SettingFor}
+use Rattle.field.proofs.Proper.{situation-proper}
+
+-- what the field asks of the definitions
+pub question-setting : (q : Question) → WellFormed q → (Δ : Defs) → ((k : ℕ) → Δ .arity k ≡ getD (q .arities) k 0) → Δ .body ≡ bodyOf (q .bodies)
+    → SettingFor Δ (settingOf (q .bodies)) (q .arities)
+unfolding settingOf
+question-setting q w Δ arities bodies = record {
+  bodies = bodies;
+  calls = bodies-in-scope (q .arities) (q .bodies) (w .bodies) Δ arities bodies;
+  opens = opens-one (q .arities) (q .bodies) (w .bodies) Δ arities bodies;
+  few = omega arith;
+}
+
+pub start-proper : (q : Question) → WellFormed q → Proper nameCount (q .arities) (startOf q)
+unfolding startOf
+start-proper q w =
+    situation-proper nameCount (q .arities) (q .first) (q .second) (w .first .scope) (w .second .scope) (q .apart)
+    (apart-irreflexive (q .apart) (w .apart))

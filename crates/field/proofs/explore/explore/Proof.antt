@@ -1,0 +1,92 @@
+-- `field::explore::explore` meets its contract. Assumes nothing.
+use native.Mathlib.Omega.{arith}
+use mathlib.Core.Path.{_≡_, refl}
+use Prim.Native.Nat.{_*_, _-_, _≤_}
+use lib.ListN.{length}
+use Rattle.steps.specs.Limits.{stepBytes, mostSteps}
+use Rattle.field.proofs.ExploringLaws.{Explorers, explorers-start, explorers-next, explorers-full, explorers-end, explored-from}
+use borrow.Author.Needs.{needs}
+use Rattle.field.proofs.explore.explore.Statement.{statement}
+use Rattle.field.proofs.explore.explore.Tie as tie
+
+abbrev Inv-loop : tie.InvT-loop
+Inv-loop question capacity work₀ firsts₀ seconds₀ known₀ taken₀ work firsts seconds known taken =
+    (taken ≤ known) × (1 ≤ known) × (known ≤ capacity) × (length work ≡ length work₀) × (length firsts ≡ mostSteps * stepBytes) × (length seconds ≡ mostSteps * stepBytes)
+    × Explorers question capacity work₀ work known taken
+
+abbrev μ-loop : tie.MeasureT-loop
+μ-loop question capacity work₀ firsts₀ seconds₀ known₀ taken₀ work firsts seconds known taken = capacity - taken
+
+start-key-requires : tie.Need-start-key-requires Inv-loop μ-loop
+start-key-requires c κs = search needs
+
+slice-aggregate-put : tie.Need-slice-aggregate-put Inv-loop μ-loop
+slice-aggregate-put c = search needs
+
+put-requires : tie.Need-put-requires Inv-loop μ-loop
+put-requires c κs = search needs
+
+loop-holds : tie.Need-loop-holds Inv-loop μ-loop
+loop-holds c = (search needs, search needs, search needs, search needs, search needs, search needs, explorers-start _ _ (omega arith) _ (omega arith) _ (omega arith) _ (c .before .before .put .ensures) (c .before .before .before .before .before .start-key .ensures))
+
+slice-aggregate-grow : tie.Need-slice-aggregate-grow Inv-loop μ-loop
+slice-aggregate-grow c = search needs
+
+slice-aggregate-grow-2 : tie.Need-slice-aggregate-grow-2 Inv-loop μ-loop
+slice-aggregate-grow-2 c = search needs
+
+grow-requires : tie.Need-grow-requires Inv-loop μ-loop
+grow-requires c κs = search needs
+
+enum-known-growth : tie.Need-enum-known-growth Inv-loop μ-loop
+enum-known-growth c = search needs
+
+enum-told : tie.Need-enum-told Inv-loop μ-loop
+enum-told c = search needs
+
+same-length : tie.Need-same-length Inv-loop μ-loop
+same-length c = search needs
+
+returns : tie.Need-returns Inv-loop μ-loop
+returns c = explored-from _ _ (omega arith) _ (omega arith) _ (omega arith) _ (c .before .before .before .before .before .before .before .before .before .before .before .before .before .before .put .ensures) _ _ (explorers-full _ _ _ _ _ _ (c .before .before .before .before .before .before .before .before .before .before .before .loop .inv .6) (c .before .before .before .before .before .before .before .before .before .before .loop-test .taken) _ (rw (c .enum-told .given .1) at (c .before .before .before .before .before .before .grow .ensures)))
+
+add-taken : tie.Need-add-taken Inv-loop μ-loop
+add-taken c = search needs
+
+loop-less : tie.Need-loop-less Inv-loop μ-loop
+loop-less c = search needs
+
+loop-again : tie.Need-loop-again Inv-loop μ-loop
+loop-again c =
+    let g = rw (c .before .growth .given .1) at (c .before .before .before .before .before .before .before .grow .ensures) in
+    let b = g .grows .within _ refl in
+    (omega arith, omega arith, b .1, search needs, search needs, search needs, explorers-next _ _ _ _ _ _ (c .before .before .before .before .before .before .before .before .before .before .before .before .loop .inv .6) (c .before .before .before .before .before .before .before .before .before .before .before .loop-test .taken) _ _ g)
+
+same-length-2 : tie.Need-same-length-2 Inv-loop μ-loop
+same-length-2 c = search needs
+
+returns-2 : tie.Need-returns-2 Inv-loop μ-loop
+returns-2 c = explored-from _ _ (omega arith) _ (omega arith) _ (omega arith) _ (c .before .before .before .before .put .ensures) _ _ (explorers-end _ _ _ _ _ _ (c .before .loop .inv .6) (omega arith) (omega arith) (omega arith))
+
+pub explore-spec : {M : Type 1} → statement M
+explore-spec =
+    tie.close
+    (tie.spec
+    Inv-loop
+    μ-loop
+    start-key-requires
+    slice-aggregate-put
+    put-requires
+    loop-holds
+    slice-aggregate-grow
+    slice-aggregate-grow-2
+    grow-requires
+    enum-known-growth
+    enum-told
+    same-length
+    returns
+    add-taken
+    loop-less
+    loop-again
+    same-length-2
+    returns-2)

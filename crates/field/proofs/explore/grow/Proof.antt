@@ -1,0 +1,72 @@
+-- `field::explore::grow` meets its contract. Assumes nothing.
+use Rattle.field.proofs.ExploringLaws.{grow-past, grow-listed}
+use borrow.Author.Needs.{needs}
+use Rattle.field.proofs.explore.grow.Statement.{statement}
+use Rattle.field.proofs.explore.grow.Tie as tie
+
+mul-take-up : tie.Need-mul-take-up
+mul-take-up c = search needs
+
+take-up-requires : tie.Need-take-up-requires
+take-up-requires c κs = search needs
+
+enum-told : tie.Need-enum-told
+enum-told c = search needs
+
+enum-known-lists : tie.Need-enum-known-lists
+enum-known-lists c = search needs
+
+arities-of-requires : tie.Need-arities-of-requires
+arities-of-requires c κs = search needs
+
+slice-aggregate-grow-sides : tie.Need-slice-aggregate-grow-sides
+slice-aggregate-grow-sides c = search needs
+
+grow-sides-requires : tie.Need-grow-sides-requires
+grow-sides-requires c κs =
+    let b = c .before .before .before .before .before .before .before .before .before .before .before .before .before .before .take-up .ensures .few _ _ (c .before .before .before .before .before .before .lists .given .1) in
+    search needs
+
+same-length : tie.Need-same-length
+same-length c = search needs
+
+same-length-2 : tie.Need-same-length-2
+same-length-2 c = search needs
+
+same-length-3 : tie.Need-same-length-3
+same-length-3 c = search needs
+
+returns : tie.Need-returns
+returns c = grow-past _ _ _ _ _ (c .before .before .before .before .before .before .before .before .before .before .before .before .before .before .before .before .pre .0) _ _ _ (c .before .before .before .before .before .before .before .before .take-up .ensures) (c .enum-told .given .1)
+
+same-length-4 : tie.Need-same-length-4
+same-length-4 c = search needs
+
+same-length-5 : tie.Need-same-length-5
+same-length-5 c = search needs
+
+same-length-6 : tie.Need-same-length-6
+same-length-6 c = search needs
+
+returns-2 : tie.Need-returns-2
+returns-2 c = grow-listed _ _ _ _ _ (c .before .before .before .before .before .before .before .before .before .before .before .before .before .before .before .before .before .before .before .before .before .before .before .before .before .pre .0) _ _ _ (c .before .before .before .before .before .before .before .before .before .before .before .before .before .before .before .before .before .take-up .ensures) _ _ (c .before .before .before .before .before .before .before .before .before .lists .given .1) _ (c .before .before .before .before .before .before .before .arities-of .ensures) _ _ (c .before .before .grow-sides .ensures)
+
+pub grow-spec : {M : Type 1} → statement M
+grow-spec =
+    tie.close
+    (tie.spec
+    mul-take-up
+    take-up-requires
+    enum-told
+    enum-known-lists
+    arities-of-requires
+    slice-aggregate-grow-sides
+    grow-sides-requires
+    same-length
+    same-length-2
+    same-length-3
+    returns
+    same-length-4
+    same-length-5
+    same-length-6
+    returns-2)

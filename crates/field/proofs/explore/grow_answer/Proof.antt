@@ -1,0 +1,40 @@
+-- `field::explore::grow_answer` meets its contract. Assumes nothing.
+use native.Mathlib.Omega.{arith}
+use borrow.Author.Tests.{not-true, not-false}
+use Rattle.field.proofs.GrowingLaws.{answer-none, answer-added}
+use borrow.Author.Needs.{needs}
+use Rattle.field.proofs.explore.grow_answer.Statement.{statement}
+use Rattle.field.proofs.explore.grow_answer.Tie as tie
+
+answers-requires : tie.Need-answers-requires
+answers-requires c κs = search needs
+
+returns : tie.Need-returns
+returns c = answer-none _ _ _ _ _ _ _ _ _ _ _ (omega arith) (rw (not-true (c .before .answers .result) (c .if1 .taken)) at (c .before .answers .ensures))
+
+successor-requires : tie.Need-successor-requires
+successor-requires c κs = search needs
+
+slice-aggregate-add : tie.Need-slice-aggregate-add
+slice-aggregate-add c = search needs
+
+add-requires : tie.Need-add-requires
+add-requires c κs = search needs
+
+same-length : tie.Need-same-length
+same-length c = search needs
+
+returns-2 : tie.Need-returns-2
+returns-2 c = answer-added _ _ _ _ _ _ _ _ _ _ _ (rw (not-false (c .before .before .before .before .before .before .before .answers .result) (c .before .before .before .before .before .before .if1 .left)) at (c .before .before .before .before .before .before .before .answers .ensures)) _ (c .before .before .before .before .before .successor .ensures) _ _ (c .before .before .add .ensures)
+
+pub grow-answer-spec : {M : Type 1} → statement M
+grow-answer-spec =
+    tie.close
+    (tie.spec
+    answers-requires
+    returns
+    successor-requires
+    slice-aggregate-add
+    add-requires
+    same-length
+    returns-2)

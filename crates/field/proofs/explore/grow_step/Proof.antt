@@ -1,0 +1,36 @@
+-- `field::explore::grow_step` meets its contract. Assumes nothing.
+use native.Mathlib.Omega.{arith}
+use borrow.Author.Tests.{not-true, not-false}
+use Rattle.field.proofs.GrowingLaws.{step-none, step-answered}
+use borrow.Author.Needs.{needs}
+use Rattle.field.proofs.explore.grow_step.Statement.{statement}
+use Rattle.field.proofs.explore.grow_step.Tie as tie
+
+slice-aggregate-permitted : tie.Need-slice-aggregate-permitted
+slice-aggregate-permitted c = search needs
+
+permitted-requires : tie.Need-permitted-requires
+permitted-requires c κs = search needs
+
+returns : tie.Need-returns
+returns c = step-none _ _ _ _ _ _ _ _ _ _ _ (omega arith) (rw (not-true (c .before .permitted .result) (c .if1 .taken)) at (c .before .permitted .ensures))
+
+grow-answers-requires : tie.Need-grow-answers-requires
+grow-answers-requires c κs = search needs
+
+same-length : tie.Need-same-length
+same-length c = search needs
+
+returns-2 : tie.Need-returns-2
+returns-2 c = step-answered _ _ _ _ _ _ _ _ _ _ _ (rw (not-false (c .before .before .before .before .before .permitted .result) (c .before .before .before .before .if1 .left)) at (c .before .before .before .before .before .permitted .ensures)) _ _ (c .before .before .grow-answers .ensures)
+
+pub grow-step-spec : {M : Type 1} → statement M
+grow-step-spec =
+    tie.close
+    (tie.spec
+    slice-aggregate-permitted
+    permitted-requires
+    returns
+    grow-answers-requires
+    same-length
+    returns-2)

@@ -1,0 +1,155 @@
+-- The known situations grow while exploration takes one up: each situation that it leads to is looked for among them and put behind them if it is
+-- new. What the code promises of it.
+use mathlib.Core.Path.{_≡_}
+use mathlib.Core.Bool.{Bool, true, false, cond}
+use mathlib.Core.List.{List, [], _∷_, _++_, map}
+use Prim.Native.Nat.{ℕ, _*_, _<_, _≤_}
+use lib.ListN.{length, getD, take, drop}
+use lib.Seq.{sets}
+use Rattle.calculus.specs.Cond.{Pairs}
+use Rattle.calculus.specs.Distinction.{Irr}
+use Rattle.terms.specs.Answer.{result}
+use Rattle.terms.specs.Encoding.{encode, InScope}
+use Rattle.terms.specs.Limits.{nameCount, longestTerm}
+use Rattle.terms.specs.Question.{Question, checkOf}
+use Rattle.steps.specs.Listed.{ListedStep}
+use Rattle.steps.specs.Lists.{All}
+use Rattle.field.specs.Entry.{EntryAt}
+use Rattle.field.specs.Exploration.{found, together}
+use Rattle.field.specs.Holding.{SlotsHold}
+use Rattle.field.specs.Leading.{placed, leading}
+use Rattle.field.specs.NameFlags.{HasNames}
+use Rattle.field.specs.Setting.{settingOf}
+use Rattle.field.specs.Situation.{Situation, freeFrom, situation}
+use Rattle.field.specs.Slot.{flagsOf, keyOf, keyBytes, slotBytes}
+use Rattle.field.specs.Successors.{Outcome, pastLimit, leads, select, answers, moves, successors}
+use Rattle.field.specs.TakingUp.{ListAt}
+use Rattle.field.specs.declared.explore.Growth.{Growth}
+use Rattle.field.specs.declared.explore.Growth.the-variants.{Full, Known}
+
+-- Proper situations: those that the field of an accepted question holds.
+pub record Proper (names : ℕ) (arities : List ℕ) (s : Situation) : Type 0 where
+  pub first : InScope names arities 0 (s .first)
+  pub second : InScope names arities 0 (s .second)
+  pub distinction : Irr (s .apart)
+  -- the apart pairs stand as `situation` writes them
+  pub canonical : s ≡ situation names (s .first) (s .second) (s .apart)
+
+-- Both parts fit a slot.
+pub record Fits (s : Situation) : Type 0 where
+  pub first : length (encode 0 (s .first)) ≤ longestTerm
+  pub second : length (encode 0 (s .second)) ≤ longestTerm
+
+-- the situations that exploration puts into slots
+pub record Fitting (arities : List ℕ) (s : Situation) : Type 0 where
+  pub proper : Proper nameCount arities s
+  pub fits : Fits s
+
+-- the known situations with s put behind them, if it is not one of them
+unfoldable pub grownBy : List Situation → Situation → List Situation
+grownBy known s = cond (found known s) known (known ++ (s ∷ []))
+
+unfoldable pub grown : List Situation → List Situation → List Situation
+grown known [] = known
+grown known (s ∷ ss) = grown (grownBy known s) ss
+
+-- The situations ks are known: so many, in the slots.
+pub record Knows (arities work : List ℕ) (known : ℕ) (ks : List Situation) : Type 0 where
+  pub count : length ks ≡ known
+  pub fitting : All (Fitting arities) ks
+  pub slots : SlotsHold work ks
+
+-- They are ks now, or ks are more than the capacity.
+unfoldable pub GrowsTo : List ℕ → ℕ → List Situation → Growth → List ℕ → Type 0
+GrowsTo arities capacity ks Full work′ = capacity < length ks
+GrowsTo arities capacity ks (Known n) work′ = Knows arities work′ n ks
+
+-- Those of `news` that are new are put behind the known ones.
+unfoldable pub Puts : List ℕ → ℕ → List ℕ → ℕ → List Situation → Growth → List ℕ → Type 0
+Puts arities capacity work known news r work′ = (ks : List Situation) → Knows arities work known ks → GrowsTo arities capacity (grown ks news) r work′
+
+-- In any case: what is behind the capacity stays, and the situations do not become fewer.
+pub record Grows (capacity : ℕ) (work : List ℕ) (known : ℕ) (r : Growth) (work′ : List ℕ) : Type 0 where
+  pub rest : drop (slotBytes * capacity) work′ ≡ drop (slotBytes * capacity) work
+  pub within : (n : ℕ) → r ≡ Known n → (known ≤ n) × (n ≤ capacity)
+
+-- Slot i is given the key, and the byte behind it is 0: its situation is left.
+unfoldable pub slotWith : List ℕ → ℕ → List ℕ → List ℕ
+slotWith work i key = sets work (slotBytes * i) (take keyBytes key ++ (0 ∷ []))
+
+-- One situation.
+pub record AddIs (capacity : ℕ) (work : List ℕ) (known : ℕ) (key : List ℕ) (r : Growth) (work′ : List ℕ) : Type 0 where
+  pub grows : Grows capacity work known r work′
+  pub is : (arities : List ℕ) (s : Situation) → Fitting arities s → key ≡ keyOf s → Puts arities capacity work known (s ∷ []) r work′
+
+-- The names G and the apart pairs D of the situation taken up, as flags.
+pub record Flagged (free apart G : List ℕ) (D : Pairs) : Type 0 where
+  pub names : HasNames free G
+  pub pairs : apart ≡ flagsOf D
+  pub distinction : Irr D
+
+-- what those of ts lead to that answer s
+unfoldable pub answered : Bool → List ℕ → Pairs → ListedStep → List ListedStep → List Situation
+answered second G D s ts = map (leading second (freeFrom G 0 nameCount) D s) (select (answers nameCount s) ts)
+
+-- One answer to the step at `at`.
+pub record GrowsAnswer (arities free apart : List ℕ) (second : Bool) (area : List ℕ) (at : ℕ) (others : List ℕ) (place capacity : ℕ) (work : List ℕ)
+    (known : ℕ) (r : Growth) (work′ : List ℕ) : Type 0 where
+  pub grows : Grows capacity work known r work′
+  pub is : (G : List ℕ) (D : Pairs) (s t : ListedStep) → Flagged free apart G D
+      → EntryAt area at s → InScope nameCount arities 0 (s .result)
+      → EntryAt others place t → InScope nameCount arities 0 (t .result)
+      → All (Proper nameCount arities) (answered second G D s (t ∷ []))
+      → Puts arities capacity work known (answered second G D s (t ∷ [])) r work′
+
+-- Every answer to it.
+pub record GrowsAnswers (arities free apart : List ℕ) (second : Bool) (area : List ℕ) (at : ℕ) (others : List ℕ) (count capacity : ℕ) (work : List ℕ)
+    (known : ℕ) (r : Growth) (work′ : List ℕ) : Type 0 where
+  pub grows : Grows capacity work known r work′
+  pub is : (G : List ℕ) (D : Pairs) (s : ListedStep) (ts : List ListedStep) → Flagged free apart G D
+      → EntryAt area at s → InScope nameCount arities 0 (s .result)
+      → ListAt arities others count ts
+      → All (Proper nameCount arities) (answered second G D s ts)
+      → Puts arities capacity work known (answered second G D s ts) r work′
+
+-- what the permitted of ss and their answers lead to
+unfoldable pub moved : Bool → List ℕ → Pairs → List ListedStep → List ListedStep → List Situation
+moved second G D ss ts = together (moves nameCount (placed second) (freeFrom G 0 nameCount) D ss ts)
+
+-- One step.
+pub record GrowsStep (arities free apart : List ℕ) (second : Bool) (area : List ℕ) (at : ℕ) (others : List ℕ) (count capacity : ℕ) (work : List ℕ)
+    (known : ℕ) (r : Growth) (work′ : List ℕ) : Type 0 where
+  pub grows : Grows capacity work known r work′
+  pub is : (G : List ℕ) (D : Pairs) (s : ListedStep) (ts : List ListedStep) → Flagged free apart G D
+      → EntryAt area at s → InScope nameCount arities 0 (s .result)
+      → ListAt arities others count ts
+      → All (Proper nameCount arities) (moved second G D (s ∷ []) ts)
+      → Puts arities capacity work known (moved second G D (s ∷ []) ts) r work′
+
+-- Every step of one side.
+pub record GrowsSide (arities free apart : List ℕ) (second : Bool) (area : List ℕ) (steps : ℕ) (others : List ℕ) (count capacity : ℕ) (work : List ℕ)
+    (known : ℕ) (r : Growth) (work′ : List ℕ) : Type 0 where
+  pub grows : Grows capacity work known r work′
+  pub is : (G : List ℕ) (D : Pairs) (ss ts : List ListedStep) → Flagged free apart G D
+      → ListAt arities area steps ss → ListAt arities others count ts
+      → All (Proper nameCount arities) (moved second G D ss ts)
+      → Puts arities capacity work known (moved second G D ss ts) r work′
+
+-- Both sides.
+pub record GrowsSides (arities free apart firsts : List ℕ) (n : ℕ) (seconds : List ℕ) (m capacity : ℕ) (work : List ℕ)
+    (known : ℕ) (r : Growth) (work′ : List ℕ) : Type 0 where
+  pub grows : Grows capacity work known r work′
+  pub is : (G : List ℕ) (D : Pairs) (ps qs : List ListedStep) → Flagged free apart G D
+      → ListAt arities firsts n ps → ListAt arities seconds m qs
+      → All (Proper nameCount arities) (moved false G D ps qs ++ moved true G D qs ps)
+      → Puts arities capacity work known (moved false G D ps qs ++ moved true G D qs ps) r work′
+
+-- The situation of number `taken` is taken up: it is past a limit, or what it leads to is put behind the known ones.
+unfoldable pub Follows : List ℕ → ℕ → List Situation → Outcome → Growth → List ℕ → Type 0
+Follows arities capacity ks pastLimit r work′ = r ≡ Full
+Follows arities capacity ks (leads ms) r work′ = GrowsTo arities capacity (grown ks (together ms)) r work′
+
+pub record GrowIs (question : List ℕ) (taken capacity : ℕ) (work : List ℕ) (known : ℕ) (r : Growth) (work′ : List ℕ) : Type 0 where
+  pub grows : Grows capacity work known r work′
+  pub is : (q : Question) → checkOf question ≡ result q → (ks : List Situation) (d : Situation) → Knows (q .arities) work known ks
+      → Follows (q .arities) capacity ks (successors (settingOf (q .bodies)) (getD ks taken d)) r work′
