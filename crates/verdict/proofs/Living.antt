@@ -10,12 +10,7 @@ use lib.ListN.{length, getD, set, replicate}
 use borrow.Author.Tests.{eq-eqb, eqb-true}
 use Rattle.steps.specs.Lists.{_∈_}
 use Rattle.field.specs.Situation.{Situation}
-
--- those whose flag is 0
-unfoldable pub living : List ℕ → List Situation → List Situation
-living [] ss = []
-living (f ∷ fs) [] = []
-living (f ∷ fs) (s ∷ ss) = cond (eqb f 0) (s ∷ living fs ss) (living fs ss)
+use Rattle.verdict.specs.Striking.{living, zeros}
 
 -- A situation is left exactly if it stands at a number whose flag is 0.
 pub record LivesAt (flags : List ℕ) (known : List Situation) (s : Situation) : Type 0 where
@@ -94,11 +89,6 @@ pub all-living : (known : List Situation) → living (replicate (length known) 0
 unfolding living
 all-living [] = refl
 all-living (s ∷ ss) = ap (s ∷_) (all-living ss)
-
--- The flags that are 0, counted: what falls as situations are struck out.
-unfoldable pub zeros : List ℕ → ℕ
-zeros [] = 0
-zeros (f ∷ fs) = cond (eqb f 0) (suc (zeros fs)) (zeros fs)
 
 pub struck-fewer : (flags : List ℕ) (i : ℕ) → i < length flags → getD flags i 1 ≡ 0 → zeros (set flags i 1) < zeros flags
 unfolding zeros

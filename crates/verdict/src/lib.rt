@@ -1,1 +1,3 @@
 // The verdict.
+pub mod judge;
+pub mod strike;

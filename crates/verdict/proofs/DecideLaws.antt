@@ -1,0 +1,215 @@
+-- The verdict from the work area: exploration, strike-out in place, and whether the start is left. Assumes nothing.
+use mathlib.Core.Bool.{Bool, true, false, cond}
+use mathlib.Core.List.{List}
+use mathlib.Core.Path.{_≡_, refl, sym, ap, _∙_, subst}
+use native.Mathlib.Omega.{arith}
+use Prim.Native.Nat.{ℕ, _*_, _<_, _≤_}
+use lib.Dec.{eqb}
+use lib.ListN.{length, getD, length-map}
+use borrow.Author.Tests.{eq-eqb, ne-eqb}
+use Rattle.calculus.specs.Definitions.{Defs}
+use Rattle.terms.specs.Answer.{result}
+use Rattle.terms.specs.Question.{Question, checkOf}
+use Rattle.terms.proofs.WellFormed.{WellFormed, accepted-well-formed}
+use Rattle.steps.specs.Lists.{_∈_}
+use Rattle.steps.proofs.Membership.{all-∈}
+use Rattle.steps.proofs.QuestionDefinitions.{definitions}
+use Rattle.field.specs.Exploration.{found, Row, Exploration, incomplete, explored, fieldOf}
+use Rattle.field.specs.Holding.{SlotsHold, Explores, ExploreIs}
+use Rattle.field.specs.Key.{keyAt}
+use Rattle.field.specs.Setting.{Setting, settingOf}
+use Rattle.field.specs.Situation.{Situation, sameSituation, startOf}
+use Rattle.field.specs.Slot.{slotBytes}
+use Rattle.field.specs.Successors.{leads, successors}
+use Rattle.field.specs.declared.explore.Explored.{Explored}
+use Rattle.field.specs.declared.explore.Explored.the-variants.{Incomplete, Field}
+use Rattle.field.proofs.Explored.{Rows, row-of}
+use Rattle.field.proofs.Link.{SettingFor}
+use Rattle.field.proofs.Proper.{Proper, same-equal}
+use Rattle.field.proofs.QuestionField.{question-setting, start-proper}
+use Rattle.field.proofs.Run.{selves}
+use Rattle.field.proofs.Unseen.{∈-found}
+use Rattle.field.proofs.Members.{getD-∈}
+use Rattle.field.proofs.KeysDiffer.{key-equal, slot-key}
+use Rattle.verdict.specs.Judging.{judgedAnswer, DecidesIs}
+use Rattle.verdict.specs.Striking.{struckAt, leftOf, marks, Standing, Searching, SurvivesIs, Strikes, AllSurvive, StartSurvivesIs}
+use Rattle.verdict.specs.Verdict.{same, different, decided, allAnswered, verdictOf}
+use Rattle.verdict.specs.declared.judge.Judged.{Judged}
+use Rattle.verdict.specs.declared.judge.Judged.the-variants.{Unsettled, Same, Different}
+use Rattle.verdict.proofs.AnyOrder.{StrikesTo, NoneToStrike, survivors-left, same-found}
+use Rattle.verdict.proofs.ByNumber.{distinct-number}
+use Rattle.verdict.proofs.FieldRows.{FieldRows, good-rows, explored-rows, rows-field}
+use Rattle.verdict.proofs.LeftLaws.{left-found}
+use Rattle.verdict.proofs.Living.{living-at}
+use Rattle.verdict.proofs.Marks.{marks-at}
+use Rattle.verdict.proofs.RelatedVerdicts.{question-defines}
+use Rattle.verdict.proofs.Rounds.{true-not-false, survivors, found-survives}
+use Rattle.verdict.proofs.StrikeLaws.{still, strikes-rest, strikes-to}
+
+-- The explored field of an accepted question in the slots.
+module _ (question : List ℕ) (q : Question) (accepted : checkOf question ≡ result q) (capacity : ℕ) (rs : List Row)
+    (field : fieldOf (settingOf (q .bodies)) capacity (startOf q) ≡ explored rs) (work : List ℕ) (holds : SlotsHold work (selves rs))
+    (room : slotBytes * length rs ≤ length work) where
+  abbrev S : Setting
+  S = settingOf (q .bodies)
+
+  well : WellFormed q
+  well = accepted-well-formed question q accepted
+
+  Δ : Defs
+  Δ = definitions (q .arities) (q .bodies) (well .bodies)
+
+  setting : SettingFor Δ S (q .arities)
+  unfolding Δ
+  setting = let d = question-defines q (well .bodies) in question-setting q well Δ (d .arities) (d .bodies)
+
+  abbrev Good : Situation → Type 0
+  Good = Proper (S .names) (q .arities)
+
+  start : Good (startOf q)
+  unfolding settingOf
+  start = start-proper q well
+
+  rows : Rows S (startOf q) rs
+  rows = explored-rows Δ S (q .arities) setting (startOf q) start capacity rs field
+
+  those : FieldRows Δ S (q .arities) rs
+  those = rows-field Δ S (q .arities) setting (startOf q) start rs rows
+
+  count : length (selves rs) ≡ length rs
+  count = length-map rs (λ (r : Row). r .self)
+
+  decides : (s t : Situation) → Good s → Good t → sameSituation s t ≡ true → s ≡ t
+  decides = same-equal (S .names) (omega (arith, setting .few)) (q .arities)
+
+  -- each situation has one slot
+  slot-once : (i j : ℕ) → i < length (selves rs) → j < length (selves rs) → keyAt work i ≡ keyAt work j → i ≡ j
+  unfolding settingOf
+  slot-once i j h k e =
+      let s : Situation = getD (selves rs) i (startOf q) in
+      let t : Situation = getD (selves rs) j (startOf q) in
+      let a = holds .held i (startOf q) h in
+      let b = holds .held j (startOf q) k in
+      distinct-number (selves rs) (rows .distinct) i j (startOf q) (startOf q) h k
+      (key-equal (q .arities) s t (those .proper s (getD-∈ (selves rs) i (startOf q) h)) (those .proper t (getD-∈ (selves rs) j (startOf q) k))
+      (record { first = a .first; second = a .second }) (record { first = b .first; second = b .second })
+      (sym (slot-key work i s a) ∙ e ∙ slot-key work j t b))
+
+  standing : Standing work (selves rs)
+  standing = record {
+    held = holds .held;
+    once = slot-once;
+    exact = λ s t m n e. decides s t (those .proper s m) (those .proper t n) e;
+  }
+
+  within : (r : Row) → r ∈ rs → successors S (r .self) ≡ leads (r .wants)
+  within r m = all-∈ (λ r. successors S (r .self) ≡ leads (r .wants)) rs (rows .within) r m
+
+  leads-within : (s : Situation) → s ∈ selves rs → (ms : List (List Situation)) → successors S s ≡ leads ms
+      → (w : List Situation) → w ∈ ms → (t : Situation) → t ∈ w → t ∈ selves rs
+  leads-within s m ms e w i t k =
+      let (r, j, d) = row-of S (startOf q) rs (rows .within) s m in
+      let z : ms ≡ r .wants = cc in
+      those .closed r j w (subst (λ ms. w ∈ ms) z i) t k
+
+  searching : Searching question work (length rs)
+  unfolding settingOf
+  searching = record {
+    read = q;
+    accepted = accepted;
+    known = selves rs;
+    number = count;
+    standing = standing;
+    first = λ s m. those .proper s m .first;
+    second = λ s m. those .proper s m .second;
+    distinction = λ s m. those .proper s m .distinction;
+    closed = leads-within;
+  }
+
+  start-here : getD (selves rs) 0 (startOf q) ≡ startOf q
+  start-here = let (ts, e) = rows .first in ap (λ l. getD l 0 (startOf q)) e
+
+  some : 0 < length (selves rs)
+  some = let (ts, e) = rows .first in omega (arith, ap length e)
+
+  module _ (v : List ℕ) (strikes : Strikes question (length rs) work v) where
+    struck : StrikesTo rs (leftOf v (selves rs))
+    unfolding searching
+    struck = strikes-to question work rs searching refl room within (λ i h. holds .left i (omega (arith, count))) strikes
+
+    search : Searching question v (length rs)
+    search = still question (length rs) strikes searching
+
+    -- the byte of slot 0
+    start-left : found (leftOf v (selves rs)) (startOf q) ≡ eqb (getD v (struckAt 0) 0) 0
+    unfolding search still searching
+    start-left = left-found v (selves rs) (search .standing) 0 (startOf q) (startOf q) some start-here
+
+    none-to-strike : AllSurvive question v (length rs) → NoneToStrike rs (leftOf v (selves rs))
+    unfolding AllSurvive SurvivesIs search still searching
+    none-to-strike a = record { answers = each }
+      where
+        each : (r : Row) → r ∈ rs → r .self ∈ leftOf v (selves rs) → allAnswered (leftOf v (selves rs)) (r .wants) ≡ true
+        each r m k =
+            let l = living-at (marks v (length (selves rs))) (selves rs) (r .self) k in
+            sym (a (l .number) (omega (arith, l .within, count))
+            (sym (marks-at v (length (selves rs)) (l .number) 1 (l .within)) ∙ l .flag)
+            search (r .self) (r .wants) (ap (successors S) (l .is) ∙ within r m))
+
+  -- whether the start survives the rounds
+  start-verdict : (r : Bool) (v : List ℕ) → StartSurvivesIs question work (length rs) r v → found (selves (survivors rs)) (startOf q) ≡ r
+  start-verdict true v s =
+      let (z, a) = s .stays refl in
+      sym (same-found Good decides rs (good-rows those) (rows .distinct) (leftOf v (selves rs)) (struck v (s .strikes)) (none-to-strike v (s .strikes) a)
+      (startOf q) start)
+      ∙ start-left v (s .strikes) ∙ eq-eqb (getD v (struckAt 0) 0) 0 z
+  start-verdict false v s = go (found (selves (survivors rs)) (startOf q)) refl
+    where
+      go : (b : Bool) → found (selves (survivors rs)) (startOf q) ≡ b → found (selves (survivors rs)) (startOf q) ≡ false
+      go false e = e
+      go true e =
+          let m = survivors-left Good decides rs (good-rows those) (rows .distinct) (struck v (s .strikes)) (startOf q)
+          (found-survives Good decides rs (good-rows those) (startOf q) start e) in
+          true-not-false (∈-found (leftOf v (selves rs)) (startOf q) m)
+          (start-left v (s .strikes) ∙ ne-eqb (getD v (struckAt 0) 0) 0 (s .goes refl))
+
+  pub verdict-is : (r : Bool) (v : List ℕ) → StartSurvivesIs question work (length rs) r v → verdictOf q capacity ≡ cond r (same (length rs)) (different (length rs))
+  unfolding verdictOf decided survivors
+  verdict-is r v s =
+      ap (decided (startOf q)) field ∙ ap (λ b. cond b (same (length rs)) (different (length rs))) (start-verdict r v s)
+
+-- decide
+module _ (question : List ℕ) (capacity : ℕ) (work w : List ℕ) (x : Explored) (e : ExploreIs question capacity work x w) where
+  pub unsettled-is : x ≡ Incomplete → DecidesIs question capacity work Unsettled w
+  unfolding judgedAnswer verdictOf decided Explores
+  unsettled-is h = record { rest = e .rest; is = λ q a. go q (fieldOf (settingOf (q .bodies)) capacity (startOf q)) refl (e .is q a) }
+    where
+      go : (q : Question) (y : Exploration) → fieldOf (settingOf (q .bodies)) capacity (startOf q) ≡ y → Explores y x w
+          → judgedAnswer Unsettled ≡ result (verdictOf q capacity)
+      go q incomplete f k = sym (ap (λ y. result (decided (startOf q) y)) f)
+      go q (explored rs) f k = let z : _≡_ {A = ℕ} 0 1 = cc (k .0) in absurd (omega arith)
+
+  module _ (n : ℕ) (h : x ≡ Field n) (room : slotBytes * capacity ≤ length w) (r : Bool) (u : List ℕ) (s : StartSurvivesIs question w n r u) where
+    settled : (o : Judged) → judgedAnswer o ≡ result (cond r (same n) (different n)) → DecidesIs question capacity work o u
+    unfolding Explores
+    settled o j = record {
+      rest = strikes-rest question n capacity (e .within n h .1) (s .strikes) ∙ e .rest;
+      is = λ q a. go q a (fieldOf (settingOf (q .bodies)) capacity (startOf q)) refl (e .is q a);
+    }
+      where
+        go : (q : Question) → checkOf question ≡ result q → (y : Exploration) → fieldOf (settingOf (q .bodies)) capacity (startOf q) ≡ y → Explores y x w
+            → judgedAnswer o ≡ result (verdictOf q capacity)
+        go q a incomplete f k = let z : _≡_ {A = ℕ} 0 1 = cc in absurd (omega arith)
+        go q a (explored rs) f k =
+            let z : n ≡ length rs = cc (k .0) in
+            j ∙ ap (λ m. result (cond r (same m) (different m))) z
+            ∙ sym (ap result (verdict-is question q a capacity rs f w (k .1) (omega (arith, e .within n h .1)) r u
+            (subst (λ m. StartSurvivesIs question w m r u) z s)))
+
+    pub same-is : r ≡ true → DecidesIs question capacity work (Same n) u
+    unfolding judgedAnswer
+    same-is t = settled (Same n) (ap (λ b. result (cond b (same n) (different n))) (sym t))
+
+    pub different-is : r ≡ false → DecidesIs question capacity work (Different n) u
+    unfolding judgedAnswer
+    different-is t = settled (Different n) (ap (λ b. result (cond b (same n) (different n))) (sym t))

@@ -1,0 +1,99 @@
+-- Whether a situation is left, by the byte of its slot. Assumes nothing.
+use mathlib.Core.Bool.{Bool, true, false, _&&_}
+use mathlib.Core.List.{List}
+use mathlib.Core.Path.{_≡_, refl, sym, ap, _∙_, subst}
+use native.Mathlib.Omega.{arith}
+use Prim.Native.Nat.{ℕ, _*_, _<_}
+use lib.Dec.{eqb}
+use lib.ListN.{length, getD, take}
+use borrow.Author.Tests.{eqb-true, eqb-false}
+use Rattle.terms.specs.Limits.{nameCount}
+use Rattle.steps.specs.Lists.{_∈_}
+use Rattle.steps.proofs.Membership.{∈-all}
+use Rattle.field.specs.Entry.{AnswersIs}
+use Rattle.field.specs.Exploration.{found}
+use Rattle.field.specs.Key.{SituationAt, keyAt, FoundIs}
+use Rattle.field.specs.Leading.{leading, SuccessorIs}
+use Rattle.field.specs.Situation.{Situation, freeFrom}
+use Rattle.field.specs.Slot.{keyOf, keyBytes, slotBytes}
+use Rattle.field.specs.declared.find.Found.the-variants.{At, Nothing}
+use Rattle.field.proofs.Unseen.{∈-found, found-∈}
+use Rattle.field.proofs.Members.{getD-∈, ∈-number}
+use Rattle.field.proofs.GrowingLaws.{whole-key}
+use Rattle.field.proofs.KeysDiffer.{slot-key}
+use Rattle.verdict.specs.Striking.{struckAt, leftOf, marks, Standing, LeftAtIs, LeftIs, AnswerLeftIs}
+use Rattle.verdict.proofs.Living.{living-at, at-living}
+use Rattle.verdict.proofs.Marks.{length-marks, marks-at}
+
+module _ (work : List ℕ) (known : List Situation) (st : Standing work known) where
+  -- equal situations have one number
+  pub number-once : (i j : ℕ) (d e : Situation) → i < length known → j < length known → getD known i d ≡ getD known j e → i ≡ j
+  number-once i j d e h k q =
+      st .once i j h k
+      (slot-key work i (getD known i d) (st .held i d h) ∙ ap keyOf q ∙ sym (slot-key work j (getD known j e) (st .held j e k)))
+
+  lives-known : (s : Situation) → s ∈ leftOf work known → s ∈ known
+  lives-known s m =
+      let l = living-at (marks work (length known)) known s m in
+      subst (λ t. t ∈ known) (l .is) (getD-∈ known (l .number) s (l .within))
+
+  pub left-found : (i : ℕ) (s d : Situation) → i < length known → getD known i d ≡ s → found (leftOf work known) s ≡ eqb (getD work (struckAt i) 0) 0
+  left-found i s d h e = go (eqb (getD work (struckAt i) 0) 0) refl
+    where
+      flags : List ℕ
+      flags = marks work (length known)
+
+      dies : (b : Bool) → found (leftOf work known) s ≡ b → eqb (getD work (struckAt i) 0) 0 ≡ false → found (leftOf work known) s ≡ false
+      dies false q k = q
+      dies true q k =
+          let m = found-∈ (λ t. t ∈ known) (st .exact) (leftOf work known) s (∈-all (λ t. t ∈ known) (leftOf work known) lives-known)
+          (subst (λ t. t ∈ known) e (getD-∈ known i d h)) q in
+          let l = living-at flags known s m in
+          let n : l .number ≡ i = number-once (l .number) i s d (l .within) h (l .is ∙ sym e) in
+          absurd (eqb-false (getD work (struckAt i) 0) 0 k
+          (sym (marks-at work (length known) i 1 h) ∙ ap (λ j. getD flags j 1) (sym n) ∙ l .flag))
+
+      go : (b : Bool) → eqb (getD work (struckAt i) 0) 0 ≡ b → found (leftOf work known) s ≡ eqb (getD work (struckAt i) 0) 0
+      go true k =
+          ∈-found (leftOf work known) s
+          (subst (λ t. t ∈ leftOf work known) e
+          (at-living flags known i d (omega (arith, length-marks work (length known))) h
+          (marks-at work (length known) i 1 h ∙ eqb-true (getD work (struckAt i) 0) 0 k)))
+          ∙ sym k
+      go false k = dies (found (leftOf work known) s) refl k ∙ sym k
+
+-- is_left
+pub found-left : (work : List ℕ) (count : ℕ) (key : List ℕ) (k : ℕ) (r : Bool) → FoundIs work count key (At k) → LeftAtIs work k r → LeftIs work count key r
+unfolding FoundIs LeftAtIs LeftIs
+found-left work count key k r (h, e) l i m q only = let z : k ≡ i = only k h e in l ∙ ap (λ j. eqb (getD work (struckAt j) 0) 0) z
+
+pub nothing-left : (work : List ℕ) (count : ℕ) (key : List ℕ) → FoundIs work count key Nothing → LeftIs work count key false
+unfolding FoundIs LeftIs
+nothing-left work count key h i m q only = absurd (h i m q)
+
+pub at-within : (work : List ℕ) (count : ℕ) (key : List ℕ) (k : ℕ) → FoundIs work count key (At k) → k < count
+unfolding FoundIs
+at-within work count key k (h, e) = h
+
+-- answer_left
+module _ (arities work : List ℕ) (count : ℕ) (free apart : List ℕ) (second : Bool) (area : List ℕ) (at : ℕ) (others : List ℕ) (place : ℕ) where
+  pub no-answer : (b : Bool) → AnswersIs area at others place b → b ≡ false → AnswerLeftIs arities work count free apart second area at others place false
+  unfolding AnswersIs AnswerLeftIs
+  no-answer b h q known G D s t n st names pairs e f scope scope′ closed =
+      ap (λ b. b && found (leftOf work known) (leading second (freeFrom G 0 nameCount) D s t)) (sym q ∙ h s t e f)
+
+  pub answer-left-is : (key : List ℕ) (b r : Bool) → AnswersIs area at others place b → b ≡ true → SuccessorIs arities free apart second area at others place key
+      → LeftIs work count key r → AnswerLeftIs arities work count free apart second area at others place r
+  unfolding AnswersIs SuccessorIs LeftIs LeftAtIs AnswerLeftIs
+  answer-left-is key b r h q k l known G D s t n st names pairs e f scope scope′ closed =
+      let u : Situation = leading second (freeFrom G 0 nameCount) D s t in
+      let may = sym q ∙ h s t e f in
+      let m = ∈-number u known (closed (sym may)) in
+      let held : SituationAt work (slotBytes * m .0) u = subst (SituationAt work (slotBytes * m .0)) (sym (m .2 u)) (st .held (m .0) u (m .1)) in
+      let there : keyAt work (m .0) ≡ take keyBytes key =
+      slot-key work (m .0) u held
+      ∙ sym (whole-key key u (record { first = held .first; second = held .second }) (k G D s t names pairs e f scope scope′)) in
+      l (m .0) (omega (arith, m .1)) there
+      (λ j b q. st .once j (m .0) (omega arith) (m .1) (q ∙ sym there))
+      ∙ sym (left-found work known st (m .0) u u (m .1) (sym (m .2 u)))
+      ∙ ap (λ b. b && found (leftOf work known) u) may

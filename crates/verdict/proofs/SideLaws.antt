@@ -1,0 +1,175 @@
+-- Two nested loops over the steps of one side and the other side's: which steps are answered. Assumes nothing.
+use mathlib.Core.Bool.{Bool, true, false, _&&_, or-true}
+use mathlib.Core.List.{List, [], _∷_}
+use mathlib.Core.Logic.{inl, inr}
+use mathlib.Core.Path.{_≡_, refl, sym, ap, _∙_, subst}
+use native.Mathlib.Omega.{arith}
+use Prim.Native.Nat.{ℕ, _+_, _*_, _<_, _≤_}
+use lib.ListN.{getD}
+use Rattle.calculus.specs.Term.{nil}
+use Rattle.terms.specs.Limits.{nameCount}
+use Rattle.terms.proofs.Answers.{both-true}
+use Rattle.steps.specs.Limits.{stepBytes}
+use Rattle.steps.specs.Listed.{ListedStep}
+use Rattle.steps.specs.Lists.{_∈_}
+use Rattle.steps.proofs.Membership.{∈-map}
+use Rattle.field.specs.Exploration.{found}
+use Rattle.field.specs.Leading.{placed, leading}
+use Rattle.field.specs.PairFlags.{PermittedIs}
+use Rattle.field.specs.Situation.{Situation, freeFrom}
+use Rattle.field.specs.Successors.{select, permitted, answers, moves}
+use Rattle.field.proofs.Loops.{led, answersTo, moves-are}
+use Rattle.field.proofs.Members.{map-∈, getD-∈, ∈-number}
+use Rattle.field.proofs.Selections.{∈-select, select-∈}
+use Rattle.verdict.specs.Striking.{leftOf, AnswerLeftIs, Side, SideAnsweredIs}
+use Rattle.verdict.specs.Verdict.{answered, allAnswered}
+use Rattle.verdict.proofs.Rounds.{true-not-false}
+
+module _ (left : List Situation) where
+  -- a list is answered if one of its situations is found, and not if none is
+  found-answered : (m : List Situation) (u : Situation) → u ∈ m → found left u ≡ true → answered left m ≡ true
+  unfolding answered
+  found-answered (t ∷ m) u (inl e) k = rw (subst (λ u. found left u ≡ true) e k)
+  found-answered (t ∷ m) u (inr n) k = rw (found-answered m u n k, or-true)
+
+  none-answered : (m : List Situation) → ((u : Situation) → u ∈ m → found left u ≡ false) → answered left m ≡ false
+  unfolding answered
+  none-answered [] h = refl
+  none-answered (t ∷ m) h = rw (h t (inl refl)) (none-answered m (λ u n. h u (inr n)))
+
+  each-answered : (ms : List (List Situation)) → ((m : List Situation) → m ∈ ms → answered left m ≡ true) → allAnswered left ms ≡ true
+  unfolding allAnswered
+  each-answered [] h = refl
+  each-answered (m ∷ ms) h = rw (h m (inl refl)) (each-answered ms (λ n k. h n (inr k)))
+
+  one-unanswered : (ms : List (List Situation)) (m : List Situation) → m ∈ ms → answered left m ≡ false → allAnswered left ms ≡ false
+  unfolding allAnswered
+  one-unanswered (l ∷ ms) m (inl e) k = rw (subst (λ m. answered left m ≡ false) e k)
+  one-unanswered (l ∷ ms) m (inr n) k = go (answered left l) (one-unanswered ms m n k)
+    where
+      go : (b : Bool) → allAnswered left ms ≡ false → (b && allAnswered left ms) ≡ false
+      go true h = h
+      go false h = refl
+
+abbrev noStep : ListedStep
+noStep = record { classes = []; kind = 0; channel = 0; object = 0; result = nil }
+
+module _ (arities work : List ℕ) (count : ℕ) (free apart : List ℕ) (second : Bool) (area : List ℕ) (n : ℕ) (others : List ℕ) (m : ℕ) where
+  abbrev These : Type 0
+  These = Side arities work count free apart second area n others m
+
+  abbrev step : These → ℕ → ListedStep
+  step p k = getD (p .steps) k noStep
+
+  abbrev reply : These → ℕ → ListedStep
+  reply p l = getD (p .replies) l noStep
+
+  -- what reply l to step k leads to
+  abbrev reached : These → ℕ → ℕ → Situation
+  reached p k l = leading second (freeFrom (p .names) 0 nameCount) (p .pairs) (step p k) (reply p l)
+
+  -- what the answers to step k lead to
+  abbrev reachedAll : These → ℕ → List Situation
+  reachedAll p k = answersTo nameCount (placed second) (freeFrom (p .names) 0 nameCount) (p .pairs) (step p k) (p .replies)
+
+  abbrev allMoves : These → List (List Situation)
+  allMoves p = moves nameCount (placed second) (freeFrom (p .names) 0 nameCount) (p .pairs) (p .steps) (p .replies)
+
+  -- step k is answered, if it is permitted
+  abbrev pub StepAnswered : ℕ → Type 0
+  StepAnswered k = (p : These) → permitted (p .pairs) (step p k) ≡ true → answered (leftOf work (p .known)) (reachedAll p k) ≡ true
+
+  -- reply l to step k leads to none that is left, if it answers it
+  abbrev pub ReplyFails : ℕ → ℕ → Type 0
+  ReplyFails k l = (p : These) → answers nameCount (step p k) (reply p l) ≡ true → found (leftOf work (p .known)) (reached p k l) ≡ false
+
+  module _ (p : These) (k : ℕ) (h : k < n) (may : permitted (p .pairs) (step p k) ≡ true) where
+    step-in : reachedAll p k ∈ allMoves p
+    step-in =
+        subst (λ ms. reachedAll p k ∈ ms) (sym (moves-are nameCount (placed second) (freeFrom (p .names) 0 nameCount) (p .pairs) (p .steps) (p .replies)))
+        (∈-map (λ s. answersTo nameCount (placed second) (freeFrom (p .names) 0 nameCount) (p .pairs) s (p .replies)) (step p k)
+        (select (permitted (p .pairs)) (p .steps))
+        (∈-select (permitted (p .pairs)) (step p k) (p .steps) (getD-∈ (p .steps) k noStep (omega (arith, p .mine .number))) may))
+
+    reply-in : (l : ℕ) → l < m → answers nameCount (step p k) (reply p l) ≡ true → reached p k l ∈ reachedAll p k
+    unfolding answersTo led leading
+    reply-in l g e =
+        ∈-map (led nameCount (placed second) (freeFrom (p .names) 0 nameCount) (p .pairs) (step p k)) (reply p l)
+        (select (answers nameCount (step p k)) (p .replies))
+        (∈-select (answers nameCount (step p k)) (reply p l) (p .replies) (getD-∈ (p .replies) l noStep (omega (arith, p .theirs .number))) e)
+
+    -- what the code finds of reply l
+    reply-is : (l : ℕ) (r : Bool) → l < m → AnswerLeftIs arities work count free apart second area (stepBytes * k) others (stepBytes * l) r
+        → r ≡ (answers nameCount (step p k) (reply p l) && found (leftOf work (p .known)) (reached p k l))
+    unfolding AnswerLeftIs
+    reply-is l r g a =
+        a (p .known) (p .names) (p .pairs) (step p k) (reply p l) (p .number) (p .standing) (p .free-names) (p .apart-pairs)
+        (p .mine .entry k noStep h) (p .theirs .entry l noStep g) (p .mine .scope k noStep h) (p .theirs .scope l noStep g)
+        (λ e. p .closed (reachedAll p k) step-in (reached p k l) (reply-in l g e))
+
+    -- none of the replies
+    none-left : (j : ℕ) → m ≤ j → ((l : ℕ) → l < j → ReplyFails k l) → answered (leftOf work (p .known)) (reachedAll p k) ≡ false
+    unfolding answersTo led leading
+    none-left j g so = none-answered (leftOf work (p .known)) (reachedAll p k) each
+      where
+        each : (u : Situation) → u ∈ reachedAll p k → found (leftOf work (p .known)) u ≡ false
+        each u i =
+            let (t, w, e) = map-∈ (led nameCount (placed second) (freeFrom (p .names) 0 nameCount) (p .pairs) (step p k)) u
+            (select (answers nameCount (step p k)) (p .replies)) i in
+            let (v, y) = select-∈ (answers nameCount (step p k)) t (p .replies) w in
+            let l = ∈-number t (p .replies) v in
+            let z : answers nameCount (step p k) (reply p (l .0)) ≡ true = rw (sym (l .2 noStep)) y in
+            let f : found (leftOf work (p .known)) (reached p k (l .0)) ≡ false = so (l .0) (omega (arith, l .1, p .theirs .number)) p z in
+            let q : reached p k (l .0) ≡ u = ap (leading second (freeFrom (p .names) 0 nameCount) (p .pairs) (step p k)) (sym (l .2 noStep)) ∙ sym e in
+            subst (λ u. found (leftOf work (p .known)) u ≡ false) q f
+
+  pub not-permitted : (k : ℕ) (r : Bool) → k < n → PermittedIs apart area (stepBytes * k) r → r ≡ false → StepAnswered k
+  unfolding PermittedIs
+  not-permitted k r h a e p may =
+      true-not-false may (sym (a (p .pairs) (step p k) (p .distinction) (p .apart-pairs) (p .mine .entry k noStep h)) ∙ e)
+
+  is-permitted : (k : ℕ) (r : Bool) → k < n → PermittedIs apart area (stepBytes * k) r → r ≡ true → (p : These) → permitted (p .pairs) (step p k) ≡ true
+  unfolding PermittedIs
+  is-permitted k r h a e p = sym (a (p .pairs) (step p k) (p .distinction) (p .apart-pairs) (p .mine .entry k noStep h)) ∙ e
+
+  pub reply-answers : (k l : ℕ) (r : Bool) → k < n → l < m
+      → AnswerLeftIs arities work count free apart second area (stepBytes * k) others (stepBytes * l) r → r ≡ true → StepAnswered k
+  reply-answers k l r h g a e p may =
+      let (x, y) = both-true (answers nameCount (step p k) (reply p l)) (found (leftOf work (p .known)) (reached p k l)) (sym (reply-is p k h may l r g a) ∙ e) in
+      found-answered (leftOf work (p .known)) (reachedAll p k) (reached p k l) (reply-in p k h may l g x) y
+
+  pub reply-fails : (k l : ℕ) (b r : Bool) → k < n → l < m → PermittedIs apart area (stepBytes * k) b → b ≡ true
+      → AnswerLeftIs arities work count free apart second area (stepBytes * k) others (stepBytes * l) r → r ≡ false
+      → (j : ℕ) → k + 1 ≡ j + 1 → ReplyFails j l
+  reply-fails k l b r h g c d a e j same = subst (λ j. ReplyFails j l) (let z : k ≡ j = omega arith in z) fails
+    where
+      fails : ReplyFails k l
+      fails p may =
+          ap (λ t. t && found (leftOf work (p .known)) (reached p k l)) (sym may) ∙ sym (reply-is p k h (is-permitted k b h c d p) l r g a) ∙ e
+
+  pub step-unanswered : (k j : ℕ) (b : Bool) → k < n → PermittedIs apart area (stepBytes * k) b → b ≡ true → m ≤ j → ((l : ℕ) → l < j → ReplyFails k l)
+      → SideAnsweredIs arities work count free apart second area n others m false
+  unfolding SideAnsweredIs
+  step-unanswered k j b h c d g so p =
+      let may = is-permitted k b h c d p in
+      sym (one-unanswered (leftOf work (p .known)) (allMoves p) (reachedAll p k) (step-in p k h may) (none-left p k h may j g so))
+
+  pub steps-answered : (i : ℕ) → n ≤ i → ((k : ℕ) → k < i → StepAnswered k) → SideAnsweredIs arities work count free apart second area n others m true
+  unfolding SideAnsweredIs
+  steps-answered i h so p = sym (each-answered (leftOf work (p .known)) (allMoves p) each)
+    where
+      F : List ℕ
+      F = freeFrom (p .names) 0 nameCount
+
+      each : (w : List Situation) → w ∈ allMoves p → answered (leftOf work (p .known)) w ≡ true
+      each w g =
+          let (s, x, e) = map-∈ (λ s. answersTo nameCount (placed second) (freeFrom (p .names) 0 nameCount) (p .pairs) s (p .replies)) w
+          (select (permitted (p .pairs)) (p .steps))
+          (subst (λ ms. w ∈ ms) (moves-are nameCount (placed second) (freeFrom (p .names) 0 nameCount) (p .pairs) (p .steps) (p .replies)) g) in
+          let (v, y) = select-∈ (permitted (p .pairs)) s (p .steps) x in
+          let k = ∈-number s (p .steps) v in
+          let z : permitted (p .pairs) (step p (k .0)) ≡ true = rw (sym (k .2 noStep)) y in
+          let f = so (k .0) (omega (arith, k .1, p .mine .number)) p z in
+          let q : reachedAll p (k .0) ≡ w =
+          ap (λ s. answersTo nameCount (placed second) (freeFrom (p .names) 0 nameCount) (p .pairs) s (p .replies)) (sym (k .2 noStep)) ∙ sym e in
+          subst (λ w. answered (leftOf work (p .known)) w ≡ true) q f

@@ -1,0 +1,35 @@
+-- `verdict::strike::answer_left` meets its contract. Assumes nothing.
+use borrow.Author.Tests.{not-true, not-false}
+use Rattle.verdict.proofs.LeftLaws.{no-answer, answer-left-is}
+use borrow.Author.Needs.{needs}
+use Rattle.verdict.proofs.strike.answer_left.Statement.{statement}
+use Rattle.verdict.proofs.strike.answer_left.Tie as tie
+
+answers-requires : tie.Need-answers-requires
+answers-requires c κs = search needs
+
+returns : tie.Need-returns
+returns c = no-answer _ _ _ _ _ _ _ _ _ _ _ (c .before .answers .ensures) (not-true _ (c .if1 .taken))
+
+successor-requires : tie.Need-successor-requires
+successor-requires c κs = search needs
+
+slice-aggregate-is-left : tie.Need-slice-aggregate-is-left
+slice-aggregate-is-left c = search needs
+
+is-left-requires : tie.Need-is-left-requires
+is-left-requires c κs = search needs
+
+returns-2 : tie.Need-returns-2
+returns-2 c = answer-left-is _ _ _ _ _ _ _ _ _ _ _ _ _ (c .before .before .before .before .answers .ensures) (not-false _ (c .before .before .before .if1 .left)) (c .before .before .successor .ensures) (c .is-left .ensures)
+
+pub answer-left-spec : {M : Type 1} → statement M
+answer-left-spec =
+    tie.close
+    (tie.spec
+    answers-requires
+    returns
+    successor-requires
+    slice-aggregate-is-left
+    is-left-requires
+    returns-2)

@@ -1,0 +1,106 @@
+-- `verdict::strike::side_answered` meets its contract. Assumes nothing.
+use native.Mathlib.Omega.{arith}
+use borrow.Author.Count.{below-more}
+use borrow.Author.Needs.{needs}
+use borrow.Author.Tests.{not-true, not-false}
+use mathlib.Core.Path.{_≡_, refl}
+use Prim.Native.Nat.{ℕ, _+_, _-_, _<_, _≤_}
+use Rattle.verdict.proofs.SideLaws.{StepAnswered, ReplyFails, not-permitted, reply-answers, reply-fails, step-unanswered, steps-answered}
+use Rattle.verdict.proofs.strike.side_answered.Statement.{statement}
+use Rattle.verdict.proofs.strike.side_answered.Tie as tie
+
+abbrev Inv-loop : tie.InvT-loop
+Inv-loop arities work count free second area n others m apart i at j₀ j =
+    (j ≤ m) × ((l : ℕ) → l < j → (k : ℕ) → i ≡ k + 1 → ReplyFails arities work count free apart second area n others m k l)
+
+abbrev μ-loop : tie.MeasureT-loop
+μ-loop arities work count free second area n others m apart i at j₀ j = m - j
+
+abbrev Inv-steps : tie.InvT-steps
+Inv-steps arities work count free second area n others m apart i₀ i = (i ≤ n) × ((k : ℕ) → k < i → StepAnswered arities work count free apart second area n others m k)
+
+abbrev μ-steps : tie.MeasureT-steps
+μ-steps arities work count free second area n others m apart i₀ i = n - i
+
+steps-holds : tie.Need-steps-holds Inv-loop μ-loop Inv-steps μ-steps
+steps-holds c = (search needs, λ k h. absurd (omega arith))
+
+mul-at : tie.Need-mul-at Inv-loop μ-loop Inv-steps μ-steps
+mul-at c = search needs
+
+add-i : tie.Need-add-i Inv-loop μ-loop Inv-steps μ-steps
+add-i c = search needs
+
+slice-aggregate-permitted : tie.Need-slice-aggregate-permitted Inv-loop μ-loop Inv-steps μ-steps
+slice-aggregate-permitted c = search needs
+
+permitted-requires : tie.Need-permitted-requires Inv-loop μ-loop Inv-steps μ-steps
+permitted-requires c κs = search needs
+
+steps-less : tie.Need-steps-less Inv-loop μ-loop Inv-steps μ-steps
+steps-less c = search needs
+
+steps-again : tie.Need-steps-again Inv-loop μ-loop Inv-steps μ-steps
+steps-again c = (search needs, below-more _ _ (c .before .before .before .before .steps .inv .1) (not-permitted _ _ _ _ _ _ _ _ _ _ _ _ (omega arith) (c .before .permitted .ensures) (not-true _ (c .if1 .taken))))
+
+loop-holds : tie.Need-loop-holds Inv-loop μ-loop Inv-steps μ-steps
+loop-holds c = (search needs, λ l h. absurd (omega arith))
+
+mul-answer-left : tie.Need-mul-answer-left Inv-loop μ-loop Inv-steps μ-steps
+mul-answer-left c = search needs
+
+answer-left-requires : tie.Need-answer-left-requires Inv-loop μ-loop Inv-steps μ-steps
+answer-left-requires c κs = search needs
+
+steps-less-2 : tie.Need-steps-less-2 Inv-loop μ-loop Inv-steps μ-steps
+steps-less-2 c = search needs
+
+steps-again-2 : tie.Need-steps-again-2 Inv-loop μ-loop Inv-steps μ-steps
+steps-again-2 c = (search needs, below-more _ _ (c .before .before .before .before .before .before .before .before .steps .inv .1) (reply-answers _ _ _ _ _ _ _ _ _ _ _ _ _ (omega arith) (omega arith) (c .before .answer-left .ensures) (c .if2 .taken)))
+
+add-j : tie.Need-add-j Inv-loop μ-loop Inv-steps μ-steps
+add-j c = search needs
+
+loop-less : tie.Need-loop-less Inv-loop μ-loop Inv-steps μ-steps
+loop-less c = search needs
+
+loop-again : tie.Need-loop-again Inv-loop μ-loop Inv-steps μ-steps
+loop-again c = (
+  search needs,
+  below-more _ _ (c .before .before .before .loop .inv .1)
+      (reply-fails _ _ _ _ _ _ _ _ _ _ (c .before .before .before .before .before .before .before .before .steps .i) (c .before .before .before .loop .j) _ _ (omega arith) (omega arith) (c .before .before .before .before .before .permitted .ensures) (not-false _ (c .before .before .before .before .if1 .left)) (c .before .answer-left .ensures) (c .if2 .left)),
+)
+
+returns : tie.Need-returns Inv-loop μ-loop Inv-steps μ-steps
+returns c =
+    step-unanswered _ _ _ _ _ _ _ _ _ _ (c .before .before .before .before .before .before .steps .i) _ _ (omega arith) (c .before .before .before .permitted .ensures) (not-false _ (c .before .before .if1 .left)) (omega arith)
+    (λ l h. c .before .loop .inv .1 l h (c .before .before .before .before .before .before .steps .i) refl)
+
+returns-2 : tie.Need-returns-2 Inv-loop μ-loop Inv-steps μ-steps
+returns-2 c = steps-answered _ _ _ _ _ _ _ _ _ _ _ (omega arith) (c .before .steps .inv .1)
+
+pub side-answered-spec : {M : Type 1} → statement M
+side-answered-spec =
+    tie.close
+    (tie.spec
+    Inv-loop
+    μ-loop
+    Inv-steps
+    μ-steps
+    steps-holds
+    mul-at
+    add-i
+    slice-aggregate-permitted
+    permitted-requires
+    steps-less
+    steps-again
+    loop-holds
+    mul-answer-left
+    answer-left-requires
+    steps-less-2
+    steps-again-2
+    add-j
+    loop-less
+    loop-again
+    returns
+    returns-2)

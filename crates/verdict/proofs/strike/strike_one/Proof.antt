@@ -1,0 +1,55 @@
+-- `verdict::strike::strike_one` meets its contract. Assumes nothing.
+use borrow.Author.Needs.{needs}
+use borrow.Author.Tests.{not-true, not-false}
+use Rattle.verdict.proofs.StrikeLaws.{gone-kept, left-zero, survivor-kept, one-strikes}
+use Rattle.verdict.proofs.strike.strike_one.Statement.{statement}
+use Rattle.verdict.proofs.strike.strike_one.Tie as tie
+
+left-at-requires : tie.Need-left-at-requires
+left-at-requires c κs = search needs
+
+same-length : tie.Need-same-length
+same-length c = search needs
+
+returns : tie.Need-returns
+returns c = gone-kept _ _ _ _ _ (c .before .left-at .ensures) (not-true _ (c .if1 .taken))
+
+survives-requires : tie.Need-survives-requires
+survives-requires c κs = search needs
+
+same-length-2 : tie.Need-same-length-2
+same-length-2 c = search needs
+
+returns-2 : tie.Need-returns-2
+returns-2 c = survivor-kept _ _ _ _ _ (c .before .survives .ensures) (c .if2 .taken)
+
+mul-work : tie.Need-mul-work
+mul-work c = search needs
+
+add-work : tie.Need-add-work
+add-work c = search needs
+
+slice-write-work : tie.Need-slice-write-work
+slice-write-work c = search needs
+
+same-length-3 : tie.Need-same-length-3
+same-length-3 c = search needs
+
+returns-3 : tie.Need-returns-3
+returns-3 c = one-strikes _ _ _ _ _ (left-zero _ _ _ (c .before .before .before .before .left-at .ensures) (not-false _ (c .before .before .before .if1 .left))) (c .before .survives .ensures) (c .if2 .left)
+
+pub strike-one-spec : {M : Type 1} → statement M
+strike-one-spec =
+    tie.close
+    (tie.spec
+    left-at-requires
+    same-length
+    returns
+    survives-requires
+    same-length-2
+    returns-2
+    mul-work
+    add-work
+    slice-write-work
+    same-length-3
+    returns-3)

@@ -1,0 +1,85 @@
+-- `verdict::strike::survives` meets its contract. Assumes nothing.
+use native.Mathlib.Omega.{arith}
+use borrow.Author.Needs.{needs}
+use borrow.Author.Tests.{not-true, not-false}
+use mathlib.Core.Bool.{false}
+use Rattle.verdict.proofs.SurviveLaws.{past-limit, first-fails, second-decides}
+use Rattle.verdict.proofs.strike.survives.Statement.{statement}
+use Rattle.verdict.proofs.strike.survives.Tie as tie
+
+mul-take-up : tie.Need-mul-take-up
+mul-take-up c = search needs
+
+slice-aggregate-take-up : tie.Need-slice-aggregate-take-up
+slice-aggregate-take-up c = search needs
+
+slice-aggregate-take-up-2 : tie.Need-slice-aggregate-take-up-2
+slice-aggregate-take-up-2 c = search needs
+
+take-up-requires : tie.Need-take-up-requires
+take-up-requires c κs = search needs
+
+enum-told : tie.Need-enum-told
+enum-told c = search needs
+
+enum-known-lists : tie.Need-enum-known-lists
+enum-known-lists c = search needs
+
+arities-of-requires : tie.Need-arities-of-requires
+arities-of-requires c κs = search needs
+
+slice-aggregate-side-answered : tie.Need-slice-aggregate-side-answered
+slice-aggregate-side-answered c = search needs
+
+slice-aggregate-side-answered-2 : tie.Need-slice-aggregate-side-answered-2
+slice-aggregate-side-answered-2 c = search needs
+
+slice-aggregate-side-answered-3 : tie.Need-slice-aggregate-side-answered-3
+slice-aggregate-side-answered-3 c = search needs
+
+side-answered-requires : tie.Need-side-answered-requires
+side-answered-requires c κs = let few = c .before .before .before .before .before .before .before .before .before .before .before .take-up .ensures .few _ _ (c .before .before .before .before .before .lists .given .1) in omega (arith, few .0, few .1)
+
+returns : tie.Need-returns
+returns c = first-fails _ _ _ _ (c .before .before .before .before .before .before .before .before .before .before .before .before .before .before .before .before .before .before .pre .0) _ _ _ (c .before .before .before .before .before .before .before .before .before .before .before .before .before .take-up .ensures) _ _ (c .before .before .before .before .before .before .before .lists .given .1) _ (c .before .before .before .before .before .arities-of .ensures) _ false (c .before .side-answered .ensures) (not-true _ (c .if1 .taken))
+
+slice-aggregate-side-answered-4 : tie.Need-slice-aggregate-side-answered-4
+slice-aggregate-side-answered-4 c = search needs
+
+slice-aggregate-side-answered-5 : tie.Need-slice-aggregate-side-answered-5
+slice-aggregate-side-answered-5 c = search needs
+
+slice-aggregate-side-answered-6 : tie.Need-slice-aggregate-side-answered-6
+slice-aggregate-side-answered-6 c = search needs
+
+side-answered-requires-2 : tie.Need-side-answered-requires-2
+side-answered-requires-2 c κs = let few = c .before .before .before .before .before .before .before .before .before .before .before .before .before .before .before .before .take-up .ensures .few _ _ (c .before .before .before .before .before .before .before .before .before .before .lists .given .1) in omega (arith, few .0, few .1)
+
+returns-2 : tie.Need-returns-2
+returns-2 c = past-limit _ _ _ _ (c .before .before .before .before .before .before .before .before .before .before .before .pre .0) _ _ _ (c .before .before .before .before .before .before .take-up .ensures) (c .enum-told .given .1)
+
+returns-3 : tie.Need-returns-3
+returns-3 c = second-decides _ _ _ _ (c .before .before .before .before .before .before .before .before .before .before .before .before .before .before .before .before .before .before .before .before .before .before .pre .0) _ _ _ (c .before .before .before .before .before .before .before .before .before .before .before .before .before .before .before .before .before .take-up .ensures) _ _ (c .before .before .before .before .before .before .before .before .before .before .before .lists .given .1) _ (c .before .before .before .before .before .before .before .before .before .arities-of .ensures) _ _ (c .before .before .before .before .before .side-answered .ensures) (not-false _ (c .before .before .before .before .if1 .left)) (c .side-answered2 .ensures)
+
+pub survives-spec : {M : Type 1} → statement M
+survives-spec =
+    tie.close
+    (tie.spec
+    mul-take-up
+    slice-aggregate-take-up
+    slice-aggregate-take-up-2
+    take-up-requires
+    enum-told
+    enum-known-lists
+    arities-of-requires
+    slice-aggregate-side-answered
+    slice-aggregate-side-answered-2
+    slice-aggregate-side-answered-3
+    side-answered-requires
+    returns
+    slice-aggregate-side-answered-4
+    slice-aggregate-side-answered-5
+    slice-aggregate-side-answered-6
+    side-answered-requires-2
+    returns-2
+    returns-3)

@@ -1,0 +1,205 @@
+// Strike-out over the situations of the field, in place: document 01, "The field and the verdict".
+ghost use Prim.Native.Nat.{_+_, _*_, _<_, _≤_};
+ghost use lib.ListN.{length};
+ghost use Rattle.field.specs.Slot.{keyBytes, slotBytes};
+ghost use Rattle.steps.specs.Limits.{stepBytes};
+ghost use Rattle.verdict.specs.Striking.{struckAt, LeftAtIs, LeftIs, AnswerLeftIs, SideAnsweredIs, SurvivesIs, StrikesOne, PassIs, StartSurvivesIs};
+use field::entries::answers;
+use field::find::Found;
+use field::find::SLOT_BYTES;
+use field::find::find;
+use field::pairs::PAIR_COUNT;
+use field::pairs::permitted;
+use field::results::successor;
+use field::taking::Lists;
+use field::taking::take_up;
+use steps::bodies::arities_of;
+use steps::limits::STEP_BYTES;
+use terms::bytes::get;
+
+// The byte of a slot behind its key: 0 while the situation is left, 1 once it is struck out.
+const STRUCK: usize = 241;
+
+// The bytes of a list of steps.
+const LIST_BYTES: usize = 33792;
+
+// Whether situation `i` is left.
+fn left_at(work: &[u8], i: usize) -> bool
+    requires { ⌜ struckAt i < length (now work) ⌝ }
+    ensures { λ r. ⌜ LeftAtIs (now (work .entry)) i r ⌝ }
+{
+    get(work, SLOT_BYTES * i + STRUCK) == 0
+}
+
+// Whether the situation with this key is left, of the first `count`.
+fn is_left(work: &[u8], count: usize, key: &[u8]) -> bool
+    requires { ⌜ (slotBytes * count ≤ length (now work)) × (keyBytes ≤ length (now key)) ⌝ }
+    ensures { λ r. ⌜ LeftIs (now (work .entry)) count (now (key .entry)) r ⌝ }
+{
+    let found = find(work, count, key);
+    match found {
+        Found::Nothing => false,
+        Found::At(i) => left_at(work, i),
+    }
+}
+
+// Whether the step at `place` of the other side's list answers the one at `at` and leads to a situation that is left.
+fn answer_left(
+    arities: &[u8],
+    work: &[u8],
+    count: usize,
+    free: &[u8],
+    apart: [u8; PAIR_COUNT],
+    second: bool,
+    area: &[u8],
+    at: usize,
+    others: &[u8],
+    place: usize,
+) -> bool
+    requires { ⌜ (slotBytes * count ≤ length (now work)) × (at + stepBytes ≤ length (now area)) × (place + stepBytes ≤ length (now others)) ⌝ }
+    ensures { λ r. ⌜ AnswerLeftIs (now (arities .entry)) (now (work .entry)) count (now (free .entry)) apart second (now (area .entry)) at (now (others .entry)) place r ⌝ }
+{
+    if !answers(area, at, others, place) {
+        return false;
+    }
+    let key = successor(arities, free, apart, second, area, at, others, place);
+    is_left(work, count, &key)
+}
+
+// Whether each permitted step of one side has an answer that leads to a situation that is left.
+fn side_answered(
+    arities: &[u8],
+    work: &[u8],
+    count: usize,
+    free: &[u8],
+    apart: [u8; PAIR_COUNT],
+    second: bool,
+    area: &[u8],
+    n: usize,
+    others: &[u8],
+    m: usize,
+) -> bool
+    requires { ⌜ (slotBytes * count ≤ length (now work)) × (stepBytes * n ≤ length (now area)) × (stepBytes * m ≤ length (now others)) ⌝ }
+    ensures { λ r. ⌜ SideAnsweredIs (now (arities .entry)) (now (work .entry)) count (now (free .entry)) apart second (now (area .entry)) n (now (others .entry)) m r ⌝ }
+{
+    let mut i = 0;
+    'steps: while i < n {
+        let at = STEP_BYTES * i;
+        i += 1;
+        if !permitted(&apart, area, at) {
+            continue 'steps;
+        }
+        let mut j = 0;
+        while j < m {
+            if answer_left(
+                arities,
+                work,
+                count,
+                free,
+                apart,
+                second,
+                area,
+                at,
+                others,
+                STEP_BYTES * j,
+            ) {
+                continue 'steps;
+            }
+            j += 1;
+        }
+        return false;
+    }
+    true
+}
+
+// Whether each permitted step of either side of situation `i` is answered by a situation that is left.
+fn survives(question: &[u8], work: &[u8], count: usize, i: usize) -> bool
+    requires { ⌜ (i < count) × (slotBytes * count ≤ length (now work)) ⌝ }
+    ensures { λ r. ⌜ SurvivesIs (now (question .entry)) (now (work .entry)) count i r ⌝ }
+{
+    let mut firsts = [0u8; LIST_BYTES];
+    let mut seconds = [0u8; LIST_BYTES];
+    let taken = take_up(question, work, SLOT_BYTES * i, &mut firsts, &mut seconds);
+    let free = taken.free;
+    let apart = taken.apart;
+    let lists = taken.lists;
+    match lists {
+        // no situation of an explored field is past a limit
+        Lists::Past => false,
+        Lists::Listed(n, m) => {
+            let arities = arities_of(question);
+            if !side_answered(
+                arities,
+                work,
+                count,
+                &free,
+                apart,
+                false,
+                &firsts,
+                n,
+                &seconds,
+                m,
+            ) {
+                return false;
+            }
+            side_answered(
+                arities,
+                work,
+                count,
+                &free,
+                apart,
+                true,
+                &seconds,
+                m,
+                &firsts,
+                n,
+            )
+        }
+    }
+}
+
+// Strikes out situation `i` if it is left and does not survive; whether it did.
+fn strike_one(question: &[u8], work: &mut [u8], count: usize, i: usize) -> bool
+    requires { ⌜ (i < count) × (slotBytes * count ≤ length (now work)) ⌝ }
+    ensures { λ r. ⌜ StrikesOne (now (question .entry)) (now (work .entry)) count i r (now (work .exit)) ⌝ }
+{
+    if !left_at(work, i) {
+        return false;
+    }
+    if survives(question, work, count, i) {
+        return false;
+    }
+    work[SLOT_BYTES * i + STRUCK] = 1;
+    true
+}
+
+// One pass from the last situation to the first; whether it struck any out.
+fn strike_pass(question: &[u8], work: &mut [u8], count: usize) -> bool
+    requires { ⌜ slotBytes * count ≤ length (now work) ⌝ }
+    ensures { λ r. ⌜ PassIs (now (question .entry)) (now (work .entry)) count r (now (work .exit)) ⌝ }
+{
+    let mut struck = false;
+    let mut i = count;
+    while 0 < i {
+        i -= 1;
+        if strike_one(question, work, count, i) {
+            struck = true;
+        }
+    }
+    struck
+}
+
+// Passes until one strikes out none or the start is struck out; whether the start is left.
+pub fn start_survives(question: &[u8], work: &mut [u8], count: usize) -> bool
+    requires { ⌜ (1 ≤ count) × (slotBytes * count ≤ length (now work)) ⌝ }
+    ensures { λ r. ⌜ StartSurvivesIs (now (question .entry)) (now (work .entry)) count r (now (work .exit)) ⌝ }
+{
+    let mut again = true;
+    while again {
+        again = strike_pass(question, work, count);
+        if !left_at(work, 0) {
+            return false;
+        }
+    }
+    true
+}
