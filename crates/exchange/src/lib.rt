@@ -2,10 +2,13 @@
 ghost use mathlib.Core.Path.{_≡_};
 ghost use Rattle.terms.specs.Checking.{checkedAnswer};
 ghost use Rattle.terms.specs.Writing.{writtenAnswer};
-ghost use Rattle.verdict.specs.Outcome.{codeOf, gave, turnedBack, ofNumber};
-ghost use Rattle.verdict.specs.Promises.{CheckIs, MergeIs, BesideIs};
+ghost use Rattle.verdict.specs.Judging.{judgedAnswer};
+ghost use Rattle.verdict.specs.Outcome.{codeOf, gave, turnedBack, unsettledOutcome, sameOf, differentOf, ofNumber, ofSteps, ofVerdict, Small};
+ghost use Rattle.verdict.specs.Promises.{CheckIs, StepsIs, MergeIs, BesideIs, JudgeIs};
+use steps::operation::StepsAnswer;
 use terms::answer::Written;
 use terms::check::Checked;
+use verdict::judge::Judged;
 
 // The refusal by check `k`.
 fn refusal(k: u8) -> u64
@@ -19,6 +22,26 @@ fn given(n: usize) -> u64
     ensures { λ r. ⌜ r ≡ codeOf (gave n) ⌝ }
 {
     n as u64
+}
+
+fn unsettled() -> u64
+    ensures { λ r. ⌜ r ≡ codeOf unsettledOutcome ⌝ }
+{
+    8589934592
+}
+
+fn same(n: usize) -> u64
+    requires { ⌜ Small (sameOf n) ⌝ }
+    ensures { λ r. ⌜ r ≡ codeOf (sameOf n) ⌝ }
+{
+    12884901888 + n as u64
+}
+
+fn different(n: usize) -> u64
+    requires { ⌜ Small (differentOf n) ⌝ }
+    ensures { λ r. ⌜ r ≡ codeOf (differentOf n) ⌝ }
+{
+    17179869184 + n as u64
 }
 
 fn checked_code(answer: Checked) -> u64
@@ -39,12 +62,42 @@ fn written_code(answer: Written) -> u64
     }
 }
 
+fn listed_code(answer: StepsAnswer) -> u64
+    ensures { λ r. ⌜ r ≡ codeOf (ofSteps answer) ⌝ }
+{
+    match answer {
+        StepsAnswer::Refused(k) => refusal(k),
+        StepsAnswer::Unsettled => unsettled(),
+        StepsAnswer::Count(n) => given(n),
+    }
+}
+
+fn judged_code(answer: Judged) -> u64
+    requires { ⌜ Small (ofVerdict (judgedAnswer answer)) ⌝ }
+    ensures { λ r. ⌜ r ≡ codeOf (ofVerdict (judgedAnswer answer)) ⌝ }
+{
+    match answer {
+        Judged::Refused(k) => refusal(k),
+        Judged::Unsettled => unsettled(),
+        Judged::Same(n) => same(n),
+        Judged::Different(n) => different(n),
+    }
+}
+
 // Checks a question.
 #[no_mangle]
 pub extern "C" fn exchange_check(question: &[u8]) -> u64
     ensures { λ r. ⌜ CheckIs (now (question .entry)) r ⌝ }
 {
     checked_code(terms::check::check(question))
+}
+
+// Lists the steps of one side of the question, for the new name, into the area.
+#[no_mangle]
+pub extern "C" fn exchange_steps(question: &[u8], side: u64, name: u64, area: &mut [u8]) -> u64
+    ensures { λ r. ⌜ StepsIs (now (question .entry)) side name (now (area .entry)) r (now (area .exit)) ⌝ }
+{
+    listed_code(steps::operation::steps(question, side, name, area))
 }
 
 // Writes the question with two names merged into the area.
@@ -61,4 +114,12 @@ pub extern "C" fn exchange_beside(question: &[u8], third: &[u8], area: &mut [u8]
     ensures { λ r. ⌜ BesideIs (now (question .entry)) (now (third .entry)) (now (area .entry)) r (now (area .exit)) ⌝ }
 {
     written_code(terms::beside::beside(question, third, area))
+}
+
+// Judges the question within the capacity.
+#[no_mangle]
+pub extern "C" fn exchange_judge(question: &[u8], capacity: u64, work: &mut [u8]) -> u64
+    ensures { λ r. ⌜ JudgeIs (now (question .entry)) capacity (now (work .entry)) r (now (work .exit)) ⌝ }
+{
+    judged_code(verdict::judge::judge(question, capacity, work))
 }

@@ -88,6 +88,20 @@ judge-numbered hand capacity room =
     numbered-need 1 (leb 1 capacity && leb capacity greatestCapacity) _ (omega arith) (numbered-need 2 (leb (slotBytes * capacity) room) _ (omega arith)
     (numbered-bind (checkOf hand) _ (check-numbered hand) (λ q. tt)))
 
+pub judge-small : (hand : List ℕ) (capacity room : ℕ) → Small (ofVerdict (judgeOf hand capacity room))
+unfolding judgeOf ofVerdict Small
+judge-small hand capacity room = go (judgeOf hand capacity room) refl
+  where
+    go : (m : Answer Verdict) → judgeOf hand capacity room ≡ m → Small (ofVerdict m)
+    go (refused k) e = says-turned (codeOf (turnedBack k)) k refl (numbered-at (judgeOf hand capacity room) k (judge-numbered hand capacity room) e) .small
+    go (result v) e =
+        let (c, e₁) = need-result 1 (leb 1 capacity && leb capacity greatestCapacity) _ v e in
+        let (_, e₂) = need-result 2 (leb (slotBytes * capacity) room) _ v e₁ in
+        let (q, a, e₃) = bind-result (checkOf hand) _ v e₂ in
+        let l : capacity ≤ greatestCapacity = leb-true capacity greatestCapacity (both-true (leb 1 capacity) (leb capacity greatestCapacity) c .1) in
+        subst (λ w. Small (ofVerdict (result w))) (result-injective {a = verdictOf q capacity} e₃)
+        (verdict-small (verdictOf q capacity) capacity (number-at-most-capacity q capacity) l)
+
 judge-told : (hand : List ℕ) (capacity : ℕ) (work : List ℕ) (answer : ℕ) (after : List ℕ) → JudgeIs hand capacity work answer after
     → Judged hand capacity work answer after
 unfolding workAfter judgeOf ofVerdict
@@ -97,15 +111,15 @@ judge-told hand capacity work answer after j = go (judgeOf hand capacity (length
         → Judged hand capacity work answer after
     go (refused k) e f g = not-judged k e (says-turned answer k f (numbered-at (judgeOf hand capacity (length work)) k (judge-numbered hand capacity (length work)) e)) g
     go (result v) e f g =
-        let (c, e₁) = need-result 1 (leb 1 capacity && leb capacity greatestCapacity) _ v e in
+        let (_, e₁) = need-result 1 (leb 1 capacity && leb capacity greatestCapacity) _ v e in
         let (_, e₂) = need-result 2 (leb (slotBytes * capacity) (length work)) _ v e₁ in
         let (q, a, e₃) = bind-result (checkOf hand) _ v e₂ in
         let is : verdictOf q capacity ≡ v = result-injective {a = verdictOf q capacity} e₃ in
-        let l : capacity ≤ greatestCapacity = leb-true capacity greatestCapacity (both-true (leb 1 capacity) (leb capacity greatestCapacity) c .1) in
-        judged q a (e ∙ ap (λ w. result w) (sym is))
+        let told : judgeOf hand capacity (length work) ≡ result (verdictOf q capacity) = e ∙ ap (λ w. result w) (sym is) in
+        judged q a told
         (record {
           number = subst (λ w. answer ≡ codeOf (ofVerdict (result w))) (sym is) f;
-          small = verdict-small (verdictOf q capacity) capacity (number-at-most-capacity q capacity) l;
+          small = subst (λ m. Small (ofVerdict m)) told (judge-small hand capacity (length work));
         }) g
 
 told : (hand : List ℕ) → Accepted hand → (e : Entry) → Kept hand e → Told hand e

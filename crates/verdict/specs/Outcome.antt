@@ -2,6 +2,8 @@
 use mathlib.Core.Path.{_≡_}
 use Prim.Native.Nat.{ℕ, _+_, _*_, _<_}
 use Rattle.terms.specs.Answer.{Answer, refused, result}
+use Rattle.steps.specs.declared.operation.StepsAnswer.{StepsAnswer}
+use Rattle.steps.specs.declared.operation.StepsAnswer.the-variants.{Refused, Unsettled, Count}
 use Rattle.verdict.specs.Verdict.{Verdict, unsettled, same, different}
 
 -- A result, a refusal by the number of its check, or a verdict.
@@ -42,6 +44,12 @@ pub record Says (r : ℕ) (o : Outcome) : Type 0 where
 unfoldable pub ofNumber : Answer ℕ → Outcome
 ofNumber (refused k) = turnedBack k
 ofNumber (result n) = gave n
+
+-- listing answers the count of steps
+unfoldable pub ofSteps : StepsAnswer → Outcome
+ofSteps (Refused k) = turnedBack k
+ofSteps Unsettled = unsettledOutcome
+ofSteps (Count n) = gave n
 
 -- judge answers its verdict and n
 unfoldable pub ofVerdict : Answer Verdict → Outcome

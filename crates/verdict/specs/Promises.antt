@@ -1,14 +1,21 @@
--- What check, merge, beside and judge promise: the answer's number and every lent byte. The contracts of the exported operations are these.
+-- What check, listing, merge, beside and judge promise: the answer's number and every lent byte. The contracts of the exported operations are these.
 use mathlib.Core.Path.{_≡_}
 use mathlib.Core.List.{List}
 use Prim.Native.Nat.{ℕ}
 use lib.ListN.{length}
 use Rattle.terms.specs.Operations.{checkAnswer, mergeOf, besideOf, lengthWritten, areaAfter}
+use Rattle.steps.specs.Answering.{stepsAnswer}
+use Rattle.steps.specs.Operations.{listOf}
+use Rattle.steps.specs.Operations.{areaAfter as listingAfter}
 use Rattle.verdict.specs.Judge.{judgeOf, workAfter}
-use Rattle.verdict.specs.Outcome.{codeOf, ofNumber, ofVerdict}
+use Rattle.verdict.specs.Outcome.{codeOf, ofNumber, ofSteps, ofVerdict}
 
 pub record CheckIs (question : List ℕ) (r : ℕ) : Type 0 where
   pub answer : r ≡ codeOf (ofNumber (checkAnswer question))
+
+pub record StepsIs (question : List ℕ) (side name : ℕ) (area : List ℕ) (r : ℕ) (after : List ℕ) : Type 0 where
+  pub answer : r ≡ codeOf (ofSteps (stepsAnswer (listOf question side name (length area))))
+  pub left : after ≡ listingAfter (listOf question side name (length area)) area
 
 pub record MergeIs (question : List ℕ) (a b : ℕ) (area : List ℕ) (r : ℕ) (after : List ℕ) : Type 0 where
   pub answer : r ≡ codeOf (ofNumber (lengthWritten (mergeOf question a b (length area))))
