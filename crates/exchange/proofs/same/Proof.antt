@@ -1,0 +1,17 @@
+-- `exchange::same` meets its contract. Assumes nothing.
+use native.Mathlib.Omega.{arith}
+use Rattle.verdict.specs.Outcome.{codeOf, coded, Small}
+use borrow.Author.Needs.{needs}
+use Rattle.exchange.proofs.same.Statement.{statement}
+use Rattle.exchange.proofs.same.Tie as tie
+
+add-result : tie.Need-add-result
+unfolding Small
+add-result c = search needs
+
+returns : tie.Need-returns
+unfolding codeOf coded
+returns c = omega arith
+
+pub same-spec : {M : Type 1} → statement M
+same-spec = tie.close (tie.spec add-result returns)

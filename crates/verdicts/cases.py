@@ -1,0 +1,71 @@
+#!/usr/bin/env python3
+"""Questions that are judged, and their lines: those of document 01, "Exchanges to try", that no theorem has, and appendix B.1 of document 000,
+whose last column gives the verdicts. The sizes of the fields are those of the comparison implementation (rust/generate/src/worked.rs).
+
+Writes stdin (the number of cases; for each its length in two bytes, the greater half first, then its capacity in two bytes and its question)
+and stdout (one line a case). Run it in this folder after a change of the cases.
+"""
+
+
+def field(bs):
+    return [len(bs) // 256, len(bs) % 256, *bs]
+
+
+def question(first="00", second="00", definitions=(), apart=""):
+    bs = [1, len(definitions), *(arity for arity, body in definitions)]
+    for _, body in definitions:
+        bs += field(bytes.fromhex(body))
+    return bs + field(bytes.fromhex(first)) + field(bytes.fromhex(second)) + field(bytes.fromhex(apart))
+
+
+LOOP = [(1, "03 80 80 09 00 80")]
+GROWING = [(1, "03 80 80 08 09 00 81")]
+
+# Appendix B.1: names a to i are 00 to 08; definition 0 is K1, with K2 written out in its body, and 1 is K2. The output of b in P1 is of a
+# new name: b is no parameter of K1.
+K = [
+    (3, "06 04 81 02 81 09 01 81 80  05 82 80 04 81 02 83 09 00 84 81 80"),
+    (2, "04 81 02 81 09 01 81 80"),
+]
+P1 = "06 09 01 02 04 05 00 04 04 02 02 00 09 00 00 81 80"
+P2 = "04 02 02 04 09 01 81 80"
+P3 = "07 06 09 01 02 04 05 00 04 04 02 02 00 09 00 00 81 80 03 00 01 03 02 03 00"
+P4 = "07 04 02 02 04 09 01 81 80 03 00 01 03 02 03 00"
+P5 = "07 04 00 02 04 00 07 04 00 02 02 00 02 00 03 02 80 00"
+P6 = "07 04 00 02 02 00 07 04 00 02 02 00 07 04 00 02 04 00 04 00 02 02 00"
+
+CASES = [
+    # K⟨a⟩ and āa.K⟨a⟩, also at capacities 2 and 1
+    ("same 2", 256, question("09 00 00", "03 00 00 09 00 00", LOOP)),
+    ("same 2", 2, question("09 00 00", "03 00 00 09 00 00", LOOP)),
+    ("unsettled 0", 1, question("09 00 00", "03 00 00 09 00 00", LOOP)),
+    # parts that grow
+    ("unsettled 0", 256, question("09 00 00", "09 00 00", GROWING)),
+    # capacities, where the work area is one for 256 situations; a part of 112 and of 113 bytes; the names 0F and 10; arities 8 and 9
+    ("refused 1", 0, question()),
+    ("same 1", 1, question()),
+    ("same 1", 256, question()),
+    ("refused 2", 257, question()),
+    ("refused 2", 4096, question()),
+    ("refused 1", 4097, question()),
+    ("same 112", 256, question("01" * 111 + "00", "01" * 111 + "00")),
+    ("refused 6", 256, question("01" * 112 + "00", "00")),
+    ("same 2", 256, question("03 0F 0F 00", "03 0F 0F 00")),
+    ("refused 9", 256, question("03 10 0F 00", "00")),
+    ("same 1", 256, question("00", "00", [(8, "00")])),
+    ("refused 5", 256, question("00", "00", [(9, "00")])),
+    # appendix B.1
+    ("same 23", 256, question(P1, P2, K)),
+    ("same 136", 256, question(P3, P4, K)),
+    ("different 7", 256, question(P2, P4, K)),
+    ("same 129", 256, question(P5, P5, K)),
+    ("different 212", 256, question(P5, P6, K)),
+]
+
+with open("stdin", "wb") as f:
+    f.write(bytes([len(CASES)]))
+    for _, capacity, q in CASES:
+        f.write(bytes(field([capacity // 256, capacity % 256, *q])))
+
+with open("stdout", "w", encoding="ascii") as f:
+    f.writelines(line + "\n" for line, _, _ in CASES)

@@ -1,0 +1,34 @@
+// Judges the questions of standard input and writes one line for each. The first byte is their number; each stands behind its length in two
+// bytes, and begins with its capacity in two bytes.
+use report::print_verdict;
+use terms::bytes::get;
+use terms::frame::after_field;
+use terms::frame::field_at;
+use verdict::judge::judge;
+
+fn write_answer(input: &[u8], work: &mut [u8]) {
+    if input.len() < 2 {
+        return;
+    }
+    let capacity = 256 * get(input, 0) as u64 + get(input, 1) as u64;
+    print_verdict(judge(&input[2..], capacity, work));
+}
+
+// The `count` questions behind the first byte.
+fn write_answers(input: &[u8], count: usize, work: &mut [u8]) {
+    let mut at = 1;
+    let mut i = 0;
+    while i < count {
+        write_answer(field_at(input, at), work);
+        at = after_field(input, at);
+        i += 1;
+    }
+}
+
+fn main() {
+    let mut buffer = io::large_buffer();
+    let n = io::read_full(0, &mut buffer);
+    let input = &buffer[..n];
+    let mut work = io::large_buffer();
+    write_answers(input, get(input, 0) as usize, &mut work);
+}
