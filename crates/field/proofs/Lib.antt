@@ -1,3 +1,4 @@
+pub mod ChainLaws
 pub mod ClassTests
 pub mod EntryLaws
 pub mod Explored

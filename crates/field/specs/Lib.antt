@@ -1,3 +1,4 @@
+pub mod Chains
 pub mod Entry
 pub mod Exploration
 pub mod Field

@@ -10,7 +10,7 @@ pub const KEY_BYTES: usize = 241;
 pub const SLOT_BYTES: usize = 256;
 
 // Whether the bytes from `at` on begin with the key.
-fn same_key(area: &[u8], at: usize, key: &[u8]) -> bool
+pub fn same_key(area: &[u8], at: usize, key: &[u8]) -> bool
     requires { ⌜ (at + keyBytes ≤ length (now area)) × (keyBytes ≤ length (now key)) ⌝ }
     ensures { λ r. ⌜ SameKeyIs (now (area .entry)) at (now (key .entry)) r ⌝ }
 {

@@ -1,4 +1,5 @@
 // Situations, their steps and the field.
+pub mod chains;
 pub mod entries;
 pub mod explore;
 pub mod find;

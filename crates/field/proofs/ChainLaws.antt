@@ -1,0 +1,381 @@
+-- The chains of the buckets: a key is found along them, and what keeps them. Assumes nothing.
+use mathlib.Core.Path.{_≡_, refl, sym, ap, ap₂, _∙_}
+use mathlib.Core.Bool.{Bool, true, false, cond}
+use mathlib.Core.List.{List, [], _∷_, _++_}
+use mathlib.Core.Logic.{⊎-elim}
+use Prim.Native.Nat.{ℕ, zero, suc, _+_, _-_, _*_, _/_, _%_, _<_, _≤_}
+use native.Mathlib.Decide.{decLt}
+use native.Mathlib.Nat.{eq-or-lt-of-le, mod-lt}
+use native.Mathlib.Numerals.{add-one}
+use native.Mathlib.Omega.{arith}
+use borrow.Author.Count.{below-more}
+use borrow.Author.Tests.{eqb-true, eqb-false, eq-eqb, ne-eqb, ltb-true, ltb-false}
+use lib.Dec.{eqb, ltb}
+use lib.ListN.{length, getD, take, drop, set, length-set, length-take, length-drop}
+use lib.Seq.{sets, length-sets, take-suc, take-all, take-take, getD-set-same, getD-set-other, drop-set-lt, getD-take, length-take-le, ext-getD}
+use Rattle.terms.specs.FieldPlaces.{sizeAt}
+use Rattle.terms.proofs.Stores.{span, length-span, getD-span}
+use Rattle.steps.proofs.Moves.{getD-before}
+use Rattle.field.specs.Chains.{mixed, spread, usedAt, spreadKey, bucketOf, bucketAt, BucketIs, headPlace, linkPlace, headAt, nextAt, putNumber, lastWith, lastIn, Chained, KeepsKeys, Clears, LinkIs, FindsIn}
+use Rattle.field.specs.Key.{keyAt, SameKeyIs, FoundIs}
+use Rattle.field.specs.Slot.{octets, keyBytes, slotBytes}
+use Rattle.field.specs.declared.find.Found.the-variants.{At, Nothing}
+use Rattle.field.proofs.KeyLaws.{found-at, other-slot}
+
+-- One more byte.
+spread-snoc : (h : ℕ) (xs : List ℕ) (b : ℕ) → spread h (xs ++ (b ∷ [])) ≡ mixed (spread h xs) b
+unfolding spread
+spread-snoc h [] b = refl
+spread-snoc h (x ∷ xs) b = spread-snoc (mixed h x) xs b
+
+pub spread-next : (seed : ℕ) (bytes : List ℕ) (i h : ℕ) → i < length bytes → h ≡ spread seed (take i bytes)
+    → mixed h (getD bytes i 0) ≡ spread seed (take (i + 1) bytes)
+spread-next seed bytes i h l e = rw (add-one, take-suc bytes i 0 l, spread-snoc, e)
+
+pub spread-whole : (seed : ℕ) (bytes : List ℕ) (i h : ℕ) → length bytes ≤ i → h ≡ spread seed (take i bytes) → h ≡ spread seed bytes
+spread-whole seed bytes i h l e = e ∙ ap (spread seed) (take-all i bytes l)
+
+-- The bytes that say something.
+pub used-some : (key : List ℕ) (at n : ℕ) → n ≡ getD key at 0 → n < 113 → 1 + n ≡ usedAt key at
+unfolding usedAt
+used-some key at n e l = rw e (go (ltb (getD key at 0) 113) refl)
+  where
+    go : (t : Bool) → ltb (getD key at 0) 113 ≡ t → 1 + getD key at 0 ≡ cond t (1 + getD key at 0) 113
+    go true q = refl
+    go false q = absurd (omega (arith, ltb-false (getD key at 0) 113 q))
+
+pub used-all : (key : List ℕ) (at n : ℕ) → n ≡ getD key at 0 → 113 ≤ n → 113 ≡ usedAt key at
+unfolding usedAt
+used-all key at n e l = go (ltb (getD key at 0) 113) refl
+  where
+    go : (t : Bool) → ltb (getD key at 0) 113 ≡ t → 113 ≡ cond t (1 + getD key at 0) 113
+    go true q = absurd (omega (arith, ltb-true (getD key at 0) 113 q))
+    go false q = refl
+
+-- A piece of the front of a list.
+span-front : (s : List ℕ) (m at n : ℕ) → at + n ≤ m → m ≤ length s → span (take m s) at n ≡ span s at n
+span-front s m at n h l =
+    ext-getD 0 (span (take m s) at n) (span s at n) (long ∙ sym (length-span s at n (omega arith)))
+    (λ i k.
+    let b : i < n = omega (arith, long) in
+    getD-span (take m s) at n i b ∙ getD-take m s (at + i) 0 (omega arith) ∙ sym (getD-span s at n i b))
+  where
+    long : length (span (take m s) at n) ≡ n
+    long = length-span (take m s) at n (omega (arith, length-take-le m s l))
+
+used-front : (key : List ℕ) (at : ℕ) → at < keyBytes → usedAt (take keyBytes key) at ≡ usedAt key at
+unfolding usedAt
+used-front key at h = rw (getD-take keyBytes key at 0 h)
+
+-- The bucket of the key that bytes begin with, as the code makes it.
+module _ (capacity : ℕ) (key : List ℕ) (lk : keyBytes ≤ length key) where
+  pub key-spread : (first second one two h : ℕ) → first ≡ usedAt key 0 → first ≤ 113 → second ≡ usedAt key 113 → second ≤ 113
+      → one ≡ spread 0 (take (first - 0) (drop 0 key)) → two ≡ spread one (take (113 + second - 113) (drop 113 key)) → h ≡ spread two (take (241 - 226) (drop 226 key))
+      → h ≡ spreadKey (take keyBytes key)
+  unfolding spreadKey
+  key-spread first second one two h f fl s sl e₁ e₂ e₃ =
+      let n : first - 0 ≡ usedAt (take keyBytes key) 0 = omega (arith, f, used-front key 0 (omega arith)) in
+      let m : 113 + second - 113 ≡ usedAt (take keyBytes key) 113 = omega (arith, s, used-front key 113 (omega arith)) in
+      let a : take (first - 0) (drop 0 key) ≡ take (usedAt (take keyBytes key) 0) (drop 0 (take keyBytes key)) = ap (λ k. take k (drop 0 key)) n ∙ sym (span-front key keyBytes 0 (usedAt (take keyBytes key) 0) (omega (arith, f, n)) lk) in
+      let b : take (113 + second - 113) (drop 113 key) ≡ take (usedAt (take keyBytes key) 113) (drop 113 (take keyBytes key)) = ap (λ k. take k (drop 113 key)) m ∙ sym (span-front key keyBytes 113 (usedAt (take keyBytes key) 113) (omega (arith, s, m)) lk) in
+      let d : take octets (drop 226 key) ≡ take octets (drop 226 (take keyBytes key)) = sym (span-front key keyBytes 226 octets (omega arith) lk) in
+      e₃ ∙ ap₂ spread (e₂ ∙ ap₂ spread (e₁ ∙ ap (spread 0) a) b) d
+
+  pub bucket-is : (h : ℕ) → 1 ≤ capacity → h ≡ spreadKey (take keyBytes key) → BucketIs capacity (take keyBytes key) ((h + h / 65536) % capacity)
+  unfolding bucketOf
+  bucket-is h pos e = record { is = ap (λ n. (n + n / 65536) % capacity) e; within = mod-lt (h + h / 65536) pos }
+
+-- Two bytes.
+length-put : (work : List ℕ) (at n : ℕ) → length (putNumber work at n) ≡ length work
+unfolding putNumber
+length-put work at n = simp length-set
+
+byte-put : (work : List ℕ) (at n k : ℕ) → (k ≡ at → ⊥) → (k ≡ at + 1 → ⊥) → getD (putNumber work at n) k 0 ≡ getD work k 0
+unfolding putNumber
+byte-put work at n k f g = getD-set-other (set work at (n / 256)) (at + 1) k (n % 256) 0 g ∙ getD-set-other work at k (n / 256) 0 f
+
+size-put : (work : List ℕ) (at n : ℕ) → at + 1 < length work → sizeAt (putNumber work at n) at ≡ n
+unfolding putNumber sizeAt
+size-put work at n l =
+    let a : getD (set (set work at (n / 256)) (at + 1) (n % 256)) at 0 ≡ n / 256 = getD-set-other (set work at (n / 256)) (at + 1) at (n % 256) 0 (λ z. omega arith) ∙ getD-set-same work at (n / 256) 0 (omega arith) in
+    let b : getD (set (set work at (n / 256)) (at + 1) (n % 256)) (at + 1) 0 ≡ n % 256 = getD-set-same (set work at (n / 256)) (at + 1) (n % 256) 0 (omega (arith, length-set work at (n / 256))) in
+    rw (a, b) (omega arith)
+
+size-same : (work work′ : List ℕ) (at : ℕ) → getD work′ at 0 ≡ getD work at 0 → getD work′ (at + 1) 0 ≡ getD work (at + 1) 0 → sizeAt work′ at ≡ sizeAt work at
+unfolding sizeAt
+size-same work work′ at a b = rw (a, b)
+
+size-other : (work : List ℕ) (at n k : ℕ) → (k ≡ at → ⊥) → (k ≡ at + 1 → ⊥) → (k + 1 ≡ at → ⊥) → sizeAt (putNumber work at n) k ≡ sizeAt work k
+size-other work at n k f g h = size-same work (putNumber work at n) k (byte-put work at n k f g) (byte-put work at n (k + 1) h (λ z. f (omega arith)))
+
+-- Another head, and links and heads.
+head-other : (work : List ℕ) (b c n : ℕ) → (c ≡ b → ⊥) → headAt (putNumber work (headPlace b) n) c ≡ headAt work c
+head-other work b c n k = size-other work (headPlace b) n (headPlace c) (λ z. k (omega arith)) (λ z. omega arith) (λ z. omega arith)
+
+head-link : (work : List ℕ) (i c n : ℕ) → headAt (putNumber work (linkPlace i) n) c ≡ headAt work c
+head-link work i c n = size-other work (linkPlace i) n (headPlace c) (λ z. omega arith) (λ z. omega arith) (λ z. omega arith)
+
+link-head : (work : List ℕ) (b k n : ℕ) → nextAt (putNumber work (headPlace b) n) k ≡ nextAt work k
+link-head work b k n = size-other work (headPlace b) n (linkPlace k) (λ z. omega arith) (λ z. omega arith) (λ z. omega arith)
+
+link-other : (work : List ℕ) (i k n : ℕ) → (k ≡ i → ⊥) → nextAt (putNumber work (linkPlace i) n) k ≡ nextAt work k
+link-other work i k n f = size-other work (linkPlace i) n (linkPlace k) (λ z. f (omega arith)) (λ z. omega arith) (λ z. omega arith)
+
+-- The last one.
+module _ (f : ℕ → ℕ) where
+  last-here : (n b : ℕ) → f n ≡ b → lastWith f (suc n) b ≡ suc n
+  unfolding lastWith
+  last-here n b e = rw (eq-eqb (f n) b e)
+
+  last-other : (n b : ℕ) → (f n ≡ b → ⊥) → lastWith f (suc n) b ≡ lastWith f n b
+  unfolding lastWith
+  last-other n b k = rw (ne-eqb (f n) b k)
+
+  last-le : (n b : ℕ) → lastWith f n b ≤ n
+  unfolding lastWith
+  last-le zero b = omega arith
+  last-le (suc n) b = go (eqb (f n) b) (last-le n b)
+    where
+      go : (t : Bool) → lastWith f n b ≤ n → cond t (suc n) (lastWith f n b) ≤ suc n
+      go true h = omega arith
+      go false h = omega arith
+
+  -- behind it there is none
+  last-behind : (n b j : ℕ) → lastWith f n b ≤ j → j < n → f j ≡ b → ⊥
+  last-behind zero b j h l e = omega arith
+  last-behind (suc n) b j h l e = go (eqb (f n) b) refl (last-behind n b j)
+    where
+      go : (t : Bool) → eqb (f n) b ≡ t → (lastWith f n b ≤ j → j < n → f j ≡ b → ⊥) → ⊥
+      go true q more = omega (arith, last-here n b (eqb-true (f n) b q))
+      go false q more =
+          ⊎-elim (λ z. eqb-false (f n) b q (ap f (sym z) ∙ e)) (λ m. more (omega (arith, last-other n b (eqb-false (f n) b q))) m e)
+          (eq-or-lt-of-le {n = j} {m = n} (omega arith))
+
+  last-is : (n b j : ℕ) → lastWith f n b ≡ suc j → f j ≡ b
+  unfolding lastWith
+  last-is zero b j e = absurd (omega arith)
+  last-is (suc n) b j e = go (eqb (f n) b) refl (last-is n b j)
+    where
+      go : (t : Bool) → eqb (f n) b ≡ t → (lastWith f n b ≡ suc j → f j ≡ b) → f j ≡ b
+      go true q more =
+          let z : n ≡ j = omega (arith, e, last-here n b (eqb-true (f n) b q)) in
+          rw (← z) (eqb-true (f n) b q)
+      go false q more = more (sym (last-other n b (eqb-false (f n) b q)) ∙ e)
+
+last-same : (f g : ℕ → ℕ) (n b : ℕ) → ((i : ℕ) → i < n → g i ≡ f i) → lastWith g n b ≡ lastWith f n b
+unfolding lastWith
+last-same f g zero b so = refl
+last-same f g (suc n) b so = rw (so n (omega arith), last-same f g n b (λ i l. so i (omega arith)))
+
+-- The search along a chain: what is left of it, and none of the slots passed has the key.
+module _ (capacity : ℕ) (work : List ℕ) (count : ℕ) (key : List ℕ) where
+  abbrev pub Searching : ℕ → ℕ → Type 0
+  Searching link left =
+      Chained capacity work count
+      → (link ≡ lastIn capacity work left (bucketOf capacity (take keyBytes key)))
+      × ((j : ℕ) → left ≤ j → j < count → keyAt work j ≡ take keyBytes key → ⊥)
+
+  pub search-start : (b link : ℕ) → BucketIs capacity (take keyBytes key) b → link ≡ headAt work b → Searching link count
+  search-start b link B e C = (e ∙ C .heads b (B .within) ∙ ap (lastIn capacity work count) (B .is), λ j l k. absurd (omega arith))
+
+  pub search-end : (link left : ℕ) → link ≤ 0 → Searching link left → FindsIn capacity work count key Nothing
+  unfolding FindsIn FoundIs lastIn bucketAt
+  search-end link left h so C j l e = go (decLt j left)
+    where
+      go : Dec (j < left) → ⊥
+      go (yes m) = last-behind (bucketAt capacity work) left (bucketOf capacity (take keyBytes key)) j (omega (arith, so C .0)) m (ap (bucketOf capacity) e)
+      go (no m) = so C .1 j (omega arith) l e
+
+  pub search-broken : (link left : ℕ) → left < link → Searching link left → FindsIn capacity work count key Nothing
+  unfolding FindsIn lastIn
+  search-broken link left h so C =
+      absurd (omega (arith, so C .0, last-le (bucketAt capacity work) left (bucketOf capacity (take keyBytes key))))
+
+  pub search-found : (left : ℕ) (r : Bool) → left < count → r ≡ true → SameKeyIs work (slotBytes * left) key r → FindsIn capacity work count key (At left)
+  unfolding FindsIn
+  search-found left r l q h C = found-at work count key left r l q h
+
+  pub search-next : (link left : ℕ) (r : Bool) (next : ℕ) → 0 < link → link ≤ left → left ≤ count → r ≡ false
+      → SameKeyIs work (slotBytes * (link - 1)) key r → next ≡ nextAt work (link - 1) → Searching link left → Searching next (link - 1)
+  unfolding lastIn bucketAt
+  search-next link left r next pos h lc q same e so C = (e ∙ C .nexts (link - 1) (omega arith) ∙ ap (lastIn capacity work (link - 1)) here, passed)
+    where
+      β : ℕ
+      β = bucketOf capacity (take keyBytes key)
+
+      at : lastWith (bucketAt capacity work) left β ≡ suc (link - 1)
+      at = sym (so C .0) ∙ omega arith
+
+      here : bucketAt capacity work (link - 1) ≡ β
+      here = last-is (bucketAt capacity work) left β (link - 1) at
+
+      passed : (j : ℕ) → link - 1 ≤ j → j < count → keyAt work j ≡ take keyBytes key → ⊥
+      passed j l m k = go (decLt j left)
+        where
+          go : Dec (j < left) → ⊥
+          go (yes n) =
+              ⊎-elim (λ (z : link - 1 ≡ j). other-slot work key (link - 1) r q same (ap (keyAt work) z ∙ k))
+              (λ n′. last-behind (bucketAt capacity work) left β j (omega (arith, at)) n (ap (bucketOf capacity) k))
+              (eq-or-lt-of-le {n = link - 1} {m = j} l)
+          go (no n) = so C .1 j (omega arith) m k
+
+-- What the keys and the links of an area are, another has.
+key-kept : (work work′ : List ℕ) (i : ℕ) → length work′ ≡ length work
+    → ((j : ℕ) → j < keyBytes → getD work′ (slotBytes * i + j) 0 ≡ getD work (slotBytes * i + j) 0) → keyAt work′ i ≡ keyAt work i
+unfolding keyAt
+key-kept work work′ i n so =
+    ext-getD 0 (span work′ (slotBytes * i) keyBytes) (span work (slotBytes * i) keyBytes) (simp (length-take, length-drop, n))
+    (λ j l.
+    let m : j < keyBytes = omega (arith, simp length-take at l) in
+    getD-span work′ (slotBytes * i) keyBytes j m ∙ so j m ∙ sym (getD-span work (slotBytes * i) keyBytes j m))
+
+module _ (capacity : ℕ) (work work′ : List ℕ) where
+  last-kept : (n b : ℕ) → ((i : ℕ) → i < n → keyAt work′ i ≡ keyAt work i) → lastIn capacity work′ n b ≡ lastIn capacity work n b
+  unfolding lastIn bucketAt
+  last-kept n b so = last-same (bucketAt capacity work) (bucketAt capacity work′) n b (λ i l. ap (bucketOf capacity) (so i l))
+
+  bucket-kept : (i : ℕ) → keyAt work′ i ≡ keyAt work i → bucketAt capacity work′ i ≡ bucketAt capacity work i
+  unfolding bucketAt
+  bucket-kept i e = ap (bucketOf capacity) e
+
+  pub chained-kept : (count : ℕ) → ((i : ℕ) → i < count → keyAt work′ i ≡ keyAt work i)
+      → ((i j : ℕ) → 242 ≤ j → j < 246 → getD work′ (slotBytes * i + j) 0 ≡ getD work (slotBytes * i + j) 0) → Chained capacity work count
+      → Chained capacity work′ count
+  chained-kept count keys links C = record {
+    heads = λ b l. size 242 b (omega arith) (omega arith) ∙ C .heads b l ∙ sym (last-kept count b keys);
+    nexts = λ i l.
+        size 244 i (omega arith) (omega arith) ∙ C .nexts i l ∙ sym (last-kept i (bucketAt capacity work i) (λ k m. keys k (omega arith)))
+        ∙ ap (lastIn capacity work′ i) (sym (bucket-kept i (keys i l)));
+  }
+    where
+      size : (j i : ℕ) → 242 ≤ j → j + 1 < 246 → sizeAt work′ (slotBytes * i + j) ≡ sizeAt work (slotBytes * i + j)
+      size j i h l =
+          let z : slotBytes * i + (j + 1) ≡ slotBytes * i + j + 1 = omega arith in
+          size-same work work′ (slotBytes * i + j) (links i j h (omega arith)) (rw (← z) (links i (j + 1) (omega arith) l))
+
+-- The byte behind a key may change.
+pub chained-flag : (capacity : ℕ) (work : List ℕ) (count i v : ℕ) → Chained capacity work count
+    → Chained capacity (set work (slotBytes * i + keyBytes) v) count
+chained-flag capacity work count i v =
+    chained-kept capacity work (set work (slotBytes * i + keyBytes) v) count
+    (λ k l. key-kept work (set work (slotBytes * i + keyBytes) v) k (length-set work (slotBytes * i + keyBytes) v) (λ j m. other k j (λ z. omega arith)))
+    (λ k j h l. other k j (λ z. omega arith))
+  where
+    other : (k j : ℕ) → (slotBytes * k + j ≡ slotBytes * i + keyBytes → ⊥) → getD (set work (slotBytes * i + keyBytes) v) (slotBytes * k + j) 0 ≡ getD work (slotBytes * k + j) 0
+    other k j n = getD-set-other work (slotBytes * i + keyBytes) (slotBytes * k + j) v 0 n
+
+-- A slot that is not counted may get its key and the byte behind it.
+getD-behind : (l : List ℕ) (p k : ℕ) (xs : List ℕ) → p + length xs ≤ k → getD (sets l p xs) k 0 ≡ getD l k 0
+getD-behind l p k [] h = refl
+getD-behind l p k (x ∷ xs) h = getD-behind (set l p x) (suc p) k xs (omega arith) ∙ getD-set-other l p k x 0 (λ z. omega arith)
+
+pub chained-slot : (capacity : ℕ) (work : List ℕ) (count : ℕ) (xs : List ℕ) → length xs ≤ 242 → Chained capacity work count
+    → Chained capacity (sets work (slotBytes * count) xs) count
+chained-slot capacity work count xs h =
+    chained-kept capacity work (sets work (slotBytes * count) xs) count
+    (λ k l. key-kept work (sets work (slotBytes * count) xs) k (length-sets work (slotBytes * count) xs)
+    (λ j m. getD-before work (slotBytes * k + j) (slotBytes * count) xs (omega arith)))
+    links
+  where
+    links : (k j : ℕ) → 242 ≤ j → j < 246 → getD (sets work (slotBytes * count) xs) (slotBytes * k + j) 0 ≡ getD work (slotBytes * k + j) 0
+    links k j lo hi = go (decLt k count)
+      where
+        go : Dec (k < count) → getD (sets work (slotBytes * count) xs) (slotBytes * k + j) 0 ≡ getD work (slotBytes * k + j) 0
+        go (yes l) = getD-before work (slotBytes * k + j) (slotBytes * count) xs (omega arith)
+        go (no l) = getD-behind work (slotBytes * count) (slotBytes * k + j) xs (omega arith)
+
+-- A number in a slot's own bytes leaves the keys.
+keeps-none : (capacity : ℕ) (work : List ℕ) → KeepsKeys capacity work work
+keeps-none capacity work = record { len = refl; slots = λ i j h. refl; rest = refl }
+
+keeps-put : (capacity : ℕ) (work₀ work : List ℕ) (b j n : ℕ) → b < capacity → 242 ≤ j → j < 255 → KeepsKeys capacity work₀ work
+    → KeepsKeys capacity work₀ (putNumber work (slotBytes * b + j) n)
+unfolding putNumber
+keeps-put capacity work₀ work b j n h lo hi K =
+    let p : ℕ = slotBytes * b + j in
+    record {
+      len = length-put work p n ∙ K .len;
+      slots = λ i k l. byte-put work p n (slotBytes * i + k) (λ z. omega arith) (λ z. omega arith) ∙ K .slots i k l;
+      rest = drop-set-lt (slotBytes * capacity) (set work p (n / 256)) (p + 1) (n % 256) (omega arith) ∙ drop-set-lt (slotBytes * capacity) work p (n / 256) (omega arith) ∙ K .rest;
+    }
+
+pub keeps-key : (capacity : ℕ) (work work′ : List ℕ) → KeepsKeys capacity work work′ → (i : ℕ) → keyAt work′ i ≡ keyAt work i
+keeps-key capacity work work′ K i = key-kept work work′ i (K .len) (λ j l. K .slots i j (omega arith))
+
+-- Emptying the buckets one by one.
+abbrev pub Clearing : ℕ → List ℕ → List ℕ → ℕ → Type 0
+Clearing capacity work₀ work b = KeepsKeys capacity work₀ work × ((k : ℕ) → k < b → headAt work k ≡ 0)
+
+pub clear-start : (capacity : ℕ) (work : List ℕ) → Clearing capacity work work 0
+clear-start capacity work = (keeps-none capacity work, λ k l. absurd (omega arith))
+
+pub clear-next : (capacity : ℕ) (work₀ work : List ℕ) (b : ℕ) → b < capacity → slotBytes * capacity ≤ length work₀ → (work′ : List ℕ)
+    → work′ ≡ putNumber work (headPlace b) 0 → Clearing capacity work₀ work b → Clearing capacity work₀ work′ (b + 1)
+clear-next capacity work₀ work b h l work′ e K = rw e (
+  keeps-put capacity work₀ work b 242 0 h (omega arith) (omega arith) (K .0),
+  below-more _ b (λ k m. head-other work b k 0 (λ z. omega arith) ∙ K .1 k m) (size-put work (headPlace b) 0 (omega (arith, K .0 .len))),
+)
+
+pub clear-end : (capacity : ℕ) (work work′ : List ℕ) (b : ℕ) → capacity ≤ b → Clearing capacity work work′ b → Clears capacity work work′
+unfolding lastIn lastWith
+clear-end capacity work work′ b h K = record {
+  chained = record { heads = λ k l. K .1 k (omega arith); nexts = λ i l. absurd (omega arith) };
+  keeps = K .0;
+}
+
+-- A slot put at the head of its bucket.
+module _ (capacity : ℕ) (work : List ℕ) (i b : ℕ) (l : i < capacity) (small : capacity ≤ 4096) (fits : slotBytes * capacity ≤ length work)
+    (B : BucketIs capacity (keyAt work i) b) where
+  abbrev work₁ : List ℕ
+  work₁ = putNumber work (linkPlace i) (headAt work b)
+
+  abbrev work′ : List ℕ
+  work′ = putNumber work₁ (headPlace b) (i + 1)
+
+  linked-keeps : KeepsKeys capacity work work′
+  linked-keeps =
+      keeps-put capacity work work₁ b 242 (i + 1) (B .within) (omega arith) (omega arith)
+      (keeps-put capacity work work i 244 (headAt work b) l (omega arith) (omega arith) (keeps-none capacity work))
+
+  linked-last : (n c : ℕ) → lastIn capacity work′ n c ≡ lastIn capacity work n c
+  linked-last n c = last-kept capacity work work′ n c (λ k m. keeps-key capacity work work′ linked-keeps k)
+
+  linked-bucket : (k : ℕ) → bucketAt capacity work′ k ≡ bucketAt capacity work k
+  linked-bucket k = bucket-kept capacity work work′ k (keeps-key capacity work work′ linked-keeps k)
+
+  own-bucket : bucketAt capacity work i ≡ b
+  unfolding bucketAt
+  own-bucket = sym (B .is)
+
+  linked-head : (C : Chained capacity work i) (c : ℕ) → c < capacity → (t : Bool) → eqb c b ≡ t → headAt work′ c ≡ lastIn capacity work (suc i) c
+  unfolding lastIn
+  linked-head C c m true q = rw (eqb-true c b q) (size-put work₁ (headPlace b) (i + 1) (omega (arith, B .within, length-put work (linkPlace i) (headAt work b))) ∙ add-one i ∙ sym (last-here (bucketAt capacity work) i b own-bucket))
+  linked-head C c m false q =
+      let n : c ≡ b → ⊥ = eqb-false c b q in
+      head-other work₁ b c (i + 1) n ∙ head-link work i c (headAt work b) ∙ C .heads c m
+      ∙ sym (last-other (bucketAt capacity work) i c (λ e. n (sym e ∙ own-bucket)))
+
+  linked-next : (C : Chained capacity work i) (k : ℕ) → k < i + 1 → (t : Bool) → eqb k i ≡ t → nextAt work′ k ≡ lastIn capacity work k (bucketAt capacity work k)
+  linked-next C k m true q =
+      rw (eqb-true k i q) (link-head work₁ b i (i + 1) ∙ size-put work (linkPlace i) (headAt work b) (omega arith) ∙ C .heads b (B .within) ∙ ap (lastIn capacity work i) (sym own-bucket))
+  linked-next C k m false q =
+      let n : k ≡ i → ⊥ = eqb-false k i q in
+      link-head work₁ b k (i + 1) ∙ link-other work i k (headAt work b) n ∙ C .nexts k (omega arith)
+
+  linked : LinkIs capacity work i work′
+  linked = record {
+    chained = λ C. record {
+      heads = λ c m. linked-head C c m (eqb c b) refl ∙ sym (linked-last (suc i) c) ∙ ap (λ n. lastIn capacity work′ n c) (sym (add-one i));
+      nexts = λ k m. linked-next C k m (eqb k i) refl ∙ sym (linked-last k (bucketAt capacity work k)) ∙ ap (lastIn capacity work′ k) (sym (linked-bucket k));
+    };
+    keeps = linked-keeps;
+  }
+
+-- as the code does it
+pub link-is : (capacity : ℕ) (work : List ℕ) (i b last : ℕ) (w₁ w₂ : List ℕ) → i < capacity → capacity ≤ 4096 → slotBytes * capacity ≤ length work
+    → BucketIs capacity (take keyBytes (take (length work - slotBytes * i) (drop (slotBytes * i) work))) b → last ≡ headAt work b
+    → w₁ ≡ putNumber work (linkPlace i) last → w₂ ≡ putNumber w₁ (headPlace b) (i + 1) → LinkIs capacity work i w₂
+unfolding keyAt
+link-is capacity work i b last w₁ w₂ l small fits B e₀ e₁ e₂ =
+    let k : take keyBytes (take (length work - slotBytes * i) (drop (slotBytes * i) work)) ≡ keyAt work i = take-take keyBytes (length work - slotBytes * i) (drop (slotBytes * i) work) (omega arith) in
+    rw (e₂, e₁, e₀) (linked capacity work i b l small fits (rw k at B))

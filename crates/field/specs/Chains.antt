@@ -1,0 +1,88 @@
+-- Finding a situation in the work area without going over all of it. The slots are spread over as many buckets as there may be slots. Bytes 242
+-- and 243 of slot b are the head of bucket b, the last slot in it; bytes 244 and 245 of slot i are the slot before i in its bucket. Both are numbers
+-- of slots plus 1, and 0 stands for none.
+use mathlib.Core.Path.{_≡_}
+use mathlib.Core.Bool.{cond}
+use mathlib.Core.List.{List, [], _∷_}
+use Prim.Native.Nat.{ℕ, zero, suc, _+_, _*_, _/_, _%_, _<_}
+use lib.Dec.{eqb, ltb}
+use lib.ListN.{length, getD, take, drop, set}
+use Rattle.terms.specs.FieldPlaces.{sizeAt}
+use Rattle.field.specs.Key.{keyAt, FoundIs}
+use Rattle.field.specs.Slot.{octets, slotBytes}
+use Rattle.field.specs.declared.find.Found.{Found}
+
+-- one byte after the other, by a multiplier whose bits are well mixed, modulo 2 ^ 32
+abbrev pub mixed : ℕ → ℕ → ℕ
+mixed h b = (h * 2654435761 + b) % 4294967296
+
+unfoldable pub spread : ℕ → List ℕ → ℕ
+spread h [] = h
+spread h (b ∷ bs) = spread (mixed h b) bs
+
+-- how many bytes of the part at `at` say something: its length and that many, and not the zeros behind them
+unfoldable pub usedAt : List ℕ → ℕ → ℕ
+usedAt key at = cond (ltb (getD key at 0) 113) (1 + getD key at 0) 113
+
+unfoldable pub spreadKey : List ℕ → ℕ
+spreadKey key =
+    spread (spread (spread 0 (take (usedAt key 0) (drop 0 key))) (take (usedAt key 113) (drop 113 key))) (take octets (drop 226 key))
+
+-- the bucket of a key
+unfoldable pub bucketOf : ℕ → List ℕ → ℕ
+bucketOf capacity key = (spreadKey key + spreadKey key / 65536) % capacity
+
+unfoldable pub bucketAt : ℕ → List ℕ → ℕ → ℕ
+bucketAt capacity work i = bucketOf capacity (keyAt work i)
+
+pub record BucketIs (capacity : ℕ) (key : List ℕ) (r : ℕ) : Type 0 where
+  pub is : r ≡ bucketOf capacity key
+  pub within : r < capacity
+
+-- where the head of bucket b and the link of slot i stand, and what they are
+abbrev pub headPlace : ℕ → ℕ
+headPlace b = slotBytes * b + 242
+
+abbrev pub linkPlace : ℕ → ℕ
+linkPlace i = slotBytes * i + 244
+
+abbrev pub headAt : List ℕ → ℕ → ℕ
+headAt work b = sizeAt work (headPlace b)
+
+abbrev pub nextAt : List ℕ → ℕ → ℕ
+nextAt work i = sizeAt work (linkPlace i)
+
+-- a number in two bytes, the greater half first
+unfoldable pub putNumber : List ℕ → ℕ → ℕ → List ℕ
+putNumber work at n = set (set work at (n / 256)) (at + 1) (n % 256)
+
+-- one more than the greatest number below n at which f is b, or 0
+unfoldable pub lastWith : (ℕ → ℕ) → ℕ → ℕ → ℕ
+lastWith f zero b = 0
+lastWith f (suc n) b = cond (eqb (f n) b) (suc n) (lastWith f n b)
+
+unfoldable pub lastIn : ℕ → List ℕ → ℕ → ℕ → ℕ
+lastIn capacity work n b = lastWith (bucketAt capacity work) n b
+
+-- Heads and links are those of the first `count` slots.
+pub record Chained (capacity : ℕ) (work : List ℕ) (count : ℕ) : Type 0 where
+  pub heads : (b : ℕ) → b < capacity → headAt work b ≡ lastIn capacity work count b
+  pub nexts : (i : ℕ) → i < count → nextAt work i ≡ lastIn capacity work i (bucketAt capacity work i)
+
+-- The keys, the bytes behind them and what lies behind the slots are as they were.
+pub record KeepsKeys (capacity : ℕ) (work work′ : List ℕ) : Type 0 where
+  pub len : length work′ ≡ length work
+  pub slots : (i j : ℕ) → j < 242 → getD work′ (slotBytes * i + j) 0 ≡ getD work (slotBytes * i + j) 0
+  pub rest : drop (slotBytes * capacity) work′ ≡ drop (slotBytes * capacity) work
+
+pub record Clears (capacity : ℕ) (work work′ : List ℕ) : Type 0 where
+  pub chained : Chained capacity work′ 0
+  pub keeps : KeepsKeys capacity work work′
+
+-- Slot i comes behind those chained already.
+pub record LinkIs (capacity : ℕ) (work : List ℕ) (i : ℕ) (work′ : List ℕ) : Type 0 where
+  pub chained : Chained capacity work i → Chained capacity work′ (i + 1)
+  pub keeps : KeepsKeys capacity work work′
+
+unfoldable pub FindsIn : ℕ → List ℕ → ℕ → List ℕ → Found → Type 0
+FindsIn capacity work count key r = Chained capacity work count → FoundIs work count key r
