@@ -17,6 +17,7 @@ use Rattle.steps.specs.Bodies.{AritiesIs}
 use Rattle.steps.specs.Lists.{All}
 use Rattle.steps.proofs.Membership.{∈-all, all-∈}
 use Rattle.steps.proofs.QuestionDefinitions.{definitions}
+use Rattle.field.specs.Chains.{Clears, LinkIs}
 use Rattle.field.specs.Exploration.{incomplete, fieldOf, together}
 use Rattle.field.specs.Growing.{Proper, Fitting, grown, Knows, GrowsTo, Puts, slotWith, Flagged, moved, GrowsSides, Follows, GrowIs}
 use Rattle.field.specs.Holding.{Explores, ExploreIs}
@@ -64,7 +65,7 @@ module _ (question : List ℕ) (q : Question) (accepted : checkOf question ≡ r
 -- The situation of number `taken`.
 module _ (question : List ℕ) (taken capacity : ℕ) (work : List ℕ) (known : ℕ) (waits : taken < known) (up : TakenUp) (firsts seconds : List ℕ)
     (T : TakesUp question work (slotBytes * taken) up firsts seconds) where
-  module _ (q : Question) (accepted : checkOf question ≡ result q) (ks : List Situation) (d : Situation) (K : Knows (q .arities) work known ks) where
+  module _ (q : Question) (accepted : checkOf question ≡ result q) (ks : List Situation) (d : Situation) (K : Knows (q .arities) capacity work known ks) where
     abbrev s : Situation
     s = getD ks taken d
 
@@ -127,7 +128,7 @@ module _ (question : List ℕ) (taken capacity : ℕ) (work : List ℕ) (known :
 pub record Explorer (q : Question) (capacity : ℕ) (work : List ℕ) (known taken : ℕ) : Type 0 where
   pub ks : List Situation
   pub exploring : Exploring (settingOf (q .bodies)) capacity (startOf q) ks taken
-  pub knows : Knows (q .arities) work known ks
+  pub knows : Knows (q .arities) capacity work known ks
 
 module _ (question : List ℕ) (capacity : ℕ) (work₀ : List ℕ) where
   pub record Explorers (work : List ℕ) (known taken : ℕ) : Type 0 where
@@ -162,6 +163,7 @@ module _ (question : List ℕ) (capacity : ℕ) (work₀ : List ℕ) where
       is = λ q a.
           let y = x .is q a in
           rw (none q y (successors (settingOf (q .bodies)) (getD (y .ks) taken (startOf q))) refl (g .is q a (y .ks) (startOf q) (y .knows))) refl;
+      chained = λ q a n e. let z : _≡_ {A = ℕ} 0 1 = cc in absurd (omega arith);
     }
       where
         none : (q : Question) (y : Explorer q capacity work known taken) (o : Outcome) → successors (settingOf (q .bodies)) (getD (y .ks) taken (startOf q)) ≡ o
@@ -176,6 +178,7 @@ module _ (question : List ℕ) (capacity : ℕ) (work₀ : List ℕ) where
     rest = x .rest;
     within = λ n e. let z : known ≡ n = cc in (omega arith, omega arith);
     is = λ q a. whole q (x .is q a);
+    chained = λ q a n e. let z : known ≡ n = cc in rw (← z) (x .is q a .knows .chained);
   }
     where
       whole : (q : Question) → Explorer q capacity work known taken → Explores (fieldOf (settingOf (q .bodies)) capacity (startOf q)) (Field known) work
@@ -188,9 +191,9 @@ module _ (question : List ℕ) (capacity : ℕ) (work₀ : List ℕ) where
 
 -- The start in the first slot.
 module _ (question : List ℕ) (capacity : ℕ) (some : 1 ≤ capacity) (work : List ℕ) (room : slotBytes * capacity ≤ length work) (key : List ℕ)
-    (long : keyBytes ≤ length key) (work₀ : List ℕ) (w : work₀ ≡ slotWith work 0 key) where
-  slot : slotBytes * 0 + slotBytes ≤ length work
-  slot = omega arith
+    (long : keyBytes ≤ length key) (clear : List ℕ) (C : Clears capacity work clear) (work₀ : List ℕ) (L : LinkIs capacity (slotWith clear 0 key) 0 work₀) where
+  slot : slotBytes * 0 + slotBytes ≤ length clear
+  slot = omega (arith, C .keeps .len)
 
   pub explorers-start : StartIs question key → Explorers question capacity work₀ work₀ 1 0
   unfolding StartIs
@@ -198,18 +201,19 @@ module _ (question : List ℕ) (capacity : ℕ) (some : 1 ≤ capacity) (work : 
     rest = refl;
     is = λ q a.
         let f = start-fitting question q a in
-        let none : Knows (q .arities) work 0 [] =
-        record { count = refl; fitting = tt; slots = record { held = λ i d k. absurd (omega arith); left = λ i k. absurd (omega arith) } } in
+        let none : Knows (q .arities) capacity clear 0 [] =
+        record { count = refl; fitting = tt; slots = record { held = λ i d k. absurd (omega arith); left = λ i k. absurd (omega arith) }; chained = C .chained } in
         record {
           ks = startOf q ∷ [];
           exploring = exploring-start (settingOf (q .bodies)) capacity (startOf q) some;
-          knows = rw w (knows-more work key 0 slot long (q .arities) [] none (startOf q) f (whole-key key (startOf q) (f .fits) (S q a)));
+          knows = knows-more clear key 0 slot long (q .arities) capacity [] none (startOf q) f (whole-key key (startOf q) (f .fits) (S q a)) work₀ L;
         };
   }
 
   pub explored-from : (r : Explored) (work′ : List ℕ) → ExploreIs question capacity work₀ r work′ → ExploreIs question capacity work r work′
   explored-from r work′ x = record {
-    rest = x .rest ∙ ap (drop (slotBytes * capacity)) w ∙ slot-rest work key 0 slot long capacity some;
+    rest = x .rest ∙ slot-rest clear key 0 slot long capacity some work₀ L ∙ C .keeps .rest;
     within = x .within;
     is = x .is;
+    chained = x .chained;
   }

@@ -16,10 +16,10 @@ use Rattle.steps.specs.Limits.{stepBytes}
 use Rattle.steps.specs.Listed.{ListedStep, classIn, resultBytes}
 use Rattle.steps.specs.Lists.{All}
 use Rattle.steps.proofs.Membership.{all-imp}
+use Rattle.field.specs.Chains.{LinkIs, FindsIn}
 use Rattle.field.specs.Entry.{EntryAt, AnswersIs}
 use Rattle.field.specs.Exploration.{together}
 use Rattle.field.specs.Growing.{Proper, Fits, Fitting, grownBy, grown, GrowsTo, Puts, Grows, slotWith, AddIs, Flagged, answered, GrowsAnswer, GrowsAnswers, moved, GrowsStep, GrowsSide, GrowsSides}
-use Rattle.field.specs.Key.{FoundIs}
 use Rattle.field.specs.Leading.{placed, leading, SuccessorIs}
 use Rattle.field.specs.PairFlags.{PermittedIs}
 use Rattle.field.specs.Situation.{Situation, freeFrom, situation}
@@ -73,37 +73,38 @@ whole-key key s f e = take-all keyBytes key (omega (arith, ap length e, length-k
 -- One situation: known already, too much, or new.
 module _ (capacity : ℕ) (work : List ℕ) (known : ℕ) (key : List ℕ) where
   module _ (few : known ≤ capacity) where
-    pub add-found : (i : ℕ) → FoundIs work known key (At i) → AddIs capacity work known key (Known known) work
-    unfolding Puts GrowsTo grown grownBy
+    pub add-found : (i : ℕ) → FindsIn capacity work known key (At i) → AddIs capacity work known key (Known known) work
+    unfolding Puts GrowsTo grown grownBy FindsIn
     add-found i f = record {
       grows = grows-none capacity work known few;
       is = λ arities s h e ks K.
-          rw (found-slot arities work known ks (K .count) (K .slots) (all-proper arities ks (K .fitting)) s (h .proper) (h .fits) key e i f) K;
+          rw (found-slot arities work known ks (K .count) (K .slots) (all-proper arities ks (K .fitting)) s (h .proper) (h .fits) key e i (f (K .chained))) K;
     }
 
-  module _ (f : FoundIs work known key Nothing) where
+  module _ (f : FindsIn capacity work known key Nothing) where
     pub add-full : known ≡ capacity → AddIs capacity work known key Full work
-    unfolding Puts GrowsTo grown grownBy
+    unfolding Puts GrowsTo grown grownBy FindsIn
     add-full q = record {
       grows = grows-full capacity work known;
       is = λ arities s h e ks K.
-          rw (found-no-slot arities work known ks (K .count) (K .slots) (all-proper arities ks (K .fitting)) s (h .proper) (h .fits) key e f)
+          rw (found-no-slot arities work known ks (K .count) (K .slots) (all-proper arities ks (K .fitting)) s (h .proper) (h .fits) key e (f (K .chained)))
           (omega (arith, K .count, length-append ks (s ∷ [])));
     }
 
-    pub add-new : known < capacity → slotBytes * capacity ≤ length work → keyBytes ≤ length key → (work′ : List ℕ) → work′ ≡ slotWith work known key
+    pub add-new : known < capacity → slotBytes * capacity ≤ length work → keyBytes ≤ length key → (work′ : List ℕ)
+        → LinkIs capacity (slotWith work known key) known work′
         → AddIs capacity work known key (Known (known + 1)) work′
-    unfolding Puts GrowsTo grown grownBy
-    add-new h room long work′ w =
+    unfolding Puts GrowsTo grown grownBy FindsIn
+    add-new h room long work′ L =
         let l : slotBytes * known + slotBytes ≤ length work = omega arith in
         record {
           grows = record {
-            rest = ap (drop (slotBytes * capacity)) w ∙ slot-rest work key known l long capacity h;
+            rest = slot-rest work key known l long capacity h work′ L;
             within = λ n e. let z : known + 1 ≡ n = cc in (omega arith, omega arith);
           };
           is = λ arities s g e ks K.
-              rw (found-no-slot arities work known ks (K .count) (K .slots) (all-proper arities ks (K .fitting)) s (g .proper) (g .fits) key e f, w)
-              (knows-more work key known l long arities ks K s g (whole-key key s (g .fits) e));
+              rw (found-no-slot arities work known ks (K .count) (K .slots) (all-proper arities ks (K .fitting)) s (g .proper) (g .fits) key e (f (K .chained)))
+              (knows-more work key known l long arities capacity ks K s g (whole-key key s (g .fits) e) work′ L);
         }
 
 -- A loop over a list of steps: f says what a part of the list leads to.

@@ -9,10 +9,13 @@ use lib.Seq.{sets, sets-eq, length-sets, length-take-le, drop-at, take-at, getD-
 use Rattle.terms.proofs.Stores.{getD-front, sets-join}
 use Rattle.steps.proofs.Membership.{all-++}
 use Rattle.steps.proofs.Moves.{getD-before}
+use Rattle.field.specs.Chains.{Chained, KeepsKeys, LinkIs}
 use Rattle.field.specs.Growing.{Fits, Fitting, Knows, slotWith}
+use Rattle.field.specs.Holding.{SlotsHold}
 use Rattle.field.specs.Key.{SituationAt, keyAt}
 use Rattle.field.specs.Situation.{Situation}
 use Rattle.field.specs.Slot.{keyOf, keyBytes, slotBytes}
+use Rattle.field.proofs.ChainLaws.{keeps-key, chained-slot}
 use Rattle.field.proofs.KeysDiffer.{slot-key}
 
 -- A run of stores leaves what is behind it, and what is before it.
@@ -37,6 +40,17 @@ key-situation area at s f e = record {
   second = f .second;
 }
 
+-- the slots where only links change
+slots-kept : (capacity : ℕ) (work work′ : List ℕ) → KeepsKeys capacity work work′ → (ks : List Situation) → SlotsHold work ks → SlotsHold work′ ks
+unfolding keyAt
+slots-kept capacity work work′ K ks h = record {
+  held = λ i d l.
+      let t : SituationAt work (slotBytes * i) (getD ks i d) = h .held i d l in
+      key-situation work′ (slotBytes * i) (getD ks i d) (record { first = t .first; second = t .second })
+      (keeps-key capacity work work′ K i ∙ slot-key work i (getD ks i d) t);
+  left = λ i l. K .slots i keyBytes (omega arith) ∙ h .left i l;
+}
+
 module _ (work key : List ℕ) (i : ℕ) (room : slotBytes * i + slotBytes ≤ length work) (long : keyBytes ≤ length key) where
   abbrev new : List ℕ
   new = take keyBytes key ++ (0 ∷ [])
@@ -44,9 +58,10 @@ module _ (work key : List ℕ) (i : ℕ) (room : slotBytes * i + slotBytes ≤ l
   new-length : length new ≡ 242
   new-length = length-append (take keyBytes key) (0 ∷ []) ∙ omega (arith, length-take-le keyBytes key long)
 
-  pub slot-rest : (capacity : ℕ) → i < capacity → drop (slotBytes * capacity) (slotWith work i key) ≡ drop (slotBytes * capacity) work
+  pub slot-rest : (capacity : ℕ) → i < capacity → (work′ : List ℕ) → LinkIs capacity (slotWith work i key) i work′
+      → drop (slotBytes * capacity) work′ ≡ drop (slotBytes * capacity) work
   unfolding slotWith
-  slot-rest capacity h = drop-behind (slotBytes * capacity) work new (slotBytes * i) (omega (arith, new-length))
+  slot-rest capacity h work′ L = L .keeps .rest ∙ drop-behind (slotBytes * capacity) work new (slotBytes * i) (omega (arith, new-length))
 
   slot-before : (j : ℕ) → j < i → take keyBytes (drop (slotBytes * j) (slotWith work i key)) ≡ take keyBytes (drop (slotBytes * j) work)
   unfolding slotWith
@@ -78,7 +93,7 @@ module _ (work key : List ℕ) (i : ℕ) (room : slotBytes * i + slotBytes ≤ l
   slot-other j h = getD-before work (slotBytes * j + keyBytes) (slotBytes * i) new (omega arith)
 
   -- One more situation is known.
-  module _ (arities : List ℕ) (ks : List Situation) (known : Knows arities work i ks) (s : Situation) (f : Fitting arities s)
+  module _ (arities : List ℕ) (capacity : ℕ) (ks : List Situation) (known : Knows arities capacity work i ks) (s : Situation) (f : Fitting arities s)
       (e : take keyBytes key ≡ keyOf s) where
     abbrev now : List ℕ
     now = slotWith work i key
@@ -101,22 +116,35 @@ module _ (work key : List ℕ) (i : ℕ) (room : slotBytes * i + slotBytes ≤ l
     count-now : length (ks ++ (s ∷ [])) ≡ i + 1
     count-now = length-append ks (s ∷ []) ∙ omega (arith, known .count)
 
-    pub knows-more : Knows arities (slotWith work i key) (i + 1) (ks ++ (s ∷ []))
-    knows-more = record {
+    slots-now : SlotsHold now (ks ++ (s ∷ []))
+    slots-now = record {
+      held = λ j d h. below-more Held i held-before held-here j (omega (arith, count-now)) d;
+      left = λ j h.
+          below-more (λ k. getD now (slotBytes * k + keyBytes) 0 ≡ 0) i
+          (λ k l. slot-other k l ∙ known .slots .left k (omega (arith, known .count))) slot-left j (omega (arith, count-now));
+    }
+
+    chained-now : Chained capacity now i
+    unfolding slotWith
+    chained-now = chained-slot capacity work i new (omega (arith, new-length)) (known .chained)
+
+    pub knows-more : (work′ : List ℕ) → LinkIs capacity now i work′ → Knows arities capacity work′ (i + 1) (ks ++ (s ∷ []))
+    knows-more work′ L = record {
       count = count-now;
       fitting = all-++ (Fitting arities) ks (s ∷ []) (known .fitting) (f, tt);
-      slots = record {
-        held = λ j d h. below-more Held i held-before held-here j (omega (arith, count-now)) d;
-        left = λ j h.
-            below-more (λ k. getD now (slotBytes * k + keyBytes) 0 ≡ 0) i
-            (λ k l. slot-other k l ∙ known .slots .left k (omega (arith, known .count))) slot-left j (omega (arith, count-now));
-      };
+      slots = slots-kept capacity now work′ (L .keeps) (ks ++ (s ∷ [])) slots-now;
+      chained = L .chained chained-now;
     }
 
 -- The key copied, and the byte behind it.
-pub put-slot : (work key : List ℕ) (i : ℕ) → keyBytes ≤ length key → (work′ : List ℕ) → work′ ≡ sets work (slotBytes * i) (take keyBytes (drop 0 key))
+put-slot : (work key : List ℕ) (i : ℕ) → keyBytes ≤ length key → (work′ : List ℕ) → work′ ≡ sets work (slotBytes * i) (take keyBytes (drop 0 key))
     → set work′ (slotBytes * i + keyBytes) 0 ≡ slotWith work i key
 unfolding slotWith
 put-slot work key i long work′ w =
     ap (λ l. set l (slotBytes * i + keyBytes) 0) w
     ∙ sets-join work (slotBytes * i) (slotBytes * i + keyBytes) (take keyBytes key) (0 ∷ []) (omega (arith, length-take-le keyBytes key long))
+
+pub put-linked : (capacity : ℕ) (work key : List ℕ) (i : ℕ) → keyBytes ≤ length key → (copied work′ : List ℕ)
+    → copied ≡ sets work (slotBytes * i) (take keyBytes (drop 0 key)) → LinkIs capacity (set copied (slotBytes * i + keyBytes) 0) i work′
+    → LinkIs capacity (slotWith work i key) i work′
+put-linked capacity work key i long copied work′ w L = rw (put-slot work key i long copied w) at L

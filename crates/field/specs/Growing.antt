@@ -14,6 +14,7 @@ use Rattle.terms.specs.Limits.{nameCount, longestTerm}
 use Rattle.terms.specs.Question.{Question, checkOf}
 use Rattle.steps.specs.Listed.{ListedStep}
 use Rattle.steps.specs.Lists.{All}
+use Rattle.field.specs.Chains.{Chained}
 use Rattle.field.specs.Entry.{EntryAt}
 use Rattle.field.specs.Exploration.{found, together}
 use Rattle.field.specs.Holding.{SlotsHold}
@@ -53,20 +54,21 @@ unfoldable pub grown : List Situation → List Situation → List Situation
 grown known [] = known
 grown known (s ∷ ss) = grown (grownBy known s) ss
 
--- The situations ks are known: so many, in the slots.
-pub record Knows (arities work : List ℕ) (known : ℕ) (ks : List Situation) : Type 0 where
+-- The situations ks are known: so many, in the slots, and these chained.
+pub record Knows (arities : List ℕ) (capacity : ℕ) (work : List ℕ) (known : ℕ) (ks : List Situation) : Type 0 where
   pub count : length ks ≡ known
   pub fitting : All (Fitting arities) ks
   pub slots : SlotsHold work ks
+  pub chained : Chained capacity work known
 
 -- They are ks now, or ks are more than the capacity.
 unfoldable pub GrowsTo : List ℕ → ℕ → List Situation → Growth → List ℕ → Type 0
 GrowsTo arities capacity ks Full work′ = capacity < length ks
-GrowsTo arities capacity ks (Known n) work′ = Knows arities work′ n ks
+GrowsTo arities capacity ks (Known n) work′ = Knows arities capacity work′ n ks
 
 -- Those of `news` that are new are put behind the known ones.
 unfoldable pub Puts : List ℕ → ℕ → List ℕ → ℕ → List Situation → Growth → List ℕ → Type 0
-Puts arities capacity work known news r work′ = (ks : List Situation) → Knows arities work known ks → GrowsTo arities capacity (grown ks news) r work′
+Puts arities capacity work known news r work′ = (ks : List Situation) → Knows arities capacity work known ks → GrowsTo arities capacity (grown ks news) r work′
 
 -- In any case: what is behind the capacity stays, and the situations do not become fewer.
 pub record Grows (capacity : ℕ) (work : List ℕ) (known : ℕ) (r : Growth) (work′ : List ℕ) : Type 0 where
@@ -151,5 +153,5 @@ Follows arities capacity ks (leads ms) r work′ = GrowsTo arities capacity (gro
 
 pub record GrowIs (question : List ℕ) (taken capacity : ℕ) (work : List ℕ) (known : ℕ) (r : Growth) (work′ : List ℕ) : Type 0 where
   pub grows : Grows capacity work known r work′
-  pub is : (q : Question) → checkOf question ≡ result q → (ks : List Situation) (d : Situation) → Knows (q .arities) work known ks
+  pub is : (q : Question) → checkOf question ≡ result q → (ks : List Situation) (d : Situation) → Knows (q .arities) capacity work known ks
       → Follows (q .arities) capacity ks (successors (settingOf (q .bodies)) (getD ks taken d)) r work′

@@ -5,6 +5,7 @@ use Prim.Native.Nat.{ℕ, _+_, _*_, _<_, _≤_}
 use lib.ListN.{length, getD, drop}
 use Rattle.terms.specs.Answer.{result}
 use Rattle.terms.specs.Question.{Question, checkOf}
+use Rattle.field.specs.Chains.{Chained}
 use Rattle.field.specs.Exploration.{Exploration, incomplete, explored, fieldOf}
 use Rattle.field.specs.Key.{SituationAt}
 use Rattle.field.specs.Setting.{settingOf}
@@ -28,3 +29,4 @@ pub record ExploreIs (question : List ℕ) (capacity : ℕ) (work : List ℕ) (r
   pub rest : drop (slotBytes * capacity) work′ ≡ drop (slotBytes * capacity) work
   pub within : (n : ℕ) → r ≡ Field n → (1 ≤ n) × (n ≤ capacity)
   pub is : (q : Question) → checkOf question ≡ result q → Explores (fieldOf (settingOf (q .bodies)) capacity (startOf q)) r work′
+  pub chained : (q : Question) → checkOf question ≡ result q → (n : ℕ) → r ≡ Field n → Chained capacity work′ n

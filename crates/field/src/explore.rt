@@ -3,14 +3,17 @@ ghost use mathlib.Core.Path.{_≡_};
 ghost use Prim.Native.Nat.{_+_, _*_, _<_, _≤_};
 ghost use lib.ListN.{length};
 ghost use Rattle.steps.specs.Limits.{stepBytes, mostSteps};
+ghost use Rattle.field.specs.Chains.{LinkIs};
 ghost use Rattle.field.specs.Growing.{slotWith, AddIs, GrowsAnswer, GrowsAnswers, GrowsStep, GrowsSide, GrowsSides, GrowIs};
 ghost use Rattle.field.specs.Holding.{ExploreIs};
 ghost use Rattle.field.specs.Slot.{keyBytes, slotBytes};
+use crate::chains::clear_heads;
+use crate::chains::find_chained;
+use crate::chains::link;
 use crate::entries::answers;
 use crate::find::Found;
 use crate::find::KEY_BYTES;
 use crate::find::SLOT_BYTES;
-use crate::find::find;
 use crate::pairs::PAIR_COUNT;
 use crate::pairs::permitted;
 use crate::results::successor;
@@ -34,29 +37,30 @@ pub enum Growth {
     Known(usize),
 }
 
-// Writes the key into slot `i`; the byte behind it says that the situation is left.
-fn put(work: &mut [u8], i: usize, key: &[u8])
-    requires { ⌜ (i < 4096) × (slotBytes * i + slotBytes ≤ length (now work)) × (keyBytes ≤ length (now key)) ⌝ }
-    ensures { λ _. ⌜ now (work .exit) ≡ slotWith (now (work .entry)) i (now (key .entry)) ⌝ }
+// Writes the key into slot `i` and chains it; the byte behind the key says that the situation is left.
+fn put(work: &mut [u8], capacity: usize, i: usize, key: &[u8])
+    requires { ⌜ (i < capacity) × (capacity ≤ 4096) × (slotBytes * capacity ≤ length (now work)) × (keyBytes ≤ length (now key)) ⌝ }
+    ensures { λ _. ⌜ LinkIs capacity (slotWith (now (work .entry)) i (now (key .entry))) i (now (work .exit)) ⌝ }
 {
     let at = SLOT_BYTES * i;
     copy(key, 0, KEY_BYTES, work, at);
     work[at + KEY_BYTES] = 0;
+    link(work, capacity, i);
 }
 
 // Puts the situation with this key behind the known ones if it is new.
 fn add(work: &mut [u8], capacity: usize, known: usize, key: &[u8]) -> Growth
-    requires { ⌜ (known ≤ capacity) × (capacity ≤ 4096) × (slotBytes * capacity ≤ length (now work)) × (keyBytes ≤ length (now key)) ⌝ }
+    requires { ⌜ (1 ≤ capacity) × (known ≤ capacity) × (capacity ≤ 4096) × (slotBytes * capacity ≤ length (now work)) × (keyBytes ≤ length (now key)) ⌝ }
     ensures { λ r. ⌜ AddIs capacity (now (work .entry)) known (now (key .entry)) r (now (work .exit)) ⌝ }
 {
-    let place = find(work, known, key);
+    let place = find_chained(work, capacity, known, key);
     match place {
         Found::At(_) => Growth::Known(known),
         Found::Nothing => {
             if known == capacity {
                 return Growth::Full;
             }
-            put(work, known, key);
+            put(work, capacity, known, key);
             Growth::Known(known + 1)
         }
     }
@@ -76,7 +80,7 @@ fn grow_answer(
     capacity: usize,
     known: usize,
 ) -> Growth
-    requires { ⌜ (known ≤ capacity) × (capacity ≤ 4096) × (slotBytes * capacity ≤ length (now work)) × (at + stepBytes ≤ length (now area)) × (place + stepBytes ≤ length (now others)) ⌝ }
+    requires { ⌜ (1 ≤ capacity) × (known ≤ capacity) × (capacity ≤ 4096) × (slotBytes * capacity ≤ length (now work)) × (at + stepBytes ≤ length (now area)) × (place + stepBytes ≤ length (now others)) ⌝ }
     ensures { λ r. ⌜ GrowsAnswer (now (arities .entry)) (now (free .entry)) apart second (now (area .entry)) at (now (others .entry)) place capacity (now (work .entry)) known r (now (work .exit)) ⌝ }
 {
     if !answers(area, at, others, place) {
@@ -100,7 +104,7 @@ fn grow_answers(
     capacity: usize,
     known: usize,
 ) -> Growth
-    requires { ⌜ (known ≤ capacity) × (capacity ≤ 4096) × (slotBytes * capacity ≤ length (now work)) × (at + stepBytes ≤ length (now area)) × (count ≤ mostSteps) × (mostSteps * stepBytes ≤ length (now others)) ⌝ }
+    requires { ⌜ (1 ≤ capacity) × (known ≤ capacity) × (capacity ≤ 4096) × (slotBytes * capacity ≤ length (now work)) × (at + stepBytes ≤ length (now area)) × (count ≤ mostSteps) × (mostSteps * stepBytes ≤ length (now others)) ⌝ }
     ensures { λ r. ⌜ GrowsAnswers (now (arities .entry)) (now (free .entry)) apart second (now (area .entry)) at (now (others .entry)) count capacity (now (work .entry)) known r (now (work .exit)) ⌝ }
 {
     let mut so_far = known;
@@ -142,7 +146,7 @@ fn grow_step(
     capacity: usize,
     known: usize,
 ) -> Growth
-    requires { ⌜ (known ≤ capacity) × (capacity ≤ 4096) × (slotBytes * capacity ≤ length (now work)) × (at + stepBytes ≤ length (now area)) × (count ≤ mostSteps) × (mostSteps * stepBytes ≤ length (now others)) ⌝ }
+    requires { ⌜ (1 ≤ capacity) × (known ≤ capacity) × (capacity ≤ 4096) × (slotBytes * capacity ≤ length (now work)) × (at + stepBytes ≤ length (now area)) × (count ≤ mostSteps) × (mostSteps * stepBytes ≤ length (now others)) ⌝ }
     ensures { λ r. ⌜ GrowsStep (now (arities .entry)) (now (free .entry)) apart second (now (area .entry)) at (now (others .entry)) count capacity (now (work .entry)) known r (now (work .exit)) ⌝ }
 {
     if !permitted(&apart, area, at) {
@@ -177,7 +181,7 @@ fn grow_side(
     capacity: usize,
     known: usize,
 ) -> Growth
-    requires { ⌜ (known ≤ capacity) × (capacity ≤ 4096) × (slotBytes * capacity ≤ length (now work)) × (steps ≤ mostSteps) × (mostSteps * stepBytes ≤ length (now area)) × (count ≤ mostSteps) × (mostSteps * stepBytes ≤ length (now others)) ⌝ }
+    requires { ⌜ (1 ≤ capacity) × (known ≤ capacity) × (capacity ≤ 4096) × (slotBytes * capacity ≤ length (now work)) × (steps ≤ mostSteps) × (mostSteps * stepBytes ≤ length (now area)) × (count ≤ mostSteps) × (mostSteps * stepBytes ≤ length (now others)) ⌝ }
     ensures { λ r. ⌜ GrowsSide (now (arities .entry)) (now (free .entry)) apart second (now (area .entry)) steps (now (others .entry)) count capacity (now (work .entry)) known r (now (work .exit)) ⌝ }
 {
     let mut so_far = known;
@@ -218,7 +222,7 @@ fn grow_sides(
     capacity: usize,
     known: usize,
 ) -> Growth
-    requires { ⌜ (known ≤ capacity) × (capacity ≤ 4096) × (slotBytes * capacity ≤ length (now work)) × (n ≤ mostSteps) × (mostSteps * stepBytes ≤ length (now firsts)) × (m ≤ mostSteps) × (mostSteps * stepBytes ≤ length (now seconds)) ⌝ }
+    requires { ⌜ (1 ≤ capacity) × (known ≤ capacity) × (capacity ≤ 4096) × (slotBytes * capacity ≤ length (now work)) × (n ≤ mostSteps) × (mostSteps * stepBytes ≤ length (now firsts)) × (m ≤ mostSteps) × (mostSteps * stepBytes ≤ length (now seconds)) ⌝ }
     ensures { λ r. ⌜ GrowsSides (now (arities .entry)) (now (free .entry)) apart (now (firsts .entry)) n (now (seconds .entry)) m capacity (now (work .entry)) known r (now (work .exit)) ⌝ }
 {
     let growth = grow_side(
@@ -291,8 +295,9 @@ pub fn explore(question: &[u8], capacity: usize, work: &mut [u8]) -> Explored
     requires { ⌜ (1 ≤ capacity) × (capacity ≤ 4096) × (slotBytes * capacity ≤ length (now work)) ⌝ }
     ensures { λ r. ⌜ ExploreIs (now (question .entry)) capacity (now (work .entry)) r (now (work .exit)) ⌝ }
 {
+    clear_heads(work, capacity);
     let key = start_key(question);
-    put(work, 0, &key);
+    put(work, capacity, 0, &key);
     let mut firsts = [0u8; MOST_STEPS * STEP_BYTES];
     let mut seconds = [0u8; MOST_STEPS * STEP_BYTES];
     let mut known = 1;

@@ -5,8 +5,8 @@ use borrow.Author.Needs.{needs}
 use Rattle.field.proofs.explore.add.Statement.{statement}
 use Rattle.field.proofs.explore.add.Tie as tie
 
-find-requires : tie.Need-find-requires
-find-requires c κs = search needs
+find-chained-requires : tie.Need-find-chained-requires
+find-chained-requires c κs = search needs
 
 enum-told : tie.Need-enum-told
 enum-told c = search needs
@@ -18,7 +18,7 @@ same-length : tie.Need-same-length
 same-length c = search needs
 
 returns : tie.Need-returns
-returns c = add-full _ _ _ _ (rw (c .before .enum-told2 .given .1) at (c .before .before .before .find .ensures)) (c .if1 .taken)
+returns c = add-full _ _ _ _ (rw (c .before .enum-told2 .given .1) at (c .before .before .before .find-chained .ensures)) (c .if1 .taken)
 
 put-requires : tie.Need-put-requires
 put-requires c κs = search needs
@@ -30,19 +30,19 @@ same-length-2 : tie.Need-same-length-2
 same-length-2 c = search needs
 
 returns-2 : tie.Need-returns-2
-returns-2 c = add-found _ _ _ _ (omega arith) _ (rw (c .enum-told .given .1) at (c .before .before .find .ensures))
+returns-2 c = add-found _ _ _ _ (omega arith) _ (rw (c .enum-told .given .1) at (c .before .before .find-chained .ensures))
 
 same-length-3 : tie.Need-same-length-3
 same-length-3 c = search needs
 
 returns-3 : tie.Need-returns-3
-returns-3 c = add-new _ _ _ _ (rw (c .before .before .before .before .before .enum-told2 .given .1) at (c .before .before .before .before .before .before .before .find .ensures)) (omega (arith, c .before .before .before .before .if1 .left)) (omega arith) (omega arith) _ (c .before .before .put .ensures)
+returns-3 c = add-new _ _ _ _ (rw (c .before .before .before .before .before .enum-told2 .given .1) at (c .before .before .before .before .before .before .before .find-chained .ensures)) (omega (arith, c .before .before .before .before .if1 .left)) (omega arith) (omega arith) _ (c .before .before .put .ensures)
 
 pub add-spec : {M : Type 1} → statement M
 add-spec =
     tie.close
     (tie.spec
-    find-requires
+    find-chained-requires
     enum-told
     enum-told-2
     same-length

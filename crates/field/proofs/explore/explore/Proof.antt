@@ -17,6 +17,9 @@ Inv-loop question capacity work₀ firsts₀ seconds₀ known₀ taken₀ work f
 abbrev μ-loop : tie.MeasureT-loop
 μ-loop question capacity work₀ firsts₀ seconds₀ known₀ taken₀ work firsts seconds known taken = capacity - taken
 
+clear-heads-requires : tie.Need-clear-heads-requires Inv-loop μ-loop
+clear-heads-requires c κs = search needs
+
 start-key-requires : tie.Need-start-key-requires Inv-loop μ-loop
 start-key-requires c κs = search needs
 
@@ -27,7 +30,7 @@ put-requires : tie.Need-put-requires Inv-loop μ-loop
 put-requires c κs = search needs
 
 loop-holds : tie.Need-loop-holds Inv-loop μ-loop
-loop-holds c = (search needs, search needs, search needs, search needs, search needs, search needs, explorers-start _ _ (omega arith) _ (omega arith) _ (omega arith) _ (c .before .before .put .ensures) (c .before .before .before .before .before .start-key .ensures))
+loop-holds c = (search needs, search needs, search needs, search needs, search needs, search needs, explorers-start _ _ (omega arith) _ (omega arith) _ (omega arith) _ (c .before .before .before .before .before .before .before .before .clear-heads .ensures) _ (c .before .before .put .ensures) (c .before .before .before .before .before .start-key .ensures))
 
 slice-aggregate-grow : tie.Need-slice-aggregate-grow Inv-loop μ-loop
 slice-aggregate-grow c = search needs
@@ -48,7 +51,7 @@ same-length : tie.Need-same-length Inv-loop μ-loop
 same-length c = search needs
 
 returns : tie.Need-returns Inv-loop μ-loop
-returns c = explored-from _ _ (omega arith) _ (omega arith) _ (omega arith) _ (c .before .before .before .before .before .before .before .before .before .before .before .before .before .before .put .ensures) _ _ (explorers-full _ _ _ _ _ _ (c .before .before .before .before .before .before .before .before .before .before .before .loop .inv .6) (c .before .before .before .before .before .before .before .before .before .before .loop-test .taken) _ (rw (c .enum-told .given .1) at (c .before .before .before .before .before .before .grow .ensures)))
+returns c = explored-from _ _ (omega arith) _ (omega arith) _ (omega arith) _ (c .before .before .before .before .before .before .before .before .before .before .before .before .before .before .before .before .before .before .before .before .clear-heads .ensures) _ (c .before .before .before .before .before .before .before .before .before .before .before .before .before .before .put .ensures) _ _ (explorers-full _ _ _ _ _ _ (c .before .before .before .before .before .before .before .before .before .before .before .loop .inv .6) (c .before .before .before .before .before .before .before .before .before .before .loop-test .taken) _ (rw (c .enum-told .given .1) at (c .before .before .before .before .before .before .grow .ensures)))
 
 add-taken : tie.Need-add-taken Inv-loop μ-loop
 add-taken c = search needs
@@ -66,7 +69,7 @@ same-length-2 : tie.Need-same-length-2 Inv-loop μ-loop
 same-length-2 c = search needs
 
 returns-2 : tie.Need-returns-2 Inv-loop μ-loop
-returns-2 c = explored-from _ _ (omega arith) _ (omega arith) _ (omega arith) _ (c .before .before .before .before .put .ensures) _ _ (explorers-end _ _ _ _ _ _ (c .before .loop .inv .6) (omega arith) (omega arith) (omega arith))
+returns-2 c = explored-from _ _ (omega arith) _ (omega arith) _ (omega arith) _ (c .before .before .before .before .before .before .before .before .before .before .clear-heads .ensures) _ (c .before .before .before .before .put .ensures) _ _ (explorers-end _ _ _ _ _ _ (c .before .loop .inv .6) (omega arith) (omega arith) (omega arith))
 
 pub explore-spec : {M : Type 1} → statement M
 explore-spec =
@@ -74,6 +77,7 @@ explore-spec =
     (tie.spec
     Inv-loop
     μ-loop
+    clear-heads-requires
     start-key-requires
     slice-aggregate-put
     put-requires

@@ -1,5 +1,7 @@
 -- `field::explore::put` meets its contract. Assumes nothing.
-use Rattle.field.proofs.SlotWriting.{put-slot}
+use native.Mathlib.Omega.{arith}
+use lib.ListN.{length-set}
+use Rattle.field.proofs.SlotWriting.{put-linked}
 use borrow.Author.Needs.{needs}
 use Rattle.field.proofs.explore.put.Statement.{statement}
 use Rattle.field.proofs.explore.put.Tie as tie
@@ -16,11 +18,16 @@ add-work c = search needs
 slice-write-work : tie.Need-slice-write-work
 slice-write-work c = search needs
 
+link-requires : tie.Need-link-requires
+link-requires c κs = (search needs, search needs, simp length-set (omega arith))
+
 same-length : tie.Need-same-length
-same-length c = search needs
+same-length c = omega (arith, simp length-set at (c .before .before .link .ensures .keeps .len))
 
 returns : tie.Need-returns
-returns c = put-slot _ _ _ (search needs) _ (c .before .before .copy .ensures)
+returns c = put-linked _ _ _ _ (search needs) _ _ (c .before .before .before .before .before .before .copy .ensures) (c .before .before .link .ensures)
 
 pub put-spec : {M : Type 1} → statement M
-put-spec = tie.close (tie.spec mul-at copy-requires add-work slice-write-work same-length returns)
+put-spec =
+    tie.close
+    (tie.spec mul-at copy-requires add-work slice-write-work link-requires same-length returns)
