@@ -178,22 +178,27 @@ module _ (capacity : ℕ) (work : List ℕ) (count : ℕ) (key : List ℕ) where
   pub search-start : (b link : ℕ) → BucketIs capacity (take keyBytes key) b → link ≡ headAt work b → Searching link count
   search-start b link B e C = (e ∙ C .heads b (B .within) ∙ ap (lastIn capacity work count) (B .is), λ j l k. absurd (omega arith))
 
+  not-found : (Chained capacity work count → FoundIs work count key Nothing) → FindsIn capacity work count key Nothing
+  not-found f = record { within = λ i e. let z : _≡_ {A = ℕ} 0 1 = cc in absurd (omega arith); is = f }
+
   pub search-end : (link left : ℕ) → link ≤ 0 → Searching link left → FindsIn capacity work count key Nothing
-  unfolding FindsIn FoundIs lastIn bucketAt
-  search-end link left h so C j l e = go (decLt j left)
+  unfolding FoundIs lastIn bucketAt
+  search-end link left h so = not-found none
     where
-      go : Dec (j < left) → ⊥
-      go (yes m) = last-behind (bucketAt capacity work) left (bucketOf capacity (take keyBytes key)) j (omega (arith, so C .0)) m (ap (bucketOf capacity) e)
-      go (no m) = so C .1 j (omega arith) l e
+      none : Chained capacity work count → FoundIs work count key Nothing
+      none C j l e = go (decLt j left)
+        where
+          go : Dec (j < left) → ⊥
+          go (yes m) = last-behind (bucketAt capacity work) left (bucketOf capacity (take keyBytes key)) j (omega (arith, so C .0)) m (ap (bucketOf capacity) e)
+          go (no m) = so C .1 j (omega arith) l e
 
   pub search-broken : (link left : ℕ) → left < link → Searching link left → FindsIn capacity work count key Nothing
-  unfolding FindsIn lastIn
-  search-broken link left h so C =
-      absurd (omega (arith, so C .0, last-le (bucketAt capacity work) left (bucketOf capacity (take keyBytes key))))
+  unfolding lastIn
+  search-broken link left h so =
+      not-found (λ C. absurd (omega (arith, so C .0, last-le (bucketAt capacity work) left (bucketOf capacity (take keyBytes key)))))
 
   pub search-found : (left : ℕ) (r : Bool) → left < count → r ≡ true → SameKeyIs work (slotBytes * left) key r → FindsIn capacity work count key (At left)
-  unfolding FindsIn
-  search-found left r l q h C = found-at work count key left r l q h
+  search-found left r l q h = record { within = λ i e. let z : left ≡ i = cc in omega arith; is = λ C. found-at work count key left r l q h }
 
   pub search-next : (link left : ℕ) (r : Bool) (next : ℕ) → 0 < link → link ≤ left → left ≤ count → r ≡ false
       → SameKeyIs work (slotBytes * (link - 1)) key r → next ≡ nextAt work (link - 1) → Searching link left → Searching next (link - 1)

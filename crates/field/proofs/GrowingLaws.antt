@@ -74,27 +74,27 @@ whole-key key s f e = take-all keyBytes key (omega (arith, ap length e, length-k
 module _ (capacity : ℕ) (work : List ℕ) (known : ℕ) (key : List ℕ) where
   module _ (few : known ≤ capacity) where
     pub add-found : (i : ℕ) → FindsIn capacity work known key (At i) → AddIs capacity work known key (Known known) work
-    unfolding Puts GrowsTo grown grownBy FindsIn
+    unfolding Puts GrowsTo grown grownBy
     add-found i f = record {
       grows = grows-none capacity work known few;
       is = λ arities s h e ks K.
-          rw (found-slot arities work known ks (K .count) (K .slots) (all-proper arities ks (K .fitting)) s (h .proper) (h .fits) key e i (f (K .chained))) K;
+          rw (found-slot arities work known ks (K .count) (K .slots) (all-proper arities ks (K .fitting)) s (h .proper) (h .fits) key e i (f .is (K .chained))) K;
     }
 
   module _ (f : FindsIn capacity work known key Nothing) where
     pub add-full : known ≡ capacity → AddIs capacity work known key Full work
-    unfolding Puts GrowsTo grown grownBy FindsIn
+    unfolding Puts GrowsTo grown grownBy
     add-full q = record {
       grows = grows-full capacity work known;
       is = λ arities s h e ks K.
-          rw (found-no-slot arities work known ks (K .count) (K .slots) (all-proper arities ks (K .fitting)) s (h .proper) (h .fits) key e (f (K .chained)))
+          rw (found-no-slot arities work known ks (K .count) (K .slots) (all-proper arities ks (K .fitting)) s (h .proper) (h .fits) key e (f .is (K .chained)))
           (omega (arith, K .count, length-append ks (s ∷ [])));
     }
 
     pub add-new : known < capacity → slotBytes * capacity ≤ length work → keyBytes ≤ length key → (work′ : List ℕ)
         → LinkIs capacity (slotWith work known key) known work′
         → AddIs capacity work known key (Known (known + 1)) work′
-    unfolding Puts GrowsTo grown grownBy FindsIn
+    unfolding Puts GrowsTo grown grownBy
     add-new h room long work′ L =
         let l : slotBytes * known + slotBytes ≤ length work = omega arith in
         record {
@@ -103,7 +103,7 @@ module _ (capacity : ℕ) (work : List ℕ) (known : ℕ) (key : List ℕ) where
             within = λ n e. let z : known + 1 ≡ n = cc in (omega arith, omega arith);
           };
           is = λ arities s g e ks K.
-              rw (found-no-slot arities work known ks (K .count) (K .slots) (all-proper arities ks (K .fitting)) s (g .proper) (g .fits) key e (f (K .chained)))
+              rw (found-no-slot arities work known ks (K .count) (K .slots) (all-proper arities ks (K .fitting)) s (g .proper) (g .fits) key e (f .is (K .chained)))
               (knows-more work key known l long arities capacity ks K s g (whole-key key s (g .fits) e) work′ L);
         }
 

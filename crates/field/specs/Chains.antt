@@ -11,6 +11,7 @@ use Rattle.terms.specs.FieldPlaces.{sizeAt}
 use Rattle.field.specs.Key.{keyAt, FoundIs}
 use Rattle.field.specs.Slot.{octets, slotBytes}
 use Rattle.field.specs.declared.find.Found.{Found}
+use Rattle.field.specs.declared.find.Found.the-variants.{At}
 
 -- one byte after the other, by a multiplier whose bits are well mixed, modulo 2 ^ 32
 abbrev pub mixed : ℕ → ℕ → ℕ
@@ -84,5 +85,7 @@ pub record LinkIs (capacity : ℕ) (work : List ℕ) (i : ℕ) (work′ : List �
   pub chained : Chained capacity work i → Chained capacity work′ (i + 1)
   pub keeps : KeepsKeys capacity work work′
 
-unfoldable pub FindsIn : ℕ → List ℕ → ℕ → List ℕ → Found → Type 0
-FindsIn capacity work count key r = Chained capacity work count → FoundIs work count key r
+-- The slot with the key, where the slots are chained; one of them in any case.
+pub record FindsIn (capacity : ℕ) (work : List ℕ) (count : ℕ) (key : List ℕ) (r : Found) : Type 0 where
+  pub within : (i : ℕ) → r ≡ At i → i < count
+  pub is : Chained capacity work count → FoundIs work count key r

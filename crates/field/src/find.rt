@@ -3,7 +3,6 @@ ghost use Prim.Native.Nat.{_+_, _*_, _≤_};
 ghost use lib.ListN.{length};
 ghost use Rattle.field.specs.Key.{SameKeyIs, FoundIs};
 ghost use Rattle.field.specs.Slot.{keyBytes, slotBytes};
-use terms::bytes::get;
 
 pub const KEY_BYTES: usize = 241;
 
@@ -16,7 +15,7 @@ pub fn same_key(area: &[u8], at: usize, key: &[u8]) -> bool
 {
     let mut i = 0;
     while i < KEY_BYTES {
-        if get(area, at + i) != get(key, i) {
+        if area[at + i] != key[i] {
             return false;
         }
         i += 1;

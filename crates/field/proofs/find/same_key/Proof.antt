@@ -1,7 +1,7 @@
 -- `field::find::same_key` meets its contract. Assumes nothing.
 use native.Mathlib.Omega.{arith}
 use borrow.Author.Needs.{needs}
-use mathlib.Core.Path.{_≡_, sym, _∙_}
+use mathlib.Core.Path.{_≡_}
 use Prim.Native.Nat.{ℕ, _+_, _-_, _≤_, _<_}
 use lib.ListN.{getD}
 use Rattle.field.specs.Slot.{keyBytes}
@@ -19,17 +19,17 @@ abbrev μ-loop : tie.MeasureT-loop
 loop-holds : tie.Need-loop-holds Inv-loop μ-loop
 loop-holds c = (search needs, λ j h. absurd (omega arith))
 
-add-get : tie.Need-add-get Inv-loop μ-loop
-add-get c = search needs
+add-if1 : tie.Need-add-if1 Inv-loop μ-loop
+add-if1 c = search needs
 
-get-requires : tie.Need-get-requires Inv-loop μ-loop
-get-requires c κs = search needs
+shared-slice-read-if1 : tie.Need-shared-slice-read-if1 Inv-loop μ-loop
+shared-slice-read-if1 c = search needs
 
-get-requires-2 : tie.Need-get-requires-2 Inv-loop μ-loop
-get-requires-2 c κs = search needs
+shared-slice-read-if1-2 : tie.Need-shared-slice-read-if1-2 Inv-loop μ-loop
+shared-slice-read-if1-2 c = search needs
 
 returns : tie.Need-returns Inv-loop μ-loop
-returns c = key-other _ _ _ (search needs) (search needs) (c .before .before .before .before .loop .i) (omega arith) (λ e. c .if1 .taken (c .before .before .get .ensures ∙ e ∙ sym (c .before .get2 .ensures)))
+returns c = key-other _ _ _ (search needs) (search needs) (c .before .before .before .before .loop .i) (omega arith) (c .if1 .taken)
 
 add-i : tie.Need-add-i Inv-loop μ-loop
 add-i c = search needs
@@ -38,7 +38,7 @@ loop-less : tie.Need-loop-less Inv-loop μ-loop
 loop-less c = search needs
 
 loop-again : tie.Need-loop-again Inv-loop μ-loop
-loop-again c = (search needs, below-more _ _ (c .before .before .before .before .loop .inv .1) (sym (c .before .before .get .ensures) ∙ c .if1 .left ∙ c .before .get2 .ensures))
+loop-again c = (search needs, below-more _ _ (c .before .before .before .before .loop .inv .1) (c .if1 .left))
 
 returns-2 : tie.Need-returns-2 Inv-loop μ-loop
 returns-2 c = key-same _ _ _ (search needs) (search needs) (c .before .loop .i) (omega arith) (c .before .loop .inv .1)
@@ -50,9 +50,9 @@ same-key-spec =
     Inv-loop
     μ-loop
     loop-holds
-    add-get
-    get-requires
-    get-requires-2
+    add-if1
+    shared-slice-read-if1
+    shared-slice-read-if1-2
     returns
     add-i
     loop-less
