@@ -14,6 +14,7 @@ use Rattle.terms.proofs.WellFormed.{WellFormed, accepted-well-formed}
 use Rattle.steps.specs.Lists.{_∈_}
 use Rattle.steps.proofs.Membership.{all-∈}
 use Rattle.steps.proofs.QuestionDefinitions.{definitions}
+use Rattle.field.specs.Chains.{Chained}
 use Rattle.field.specs.Exploration.{found, Row, Exploration, incomplete, explored, fieldOf}
 use Rattle.field.specs.Holding.{SlotsHold, Explores, ExploreIs}
 use Rattle.field.specs.Key.{keyAt}
@@ -49,6 +50,7 @@ use Rattle.verdict.proofs.StrikeLaws.{still, strikes-rest, strikes-to}
 -- The explored field of an accepted question in the slots.
 module _ (question : List ℕ) (q : Question) (accepted : checkOf question ≡ result q) (capacity : ℕ) (rs : List Row)
     (field : fieldOf (settingOf (q .bodies)) capacity (startOf q) ≡ explored rs) (work : List ℕ) (holds : SlotsHold work (selves rs))
+    (chained : Chained capacity work (length rs))
     (room : slotBytes * length rs ≤ length work) where
   abbrev S : Setting
   S = settingOf (q .bodies)
@@ -95,10 +97,11 @@ module _ (question : List ℕ) (q : Question) (accepted : checkOf question ≡ r
       (record { first = a .first; second = a .second }) (record { first = b .first; second = b .second })
       (sym (slot-key work i s a) ∙ e ∙ slot-key work j t b))
 
-  standing : Standing work (selves rs)
+  standing : Standing capacity work (selves rs)
   standing = record {
     held = holds .held;
     once = slot-once;
+    chained = subst (Chained capacity work) (sym count) chained;
     exact = λ s t m n e. decides s t (those .proper s m) (those .proper t n) e;
   }
 
@@ -112,7 +115,7 @@ module _ (question : List ℕ) (q : Question) (accepted : checkOf question ≡ r
       let z : ms ≡ r .wants = cc in
       those .closed r j w (subst (λ ms. w ∈ ms) z i) t k
 
-  searching : Searching question work (length rs)
+  searching : Searching question capacity work (length rs)
   unfolding settingOf
   searching = record {
     read = q;
@@ -132,20 +135,20 @@ module _ (question : List ℕ) (q : Question) (accepted : checkOf question ≡ r
   some : 0 < length (selves rs)
   some = let (ts, e) = rows .first in omega (arith, ap length e)
 
-  module _ (v : List ℕ) (strikes : Strikes question (length rs) work v) where
+  module _ (v : List ℕ) (strikes : Strikes question capacity (length rs) work v) where
     struck : StrikesTo rs (leftOf v (selves rs))
     unfolding searching
-    struck = strikes-to question work rs searching refl room within (λ i h. holds .left i (omega (arith, count))) strikes
+    struck = strikes-to question capacity work rs searching refl room within (λ i h. holds .left i (omega (arith, count))) strikes
 
-    search : Searching question v (length rs)
-    search = still question (length rs) strikes searching
+    search : Searching question capacity v (length rs)
+    search = still question capacity (length rs) strikes searching
 
     -- the byte of slot 0
     start-left : found (leftOf v (selves rs)) (startOf q) ≡ eqb (getD v (struckAt 0) 0) 0
     unfolding search still searching
     start-left = left-found v (selves rs) (search .standing) 0 (startOf q) (startOf q) some start-here
 
-    none-to-strike : AllSurvive question v (length rs) → NoneToStrike rs (leftOf v (selves rs))
+    none-to-strike : AllSurvive question capacity v (length rs) → NoneToStrike rs (leftOf v (selves rs))
     unfolding AllSurvive SurvivesIs search still searching
     none-to-strike a = record { answers = each }
       where
@@ -157,7 +160,7 @@ module _ (question : List ℕ) (q : Question) (accepted : checkOf question ≡ r
             search (r .self) (r .wants) (ap (successors S) (l .is) ∙ within r m))
 
   -- whether the start survives the rounds
-  start-verdict : (r : Bool) (v : List ℕ) → StartSurvivesIs question work (length rs) r v → found (selves (survivors rs)) (startOf q) ≡ r
+  start-verdict : (r : Bool) (v : List ℕ) → StartSurvivesIs question capacity work (length rs) r v → found (selves (survivors rs)) (startOf q) ≡ r
   start-verdict true v s =
       let (z, a) = s .stays refl in
       sym (same-found Good decides rs (good-rows those) (rows .distinct) (leftOf v (selves rs)) (struck v (s .strikes)) (none-to-strike v (s .strikes) a)
@@ -173,7 +176,7 @@ module _ (question : List ℕ) (q : Question) (accepted : checkOf question ≡ r
           true-not-false (∈-found (leftOf v (selves rs)) (startOf q) m)
           (start-left v (s .strikes) ∙ ne-eqb (getD v (struckAt 0) 0) 0 (s .goes refl))
 
-  pub verdict-is : (r : Bool) (v : List ℕ) → StartSurvivesIs question work (length rs) r v → verdictOf q capacity ≡ cond r (same (length rs)) (different (length rs))
+  pub verdict-is : (r : Bool) (v : List ℕ) → StartSurvivesIs question capacity work (length rs) r v → verdictOf q capacity ≡ cond r (same (length rs)) (different (length rs))
   unfolding verdictOf decided survivors
   verdict-is r v s =
       ap (decided (startOf q)) field ∙ ap (λ b. cond b (same (length rs)) (different (length rs))) (start-verdict r v s)
@@ -189,11 +192,11 @@ module _ (question : List ℕ) (capacity : ℕ) (work w : List ℕ) (x : Explore
       go q incomplete f k = sym (ap (λ y. result (decided (startOf q) y)) f)
       go q (explored rs) f k = let z : _≡_ {A = ℕ} 0 1 = cc (k .0) in absurd (omega arith)
 
-  module _ (n : ℕ) (h : x ≡ Field n) (room : slotBytes * capacity ≤ length w) (r : Bool) (u : List ℕ) (s : StartSurvivesIs question w n r u) where
+  module _ (n : ℕ) (h : x ≡ Field n) (room : slotBytes * capacity ≤ length w) (r : Bool) (u : List ℕ) (s : StartSurvivesIs question capacity w n r u) where
     settled : (o : Judged) → judgedAnswer o ≡ result (cond r (same n) (different n)) → DecidesIs question capacity work o u
     unfolding Explores
     settled o j = record {
-      rest = strikes-rest question n capacity (e .within n h .1) (s .strikes) ∙ e .rest;
+      rest = strikes-rest question capacity n capacity (e .within n h .1) (s .strikes) ∙ e .rest;
       is = λ q a. go q a (fieldOf (settingOf (q .bodies)) capacity (startOf q)) refl (e .is q a);
     }
       where
@@ -203,8 +206,8 @@ module _ (question : List ℕ) (capacity : ℕ) (work w : List ℕ) (x : Explore
         go q a (explored rs) f k =
             let z : n ≡ length rs = cc (k .0) in
             j ∙ ap (λ m. result (cond r (same m) (different m))) z
-            ∙ sym (ap result (verdict-is question q a capacity rs f w (k .1) (omega (arith, e .within n h .1)) r u
-            (subst (λ m. StartSurvivesIs question w m r u) z s)))
+            ∙ sym (ap result (verdict-is question q a capacity rs f w (k .1) (subst (Chained capacity w) z (e .chained q a n h)) (omega (arith, e .within n h .1)) r u
+            (subst (λ m. StartSurvivesIs question capacity w m r u) z s)))
 
     pub same-is : r ≡ true → DecidesIs question capacity work (Same n) u
     unfolding judgedAnswer

@@ -10,6 +10,7 @@ use borrow.Author.Tests.{eqb-true, eqb-false}
 use Rattle.terms.specs.Limits.{nameCount}
 use Rattle.steps.specs.Lists.{_∈_}
 use Rattle.steps.proofs.Membership.{∈-all}
+use Rattle.field.specs.Chains.{Chained, FindsIn}
 use Rattle.field.specs.Entry.{AnswersIs}
 use Rattle.field.specs.Exploration.{found}
 use Rattle.field.specs.Key.{SituationAt, keyAt, FoundIs}
@@ -25,7 +26,7 @@ use Rattle.verdict.specs.Striking.{struckAt, leftOf, marks, Standing, Le
 use Rattle.verdict.proofs.Living.{living-at, at-living}
 use Rattle.verdict.proofs.Marks.{length-marks, marks-at}
 
-module _ (work : List ℕ) (known : List Situation) (st : Standing work known) where
+module _ {capacity : ℕ} (work : List ℕ) (known : List Situation) (st : Standing capacity work known) where
   -- equal situations have one number
   pub number-once : (i j : ℕ) (d e : Situation) → i < length known → j < length known → getD known i d ≡ getD known j e → i ≡ j
   number-once i j d e h k q =
@@ -63,27 +64,27 @@ module _ (work : List ℕ) (known : List Situation) (st : Standing work known) w
       go false k = dies (found (leftOf work known) s) refl k ∙ sym k
 
 -- is_left
-pub found-left : (work : List ℕ) (count : ℕ) (key : List ℕ) (k : ℕ) (r : Bool) → FoundIs work count key (At k) → LeftAtIs work k r → LeftIs work count key r
+pub found-left : (capacity : ℕ) (work : List ℕ) (count : ℕ) (key : List ℕ) (k : ℕ) (r : Bool) → FindsIn capacity work count key (At k) → LeftAtIs work k r
+    → LeftIs capacity work count key r
 unfolding FoundIs LeftAtIs LeftIs
-found-left work count key k r (h, e) l i m q only = let z : k ≡ i = only k h e in l ∙ ap (λ j. eqb (getD work (struckAt j) 0) 0) z
+found-left capacity work count key k r f l C i m q only =
+    let (h, e) = f .is C in
+    let z : k ≡ i = only k h e in
+    l ∙ ap (λ j. eqb (getD work (struckAt j) 0) 0) z
 
-pub nothing-left : (work : List ℕ) (count : ℕ) (key : List ℕ) → FoundIs work count key Nothing → LeftIs work count key false
+pub nothing-left : (capacity : ℕ) (work : List ℕ) (count : ℕ) (key : List ℕ) → FindsIn capacity work count key Nothing → LeftIs capacity work count key false
 unfolding FoundIs LeftIs
-nothing-left work count key h i m q only = absurd (h i m q)
-
-pub at-within : (work : List ℕ) (count : ℕ) (key : List ℕ) (k : ℕ) → FoundIs work count key (At k) → k < count
-unfolding FoundIs
-at-within work count key k (h, e) = h
+nothing-left capacity work count key f C i m q only = absurd (f .is C i m q)
 
 -- answer_left
-module _ (arities work : List ℕ) (count : ℕ) (free apart : List ℕ) (second : Bool) (area : List ℕ) (at : ℕ) (others : List ℕ) (place : ℕ) where
-  pub no-answer : (b : Bool) → AnswersIs area at others place b → b ≡ false → AnswerLeftIs arities work count free apart second area at others place false
+module _ (arities : List ℕ) (capacity : ℕ) (work : List ℕ) (count : ℕ) (free apart : List ℕ) (second : Bool) (area : List ℕ) (at : ℕ) (others : List ℕ) (place : ℕ) where
+  pub no-answer : (b : Bool) → AnswersIs area at others place b → b ≡ false → AnswerLeftIs arities capacity work count free apart second area at others place false
   unfolding AnswersIs AnswerLeftIs
   no-answer b h q known G D s t n st names pairs e f scope scope′ closed =
       ap (λ b. b && found (leftOf work known) (leading second (freeFrom G 0 nameCount) D s t)) (sym q ∙ h s t e f)
 
   pub answer-left-is : (key : List ℕ) (b r : Bool) → AnswersIs area at others place b → b ≡ true → SuccessorIs arities free apart second area at others place key
-      → LeftIs work count key r → AnswerLeftIs arities work count free apart second area at others place r
+      → LeftIs capacity work count key r → AnswerLeftIs arities capacity work count free apart second area at others place r
   unfolding AnswersIs SuccessorIs LeftIs LeftAtIs AnswerLeftIs
   answer-left-is key b r h q k l known G D s t n st names pairs e f scope scope′ closed =
       let u : Situation = leading second (freeFrom G 0 nameCount) D s t in
@@ -93,7 +94,7 @@ module _ (arities work : List ℕ) (count : ℕ) (free apart : List ℕ) (second
       let there : keyAt work (m .0) ≡ take keyBytes key =
       slot-key work (m .0) u held
       ∙ sym (whole-key key u (record { first = held .first; second = held .second }) (k G D s t names pairs e f scope scope′)) in
-      l (m .0) (omega (arith, m .1)) there
+      l (subst (Chained capacity work) n (st .chained)) (m .0) (omega (arith, m .1)) there
       (λ j b q. st .once j (m .0) (omega arith) (m .1) (q ∙ sym there))
       ∙ sym (left-found work known st (m .0) u u (m .1) (sym (m .2 u)))
       ∙ ap (λ b. b && found (leftOf work known) u) may

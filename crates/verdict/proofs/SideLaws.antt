@@ -54,9 +54,9 @@ module _ (left : List Situation) where
 abbrev noStep : ListedStep
 noStep = record { classes = []; kind = 0; channel = 0; object = 0; result = nil }
 
-module _ (arities work : List ℕ) (count : ℕ) (free apart : List ℕ) (second : Bool) (area : List ℕ) (n : ℕ) (others : List ℕ) (m : ℕ) where
+module _ (arities : List ℕ) (capacity : ℕ) (work : List ℕ) (count : ℕ) (free apart : List ℕ) (second : Bool) (area : List ℕ) (n : ℕ) (others : List ℕ) (m : ℕ) where
   abbrev These : Type 0
-  These = Side arities work count free apart second area n others m
+  These = Side arities capacity work count free apart second area n others m
 
   abbrev step : These → ℕ → ListedStep
   step p k = getD (p .steps) k noStep
@@ -99,7 +99,7 @@ module _ (arities work : List ℕ) (count : ℕ) (free apart : List ℕ) (second
         (∈-select (answers nameCount (step p k)) (reply p l) (p .replies) (getD-∈ (p .replies) l noStep (omega (arith, p .theirs .number))) e)
 
     -- what the code finds of reply l
-    reply-is : (l : ℕ) (r : Bool) → l < m → AnswerLeftIs arities work count free apart second area (stepBytes * k) others (stepBytes * l) r
+    reply-is : (l : ℕ) (r : Bool) → l < m → AnswerLeftIs arities capacity work count free apart second area (stepBytes * k) others (stepBytes * l) r
         → r ≡ (answers nameCount (step p k) (reply p l) && found (leftOf work (p .known)) (reached p k l))
     unfolding AnswerLeftIs
     reply-is l r g a =
@@ -133,13 +133,13 @@ module _ (arities work : List ℕ) (count : ℕ) (free apart : List ℕ) (second
   is-permitted k r h a e p = sym (a (p .pairs) (step p k) (p .distinction) (p .apart-pairs) (p .mine .entry k noStep h)) ∙ e
 
   pub reply-answers : (k l : ℕ) (r : Bool) → k < n → l < m
-      → AnswerLeftIs arities work count free apart second area (stepBytes * k) others (stepBytes * l) r → r ≡ true → StepAnswered k
+      → AnswerLeftIs arities capacity work count free apart second area (stepBytes * k) others (stepBytes * l) r → r ≡ true → StepAnswered k
   reply-answers k l r h g a e p may =
       let (x, y) = both-true (answers nameCount (step p k) (reply p l)) (found (leftOf work (p .known)) (reached p k l)) (sym (reply-is p k h may l r g a) ∙ e) in
       found-answered (leftOf work (p .known)) (reachedAll p k) (reached p k l) (reply-in p k h may l g x) y
 
   pub reply-fails : (k l : ℕ) (b r : Bool) → k < n → l < m → PermittedIs apart area (stepBytes * k) b → b ≡ true
-      → AnswerLeftIs arities work count free apart second area (stepBytes * k) others (stepBytes * l) r → r ≡ false
+      → AnswerLeftIs arities capacity work count free apart second area (stepBytes * k) others (stepBytes * l) r → r ≡ false
       → (j : ℕ) → k + 1 ≡ j + 1 → ReplyFails j l
   reply-fails k l b r h g c d a e j same = subst (λ j. ReplyFails j l) (let z : k ≡ j = omega arith in z) fails
     where
@@ -148,13 +148,13 @@ module _ (arities work : List ℕ) (count : ℕ) (free apart : List ℕ) (second
           ap (λ t. t && found (leftOf work (p .known)) (reached p k l)) (sym may) ∙ sym (reply-is p k h (is-permitted k b h c d p) l r g a) ∙ e
 
   pub step-unanswered : (k j : ℕ) (b : Bool) → k < n → PermittedIs apart area (stepBytes * k) b → b ≡ true → m ≤ j → ((l : ℕ) → l < j → ReplyFails k l)
-      → SideAnsweredIs arities work count free apart second area n others m false
+      → SideAnsweredIs arities capacity work count free apart second area n others m false
   unfolding SideAnsweredIs
   step-unanswered k j b h c d g so p =
       let may = is-permitted k b h c d p in
       sym (one-unanswered (leftOf work (p .known)) (allMoves p) (reachedAll p k) (step-in p k h may) (none-left p k h may j g so))
 
-  pub steps-answered : (i : ℕ) → n ≤ i → ((k : ℕ) → k < i → StepAnswered k) → SideAnsweredIs arities work count free apart second area n others m true
+  pub steps-answered : (i : ℕ) → n ≤ i → ((k : ℕ) → k < i → StepAnswered k) → SideAnsweredIs arities capacity work count free apart second area n others m true
   unfolding SideAnsweredIs
   steps-answered i h so p = sym (each-answered (leftOf work (p .known)) (allMoves p) each)
     where

@@ -32,9 +32,9 @@ all-both left (m ∷ ms) ns = go (answered left m) (all-both left ms ns)
     go true e = e
     go false e = refl
 
-module _ (question work : List ℕ) (count i : ℕ) (below : i < count) (r : TakenUp) (firsts seconds : List ℕ)
+module _ (question : List ℕ) (capacity : ℕ) (work : List ℕ) (count i : ℕ) (below : i < count) (r : TakenUp) (firsts seconds : List ℕ)
     (takes : TakesUp question work (slotBytes * i) r firsts seconds) where
-  module _ (f : Searching question work count) (d : Situation) where
+  module _ (f : Searching question capacity work count) (d : Situation) where
     abbrev here : Situation
     here = getD (f .known) i d
 
@@ -68,7 +68,7 @@ module _ (question work : List ℕ) (count i : ℕ) (below : i < count) (r : Tak
       leads-known : (w : List Situation) → w ∈ (ofFirst ++ ofSecond) → (t : Situation) → t ∈ w → t ∈ f .known
       leads-known w g t h = f .closed here inside ms e w (subst (λ ms. w ∈ ms) (sym those) g) t h
 
-      first-side : Side arities work count (r .free) (r .apart) false firsts n seconds m
+      first-side : Side arities capacity work count (r .free) (r .apart) false firsts n seconds m
       first-side = record {
         known = f .known;
         number = f .number;
@@ -85,7 +85,7 @@ module _ (question work : List ℕ) (count i : ℕ) (below : i < count) (r : Tak
         closed = λ w g t h. leads-known w (∈-left w ofFirst ofSecond g) t h;
       }
 
-      second-side : Side arities work count (r .free) (r .apart) true seconds m firsts n
+      second-side : Side arities capacity work count (r .free) (r .apart) true seconds m firsts n
       second-side = record {
         known = f .known;
         number = f .number;
@@ -106,27 +106,27 @@ module _ (question work : List ℕ) (count i : ℕ) (below : i < count) (r : Tak
           ≡ (allAnswered (leftOf work (f .known)) ofFirst && allAnswered (leftOf work (f .known)) ofSecond)
       both-sides = ap (allAnswered (leftOf work (f .known))) those ∙ all-both (leftOf work (f .known)) ofFirst ofSecond
 
-  pub past-limit : r .lists ≡ Past → SurvivesIs question work count i false
+  pub past-limit : r .lists ≡ Past → SurvivesIs question capacity work count i false
   unfolding SurvivesIs ListsAre
   past-limit e f d ms h =
       let p = subst (λ k. ListsAre (f .read) (getD (f .known) i d) k firsts seconds) e (taken f d .lists) in
       let z : _≡_ {A = ℕ} 0 1 = cc in absurd (omega arith)
 
   module _ (n m : ℕ) (e : r .lists ≡ Listed n m) (arities : List ℕ) (a : AritiesIs question arities) (first second : Bool)
-      (h : SideAnsweredIs arities work count (r .free) (r .apart) false firsts n seconds m first) where
-    sides : (f : Searching question work count) (d : Situation) → SidesListed (f .read) (getD (f .known) i d) n m firsts seconds
+      (h : SideAnsweredIs arities capacity work count (r .free) (r .apart) false firsts n seconds m first) where
+    sides : (f : Searching question capacity work count) (d : Situation) → SidesListed (f .read) (getD (f .known) i d) n m firsts seconds
     unfolding ListsAre
     sides f d = subst (λ k. ListsAre (f .read) (getD (f .known) i d) k firsts seconds) e (taken f d .lists)
 
-    pub first-fails : first ≡ false → SurvivesIs question work count i false
+    pub first-fails : first ≡ false → SurvivesIs question capacity work count i false
     unfolding SurvivesIs SideAnsweredIs first-side sides moves
     first-fails q f d ms g =
         let l = sides f d in
         let x = h (first-side f d arities a n m l ms g) in
         sym (both-sides f d arities a n m l ms g ∙ ap (λ b. b && allAnswered (leftOf work (f .known)) (ofSecond f d arities a n m l ms g)) (sym x ∙ q))
 
-    pub second-decides : first ≡ true → SideAnsweredIs arities work count (r .free) (r .apart) true seconds m firsts n second
-        → SurvivesIs question work count i second
+    pub second-decides : first ≡ true → SideAnsweredIs arities capacity work count (r .free) (r .apart) true seconds m firsts n second
+        → SurvivesIs question capacity work count i second
     unfolding SurvivesIs SideAnsweredIs first-side sides second-side
     second-decides q k f d ms g =
         let l = sides f d in

@@ -13,6 +13,7 @@ use Rattle.terms.specs.Limits.{nameCount}
 use Rattle.terms.specs.Question.{Question, checkOf}
 use Rattle.steps.specs.Listed.{ListedStep}
 use Rattle.steps.specs.Lists.{_∈_}
+use Rattle.field.specs.Chains.{Chained}
 use Rattle.field.specs.Entry.{EntryAt}
 use Rattle.field.specs.Exploration.{found}
 use Rattle.field.specs.Key.{SituationAt, keyAt}
@@ -52,33 +53,34 @@ unfoldable pub zeros : List ℕ → ℕ
 zeros [] = 0
 zeros (f ∷ fs) = cond (eqb f 0) (suc (zeros fs)) (zeros fs)
 
--- The situations stand in the slots, each in one; `sameSituation` is exact on them.
-pub record Standing (work : List ℕ) (known : List Situation) : Type 0 where
+-- The situations stand in the slots, each in one, and these are chained; `sameSituation` is exact on them.
+pub record Standing (capacity : ℕ) (work : List ℕ) (known : List Situation) : Type 0 where
   pub held : (i : ℕ) (d : Situation) → i < length known → SituationAt work (slotBytes * i) (getD known i d)
   pub once : (i j : ℕ) → i < length known → j < length known → keyAt work i ≡ keyAt work j → i ≡ j
+  pub chained : Chained capacity work (length known)
   pub exact : (s t : Situation) → s ∈ known → t ∈ known → sameSituation s t ≡ true → s ≡ t
 
 unfoldable pub LeftAtIs : List ℕ → ℕ → Bool → Type 0
 LeftAtIs work i r = r ≡ eqb (getD work (struckAt i) 0) 0
 
--- Where the key stands in one slot of the first `count`.
-unfoldable pub LeftIs : List ℕ → ℕ → List ℕ → Bool → Type 0
-LeftIs work count key r =
-    (i : ℕ) → i < count → keyAt work i ≡ take keyBytes key → ((j : ℕ) → j < count → keyAt work j ≡ take keyBytes key → j ≡ i) → LeftAtIs work i r
+-- Where the key stands in one slot of the first `count`, and these are chained.
+unfoldable pub LeftIs : ℕ → List ℕ → ℕ → List ℕ → Bool → Type 0
+LeftIs capacity work count key r =
+    Chained capacity work count → (i : ℕ) → i < count → keyAt work i ≡ take keyBytes key → ((j : ℕ) → j < count → keyAt work j ≡ take keyBytes key → j ≡ i) → LeftAtIs work i r
 
 -- Whether the entry at `place` answers the one at `at` and leads to a situation that is left.
-unfoldable pub AnswerLeftIs : List ℕ → List ℕ → ℕ → List ℕ → List ℕ → Bool → List ℕ → ℕ → List ℕ → ℕ → Bool → Type 0
-AnswerLeftIs arities work count free apart second area at others place r =
-    (known : List Situation) (G : List ℕ) (D : Pairs) (s t : ListedStep) → length known ≡ count → Standing work known → HasNames free G
+unfoldable pub AnswerLeftIs : List ℕ → ℕ → List ℕ → ℕ → List ℕ → List ℕ → Bool → List ℕ → ℕ → List ℕ → ℕ → Bool → Type 0
+AnswerLeftIs arities capacity work count free apart second area at others place r =
+    (known : List Situation) (G : List ℕ) (D : Pairs) (s t : ListedStep) → length known ≡ count → Standing capacity work known → HasNames free G
     → apart ≡ flagsOf D → EntryAt area at s → EntryAt others place t → InScope nameCount arities 0 (s .result) → InScope nameCount arities 0 (t .result)
     → (answers nameCount s t ≡ true → leading second (freeFrom G 0 nameCount) D s t ∈ known)
     → r ≡ (answers nameCount s t && found (leftOf work known) (leading second (freeFrom G 0 nameCount) D s t))
 
 -- One side of a situation: its list of steps, the other side's, and that all answers lead to known situations.
-pub record Side (arities work : List ℕ) (count : ℕ) (free apart : List ℕ) (second : Bool) (area : List ℕ) (n : ℕ) (others : List ℕ) (m : ℕ) : Type 0 where
+pub record Side (arities : List ℕ) (capacity : ℕ) (work : List ℕ) (count : ℕ) (free apart : List ℕ) (second : Bool) (area : List ℕ) (n : ℕ) (others : List ℕ) (m : ℕ) : Type 0 where
   pub known : List Situation
   pub number : length known ≡ count
-  pub standing : Standing work known
+  pub standing : Standing capacity work known
   pub names : List ℕ
   pub pairs : Pairs
   pub steps : List ListedStep
@@ -92,18 +94,18 @@ pub record Side (arities work : List ℕ) (count : ℕ) (free apart : List ℕ) 
       → (t : Situation) → t ∈ w → t ∈ known
 
 -- Whether each permitted step of the side is answered.
-unfoldable pub SideAnsweredIs : List ℕ → List ℕ → ℕ → List ℕ → List ℕ → Bool → List ℕ → ℕ → List ℕ → ℕ → Bool → Type 0
-SideAnsweredIs arities work count free apart second area n others m r =
-    (p : Side arities work count free apart second area n others m)
+unfoldable pub SideAnsweredIs : List ℕ → ℕ → List ℕ → ℕ → List ℕ → List ℕ → Bool → List ℕ → ℕ → List ℕ → ℕ → Bool → Type 0
+SideAnsweredIs arities capacity work count free apart second area n others m r =
+    (p : Side arities capacity work count free apart second area n others m)
     → r ≡ allAnswered (leftOf work (p .known)) (moves nameCount (placed second) (freeFrom (p .names) 0 nameCount) (p .pairs) (p .steps) (p .replies))
 
 -- The field of an accepted question in the work area: its situations lead to each other only.
-pub record Searching (question work : List ℕ) (count : ℕ) : Type 0 where
+pub record Searching (question : List ℕ) (capacity : ℕ) (work : List ℕ) (count : ℕ) : Type 0 where
   pub read : Question
   pub accepted : checkOf question ≡ result read
   pub known : List Situation
   pub number : length known ≡ count
-  pub standing : Standing work known
+  pub standing : Standing capacity work known
   pub first : (s : Situation) → s ∈ known → InScope nameCount (read .arities) 0 (s .first)
   pub second : (s : Situation) → s ∈ known → InScope nameCount (read .arities) 0 (s .second)
   pub distinction : (s : Situation) → s ∈ known → Irr (s .apart)
@@ -111,34 +113,34 @@ pub record Searching (question work : List ℕ) (count : ℕ) : Type 0 where
       → (w : List Situation) → w ∈ ms → (t : Situation) → t ∈ w → t ∈ known
 
 -- Whether each permitted step of situation i is answered by those left.
-unfoldable pub SurvivesIs : List ℕ → List ℕ → ℕ → ℕ → Bool → Type 0
-SurvivesIs question work count i r =
-    (f : Searching question work count) (d : Situation) (ms : List (List Situation))
+unfoldable pub SurvivesIs : List ℕ → ℕ → List ℕ → ℕ → ℕ → Bool → Type 0
+SurvivesIs question capacity work count i r =
+    (f : Searching question capacity work count) (d : Situation) (ms : List (List Situation))
     → successors (settingOf (f .read .bodies)) (getD (f .known) i d) ≡ leads ms → r ≡ allAnswered (leftOf work (f .known)) ms
 
 -- Situations are struck out one at a time, each while it is left and a permitted step of it is not answered. No other byte is changed.
-pub data Strikes (question : List ℕ) (count : ℕ) (work : List ℕ) : List ℕ → Type 0 where
-  none-struck : Strikes question count work work
-  one-struck : {v : List ℕ} → Strikes question count work v → (i : ℕ) → i < count → getD v (struckAt i) 0 ≡ 0 → SurvivesIs question v count i false
-      → Strikes question count work (set v (struckAt i) 1)
+pub data Strikes (question : List ℕ) (capacity count : ℕ) (work : List ℕ) : List ℕ → Type 0 where
+  none-struck : Strikes question capacity count work work
+  one-struck : {v : List ℕ} → Strikes question capacity count work v → (i : ℕ) → i < count → getD v (struckAt i) 0 ≡ 0 → SurvivesIs question capacity v count i false
+      → Strikes question capacity count work (set v (struckAt i) 1)
 
 -- Situation i is struck out, or it is not to be struck out.
-pub record StrikesOne (question work : List ℕ) (count i : ℕ) (r : Bool) (work′ : List ℕ) : Type 0 where
-  pub struck : r ≡ true → (getD work (struckAt i) 0 ≡ 0) × SurvivesIs question work count i false × (work′ ≡ set work (struckAt i) 1)
-  pub kept : r ≡ false → (work′ ≡ work) × (getD work (struckAt i) 0 ≡ 0 → SurvivesIs question work count i true)
+pub record StrikesOne (question : List ℕ) (capacity : ℕ) (work : List ℕ) (count i : ℕ) (r : Bool) (work′ : List ℕ) : Type 0 where
+  pub struck : r ≡ true → (getD work (struckAt i) 0 ≡ 0) × SurvivesIs question capacity work count i false × (work′ ≡ set work (struckAt i) 1)
+  pub kept : r ≡ false → (work′ ≡ work) × (getD work (struckAt i) 0 ≡ 0 → SurvivesIs question capacity work count i true)
 
 -- every situation that is left survives
-unfoldable pub AllSurvive : List ℕ → List ℕ → ℕ → Type 0
-AllSurvive question work count = (i : ℕ) → i < count → getD work (struckAt i) 0 ≡ 0 → SurvivesIs question work count i true
+unfoldable pub AllSurvive : List ℕ → ℕ → List ℕ → ℕ → Type 0
+AllSurvive question capacity work count = (i : ℕ) → i < count → getD work (struckAt i) 0 ≡ 0 → SurvivesIs question capacity work count i true
 
 -- One pass: whether it struck any out.
-pub record PassIs (question work : List ℕ) (count : ℕ) (r : Bool) (work′ : List ℕ) : Type 0 where
-  pub strikes : Strikes question count work work′
+pub record PassIs (question : List ℕ) (capacity : ℕ) (work : List ℕ) (count : ℕ) (r : Bool) (work′ : List ℕ) : Type 0 where
+  pub strikes : Strikes question capacity count work work′
   pub fewer : r ≡ true → zeros (marks work′ count) < zeros (marks work count)
-  pub none : r ≡ false → AllSurvive question work′ count
+  pub none : r ≡ false → AllSurvive question capacity work′ count
 
 -- Whether the start is left, where none is left to strike out or the start is not left.
-pub record StartSurvivesIs (question work : List ℕ) (count : ℕ) (r : Bool) (work′ : List ℕ) : Type 0 where
-  pub strikes : Strikes question count work work′
-  pub stays : r ≡ true → (getD work′ (struckAt 0) 0 ≡ 0) × AllSurvive question work′ count
+pub record StartSurvivesIs (question : List ℕ) (capacity : ℕ) (work : List ℕ) (count : ℕ) (r : Bool) (work′ : List ℕ) : Type 0 where
+  pub strikes : Strikes question capacity count work work′
+  pub stays : r ≡ true → (getD work′ (struckAt 0) 0 ≡ 0) × AllSurvive question capacity work′ count
   pub goes : r ≡ false → getD work′ (struckAt 0) 0 ≡ 0 → ⊥

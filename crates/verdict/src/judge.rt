@@ -43,7 +43,7 @@ fn decide(question: &[u8], capacity: usize, work: &mut [u8]) -> Judged
     match explored {
         Explored::Incomplete => Judged::Unsettled,
         Explored::Field(n) => {
-            if start_survives(question, work, n) {
+            if start_survives(question, work, capacity, n) {
                 return Judged::Same(n);
             }
             Judged::Different(n)

@@ -4,10 +4,10 @@ ghost use lib.ListN.{length};
 ghost use Rattle.field.specs.Slot.{keyBytes, slotBytes};
 ghost use Rattle.steps.specs.Limits.{stepBytes};
 ghost use Rattle.verdict.specs.Striking.{struckAt, LeftAtIs, LeftIs, AnswerLeftIs, SideAnsweredIs, SurvivesIs, StrikesOne, PassIs, StartSurvivesIs};
+use field::chains::find_chained;
 use field::entries::answers;
 use field::find::Found;
 use field::find::SLOT_BYTES;
-use field::find::find;
 use field::pairs::PAIR_COUNT;
 use field::pairs::permitted;
 use field::results::successor;
@@ -32,11 +32,11 @@ fn left_at(work: &[u8], i: usize) -> bool
 }
 
 // Whether the situation with this key is left, of the first `count`.
-fn is_left(work: &[u8], count: usize, key: &[u8]) -> bool
-    requires { ⌜ (slotBytes * count ≤ length (now work)) × (keyBytes ≤ length (now key)) ⌝ }
-    ensures { λ r. ⌜ LeftIs (now (work .entry)) count (now (key .entry)) r ⌝ }
+fn is_left(work: &[u8], capacity: usize, count: usize, key: &[u8]) -> bool
+    requires { ⌜ (1 ≤ capacity) × (count ≤ capacity) × (slotBytes * capacity ≤ length (now work)) × (keyBytes ≤ length (now key)) ⌝ }
+    ensures { λ r. ⌜ LeftIs capacity (now (work .entry)) count (now (key .entry)) r ⌝ }
 {
-    let found = find(work, count, key);
+    let found = find_chained(work, capacity, count, key);
     match found {
         Found::Nothing => false,
         Found::At(i) => left_at(work, i),
@@ -47,6 +47,7 @@ fn is_left(work: &[u8], count: usize, key: &[u8]) -> bool
 fn answer_left(
     arities: &[u8],
     work: &[u8],
+    capacity: usize,
     count: usize,
     free: &[u8],
     apart: [u8; PAIR_COUNT],
@@ -56,20 +57,21 @@ fn answer_left(
     others: &[u8],
     place: usize,
 ) -> bool
-    requires { ⌜ (slotBytes * count ≤ length (now work)) × (at + stepBytes ≤ length (now area)) × (place + stepBytes ≤ length (now others)) ⌝ }
-    ensures { λ r. ⌜ AnswerLeftIs (now (arities .entry)) (now (work .entry)) count (now (free .entry)) apart second (now (area .entry)) at (now (others .entry)) place r ⌝ }
+    requires { ⌜ (1 ≤ capacity) × (count ≤ capacity) × (slotBytes * capacity ≤ length (now work)) × (at + stepBytes ≤ length (now area)) × (place + stepBytes ≤ length (now others)) ⌝ }
+    ensures { λ r. ⌜ AnswerLeftIs (now (arities .entry)) capacity (now (work .entry)) count (now (free .entry)) apart second (now (area .entry)) at (now (others .entry)) place r ⌝ }
 {
     if !answers(area, at, others, place) {
         return false;
     }
     let key = successor(arities, free, apart, second, area, at, others, place);
-    is_left(work, count, &key)
+    is_left(work, capacity, count, &key)
 }
 
 // Whether each permitted step of one side has an answer that leads to a situation that is left.
 fn side_answered(
     arities: &[u8],
     work: &[u8],
+    capacity: usize,
     count: usize,
     free: &[u8],
     apart: [u8; PAIR_COUNT],
@@ -79,8 +81,8 @@ fn side_answered(
     others: &[u8],
     m: usize,
 ) -> bool
-    requires { ⌜ (slotBytes * count ≤ length (now work)) × (stepBytes * n ≤ length (now area)) × (stepBytes * m ≤ length (now others)) ⌝ }
-    ensures { λ r. ⌜ SideAnsweredIs (now (arities .entry)) (now (work .entry)) count (now (free .entry)) apart second (now (area .entry)) n (now (others .entry)) m r ⌝ }
+    requires { ⌜ (1 ≤ capacity) × (count ≤ capacity) × (slotBytes * capacity ≤ length (now work)) × (stepBytes * n ≤ length (now area)) × (stepBytes * m ≤ length (now others)) ⌝ }
+    ensures { λ r. ⌜ SideAnsweredIs (now (arities .entry)) capacity (now (work .entry)) count (now (free .entry)) apart second (now (area .entry)) n (now (others .entry)) m r ⌝ }
 {
     let mut i = 0;
     'steps: while i < n {
@@ -94,6 +96,7 @@ fn side_answered(
             if answer_left(
                 arities,
                 work,
+                capacity,
                 count,
                 free,
                 apart,
@@ -113,9 +116,9 @@ fn side_answered(
 }
 
 // Whether each permitted step of either side of situation `i` is answered by a situation that is left.
-fn survives(question: &[u8], work: &[u8], count: usize, i: usize) -> bool
-    requires { ⌜ (i < count) × (slotBytes * count ≤ length (now work)) ⌝ }
-    ensures { λ r. ⌜ SurvivesIs (now (question .entry)) (now (work .entry)) count i r ⌝ }
+fn survives(question: &[u8], work: &[u8], capacity: usize, count: usize, i: usize) -> bool
+    requires { ⌜ (i < count) × (count ≤ capacity) × (slotBytes * capacity ≤ length (now work)) ⌝ }
+    ensures { λ r. ⌜ SurvivesIs (now (question .entry)) capacity (now (work .entry)) count i r ⌝ }
 {
     let mut firsts = [0u8; LIST_BYTES];
     let mut seconds = [0u8; LIST_BYTES];
@@ -131,6 +134,7 @@ fn survives(question: &[u8], work: &[u8], count: usize, i: usize) -> bool
             if !side_answered(
                 arities,
                 work,
+                capacity,
                 count,
                 &free,
                 apart,
@@ -145,6 +149,7 @@ fn survives(question: &[u8], work: &[u8], count: usize, i: usize) -> bool
             side_answered(
                 arities,
                 work,
+                capacity,
                 count,
                 &free,
                 apart,
@@ -159,14 +164,14 @@ fn survives(question: &[u8], work: &[u8], count: usize, i: usize) -> bool
 }
 
 // Strikes out situation `i` if it is left and does not survive; whether it did.
-fn strike_one(question: &[u8], work: &mut [u8], count: usize, i: usize) -> bool
-    requires { ⌜ (i < count) × (slotBytes * count ≤ length (now work)) ⌝ }
-    ensures { λ r. ⌜ StrikesOne (now (question .entry)) (now (work .entry)) count i r (now (work .exit)) ⌝ }
+fn strike_one(question: &[u8], work: &mut [u8], capacity: usize, count: usize, i: usize) -> bool
+    requires { ⌜ (i < count) × (count ≤ capacity) × (slotBytes * capacity ≤ length (now work)) ⌝ }
+    ensures { λ r. ⌜ StrikesOne (now (question .entry)) capacity (now (work .entry)) count i r (now (work .exit)) ⌝ }
 {
     if !left_at(work, i) {
         return false;
     }
-    if survives(question, work, count, i) {
+    if survives(question, work, capacity, count, i) {
         return false;
     }
     work[SLOT_BYTES * i + STRUCK] = 1;
@@ -174,15 +179,15 @@ fn strike_one(question: &[u8], work: &mut [u8], count: usize, i: usize) -> bool
 }
 
 // One pass from the last situation to the first; whether it struck any out.
-fn strike_pass(question: &[u8], work: &mut [u8], count: usize) -> bool
-    requires { ⌜ slotBytes * count ≤ length (now work) ⌝ }
-    ensures { λ r. ⌜ PassIs (now (question .entry)) (now (work .entry)) count r (now (work .exit)) ⌝ }
+fn strike_pass(question: &[u8], work: &mut [u8], capacity: usize, count: usize) -> bool
+    requires { ⌜ (count ≤ capacity) × (slotBytes * capacity ≤ length (now work)) ⌝ }
+    ensures { λ r. ⌜ PassIs (now (question .entry)) capacity (now (work .entry)) count r (now (work .exit)) ⌝ }
 {
     let mut struck = false;
     let mut i = count;
     while 0 < i {
         i -= 1;
-        if strike_one(question, work, count, i) {
+        if strike_one(question, work, capacity, count, i) {
             struck = true;
         }
     }
@@ -190,13 +195,13 @@ fn strike_pass(question: &[u8], work: &mut [u8], count: usize) -> bool
 }
 
 // Passes until one strikes out none or the start is struck out; whether the start is left.
-pub fn start_survives(question: &[u8], work: &mut [u8], count: usize) -> bool
-    requires { ⌜ (1 ≤ count) × (slotBytes * count ≤ length (now work)) ⌝ }
-    ensures { λ r. ⌜ StartSurvivesIs (now (question .entry)) (now (work .entry)) count r (now (work .exit)) ⌝ }
+pub fn start_survives(question: &[u8], work: &mut [u8], capacity: usize, count: usize) -> bool
+    requires { ⌜ (1 ≤ count) × (count ≤ capacity) × (slotBytes * capacity ≤ length (now work)) ⌝ }
+    ensures { λ r. ⌜ StartSurvivesIs (now (question .entry)) capacity (now (work .entry)) count r (now (work .exit)) ⌝ }
 {
     let mut again = true;
     while again {
-        again = strike_pass(question, work, count);
+        again = strike_pass(question, work, capacity, count);
         if !left_at(work, 0) {
             return false;
         }

@@ -9,7 +9,7 @@ answers-requires : tie.Need-answers-requires
 answers-requires c κs = search needs
 
 returns : tie.Need-returns
-returns c = no-answer _ _ _ _ _ _ _ _ _ _ _ (c .before .answers .ensures) (not-true _ (c .if1 .taken))
+returns c = no-answer _ _ _ _ _ _ _ _ _ _ _ _ (c .before .answers .ensures) (not-true _ (c .if1 .taken))
 
 successor-requires : tie.Need-successor-requires
 successor-requires c κs = search needs
@@ -21,7 +21,7 @@ is-left-requires : tie.Need-is-left-requires
 is-left-requires c κs = search needs
 
 returns-2 : tie.Need-returns-2
-returns-2 c = answer-left-is _ _ _ _ _ _ _ _ _ _ _ _ _ (c .before .before .before .before .answers .ensures) (not-false _ (c .before .before .before .if1 .left)) (c .before .before .successor .ensures) (c .is-left .ensures)
+returns-2 c = answer-left-is _ _ _ _ _ _ _ _ _ _ _ _ _ _ (c .before .before .before .before .answers .ensures) (not-false _ (c .before .before .before .if1 .left)) (c .before .before .successor .ensures) (c .is-left .ensures)
 
 pub answer-left-spec : {M : Type 1} → statement M
 answer-left-spec =

@@ -1,12 +1,12 @@
 -- `verdict::strike::is_left` meets its contract. Assumes nothing.
 use native.Mathlib.Omega.{arith}
-use Rattle.verdict.proofs.LeftLaws.{at-within, nothing-left, found-left}
+use Rattle.verdict.proofs.LeftLaws.{nothing-left, found-left}
 use borrow.Author.Needs.{needs}
 use Rattle.verdict.proofs.strike.is_left.Statement.{statement}
 use Rattle.verdict.proofs.strike.is_left.Tie as tie
 
-find-requires : tie.Need-find-requires
-find-requires c κs = search needs
+find-chained-requires : tie.Need-find-chained-requires
+find-chained-requires c κs = search needs
 
 enum-told : tie.Need-enum-told
 enum-told c = search needs
@@ -15,15 +15,15 @@ enum-known-found : tie.Need-enum-known-found
 enum-known-found c = search needs
 
 left-at-requires : tie.Need-left-at-requires
-left-at-requires c κs = omega (arith, at-within _ _ _ _ (rw (c .before .found .given .1) at (c .before .before .before .find .ensures)))
+left-at-requires c κs = omega (arith, c .before .before .before .find-chained .ensures .within _ (c .before .found .given .1))
 
 returns : tie.Need-returns
-returns c = nothing-left _ _ _ (rw (c .enum-told .given .1) at (c .before .before .find .ensures))
+returns c = nothing-left _ _ _ _ (rw (c .enum-told .given .1) at (c .before .before .find-chained .ensures))
 
 returns-2 : tie.Need-returns-2
-returns-2 c = found-left _ _ _ _ _ (rw (c .before .before .found .given .1) at (c .before .before .before .before .find .ensures)) (c .left-at .ensures)
+returns-2 c = found-left _ _ _ _ _ _ (rw (c .before .before .found .given .1) at (c .before .before .before .before .find-chained .ensures)) (c .left-at .ensures)
 
 pub is-left-spec : {M : Type 1} → statement M
 is-left-spec =
     tie.close
-    (tie.spec find-requires enum-told enum-known-found left-at-requires returns returns-2)
+    (tie.spec find-chained-requires enum-told enum-known-found left-at-requires returns returns-2)

@@ -10,17 +10,17 @@ use Rattle.verdict.proofs.strike.side_answered.Statement.{statement}
 use Rattle.verdict.proofs.strike.side_answered.Tie as tie
 
 abbrev Inv-loop : tie.InvT-loop
-Inv-loop arities work count free second area n others m apart i at j₀ j =
-    (j ≤ m) × ((l : ℕ) → l < j → (k : ℕ) → i ≡ k + 1 → ReplyFails arities work count free apart second area n others m k l)
+Inv-loop arities work capacity count free second area n others m apart i at j₀ j =
+    (j ≤ m) × ((l : ℕ) → l < j → (k : ℕ) → i ≡ k + 1 → ReplyFails arities capacity work count free apart second area n others m k l)
 
 abbrev μ-loop : tie.MeasureT-loop
-μ-loop arities work count free second area n others m apart i at j₀ j = m - j
+μ-loop arities work capacity count free second area n others m apart i at j₀ j = m - j
 
 abbrev Inv-steps : tie.InvT-steps
-Inv-steps arities work count free second area n others m apart i₀ i = (i ≤ n) × ((k : ℕ) → k < i → StepAnswered arities work count free apart second area n others m k)
+Inv-steps arities work capacity count free second area n others m apart i₀ i = (i ≤ n) × ((k : ℕ) → k < i → StepAnswered arities capacity work count free apart second area n others m k)
 
 abbrev μ-steps : tie.MeasureT-steps
-μ-steps arities work count free second area n others m apart i₀ i = n - i
+μ-steps arities work capacity count free second area n others m apart i₀ i = n - i
 
 steps-holds : tie.Need-steps-holds Inv-loop μ-loop Inv-steps μ-steps
 steps-holds c = (search needs, λ k h. absurd (omega arith))
@@ -41,7 +41,7 @@ steps-less : tie.Need-steps-less Inv-loop μ-loop Inv-steps μ-steps
 steps-less c = search needs
 
 steps-again : tie.Need-steps-again Inv-loop μ-loop Inv-steps μ-steps
-steps-again c = (search needs, below-more _ _ (c .before .before .before .before .steps .inv .1) (not-permitted _ _ _ _ _ _ _ _ _ _ _ _ (omega arith) (c .before .permitted .ensures) (not-true _ (c .if1 .taken))))
+steps-again c = (search needs, below-more _ _ (c .before .before .before .before .steps .inv .1) (not-permitted _ _ _ _ _ _ _ _ _ _ _ _ _ (omega arith) (c .before .permitted .ensures) (not-true _ (c .if1 .taken))))
 
 loop-holds : tie.Need-loop-holds Inv-loop μ-loop Inv-steps μ-steps
 loop-holds c = (search needs, λ l h. absurd (omega arith))
@@ -56,7 +56,7 @@ steps-less-2 : tie.Need-steps-less-2 Inv-loop μ-loop Inv-steps μ-steps
 steps-less-2 c = search needs
 
 steps-again-2 : tie.Need-steps-again-2 Inv-loop μ-loop Inv-steps μ-steps
-steps-again-2 c = (search needs, below-more _ _ (c .before .before .before .before .before .before .before .before .steps .inv .1) (reply-answers _ _ _ _ _ _ _ _ _ _ _ _ _ (omega arith) (omega arith) (c .before .answer-left .ensures) (c .if2 .taken)))
+steps-again-2 c = (search needs, below-more _ _ (c .before .before .before .before .before .before .before .before .steps .inv .1) (reply-answers _ _ _ _ _ _ _ _ _ _ _ _ _ _ (omega arith) (omega arith) (c .before .answer-left .ensures) (c .if2 .taken)))
 
 add-j : tie.Need-add-j Inv-loop μ-loop Inv-steps μ-steps
 add-j c = search needs
@@ -68,16 +68,16 @@ loop-again : tie.Need-loop-again Inv-loop μ-loop Inv-steps μ-steps
 loop-again c = (
   search needs,
   below-more _ _ (c .before .before .before .loop .inv .1)
-      (reply-fails _ _ _ _ _ _ _ _ _ _ (c .before .before .before .before .before .before .before .before .steps .i) (c .before .before .before .loop .j) _ _ (omega arith) (omega arith) (c .before .before .before .before .before .permitted .ensures) (not-false _ (c .before .before .before .before .if1 .left)) (c .before .answer-left .ensures) (c .if2 .left)),
+      (reply-fails _ _ _ _ _ _ _ _ _ _ _ (c .before .before .before .before .before .before .before .before .steps .i) (c .before .before .before .loop .j) _ _ (omega arith) (omega arith) (c .before .before .before .before .before .permitted .ensures) (not-false _ (c .before .before .before .before .if1 .left)) (c .before .answer-left .ensures) (c .if2 .left)),
 )
 
 returns : tie.Need-returns Inv-loop μ-loop Inv-steps μ-steps
 returns c =
-    step-unanswered _ _ _ _ _ _ _ _ _ _ (c .before .before .before .before .before .before .steps .i) _ _ (omega arith) (c .before .before .before .permitted .ensures) (not-false _ (c .before .before .if1 .left)) (omega arith)
+    step-unanswered _ _ _ _ _ _ _ _ _ _ _ (c .before .before .before .before .before .before .steps .i) _ _ (omega arith) (c .before .before .before .permitted .ensures) (not-false _ (c .before .before .if1 .left)) (omega arith)
     (λ l h. c .before .loop .inv .1 l h (c .before .before .before .before .before .before .steps .i) refl)
 
 returns-2 : tie.Need-returns-2 Inv-loop μ-loop Inv-steps μ-steps
-returns-2 c = steps-answered _ _ _ _ _ _ _ _ _ _ _ (omega arith) (c .before .steps .inv .1)
+returns-2 c = steps-answered _ _ _ _ _ _ _ _ _ _ _ _ (omega arith) (c .before .steps .inv .1)
 
 pub side-answered-spec : {M : Type 1} → statement M
 side-answered-spec =

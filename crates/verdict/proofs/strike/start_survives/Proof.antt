@@ -13,12 +13,12 @@ use Rattle.verdict.proofs.strike.start_survives.Statement.{statement}
 use Rattle.verdict.proofs.strike.start_survives.Tie as tie
 
 abbrev Inv-loop : tie.InvT-loop
-Inv-loop question work₀ count again₀ work again =
-    (length work ≡ length work₀) × Strikes question count work₀ work
-    × (again ≡ false → (getD work (struckAt 0) 0 ≡ 0) × AllSurvive question work count)
+Inv-loop question work₀ capacity count again₀ work again =
+    (length work ≡ length work₀) × Strikes question capacity count work₀ work
+    × (again ≡ false → (getD work (struckAt 0) 0 ≡ 0) × AllSurvive question capacity work count)
 
 abbrev μ-loop : tie.MeasureT-loop
-μ-loop question work₀ count again₀ work again = zeros (marks work count) + cond again 1 0
+μ-loop question work₀ capacity count again₀ work again = zeros (marks work count) + cond again 1 0
 
 loop-holds : tie.Need-loop-holds Inv-loop μ-loop
 loop-holds c = (refl, none-struck, λ q. true-not-false refl q)
@@ -33,15 +33,15 @@ same-length : tie.Need-same-length Inv-loop μ-loop
 same-length c = search needs
 
 returns : tie.Need-returns Inv-loop μ-loop
-returns c = start-goes _ _ _ _ _ _ _ (c .before .before .before .before .before .before .before .before .loop .inv .1) (c .before .before .before .before .before .strike-pass .ensures) (c .before .left-at .ensures) (not-true _ (c .if1 .taken))
+returns c = start-goes _ _ _ _ _ _ _ _ (c .before .before .before .before .before .before .before .before .loop .inv .1) (c .before .before .before .before .before .strike-pass .ensures) (c .before .left-at .ensures) (not-true _ (c .if1 .taken))
 
 loop-less : tie.Need-loop-less Inv-loop μ-loop
-loop-less c = pass-less _ _ _ _ _ _ (omega arith) (c .before .before .before .before .before .before .before .loop-test .taken) (c .before .before .before .before .before .strike-pass .ensures)
+loop-less c = pass-less _ _ _ _ _ _ _ (omega arith) (c .before .before .before .before .before .before .before .loop-test .taken) (c .before .before .before .before .before .strike-pass .ensures)
 
 loop-again : tie.Need-loop-again Inv-loop μ-loop
 loop-again c = (
   search needs,
-  strikes-then _ _ (c .before .before .before .before .before .before .before .before .loop .inv .1) (c .before .before .before .before .before .strike-pass .ensures .strikes),
+  strikes-then _ _ _ (c .before .before .before .before .before .before .before .before .loop .inv .1) (c .before .before .before .before .before .strike-pass .ensures .strikes),
   λ q. (left-zero _ _ _ (c .before .left-at .ensures) (not-false _ (c .if1 .left)), c .before .before .before .before .before .strike-pass .ensures .none q),
 )
 
@@ -49,7 +49,7 @@ same-length-2 : tie.Need-same-length-2 Inv-loop μ-loop
 same-length-2 c = search needs
 
 returns-2 : tie.Need-returns-2 Inv-loop μ-loop
-returns-2 c = let w = c .before .loop .inv .2 (c .loop-test .left) in start-stays _ _ _ _ (c .before .loop .inv .1) (w .0) (w .1)
+returns-2 c = let w = c .before .loop .inv .2 (c .loop-test .left) in start-stays _ _ _ _ _ (c .before .loop .inv .1) (w .0) (w .1)
 
 pub start-survives-spec : {M : Type 1} → statement M
 start-survives-spec =

@@ -12,7 +12,7 @@ same-length : tie.Need-same-length
 same-length c = search needs
 
 returns : tie.Need-returns
-returns c = gone-kept _ _ _ _ _ (c .before .left-at .ensures) (not-true _ (c .if1 .taken))
+returns c = gone-kept _ _ _ _ _ _ (c .before .left-at .ensures) (not-true _ (c .if1 .taken))
 
 survives-requires : tie.Need-survives-requires
 survives-requires c κs = search needs
@@ -21,7 +21,7 @@ same-length-2 : tie.Need-same-length-2
 same-length-2 c = search needs
 
 returns-2 : tie.Need-returns-2
-returns-2 c = survivor-kept _ _ _ _ _ (c .before .survives .ensures) (c .if2 .taken)
+returns-2 c = survivor-kept _ _ _ _ _ _ (c .before .survives .ensures) (c .if2 .taken)
 
 mul-work : tie.Need-mul-work
 mul-work c = search needs
@@ -36,7 +36,7 @@ same-length-3 : tie.Need-same-length-3
 same-length-3 c = search needs
 
 returns-3 : tie.Need-returns-3
-returns-3 c = one-strikes _ _ _ _ _ (left-zero _ _ _ (c .before .before .before .before .left-at .ensures) (not-false _ (c .before .before .before .if1 .left))) (c .before .survives .ensures) (c .if2 .left)
+returns-3 c = one-strikes _ _ _ _ _ _ (left-zero _ _ _ (c .before .before .before .before .left-at .ensures) (not-false _ (c .before .before .before .if1 .left))) (c .before .survives .ensures) (c .if2 .left)
 
 pub strike-one-spec : {M : Type 1} → statement M
 strike-one-spec =
