@@ -19,7 +19,7 @@ use Rattle.field.specs.Key.{SituationAt, PartIs, FirstPartIs, SecondPart
 use Rattle.field.specs.PairFlags.{pairCount, pairAt}
 use Rattle.field.specs.Situation.{Situation}
 use Rattle.field.specs.Slot.{partBytes, flag, flagsOf, octet, octets, packed, keyOf, keyBytes, slotBytes}
-use Rattle.field.specs.declared.find.Found.the-variants.{At, Nothing}
+use Rattle.field.specs.declared.find.Found.the-variants.{At}
 use Rattle.field.proofs.EntryLaws.{inside}
 use Rattle.field.proofs.PairLaws.{length-flags, flag-at}
 
@@ -243,11 +243,6 @@ pub found-at : (area : List ℕ) (count : ℕ) (key : List ℕ) (i : ℕ) (r : B
     → FoundIs area count key (At i)
 unfolding FoundIs keyAt
 found-at area count key i r l q h = (l, h .same q)
-
-pub found-none : (area : List ℕ) (count : ℕ) (key : List ℕ) (i : ℕ) → count ≤ i → ((j : ℕ) → j < i → keyAt area j ≡ take keyBytes key → ⊥)
-    → FoundIs area count key Nothing
-unfolding FoundIs
-found-none area count key i l so j h = so j (omega arith)
 
 pub other-slot : (area key : List ℕ) (i : ℕ) (r : Bool) → r ≡ false → SameKeyIs area (slotBytes * i) key r → keyAt area i ≡ take keyBytes key → ⊥
 unfolding keyAt

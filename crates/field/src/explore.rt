@@ -1,5 +1,4 @@
 // Exploration of the field: document 01, "The field and the verdict".
-ghost use mathlib.Core.Path.{_≡_};
 ghost use Prim.Native.Nat.{_+_, _*_, _<_, _≤_};
 ghost use lib.ListN.{length};
 ghost use Rattle.steps.specs.Limits.{stepBytes, mostSteps};

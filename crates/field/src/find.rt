@@ -1,8 +1,8 @@
-// The slots of the work area: which one holds a situation.
-ghost use Prim.Native.Nat.{_+_, _*_, _≤_};
+// The slots of the work area: whether one holds a situation.
+ghost use Prim.Native.Nat.{_+_, _≤_};
 ghost use lib.ListN.{length};
-ghost use Rattle.field.specs.Key.{SameKeyIs, FoundIs};
-ghost use Rattle.field.specs.Slot.{keyBytes, slotBytes};
+ghost use Rattle.field.specs.Key.{SameKeyIs};
+ghost use Rattle.field.specs.Slot.{keyBytes};
 
 pub const KEY_BYTES: usize = 241;
 
@@ -23,23 +23,9 @@ pub fn same_key(area: &[u8], at: usize, key: &[u8]) -> bool
     true
 }
 
+// What a search among the slots finds.
 pub enum Found {
     // the number of the slot
     At(usize),
     Nothing,
-}
-
-// The slot that holds the key, among the first `count`.
-pub fn find(area: &[u8], count: usize, key: &[u8]) -> Found
-    requires { ⌜ (slotBytes * count ≤ length (now area)) × (keyBytes ≤ length (now key)) ⌝ }
-    ensures { λ r. ⌜ FoundIs (now (area .entry)) count (now (key .entry)) r ⌝ }
-{
-    let mut i = 0;
-    while i < count {
-        if same_key(area, SLOT_BYTES * i, key) {
-            return Found::At(i);
-        }
-        i += 1;
-    }
-    Found::Nothing
 }
