@@ -43,4 +43,6 @@ pub mod SlotLaws
 pub mod Sorted
 pub mod StepEntries
 pub mod TakeLaws
+pub mod TallyLaws
+pub mod TallyLoops
 pub mod TwoSides

@@ -19,3 +19,5 @@ pub mod Passing
 pub mod Raw
 pub mod Results
 pub mod Slots
+pub mod Tally
+pub mod Tallying

@@ -12,3 +12,4 @@ pub mod operation;
 pub mod pass;
 pub mod result;
 pub mod rules;
+pub mod tally;
