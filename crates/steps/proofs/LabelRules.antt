@@ -3,7 +3,6 @@ use mathlib.Core.Path.{_≡_, refl, sym, ap, ap₂, subst, _∙_}
 use mathlib.Core.Bool.{Bool, true, false}
 use mathlib.Core.List.{List, _∷_, _++_}
 use Prim.Native.Nat.{ℕ, zero, suc, _+_, _<_, _≤_}
-use native.Mathlib.Nat.{le-refl}
 use native.Mathlib.Omega.{arith}
 use Rattle.calculus.specs.Abstraction.{Act, tauA, inpA, outA, boutA}
 use Rattle.calculus.specs.Cond.{Cond, mapP}
@@ -17,29 +16,17 @@ use Rattle.steps.specs.Labels.{actionOf, ActionBelow, BlockedIs, HeaderI
 use Rattle.steps.specs.declared.action.Action.{Action}
 use Rattle.steps.specs.declared.action.Action.the-variants.{Silent, Input, Output, NewOutput}
 use Rattle.steps.specs.declared.action.Status.{Status}
-use Rattle.steps.specs.declared.action.Status.the-variants.{Past, Blocked, Found}
+use Rattle.steps.specs.declared.action.Status.the-variants.{Blocked, Found}
 use Rattle.steps.specs.declared.action.Label.{Label}
 use Rattle.steps.specs.declared.rules.Meeting.{Meeting}
 use Rattle.steps.specs.declared.rules.Meeting.the-variants.{Never, At}
 use Rattle.steps.proofs.NameSlots.{slot-inner}
 use Rattle.steps.proofs.SlotLaws.{slot-restricted, slot-outside, below-slots, below-more, below-append, classes-outside, below-outside}
 
--- The three kinds of answers exclude one another.
-found-past : {s : Status} → s ≡ Found → s ≡ Past → ⊥
-found-past e f = let z : _≡_ {A = ℕ} 0 1 = cc in omega arith
-
 found-blocked : {s : Status} → s ≡ Found → s ≡ Blocked → ⊥
 found-blocked e f = let z : _≡_ {A = ℕ} 0 1 = cc in omega arith
 
-blocked-past : {s : Status} → s ≡ Blocked → s ≡ Past → ⊥
-blocked-past e f = let z : _≡_ {A = ℕ} 0 1 = cc in omega arith
-
 module _ (d : ℕ) (r : Label) where
-  pub labels-not-past : (c : Candidate) → Labels d c r → r .status ≡ Past → ⊥
-  unfolding Labels
-  labels-not-past (step M α P) h e = found-past (h .found) e
-  labels-not-past blocked h e = blocked-past h e
-
   -- a label that is blocked is that of a blocked candidate,
   when-blocked : (T : Candidate → Type 0) → r .status ≡ Blocked → T blocked → (c : Candidate) → Labels d c r → T c
   unfolding Labels
@@ -55,27 +42,14 @@ module _ (d : ℕ) (r : Label) where
 
 -- [Match]
 module _ (s : Label) (a b : ℕ) where
-  pub matching-past : s .status ≡ Past → MatchingIs s a b s
-  matching-past e = record {
-    rest = le-refl (s .rest);
-    past = λ _. refl;
-    is = λ d x y c ex ey hx hy h. absurd (labels-not-past d s c h e);
-  }
-
   pub matching-blocked : s .status ≡ Blocked → MatchingIs s a b s
   unfolding Labels matching
-  matching-blocked e = record {
-    rest = le-refl (s .rest);
-    past = λ _. refl;
-    is = λ d x y c ex ey hx hy. when-blocked d s (λ c. Labels d (matching x y c) s) e e c;
-  }
+  matching-blocked e = record { is = λ d x y c ex ey hx hy. when-blocked d s (λ c. Labels d (matching x y c) s) e e c }
 
-  pub matching-found : (r : Label) → s .status ≡ Found → r .status ≡ Found → r .rest ≡ s .rest → r .action ≡ s .action
+  pub matching-found : (r : Label) → s .status ≡ Found → r .status ≡ Found → r .action ≡ s .action
       → MergedIs (s .condition .class) a b (r .condition .class) → MatchingIs s a b r
   unfolding Labels matching MergedIs HasClasses HasSlotClasses Below
-  matching-found r e f n k m = record {
-    rest = omega arith;
-    past = λ p. absurd (found-past e p);
+  matching-found r e f k m = record {
     is = λ d x y c ex ey hx hy. when-found d s (λ c. Labels d (matching x y c) r) e
         (λ M α P h. record {
           found = f;
@@ -205,7 +179,7 @@ module _ (s : Label) (level : ℕ) where
     -- the condition merges the restricted name with another
     pub outside-merged : (r : Label) → t ≡ false → BlockedIs r → OutsideIs s level r
     unfolding Labels restricted
-    outside-merged r e B = record { rest = let n = B .rest in omega arith; is = λ M α P h. rw (spared M α h, e) (B .stopped) }
+    outside-merged r e B = record { is = λ M α P h. rw (spared M α h, e) B }
 
     by-action : (r : Label) → t ≡ true
         → ((M : Cond) (α : Act) (P : Term) → HeaderIs (1 + level) M α s → sparesRestricted M ≡ true → Labels level (restrictedAction (mapP outside M) α P) r)
@@ -214,33 +188,21 @@ module _ (s : Label) (level : ℕ) where
     by-action r e k M α P h = let q = spared M α h ∙ e in rw q (k M α P h q)
 
     pub outside-keeps : t ≡ true → Avoids slot (s .action) → OutsideIs s level s
-    outside-keeps e av = record { rest = le-refl (s .rest); is = by-action s e (keeps av) }
+    outside-keeps e av = record { is = by-action s e (keeps av) }
 
     pub outside-blocks : (r : Label) → t ≡ true → BlockedIs r → On slot (s .action) → OutsideIs s level r
-    outside-blocks r e B on = record { rest = let n = B .rest in omega arith; is = by-action r e (blocks r (B .stopped) on) }
+    outside-blocks r e B on = record { is = by-action r e (blocks r B on) }
 
-    pub outside-opens : (r : Label) → t ≡ true → r .status ≡ Found → r .rest ≡ s .rest → r .condition .class ≡ s .condition .class
+    pub outside-opens : (r : Label) → t ≡ true → r .status ≡ Found → r .condition .class ≡ s .condition .class
         → (a b : ℕ) → s .action ≡ Output a b → r .action ≡ NewOutput a → (a ≡ slot → ⊥) → b ≡ slot → OutsideIs s level r
-    outside-opens r e f n k a b o w na eb = record { rest = omega arith; is = by-action r e (opens r f k a b o w na eb) }
-
-  pub restricted-past : s .status ≡ Past → RestrictedIs s level s
-  restricted-past e =
-      record { rest = le-refl (s .rest); past = λ _. refl; is = λ c h. absurd (labels-not-past (1 + level) s c h e) }
+    outside-opens r e f k a b o w na eb = record { is = by-action r e (opens r f k a b o w na eb) }
 
   pub restricted-blocked : s .status ≡ Blocked → RestrictedIs s level s
   unfolding Labels restricted
-  restricted-blocked e = record {
-    rest = le-refl (s .rest);
-    past = λ _. refl;
-    is = when-blocked (1 + level) s (λ c. Labels level (restricted c) s) e e;
-  }
+  restricted-blocked e = record { is = when-blocked (1 + level) s (λ c. Labels level (restricted c) s) e e }
 
   pub restricted-found : (r : Label) → s .status ≡ Found → OutsideIs s level r → RestrictedIs s level r
-  restricted-found r e O = record {
-    rest = O .rest;
-    past = λ p. absurd (found-past e p);
-    is = when-found (1 + level) s (λ c. Labels level (restricted c) r) e (O .is);
-  }
+  restricted-found r e O = record { is = when-found (1 + level) s (λ c. Labels level (restricted c) r) e (O .is) }
 
 -- [Com] and [Close]
 communication-none : (s : Candidate) → communication s blocked ≡ blocked
@@ -273,7 +235,7 @@ module _ (p q r : Label) where
         }
 
   -- actions that do not meet
-  met-never : r .status ≡ Blocked → meetingOf (p .action) (q .action) ≡ Never → (d : ℕ) (M N : Cond) (α β : Act) (P Q : Term)
+  met-never : BlockedIs r → meetingOf (p .action) (q .action) ≡ Never → (d : ℕ) (M N : Cond) (α β : Act) (P Q : Term)
       → HeaderIs d M α p → HeaderIs d N β q → Labels d (communication (step M α P) (step N β Q)) r
   unfolding Labels communication meet meetingOf receivedBy actionOf
   met-never e m d M N tauA tauA P Q h k = e
@@ -316,38 +278,28 @@ module _ (p q r : Label) where
     met-at M N (boutA a) (boutA b) P Q h k = let n = meet-at d M N (boutA a) (boutA b) h k (At u v) m in let z : _≡_ {A = ℕ} 0 1 = cc in absurd (omega arith)
 
   pub met-apart : BlockedIs r → meetingOf (p .action) (q .action) ≡ Never → MetIs p q r
-  met-apart B m = record { rest = B .rest; is = λ d M N α β P Q room h k. met-never (B .stopped) m d M N α β P Q h k }
+  met-apart B m = record { is = λ d M N α β P Q room h k. met-never B m d M N α β P Q h k }
 
-  pub met-together : (j : List ℕ) (u v : ℕ) → r .status ≡ Found → r .rest ≡ 0 → r .action ≡ Silent → BothIs (p .condition .class) (q .condition .class) j
+  pub met-together : (j : List ℕ) (u v : ℕ) → r .status ≡ Found → r .action ≡ Silent → BothIs (p .condition .class) (q .condition .class) j
       → MergedIs j u v (r .condition .class) → meetingOf (p .action) (q .action) ≡ At u v → MetIs p q r
-  met-together j u v f n w B g m =
-      record { rest = n; is = λ d M N α β P Q room h k. met-at d j u v f w B g room m M N α β P Q h k }
+  met-together j u v f w B g m = record { is = λ d M N α β P Q room h k. met-at d j u v f w B g room m M N α β P Q h k }
 
-  -- a blocked candidate on either side, or none at all
+  -- a blocked candidate on either side
   pub communication-left : BlockedIs r → p .status ≡ Blocked → CommunicationIs p q r
   unfolding Labels communication
   communication-left B e = record {
-    rest = B .rest;
-    is = λ d s t room h k. when-blocked d p (λ (c : Candidate). Labels d (communication c t) r) e (B .stopped) s h;
+    is = λ d s t room h k. when-blocked d p (λ (c : Candidate). Labels d (communication c t) r) e B s h;
   }
 
   pub communication-right : BlockedIs r → q .status ≡ Blocked → CommunicationIs p q r
   unfolding Labels
   communication-right B e = record {
-    rest = B .rest;
     is = λ d s t room h k. when-blocked d q (λ (c : Candidate). Labels d (communication s c) r) e
-        (subst (λ (c : Candidate). Labels d c r) (sym (communication-none s)) (B .stopped)) t k;
+        (subst (λ (c : Candidate). Labels d c r) (sym (communication-none s)) B) t k;
   }
-
-  pub communication-past-left : BlockedIs r → p .status ≡ Past → CommunicationIs p q r
-  communication-past-left B e = record { rest = B .rest; is = λ d s t room h k. absurd (labels-not-past d p s h e) }
-
-  pub communication-past-right : BlockedIs r → q .status ≡ Past → CommunicationIs p q r
-  communication-past-right B e = record { rest = B .rest; is = λ d s t room h k. absurd (labels-not-past d q t k e) }
 
   pub communication-found : p .status ≡ Found → q .status ≡ Found → MetIs p q r → CommunicationIs p q r
   communication-found e f m = record {
-    rest = m .rest;
     is = λ d s t room h k. when-found d p (λ (c : Candidate). Labels d (communication c t) r) e
         (λ M α P h′. when-found d q (λ (c : Candidate). Labels d (communication (step M α P) c) r) f (λ N β Q k′. m .is d M N α β P Q room h′ k′) t k) s h;
   }

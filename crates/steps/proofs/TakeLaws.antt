@@ -2,7 +2,7 @@
 use borrow.Author.Tests.{leb-true, leb-false}
 use mathlib.Core.Bool.{Bool, true, false}
 use mathlib.Core.List.{List, [], _++_, append-nil}
-use mathlib.Core.Path.{_≡_, refl, sym, _∙_, ap}
+use mathlib.Core.Path.{_≡_, refl, sym, _∙_, ap, subst}
 use native.Mathlib.Omega.{arith}
 use Prim.Native.Nat.{ℕ, _+_, _*_, _<_, _≤_}
 use lib.Dec.{leb}
@@ -19,22 +19,20 @@ use Rattle.terms.specs.Question.{Question}
 use Rattle.steps.specs.Collecting.{PutIs}
 use Rattle.steps.specs.Entries.{InsertIs}
 use Rattle.steps.specs.EntryBytes.{StepEntryIs}
-use Rattle.steps.specs.LabelWalk.{PartLabelIs}
-use Rattle.steps.specs.Labels.{HeaderIs, Labels, LabelIs}
+use Rattle.steps.specs.LabelWalk.{NthIs}
+use Rattle.steps.specs.Labels.{Labels}
 use Rattle.steps.specs.Limits.{mostSteps, stepBytes}
 use Rattle.steps.specs.Listed.{listedAs, canonStep, resultBytes}
 use Rattle.steps.specs.Listing.{bodyOf}
 use Rattle.steps.specs.Names.{nameSlots, HasNames, HasNew}
-use Rattle.steps.specs.PartLister.{Lists, candidatesOf, NamesAre, ResultIs, PutStepIs, TakesFrom, TakeIs}
+use Rattle.steps.specs.PartLister.{Lists, candidatesOf, NamesAre, ResultIs, PutStepIs, TakeIs}
 use Rattle.steps.specs.Passing.{candidates}
 use Rattle.steps.specs.Raw.{Candidate, step, blocked}
 use Rattle.steps.specs.Results.{receiving, chosen, WriteIs}
 use Rattle.steps.specs.declared.action.Label.{Label}
-use Rattle.steps.specs.declared.action.Status.the-variants.{Past, Blocked, Found}
-use Rattle.steps.specs.declared.list.Taken.the-variants.{Now}
-use Rattle.steps.specs.declared.list.Taken.the-variants as taken
+use Rattle.steps.specs.declared.action.Status.the-variants.{Blocked, Found}
+use Rattle.steps.proofs.ArgumentSlots.{slots-part}
 use Rattle.steps.proofs.CollectLaws.{put-blocked, put-step, put-long, take-sets}
-use Rattle.steps.proofs.LabelRules.{labels-not-past}
 use Rattle.steps.proofs.StepEntries.{slot-name, class-names}
 
 -- The table of a result, filled with x, and the classes stored over it.
@@ -133,57 +131,30 @@ module _ (question part : List ℕ) (silently : Bool) (i : ℕ) (h : Label) (x :
           go true d = leb-true b longestTerm d
           go false d = absurd (omega (arith, f (leb-false b longestTerm d)))
 
--- What a label says of the candidate of its number.
-module _ (cs : List Candidate) (i e : ℕ) (h : Label) (label : LabelIs 0 cs i e h) (x : ℕ) (area : List ℕ) (count : ℕ) where
-  take-past : h .status ≡ Past → TakesFrom cs i x area count taken.Past area
-  take-past p = record { past = λ _. (refl, refl); there = λ l. absurd (labels-not-past 0 h (getD cs i blocked) (label .there l) p) }
+-- The candidate of a number over the bytes of a part, by its label.
+module _ (question part : List ℕ) (silently : Bool) (i : ℕ) (args : List ℕ) (h : Label) (label : NthIs question part 0 i silently args 0 0 1 h) (x : ℕ)
+    (area : List ℕ) (count : ℕ) where
+  label-is : (q : Question) (P : Term) → Lists question part x q P → i < length (candidatesOf silently q P)
+      → Labels 0 (getD (candidatesOf silently q P) i blocked) h
+  unfolding candidatesOf
+  label-is q P l =
+      subst (λ (Q : Term). i < length (candidates silently (bodyOf (q .bodies)) 1 Q) → Labels 0 (getD (candidates silently (bodyOf (q .bodies)) 1 Q) i blocked) h) (ren-id P)
+      (label .is q nameCount 0 (λ n. n) P [] (l .accepted) (omega arith) (slots-part 0 args) (l .scope) (l .bytes ∙ sym (append-nil (encode 0 P))))
 
-  -- a status that is not past is a candidate's
-  not-past : {C : Type 0} → (h .status ≡ Past → ⊥) → length cs ≤ i → C
-  not-past n l = absurd (n (label .past l .past))
-
-  take-blocked : mostSteps * stepBytes ≤ length area → count ≤ mostSteps → h .status ≡ Blocked → TakesFrom cs i x area count (Now count) area
-  unfolding Labels PutIs
-  take-blocked room few b = record {
-    past = not-past (λ p. let z : _≡_ {A = ℕ} 0 1 = cc in omega arith);
-    there = λ l. (count, refl, go (getD cs i blocked) (label .there l));
-  }
+  pub takes-blocked : mostSteps * stepBytes ≤ length area → count ≤ mostSteps → h .status ≡ Blocked
+      → TakeIs question part silently i x area count count area
+  unfolding TakeIs Labels PutIs
+  takes-blocked room few b q P l k = go (getD (candidatesOf silently q P) i blocked) (label-is q P l k)
     where
       go : (c : Candidate) → Labels 0 c h → PutIs c x area count count area
       go (step M α A) t = let f = t .found in let z : _≡_ {A = ℕ} 0 1 = cc in absurd (omega arith)
       go blocked t = λ found s. put-blocked area room x count found s few
 
-  take-found : h .status ≡ Found → (m : ℕ) (area′ : List ℕ)
-      → ((M : Cond) (α : Act) (A : Term) → i < length cs → getD cs i blocked ≡ step M α A → HeaderIs 0 M α h → PutIs (step M α A) x area count m area′)
-      → TakesFrom cs i x area count (Now m) area′
-  unfolding Labels
-  take-found f m area′ put = record {
-    past = not-past (λ p. let z : _≡_ {A = ℕ} 0 1 = cc in omega arith);
-    there = λ l. (m, refl, go (getD cs i blocked) refl l (label .there l));
-  }
-    where
-      go : (c : Candidate) → getD cs i blocked ≡ c → i < length cs → Labels 0 c h → PutIs c x area count m area′
-      go (step M α A) d l t = put M α A l d t
-      go blocked d l t = let z : _≡_ {A = ℕ} 0 1 = cc in absurd (omega arith)
-
--- The candidate of a number over the bytes of a part, by its label.
-module _ (question part : List ℕ) (silently : Bool) (i : ℕ) (h : Label) (label : PartLabelIs question part i silently h) (x : ℕ) (area : List ℕ)
-    (count : ℕ) where
-  label-is : (q : Question) (P : Term) → Lists question part x q P → LabelIs 0 (candidatesOf silently q P) i (length part) h
-  unfolding candidatesOf
-  label-is q P l = label .is q P (l .accepted) (l .scope) (l .bytes)
-
-  pub takes-past : h .status ≡ Past → TakeIs question part silently i x area count taken.Past area
-  unfolding TakeIs
-  takes-past s q P l = take-past (candidatesOf silently q P) i (length part) h (label-is q P l) x area count s
-
-  pub takes-blocked : mostSteps * stepBytes ≤ length area → count ≤ mostSteps → h .status ≡ Blocked
-      → TakeIs question part silently i x area count (Now count) area
-  unfolding TakeIs
-  takes-blocked room few s q P l = take-blocked (candidatesOf silently q P) i (length part) h (label-is q P l) x area count room few s
-
   pub takes-found : h .status ≡ Found → (m : ℕ) (area′ : List ℕ) → PutStepIs question part silently i h x area count m area′
-      → TakeIs question part silently i x area count (Now m) area′
-  unfolding TakeIs PutStepIs
-  takes-found s m area′ put q P l =
-      take-found (candidatesOf silently q P) i (length part) h (label-is q P l) x area count s m area′ (λ M α A k e hd. put q P l M α A e hd)
+      → TakeIs question part silently i x area count m area′
+  unfolding TakeIs PutStepIs Labels
+  takes-found s m area′ put q P l k = go (getD (candidatesOf silently q P) i blocked) refl (label-is q P l k)
+    where
+      go : (c : Candidate) → getD (candidatesOf silently q P) i blocked ≡ c → Labels 0 c h → PutIs c x area count m area′
+      go (step M α A) d t = put q P l M α A d t
+      go blocked d t = let z : _≡_ {A = ℕ} 0 1 = cc in absurd (omega arith)

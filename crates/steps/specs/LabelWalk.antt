@@ -1,7 +1,7 @@
 -- The label of a candidate by its number, over the bytes of a term: what the functions that walk them promise. The term is `ren σ P`, where P is
 -- what the bytes at hand code: in a called body σ puts the call's names for the parameters.
 use mathlib.Core.Path.{_≡_}
-use mathlib.Core.Bool.{Bool, true, false, cond}
+use mathlib.Core.Bool.{Bool, cond}
 use mathlib.Core.List.{List, _++_}
 use Prim.Native.Nat.{ℕ, _+_, _-_, _*_, _<_, _≤_}
 use lib.ListN.{length, getD, drop}
@@ -11,16 +11,14 @@ use Rattle.terms.specs.Answer.{result}
 use Rattle.terms.specs.Encoding.{nameByte, encode, InScope}
 use Rattle.terms.specs.Limits.{nameCount, longestTerm}
 use Rattle.terms.specs.Question.{Question, checkOf}
-use Rattle.steps.specs.Labels.{LabelIs}
+use Rattle.steps.specs.Labels.{FirstIs, Labels}
 use Rattle.steps.specs.Listing.{bodyOf}
 use Rattle.steps.specs.Passing.{candidates}
-use Rattle.steps.specs.Raw.{communications, visible}
+use Rattle.steps.specs.Raw.{blocked, communications, visible}
 use Rattle.steps.specs.Slots.{slotOf, slotCount}
 use Rattle.steps.specs.declared.action.Action.{Action}
 use Rattle.steps.specs.declared.action.Action.the-variants.{Silent, Input, Output, NewOutput}
 use Rattle.steps.specs.declared.action.Label.{Label}
-use Rattle.steps.specs.declared.action.Status.{Status}
-use Rattle.steps.specs.declared.action.Status.the-variants.{Past, Blocked, Found}
 
 -- The slot of a name byte beneath `inner` restrictions of these bytes, `depth` in all: a free name, one of those restrictions, or a parameter,
 -- which stands for the slot of the call's name. Parameters are counted from the innermost.
@@ -42,13 +40,10 @@ ArgumentsIs s at count args inner depth r =
 unfoldable pub prefixAction : ℕ → ℕ → ℕ → Action
 prefixAction t a b = cond (eqb t 1) Silent (cond (eqb t 2) (Input a) (cond (eqb t 3) (Output a b) (NewOutput a)))
 
-unfoldable pub isPast : Status → Bool
-isPast Past = true
-isPast Blocked = false
-isPast Found = false
-
-unfoldable pub endingWith : ℕ → Label → Label
-endingWith e r = record { status = r .status; rest = r .rest; end = e; condition = r .condition; action = r .action }
+-- the one step of the prefix at `at`
+abbrev pub PrefixLabelIs : List ℕ → ℕ → List ℕ → ℕ → ℕ → Label → Type 0
+PrefixLabelIs s at args inner depth r =
+    FirstIs (prefixAction (getD s at 0) (slotAt args inner depth (getD s (at + 1) 0)) (slotAt args inner depth (getD s (at + 2) 0))) r
 
 -- Every restriction that may be passed has a slot: of these bytes, and of a body that may be opened.
 pub record Within (s : List ℕ) (at inner depth calls : ℕ) : Type 0 where
@@ -57,20 +52,19 @@ pub record Within (s : List ℕ) (at inner depth calls : ℕ) : Type 0 where
   pub outer : inner ≤ depth
   pub room : nameCount + depth + (length s - at) + longestTerm * calls ≤ slotCount
 
--- The i-th candidate, silent or visible, of the term at `at`.
+-- The i-th candidate, silent or visible, of the term at `at`. Nothing is said of numbers past the last.
 pub record NthIs (question s : List ℕ) (at i : ℕ) (silently : Bool) (args : List ℕ) (inner depth calls : ℕ) (r : Label) : Type 0 where
-  pub left : r .rest ≤ i
   pub is : (q : Question) (free D : ℕ) (σ : ℕ → ℕ) (P : Term) (rest : List ℕ)
       → checkOf question ≡ result q
       → free ≤ nameCount
       → HasSlots free D args inner depth σ
       → InScope free (q .arities) D P
       → drop at s ≡ encode D P ++ rest
-      → LabelIs depth (candidates silently (bodyOf (q .bodies)) calls (ren σ P)) i (at + length (encode D P)) r
+      → i < length (candidates silently (bodyOf (q .bodies)) calls (ren σ P))
+      → Labels depth (getD (candidates silently (bodyOf (q .bodies)) calls (ren σ P)) i blocked) r
 
 -- The i-th communication of the term that stands behind `at` and the one that stands at `middle`.
-pub record MeetingsIs (question s : List ℕ) (at middle e i : ℕ) (args : List ℕ) (inner depth calls : ℕ) (r : Label) : Type 0 where
-  pub left : r .rest ≤ i
+pub record MeetingIs (question s : List ℕ) (at middle i : ℕ) (args : List ℕ) (inner depth calls : ℕ) (r : Label) : Type 0 where
   pub is : (q : Question) (free D : ℕ) (σ : ℕ → ℕ) (P Q : Term) (rest more : List ℕ)
       → checkOf question ≡ result q
       → free ≤ nameCount
@@ -79,10 +73,5 @@ pub record MeetingsIs (question s : List ℕ) (at middle e i : ℕ) (args : List
       → InScope free (q .arities) D Q
       → drop (at + 1) s ≡ encode D P ++ more
       → drop middle s ≡ encode D Q ++ rest
-      → LabelIs depth (communications (visible (bodyOf (q .bodies)) calls (ren σ P)) (visible (bodyOf (q .bodies)) calls (ren σ Q))) i e r
-
--- The i-th candidate of a part.
-pub record PartLabelIs (question part : List ℕ) (i : ℕ) (silently : Bool) (r : Label) : Type 0 where
-  pub left : r .rest ≤ i
-  pub is : (q : Question) (P : Term) → checkOf question ≡ result q → InScope nameCount (q .arities) 0 P → part ≡ encode 0 P
-      → LabelIs 0 (candidates silently (bodyOf (q .bodies)) 1 P) i (length part) r
+      → i < length (communications (visible (bodyOf (q .bodies)) calls (ren σ P)) (visible (bodyOf (q .bodies)) calls (ren σ Q)))
+      → Labels depth (getD (communications (visible (bodyOf (q .bodies)) calls (ren σ P)) (visible (bodyOf (q .bodies)) calls (ren σ Q))) i blocked) r

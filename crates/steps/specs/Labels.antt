@@ -1,8 +1,7 @@
--- The header of a candidate, condition and action without the result, and the answer to a number: what the functions that find it promise.
+-- The header of a candidate, condition and action without the result, and the rules on headers: what the functions that find it promise.
 use mathlib.Core.Path.{_≡_}
-use mathlib.Core.List.{List, []}
-use Prim.Native.Nat.{ℕ, _+_, _-_, _<_, _≤_}
-use lib.ListN.{length, getD}
+use mathlib.Core.List.{[]}
+use Prim.Native.Nat.{ℕ, _+_, _<_, _≤_}
 use Rattle.calculus.specs.Abstraction.{Act, tauA, inpA, outA, boutA}
 use Rattle.calculus.specs.Cond.{Cond}
 use Rattle.calculus.specs.Term.{Term}
@@ -11,7 +10,7 @@ use Rattle.steps.specs.Raw.{Candidate, step, blocked, matching, communic
 use Rattle.steps.specs.Slots.{slotOf, slotCount, HasSlotClasses, HasClasses, Below}
 use Rattle.steps.specs.declared.action.Action.{Action}
 use Rattle.steps.specs.declared.action.Action.the-variants.{Silent, Input, Output, NewOutput}
-use Rattle.steps.specs.declared.action.Status.the-variants.{Past, Blocked, Found}
+use Rattle.steps.specs.declared.action.Status.the-variants.{Blocked, Found}
 use Rattle.steps.specs.declared.action.Label.{Label}
 use Rattle.steps.specs.declared.rules.Meeting.{Meeting}
 use Rattle.steps.specs.declared.rules.Meeting.the-variants.{Never, At}
@@ -30,18 +29,12 @@ ActionBelow n (inpA a) = a < n
 ActionBelow n (outA a b) = (a < n) × (b < n)
 ActionBelow n (boutA a) = a < n
 
-pub record PastIs (n e : ℕ) (r : Label) : Type 0 where
-  pub past : r .status ≡ Past
-  pub rest : r .rest ≡ n
-  pub end : r .end ≡ e
+abbrev pub BlockedIs : Label → Type 0
+BlockedIs r = r .status ≡ Blocked
 
-pub record BlockedIs (r : Label) : Type 0 where
-  pub stopped : r .status ≡ Blocked
-  pub rest : r .rest ≡ 0
-
+-- a step with the condition that is always true
 pub record FirstIs (α : Action) (r : Label) : Type 0 where
   pub found : r .status ≡ Found
-  pub rest : r .rest ≡ 0
   pub classes : HasSlotClasses (r .condition .class) []
   pub action : r .action ≡ α
 
@@ -55,29 +48,18 @@ pub record HeaderIs (d : ℕ) (M : Cond) (α : Act) (r : Label) : Type 0 where
 
 unfoldable pub Labels : ℕ → Candidate → Label → Type 0
 Labels d (step M α P) r = HeaderIs d M α r
-Labels d blocked r = r .status ≡ Blocked
-
--- The answer to the number i: the header of the i-th of the candidates cs of a term under d restrictions, or, past the last of them, what is left
--- of the number, and where the term ends.
-pub record LabelIs (d : ℕ) (cs : List Candidate) (i e : ℕ) (r : Label) : Type 0 where
-  pub past : length cs ≤ i → PastIs (i - length cs) e r
-  pub there : i < length cs → Labels d (getD cs i blocked) r
+Labels d blocked r = BlockedIs r
 
 -- A rule with one premise, from the label s of the premise.
 pub record MatchingIs (s : Label) (a b : ℕ) (r : Label) : Type 0 where
-  pub rest : r .rest ≤ s .rest
-  pub past : s .status ≡ Past → r ≡ s
   pub is : (d x y : ℕ) (c : Candidate) → a ≡ slotOf nameCount d x → b ≡ slotOf nameCount d y → x < d + nameCount → y < d + nameCount
       → Labels d c s → Labels d (matching x y c) r
 
 -- the restriction at this level is left
 pub record RestrictedIs (s : Label) (level : ℕ) (r : Label) : Type 0 where
-  pub rest : r .rest ≤ s .rest
-  pub past : s .status ≡ Past → r ≡ s
   pub is : (c : Candidate) → Labels (1 + level) c s → Labels level (restricted c) r
 
 pub record OutsideIs (s : Label) (level : ℕ) (r : Label) : Type 0 where
-  pub rest : r .rest ≤ s .rest
   pub is : (M : Cond) (α : Act) (P : Term) → HeaderIs (1 + level) M α s → Labels level (restricted (step M α P)) r
 
 -- Where two actions meet: the channels of an output and an input.
@@ -98,10 +80,8 @@ meetingOf (NewOutput a) β = receivedBy a β
 
 -- [Com] and [Close] on labels: the two conditions and the match of the channels
 pub record MetIs (p q r : Label) : Type 0 where
-  pub rest : r .rest ≡ 0
   pub is : (d : ℕ) (M N : Cond) (α β : Act) (P Q : Term) → nameCount + d ≤ slotCount → HeaderIs d M α p → HeaderIs d N β q
       → Labels d (communication (step M α P) (step N β Q)) r
 
 pub record CommunicationIs (p q r : Label) : Type 0 where
-  pub rest : r .rest ≡ 0
   pub is : (d : ℕ) (s t : Candidate) → nameCount + d ≤ slotCount → Labels d s p → Labels d t q → Labels d (communication s t) r

@@ -25,8 +25,6 @@ use Rattle.steps.specs.Results.{Written}
 use Rattle.steps.specs.declared.action.Label.{Label}
 use Rattle.steps.specs.declared.list.ListAnswer.{ListAnswer}
 use Rattle.steps.specs.declared.list.ListAnswer.the-variants.{Unsettled, Count}
-use Rattle.steps.specs.declared.list.Taken.{Taken}
-use Rattle.steps.specs.declared.list.Taken.the-variants.{Past, Now}
 
 -- The bytes are those of a part of a question with the definitions of q, and x may be the new name: one of the names, or the one behind them where
 -- they are all in use.
@@ -61,14 +59,11 @@ PutStepIs question part silently i h x area count r area′ =
     → (M : Cond) (α : Act) (A : Term) → getD (candidatesOf silently q P) i blocked ≡ step M α A → HeaderIs 0 M α h
     → PutIs (step M α A) x area count r area′
 
--- One candidate by its number: past the last nothing changes.
-pub record TakesFrom (cs : List Candidate) (i x : ℕ) (area : List ℕ) (count : ℕ) (r : Taken) (area′ : List ℕ) : Type 0 where
-  pub past : length cs ≤ i → (r ≡ Past) × (area′ ≡ area)
-  pub there : i < length cs → (m : ℕ) × (r ≡ Now m) × PutIs (getD cs i blocked) x area count m area′
-
-unfoldable pub TakeIs : List ℕ → List ℕ → Bool → ℕ → ℕ → List ℕ → ℕ → Taken → List ℕ → Type 0
+-- One candidate by its number.
+unfoldable pub TakeIs : List ℕ → List ℕ → Bool → ℕ → ℕ → List ℕ → ℕ → ℕ → List ℕ → Type 0
 TakeIs question part silently i x area count r area′ =
-    (q : Question) (P : Term) → Lists question part x q P → TakesFrom (candidatesOf silently q P) i x area count r area′
+    (q : Question) (P : Term) → Lists question part x q P → i < length (candidatesOf silently q P)
+    → PutIs (getD (candidatesOf silently q P) i blocked) x area count r area′
 
 -- All of one kind.
 unfoldable pub GatherIs : List ℕ → List ℕ → Bool → ℕ → List ℕ → ℕ → ℕ → List ℕ → Type 0

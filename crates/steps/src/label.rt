@@ -1,29 +1,26 @@
 // The label of a term's candidate by its number: a recursive walk of the term's bytes beneath restriction, choice, parallel, match and call, in the
 // order of specs/Raw. A called body is walked in place, its parameters standing for the slots of the call's names.
 ghost use mathlib.Core.Path.{_≡_};
-ghost use mathlib.Core.Bool.{true, false};
 ghost use Prim.Native.Nat.{_+_, _≤_, _<_};
 ghost use lib.ListN.{length, getD};
-ghost use Rattle.terms.specs.Limits.{nameCount, greatestArity, longestTerm};
+ghost use Rattle.terms.specs.Limits.{nameCount, greatestArity};
+ghost use Rattle.steps.specs.LabelWalk.{slotAt, ArgumentsIs, prefixAction, PrefixLabelIs, Within, NthIs, MeetingIs};
 ghost use Rattle.steps.specs.Slots.{slotCount};
-ghost use Rattle.steps.specs.LabelWalk.{slotAt, ArgumentsIs, prefixAction, isPast, endingWith, Within, NthIs, MeetingsIs, PartLabelIs};
+ghost use Rattle.steps.specs.Tally.{TallyIs};
 use crate::action::Action;
 use crate::action::Label;
-use crate::action::Status;
-use crate::bodies::arities_of;
 use crate::bodies::body_of;
-use crate::bodies::end_of;
-use crate::count::LONGEST;
-use crate::count::count_visible;
-use crate::pass::counts;
+use crate::bodies::call_at;
 use crate::rules::communication;
 use crate::rules::matching;
 use crate::rules::restricted;
+use crate::tally::end_at;
+use crate::tally::number_at;
+use crate::tally::tally;
+use crate::tally::visible_at;
 use terms::bytes::get;
+use terms::limits::GREATEST_ARITY;
 use terms::limits::NAME_COUNT;
-
-// The most parameters of a definition.
-pub const MOST_PARAMETERS: usize = 8;
 
 // The slot of the name byte `b` beneath `inner` restrictions of the bytes at hand, `depth` in all.
 fn slot(b: u8, args: &[u8], inner: usize, depth: usize) -> u8
@@ -48,11 +45,11 @@ fn arguments(
     args: &[u8],
     inner: usize,
     depth: usize,
-) -> [u8; MOST_PARAMETERS]
+) -> [u8; GREATEST_ARITY]
     requires { ⌜ (at + count ≤ length (now src)) × (count ≤ greatestArity) × (inner ≤ depth) × (nameCount + depth ≤ slotCount) ⌝ }
     ensures { λ r. ⌜ ArgumentsIs (now (src .entry)) at count (now (args .entry)) inner depth r ⌝ }
 {
-    let mut slots = [0u8; MOST_PARAMETERS];
+    let mut slots = [0u8; GREATEST_ARITY];
     let mut j = 0;
     while j < count {
         let v = slot(src[at + (count - 1 - j)], args, inner, depth);
@@ -78,58 +75,15 @@ fn prefix_action(t: usize, a: u8, b: u8) -> Action
     Action::NewOutput(a)
 }
 
-// Inaction and the prefixes, which have one step.
-fn nth_prefix(
-    question: &[u8],
-    src: &[u8],
-    at: usize,
-    i: usize,
-    silent: bool,
-    args: &[u8],
-    inner: usize,
-    depth: usize,
-    calls: usize,
-) -> Label
-    requires { ⌜ (at < length (now src)) × (getD (now src) at 0 < 5) × Within (now src) at inner depth calls ⌝ }
-    ensures { λ r. ⌜ NthIs (now (question .entry)) (now (src .entry)) at i silent (now (args .entry)) inner depth calls r ⌝ }
+// The one step of the prefix at `at`.
+fn nth_prefix(src: &[u8], at: usize, args: &[u8], inner: usize, depth: usize) -> Label
+    requires { ⌜ (at < length (now src)) × (inner ≤ depth) × (nameCount + depth ≤ slotCount) ⌝ }
+    ensures { λ r. ⌜ PrefixLabelIs (now (src .entry)) at (now (args .entry)) inner depth r ⌝ }
 {
     let t = get(src, at) as usize;
-    if !counts(t, silent) {
-        return Label::past(i, end_of(src, at, arities_of(question)));
-    }
-    if 0 < i {
-        return Label::past(i - 1, end_of(src, at, arities_of(question)));
-    }
     let a = slot(get(src, at + 1), args, inner, depth);
     let b = slot(get(src, at + 2), args, inner, depth);
     Label::found(prefix_action(t, a, b))
-}
-
-// Whether the number was past the list.
-fn is_past(status: Status) -> bool
-    ensures { λ r. ⌜ r ≡ isPast status ⌝ }
-{
-    match status {
-        Status::Past => true,
-        Status::Blocked => false,
-        Status::Found => false,
-    }
-}
-
-// The same for a term that ends at `end`.
-fn ending(label: Label, end: usize) -> Label
-    ensures { λ r. ⌜ r ≡ endingWith end label ⌝ }
-{
-    let status = label.status;
-    let condition = label.condition;
-    let action = label.action;
-    Label {
-        status,
-        rest: label.rest,
-        end,
-        condition,
-        action,
-    }
 }
 
 // The communications of the two sides of the parallel at `at`: their numbers are those of the left side's visible candidates times the number
@@ -137,26 +91,26 @@ fn ending(label: Label, end: usize) -> Label
 fn nth_meeting(
     question: &[u8],
     src: &[u8],
+    tally: &[usize],
     at: usize,
     middle: usize,
-    end: usize,
     i: usize,
     args: &[u8],
     inner: usize,
     depth: usize,
     calls: usize,
 ) -> Label
-    requires { ⌜ (at < length (now src)) × (at < middle) × Within (now src) at inner depth calls ⌝ }
-    ensures { λ r. ⌜ MeetingsIs (now (question .entry)) (now (src .entry)) at middle end i (now (args .entry)) inner depth calls r ⌝ }
+    requires { ⌜ (at < length (now src)) × (at < middle) × Within (now src) at inner depth calls × TallyIs (now question) (now src) calls (now tally) ⌝ }
+    ensures { λ r. ⌜ MeetingIs (now (question .entry)) (now (src .entry)) at middle i (now (args .entry)) inner depth calls r ⌝ }
 {
-    let c = count_visible(question, src, middle, calls);
-    let n = c.number;
+    let n = visible_at(tally, middle);
     if n == 0 {
-        return Label::past(i, end);
+        return Label::blocked();
     }
     let p = nth(
         question,
         src,
+        tally,
         at + 1,
         i / n,
         false,
@@ -165,14 +119,10 @@ fn nth_meeting(
         depth,
         calls,
     );
-    let here = p.status;
-    if is_past(here) {
-        let rest = p.rest;
-        return Label::past(rest * n + i % n, end);
-    }
     let q = nth(
         question,
         src,
+        tally,
         middle,
         i % n,
         false,
@@ -188,6 +138,7 @@ fn nth_meeting(
 fn nth_either(
     question: &[u8],
     src: &[u8],
+    tally: &[usize],
     at: usize,
     i: usize,
     silent: bool,
@@ -196,46 +147,51 @@ fn nth_either(
     depth: usize,
     calls: usize,
 ) -> Label
-    requires { ⌜ (at < length (now src)) × (5 < getD (now src) at 0) × (getD (now src) at 0 < 8) × Within (now src) at inner depth calls ⌝ }
+    requires { ⌜ (at < length (now src)) × (5 < getD (now src) at 0) × (getD (now src) at 0 < 8) × Within (now src) at inner depth calls × TallyIs (now question) (now src) calls (now tally) ⌝ }
     ensures { λ r. ⌜ NthIs (now (question .entry)) (now (src .entry)) at i silent (now (args .entry)) inner depth calls r ⌝ }
 {
-    let p = nth(question, src, at + 1, i, silent, args, inner, depth, calls);
-    let left = p.status;
-    if !is_past(left) {
-        return p;
+    let left = number_at(tally, at + 1, silent);
+    if i < left {
+        return nth(
+            question,
+            src,
+            tally,
+            at + 1,
+            i,
+            silent,
+            args,
+            inner,
+            depth,
+            calls,
+        );
     }
-    let middle = p.end;
+    let middle = end_at(tally, at + 1);
     if middle <= at {
-        return Label::past(i, at);
+        return Label::blocked();
     }
-    let q = nth(
-        question,
-        src,
-        middle,
-        p.rest,
-        silent,
-        args,
-        inner,
-        depth,
-        calls,
-    );
-    let right = q.status;
-    if !is_past(right) {
-        return q;
-    }
-    if !silent {
-        return q;
-    }
-    if src[at] == 6 {
-        return q;
+    let j = i - left;
+    let right = number_at(tally, middle, silent);
+    if j < right {
+        return nth(
+            question,
+            src,
+            tally,
+            middle,
+            j,
+            silent,
+            args,
+            inner,
+            depth,
+            calls,
+        );
     }
     nth_meeting(
         question,
         src,
+        tally,
         at,
         middle,
-        q.end,
-        q.rest,
+        j - right,
         args,
         inner,
         depth,
@@ -258,25 +214,28 @@ fn nth_call(
     requires { ⌜ (at < length (now src)) × (8 < getD (now src) at 0) × Within (now src) at inner depth calls ⌝ }
     ensures { λ r. ⌜ NthIs (now (question .entry)) (now (src .entry)) at i silent (now (args .entry)) inner depth calls r ⌝ }
 {
-    let k = get(src, at + 1) as usize;
-    let n = get(arities_of(question), k) as usize;
-    let end = at + 2 + n;
-    if calls == 0 {
-        return Label::past(i, end);
+    let o = call_at(question, src, at, calls);
+    if !o.allowed {
+        return Label::blocked();
     }
-    if MOST_PARAMETERS < n {
-        return Label::past(i, end);
+    if src.len() < o.end {
+        return Label::blocked();
     }
-    if src.len() < end {
-        return Label::past(i, end);
-    }
-    let body = body_of(question, k);
-    if LONGEST < body.len() {
-        return Label::past(i, end);
-    }
-    let given = arguments(src, at + 2, n, args, inner, depth);
-    let r = nth(question, body, 0, i, silent, &given, 0, depth, calls - 1);
-    ending(r, end)
+    let given = arguments(src, at + 2, o.arity, args, inner, depth);
+    let body = body_of(question, o.definition);
+    let within = tally(question, body, calls - 1);
+    nth(
+        question,
+        body,
+        &within,
+        0,
+        i,
+        silent,
+        &given,
+        0,
+        depth,
+        calls - 1,
+    )
 }
 
 // The i-th candidate, silent or visible, of the term at `at`, beneath `inner` restrictions of these bytes and `depth` in all; `args` has the slots of
@@ -284,6 +243,7 @@ fn nth_call(
 pub fn nth(
     question: &[u8],
     src: &[u8],
+    tally: &[usize],
     at: usize,
     i: usize,
     silent: bool,
@@ -292,15 +252,15 @@ pub fn nth(
     depth: usize,
     calls: usize,
 ) -> Label
-    requires { ⌜ Within (now src) at inner depth calls ⌝ }
+    requires { ⌜ Within (now src) at inner depth calls × TallyIs (now question) (now src) calls (now tally) ⌝ }
     ensures { λ r. ⌜ NthIs (now (question .entry)) (now (src .entry)) at i silent (now (args .entry)) inner depth calls r ⌝ }
 {
     if src.len() <= at {
-        return Label::past(i, at);
+        return Label::blocked();
     }
     let t = src[at];
     if t < 5 {
-        return nth_prefix(question, src, at, i, silent, args, inner, depth, calls);
+        return nth_prefix(src, at, args, inner, depth);
     }
     if 8 < t {
         return nth_call(question, src, at, i, silent, args, inner, depth, calls);
@@ -308,13 +268,25 @@ pub fn nth(
     if t == 5 {
         let a = slot(get(src, at + 1), args, inner, depth);
         let b = slot(get(src, at + 2), args, inner, depth);
-        let p = nth(question, src, at + 3, i, silent, args, inner, depth, calls);
+        let p = nth(
+            question,
+            src,
+            tally,
+            at + 3,
+            i,
+            silent,
+            args,
+            inner,
+            depth,
+            calls,
+        );
         return matching(p, a, b);
     }
     if t == 8 {
         let p = nth(
             question,
             src,
+            tally,
             at + 1,
             i,
             silent,
@@ -325,23 +297,16 @@ pub fn nth(
         );
         return restricted(p, depth);
     }
-    nth_either(question, src, at, i, silent, args, inner, depth, calls)
-}
-
-// The i-th visible candidate of a part. In a body every call is beneath a prefix (check 11), so that one call is opened.
-pub fn nth_visible(question: &[u8], part: &[u8], i: usize) -> Label
-    requires { ⌜ length (now part) ≤ longestTerm ⌝ }
-    ensures { λ r. ⌜ PartLabelIs (now (question .entry)) (now (part .entry)) i false r ⌝ }
-{
-    let none = [0u8; MOST_PARAMETERS];
-    nth(question, part, 0, i, false, &none, 0, 0, 1)
-}
-
-// The i-th silent one.
-pub fn nth_silent(question: &[u8], part: &[u8], i: usize) -> Label
-    requires { ⌜ length (now part) ≤ longestTerm ⌝ }
-    ensures { λ r. ⌜ PartLabelIs (now (question .entry)) (now (part .entry)) i true r ⌝ }
-{
-    let none = [0u8; MOST_PARAMETERS];
-    nth(question, part, 0, i, true, &none, 0, 0, 1)
+    nth_either(
+        question,
+        src,
+        tally,
+        at,
+        i,
+        silent,
+        args,
+        inner,
+        depth,
+        calls,
+    )
 }

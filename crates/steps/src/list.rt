@@ -2,34 +2,24 @@
 ghost use Prim.Native.Nat.{_*_, _≤_};
 ghost use lib.ListN.{length};
 ghost use Rattle.terms.specs.Limits.{nameCount, longestTerm};
-ghost use Rattle.steps.specs.LabelWalk.{PartLabelIs};
 ghost use Rattle.steps.specs.Limits.{stepBytes, mostSteps};
 ghost use Rattle.steps.specs.PartLister.{NamesAre, ResultIs, PutStepIs, TakeIs, GatherIs, ListPartIs};
+ghost use Rattle.steps.specs.Tally.{TallyIs};
 use crate::action::Label;
 use crate::action::Status;
-use crate::label::nth_silent;
-use crate::label::nth_visible;
-use crate::limits::MOST_CANDIDATES;
+use crate::label::nth;
 use crate::limits::MOST_STEPS;
 use crate::listed::insert;
 use crate::listed::step_entry;
 use crate::names::NAME_SLOTS;
 use crate::result::Task;
 use crate::result::write;
+use crate::tally::number_at;
+use crate::tally::tally;
 use terms::bytes::copy;
+use terms::limits::GREATEST_ARITY;
 use terms::limits::LONGEST_TERM;
 use terms::limits::NAME_COUNT;
-
-// The label of the candidate number `i`.
-fn label_of(question: &[u8], part: &[u8], silently: bool, i: usize) -> Label
-    requires { ⌜ length (now part) ≤ longestTerm ⌝ }
-    ensures { λ r. ⌜ PartLabelIs (now (question .entry)) (now (part .entry)) i silently r ⌝ }
-{
-    if silently {
-        return nth_silent(question, part, i);
-    }
-    nth_visible(question, part, i)
-}
 
 // What the names are written as in a result: each as its class, and the name received or extruded as `x`.
 fn result_names(class: &[u8], x: u8) -> [u8; NAME_SLOTS]
@@ -46,13 +36,14 @@ fn result_names(class: &[u8], x: u8) -> [u8; NAME_SLOTS]
 fn write_result(
     question: &[u8],
     part: &[u8],
+    tally: &[usize],
     silently: bool,
     i: usize,
     class: &[u8],
     x: u8,
     out: &mut [u8],
 ) -> usize
-    requires { ⌜ (length (now part) ≤ longestTerm) × (nameCount ≤ length (now class)) × (length (now out) ≤ longestTerm) ⌝ }
+    requires { ⌜ (length (now part) ≤ longestTerm) × (nameCount ≤ length (now class)) × (length (now out) ≤ longestTerm) × TallyIs (now question) (now part) 1 (now tally) ⌝ }
     ensures { λ r. ⌜ ResultIs (now (question .entry)) (now (part .entry)) silently i (now (class .entry)) x (now (out .entry)) r (now (out .exit)) ⌝ }
 {
     let task = Task {
@@ -70,6 +61,7 @@ fn write_result(
 fn put_step(
     question: &[u8],
     part: &[u8],
+    tally: &[usize],
     silently: bool,
     i: usize,
     header: Label,
@@ -77,13 +69,13 @@ fn put_step(
     area: &mut [u8],
     count: usize,
 ) -> usize
-    requires { ⌜ (count ≤ mostSteps) × (mostSteps * stepBytes ≤ length (now area)) × (length (now part) ≤ longestTerm) ⌝ }
+    requires { ⌜ (count ≤ mostSteps) × (mostSteps * stepBytes ≤ length (now area)) × (length (now part) ≤ longestTerm) × TallyIs (now question) (now part) 1 (now tally) ⌝ }
     ensures { λ r. ⌜ PutStepIs (now (question .entry)) (now (part .entry)) silently i header x (now (area .entry)) count r (now (area .exit)) ⌝ }
 {
     let condition = header.condition;
     let class = condition.class;
     let mut result = [0u8; LONGEST_TERM];
-    let n = write_result(question, part, silently, i, &class, x, &mut result);
+    let n = write_result(question, part, tally, silently, i, &class, x, &mut result);
     if LONGEST_TERM < n {
         return MOST_STEPS + 1;
     }
@@ -91,34 +83,27 @@ fn put_step(
     insert(area, count, &entry)
 }
 
-// What becomes of the list when a candidate's number is asked for: nothing, past the last, or the number of steps now.
-pub enum Taken {
-    Past,
-    Now(usize),
-}
-
-// Puts the candidate number `i` into the list.
+// Puts the candidate number `i` into the list. Answers how many steps there are then.
 fn take_candidate(
     question: &[u8],
     part: &[u8],
+    tally: &[usize],
     silently: bool,
     i: usize,
     x: u8,
     area: &mut [u8],
     count: usize,
-) -> Taken
-    requires { ⌜ (count ≤ mostSteps) × (mostSteps * stepBytes ≤ length (now area)) × (length (now part) ≤ longestTerm) ⌝ }
+) -> usize
+    requires { ⌜ (count ≤ mostSteps) × (mostSteps * stepBytes ≤ length (now area)) × (length (now part) ≤ longestTerm) × TallyIs (now question) (now part) 1 (now tally) ⌝ }
     ensures { λ r. ⌜ TakeIs (now (question .entry)) (now (part .entry)) silently i x (now (area .entry)) count r (now (area .exit)) ⌝ }
 {
-    let label = label_of(question, part, silently, i);
+    // In a body every call is beneath a prefix (check 11), so that one call is opened.
+    let none = [0u8; GREATEST_ARITY];
+    let label = nth(question, part, tally, 0, i, silently, &none, 0, 0, 1);
     let status = label.status;
     match status {
-        Status::Past => Taken::Past,
-        Status::Blocked => Taken::Now(count),
-        Status::Found => {
-            let n = put_step(question, part, silently, i, label, x, area, count);
-            Taken::Now(n)
-        }
+        Status::Blocked => count,
+        Status::Found => put_step(question, part, tally, silently, i, label, x, area, count),
     }
 }
 
@@ -126,21 +111,20 @@ fn take_candidate(
 fn gather(
     question: &[u8],
     part: &[u8],
+    tally: &[usize],
     silently: bool,
     x: u8,
     area: &mut [u8],
     count: usize,
 ) -> usize
-    requires { ⌜ (count ≤ mostSteps) × (mostSteps * stepBytes ≤ length (now area)) × (length (now part) ≤ longestTerm) ⌝ }
+    requires { ⌜ (count ≤ mostSteps) × (mostSteps * stepBytes ≤ length (now area)) × (length (now part) ≤ longestTerm) × TallyIs (now question) (now part) 1 (now tally) ⌝ }
     ensures { λ r. ⌜ GatherIs (now (question .entry)) (now (part .entry)) silently x (now (area .entry)) count r (now (area .exit)) ⌝ }
 {
+    let number = number_at(tally, 0, silently);
     let mut n = count;
     let mut i = 0;
-    while i < MOST_CANDIDATES {
-        let taken = take_candidate(question, part, silently, i, x, area, n);
-        let Taken::Now(m) = taken else {
-            return n;
-        };
+    while i < number {
+        let m = take_candidate(question, part, tally, silently, i, x, area, n);
         if MOST_STEPS < m {
             return m;
         }
@@ -161,11 +145,12 @@ pub fn list_part(question: &[u8], part: &[u8], x: u8, area: &mut [u8]) -> ListAn
     requires { ⌜ (mostSteps * stepBytes ≤ length (now area)) × (length (now part) ≤ longestTerm) ⌝ }
     ensures { λ r. ⌜ ListPartIs (now (question .entry)) (now (part .entry)) x (now (area .entry)) r (now (area .exit)) ⌝ }
 {
-    let visible = gather(question, part, false, x, area, 0);
+    let numbers = tally(question, part, 1);
+    let visible = gather(question, part, &numbers, false, x, area, 0);
     if MOST_STEPS < visible {
         return ListAnswer::Unsettled;
     }
-    let all = gather(question, part, true, x, area, visible);
+    let all = gather(question, part, &numbers, true, x, area, visible);
     if MOST_STEPS < all {
         return ListAnswer::Unsettled;
     }

@@ -15,15 +15,12 @@ pub fn matching(label: Label, a: u8, b: u8) -> Label
 {
     let status = label.status;
     match status {
-        Status::Past => label,
         Status::Blocked => label,
         Status::Found => {
             let condition = label.condition;
             let action = label.action;
             Label {
                 status: Status::Found,
-                rest: label.rest,
-                end: label.end,
                 condition: condition.merge(a, b),
                 action,
             }
@@ -54,8 +51,6 @@ fn outside(label: Label, level: usize) -> Label
             if b == name {
                 return Label {
                     status: Status::Found,
-                    rest: label.rest,
-                    end: label.end,
                     condition,
                     action: Action::NewOutput(a),
                 };
@@ -72,7 +67,6 @@ pub fn restricted(label: Label, level: usize) -> Label
 {
     let status = label.status;
     match status {
-        Status::Past => label,
         Status::Blocked => label,
         Status::Found => outside(label, level),
     }
@@ -127,8 +121,6 @@ fn met(p: Label, q: Label) -> Label
             let joined = left.both(right);
             Label {
                 status: Status::Found,
-                rest: 0,
-                end: 0,
                 condition: joined.merge(a, b),
                 action: Action::Silent,
             }
@@ -143,10 +135,8 @@ pub fn communication(p: Label, q: Label) -> Label
     let left = p.status;
     let right = q.status;
     match left {
-        Status::Past => Label::blocked(),
         Status::Blocked => Label::blocked(),
         Status::Found => match right {
-            Status::Past => Label::blocked(),
             Status::Blocked => Label::blocked(),
             Status::Found => met(p, q),
         },

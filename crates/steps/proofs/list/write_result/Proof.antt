@@ -14,7 +14,7 @@ same-length : tie.Need-same-length
 same-length c = search needs
 
 returns : tie.Need-returns
-returns c = result-written (c .before .before .before .before .before .before .before .before .before .args .question .now) (c .before .before .before .before .before .before .before .before .before .args .part .now) (c .before .before .before .before .before .before .before .before .before .args .silently) (c .before .before .before .before .before .before .before .before .before .args .i) (c .before .before .before .before .before .before .before .before .before .args .class .now) (c .before .before .before .before .before .before .before .before .before .args .x) (c .before .before .before .before .result-names .result) (c .before .before .before .before .result-names .ensures) (c .before .before .before .before .before .before .before .before .before .args .out .now) (c .before .before .write .result) _ (c .before .before .write .ensures)
+returns c = result-written (c .before .before .before .before .before .before .before .before .before .before .args .question .now) (c .before .before .before .before .before .before .before .before .before .before .args .part .now) (c .before .before .before .before .before .before .before .before .before .before .args .silently) (c .before .before .before .before .before .before .before .before .before .before .args .i) (c .before .before .before .before .before .before .before .before .before .before .args .class .now) (c .before .before .before .before .before .before .before .before .before .before .args .x) (c .before .before .before .before .result-names .result) (c .before .before .before .before .result-names .ensures) (c .before .before .before .before .before .before .before .before .before .before .args .out .now) (c .before .before .write .result) _ (c .before .before .write .ensures)
 
 pub write-result-spec : {M : Type 1} → statement M
 write-result-spec = tie.close (tie.spec result-names-requires write-requires same-length returns)

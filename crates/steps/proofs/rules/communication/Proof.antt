@@ -1,5 +1,5 @@
 -- `steps::rules::communication` meets its contract. Assumes nothing.
-use Rattle.steps.proofs.LabelRules.{communication-past-left, communication-left, communication-past-right, communication-right, communication-found}
+use Rattle.steps.proofs.LabelRules.{communication-left, communication-right, communication-found}
 use borrow.Author.Needs.{needs}
 use Rattle.steps.proofs.rules.communication.Statement.{statement}
 use Rattle.steps.proofs.rules.communication.Tie as tie
@@ -13,44 +13,26 @@ blocked-requires c κs = search needs
 enum-told-2 : tie.Need-enum-told-2
 enum-told-2 c = search needs
 
-blocked-requires-2 : tie.Need-blocked-requires-2
-blocked-requires-2 c κs = search needs
-
 enum-told-3 : tie.Need-enum-told-3
 enum-told-3 c = search needs
 
+blocked-requires-2 : tie.Need-blocked-requires-2
+blocked-requires-2 c κs = search needs
+
 enum-told-4 : tie.Need-enum-told-4
 enum-told-4 c = search needs
-
-blocked-requires-3 : tie.Need-blocked-requires-3
-blocked-requires-3 c κs = search needs
-
-enum-told-5 : tie.Need-enum-told-5
-enum-told-5 c = search needs
-
-blocked-requires-4 : tie.Need-blocked-requires-4
-blocked-requires-4 c κs = search needs
-
-enum-told-6 : tie.Need-enum-told-6
-enum-told-6 c = search needs
 
 met-requires : tie.Need-met-requires
 met-requires c κs = search needs
 
 returns : tie.Need-returns
-returns c = communication-past-left (c .before .before .before .args .p) (c .before .before .before .args .q) _ (c .blocked .ensures) (c .before .enum-told .given .1)
+returns c = communication-left (c .before .before .before .args .p) (c .before .before .before .args .q) _ (c .blocked .ensures) (c .before .enum-told .given .1)
 
 returns-2 : tie.Need-returns-2
-returns-2 c = communication-left (c .before .before .before .args .p) (c .before .before .before .args .q) _ (c .blocked2 .ensures) (c .before .enum-told2 .given .1)
+returns-2 c = communication-right (c .before .before .before .before .before .args .p) (c .before .before .before .before .before .args .q) _ (c .blocked2 .ensures) (c .before .enum-told3 .given .1)
 
 returns-3 : tie.Need-returns-3
-returns-3 c = communication-past-right (c .before .before .before .before .before .args .p) (c .before .before .before .before .before .args .q) _ (c .blocked3 .ensures) (c .before .enum-told4 .given .1)
-
-returns-4 : tie.Need-returns-4
-returns-4 c = communication-right (c .before .before .before .before .before .args .p) (c .before .before .before .before .before .args .q) _ (c .blocked4 .ensures) (c .before .enum-told5 .given .1)
-
-returns-5 : tie.Need-returns-5
-returns-5 c = communication-found (c .before .before .before .before .before .args .p) (c .before .before .before .before .before .args .q) _ (c .before .before .before .enum-told3 .given .1) (c .before .enum-told6 .given .1) (c .met .ensures)
+returns-3 c = communication-found (c .before .before .before .before .before .args .p) (c .before .before .before .before .before .args .q) _ (c .before .before .before .enum-told2 .given .1) (c .before .enum-told4 .given .1) (c .met .ensures)
 
 pub communication-spec : {M : Type 1} → statement M
 communication-spec =
@@ -59,16 +41,10 @@ communication-spec =
     enum-told
     blocked-requires
     enum-told-2
-    blocked-requires-2
     enum-told-3
+    blocked-requires-2
     enum-told-4
-    blocked-requires-3
-    enum-told-5
-    blocked-requires-4
-    enum-told-6
     met-requires
     returns
     returns-2
-    returns-3
-    returns-4
-    returns-5)
+    returns-3)

@@ -1,6 +1,6 @@
 -- `steps::rules::matching` meets its contract. Assumes nothing.
 use mathlib.Core.Path.{refl}
-use Rattle.steps.proofs.LabelRules.{matching-past, matching-blocked, matching-found}
+use Rattle.steps.proofs.LabelRules.{matching-blocked, matching-found}
 use borrow.Author.Needs.{needs}
 use Rattle.steps.proofs.rules.matching.Statement.{statement}
 use Rattle.steps.proofs.rules.matching.Tie as tie
@@ -11,22 +11,14 @@ enum-told c = search needs
 enum-told-2 : tie.Need-enum-told-2
 enum-told-2 c = search needs
 
-enum-told-3 : tie.Need-enum-told-3
-enum-told-3 c = search needs
-
 merge-requires : tie.Need-merge-requires
 merge-requires c κs = search needs
 
 returns : tie.Need-returns
-returns c = matching-past (c .before .before .args .label) (c .before .before .args .a) (c .before .before .args .b) (c .enum-told .given .1)
+returns c = matching-blocked (c .before .before .args .label) (c .before .before .args .a) (c .before .before .args .b) (c .enum-told .given .1)
 
 returns-2 : tie.Need-returns-2
-returns-2 c = matching-blocked (c .before .before .args .label) (c .before .before .args .a) (c .before .before .args .b) (c .enum-told2 .given .1)
-
-returns-3 : tie.Need-returns-3
-returns-3 c = matching-found (c .before .before .before .before .args .label) (c .before .before .before .before .args .a) (c .before .before .before .before .args .b) _ (c .before .before .enum-told3 .given .1) refl refl refl (c .merge .ensures)
+returns-2 c = matching-found (c .before .before .before .before .args .label) (c .before .before .before .before .args .a) (c .before .before .before .before .args .b) _ (c .before .before .enum-told2 .given .1) refl refl (c .merge .ensures)
 
 pub matching-spec : {M : Type 1} → statement M
-matching-spec =
-    tie.close
-    (tie.spec enum-told enum-told-2 enum-told-3 merge-requires returns returns-2 returns-3)
+matching-spec = tie.close (tie.spec enum-told enum-told-2 merge-requires returns returns-2)

@@ -27,7 +27,7 @@ returns : tie.Need-returns
 returns c = met-apart (c .before .before .before .before .args .p) (c .before .before .before .before .args .q) _ (c .blocked .ensures) (sym (c .before .before .before .meeting-of .ensures) ∙ c .before .enum-told .given .1)
 
 returns-2 : tie.Need-returns-2
-returns-2 c = met-together (c .before .before .before .before .before .before .before .before .args .p) (c .before .before .before .before .before .before .before .before .args .q) _ (c .before .both .result .class) (c .before .before .before .before .before .m .given .0 .0) (c .before .before .before .before .before .m .given .0 .1 .0) refl refl refl (c .before .both .ensures) (c .merge .ensures) (sym (c .before .before .before .before .before .before .before .meeting-of .ensures) ∙ c .before .before .before .before .before .m .given .1)
+returns-2 c = met-together (c .before .before .before .before .before .before .before .before .args .p) (c .before .before .before .before .before .before .before .before .args .q) _ (c .before .both .result .class) (c .before .before .before .before .before .m .given .0 .0) (c .before .before .before .before .before .m .given .0 .1 .0) refl refl (c .before .both .ensures) (c .merge .ensures) (sym (c .before .before .before .before .before .before .before .meeting-of .ensures) ∙ c .before .before .before .before .before .m .given .1)
 
 pub met-spec : {M : Type 1} → statement M
 met-spec =

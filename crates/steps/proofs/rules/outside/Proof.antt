@@ -46,7 +46,7 @@ returns-2 : tie.Need-returns-2
 returns-2 c = outside-blocks (c .before .before .before .before .before .before .before .before .args .label) (c .before .before .before .before .before .before .before .before .args .level) _ (c .before .before .before .before .before .before .spares .ensures) _ (not-false (c .before .before .before .before .before .before .spares .result) (c .before .before .before .before .before .if1 .left)) (c .blocked4 .ensures) (subst (On _) (sym (c .before .before .before .action3 .given .1)) (c .before .if4 .taken))
 
 returns-3 : tie.Need-returns-3
-returns-3 c = outside-opens (c .before .before .before .before .before .before .before .before .args .label) (c .before .before .before .before .before .before .before .before .args .level) _ (c .before .before .before .before .before .before .spares .ensures) _ (not-false (c .before .before .before .before .before .before .spares .result) (c .before .before .before .before .before .if1 .left)) refl refl refl (c .before .before .before .action3 .given .0 .0) (c .before .before .before .action3 .given .0 .1 .0) (c .before .before .before .action3 .given .1) refl (c .before .if4 .left) (c .if5 .taken)
+returns-3 c = outside-opens (c .before .before .before .before .before .before .before .before .args .label) (c .before .before .before .before .before .before .before .before .args .level) _ (c .before .before .before .before .before .before .spares .ensures) _ (not-false (c .before .before .before .before .before .before .spares .result) (c .before .before .before .before .before .if1 .left)) refl refl (c .before .before .before .action3 .given .0 .0) (c .before .before .before .action3 .given .0 .1 .0) (c .before .before .before .action3 .given .1) refl (c .before .if4 .left) (c .if5 .taken)
 
 returns-4 : tie.Need-returns-4
 returns-4 c = outside-keeps (c .before .before .before .before .before .args .label) (c .before .before .before .before .before .args .level) _ (c .before .before .before .spares .ensures) (not-false (c .before .before .before .spares .result) (c .before .before .if1 .left)) (subst (Avoids _) (sym (c .enum-told .given .1)) tt)

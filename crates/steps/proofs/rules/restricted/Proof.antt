@@ -1,5 +1,5 @@
 -- `steps::rules::restricted` meets its contract. Assumes nothing.
-use Rattle.steps.proofs.LabelRules.{restricted-past, restricted-blocked, restricted-found}
+use Rattle.steps.proofs.LabelRules.{restricted-blocked, restricted-found}
 use borrow.Author.Needs.{needs}
 use Rattle.steps.proofs.rules.restricted.Statement.{statement}
 use Rattle.steps.proofs.rules.restricted.Tie as tie
@@ -10,22 +10,14 @@ enum-told c = search needs
 enum-told-2 : tie.Need-enum-told-2
 enum-told-2 c = search needs
 
-enum-told-3 : tie.Need-enum-told-3
-enum-told-3 c = search needs
-
 outside-requires : tie.Need-outside-requires
 outside-requires c κs = search needs
 
 returns : tie.Need-returns
-returns c = restricted-past (c .before .before .args .label) (c .before .before .args .level) (c .enum-told .given .1)
+returns c = restricted-blocked (c .before .before .args .label) (c .before .before .args .level) (c .enum-told .given .1)
 
 returns-2 : tie.Need-returns-2
-returns-2 c = restricted-blocked (c .before .before .args .label) (c .before .before .args .level) (c .enum-told2 .given .1)
-
-returns-3 : tie.Need-returns-3
-returns-3 c = restricted-found (c .before .before .before .args .label) (c .before .before .before .args .level) _ (c .before .enum-told3 .given .1) (c .outside .ensures)
+returns-2 c = restricted-found (c .before .before .before .args .label) (c .before .before .before .args .level) _ (c .before .enum-told2 .given .1) (c .outside .ensures)
 
 pub restricted-spec : {M : Type 1} → statement M
-restricted-spec =
-    tie.close
-    (tie.spec enum-told enum-told-2 enum-told-3 outside-requires returns returns-2 returns-3)
+restricted-spec = tie.close (tie.spec enum-told enum-told-2 outside-requires returns returns-2)
