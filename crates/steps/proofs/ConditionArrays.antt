@@ -87,6 +87,10 @@ pub joined-more : (c o r r′ : List ℕ) (i : ℕ) → Joined c o r i → Merge
 unfolding Joined MergedIs entries
 joined-more c o r r′ i J m M H = rw add-one (m (entries o i ++ M) (J M H))
 
+-- a slot that is its own class matches nothing
+pub joined-same : (c o r : List ℕ) (i : ℕ) → getD o i 0 ≡ i → Joined c o r i → Joined c o r (i + 1)
+joined-same c o r i e J = joined-more c o r r i J (merged-trivial r i (getD o i 0) (sym e))
+
 pub joined-all : (c o r : List ℕ) → Joined c o r slotCount → BothIs c o r
 unfolding Joined BothIs HasSlotClasses
 joined-all c o r h M N H K b s hs = h M H s hs ∙ ap (λ f. f s) (entries-~ o N K M b)

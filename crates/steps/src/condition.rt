@@ -47,6 +47,7 @@ impl Condition {
         }
         Condition { class }
     }
+
     // The composition of two conditions.
     pub fn both(self, other: Condition) -> Self
         ensures { λ r. ⌜ BothIs (self .class) (other .class) (r .class) ⌝ }
@@ -55,7 +56,11 @@ impl Condition {
         let mut c = self;
         let mut i = 0;
         while i < Condition::SLOTS {
-            c = c.merge(i as u8, o[i]);
+            // a slot that is its own class matches nothing
+            let v = o[i];
+            if v as usize != i {
+                c = c.merge(i as u8, v);
+            }
             i += 1;
         }
         c
