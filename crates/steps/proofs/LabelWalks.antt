@@ -28,7 +28,7 @@ use Rattle.steps.specs.declared.bodies.Opening.{Opening}
 use Rattle.steps.proofs.ArgumentSlots.{slots-lift, slot-read, slots-call}
 use Rattle.steps.proofs.CallLaws.{params, at-call, body-scope}
 use Rattle.steps.proofs.CandidateForms.{candidates-mat, candidates-res, candidates-call, candidates-no-call, meetings, tag, tag-at, only-mat, only-res, only-two, only-prefix}
-use Rattle.steps.proofs.CountLaws.{stands, behind}
+use Rattle.steps.proofs.FrontLaws.{stands, behind}
 use Rattle.steps.proofs.LabelNumbers.{left-label, right-label, label-met}
 use Rattle.steps.proofs.Numbering.{nth-matching, nth-restricted, length-communications}
 use Rattle.steps.proofs.TwoSides.{Sides, sides-sum, sides-par, at-left, at-right}

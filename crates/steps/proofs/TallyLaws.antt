@@ -15,14 +15,14 @@ use Rattle.terms.specs.Encoding.{nameByte, encode, InScope}
 use Rattle.terms.specs.Limits.{longestTerm}
 use Rattle.terms.specs.Shape.{frontBytes, fixedBytes, ownNames}
 use Rattle.terms.proofs.Stores.{getD-front}
-use Rattle.steps.specs.Counting.{TermFrontIs}
+use Rattle.steps.specs.Fronts.{TermFrontIs}
 use Rattle.steps.specs.Passing.{candidates}
 use Rattle.steps.specs.Raw.{matching, leftSteps, rightSteps, restricted, visible, silent, visibleOf, silentOf}
 use Rattle.steps.specs.Tallying.{visibleCall, silentCall, Few, FewCalls, CallsAre, EntryIs, nothingAt, entryAt, talliedEntry, prefixEntry, callEntry, choiceEntry, parallelEntry, Small, Filled}
-use Rattle.steps.specs.declared.count.TermFront.{TermFront}
+use Rattle.steps.specs.declared.front.TermFront.{TermFront}
 use Rattle.steps.specs.declared.tally.Entry.{Entry}
 use Rattle.steps.proofs.CandidateForms.{candidates-mat, candidates-res, candidates-sum, candidates-par, meetings, tag, tag-at, only-prefix, only-call, only-sum, only-par}
-use Rattle.steps.proofs.CountLaws.{stands, behind}
+use Rattle.steps.proofs.FrontLaws.{stands, behind}
 use Rattle.steps.proofs.Numbering.{length-communications}
 
 -- Two squares and a product are within the square of the sum.

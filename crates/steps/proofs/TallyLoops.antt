@@ -25,7 +25,7 @@ use Rattle.steps.specs.Tallying.{visibleCall, silentCall, Few, FewCalls,
 use Rattle.steps.specs.declared.tally.Entry.{Entry}
 use Rattle.steps.proofs.CallLaws.{body-scope, body-size}
 use Rattle.steps.proofs.CandidateForms.{candidates-call, candidates-no-call}
-use Rattle.steps.proofs.CountLaws.{stands}
+use Rattle.steps.proofs.FrontLaws.{stands}
 
 -- A tally has three numbers for each place.
 abbrev pub tallySize : ℕ

@@ -2,10 +2,10 @@ pub mod Answering
 pub mod Bodies
 pub mod Collecting
 pub mod Conditions
-pub mod Counting
 pub mod Derived
 pub mod Entries
 pub mod EntryBytes
+pub mod Fronts
 pub mod Labels
 pub mod LabelWalk
 pub mod Limits

@@ -9,6 +9,6 @@ mostSteps = 256
 abbrev pub stepBytes : ℕ
 stepBytes = 132
 
--- No part has more candidates of one kind (proofs/CandidateCount).
+-- A part has no more candidates of one kind: 112 for each of its bytes, and the square of that.
 abbrev pub mostCandidates : ℕ
 mostCandidates = 157351936

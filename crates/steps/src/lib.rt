@@ -2,7 +2,7 @@
 pub mod action;
 pub mod bodies;
 pub mod condition;
-pub mod count;
+pub mod front;
 pub mod label;
 pub mod limits;
 pub mod list;

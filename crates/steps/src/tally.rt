@@ -7,7 +7,7 @@ ghost use Rattle.steps.specs.Tally.{visibleAt, silentAt, endAt, TallyIs}
 ghost use Rattle.steps.specs.Tallying.{numberAt, FewCalls, EntryIs, talliedEntry, prefixEntry, callEntry, choiceEntry, parallelEntry, Small, Filled, BodyEntryIs, CallNumbersAre};
 use crate::bodies::arities_of;
 use crate::bodies::body_of;
-use crate::count::front_at;
+use crate::front::front_at;
 use terms::bytes::get;
 use terms::limits::LONGEST_TERM;
 use terms::limits::MOST_DEFINITIONS;

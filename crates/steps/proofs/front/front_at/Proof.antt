@@ -1,10 +1,10 @@
--- `steps::count::front_at` meets its contract. Assumes nothing.
+-- `steps::front::front_at` meets its contract. Assumes nothing.
 use mathlib.Core.Path.{refl, sym, _∙_}
 use borrow.Author.Tests.{leb-true, leb-false, not-true, not-false}
-use Rattle.steps.proofs.CountLaws.{front-past, front-short, front-there}
+use Rattle.steps.proofs.FrontLaws.{front-past, front-short, front-there}
 use borrow.Author.Needs.{needs}
-use Rattle.steps.proofs.count.front_at.Statement.{statement}
-use Rattle.steps.proofs.count.front_at.Tie as tie
+use Rattle.steps.proofs.front.front_at.Statement.{statement}
+use Rattle.steps.proofs.front.front_at.Tie as tie
 
 returns : tie.Need-returns
 returns c = front-past (c .before .before .before .args .src .now) (c .before .before .before .args .at) (c .before .before .before .args .arities .now) _ (c .if1 .taken) refl refl
