@@ -192,18 +192,50 @@ module _ (question s : List ℕ) (at i : ℕ) (t : Bool) (args : List ℕ) (inne
     abbrev rights : ℕ
     rights = numberAt numbers middle t
 
-    -- what is known of the sides, where ms are their communications and cs the candidates of the whole
-    record Both (q : Question) (free D : ℕ) (σ : ℕ → ℕ) (P Q : Term) (rest : List ℕ) (cs : List Candidate) : Type 0 where
+    abbrev coms : Question → (ℕ → ℕ) → Term → Term → List Candidate
+    coms q σ P Q = communications (visible (bodyOf (q .bodies)) calls (ren σ P)) (visible (bodyOf (q .bodies)) calls (ren σ Q))
+
+    -- what the candidates cs of the form are made of
+    record Formed (q : Question) (σ : ℕ → ℕ) (P Q : Term) (cs : List Candidate) : Type 0 where
       fst : Candidate → Candidate
       snd : Candidate → Candidate
       more : List Candidate
       sides : Sides fst snd cs (candidates t (bodyOf (q .bodies)) calls (ren σ P)) (candidates t (bodyOf (q .bodies)) calls (ren σ Q)) more
       keeps-fst : (r : Label) (c : Candidate) → Labels depth c r → Labels depth (fst c) r
       keeps-snd : (r : Label) (c : Candidate) → Labels depth c r → Labels depth (snd c) r
-      meets : (r : Label) (j : ℕ)
-          → (j < length (communications (visible (bodyOf (q .bodies)) calls (ren σ P)) (visible (bodyOf (q .bodies)) calls (ren σ Q)))
-          → Labels depth (getD (communications (visible (bodyOf (q .bodies)) calls (ren σ P)) (visible (bodyOf (q .bodies)) calls (ren σ Q))) j blocked) r)
-          → j < length more → Labels depth (getD more j blocked) r
+      meets : (r : Label) (j : ℕ) → (j < length (coms q σ P Q) → Labels depth (getD (coms q σ P Q) j blocked) r) → j < length more → Labels depth (getD more j blocked) r
+
+    formed-sum : (q : Question) (σ : ℕ → ℕ) (P Q : Term) → Formed q σ P Q (candidates t (bodyOf (q .bodies)) calls (sum (ren σ P) (ren σ Q)))
+    formed-sum q σ P Q = record {
+      fst = λ c. c;
+      snd = λ c. c;
+      more = [];
+      sides = sides-sum (bodyOf (q .bodies)) t calls (ren σ P) (ren σ Q);
+      keeps-fst = λ r c h. h;
+      keeps-snd = λ r c h. h;
+      meets = λ r j f h. absurd (omega arith);
+    }
+
+    formed-par : (q : Question) (σ : ℕ → ℕ) (P Q : Term) → Formed q σ P Q (candidates t (bodyOf (q .bodies)) calls (par (ren σ P) (ren σ Q)))
+    unfolding candidates
+    formed-par q σ P Q = record {
+      fst = leftSteps (ren σ Q);
+      snd = rightSteps (ren σ P);
+      more = meetings (bodyOf (q .bodies)) t calls (ren σ P) (ren σ Q);
+      sides = sides-par (bodyOf (q .bodies)) t calls (ren σ P) (ren σ Q);
+      keeps-fst = λ r. left-label depth r (ren σ Q);
+      keeps-snd = λ r. right-label depth r (ren σ P);
+      meets = go t;
+    }
+      where
+        go : (u : Bool) (r : Label) (j : ℕ) → (j < length (coms q σ P Q) → Labels depth (getD (coms q σ P Q) j blocked) r)
+            → j < length (meetings (bodyOf (q .bodies)) u calls (ren σ P) (ren σ Q))
+            → Labels depth (getD (meetings (bodyOf (q .bodies)) u calls (ren σ P) (ren σ Q)) j blocked) r
+        go true r j f h = f h
+        go false r j f h = absurd (omega arith)
+
+    -- where the sides stand, and their numbers
+    record Placed (q : Question) (free D : ℕ) (σ : ℕ → ℕ) (P Q : Term) (rest : List ℕ) : Type 0 where
       scope-fst : InScope free (q .arities) D P
       scope-snd : InScope free (q .arities) D Q
       at-fst : drop (at + 1) s ≡ encode D P ++ (encode D Q ++ rest)
@@ -212,99 +244,66 @@ module _ (question s : List ℕ) (at i : ℕ) (t : Bool) (args : List ℕ) (inne
       number-fst : lefts ≡ length (candidates t (bodyOf (q .bodies)) calls (ren σ P))
       number-snd : rights ≡ length (candidates t (bodyOf (q .bodies)) calls (ren σ Q))
 
-    no-meetings : (r : Label) (cs : List Candidate) (j : ℕ) → (j < length cs → Labels depth (getD cs j blocked) r)
-        → j < length {A = Candidate} [] → Labels depth (getD {A = Candidate} [] j blocked) r
-    no-meetings r cs j f h = absurd (omega arith)
-
-    some-meetings : (u : Bool) (body : ℕ → Term) (P Q : Term) (r : Label) (j : ℕ)
-        → (j < length (communications (visible body calls P) (visible body calls Q))
-        → Labels depth (getD (communications (visible body calls P) (visible body calls Q)) j blocked) r)
-        → j < length (meetings body u calls P Q) → Labels depth (getD (meetings body u calls P Q) j blocked) r
-    unfolding candidates
-    some-meetings true body P Q r j f h = f h
-    some-meetings false body P Q r j f h = absurd (omega arith)
+    placed : (h : ℕ) (q : Question) (free D : ℕ) (σ : ℕ → ℕ) (P Q : Term) (rest : List ℕ) → checkOf question ≡ result q → InScope free (q .arities) D P
+        → InScope free (q .arities) D Q → drop at s ≡ (h ∷ (encode D P ++ encode D Q)) ++ rest → Placed q free D σ P Q rest
+    placed h q free D σ P Q rest ok k l st =
+        let u = at-left D s at P Q rest h st in
+        let e : middle ≡ at + 1 + length (encode D P) = T .is q (at + 1) free D σ P (encode D Q ++ rest) ok k u .2 in
+        let w = at-right D s at P Q rest h st middle e in
+        record {
+          scope-fst = k;
+          scope-snd = l;
+          at-fst = u;
+          at-snd = w;
+          ends = e;
+          number-fst = tallied question s calls numbers T t q (at + 1) free D σ P (encode D Q ++ rest) ok k u;
+          number-snd = tallied question s calls numbers T t q middle free D σ Q rest ok l w;
+        }
 
     -- To show something of the label, show it from what is known of the sides.
     by-sides : (r : Label)
         → ((q : Question) (free D : ℕ) (σ : ℕ → ℕ) (P Q : Term) (rest : List ℕ) (cs : List Candidate) → checkOf question ≡ result q → free ≤ nameCount
-        → HasSlots free D args inner depth σ → Both q free D σ P Q rest cs → i < length cs → Labels depth (getD cs i blocked) r)
+        → HasSlots free D args inner depth σ → Formed q σ P Q cs → Placed q free D σ P Q rest → i < length cs → Labels depth (getD cs i blocked) r)
         → NthIs question s at i t args inner depth calls r
     unfolding InScope encode
     by-sides r f = record {
       is = λ q free D σ P rest ok few has scope st.
           let k = tag-at s at D P rest st in
-          let body = bodyOf (q .bodies) in
           only-two (Stands q free D σ rest r)
-          (λ P Q scope st. f q free D σ P Q rest _ ok few has
-          (let v = T .is q (at + 1) free D σ P (encode D Q ++ rest) ok (scope .0) (at-left D s at P Q rest 6 st) in
-          let w = at-right D s at P Q rest 6 st middle (v .2) in
-          record {
-            fst = λ c. c;
-            snd = λ c. c;
-            more = [];
-            sides = sides-sum body t calls (ren σ P) (ren σ Q);
-            keeps-fst = λ r c h. h;
-            keeps-snd = λ r c h. h;
-            meets = λ r. no-meetings r (communications (visible body calls (ren σ P)) (visible body calls (ren σ Q)));
-            scope-fst = scope .0;
-            scope-snd = scope .1;
-            at-fst = at-left D s at P Q rest 6 st;
-            at-snd = w;
-            ends = v .2;
-            number-fst = tallied question s calls numbers T t q (at + 1) free D σ P (encode D Q ++ rest) ok (scope .0) (at-left D s at P Q rest 6 st);
-            number-snd = tallied question s calls numbers T t q middle free D σ Q rest ok (scope .1) w;
-          }))
-          (λ P Q scope st. f q free D σ P Q rest _ ok few has
-          (let v = T .is q (at + 1) free D σ P (encode D Q ++ rest) ok (scope .0) (at-left D s at P Q rest 7 st) in
-          let w = at-right D s at P Q rest 7 st middle (v .2) in
-          record {
-            fst = leftSteps (ren σ Q);
-            snd = rightSteps (ren σ P);
-            more = meetings body t calls (ren σ P) (ren σ Q);
-            sides = sides-par body t calls (ren σ P) (ren σ Q);
-            keeps-fst = λ r. left-label depth r (ren σ Q);
-            keeps-snd = λ r. right-label depth r (ren σ P);
-            meets = some-meetings t body (ren σ P) (ren σ Q);
-            scope-fst = scope .0;
-            scope-snd = scope .1;
-            at-fst = at-left D s at P Q rest 7 st;
-            at-snd = w;
-            ends = v .2;
-            number-fst = tallied question s calls numbers T t q (at + 1) free D σ P (encode D Q ++ rest) ok (scope .0) (at-left D s at P Q rest 7 st);
-            number-snd = tallied question s calls numbers T t q middle free D σ Q rest ok (scope .1) w;
-          }))
+          (λ P Q scope st. f q free D σ P Q rest _ ok few has (formed-sum q σ P Q) (placed 6 q free D σ P Q rest ok (scope .0) (scope .1) st))
+          (λ P Q scope st. f q free D σ P Q rest _ ok few has (formed-par q σ P Q) (placed 7 q free D σ P Q rest ok (scope .0) (scope .1) st))
           P (omega arith) (omega arith) scope st;
     }
 
     pub nth-left : i < lefts → (r : Label) → NthIs question s (at + 1) i t args inner depth calls r → NthIs question s at i t args inner depth calls r
-    nth-left h r N = by-sides r (λ q free D σ P Q rest cs ok few has B m.
+    nth-left h r N = by-sides r (λ q free D σ P Q rest cs ok few has F B m.
         let n = B .number-fst in
         let k : i < length (candidates t (bodyOf (q .bodies)) calls (ren σ P)) = omega arith in
-        subst (λ (c : Candidate). Labels depth c r) (sym (B .sides .first i k))
-        (B .keeps-fst r _ (N .is q free D σ P (encode D Q ++ rest) ok few has (B .scope-fst) (B .at-fst) k)))
+        subst (λ (c : Candidate). Labels depth c r) (sym (F .sides .first i k))
+        (F .keeps-fst r _ (N .is q free D σ P (encode D Q ++ rest) ok few has (B .scope-fst) (B .at-fst) k)))
 
     pub nth-stuck : middle ≤ at → (r : Label) → NthIs question s at i t args inner depth calls r
-    nth-stuck h r = by-sides r (λ q free D σ P Q rest cs ok few has B m. absurd (omega (arith, B .ends)))
+    nth-stuck h r = by-sides r (λ q free D σ P Q rest cs ok few has F B m. absurd (omega (arith, B .ends)))
 
     module _ (past : lefts ≤ i) (r : Label) where
       pub nth-right : i - lefts < rights → NthIs question s middle (i - lefts) t args inner depth calls r → NthIs question s at i t args inner depth calls r
-      nth-right h N = by-sides r (λ q free D σ P Q rest cs ok few has B m.
+      nth-right h N = by-sides r (λ q free D σ P Q rest cs ok few has F B m.
           let n = B .number-fst in
           let n₂ = B .number-snd in
           let k : i - lefts < length (candidates t (bodyOf (q .bodies)) calls (ren σ Q)) = omega arith in
           let e : length (candidates t (bodyOf (q .bodies)) calls (ren σ P)) + (i - lefts) ≡ i = omega arith in
-          subst (λ (c : Candidate). Labels depth c r) (sym (B .sides .second (i - lefts) k) ∙ ap (λ (j : ℕ). getD cs j blocked) e)
-          (B .keeps-snd r _ (N .is q free D σ Q rest ok few has (B .scope-snd) (B .at-snd) k)))
+          subst (λ (c : Candidate). Labels depth c r) (sym (F .sides .second (i - lefts) k) ∙ ap (λ (j : ℕ). getD cs j blocked) e)
+          (F .keeps-snd r _ (N .is q free D σ Q rest ok few has (B .scope-snd) (B .at-snd) k)))
 
       pub nth-met : rights ≤ i - lefts → MeetingIs question s at middle (i - lefts - rights) args inner depth calls r → NthIs question s at i t args inner depth calls r
-      nth-met h R = by-sides r (λ q free D σ P Q rest cs ok few has B m.
+      nth-met h R = by-sides r (λ q free D σ P Q rest cs ok few has F B m.
           let n = B .number-fst in
           let n₂ = B .number-snd in
           let j = i - lefts - rights in
           let e : length (candidates t (bodyOf (q .bodies)) calls (ren σ P)) + (length (candidates t (bodyOf (q .bodies)) calls (ren σ Q)) + j) ≡ i = omega arith in
-          subst (λ (c : Candidate). Labels depth c r) (sym (B .sides .third j) ∙ ap (λ (j : ℕ). getD cs j blocked) e)
-          (B .meets r j (R .is q free D σ P Q rest (encode D Q ++ rest) ok few has (B .scope-fst) (B .scope-snd) (B .at-fst) (B .at-snd))
-          (omega (arith, B .sides .len))))
+          subst (λ (c : Candidate). Labels depth c r) (sym (F .sides .third j) ∙ ap (λ (j : ℕ). getD cs j blocked) e)
+          (F .meets r j (R .is q free D σ P Q rest (encode D Q ++ rest) ok few has (B .scope-fst) (B .scope-snd) (B .at-fst) (B .at-snd))
+          (omega (arith, F .sides .len))))
 
   -- [Con]
   module _ (g : 8 < getD s at 0) (o : Opening) (O : OpeningIs question s at calls o) (r : Label) where
