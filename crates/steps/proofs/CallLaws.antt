@@ -1,6 +1,6 @@
 -- A call and the body that it opens: where its names stand, what they stand for in the body, and its candidates. Assumes nothing.
 use mathlib.Core.Path.{_≡_, refl, sym, ap, subst, _∙_}
-use mathlib.Core.Bool.{Bool, true, false}
+use mathlib.Core.Bool.{Bool, false}
 use mathlib.Core.List.{List, [], _∷_, _++_, map, reverse, reverseAux, append-nil}
 use mathlib.Core.Logic.{⊎-elim}
 use Prim.Native.Nat.{ℕ, zero, suc, _+_, _-_, _<_, _≤_}
@@ -10,7 +10,7 @@ use lib.ListN.{length, getD, drop, length-map}
 use lib.Seq.{drop-drop}
 use Rattle.calculus.specs.Abstraction.{Act, tauA, inpA, outA, boutA}
 use Rattle.calculus.specs.Definitions.{at}
-use Rattle.calculus.specs.Term.{Term, nil, call, ren}
+use Rattle.calculus.specs.Term.{Term, call, ren}
 use Rattle.terms.specs.Answer.{result}
 use Rattle.terms.specs.Encoding.{nameByte, encode, InScope, NamesInScope}
 use Rattle.terms.specs.Limits.{nameCount, tableNames, greatestArity, longestTerm}
@@ -21,12 +21,13 @@ use Rattle.terms.proofs.WellFormed.{WellFormed, accepted-well-formed}
 use Rattle.steps.specs.Bodies.{AritiesIs, BodyIs, MayOpenIs, OpeningIs}
 use Rattle.steps.specs.Listing.{bodyOf}
 use Rattle.steps.specs.Names.{turn, HasNames, CalledIs}
-use Rattle.steps.specs.Passing.{candidates, Sent, Does, PassedIs, PassIs, pastAt, returnedAt}
-use Rattle.steps.specs.Raw.{Candidate, blocked}
+use Rattle.steps.specs.Passing.{candidates, Does, PassIs, nothingSent, returnedAt}
+use Rattle.steps.specs.Raw.{Candidate, step, blocked}
 use Rattle.steps.specs.Slots.{slotOf}
 use Rattle.steps.specs.declared.pass.Passed.{Passed}
-use Rattle.steps.proofs.CandidateForms.{candidates-call, candidates-no-call, tag, tag-at, only-call}
-use Rattle.steps.proofs.NameSlots.{slot-of-byte, slot-bound, slot-free, turn-small}
+use Rattle.steps.proofs.CandidateForms.{candidates-call, candidates-no-call, tag-at, only-call}
+use Rattle.steps.proofs.NameSlots.{slot-of-byte, slot-bound, turn-small}
+use Rattle.steps.proofs.Premises.{never}
 use Rattle.steps.proofs.QuestionDefinitions.{body-at}
 
 -- What the parameters of a body stand for: the last is index 0.
@@ -80,14 +81,14 @@ module _ (free D : ℕ) (s : List ℕ) (from : ℕ) (xs rest : List ℕ) (few : 
   -- The table of the body.
   pub names-call : (D′ : ℕ) (names r : List ℕ) (σ ρ : ℕ → ℕ) → HasNames free D D′ names (λ n. ρ (σ n)) → (n : ℕ) → n ≡ length xs → CalledIs s from n D names r
       → HasNames 0 n D′ r (λ m. ρ (params σ xs m))
-  unfolding HasNames
+  unfolding HasNames CalledIs
   names-call D′ names r σ ρ has n same is m h =
       let j = length xs - 1 - m in
       let l : m < length xs = omega arith in
       let (e, b) = has (getD xs j 0) (name-within free D xs scope j (omega arith)) in
       let q = parameter-is σ xs m l in
       let t : slotOf tableNames n m ≡ tableNames + j = slot-bound tableNames n m (omega arith) ∙ omega arith in (
-        ap (λ (k : ℕ). getD r k 0) t ∙ is .parameters j (omega arith) ∙ ap (λ (k : ℕ). getD names k 0) (call-slot j (omega arith)) ∙ e
+        ap (λ (k : ℕ). getD r k 0) t ∙ is j (omega arith) ∙ ap (λ (k : ℕ). getD names k 0) (call-slot j (omega arith)) ∙ e
             ∙ ap (λ (k : ℕ). slotOf tableNames D′ (ρ k)) (sym q),
         rw q b,
       )
@@ -175,53 +176,37 @@ module _ (question s : List ℕ) (at D calls : ℕ) (t : Bool) (i : ℕ) (g : 8 
       P (let b = tag-at s at D P rest st in omega arith) scope st
 
   -- No call is left to open, or the question is not accepted.
-  pub pass-closed : ((q : Question) → checkOf question ≡ result q → k < length (q .arities) → calls ≡ 0) → PassIs question s at D calls t i (pastAt i (at + 2 + n))
-  unfolding encode
+  pub pass-closed : ((q : Question) → checkOf question ≡ result q → k < length (q .arities) → calls ≡ 0) → PassIs question s at D calls t i nothingSent
   pass-closed z = record {
-    on = omega arith;
     slot = omega arith;
-    fewer = omega arith;
-    is = λ q free σ P rest ok few scope st. at-call
-        (λ (P : Term). PassedIs free D σ (candidates t (bodyOf (q .bodies)) calls (ren σ P)) (length (encode D P)) at i (pastAt i (at + 2 + n)))
+    does = λ q free σ P rest ok few scope st M α A e. at-call
+        (λ (P : Term). getD (candidates t (bodyOf (q .bodies)) calls (ren σ P)) i blocked ≡ step M α A → Does free D σ α 0 0)
         q free P rest ok scope st
-        (λ xs m a l names st.
+        (λ xs m a l names st e.
         let c : candidates t (bodyOf (q .bodies)) calls (call k (map σ xs)) ≡ [] =
         ap (λ (c : ℕ). candidates t (bodyOf (q .bodies)) c (call k (map σ xs))) (z q ok l) ∙ candidates-no-call (bodyOf (q .bodies)) t k (map σ xs) in
-        record {
-          end = omega (arith, length-map xs (nameByte D));
-          past = λ f. rw c (omega arith);
-          here = λ f. let z : _≡_ {A = ℕ} 0 1 = cc in absurd (omega arith);
-          does = λ M α A f. let z : _≡_ {A = ℕ} 0 1 = cc in absurd (omega arith);
-        });
+        never M α A (ap (λ (l : List Candidate). getD l i blocked) (sym c) ∙ e))
+        e;
   }
 
   module _ (bytes : List ℕ) (B : BodyIs question k bytes) where
-    -- An accepted question has no such body.
-    pub no-long : (q : Question) → checkOf question ≡ result q → n ≡ getD (q .arities) k 0 → k < length (q .arities) → longestTerm < length bytes → ⊥
-    no-long q ok a l long = omega (arith, ap length (B .is q ok l), body-size question q ok k)
-
     -- [Con]: the candidates are those of the body.
-    pub pass-call : D + 128 ≤ 256 → (c : ℕ) → calls ≡ suc c → (r : Passed) → PassIs question bytes 0 n c t i r
-        → PassIs question s at D calls t i (returnedAt s (at + 2) D (at + 2 + n) r)
-    unfolding encode returnedAt
-    pass-call deep c z r R = record {
-      on = omega arith;
+    pub pass-opened : D + 128 ≤ 256 → (c : ℕ) → calls ≡ suc c → (r : Passed) → PassIs question bytes 0 n c t i r
+        → PassIs question s at D calls t i (returnedAt s (at + 2) D r)
+    unfolding returnedAt
+    pass-opened deep c z r R = record {
       slot = turn-small 128 tableNames D (getD s (at + 2 + (r .object - tableNames)) 0) (omega arith) (omega arith);
-      fewer = R .fewer;
-      is = λ q free σ P rest ok few scope st. at-call
-          (λ (P : Term). PassedIs free D σ (candidates t (bodyOf (q .bodies)) calls (ren σ P)) (length (encode D P)) at i (returnedAt s (at + 2) D (at + 2 + n) r))
+      does = λ q free σ P rest ok few scope st M α A w. at-call
+          (λ (P : Term). getD (candidates t (bodyOf (q .bodies)) calls (ren σ P)) i blocked ≡ step M α A
+          → Does free D σ α (r .kind) (turn 128 tableNames D (getD s (at + 2 + (r .object - tableNames)) 0)))
           q free P rest ok scope st
-          (λ xs m a l names st.
+          (λ xs m a l names st w.
           let body = bodyOf (q .bodies) in
           let e : candidates t body calls (call k (map σ xs)) ≡ candidates t body c (ren (params σ xs) (body k)) =
           ap (λ (c : ℕ). candidates t body c (call k (map σ xs))) z ∙ candidates-call body t c k (map σ xs) in
-          let x = R .is q 0 (params σ xs) (body k) [] ok (omega arith) (subst (λ (n : ℕ). InScope 0 (q .arities) n (body k)) (sym a) (body-scope question q ok k))
-          (B .is q ok l ∙ ap (λ (n : ℕ). encode n (body k)) (sym a) ∙ sym (append-nil (encode n (body k)))) in
-          record {
-            end = omega (arith, length-map xs (nameByte D));
-            past = λ f. rw e (x .past f);
-            here = λ f. rw e (x .here f);
-            does = λ M α A f w. does-called free D s (at + 2) xs rest few names st σ n m α (r .kind) (r .object)
-                (x .does M α A f (ap (λ (l : List Candidate). getD l i blocked) (sym e) ∙ w));
-          });
+          does-called free D s (at + 2) xs rest few names st σ n m α (r .kind) (r .object)
+          (R .does q 0 (params σ xs) (body k) [] ok (omega arith) (subst (λ (n : ℕ). InScope 0 (q .arities) n (body k)) (sym a) (body-scope question q ok k))
+          (B .is q ok l ∙ ap (λ (n : ℕ). encode n (body k)) (sym a) ∙ sym (append-nil (encode n (body k))))
+          M α A (ap (λ (l : List Candidate). getD l i blocked) (sym e) ∙ w)))
+          w;
     }

@@ -23,15 +23,15 @@ use Rattle.steps.specs.Tally.{TallyIs}
 use Rattle.steps.specs.Tallying.{numberAt}
 use Rattle.steps.specs.declared.list.ListAnswer.the-variants.{Unsettled, Count}
 use Rattle.steps.proofs.CollectLaws.{collect-++, limited-grows, stored-twice, Progresses, progress-start, progress-step, progress-done, progress-passed}
-use Rattle.steps.proofs.LabelWalks.{tallied}
 use Rattle.steps.proofs.Limited.{limited-within}
+use Rattle.steps.proofs.TwoSides.{number-is}
 
 -- The number that the tally has at the beginning of a part is that of its candidates.
 pub number-of : (question part numbers : List ℕ) → TallyIs question part 1 numbers → (silently : Bool) (x : ℕ) (q : Question) (P : Term) → Lists question part x q P
     → numberAt numbers 0 silently ≡ length (candidatesOf silently q P)
 unfolding candidatesOf
 number-of question part numbers T silently x q P l =
-    tallied question part 1 numbers T silently q 0 nameCount 0 (λ n. n) P [] (l .accepted) (l .scope) (l .bytes ∙ sym (append-nil (encode 0 P)))
+    number-is question part 1 numbers T silently q 0 nameCount 0 (λ n. n) P [] (l .accepted) (l .scope) (l .bytes ∙ sym (append-nil (encode 0 P)))
     ∙ ap (λ (Q : Term). length (candidates silently (bodyOf (q .bodies)) 1 Q)) (ren-id P)
 
 module _ (question part : List ℕ) (silently : Bool) (x : ℕ) (area₀ : List ℕ) (count₀ : ℕ) where

@@ -17,10 +17,10 @@ use Rattle.steps.specs.Bodies.{BodyIs, OpeningIs}
 use Rattle.steps.specs.Labels.{actionOf, ActionBelow, HeaderIs, Labels, MatchingIs, RestrictedIs, CommunicationIs}
 use Rattle.steps.specs.LabelWalk.{slotAt, HasSlots, ArgumentsIs, prefixAction, PrefixLabelIs, Within, NthIs, MeetingIs}
 use Rattle.steps.specs.Listing.{bodyOf}
-use Rattle.steps.specs.Passing.{candidates}
+use Rattle.steps.specs.Passing.{candidates, MiddleIs}
 use Rattle.steps.specs.Raw.{Candidate, step, blocked, matching, leftSteps, rightSteps, communications, restricted, visible, silent, visibleOf, silentOf}
 use Rattle.steps.specs.Slots.{slotCount, HasSlotClasses, HasClasses, Below}
-use Rattle.steps.specs.Tally.{visibleAt, endAt, TallyIs}
+use Rattle.steps.specs.Tally.{visibleAt, TallyIs}
 use Rattle.steps.specs.Tallying.{numberAt}
 use Rattle.steps.specs.declared.action.Action.the-variants.{Input, Output, NewOutput}
 use Rattle.steps.specs.declared.action.Label.{Label}
@@ -31,7 +31,8 @@ use Rattle.steps.proofs.CandidateForms.{candidates-mat, candidates-res,
 use Rattle.steps.proofs.FrontLaws.{stands, behind}
 use Rattle.steps.proofs.LabelNumbers.{left-label, right-label, label-met}
 use Rattle.steps.proofs.Numbering.{nth-matching, nth-restricted, length-communications}
-use Rattle.steps.proofs.TwoSides.{Sides, sides-sum, sides-par, at-left, at-right}
+use Rattle.steps.proofs.TwoSides.{Sides, sides-sum, sides-par, at-left, number-is, right-number}
+use Rattle.steps.proofs.TwoSides as two
 
 -- What a prefix does, and its one candidate.
 abbrev act : Term → Act
@@ -70,14 +71,6 @@ module _ (body : ℕ → Term) (calls : ℕ) (σ : ℕ → ℕ) where
       (λ h. absurd (omega arith)) (λ P h. (refl, λ z. omega arith)) (λ a P h. absurd (omega arith)) (λ a b P h. absurd (omega arith)) (λ a P h. absurd (omega arith))
   one-step i false = only-prefix (Alone i false)
       (λ h. absurd (omega arith)) (λ P h. absurd (omega arith)) (λ a P h. (refl, λ z. omega arith)) (λ a b P h. (refl, λ z. omega arith)) (λ a P h. (refl, λ z. omega arith))
-
--- The numbers of a tally are those of the candidates.
-pub tallied : (question s : List ℕ) (calls : ℕ) (numbers : List ℕ) → TallyIs question s calls numbers → (t : Bool) (q : Question) (at free D : ℕ) (σ : ℕ → ℕ) (P : Term)
-    (rest : List ℕ) → checkOf question ≡ result q → InScope free (q .arities) D P → drop at s ≡ encode D P ++ rest
-    → numberAt numbers at t ≡ length (candidates t (bodyOf (q .bodies)) calls (ren σ P))
-unfolding numberAt candidates
-tallied question s calls numbers T true q at free D σ P rest ok scope st = T .is q at free D σ P rest ok scope st .1
-tallied question s calls numbers T false q at free D σ P rest ok scope st = T .is q at free D σ P rest ok scope st .0
 
 module _ (question s : List ℕ) (at i : ℕ) (t : Bool) (args : List ℕ) (inner depth calls : ℕ) where
   abbrev Shows : Question → (ℕ → ℕ) → Label → Term → Type 0
@@ -182,10 +175,8 @@ module _ (question s : List ℕ) (at i : ℕ) (t : Bool) (args : List ℕ) (inne
   }
 
   -- A choice or a parallel: the left side's candidates, the right side's, and then the communications.
-  module _ (l : 5 < getD s at 0) (g : getD s at 0 < 8) (numbers : List ℕ) (T : TallyIs question s calls numbers) where
-    abbrev middle : ℕ
-    middle = endAt numbers (at + 1)
-
+  module _ (l : 5 < getD s at 0) (g : getD s at 0 < 8) (numbers : List ℕ) (T : TallyIs question s calls numbers) (middle : ℕ)
+      (N : MiddleIs s numbers at middle) where
     abbrev lefts : ℕ
     lefts = numberAt numbers (at + 1) t
 
@@ -240,7 +231,6 @@ module _ (question s : List ℕ) (at i : ℕ) (t : Bool) (args : List ℕ) (inne
       scope-snd : InScope free (q .arities) D Q
       at-fst : drop (at + 1) s ≡ encode D P ++ (encode D Q ++ rest)
       at-snd : drop middle s ≡ encode D Q ++ rest
-      ends : middle ≡ at + 1 + length (encode D P)
       number-fst : lefts ≡ length (candidates t (bodyOf (q .bodies)) calls (ren σ P))
       number-snd : rights ≡ length (candidates t (bodyOf (q .bodies)) calls (ren σ Q))
 
@@ -248,16 +238,13 @@ module _ (question s : List ℕ) (at i : ℕ) (t : Bool) (args : List ℕ) (inne
         → InScope free (q .arities) D Q → drop at s ≡ (h ∷ (encode D P ++ encode D Q)) ++ rest → Placed q free D σ P Q rest
     placed h q free D σ P Q rest ok k l st =
         let u = at-left D s at P Q rest h st in
-        let e : middle ≡ at + 1 + length (encode D P) = T .is q (at + 1) free D σ P (encode D Q ++ rest) ok k u .2 in
-        let w = at-right D s at P Q rest h st middle e in
         record {
           scope-fst = k;
           scope-snd = l;
           at-fst = u;
-          at-snd = w;
-          ends = e;
-          number-fst = tallied question s calls numbers T t q (at + 1) free D σ P (encode D Q ++ rest) ok k u;
-          number-snd = tallied question s calls numbers T t q middle free D σ Q rest ok l w;
+          at-snd = two.behind question s calls numbers T at middle N q free D σ P Q rest ok k l u;
+          number-fst = number-is question s calls numbers T t q (at + 1) free D σ P (encode D Q ++ rest) ok k u;
+          number-snd = right-number question s calls numbers T at middle N q free D σ P Q rest ok k l u t;
         }
 
     -- To show something of the label, show it from what is known of the sides.
@@ -281,9 +268,6 @@ module _ (question s : List ℕ) (at i : ℕ) (t : Bool) (args : List ℕ) (inne
         let k : i < length (candidates t (bodyOf (q .bodies)) calls (ren σ P)) = omega arith in
         subst (λ (c : Candidate). Labels depth c r) (sym (F .sides .first i k))
         (F .keeps-fst r _ (N .is q free D σ P (encode D Q ++ rest) ok few has (B .scope-fst) (B .at-fst) k)))
-
-    pub nth-stuck : middle ≤ at → (r : Label) → NthIs question s at i t args inner depth calls r
-    nth-stuck h r = by-sides r (λ q free D σ P Q rest cs ok few has F B m. absurd (omega (arith, B .ends)))
 
     module _ (past : lefts ≤ i) (r : Label) where
       pub nth-right : i - lefts < rights → NthIs question s middle (i - lefts) t args inner depth calls r → NthIs question s at i t args inner depth calls r
@@ -349,16 +333,16 @@ module _ (question s : List ℕ) (at i : ℕ) (t : Bool) (args : List ℕ) (inne
 -- The communications of two terms, of which the right one has n visible candidates.
 module _ (question s : List ℕ) (at middle i : ℕ) (args : List ℕ) (inner depth calls : ℕ) (numbers : List ℕ) (T : TallyIs question s calls numbers) (r : Label) (n : ℕ)
     (N : n ≡ visibleAt numbers middle) where
-  right-number : (q : Question) (free D : ℕ) (σ : ℕ → ℕ) (Q : Term) (rest : List ℕ) → checkOf question ≡ result q → InScope free (q .arities) D Q
+  many-right : (q : Question) (free D : ℕ) (σ : ℕ → ℕ) (Q : Term) (rest : List ℕ) → checkOf question ≡ result q → InScope free (q .arities) D Q
       → drop middle s ≡ encode D Q ++ rest → n ≡ length (visible (bodyOf (q .bodies)) calls (ren σ Q))
-  right-number q free D σ Q rest ok scope st = N ∙ T .is q middle free D σ Q rest ok scope st .0
+  many-right q free D σ Q rest ok scope st = N ∙ T .is q middle free D σ Q rest ok scope st .0
 
   pub meet-none : n ≡ 0 → MeetingIs question s at middle i args inner depth calls r
   meet-none z = record {
     is = λ q free D σ P Q rest more ok few has k l st st₂ h.
         let ps = visible (bodyOf (q .bodies)) calls (ren σ P) in
         let qs = visible (bodyOf (q .bodies)) calls (ren σ Q) in
-        let e : length qs ≡ 0 = sym (right-number q free D σ Q rest ok l st₂) ∙ z in
+        let e : length qs ≡ 0 = sym (many-right q free D σ Q rest ok l st₂) ∙ z in
         absurd (omega (arith, length-communications ps qs, ap (λ (k : ℕ). length ps * k) e, mul-zero (length ps)));
   }
 
@@ -367,7 +351,7 @@ module _ (question s : List ℕ) (at middle i : ℕ) (args : List ℕ) (inner de
   unfolding candidates
   meet-both z room p m X Y K = record {
     is = λ q free D σ P Q rest more ok few has k l st st₂.
-        label-met depth _ _ i n (right-number q free D σ Q rest ok l st₂) z p m r room (X .is q free D σ P more ok few has k st) (Y .is q free D σ Q rest ok few has l st₂) K;
+        label-met depth _ _ i n (many-right q free D σ Q rest ok l st₂) z p m r room (X .is q free D σ P more ok few has k st) (Y .is q free D σ Q rest ok few has l st₂) K;
   }
 
 -- The walk's measure falls: where the bytes left and the calls left weigh x, a walk weighs 4 x + 3, its parts a little less.

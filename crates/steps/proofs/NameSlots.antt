@@ -1,7 +1,7 @@
 -- Tables of names by slots: what they have beneath a binder, in a called body, and as tables for renaming. Assumes nothing.
 use mathlib.Core.Path.{_≡_, refl, sym, ap, _∙_}
 use mathlib.Core.Bool.{Bool, true, false}
-use mathlib.Core.List.{List, [], _∷_, map, reverse}
+use mathlib.Core.List.{List}
 use Prim.Native.Nat.{ℕ, zero, suc, _+_, _-_, _<_, _≤_}
 use native.Mathlib.Nat.{eq-or-lt-of-le}
 use mathlib.Core.Logic.{⊎-elim}
@@ -11,12 +11,12 @@ use lib.Seq.{getD-set-same, getD-set-other}
 use lib.Dec.{ltb}
 use borrow.Author.Tests.{ltb-true, ltb-false, lt-ltb, le-ltb}
 use Rattle.calculus.specs.Term.{_•_}
-use Rattle.terms.specs.Limits.{nameCount, tableNames}
+use Rattle.terms.specs.Limits.{tableNames}
 use Rattle.terms.specs.Encoding.{nameByte}
 use Rattle.terms.specs.NameTable.{slot, Represents}
 use Rattle.terms.proofs.NameTables.{byte-bound, byte-free}
 use Rattle.steps.specs.Slots.{slotOf}
-use Rattle.steps.specs.Names.{mostBinders, nameSlots, HasNames, HasNew, turn, CalledIs, TableIs}
+use Rattle.steps.specs.Names.{mostBinders, nameSlots, HasNames, HasNew, Kept, turn, CalledIs, TableIs}
 
 pub turn-free : (from to D w : ℕ) → w < from → turn from to D w ≡ w
 unfolding turn
@@ -144,42 +144,42 @@ module _ (free D D′ : ℕ) (names : List ℕ) (τ : ℕ → ℕ) (has : HasNam
   unfolding HasNames
   names-beneath m h = let (e, r) = has m h in (e ∙ sym (slot-inner tableNames D′ (τ m)), omega arith)
 
-  -- Another new name.
-  pub names-renew : (v : ℕ) → free ≤ nameCount → HasNames free D D′ (set names nameCount v) τ
-  unfolding HasNames
-  names-renew v few m h =
-      let (e, r) = has m h in
-      (getD-set-other names nameCount (slotOf tableNames D m) v 0 (other (ltb m D) refl) ∙ e, r)
+  -- What is kept of the table is enough.
+  pub names-kept : (names′ : List ℕ) → free ≤ tableNames → Kept D names names′ → HasNames free D D′ names′ τ
+  unfolding HasNames Kept
+  names-kept names′ few kept m h = let (e, r) = has m h in (kept (slotOf tableNames D m) (slot-within (ltb m D) refl) ∙ e, r)
     where
-      other : (t : Bool) → ltb m D ≡ t → slotOf tableNames D m ≡ nameCount → ⊥
-      other true t e = omega (arith, slot-bound tableNames D m (ltb-true m D t))
-      other false t e = omega (arith, slot-free tableNames D m (ltb-false m D t), ltb-false m D t)
+      slot-within : (t : Bool) → ltb m D ≡ t → slotOf tableNames D m < tableNames + D
+      slot-within true t = omega (arith, ltb-true m D t, slot-bound tableNames D m (ltb-true m D t))
+      slot-within false t = omega (arith, slot-free tableNames D m (ltb-false m D t), ltb-false m D t)
 
-module _ (D′ : ℕ) (names : List ℕ) (x : ℕ) (has : HasNew D′ names x) where
-  pub new-enter : (D v : ℕ) → HasNew D′ (set names (tableNames + D) v) x
-  unfolding HasNew
-  new-enter D v = (getD-set-other names (tableNames + D) nameCount v 0 (λ z. omega arith) ∙ has .0, has .1)
-
-  pub new-beneath : HasNew (1 + D′) names (suc x)
-  unfolding HasNew
-  new-beneath = (has .0 ∙ sym (slot-inner tableNames D′ x), omega (arith, has .1))
-
-pub new-renew : (D′ : ℕ) (names : List ℕ) (v x : ℕ) → nameCount < length names → v ≡ slotOf tableNames D′ x → x < D′ + tableNames
-    → HasNew D′ (set names nameCount v) x
+pub new-beneath : (D′ new x : ℕ) → HasNew D′ new x → HasNew (1 + D′) new (suc x)
 unfolding HasNew
-new-renew D′ names v x room e r = (getD-set-same names nameCount v 0 room ∙ e, r)
+new-beneath D′ new x has = (has .0 ∙ sym (slot-inner tableNames D′ x), omega (arith, has .1))
+
+-- What a walk changes of the table: the slots of the binders that it meets.
+pub kept-all : (D : ℕ) (names : List ℕ) → Kept D names names
+unfolding Kept
+kept-all D names k h = refl
+
+pub kept-within : (D v : ℕ) (names names′ : List ℕ) → Kept (D + 1) (set names (tableNames + D) v) names′ → Kept D names names′
+unfolding Kept
+kept-within D v names names′ kept k h = kept k (omega arith) ∙ getD-set-other names (tableNames + D) k v 0 (λ z. omega arith)
+
+pub kept-then : (D : ℕ) (names names₁ names₂ : List ℕ) → Kept D names names₁ → Kept D names₁ names₂ → Kept D names names₂
+unfolding Kept
+kept-then D names names₁ names₂ f g k h = g k h ∙ f k h
 
 -- The table of a called body, filled one parameter after the other.
-pub called-none : (s : List ℕ) (at D : ℕ) (names : List ℕ) → CalledIs s at 0 D names names
-called-none s at D names = record { parameters = λ j h. absurd (omega arith); new = refl }
+pub called-none : (s : List ℕ) (at D : ℕ) (names r : List ℕ) → CalledIs s at 0 D names r
+unfolding CalledIs
+called-none s at D names r j h = absurd (omega arith)
 
 pub called-more : (s : List ℕ) (at j D : ℕ) (names r : List ℕ) (v : ℕ) → tableNames + j < length r
     → v ≡ getD names (turn 128 tableNames D (getD s (at + j) 0)) 0 → CalledIs s at j D names r → CalledIs s at (j + 1) D names (set r (tableNames + j) v)
-called-more s at j D names r v room e is = record {
-  parameters = λ n h. ⊎-elim
-      (λ q. ap (λ (k : ℕ). getD (set r (tableNames + j) v) (tableNames + k) 0) q ∙ getD-set-same r (tableNames + j) v 0 room ∙ e
-      ∙ ap (λ (k : ℕ). getD names (turn 128 tableNames D (getD s (at + k) 0)) 0) (sym q))
-      (λ q. getD-set-other r (tableNames + j) (tableNames + n) v 0 (λ z. omega arith) ∙ is .parameters n q)
-      (eq-or-lt-of-le {n = n} {m = j} (omega arith));
-  new = getD-set-other r (tableNames + j) nameCount v 0 (λ z. omega arith) ∙ is .new;
-}
+unfolding CalledIs
+called-more s at j D names r v room e is n h = ⊎-elim
+    (λ q. ap (λ (k : ℕ). getD (set r (tableNames + j) v) (tableNames + k) 0) q ∙ getD-set-same r (tableNames + j) v 0 room ∙ e
+    ∙ ap (λ (k : ℕ). getD names (turn 128 tableNames D (getD s (at + k) 0)) 0) (sym q))
+    (λ q. getD-set-other r (tableNames + j) (tableNames + n) v 0 (λ z. omega arith) ∙ is n q)
+    (eq-or-lt-of-le {n = n} {m = j} (omega arith))

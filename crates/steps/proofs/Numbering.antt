@@ -1,13 +1,19 @@
 -- Which candidate stands at which number, for code that yields them one by one. Numbers past the end are blocked. Assumes nothing.
+use borrow.Author.Tests.{leb-true, leb-false}
+use mathlib.Core.Bool.{Bool, true, false}
 use mathlib.Core.List.{List, [], _∷_, map}
-use mathlib.Core.Path.{_≡_, refl, sym, _∙_, ap}
-use native.Mathlib.Nat.{zero-mul, suc-mul}
+use mathlib.Core.Path.{_≡_, refl, sym, _∙_, ap, subst}
+use native.Mathlib.Nat.{zero-mul, suc-mul, mul-zero, mul-le-mul-right}
 use native.Mathlib.Omega.{arith}
 use Prim.Native.Nat.{ℕ, zero, suc, _+_, _*_, _<_}
-use lib.ListN.{length, getD, length-append, length-map, List·getD-append, List·getD-map}
+use lib.Dec.{leb}
+use lib.ListN.{length, getD, length-append, length-map, List·getD-append, List·getD-map, List·getD-eq-default}
 use lib.Seq.{getD-append-add}
+use Rattle.calculus.specs.Abstraction.{Act}
+use Rattle.calculus.specs.Cond.{Cond}
 use Rattle.calculus.specs.Term.{Term}
 use Rattle.steps.specs.Raw.{Candidate, step, blocked, matching, leftSteps, rightSteps, restricted, communication, communications}
+use Rattle.steps.proofs.Premises.{never, Meeting, meeting-of}
 
 -- A rule with one premise keeps the number.
 nth-by : (f : Candidate → Candidate) → f blocked ≡ blocked → (cs : List Candidate) (i : ℕ) → getD (map f cs) i blocked ≡ f (getD cs i blocked)
@@ -58,3 +64,33 @@ nth-communication (s ∷ ss) ts (suc i) j h k =
     ap (λ m. getD (communications (s ∷ ss) ts) m blocked) e
     ∙ getD-append-add (map (communication s) ts) (communications ss ts) (i * length ts + j) blocked
     ∙ nth-communication ss ts i j (omega arith) k
+
+-- What is not blocked has a number that is there.
+pub some-candidate : (cs : List Candidate) (n : ℕ) (M : Cond) (α : Act) (A : Term) → getD cs n blocked ≡ step M α A → n < length cs
+some-candidate cs n M α A e = go (leb (length cs) n) refl
+  where
+    go : (t : Bool) → leb (length cs) n ≡ t → n < length cs
+    go true t = never M α A (sym (List·getD-eq-default cs blocked {n = n} (leb-true (length cs) n t)) ∙ e)
+    go false t = leb-false (length cs) n t
+
+-- A communication that is not blocked is one of two candidates, whose numbers are those that its own number is made of.
+pub meeting-at : (ss ts : List Candidate) (k i j : ℕ) → (0 < length ts → (k ≡ i * length ts + j) × (j < length ts)) → (M : Cond) (α : Act) (A : Term)
+    → getD (communications ss ts) k blocked ≡ step M α A → Meeting (getD ss i blocked) (getD ts j blocked) α A
+meeting-at ss ts k i j split M α A e = go (length ts) refl
+  where
+    many : k < length ss * length ts
+    many = subst (λ (n : ℕ). k < n) (length-communications ss ts) (some-candidate (communications ss ts) k M α A e)
+
+    left : k ≡ i * length ts + j → (t : Bool) → leb (length ss) i ≡ t → i < length ss
+    left h true t = let m = many in absurd (omega (arith, mul-le-mul-right (length ts) (leb-true (length ss) i t)))
+    left h false t = leb-false (length ss) i t
+
+    go : (n : ℕ) → length ts ≡ n → Meeting (getD ss i blocked) (getD ts j blocked) α A
+    go zero z =
+        let o : length ss * length ts ≡ 0 = ap (λ (k : ℕ). length ss * k) z ∙ mul-zero (length ss) in
+        let m = many in
+        absurd (omega arith)
+    go (suc n) z =
+        let (h, l) = split (omega arith) in
+        meeting-of (getD ss i blocked) (getD ts j blocked) M α A
+        (sym (nth-communication ss ts i j (left h (leb (length ss) i) refl) l) ∙ ap (λ (m : ℕ). getD (communications ss ts) m blocked) (sym h) ∙ e)

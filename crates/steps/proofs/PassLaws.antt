@@ -1,43 +1,38 @@
--- Finding a candidate by its number, form by form. Assumes nothing.
+-- What the action of a candidate does, by the candidate's number, form by form. Assumes nothing.
 use mathlib.Core.Path.{_≡_, refl, sym, ap, subst, _∙_}
-use mathlib.Core.Bool.{Bool, true, false, cond, not}
-use mathlib.Core.List.{List, [], _∷_, _++_, map, append-assoc}
-use Prim.Native.Nat.{ℕ, zero, suc, _+_, _-_, _*_, _/_, _%_, _<_, _≤_}
-use native.Mathlib.Nat.{zero-mul, add-mul, mul-le-mul-right, div-add-mod', mod-lt}
+use mathlib.Core.Bool.{Bool, true, false, cond}
+use mathlib.Core.List.{List, [], _∷_, _++_}
+use Prim.Native.Nat.{ℕ, zero, suc, _+_, _-_, _<_, _≤_}
 use native.Mathlib.Omega.{arith}
-use lib.ListN.{length, getD, drop, length-append, length-map, length-drop, List·getD-append}
-use lib.Seq.{drop-drop, drop-append-seam, getD-append-add}
+use lib.ListN.{length, getD, drop, length-append, length-drop, List·getD-eq-default}
+use lib.Seq.{drop-drop}
 use lib.Dec.{eqb}
-use borrow.Author.Tests.{eq-eqb, ne-eqb, eqb-true}
-use Rattle.calculus.specs.Abstraction.{Act, tauA, inpA, outA, boutA, weak}
+use borrow.Author.Tests.{eq-eqb, eqb-true}
+use Rattle.calculus.specs.Abstraction.{Act, tauA, inpA, outA, boutA}
 use Rattle.calculus.specs.Cond.{Cond}
 use Rattle.calculus.specs.Term.{Term, nil, tau, inp, out, bout, mat, sum, par, res, call, ren, lift}
 use Rattle.terms.specs.Answer.{result}
 use Rattle.terms.specs.Encoding.{nameByte, encode, InScope}
 use Rattle.terms.specs.Limits.{nameCount, tableNames}
-use Rattle.terms.specs.Question.{Question, checkOf}
+use Rattle.terms.specs.Question.{Question}
 use Rattle.terms.proofs.ReadEncoded.{encode-some}
 use Rattle.terms.proofs.Stores.{getD-front}
-use Rattle.steps.specs.Bodies.{AritiesIs, EndIs}
 use Rattle.steps.specs.Listing.{bodyOf}
 use Rattle.steps.specs.Names.{turn}
-use Rattle.steps.specs.Passing.{candidates, Sent, Does, PassedIs, PassIs, pastAt, endingAt, opensAt, leavingAt, returnedAt, counted, SplitIs, metAt}
-use Rattle.steps.specs.Raw.{Candidate, step, blocked, matching, leftSteps, rightSteps, restricted, visible, silent, visibleOf, silentOf}
+use Rattle.steps.specs.Passing.{candidates, Sent, Does, PassIs, PrefixIs, nothingSent, opensAt, leavingAt, counted}
+use Rattle.steps.specs.Raw.{Candidate, step, blocked, visible, silent, visibleOf, silentOf}
 use Rattle.steps.specs.Slots.{slotOf}
-use Rattle.steps.specs.declared.pass.Numbers.{Numbers}
 use Rattle.steps.specs.declared.pass.Passed.{Passed}
-use Rattle.steps.proofs.CandidateForms.{candidates-mat, candidates-sum, candidates-res, candidates-par, meetings, tag, tag-at, only-mat, only-res, only-prefix}
+use Rattle.steps.proofs.CandidateForms.{candidates-mat, candidates-res, tag, tag-at, only-mat, only-res}
 use Rattle.steps.proofs.NameSlots.{slot-of-byte, slot-bound, slot-inner, below-level}
-use Rattle.steps.proofs.Numbering.{nth-matching, nth-leftSteps, nth-rightSteps, nth-restricted}
-use Rattle.steps.proofs.Premises.{Step, Beside, Under, Restricts, matching-of, left-of, right-of, under-of}
+use Rattle.steps.proofs.Numbering.{nth-matching, nth-restricted}
+use Rattle.steps.proofs.Premises.{never, Restricts, matching-of, under-of}
 
 -- No term stands past the end.
-pub pass-none : (question s : List ℕ) (at D calls : ℕ) (t : Bool) (i : ℕ) → length s ≤ at → PassIs question s at D calls t i (pastAt 0 at)
+pub pass-none : (question s : List ℕ) (at D calls : ℕ) (t : Bool) (i : ℕ) → length s ≤ at → PassIs question s at D calls t i nothingSent
 pass-none question s at D calls t i past = record {
-  on = omega arith;
   slot = omega arith;
-  fewer = omega arith;
-  is = λ q free σ P rest ok few scope st. absurd (omega (arith, encode-some D P, simp (length-append, length-drop) at (ap length st)));
+  does = λ q free σ P rest ok few scope st. absurd (omega (arith, encode-some D P, simp (length-append, length-drop) at (ap length st)));
 }
 
 -- A prefix has one candidate, or none of this kind.
@@ -83,130 +78,79 @@ tag-ren σ (par P Q) = refl
 tag-ren σ (res P) = refl
 tag-ren σ (call k xs) = refl
 
-module _ (question s : List ℕ) (at D calls : ℕ) (t : Bool) (i : ℕ) (arities : List ℕ) (ar : AritiesIs question arities) (e : ℕ) (E : EndIs s at arities e)
-    (low : getD s at 0 < 5) where
-  -- the candidates of a prefix at `at`
-  here : (q : Question) (σ : ℕ → ℕ) (P : Term) (rest : List ℕ) → drop at s ≡ encode D P ++ rest
-      → candidates t (bodyOf (q .bodies)) calls (ren σ P) ≡ cond (counted t (getD s at 0)) (prefixStep (ren σ P)) []
-  here q σ P rest st =
-      let g = tag-at s at D P rest st in
-      prefix-candidates (bodyOf (q .bodies)) t calls (ren σ P) (omega (arith, tag-ren σ P))
-      ∙ ap (λ (k : ℕ). cond (counted t k) (prefixStep (ren σ P)) []) (tag-ren σ P ∙ sym g)
+-- What is not blocked in such a list is its one candidate.
+pub only-one : (b : Bool) (cs : List Candidate) (n : ℕ) (M : Cond) (α : Act) (A : Term) → length cs ≤ 1 → getD (cond b cs []) n blocked ≡ step M α A
+    → getD cs 0 blocked ≡ step M α A
+only-one true cs zero M α A l e = e
+only-one true cs (suc n) M α A l e = never M α A (sym (List·getD-eq-default cs blocked {n = suc n} (omega arith)) ∙ e)
+only-one false cs n M α A l e = never M α A e
 
-  ends : (q : Question) (free : ℕ) (P : Term) (rest : List ℕ) → checkOf question ≡ result q → InScope free (q .arities) D P → drop at s ≡ encode D P ++ rest
-      → e ≡ at + length (encode D P)
-  unfolding AritiesIs
-  ends q free P rest ok scope st = E .is free D P rest (subst (λ (l : List ℕ). InScope free l D P) (sym (ar q ok)) scope) st
+one-at-most : (P : Term) → length (prefixStep P) ≤ 1
+unfolding prefixStep
+one-at-most nil = omega arith
+one-at-most (tau P) = omega arith
+one-at-most (inp a P) = omega arith
+one-at-most (out a b P) = omega arith
+one-at-most (bout a P) = omega arith
+one-at-most (mat a b P) = omega arith
+one-at-most (sum P Q) = omega arith
+one-at-most (par P Q) = omega arith
+one-at-most (res P) = omega arith
+one-at-most (call k xs) = omega arith
 
-  pub prefix-none : counted t (getD s at 0) ≡ false → PassIs question s at D calls t i (pastAt i e)
-  prefix-none n = record {
-    on = E .on;
-    slot = omega arith;
-    fewer = omega arith;
-    is = λ q free σ P rest ok few scope st.
-        let c : candidates t (bodyOf (q .bodies)) calls (ren σ P) ≡ [] = here q σ P rest st ∙ rw n in
-        record {
-          end = ends q free P rest ok scope st;
-          past = λ f. rw c (omega arith);
-          here = λ f. let z : _≡_ {A = ℕ} 0 1 = cc in absurd (omega arith);
-          does = λ M α A f. let z : _≡_ {A = ℕ} 0 1 = cc in absurd (omega arith);
-        };
-  }
-
-  one : (q : Question) (free : ℕ) (σ : ℕ → ℕ) (P : Term) (rest : List ℕ) → drop at s ≡ encode D P ++ rest → InScope free (q .arities) D P
-      → counted t (getD s at 0) ≡ true → length (prefixStep (ren σ P)) ≡ 1
-  unfolding prefixStep counted
-  one q free σ P rest st scope n = go P (rw (tag-at s at D P rest st) at n) (rw (tag-at s at D P rest st) at low)
-    where
-      go : (P : Term) → counted t (tag P) ≡ true → tag P < 5 → length (prefixStep (ren σ P)) ≡ 1
-      go nil n l = let z : _≡_ {A = ℕ} 0 1 = cc in absurd (omega arith)
-      go (tau P) n l = refl
-      go (inp a P) n l = refl
-      go (out a b P) n l = refl
-      go (bout a P) n l = refl
-      go (mat a b P) n l = absurd (omega arith)
-      go (sum P Q) n l = absurd (omega arith)
-      go (par P Q) n l = absurd (omega arith)
-      go (res P) n l = absurd (omega arith)
-      go (call k xs) n l = absurd (omega arith)
-
-  pub prefix-past : counted t (getD s at 0) ≡ true → 0 < i → PassIs question s at D calls t i (pastAt (i - 1) e)
-  prefix-past n p = record {
-    on = E .on;
-    slot = omega arith;
-    fewer = omega arith;
-    is = λ q free σ P rest ok few scope st.
-        let c : candidates t (bodyOf (q .bodies)) calls (ren σ P) ≡ prefixStep (ren σ P) = here q σ P rest st ∙ rw n in
-        let l = one q free σ P rest st scope n in
-        record {
-          end = ends q free P rest ok scope st;
-          past = λ f. rw (c, l) (omega arith);
-          here = λ f. let z : _≡_ {A = ℕ} 0 1 = cc in absurd (omega arith);
-          does = λ M α A f. let z : _≡_ {A = ℕ} 0 1 = cc in absurd (omega arith);
-        };
-  }
-
-  pub prefix-here : counted t (getD s at 0) ≡ true → i ≡ 0 → (k o : ℕ) → k ≡ getD s at 0 - 1 → o ≡ turn 128 tableNames D (getD s (at + 2) 0) → o < 256
-      → PassIs question s at D calls t i (record { found = true; rest = 0; end = e; kind = k; object = o })
+module _ (question s : List ℕ) (at D calls : ℕ) (t : Bool) (i : ℕ) (low : getD s at 0 < 5) (r : Passed) (R : PrefixIs s at D r) where
+  pub pass-prefix : PassIs question s at D calls t i r
   unfolding prefixStep Does InScope encode
-  prefix-here n z k o ek eo small = record {
-    on = E .on;
-    slot = small;
-    fewer = omega arith;
-    is = λ q free σ P rest ok few scope st.
-        let c : candidates t (bodyOf (q .bodies)) calls (ren σ P) ≡ prefixStep (ren σ P) = here q σ P rest st ∙ rw n in
-        let l = one q free σ P rest st scope n in
-        record {
-          end = ends q free P rest ok scope st;
-          past = λ f. let z : _≡_ {A = ℕ} 0 1 = cc in absurd (omega arith);
-          here = λ f. rw (c, l) (omega arith);
-          does = λ M α A f g. acts q free σ P rest few scope st (ek ∙ ap (λ (k : ℕ). k - 1) (tag-at s at D P rest st)) M α A (rw (c, z) at g);
-        };
+  pass-prefix = record {
+    slot = R .slot;
+    does = λ q free σ P rest ok few scope st M α A e.
+        let g = tag-at s at D P rest st in
+        let c = prefix-candidates (bodyOf (q .bodies)) t calls (ren σ P) (omega (arith, tag-ren σ P)) in
+        acts q free σ P rest few scope st (R .kind ∙ ap (λ (k : ℕ). k - 1) g) M α A
+        (only-one (counted t (tag (ren σ P))) (prefixStep (ren σ P)) i M α A (one-at-most (ren σ P)) (ap (λ (l : List Candidate). getD l i blocked) (sym c) ∙ e));
   }
     where
-      acts : (q : Question) (free : ℕ) (σ : ℕ → ℕ) (P : Term) (rest : List ℕ) → free ≤ nameCount → InScope free (q .arities) D P → drop at s ≡ encode D P ++ rest → k ≡ tag P - 1
-          → (M : Cond) (α : Act) (A : Term) → getD (prefixStep (ren σ P)) 0 blocked ≡ step M α A → Does free D σ α k o
-      acts q free σ nil rest few scope st ek M α A g = let z : _≡_ {A = ℕ} 0 1 = cc in absurd (omega arith)
-      acts q free σ (tau P) rest few scope st ek M α A g = let x : tauA ≡ α = cc in subst (λ (γ : Act). Does free D σ γ k o) x (omega arith)
-      acts q free σ (inp a P) rest few scope st ek M α A g = let x : inpA (σ a) ≡ α = cc in subst (λ (γ : Act). Does free D σ γ k o) x (omega arith)
+      acts : (q : Question) (free : ℕ) (σ : ℕ → ℕ) (P : Term) (rest : List ℕ) → free ≤ nameCount → InScope free (q .arities) D P → drop at s ≡ encode D P ++ rest
+          → r .kind ≡ tag P - 1 → (M : Cond) (α : Act) (A : Term) → getD (prefixStep (ren σ P)) 0 blocked ≡ step M α A → Does free D σ α (r .kind) (r .object)
+      acts q free σ nil rest few scope st ek M α A g = never M α A g
+      acts q free σ (tau P) rest few scope st ek M α A g = let x : tauA ≡ α = cc in subst (λ (γ : Act). Does free D σ γ (r .kind) (r .object)) x (omega arith)
+      acts q free σ (inp a P) rest few scope st ek M α A g = let x : inpA (σ a) ≡ α = cc in subst (λ (γ : Act). Does free D σ γ (r .kind) (r .object)) x (omega arith)
       acts q free σ (out a b P) rest few scope st ek M α A g =
           let x : outA (σ a) (σ b) ≡ α = cc in
           let y : getD s (at + 2) 0 ≡ nameByte D b = getD-front s at (encode D (out a b P)) rest 2 st (omega arith) in
           let w = scope .1 in
-          subst (λ (γ : Act). Does free D σ γ k o) x
-          (omega arith, record { name = b; within = w; slot = eo ∙ ap (turn 128 tableNames D) y ∙ slot-of-byte D b (omega arith); is = refl })
-      acts q free σ (bout a P) rest few scope st ek M α A g = let x : boutA (σ a) ≡ α = cc in subst (λ (γ : Act). Does free D σ γ k o) x (omega arith)
-      acts q free σ (mat a b P) rest few scope st ek M α A g = let z : _≡_ {A = ℕ} 0 1 = cc in absurd (omega arith)
-      acts q free σ (sum P Q) rest few scope st ek M α A g = let z : _≡_ {A = ℕ} 0 1 = cc in absurd (omega arith)
-      acts q free σ (par P Q) rest few scope st ek M α A g = let z : _≡_ {A = ℕ} 0 1 = cc in absurd (omega arith)
-      acts q free σ (res P) rest few scope st ek M α A g = let z : _≡_ {A = ℕ} 0 1 = cc in absurd (omega arith)
-      acts q free σ (call k′ xs) rest few scope st ek M α A g = let z : _≡_ {A = ℕ} 0 1 = cc in absurd (omega arith)
+          subst (λ (γ : Act). Does free D σ γ (r .kind) (r .object)) x (
+            omega arith,
+            record {
+              name = b;
+              within = w;
+              slot = R .object (tag-at s at D (out a b P) rest st) ∙ ap (turn 128 tableNames D) y ∙ slot-of-byte D b (omega arith);
+              is = refl;
+            },
+          )
+      acts q free σ (bout a P) rest few scope st ek M α A g = let x : boutA (σ a) ≡ α = cc in subst (λ (γ : Act). Does free D σ γ (r .kind) (r .object)) x (omega arith)
+      acts q free σ (mat a b P) rest few scope st ek M α A g = never M α A g
+      acts q free σ (sum P Q) rest few scope st ek M α A g = never M α A g
+      acts q free σ (par P Q) rest few scope st ek M α A g = never M α A g
+      acts q free σ (res P) rest few scope st ek M α A g = never M α A g
+      acts q free σ (call k xs) rest few scope st ek M α A g = never M α A g
 
 -- [Match]: the continuation stands behind three bytes.
 pub pass-mat : (question s : List ℕ) (at D calls : ℕ) (t : Bool) (i : ℕ) (r : Passed) → getD s at 0 ≡ 5
     → PassIs question s (at + 3) D calls t i r → PassIs question s at D calls t i r
 unfolding encode InScope
 pass-mat question s at D calls t i r g R = record {
-  on = omega (arith, R .on);
   slot = R .slot;
-  fewer = R .fewer;
-  is = λ q free σ P rest ok few scope st. only-mat
+  does = λ q free σ P rest ok few scope st M α A e. only-mat
       (λ (P : Term). InScope free (q .arities) D P → drop at s ≡ encode D P ++ rest
-      → PassedIs free D σ (candidates t (bodyOf (q .bodies)) calls (ren σ P)) (length (encode D P)) at i r)
-      (λ a b Q scope st.
-      let x = R .is q free σ Q rest ok few (scope .2) (sym (drop-drop 3 at s) ∙ ap (drop 3) st) in
+      → getD (candidates t (bodyOf (q .bodies)) calls (ren σ P)) i blocked ≡ step M α A → Does free D σ α (r .kind) (r .object))
+      (λ a b Q scope st e.
       let body = bodyOf (q .bodies) in
       let c = candidates-mat body t calls (σ a) (σ b) (ren σ Q) in
-      record {
-        end = omega (arith, x .end);
-        past = λ f. rw (c, length-map) (x .past f);
-        here = λ f. rw (c, length-map) (x .here f);
-        does = λ M α A f e.
-            let p = matching-of (σ a) (σ b) (getD (candidates t body calls (ren σ Q)) i blocked) M α A
-            (sym (nth-matching (σ a) (σ b) (candidates t body calls (ren σ Q)) i) ∙ ap (λ (l : List Candidate). getD l i blocked) (sym c) ∙ e) in
-            x .does (p .condition) α A f (p .is);
-      })
-      P (sym (tag-at s at D P rest st) ∙ g) scope st;
+      let p = matching-of (σ a) (σ b) (getD (candidates t body calls (ren σ Q)) i blocked) M α A
+      (sym (nth-matching (σ a) (σ b) (candidates t body calls (ren σ Q)) i) ∙ ap (λ (l : List Candidate). getD l i blocked) (sym c) ∙ e) in
+      R .does q free σ Q rest ok few (scope .2) (sym (drop-drop 3 at s) ∙ ap (drop 3) st) (p .condition) α A (p .is))
+      P (sym (tag-at s at D P rest st) ∙ g) scope st e;
 }
 
 -- [Res] and [Open]: what the action does outside a restriction.
@@ -247,63 +191,19 @@ pub pass-res : (question s : List ℕ) (at D calls : ℕ) (t : Bool) (i : ℕ) (
     → PassIs question s (at + 1) (D + 1) calls t i r → PassIs question s at D calls t i (leavingAt D r)
 unfolding encode InScope leavingAt
 pass-res question s at D calls t i r g R = record {
-  on = omega (arith, R .on);
   slot = R .slot;
-  fewer = R .fewer;
-  is = λ q free σ P rest ok few scope st. only-res
+  does = λ q free σ P rest ok few scope st M α A e. only-res
       (λ (P : Term). InScope free (q .arities) D P → drop at s ≡ encode D P ++ rest
-      → PassedIs free D σ (candidates t (bodyOf (q .bodies)) calls (ren σ P)) (length (encode D P)) at i (leavingAt D r))
-      (λ Q scope st.
+      → getD (candidates t (bodyOf (q .bodies)) calls (ren σ P)) i blocked ≡ step M α A
+      → Does free D σ α (cond (opensAt D (r .kind) (r .object)) 3 (r .kind)) (r .object))
+      (λ Q scope st e.
       let d : D + 1 ≡ 1 + D = omega arith in
       let R′ : PassIs question s (at + 1) (1 + D) calls t i r = rw d at R in
-      let x = R′ .is q free (lift σ) Q rest ok few scope (sym (drop-drop 1 at s) ∙ ap (drop 1) st) in
       let body = bodyOf (q .bodies) in
       let c = candidates-res body t calls (ren (lift σ) Q) in
-      record {
-        end = omega (arith, x .end);
-        past = λ f. rw (c, length-map) (x .past f);
-        here = λ f. rw (c, length-map) (x .here f);
-        does = λ M α A f e.
-            let p = under-of (getD (candidates t body calls (ren (lift σ) Q)) i blocked) M α A
-            (sym (nth-restricted (candidates t body calls (ren (lift σ) Q)) i) ∙ ap (λ (l : List Candidate). getD l i blocked) (sym c) ∙ e) in
-            does-outside free D σ (p .action) (p .result) α A (r .kind) (r .object) (omega arith) (p .restricts)
-            (x .does (p .premise .condition) (p .action) (p .result) f (p .premise .is));
-      })
-      P (sym (tag-at s at D P rest st) ∙ g) scope st;
+      let p = under-of (getD (candidates t body calls (ren (lift σ) Q)) i blocked) M α A
+      (sym (nth-restricted (candidates t body calls (ren (lift σ) Q)) i) ∙ ap (λ (l : List Candidate). getD l i blocked) (sym c) ∙ e) in
+      does-outside free D σ (p .action) (p .result) α A (r .kind) (r .object) (omega arith) (p .restricts)
+      (R′ .does q free (lift σ) Q rest ok few scope (sym (drop-drop 1 at s) ∙ ap (drop 1) st) (p .premise .condition) (p .action) (p .result) (p .premise .is)))
+      P (sym (tag-at s at D P rest st) ∙ g) scope st e;
 }
-
--- Numbers of the two sides of a communication.
-module _ (j rest : ℕ) where
-  pub split-found : SplitIs j true rest (record { none = false; left = 0; right = j; width = 0 })
-  split-found = record {
-    below = λ m h. let z : m ≡ 0 = omega arith in rw z (omega arith);
-    is = λ w f g. (
-      λ n. let z : _≡_ {A = ℕ} 0 1 = cc in absurd (omega arith),
-      λ n. (omega (arith, zero-mul w), f refl, λ m h. let z : m ≡ 0 = omega arith in rw z (omega (arith, zero-mul w))),
-    );
-  }
-
-  pub split-none : j ≤ rest → SplitIs j false rest (record { none = true; left = 0; right = 0; width = 0 })
-  split-none h = record {
-    below = λ m l. let z : m ≡ 0 = omega arith in rw z (omega arith);
-    is = λ w f g. (λ n. omega (arith, g refl), λ n. let z : _≡_ {A = ℕ} 0 1 = cc in absurd (omega arith));
-  }
-
-  pub split-some : rest < j → (w₀ : ℕ) → w₀ ≡ j - rest → SplitIs j false rest (record { none = false; left = j / w₀; right = j % w₀; width = w₀ })
-  split-some h w₀ e = record {
-    below = λ m l. omega (arith, mul-le-mul-right w₀ l, div-add-mod' j w₀);
-    is = λ w f g.
-        let s : w₀ ≡ w = omega (arith, g refl) in (
-          λ n. let z : _≡_ {A = ℕ} 0 1 = cc in absurd (omega arith),
-          λ n. (
-            rw (← s) (sym (div-add-mod' j w₀)),
-            rw (← s) (mod-lt j (omega arith)),
-            λ m l. ap (λ (k : ℕ). m * k) s,
-          ),
-        );
-  }
-
-pub counted-some : (t : Bool) (k : ℕ) → counted t k ≡ true → 0 < k
-unfolding counted
-counted-some t zero e = let z : _≡_ {A = ℕ} 0 1 = cc in absurd (omega arith)
-counted-some t (suc k) e = omega arith

@@ -1,38 +1,37 @@
 -- What a task asks for of a parallel is what its sides are asked for, one after the other: [Par], [Com] and [Close]. Assumes nothing.
-use mathlib.Core.Path.{_≡_, refl, sym, ap, ap₂, subst, _∙_, fun-ext}
-use mathlib.Core.Bool.{Bool, true, false, cond}
+use mathlib.Core.Path.{_≡_, refl, sym, ap, subst, _∙_, fun-ext}
+use mathlib.Core.Bool.{Bool, true, false}
 use mathlib.Core.List.{List, [], _∷_, _++_}
 use Prim.Native.Nat.{ℕ, zero, suc, _+_, _-_, _*_, _<_, _≤_}
-use native.Mathlib.Nat.{mul-zero, mul-le-mul-right}
 use native.Mathlib.Omega.{arith}
-use lib.ListN.{length, getD, drop, set}
-use lib.Seq.{drop-drop, drop-append-seam}
-use lib.Dec.{leb, eqb}
-use borrow.Author.Tests.{leb-true, leb-false, eqb-true, eqb-false}
+use lib.ListN.{length, getD, drop}
+use lib.Dec.{eqb}
+use borrow.Author.Tests.{eqb-true, eqb-false}
 use Rattle.calculus.specs.Abstraction.{Act, tauA, inpA, outA, boutA, weak}
 use Rattle.calculus.specs.Cond.{Cond}
 use Rattle.calculus.specs.Term.{Term, par, res, ren, lift, inst, _•_}
-use Rattle.calculus.proofs.Renaming.{ren-∘, ren-triangle}
+use Rattle.calculus.proofs.Renaming.{ren-triangle}
 use Rattle.terms.specs.Answer.{result}
 use Rattle.terms.specs.Encoding.{encode, InScope}
 use Rattle.terms.specs.Limits.{nameCount, tableNames}
 use Rattle.terms.specs.Question.{Question, checkOf}
 use Rattle.steps.specs.Listing.{bodyOf}
-use Rattle.steps.specs.Names.{nameSlots, HasNames, HasNew}
-use Rattle.steps.specs.Passing.{candidates, Sent, Does, PassedIs, PassIs, SplitIs}
-use Rattle.steps.specs.Raw.{Candidate, step, blocked, leftSteps, rightSteps, communications}
-use Rattle.steps.specs.Results.{receiving, chosen, Asks, resting, numbered, visibly, sending, closing, opening, meetingPlan, Parts, PlanIs}
+use Rattle.steps.specs.Names.{HasNames, HasNew}
+use Rattle.steps.specs.Passing.{candidates, Sent, Does, PassIs, MiddleIs}
+use Rattle.steps.specs.Raw.{Candidate, step, blocked}
+use Rattle.steps.specs.Results.{receiving, chosen, Asks, resting, numbered, visibly, sending, closing, SplitIs, meetingPlan, Parts, PlanIs}
 use Rattle.steps.specs.Slots.{slotOf}
-use Rattle.steps.specs.declared.pass.Numbers.{Numbers}
+use Rattle.steps.specs.Tally.{visibleAt, TallyIs}
+use Rattle.steps.specs.Tallying.{numberAt}
 use Rattle.steps.specs.declared.pass.Passed.{Passed}
-use Rattle.steps.specs.declared.result.Plan.{Plan}
+use Rattle.steps.specs.declared.result.Numbers.{Numbers}
 use Rattle.steps.specs.declared.result.Task.{Task}
-use Rattle.steps.proofs.AskLaws.{chosen-is, some-candidate, found-of}
+use Rattle.steps.proofs.AskLaws.{chosen-is}
 use Rattle.steps.proofs.CandidateForms.{meetings}
-use Rattle.steps.proofs.NameSlots.{names-beneath, names-renew, new-renew, slot-bound}
-use Rattle.steps.proofs.Numbering.{length-communications, nth-communication}
-use Rattle.steps.proofs.Premises.{never, Meets, Meeting, left-of, right-of, meeting-of}
-use Rattle.steps.proofs.TwoSides.{Sides, sides-par}
+use Rattle.steps.proofs.NameSlots.{names-beneath, slot-bound}
+use Rattle.steps.proofs.Numbering.{meeting-at}
+use Rattle.steps.proofs.Premises.{never, Meets, Meeting, left-of, right-of}
+use Rattle.steps.proofs.TwoSides.{sides-par, number-is, middle-on, middle-is, behind, right-number}
 
 -- What stands beside a step is written as it is.
 weak-received : (x : ℕ) (ρ : ℕ → ℕ) (α : Act) (Q : Term) → ren (receiving x ρ α) (weak α Q) ≡ ren ρ Q
@@ -43,13 +42,13 @@ weak-received x ρ (outA a b) Q = refl
 weak-received x ρ (boutA a) Q = ren-triangle (x • ρ) suc ρ Q (λ n. refl)
 
 -- What a side that makes no step is asked for.
-rests : (task : Task) (body : ℕ → Term) (free D : ℕ) (σ ρ : ℕ → ℕ) (x : ℕ) (Q : Term) → HasNames free D (task .levels) (task .names) (λ n. ρ (σ n))
-    → HasNew (task .levels) (task .names) x → Asks (resting task) body free D σ Q (encode (task .levels) (ren ρ (ren σ Q)))
+rests : (names : List ℕ) (task : Task) (body : ℕ → Term) (free D : ℕ) (σ ρ : ℕ → ℕ) (x : ℕ) (Q : Term) → HasNames free D (task .levels) names (λ n. ρ (σ n))
+    → HasNew (task .levels) (task .new) x → Asks names (resting task) body free D σ Q (encode (task .levels) (ren ρ (ren σ Q)))
 unfolding chosen receiving
-rests task body free D σ ρ x Q has new = record {
+rests names task body free D σ ρ x Q has new = record {
   ρ = ρ;
   x = x;
-  names = has;
+  has = has;
   new = new;
   condition = [];
   action = tauA;
@@ -58,38 +57,33 @@ rests task body free D σ ρ x Q has new = record {
   bytes = refl;
 }
 
-module _ (question s : List ℕ) (at D : ℕ) (task : Task) (walks : task .still ≡ false) (p : Passed)
-    (X : PassIs question s (at + 1) D (task .calls) (task .silently) (task .number) p) where
-  abbrev Shows : Plan → Type 0
-  Shows plan =
-      (q : Question) (free : ℕ) (σ : ℕ → ℕ) (P Q : Term) (rest bs : List ℕ) → checkOf question ≡ result q → free ≤ nameCount
-      → InScope free (q .arities) D P → InScope free (q .arities) D Q → drop (at + 1) s ≡ encode D P ++ (encode D Q ++ rest)
-      → Asks task (bodyOf (q .bodies)) free D σ (par P Q) bs → Parts plan (bodyOf (q .bodies)) free D σ at P Q bs
-
+module _ (question s : List ℕ) (at D : ℕ) (names : List ℕ) (task : Task) (walks : task .still ≡ false) (tally : List ℕ) (T : TallyIs question s (task .calls) tally)
+    (m : ℕ) (N : MiddleIs s tally at m) (some : at < length s) where
   -- The left side steps.
-  pub plan-left : p .found ≡ true → PlanIs question s at D task (record { close = false; middle = p .end; left = task; right = resting task })
+  pub plan-left : task .number < numberAt tally (at + 1) (task .silently)
+      → PlanIs question s at D names task (record { close = false; middle = m; left = task; right = resting task })
   unfolding encode
   plan-left h = record {
-    on = X .on;
+    on = middle-on question s (task .calls) tally T at m N some;
     leftLevels = omega arith;
     rightLevels = omega arith;
     leftCalls = refl;
     rightCalls = refl;
     is = λ q free σ P Q rest bs ok few sp sq st K.
         let body = bodyOf (q .bodies) in
-        let x = X .is q free σ P (encode D Q ++ rest) ok few sp st in
+        let n = number-is question s (task .calls) tally T (task .silently) q (at + 1) free D σ P (encode D Q ++ rest) ok sp st in
         let cs = candidates (task .silently) body (task .calls) (ren σ P) in
         let S = sides-par body (task .silently) (task .calls) (ren σ P) (ren σ Q) in
         let b = left-of (ren σ Q) (getD cs (task .number) blocked) (K .condition) (K .action) (K .result)
-        (sym (S .first (task .number) (x .here h)) ∙ sym (chosen-is task body (par (ren σ P) (ren σ Q)) walks) ∙ K .candidate) in
+        (sym (S .first (task .number) (omega arith)) ∙ sym (chosen-is task body (par (ren σ P) (ren σ Q)) walks) ∙ K .candidate) in
         record {
-          middle = x .end;
+          middle = middle-is question s (task .calls) tally T at m N q free D σ P Q rest ok sp sq st;
           first = encode (task .levels) (ren (receiving (K .x) (K .ρ) (K .action)) (b .result));
           second = encode (task .levels) (ren (K .ρ) (ren σ Q));
           left = record {
             ρ = K .ρ;
             x = K .x;
-            names = K .names;
+            has = K .has;
             new = K .new;
             condition = b .premise .condition;
             action = K .action;
@@ -97,7 +91,7 @@ module _ (question s : List ℕ) (at D : ℕ) (task : Task) (walks : task .still
             candidate = chosen-is task body (ren σ P) walks ∙ b .premise .is;
             bytes = refl;
           };
-          right = rests task body free D σ (K .ρ) (K .x) Q (K .names) (K .new);
+          right = rests names task body free D σ (K .ρ) (K .x) Q (K .has) (K .new);
           bytes =
               K .bytes ∙ ap (λ (A : Term). encode (task .levels) (ren (receiving (K .x) (K .ρ) (K .action)) A)) (b .is)
               ∙ ap (λ (T : Term). 7 ∷ (encode (task .levels) (ren (receiving (K .x) (K .ρ) (K .action)) (b .result)) ++ encode (task .levels) T))
@@ -105,53 +99,49 @@ module _ (question s : List ℕ) (at D : ℕ) (task : Task) (walks : task .still
         };
   }
 
-  module _ (h : p .found ≡ false) (r : Passed) (Y : PassIs question s (p .end) D (task .calls) (task .silently) (p .rest) r) where
-    behind : (P Q : Term) (rest : List ℕ) → drop (at + 1) s ≡ encode D P ++ (encode D Q ++ rest) → p .end ≡ at + 1 + length (encode D P)
-        → drop (p .end) s ≡ encode D Q ++ rest
-    behind P Q rest st e = rw (e, ← drop-drop, st, drop-append-seam)
-
-    -- The right side steps.
-    pub plan-right : r .found ≡ true
-        → PlanIs question s at D task (record { close = false; middle = p .end; left = resting task; right = numbered (p .rest) task })
-    unfolding encode
-    plan-right k = record {
-      on = X .on;
-      leftLevels = omega arith;
-      rightLevels = omega arith;
-      leftCalls = refl;
-      rightCalls = refl;
-      is = λ q free σ P Q rest bs ok few sp sq st K.
-          let body = bodyOf (q .bodies) in
-          let x = X .is q free σ P (encode D Q ++ rest) ok few sp st in
-          let y = Y .is q free σ Q rest ok few sq (behind P Q rest st (x .end)) in
-          let cs = candidates (task .silently) body (task .calls) (ren σ Q) in
-          let S = sides-par body (task .silently) (task .calls) (ren σ P) (ren σ Q) in
-          let b = right-of (ren σ P) (getD cs (p .rest) blocked) (K .condition) (K .action) (K .result)
-          (sym (S .second (p .rest) (y .here k))
-          ∙ ap (λ (j : ℕ). getD (candidates (task .silently) body (task .calls) (par (ren σ P) (ren σ Q))) j blocked) (sym (x .past h))
-          ∙ sym (chosen-is task body (par (ren σ P) (ren σ Q)) walks) ∙ K .candidate) in
-          record {
-            middle = x .end;
-            first = encode (task .levels) (ren (K .ρ) (ren σ P));
-            second = encode (task .levels) (ren (receiving (K .x) (K .ρ) (K .action)) (b .result));
-            left = rests task body free D σ (K .ρ) (K .x) P (K .names) (K .new);
-            right = record {
-              ρ = K .ρ;
-              x = K .x;
-              names = K .names;
-              new = K .new;
-              condition = b .premise .condition;
-              action = K .action;
-              result = b .result;
-              candidate = chosen-is (numbered (p .rest) task) body (ren σ Q) walks ∙ b .premise .is;
-              bytes = refl;
-            };
-            bytes =
-                K .bytes ∙ ap (λ (A : Term). encode (task .levels) (ren (receiving (K .x) (K .ρ) (K .action)) A)) (b .is)
-                ∙ ap (λ (T : Term). 7 ∷ (encode (task .levels) T ++ encode (task .levels) (ren (receiving (K .x) (K .ρ) (K .action)) (b .result))))
-                (weak-received (K .x) (K .ρ) (K .action) (ren σ P));
+  -- The right side steps.
+  pub plan-right : numberAt tally (at + 1) (task .silently) ≤ task .number → (j : ℕ) → j ≡ task .number - numberAt tally (at + 1) (task .silently)
+      → j < numberAt tally m (task .silently) → PlanIs question s at D names task (record { close = false; middle = m; left = resting task; right = numbered j task })
+  unfolding encode
+  plan-right l j J h = record {
+    on = middle-on question s (task .calls) tally T at m N some;
+    leftLevels = omega arith;
+    rightLevels = omega arith;
+    leftCalls = refl;
+    rightCalls = refl;
+    is = λ q free σ P Q rest bs ok few sp sq st K.
+        let body = bodyOf (q .bodies) in
+        let n = number-is question s (task .calls) tally T (task .silently) q (at + 1) free D σ P (encode D Q ++ rest) ok sp st in
+        let k = right-number question s (task .calls) tally T at m N q free D σ P Q rest ok sp sq st (task .silently) in
+        let cs = candidates (task .silently) body (task .calls) (ren σ Q) in
+        let S = sides-par body (task .silently) (task .calls) (ren σ P) (ren σ Q) in
+        let i : task .number ≡ length (candidates (task .silently) body (task .calls) (ren σ P)) + j = omega arith in
+        let b = right-of (ren σ P) (getD cs j blocked) (K .condition) (K .action) (K .result)
+        (sym (S .second j (omega arith))
+        ∙ ap (λ (j : ℕ). getD (candidates (task .silently) body (task .calls) (par (ren σ P) (ren σ Q))) j blocked) (sym i)
+        ∙ sym (chosen-is task body (par (ren σ P) (ren σ Q)) walks) ∙ K .candidate) in
+        record {
+          middle = middle-is question s (task .calls) tally T at m N q free D σ P Q rest ok sp sq st;
+          first = encode (task .levels) (ren (K .ρ) (ren σ P));
+          second = encode (task .levels) (ren (receiving (K .x) (K .ρ) (K .action)) (b .result));
+          left = rests names task body free D σ (K .ρ) (K .x) P (K .has) (K .new);
+          right = record {
+            ρ = K .ρ;
+            x = K .x;
+            has = K .has;
+            new = K .new;
+            condition = b .premise .condition;
+            action = K .action;
+            result = b .result;
+            candidate = chosen-is (numbered j task) body (ren σ Q) walks ∙ b .premise .is;
+            bytes = refl;
           };
-    }
+          bytes =
+              K .bytes ∙ ap (λ (A : Term). encode (task .levels) (ren (receiving (K .x) (K .ρ) (K .action)) A)) (b .is)
+              ∙ ap (λ (T : Term). 7 ∷ (encode (task .levels) T ++ encode (task .levels) (ren (receiving (K .x) (K .ρ) (K .action)) (b .result))))
+              (weak-received (K .x) (K .ρ) (K .action) (ren σ P));
+        };
+  }
 
 -- What an action that sends a free name does, and what meets it.
 record Sends (free D : ℕ) (σ : ℕ → ℕ) (β : Act) (o : ℕ) : Type 0 where
@@ -223,12 +213,11 @@ record Met (free D : ℕ) (σ : ℕ → ℕ) (c d : Candidate) (α : Act) (A : T
   leftDoes : Does free D σ (meeting .leftAction) (x .kind) (x .object)
   rightDoes : Does free D σ (meeting .rightAction) (z .kind) (z .object)
 
-module _ (question s : List ℕ) (at D : ℕ) (task : Task) (walks : task .still ≡ false) (p : Passed)
-    (X : PassIs question s (at + 1) D (task .calls) (task .silently) (task .number) p)
-    (h : p .found ≡ false) (r : Passed) (Y : PassIs question s (p .end) D (task .calls) (task .silently) (p .rest) r)
-    (k : r .found ≡ false) (v : Passed) (R : PassIs question s (p .end) D (task .calls) false (r .rest) v) (u : Numbers) (U : SplitIs (r .rest) (v .found) (v .rest) u)
-    (x : Passed) (W : PassIs question s (at + 1) D (task .calls) false (u .left) x) (z : Passed) (Z : PassIs question s (p .end) D (task .calls) false (u .right) z)
-    (room : nameCount < length (task .names)) where
+module _ (question s : List ℕ) (at D : ℕ) (names : List ℕ) (task : Task) (walks : task .still ≡ false) (tally : List ℕ) (T : TallyIs question s (task .calls) tally)
+    (m₀ : ℕ) (N : MiddleIs s tally at m₀) (some : at < length s)
+    (h : numberAt tally (at + 1) (task .silently) ≤ task .number) (i : ℕ) (I : i ≡ task .number - numberAt tally (at + 1) (task .silently))
+    (l : numberAt tally m₀ (task .silently) ≤ i) (j : ℕ) (J : j ≡ i - numberAt tally m₀ (task .silently)) (u : Numbers) (U : SplitIs j (visibleAt tally m₀) u)
+    (x : Passed) (W : PassIs question s (at + 1) D (task .calls) false (u .left) x) (z : Passed) (Z : PassIs question s m₀ D (task .calls) false (u .right) z) where
   module _ (q : Question) (free : ℕ) (σ : ℕ → ℕ) (P Q : Term) (rest : List ℕ) (ok : checkOf question ≡ result q) (few : free ≤ nameCount)
       (sp : InScope free (q .arities) D P) (sq : InScope free (q .arities) D Q) (st : drop (at + 1) s ≡ encode D P ++ (encode D Q ++ rest)) where
     abbrev body : ℕ → Term
@@ -240,67 +229,45 @@ module _ (question s : List ℕ) (at D : ℕ) (task : Task) (walks : task .still
     abbrev ts : List Candidate
     ts = candidates false body (task .calls) (ren σ Q)
 
-    xs : PassedIs free D σ (candidates (task .silently) body (task .calls) (ren σ P)) (length (encode D P)) (at + 1) (task .number) p
-    xs = X .is q free σ P (encode D Q ++ rest) ok few sp st
-
-    st₂ : drop (p .end) s ≡ encode D Q ++ rest
-    st₂ = rw (xs .end, ← drop-drop, st, drop-append-seam)
-
-    ys : PassedIs free D σ (candidates (task .silently) body (task .calls) (ren σ Q)) (length (encode D Q)) (p .end) (p .rest) r
-    ys = Y .is q free σ Q rest ok few sq st₂
+    ends : m₀ ≡ at + 1 + length (encode D P)
+    ends = middle-is question s (task .calls) tally T at m₀ N q free D σ P Q rest ok sp sq st
 
     third : (M : Cond) (α : Act) (A : Term) → chosen task body (par (ren σ P) (ren σ Q)) ≡ step M α A
-        → getD (meetings body (task .silently) (task .calls) (ren σ P) (ren σ Q)) (r .rest) blocked ≡ step M α A
+        → getD (meetings body (task .silently) (task .calls) (ren σ P) (ren σ Q)) j blocked ≡ step M α A
     third M α A e =
         let S = sides-par body (task .silently) (task .calls) (ren σ P) (ren σ Q) in
-        let i : task .number ≡ length (candidates (task .silently) body (task .calls) (ren σ P)) + (length (candidates (task .silently) body (task .calls) (ren σ Q)) + r .rest) =
-        omega (arith, xs .past h, ys .past k) in
-        sym (S .third (r .rest))
-        ∙ ap (λ (j : ℕ). getD (candidates (task .silently) body (task .calls) (par (ren σ P) (ren σ Q))) j blocked) (sym i)
+        let a = number-is question s (task .calls) tally T (task .silently) q (at + 1) free D σ P (encode D Q ++ rest) ok sp st in
+        let b = right-number question s (task .calls) tally T at m₀ N q free D σ P Q rest ok sp sq st (task .silently) in
+        let k : task .number ≡ length (candidates (task .silently) body (task .calls) (ren σ P)) + (length (candidates (task .silently) body (task .calls) (ren σ Q)) + j) =
+        omega arith in
+        sym (S .third j)
+        ∙ ap (λ (j : ℕ). getD (candidates (task .silently) body (task .calls) (par (ren σ P) (ren σ Q))) j blocked) (sym k)
         ∙ sym (chosen-is task body (par (ren σ P) (ren σ Q)) walks) ∙ e
+
+    numbers : 0 < length ts → (j ≡ u .left * length ts + u .right) × (u .right < length ts)
+    unfolding numberAt
+    numbers =
+        subst (λ (n : ℕ). 0 < n → (j ≡ u .left * n + u .right) × (u .right < n))
+        (right-number question s (task .calls) tally T at m₀ N q free D σ P Q rest ok sp sq st false) (U .is)
 
     met : (M : Cond) (α : Act) (A : Term) → chosen task body (par (ren σ P) (ren σ Q)) ≡ step M α A
         → Met free D σ (getD ss (u .left) blocked) (getD ts (u .right) blocked) α A x z
     met M α A e = silently (task .silently) refl
       where
-        w : ℕ
-        w = length ts
-
-        vs : PassedIs free D σ ts (length (encode D Q)) (p .end) (r .rest) v
-        vs = R .is q free σ Q rest ok few sq st₂
-
-        at-left : (r .rest ≡ u .left * w + u .right) → u .right < w → r .rest < length ss * w → u .left < length ss
-        at-left e l m = go (leb (length ss) (u .left)) refl
-          where
-            go : (t : Bool) → leb (length ss) (u .left) ≡ t → u .left < length ss
-            go true t = absurd (omega (arith, mul-le-mul-right w (leb-true (length ss) (u .left) t)))
-            go false t = leb-false (length ss) (u .left) t
-
-        numbers : r .rest < length ss * w → (b : Bool) → u .none ≡ b → (u .left < length ss) × (u .right < w) × (r .rest ≡ u .left * w + u .right)
-        numbers m true b =
-            let n = U .is w (vs .here) (vs .past) .0 b in
-            let o : length ss * w ≡ 0 = ap (λ (k : ℕ). length ss * k) n ∙ mul-zero (length ss) in
-            absurd (omega arith)
-        numbers m false b = let (a, c, d) = U .is w (vs .here) (vs .past) .1 b in (at-left a c m, c, a)
-
         silently : (b : Bool) → task .silently ≡ b → Met free D σ (getD ss (u .left) blocked) (getD ts (u .right) blocked) α A x z
         silently false b =
-            never M α A (sym (ap (λ (b : Bool). getD (meetings body b (task .calls) (ren σ P) (ren σ Q)) (r .rest) blocked) b) ∙ third M α A e)
+            never M α A (sym (ap (λ (b : Bool). getD (meetings body b (task .calls) (ren σ P) (ren σ Q)) j blocked) b) ∙ third M α A e)
         silently true b =
-            let c : getD (communications ss ts) (r .rest) blocked ≡ step M α A =
-            sym (ap (λ (b : Bool). getD (meetings body b (task .calls) (ren σ P) (ren σ Q)) (r .rest) blocked) b) ∙ third M α A e in
-            let (l, m, n) = numbers (subst (λ (k : ℕ). r .rest < k) (length-communications ss ts) (some-candidate (communications ss ts) (r .rest) M α A c)) (u .none) refl in
-            let g = meeting-of (getD ss (u .left) blocked) (getD ts (u .right) blocked) M α A
-            (sym (nth-communication ss ts (u .left) (u .right) l m) ∙ ap (λ (j : ℕ). getD (communications ss ts) j blocked) (sym n) ∙ c) in
-            let ws = W .is q free σ P (encode D Q ++ rest) ok few sp st in
-            let zs = Z .is q free σ Q rest ok few sq st₂ in
+            let g = meeting-at ss ts j (u .left) (u .right) numbers M α A
+            (sym (ap (λ (b : Bool). getD (meetings body b (task .calls) (ren σ P) (ren σ Q)) j blocked) b) ∙ third M α A e) in
             record {
               meeting = g;
-              leftDoes = ws .does (g .left .condition) (g .leftAction) (g .leftResult) (found-of free D σ ss _ _ _ x ws l) (g .left .is);
-              rightDoes = zs .does (g .right .condition) (g .rightAction) (g .rightResult) (found-of free D σ ts _ _ _ z zs m) (g .right .is);
+              leftDoes = W .does q free σ P (encode D Q ++ rest) ok few sp st (g .left .condition) (g .leftAction) (g .leftResult) (g .left .is);
+              rightDoes = Z .does q free σ Q rest ok few sq (behind question s (task .calls) tally T at m₀ N q free D σ P Q rest ok sp sq st)
+                  (g .right .condition) (g .rightAction) (g .rightResult) (g .right .is);
             }
 
-    module _ (bs : List ℕ) (K : Asks task body free D σ (par P Q) bs) where
+    module _ (bs : List ℕ) (K : Asks names task body free D σ (par P Q) bs) where
       m : Met free D σ (getD ss (u .left) blocked) (getD ts (u .right) blocked) (K .action) (K .result) x z
       m = met (K .condition) (K .action) (K .result) (K .candidate)
 
@@ -310,12 +277,12 @@ module _ (question s : List ℕ) (at D : ℕ) (task : Task) (walks : task .still
 
       -- What a side is asked for, under any renaming and new name.
       left-asks : (t : Task) → t .still ≡ false → t .silently ≡ false → t .calls ≡ task .calls → t .number ≡ u .left → (ρ : ℕ → ℕ) (y : ℕ)
-          → HasNames free D (t .levels) (t .names) (λ n. ρ (σ n)) → HasNew (t .levels) (t .names) y
-          → Asks t body free D σ P (encode (t .levels) (ren (receiving y ρ (m .meeting .leftAction)) (m .meeting .leftResult)))
+          → HasNames free D (t .levels) names (λ n. ρ (σ n)) → HasNew (t .levels) (t .new) y
+          → Asks names t body free D σ P (encode (t .levels) (ren (receiving y ρ (m .meeting .leftAction)) (m .meeting .leftResult)))
       left-asks t still sil calls number ρ y has new = record {
         ρ = ρ;
         x = y;
-        names = has;
+        has = has;
         new = new;
         condition = m .meeting .left .condition;
         action = m .meeting .leftAction;
@@ -325,12 +292,12 @@ module _ (question s : List ℕ) (at D : ℕ) (task : Task) (walks : task .still
       }
 
       right-asks : (t : Task) → t .still ≡ false → t .silently ≡ false → t .calls ≡ task .calls → t .number ≡ u .right → (ρ : ℕ → ℕ) (y : ℕ)
-          → HasNames free D (t .levels) (t .names) (λ n. ρ (σ n)) → HasNew (t .levels) (t .names) y
-          → Asks t body free D σ Q (encode (t .levels) (ren (receiving y ρ (m .meeting .rightAction)) (m .meeting .rightResult)))
+          → HasNames free D (t .levels) names (λ n. ρ (σ n)) → HasNew (t .levels) (t .new) y
+          → Asks names t body free D σ Q (encode (t .levels) (ren (receiving y ρ (m .meeting .rightAction)) (m .meeting .rightResult)))
       right-asks t still sil calls number ρ y has new = record {
         ρ = ρ;
         x = y;
-        names = has;
+        has = has;
         new = new;
         condition = m .meeting .right .condition;
         action = m .meeting .rightAction;
@@ -339,15 +306,12 @@ module _ (question s : List ℕ) (at D : ℕ) (task : Task) (walks : task .still
         bytes = refl;
       }
 
-      -- The table with the name sent.
-      sent-new : (o n : ℕ) → n < D + free → o ≡ slotOf tableNames D n
-          → HasNew (task .levels) (set (task .names) nameCount (getD (task .names) o 0)) (K .ρ (σ n))
-      unfolding HasNames
-      sent-new o n l e =
-          let (f, b) = K .names n l in
-          new-renew (task .levels) (task .names) (getD (task .names) o 0) (K .ρ (σ n)) room (ap (λ (k : ℕ). getD (task .names) k 0) e ∙ f) b
+      -- The name sent.
+      sent-new : (o n : ℕ) → n < D + free → o ≡ slotOf tableNames D n → HasNew (task .levels) (getD names o 0) (K .ρ (σ n))
+      unfolding HasNames HasNew
+      sent-new o n l e = let (f, b) = K .has n l in (ap (λ (k : ℕ). getD names k 0) e ∙ f, b)
 
-      com-right : x .kind ≡ 2 → Parts (record { close = false; middle = p .end; left = visibly (u .left) task; right = sending (x .object) (visibly (u .right) task) })
+      com-right : x .kind ≡ 2 → Parts names (record { close = false; middle = m₀; left = visibly (u .left) task; right = sending (getD names (x .object) 0) (visibly (u .right) task) })
           body free D σ at P Q bs
       unfolding encode receiving
       com-right e =
@@ -358,13 +322,12 @@ module _ (question s : List ℕ) (at D : ℕ) (task : Task) (walks : task .still
           let y = K .ρ (σ (S .sent .name)) in
           let w : K .ρ (S .object) ≡ y = ap (K .ρ) (S .sent .is) in
           record {
-            middle = xs .end;
+            middle = ends;
             first = encode L (ren (receiving (K .x) (K .ρ) (m .meeting .leftAction)) (m .meeting .leftResult));
             second = encode L (ren (receiving y (K .ρ) (m .meeting .rightAction)) (m .meeting .rightResult));
-            left = left-asks (visibly (u .left) task) refl refl refl refl (K .ρ) (K .x) (K .names) (K .new);
-            right = right-asks (sending (x .object) (visibly (u .right) task)) refl refl refl refl (K .ρ) y
-                (names-renew free D L (task .names) (λ n. K .ρ (σ n)) (K .names) (getD (task .names) (x .object) 0) few)
-                (sent-new (x .object) (S .sent .name) (S .sent .within) (S .sent .slot));
+            left = left-asks (visibly (u .left) task) refl refl refl refl (K .ρ) (K .x) (K .has) (K .new);
+            right = right-asks (sending (getD names (x .object) 0) (visibly (u .right) task)) refl refl refl refl (K .ρ) y
+                (K .has) (sent-new (x .object) (S .sent .name) (S .sent .within) (S .sent .slot));
             bytes =
                 silent-bytes ∙ ap (λ (A : Term). encode L (ren (K .ρ) A)) (T .whole)
                 ∙ ap (λ (B : Term). 7 ∷ (encode L (ren (K .ρ) (m .meeting .leftResult)) ++ encode L B)) (received (K .ρ) (S .object) (m .meeting .rightResult))
@@ -373,7 +336,7 @@ module _ (question s : List ℕ) (at D : ℕ) (task : Task) (walks : task .still
                 ∙ ap (λ (γ : Act). 7 ∷ (encode L (ren (receiving (K .x) (K .ρ) (m .meeting .leftAction)) (m .meeting .leftResult)) ++ encode L (ren (receiving y (K .ρ) γ) (m .meeting .rightResult)))) (sym (T .is));
           }
 
-      com-left : z .kind ≡ 2 → Parts (record { close = false; middle = p .end; left = sending (z .object) (visibly (u .left) task); right = visibly (u .right) task })
+      com-left : z .kind ≡ 2 → Parts names (record { close = false; middle = m₀; left = sending (getD names (z .object) 0) (visibly (u .left) task); right = visibly (u .right) task })
           body free D σ at P Q bs
       unfolding encode receiving
       com-left e =
@@ -384,13 +347,12 @@ module _ (question s : List ℕ) (at D : ℕ) (task : Task) (walks : task .still
           let y = K .ρ (σ (S .sent .name)) in
           let w : K .ρ (S .object) ≡ y = ap (K .ρ) (S .sent .is) in
           record {
-            middle = xs .end;
+            middle = ends;
             first = encode L (ren (receiving y (K .ρ) (m .meeting .leftAction)) (m .meeting .leftResult));
             second = encode L (ren (receiving (K .x) (K .ρ) (m .meeting .rightAction)) (m .meeting .rightResult));
-            left = left-asks (sending (z .object) (visibly (u .left) task)) refl refl refl refl (K .ρ) y
-                (names-renew free D L (task .names) (λ n. K .ρ (σ n)) (K .names) (getD (task .names) (z .object) 0) few)
-                (sent-new (z .object) (S .sent .name) (S .sent .within) (S .sent .slot));
-            right = right-asks (visibly (u .right) task) refl refl refl refl (K .ρ) (K .x) (K .names) (K .new);
+            left = left-asks (sending (getD names (z .object) 0) (visibly (u .left) task)) refl refl refl refl (K .ρ) y
+                (K .has) (sent-new (z .object) (S .sent .name) (S .sent .within) (S .sent .slot));
+            right = right-asks (visibly (u .right) task) refl refl refl refl (K .ρ) (K .x) (K .has) (K .new);
             bytes =
                 silent-bytes ∙ ap (λ (A : Term). encode L (ren (K .ρ) A)) (T .whole)
                 ∙ ap (λ (B : Term). 7 ∷ (encode L B ++ encode L (ren (K .ρ) (m .meeting .rightResult)))) (received (K .ρ) (S .object) (m .meeting .leftResult))
@@ -399,22 +361,19 @@ module _ (question s : List ℕ) (at D : ℕ) (task : Task) (walks : task .still
                 ∙ ap (λ (β : Act). 7 ∷ (encode L (ren (receiving y (K .ρ) β) (m .meeting .leftResult)) ++ encode L (ren (receiving (K .x) (K .ρ) (m .meeting .rightAction)) (m .meeting .rightResult)))) (sym (T .is));
           }
 
-      closed-names : HasNames free D (task .levels + 1) (set (task .names) nameCount (tableNames + task .levels)) (λ n. suc (K .ρ (σ n)))
+      closed-names : HasNames free D (task .levels + 1) names (λ n. suc (K .ρ (σ n)))
       closed-names =
           let e : task .levels + 1 ≡ 1 + task .levels = omega arith in
-          rw e
-          (names-renew free D (1 + task .levels) (task .names) (λ n. suc (K .ρ (σ n)))
-          (names-beneath free D (task .levels) (task .names) (λ n. K .ρ (σ n)) (K .names)) (tableNames + task .levels) few)
+          rw e (names-beneath free D (task .levels) names (λ n. K .ρ (σ n)) (K .has))
 
-      closed-new : HasNew (task .levels + 1) (set (task .names) nameCount (tableNames + task .levels)) 0
+      closed-new : HasNew (task .levels + 1) (tableNames + task .levels) 0
+      unfolding HasNew
       closed-new =
           let e : task .levels + 1 ≡ 1 + task .levels = omega arith in
-          rw e
-          (new-renew (1 + task .levels) (task .names) (tableNames + task .levels) 0 room
-          (sym (slot-bound tableNames (1 + task .levels) 0 (omega arith) ∙ omega arith)) (omega arith))
+          rw e (sym (slot-bound tableNames (1 + task .levels) 0 (omega arith) ∙ omega arith), omega arith)
 
       closes : (x .kind ≡ 2 → ⊥) → (z .kind ≡ 2 → ⊥)
-          → Parts (record { close = true; middle = p .end; left = closing (visibly (u .left) task); right = closing (visibly (u .right) task) }) body free D σ at P Q bs
+          → Parts names (record { close = true; middle = m₀; left = closing (visibly (u .left) task); right = closing (visibly (u .right) task) }) body free D σ at P Q bs
       unfolding encode
       closes nx nz =
           let (whole, bl, br) = both-bound free D σ (m .meeting .leftAction) (m .meeting .leftResult) (m .meeting .rightAction) (m .meeting .rightResult) (K .result)
@@ -423,7 +382,7 @@ module _ (question s : List ℕ) (at D : ℕ) (task : Task) (walks : task .still
           let e : 1 + L ≡ L + 1 = omega arith in
           let up : ℕ → ℕ = λ n. suc (K .ρ n) in
           record {
-            middle = xs .end;
+            middle = ends;
             first = encode (L + 1) (ren (receiving 0 up (m .meeting .leftAction)) (m .meeting .leftResult));
             second = encode (L + 1) (ren (receiving 0 up (m .meeting .rightAction)) (m .meeting .rightResult));
             left = left-asks (closing (visibly (u .left) task)) refl refl refl refl up 0 closed-names closed-new;
@@ -436,13 +395,13 @@ module _ (question s : List ℕ) (at D : ℕ) (task : Task) (walks : task .still
                 ∙ ap (λ (n : ℕ). 8 ∷ 7 ∷ (encode n (ren (receiving 0 up (m .meeting .leftAction)) (m .meeting .leftResult)) ++ encode n (ren (receiving 0 up (m .meeting .rightAction)) (m .meeting .rightResult)))) e;
           }
 
-  pub plan-met : PlanIs question s at D task (meetingPlan task (p .end) u x z)
+  pub plan-met : PlanIs question s at D names task (meetingPlan names task m₀ u x z)
   unfolding meetingPlan
   plan-met = go (eqb (x .kind) 2) refl (eqb (z .kind) 2) refl
     where
-      go : (b : Bool) → eqb (x .kind) 2 ≡ b → (c : Bool) → eqb (z .kind) 2 ≡ c → PlanIs question s at D task (meetingPlan task (p .end) u x z)
+      go : (b : Bool) → eqb (x .kind) 2 ≡ b → (c : Bool) → eqb (z .kind) 2 ≡ c → PlanIs question s at D names task (meetingPlan names task m₀ u x z)
       go true b c d = rw b record {
-        on = X .on;
+        on = middle-on question s (task .calls) tally T at m₀ N some;
         leftLevels = omega arith;
         rightLevels = omega arith;
         leftCalls = refl;
@@ -450,7 +409,7 @@ module _ (question s : List ℕ) (at D : ℕ) (task : Task) (walks : task .still
         is = λ q free σ P Q rest bs ok few sp sq st K. com-right q free σ P Q rest ok few sp sq st bs K (eqb-true (x .kind) 2 b);
       }
       go false b true d = rw (b, d) record {
-        on = X .on;
+        on = middle-on question s (task .calls) tally T at m₀ N some;
         leftLevels = omega arith;
         rightLevels = omega arith;
         leftCalls = refl;
@@ -458,7 +417,7 @@ module _ (question s : List ℕ) (at D : ℕ) (task : Task) (walks : task .still
         is = λ q free σ P Q rest bs ok few sp sq st K. com-left q free σ P Q rest ok few sp sq st bs K (eqb-true (z .kind) 2 d);
       }
       go false b false d = rw (b, d) record {
-        on = X .on;
+        on = middle-on question s (task .calls) tally T at m₀ N some;
         leftLevels = omega arith;
         rightLevels = omega arith;
         leftCalls = refl;

@@ -2,7 +2,7 @@
 use mathlib.Core.Path.{_≡_, refl, sym, ap, ap₂, subst, _∙_}
 use mathlib.Core.Bool.{Bool, true, false}
 use mathlib.Core.List.{List, [], _∷_, _++_, map, append-assoc, append-nil}
-use Prim.Native.Nat.{ℕ, zero, suc, _+_, _-_, _<_, _≤_}
+use Prim.Native.Nat.{ℕ, suc, _+_, _-_, _<_, _≤_}
 use native.Mathlib.Omega.{arith}
 use lib.ListN.{length, getD, drop, set, length-append, length-drop}
 use lib.Seq.{sets, drop-drop}
@@ -21,21 +21,23 @@ use Rattle.terms.proofs.Shapes.{length-ren}
 use Rattle.terms.proofs.Stores.{sets-join}
 use Rattle.steps.specs.Bodies.{AritiesIs, BodyIs, OpeningIs, EndIs}
 use Rattle.steps.specs.Listing.{bodyOf}
-use Rattle.steps.specs.Passing.{candidates, Does, PassedIs, PassIs, opensAt}
+use Rattle.steps.specs.Passing.{candidates, Does, PassIs, MiddleIs, opensAt}
 use Rattle.steps.specs.Raw.{Candidate, step, blocked}
-use Rattle.steps.specs.Names.{mostBinders, HasNames, HasNew, TableIs}
-use Rattle.steps.specs.Results.{receiving, chosen, Asks, Written, StoreIs, TermIs, WriteIs, numbered, extruding, restricting, CallingIs, opening, Parts, PlanIs}
+use Rattle.steps.specs.Names.{mostBinders, Kept, CalledIs, TableIs}
+use Rattle.steps.specs.Results.{receiving, chosen, Asks, Written, StoreIs, TermIs, WriteIs, numbered, beneath, inside, entering, opening, Parts, PlanIs}
+use Rattle.steps.specs.Tally.{TallyIs}
+use Rattle.steps.specs.Tallying.{numberAt}
 use Rattle.steps.specs.declared.bodies.Opening.{Opening}
 use Rattle.steps.specs.declared.pass.Passed.{Passed}
 use Rattle.steps.specs.declared.result.Plan.{Plan}
 use Rattle.steps.specs.declared.result.Task.{Task}
 use Rattle.steps.proofs.CallLaws.{params, names-call, body-scope, at-call}
-use Rattle.steps.proofs.AskLaws.{chosen-is, some-candidate, found-of, ask-open, res-part, ask-res}
-use Rattle.steps.proofs.CandidateForms.{candidates-mat, candidates-res, candidates-call, candidates-no-call, tag, tag-at, only-mat, only-sum, only-par, only-res}
-use Rattle.steps.proofs.NameSlots.{names-represent}
-use Rattle.steps.proofs.Numbering.{nth-matching, nth-restricted}
+use Rattle.steps.proofs.AskLaws.{chosen-is, ask-open, res-part, ask-res}
+use Rattle.steps.proofs.CandidateForms.{candidates-mat, candidates-res, candidates-call, candidates-no-call, tag-at, only-mat, only-sum, only-par, only-res}
+use Rattle.steps.proofs.NameSlots.{names-represent, names-kept}
+use Rattle.steps.proofs.Numbering.{nth-matching, nth-restricted, some-candidate}
 use Rattle.steps.proofs.Premises.{never, Under, matching-of, under-of}
-use Rattle.steps.proofs.TwoSides.{sides-sum, at-left, at-right}
+use Rattle.steps.proofs.TwoSides.{sides-sum, at-left, at-right, number-is, behind}
 
 -- What fits ends where it should.
 module _ (out : List ℕ) (put : ℕ) (bs : List ℕ) (e : ℕ) (out₁ : List ℕ) (W : Written out put bs e out₁) where
@@ -108,19 +110,34 @@ module _ (question s : List ℕ) (at D : ℕ) (names : List ℕ) (levels : ℕ) 
         record { fits = λ f. (omega arith, w .1); over = λ f. absurd (omega arith) };
   }
 
+-- What is asked for by a table is asked for by any that has kept what the names need.
+asks-kept : (names names′ : List ℕ) (task : Task) (body : ℕ → Term) (free D : ℕ) (σ : ℕ → ℕ) (P : Term) (bs : List ℕ) → free ≤ nameCount → Kept D names names′
+    → Asks names task body free D σ P bs → Asks names′ task body free D σ P bs
+asks-kept names names′ task body free D σ P bs few kept K = record {
+  ρ = K .ρ;
+  x = K .x;
+  has = names-kept free D (task .levels) names (λ n. K .ρ (σ n)) (K .has) names′ (omega arith) kept;
+  new = K .new;
+  condition = K .condition;
+  action = K .action;
+  result = K .result;
+  candidate = K .candidate;
+  bytes = K .bytes;
+}
+
 -- Where no term stands, or none that has what is asked for, anything may be answered.
-pub write-none : (question s : List ℕ) (at D : ℕ) (task : Task) (out : List ℕ) (put r : ℕ) (out′ : List ℕ) → put ≤ r → length s ≤ at
-    → WriteIs question s at D task out put r out′
-write-none question s at D task out put r out′ on past = record {
+pub write-none : (question s : List ℕ) (at D : ℕ) (names : List ℕ) (task : Task) (out : List ℕ) (put r : ℕ) (out′ : List ℕ) → put ≤ r → length s ≤ at
+    → WriteIs question s at D names task out put r out′
+write-none question s at D names task out put r out′ on past = record {
   on = on;
   is = λ q free σ P rest bs ok few scope st K. absurd (omega (arith, encode-some D P, simp (length-append, length-drop) at (ap length st)));
 }
 
 -- The term itself.
-pub write-still : (question s : List ℕ) (at D : ℕ) (task : Task) (out : List ℕ) (put r : ℕ) (out′ : List ℕ) → task .still ≡ true
-    → TermIs question s at D (task .names) (task .levels) out put r out′ → WriteIs question s at D task out put r out′
+pub write-still : (question s : List ℕ) (at D : ℕ) (names : List ℕ) (task : Task) (out : List ℕ) (put r : ℕ) (out′ : List ℕ) → task .still ≡ true
+    → TermIs question s at D names (task .levels) out put r out′ → WriteIs question s at D names task out put r out′
 unfolding chosen receiving
-write-still question s at D task out put r out′ still T = record {
+write-still question s at D names task out put r out′ still T = record {
   on = T .on;
   is = λ q free σ P rest bs ok few scope st K.
       let e : step [] tauA (ren σ P) ≡ step (K .condition) (K .action) (K .result) = rw still at (K .candidate) in
@@ -129,23 +146,23 @@ write-still question s at D task out put r out′ still T = record {
       let w : bs ≡ encode (task .levels) (ren (λ n. K .ρ (σ n)) P) =
       K .bytes ∙ ap (λ (α : Act). encode (task .levels) (ren (receiving (K .x) (K .ρ) α) (K .result))) x
       ∙ ap (λ (A : Term). encode (task .levels) (ren (K .ρ) A)) y ∙ ap (encode (task .levels)) (ren-∘ (K .ρ) σ P) in
-      rw w (T .is q free (λ n. K .ρ (σ n)) P rest ok few scope st (K .names));
+      rw w (T .is q free (λ n. K .ρ (σ n)) P rest ok few scope st (K .has));
 }
 
-module _ (question s : List ℕ) (at D : ℕ) (task : Task) (walks : task .still ≡ false) (out : List ℕ) (put : ℕ) where
+module _ (question s : List ℕ) (at D : ℕ) (names : List ℕ) (task : Task) (walks : task .still ≡ false) (out : List ℕ) (put : ℕ) where
   -- What is to be shown of each form: bytes asked for of it are written.
   abbrev Shows : ℕ → List ℕ → Question → ℕ → (ℕ → ℕ) → List ℕ → List ℕ → Term → Type 0
   Shows r out′ q free σ rest bs P =
-      InScope free (q .arities) D P → drop at s ≡ encode D P ++ rest → Asks task (bodyOf (q .bodies)) free D σ P bs → Written out put bs r out′
+      InScope free (q .arities) D P → drop at s ≡ encode D P ++ rest → Asks names task (bodyOf (q .bodies)) free D σ P bs → Written out put bs r out′
 
   -- The candidate that is asked for.
-  picked : (body : ℕ → Term) (free : ℕ) (σ : ℕ → ℕ) (P : Term) (bs : List ℕ) (K : Asks task body free D σ P bs) (cs : List Candidate)
+  picked : (body : ℕ → Term) (free : ℕ) (σ : ℕ → ℕ) (P : Term) (bs : List ℕ) (K : Asks names task body free D σ P bs) (cs : List Candidate)
       → candidates (task .silently) body (task .calls) (ren σ P) ≡ cs → getD cs (task .number) blocked ≡ step (K .condition) (K .action) (K .result)
   picked body free σ P bs K cs e =
       ap (λ (l : List Candidate). getD l (task .number) blocked) (sym e) ∙ sym (chosen-is task body (ren σ P) walks) ∙ K .candidate
 
   -- [Match]
-  pub write-mat : getD s at 0 ≡ 5 → (r : ℕ) (out′ : List ℕ) → WriteIs question s (at + 3) D task out put r out′ → WriteIs question s at D task out put r out′
+  pub write-mat : getD s at 0 ≡ 5 → (r : ℕ) (out′ : List ℕ) → WriteIs question s (at + 3) D names task out put r out′ → WriteIs question s at D names task out put r out′
   unfolding encode InScope
   write-mat g r out′ R = record {
     on = R .on;
@@ -159,7 +176,7 @@ module _ (question s : List ℕ) (at D : ℕ) (task : Task) (walks : task .still
         R .is q free σ Q rest bs ok few (scope .2) (sym (drop-drop 3 at s) ∙ ap (drop 3) st) (record {
           ρ = K .ρ;
           x = K .x;
-          names = K .names;
+          has = K .has;
           new = K .new;
           condition = p .condition;
           action = K .action;
@@ -171,9 +188,9 @@ module _ (question s : List ℕ) (at D : ℕ) (task : Task) (walks : task .still
   }
 
   -- [Sum]
-  module _ (g : getD s at 0 ≡ 6) (p : Passed) (X : PassIs question s (at + 1) D (task .calls) (task .silently) (task .number) p) where
-    pub write-sum-left : p .found ≡ true → (r : ℕ) (out′ : List ℕ) → WriteIs question s (at + 1) D task out put r out′
-        → WriteIs question s at D task out put r out′
+  module _ (g : getD s at 0 ≡ 6) (tally : List ℕ) (T : TallyIs question s (task .calls) tally) where
+    pub write-sum-left : task .number < numberAt tally (at + 1) (task .silently) → (r : ℕ) (out′ : List ℕ) → WriteIs question s (at + 1) D names task out put r out′
+        → WriteIs question s at D names task out put r out′
     unfolding encode InScope
     write-sum-left h r out′ R = record {
       on = R .on;
@@ -181,47 +198,49 @@ module _ (question s : List ℕ) (at D : ℕ) (task : Task) (walks : task .still
           (λ P Q scope st K.
           let body = bodyOf (q .bodies) in
           let S = sides-sum body (task .silently) (task .calls) (ren σ P) (ren σ Q) in
-          let x = X .is q free σ P (encode D Q ++ rest) ok few (scope .0) (at-left D s at P Q rest 6 st) in
+          let n = number-is question s (task .calls) tally T (task .silently) q (at + 1) free D σ P (encode D Q ++ rest) ok (scope .0) (at-left D s at P Q rest 6 st) in
           R .is q free σ P (encode D Q ++ rest) bs ok few (scope .0) (at-left D s at P Q rest 6 st) (record {
             ρ = K .ρ;
             x = K .x;
-            names = K .names;
+            has = K .has;
             new = K .new;
             condition = K .condition;
             action = K .action;
             result = K .result;
-            candidate = chosen-is task body (ren σ P) walks ∙ sym (S .first (task .number) (x .here h)) ∙ picked body free σ (sum P Q) bs K _ refl;
+            candidate = chosen-is task body (ren σ P) walks ∙ sym (S .first (task .number) (omega arith)) ∙ picked body free σ (sum P Q) bs K _ refl;
             bytes = K .bytes;
           }))
           P (sym (tag-at s at D P rest st) ∙ g) scope st K;
     }
 
-    pub write-sum-right : p .found ≡ false → (t : Task) → t ≡ numbered (p .rest) task → (r : ℕ) (out′ : List ℕ) → WriteIs question s (p .end) D t out put r out′
-        → WriteIs question s at D task out put r out′
+    pub write-sum-right : (m : ℕ) → MiddleIs s tally at m → numberAt tally (at + 1) (task .silently) ≤ task .number → (j : ℕ) → j ≡ task .number - numberAt tally (at + 1) (task .silently)
+        → (t : Task) → t ≡ numbered j task → (r : ℕ) (out′ : List ℕ) → WriteIs question s m D names t out put r out′ → WriteIs question s at D names task out put r out′
     unfolding encode InScope
-    write-sum-right h t e r out′ R₀ = record {
+    write-sum-right m N h j J t e r out′ R₀ = record {
       on = R₀ .on;
       is = λ q free σ P rest bs ok few scope st K. only-sum (Shows r out′ q free σ rest bs)
           (λ P Q scope st K.
           let body = bodyOf (q .bodies) in
-          let R = subst (λ (t : Task). WriteIs question s (p .end) D t out put r out′) e R₀ in
+          let R = subst (λ (t : Task). WriteIs question s m D names t out put r out′) e R₀ in
           let S = sides-sum body (task .silently) (task .calls) (ren σ P) (ren σ Q) in
-          let x = X .is q free σ P (encode D Q ++ rest) ok few (scope .0) (at-left D s at P Q rest 6 st) in
-          let c : getD (candidates (task .silently) body (task .calls) (ren σ (sum P Q))) (length (candidates (task .silently) body (task .calls) (ren σ P)) + p .rest) blocked
+          let st₁ = at-left D s at P Q rest 6 st in
+          let n = number-is question s (task .calls) tally T (task .silently) q (at + 1) free D σ P (encode D Q ++ rest) ok (scope .0) st₁ in
+          let i : task .number ≡ length (candidates (task .silently) body (task .calls) (ren σ P)) + j = omega arith in
+          let c : getD (candidates (task .silently) body (task .calls) (ren σ (sum P Q))) (length (candidates (task .silently) body (task .calls) (ren σ P)) + j) blocked
           ≡ step (K .condition) (K .action) (K .result) =
-          ap (λ (j : ℕ). getD (candidates (task .silently) body (task .calls) (ren σ (sum P Q))) j blocked) (sym (x .past h)) ∙ picked body free σ (sum P Q) bs K _ refl in
-          let l = some-candidate (candidates (task .silently) body (task .calls) (ren σ (sum P Q))) (length (candidates (task .silently) body (task .calls) (ren σ P)) + p .rest)
+          ap (λ (j : ℕ). getD (candidates (task .silently) body (task .calls) (ren σ (sum P Q))) j blocked) (sym i) ∙ picked body free σ (sum P Q) bs K _ refl in
+          let l = some-candidate (candidates (task .silently) body (task .calls) (ren σ (sum P Q))) (length (candidates (task .silently) body (task .calls) (ren σ P)) + j)
           (K .condition) (K .action) (K .result) c in
-          let m : p .rest < length (candidates (task .silently) body (task .calls) (ren σ Q)) = omega (arith, S .len) in
-          R .is q free σ Q rest bs ok few (scope .1) (at-right D s at P Q rest 6 st (p .end) (x .end)) (record {
+          let k : j < length (candidates (task .silently) body (task .calls) (ren σ Q)) = omega (arith, S .len) in
+          R .is q free σ Q rest bs ok few (scope .1) (behind question s (task .calls) tally T at m N q free D σ P Q rest ok (scope .0) (scope .1) st₁) (record {
             ρ = K .ρ;
             x = K .x;
-            names = K .names;
+            has = K .has;
             new = K .new;
             condition = K .condition;
             action = K .action;
             result = K .result;
-            candidate = chosen-is (numbered (p .rest) task) body (ren σ Q) walks ∙ sym (S .second (p .rest) m) ∙ c;
+            candidate = chosen-is (numbered j task) body (ren σ Q) walks ∙ sym (S .second j k) ∙ c;
             bytes = K .bytes;
           }))
           P (sym (tag-at s at D P rest st) ∙ g) scope st K;
@@ -232,7 +251,7 @@ module _ (question s : List ℕ) (at D : ℕ) (task : Task) (walks : task .still
       (X : PassIs question s (at + 1) (D + 1) (task .calls) (task .silently) (task .number) p) where
     -- the candidate under the restriction, and what its action does
     under : (q : Question) (free : ℕ) (σ : ℕ → ℕ) (Q : Term) (rest bs : List ℕ) → checkOf question ≡ result q → free ≤ nameCount
-        → InScope free (q .arities) (1 + D) Q → drop (at + 1) s ≡ encode (1 + D) Q ++ rest → (K : Asks task (bodyOf (q .bodies)) free D σ (res Q) bs)
+        → InScope free (q .arities) (1 + D) Q → drop (at + 1) s ≡ encode (1 + D) Q ++ rest → (K : Asks names task (bodyOf (q .bodies)) free D σ (res Q) bs)
         → ((v : Under (getD (candidates (task .silently) (bodyOf (q .bodies)) (task .calls) (ren (lift σ) Q)) (task .number) blocked) (K .action) (K .result))
         × Does free (1 + D) (lift σ) (v .action) (p .kind) (p .object))
     under q free σ Q rest bs ok few scope st K =
@@ -242,49 +261,46 @@ module _ (question s : List ℕ) (at D : ℕ) (task : Task) (walks : task .still
         let cs = candidates (task .silently) body (task .calls) (ren (lift σ) Q) in
         let v = under-of (getD cs (task .number) blocked) (K .condition) (K .action) (K .result)
         (sym (nth-restricted cs (task .number)) ∙ picked body free σ (res Q) bs K _ (candidates-res body (task .silently) (task .calls) (ren (lift σ) Q))) in
-        let x = X′ .is q free (lift σ) Q rest ok few scope st in
-        let l = some-candidate cs (task .number) (v .premise .condition) (v .action) (v .result) (v .premise .is) in
-        (v, x .does (v .premise .condition) (v .action) (v .result) (found-of free (1 + D) (lift σ) cs _ _ _ p x l) (v .premise .is))
+        (v, X′ .does q free (lift σ) Q rest ok few scope st (v .premise .condition) (v .action) (v .result) (v .premise .is))
 
-    pub write-open : tableNames + D < length (task .names) → opensAt D (p .kind) (p .object) ≡ true → (t : Task) → t ≡ extruding D task → (r : ℕ) (out′ : List ℕ)
-        → WriteIs question s (at + 1) (D + 1) t out put r out′ → WriteIs question s at D task out put r out′
+    pub write-open : tableNames + D < length names → opensAt D (p .kind) (p .object) ≡ true → (r : ℕ) (out′ : List ℕ)
+        → WriteIs question s (at + 1) (D + 1) (entering D (task .new) names) task out put r out′ → WriteIs question s at D names task out put r out′
     unfolding encode InScope
-    write-open room o t e r out′ R₀ = record {
+    write-open room o r out′ R₀ = record {
       on = R₀ .on;
       is = λ q free σ P rest bs ok few scope st K. only-res (Shows r out′ q free σ rest bs)
           (λ Q scope st K.
           let d : D + 1 ≡ 1 + D = omega arith in
-          let R : WriteIs question s (at + 1) (1 + D) (extruding D task) out put r out′ =
-          rw d at (subst (λ (t : Task). WriteIs question s (at + 1) (D + 1) t out put r out′) e R₀) in
+          let R : WriteIs question s (at + 1) (1 + D) (entering D (task .new) names) task out put r out′ = rw d at R₀ in
           let st₁ : drop (at + 1) s ≡ encode (1 + D) Q ++ rest = sym (drop-drop 1 at s) ∙ ap (drop 1) st in
           let (v, does) = under q free σ Q rest bs ok few scope st₁ K in
           R .is q free (lift σ) Q rest bs ok few scope st₁
-          (ask-open task walks D (p .kind) (p .object) room o (bodyOf (q .bodies)) free σ Q bs few K (v .action) (v .result) (v .premise) (v .restricts) does))
+          (ask-open names task walks D (p .kind) (p .object) room o (bodyOf (q .bodies)) free σ Q bs few K (v .action) (v .result) (v .premise) (v .restricts) does))
           P (sym (tag-at s at D P rest st) ∙ g) scope st K;
     }
 
     module _ (o : opensAt D (p .kind) (p .object) ≡ false) (e : ℕ) (out₁ : List ℕ) (St : StoreIs out put (8 ∷ []) e out₁) where
-      pub write-res : tableNames + D < length (task .names) → e ≤ length out → length out₁ ≡ length out → (t : Task) → t ≡ restricting D task → (r : ℕ) (out′ : List ℕ)
-          → WriteIs question s (at + 1) (D + 1) t out₁ e r out′ → WriteIs question s at D task out put r out′
+      pub write-res : tableNames + D < length names → e ≤ length out → length out₁ ≡ length out → (t : Task) → t ≡ beneath task → (r : ℕ) (out′ : List ℕ)
+          → WriteIs question s (at + 1) (D + 1) (entering D (tableNames + task .levels) names) t out₁ e r out′ → WriteIs question s at D names task out put r out′
       unfolding encode InScope
       write-res room inside same t et r out′ R₀ = record {
         on = omega (arith, St .on, R₀ .on);
         is = λ q free σ P rest bs ok few scope st K. only-res (Shows r out′ q free σ rest bs)
             (λ Q scope st K.
             let d : D + 1 ≡ 1 + D = omega arith in
-            let R : WriteIs question s (at + 1) (1 + D) (restricting D task) out₁ e r out′ =
-            rw d at (subst (λ (t : Task). WriteIs question s (at + 1) (D + 1) t out₁ e r out′) et R₀) in
+            let R : WriteIs question s (at + 1) (1 + D) (entering D (tableNames + task .levels) names) (beneath task) out₁ e r out′ =
+            rw d at (subst (λ (t : Task). WriteIs question s (at + 1) (D + 1) (entering D (tableNames + task .levels) names) t out₁ e r out′) et R₀) in
             let st₁ : drop (at + 1) s ≡ encode (1 + D) Q ++ rest = sym (drop-drop 1 at s) ∙ ap (drop 1) st in
             let (v, does) = under q free σ Q rest bs ok few scope st₁ K in
-            let b = res-part task walks D (p .kind) (p .object) o (bodyOf (q .bodies)) free σ Q bs K (v .action) (v .result) (v .restricts) does in
+            let b = res-part names task walks D (p .kind) (p .object) o (bodyOf (q .bodies)) free σ Q bs K (v .action) (v .result) (v .restricts) does in
             rw b
             (written-then out put (8 ∷ []) e out₁ (St .is) _ r out′ inside same
             (R .is q free (lift σ) Q rest _ ok few scope st₁
-            (ask-res task walks D (p .kind) (p .object) room (bodyOf (q .bodies)) free σ Q bs few K (v .action) (v .result) (v .premise)))))
+            (ask-res names task walks D (p .kind) (p .object) room (bodyOf (q .bodies)) free σ Q bs few K (v .action) (v .result) (v .premise)))))
             P (sym (tag-at s at D P rest st) ∙ g) scope st K;
       }
 
-      pub write-res-stop : length out < e → WriteIs question s at D task out put e out₁
+      pub write-res-stop : length out < e → WriteIs question s at D names task out put e out₁
       unfolding encode InScope
       write-res-stop past = record {
         on = St .on;
@@ -292,7 +308,7 @@ module _ (question s : List ℕ) (at D : ℕ) (task : Task) (walks : task .still
             (λ Q scope st K.
             let st₁ : drop (at + 1) s ≡ encode (1 + D) Q ++ rest = sym (drop-drop 1 at s) ∙ ap (drop 1) st in
             let (v, does) = under q free σ Q rest bs ok few scope st₁ K in
-            let b = res-part task walks D (p .kind) (p .object) o (bodyOf (q .bodies)) free σ Q bs K (v .action) (v .result) (v .restricts) does in
+            let b = res-part names task walks D (p .kind) (p .object) o (bodyOf (q .bodies)) free σ Q bs K (v .action) (v .result) (v .restricts) does in
             rw b (written-stop out put (8 ∷ []) e out₁ (St .is) _ past))
             P (sym (tag-at s at D P rest st) ∙ g) scope st K;
       }
@@ -300,12 +316,12 @@ module _ (question s : List ℕ) (at D : ℕ) (task : Task) (walks : task .still
   -- [Con]
   module _ (g : 8 < getD s at 0) (o : Opening) (O : OpeningIs question s at (task .calls) o) where
     -- no call is left to open
-    pub write-closed : o .allowed ≡ false → (r : ℕ) (out′ : List ℕ) → put ≤ r → WriteIs question s at D task out put r out′
+    pub write-closed : o .allowed ≡ false → (r : ℕ) (out′ : List ℕ) → put ≤ r → WriteIs question s at D names task out put r out′
     write-closed z r out′ on = record {
       on = on;
       is = λ q free σ P rest bs ok few scope st K. at-call question s at D (task .calls) (task .silently) (task .number) g (o .definition) (o .arity) (O .definition) (O .arity)
-          (λ (P : Term). Asks task (bodyOf (q .bodies)) free D σ P bs → Written out put bs r out′) q free P rest ok scope st
-          (λ xs m a l names st K.
+          (λ (P : Term). Asks names task (bodyOf (q .bodies)) free D σ P bs → Written out put bs r out′) q free P rest ok scope st
+          (λ xs m a l scoped st K.
           let body = bodyOf (q .bodies) in
           let c : candidates (task .silently) body (task .calls) (call (o .definition) (map σ xs)) ≡ [] =
           ap (λ (c : ℕ). candidates (task .silently) body c (call (o .definition) (map σ xs))) (O .not z q ok l)
@@ -314,45 +330,46 @@ module _ (question s : List ℕ) (at D : ℕ) (task : Task) (walks : task .still
           K;
     }
 
-    pub write-call : (bytes : List ℕ) → BodyIs question (o .definition) bytes → (c : ℕ) → task .calls ≡ suc c → (t : Task) → CallingIs s (at + 2) (o .arity) D task t
-        → (r : ℕ) (out′ : List ℕ) → WriteIs question bytes 0 (o .arity) t out put r out′ → WriteIs question s at D task out put r out′
-    unfolding HasNew
-    write-call bytes B c z t C r out′ R = record {
-      on = R .on;
+    pub write-opened : (bytes : List ℕ) → BodyIs question (o .definition) bytes → (c : ℕ) → task .calls ≡ suc c → (t : Task) → t ≡ inside task
+        → (given : List ℕ) → CalledIs s (at + 2) (o .arity) D names given
+        → (r : ℕ) (out′ : List ℕ) → WriteIs question bytes 0 (o .arity) given t out put r out′ → WriteIs question s at D names task out put r out′
+    write-opened bytes B c z t e given C r out′ R₀ = record {
+      on = R₀ .on;
       is = λ q free σ P rest bs ok few scope st K. at-call question s at D (task .calls) (task .silently) (task .number) g (o .definition) (o .arity) (O .definition) (O .arity)
-          (λ (P : Term). Asks task (bodyOf (q .bodies)) free D σ P bs → Written out put bs r out′) q free P rest ok scope st
-          (λ xs m a l names st K.
+          (λ (P : Term). Asks names task (bodyOf (q .bodies)) free D σ P bs → Written out put bs r out′) q free P rest ok scope st
+          (λ xs m a l scoped st K.
           let body = bodyOf (q .bodies) in
+          let R = subst (λ (t : Task). WriteIs question bytes 0 (o .arity) given t out put r out′) e R₀ in
           let e : candidates (task .silently) body (task .calls) (call (o .definition) (map σ xs)) ≡ candidates (task .silently) body c (ren (params σ xs) (body (o .definition))) =
           ap (λ (c : ℕ). candidates (task .silently) body c (call (o .definition) (map σ xs))) z ∙ candidates-call body (task .silently) c (o .definition) (map σ xs) in
           let f = picked body free σ (call (o .definition) xs) bs K _ e in
-          let tc : t .calls ≡ c = omega (arith, C .calls) in
+          let tc : task .calls - 1 ≡ c = omega arith in
           R .is q 0 (params σ xs) (body (o .definition)) [] bs ok (omega arith)
           (subst (λ (n : ℕ). InScope 0 (q .arities) n (body (o .definition))) (sym a) (body-scope question q ok (o .definition)))
           (B .is q ok l ∙ ap (λ (n : ℕ). encode n (body (o .definition))) (sym a) ∙ sym (append-nil (encode (o .arity) (body (o .definition)))))
           (record {
             ρ = K .ρ;
             x = K .x;
-            names = rw (C .levels) (names-call free D s (at + 2) xs rest few names st (task .levels) (task .names) (t .names) σ (K .ρ) (K .names) (o .arity) m (C .names));
-            new = rw (C .levels) (C .names .new ∙ K .new .0, K .new .1);
+            has = names-call free D s (at + 2) xs rest few scoped st (task .levels) names given σ (K .ρ) (K .has) (o .arity) m C;
+            new = K .new;
             condition = K .condition;
             action = K .action;
             result = K .result;
-            candidate = chosen-is t body (ren (params σ xs) (body (o .definition))) (C .still ∙ walks) ∙ rw (C .silently, tc, C .number) f;
-            bytes = rw (C .levels) (K .bytes);
+            candidate = chosen-is (inside task) body (ren (params σ xs) (body (o .definition))) walks ∙ rw tc f;
+            bytes = K .bytes;
           }))
           K;
     }
 
   -- [Par], [Com] and [Close]
-  module _ (g : getD s at 0 ≡ 7) (plan : Plan) (L : PlanIs question s at D task plan) (e : ℕ) (out₁ : List ℕ) (St : StoreIs out put (opening (plan .close)) e out₁) where
+  module _ (g : getD s at 0 ≡ 7) (plan : Plan) (L : PlanIs question s at D names task plan) (e : ℕ) (out₁ : List ℕ) (St : StoreIs out put (opening (plan .close)) e out₁) where
     parts : (q : Question) (free : ℕ) (σ : ℕ → ℕ) (P Q : Term) (rest bs : List ℕ) → checkOf question ≡ result q → free ≤ nameCount
-        → InScope free (q .arities) D (par P Q) → drop at s ≡ encode D (par P Q) ++ rest → Asks task (bodyOf (q .bodies)) free D σ (par P Q) bs
-        → Parts plan (bodyOf (q .bodies)) free D σ at P Q bs
+        → InScope free (q .arities) D (par P Q) → drop at s ≡ encode D (par P Q) ++ rest → Asks names task (bodyOf (q .bodies)) free D σ (par P Q) bs
+        → Parts names plan (bodyOf (q .bodies)) free D σ at P Q bs
     unfolding encode InScope
     parts q free σ P Q rest bs ok few scope st K = L .is q free σ P Q rest bs ok few (scope .0) (scope .1) (at-left D s at P Q rest 7 st) K
 
-    pub write-par-stop : length out < e → WriteIs question s at D task out put e out₁
+    pub write-par-stop : length out < e → WriteIs question s at D names task out put e out₁
     write-par-stop past = record {
       on = St .on;
       is = λ q free σ P rest bs ok few scope st K. only-par (Shows e out₁ q free σ rest bs)
@@ -362,16 +379,16 @@ module _ (question s : List ℕ) (at D : ℕ) (task : Task) (walks : task .still
           P (sym (tag-at s at D P rest st) ∙ g) scope st K;
     }
 
-    module _ (inside : e ≤ length out) (same : length out₁ ≡ length out) (m : ℕ) (out₂ : List ℕ) (A : WriteIs question s (at + 1) D (plan .left) out₁ e m out₂) where
+    module _ (inside : e ≤ length out) (same : length out₁ ≡ length out) (m : ℕ) (out₂ : List ℕ) (A : WriteIs question s (at + 1) D names (plan .left) out₁ e m out₂) where
       first : (q : Question) (free : ℕ) (σ : ℕ → ℕ) (P Q : Term) (rest bs : List ℕ) → checkOf question ≡ result q → free ≤ nameCount
-          → InScope free (q .arities) D (par P Q) → drop at s ≡ encode D (par P Q) ++ rest → (a : Parts plan (bodyOf (q .bodies)) free D σ at P Q bs)
+          → InScope free (q .arities) D (par P Q) → drop at s ≡ encode D (par P Q) ++ rest → (a : Parts names plan (bodyOf (q .bodies)) free D σ at P Q bs)
           → Written out put (opening (plan .close) ++ a .first) m out₂
       unfolding encode InScope
       first q free σ P Q rest bs ok few scope st a =
           written-then out put (opening (plan .close)) e out₁ (St .is) (a .first) m out₂ inside same
           (A .is q free σ P (encode D Q ++ rest) (a .first) ok few (scope .0) (at-left D s at P Q rest 7 st) (a .left))
 
-      pub write-left-stop : length out < m → WriteIs question s at D task out put m out₂
+      pub write-left-stop : length out < m → WriteIs question s at D names task out put m out₂
       write-left-stop past = record {
         on = omega (arith, St .on, A .on);
         is = λ q free σ P rest bs ok few scope st K. only-par (Shows m out₂ q free σ rest bs)
@@ -382,16 +399,17 @@ module _ (question s : List ℕ) (at D : ℕ) (task : Task) (walks : task .still
             P (sym (tag-at s at D P rest st) ∙ g) scope st K;
       }
 
-      pub write-par : m ≤ length out → length out₂ ≡ length out → (r : ℕ) (out′ : List ℕ) → WriteIs question s (plan .middle) D (plan .right) out₂ m r out′
-          → WriteIs question s at D task out put r out′
+      pub write-par : m ≤ length out → length out₂ ≡ length out → (names₂ : List ℕ) → Kept D names names₂
+          → (r : ℕ) (out′ : List ℕ) → WriteIs question s (plan .middle) D names₂ (plan .right) out₂ m r out′
+          → WriteIs question s at D names task out put r out′
       unfolding encode InScope
-      write-par within₂ same₂ r out′ B = record {
+      write-par within₂ same₂ names₂ kept r out′ B = record {
         on = omega (arith, St .on, A .on, B .on);
         is = λ q free σ P rest bs ok few scope st K. only-par (Shows r out′ q free σ rest bs)
             (λ P Q scope st K.
             let a = parts q free σ P Q rest bs ok few scope st K in
             rw (a .bytes, ← append-assoc)
             (written-then out put (opening (plan .close) ++ a .first) m out₂ (first q free σ P Q rest bs ok few scope st a) (a .second) r out′ within₂ same₂
-            (B .is q free σ Q rest (a .second) ok few (scope .1) (at-right D s at P Q rest 7 st (plan .middle) (a .middle)) (a .right))))
+            (B .is q free σ Q rest (a .second) ok few (scope .1) (at-right D s at P Q rest 7 st (plan .middle) (a .middle)) (asks-kept names names₂ (plan .right) (bodyOf (q .bodies)) free D σ Q (a .second) few kept (a .right)))))
             P (sym (tag-at s at D P rest st) ∙ g) scope st K;
       }

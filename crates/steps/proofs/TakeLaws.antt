@@ -7,7 +7,7 @@ use native.Mathlib.Omega.{arith}
 use Prim.Native.Nat.{ℕ, _+_, _*_, _<_, _≤_}
 use lib.Dec.{leb}
 use lib.ListN.{length, getD, take, drop, replicate, length-replicate, List·getD-append}
-use lib.Seq.{sets, sets-eq, getD-take, length-take-le, getD-append-add}
+use lib.Seq.{sets, sets-eq, getD-take, length-take-le}
 use Rattle.calculus.specs.Abstraction.{Act, tauA, inpA, outA, boutA}
 use Rattle.calculus.specs.Cond.{Cond, cls}
 use Rattle.calculus.specs.Term.{Term, ren}
@@ -35,36 +35,32 @@ use Rattle.steps.proofs.ArgumentSlots.{slots-part}
 use Rattle.steps.proofs.CollectLaws.{put-blocked, put-step, put-long, take-sets}
 use Rattle.steps.proofs.StepEntries.{slot-name, class-names}
 
--- The table of a result, filled with x, and the classes stored over it.
-pub names-stored : (class : List ℕ) (x : ℕ) (names : List ℕ) → nameCount ≤ length class
-    → names ≡ sets (replicate nameSlots x) 0 (take nameCount class) → NamesAre class x names
-names-stored class x names many e =
+-- The table of a result: the classes are stored in it.
+pub names-stored : (class : List ℕ) (names : List ℕ) → nameCount ≤ length class
+    → names ≡ sets (replicate nameSlots 0) 0 (take nameCount class) → NamesAre class names
+unfolding NamesAre
+names-stored class names many e n h =
     let xs : List ℕ = take nameCount class in
-    let ys : List ℕ = drop nameCount (replicate nameSlots x) in
+    let ys : List ℕ = drop nameCount (replicate nameSlots 0) in
     let l : length xs ≡ nameCount = length-take-le nameCount class many in
     let k : 0 + length xs ≡ nameCount = omega arith in
     let whole : names ≡ xs ++ ys =
-    e ∙ sets-eq xs (replicate nameSlots x) 0 (omega (arith, length-replicate {A = ℕ} nameSlots x))
-    ∙ ap (λ n. xs ++ drop n (replicate nameSlots x)) k in
-    let seam : nameCount ≡ length xs + 0 = omega arith in
-    record {
-      free = λ n h.
-          ap (λ t. getD t n 0) whole ∙ List·getD-append xs ys 0 n (omega arith) ∙ getD-take nameCount class n 0 h;
-      new = ap (λ t. getD t nameCount 0) whole ∙ ap (λ n. getD (xs ++ ys) n 0) seam ∙ getD-append-add xs ys 0 0;
-    }
+    e ∙ sets-eq xs (replicate nameSlots 0) 0 (omega (arith, length-replicate {A = ℕ} nameSlots 0))
+    ∙ ap (λ n. xs ++ drop n (replicate nameSlots 0)) k in
+    ap (λ t. getD t n 0) whole ∙ List·getD-append xs ys 0 n (omega arith) ∙ getD-take nameCount class n 0 h
 
-module _ (x : ℕ) (names : List ℕ) (class : List ℕ) (has : NamesAre class x names) (M : Cond) (classes : (n : ℕ) → n < nameCount → getD class n 0 ≡ cls M n) where
-  has-names : HasNames nameCount 0 0 names (λ n. cls M n)
-  unfolding HasNames
-  has-names m h =
-      let k : m < nameCount = omega arith in (
-        ap (λ n. getD names n 0) (slot-name tableNames m) ∙ has .free m k ∙ classes m k ∙ sym (slot-name tableNames (cls M m)),
-        omega (arith, cls-le M m),
-      )
+has-names : (names class : List ℕ) → NamesAre class names → (M : Cond) → ((n : ℕ) → n < nameCount → getD class n 0 ≡ cls M n)
+    → HasNames nameCount 0 0 names (λ n. cls M n)
+unfolding HasNames NamesAre
+has-names names class has M classes m h =
+    let k : m < nameCount = omega arith in (
+      ap (λ n. getD names n 0) (slot-name tableNames m) ∙ has m k ∙ classes m k ∙ sym (slot-name tableNames (cls M m)),
+      omega (arith, cls-le M m),
+    )
 
-  has-new : x ≤ nameCount → HasNew 0 names x
-  unfolding HasNew
-  has-new h = (has .new ∙ sym (slot-name tableNames x), omega arith)
+has-new : (x : ℕ) → x ≤ nameCount → HasNew 0 x x
+unfolding HasNew
+has-new x h = (sym (slot-name tableNames x), omega arith)
 
 -- The result that the writer writes by this table is that in canonical form.
 receiving-canonical : (x : ℕ) (M : Cond) (α : Act) (A : Term)
@@ -75,9 +71,9 @@ receiving-canonical x M (inpA a) A = refl
 receiving-canonical x M (outA a b) A = refl
 receiving-canonical x M (boutA a) A = refl
 
-pub result-written : (question part : List ℕ) (silently : Bool) (i : ℕ) (class : List ℕ) (x : ℕ) (names : List ℕ) → NamesAre class x names
+pub result-written : (question part : List ℕ) (silently : Bool) (i : ℕ) (class : List ℕ) (x : ℕ) (names : List ℕ) → NamesAre class names
     → (out : List ℕ) (r : ℕ) (out′ : List ℕ)
-    → WriteIs question part 0 0 (record { names = names; levels = 0; calls = 1; still = false; silently = silently; number = i }) out 0 r out′
+    → WriteIs question part 0 0 names (record { new = x; levels = 0; calls = 1; still = false; silently = silently; number = i }) out 0 r out′
     → ResultIs question part silently i class x out r out′
 unfolding ResultIs chosen candidatesOf
 result-written question part silently i class x names has out r out′ w q P l M α A e classes =
@@ -86,8 +82,8 @@ result-written question part silently i class x names has out r out′ w q P l M
     (record {
       ρ = cls M;
       x = x;
-      names = has-names x names class has M classes;
-      new = has-new x names class has M classes (l .new);
+      has = has-names names class has M classes;
+      new = has-new x (l .new);
       condition = M;
       action = α;
       result = A;

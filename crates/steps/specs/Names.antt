@@ -4,9 +4,9 @@ use mathlib.Core.Path.{_≡_}
 use mathlib.Core.Bool.{cond}
 use mathlib.Core.List.{List}
 use Prim.Native.Nat.{ℕ, _+_, _-_, _<_}
-use lib.ListN.{length, getD}
+use lib.ListN.{getD}
 use lib.Dec.{ltb}
-use Rattle.terms.specs.Limits.{nameCount, tableNames, greatestArity, longestTerm}
+use Rattle.terms.specs.Limits.{tableNames, greatestArity, longestTerm}
 use Rattle.steps.specs.Slots.{slotOf}
 
 -- Binders around a term: a body's parameters, and at most one for each byte.
@@ -21,18 +21,22 @@ unfoldable pub HasNames : ℕ → ℕ → ℕ → List ℕ → (ℕ → ℕ) →
 HasNames free D D′ names τ =
     (m : ℕ) → m < D + free → (getD names (slotOf tableNames D m) 0 ≡ slotOf tableNames D′ (τ m)) × (τ m < D′ + tableNames)
 
--- Behind the free names it has the name x that a step receives or extrudes.
-unfoldable pub HasNew : ℕ → List ℕ → ℕ → Type 0
-HasNew D′ names x = (getD names nameCount 0 ≡ slotOf tableNames D′ x) × (x < D′ + tableNames)
+-- This is the slot of the name x that a step receives or extrudes.
+unfoldable pub HasNew : ℕ → ℕ → ℕ → Type 0
+HasNew D′ new x = (new ≡ slotOf tableNames D′ x) × (x < D′ + tableNames)
+
+-- The slots of the free names and of D binders are as they were.
+unfoldable pub Kept : ℕ → List ℕ → List ℕ → Type 0
+Kept D names names′ = (k : ℕ) → k < tableNames + D → getD names′ k 0 ≡ getD names k 0
 
 -- D binders numbered from `from` on, inward or outward, are numbered from `to` on the other way round. What is below `from` is a free name.
 unfoldable pub turn : ℕ → ℕ → ℕ → ℕ → ℕ
 turn from to D w = cond (ltb w from) w (cond (ltb (w - from) D) (to + (D - 1 - (w - from))) 0)
 
 -- The table for a called body.
-pub record CalledIs (s : List ℕ) (at count D : ℕ) (names r : List ℕ) : Type 0 where
-  pub parameters : (j : ℕ) → j < count → getD r (tableNames + j) 0 ≡ getD names (turn 128 tableNames D (getD s (at + j) 0)) 0
-  pub new : getD r nameCount 0 ≡ getD names nameCount 0
+unfoldable pub CalledIs : List ℕ → ℕ → ℕ → ℕ → List ℕ → List ℕ → Type 0
+CalledIs s at count D names r =
+    (j : ℕ) → j < count → getD r (tableNames + j) 0 ≡ getD names (turn 128 tableNames D (getD s (at + j) 0)) 0
 
 -- The table for renaming, which has the binders from the innermost outward.
 unfoldable pub TableIs : List ℕ → ℕ → ℕ → List ℕ → Type 0

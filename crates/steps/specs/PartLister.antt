@@ -39,10 +39,9 @@ pub record Lists (question part : List ℕ) (x : ℕ) (q : Question) (P : Term) 
 unfoldable pub candidatesOf : Bool → Question → Term → List Candidate
 candidatesOf silently q P = candidates silently (bodyOf (q .bodies)) 1 P
 
--- What the names are written as in a result: each as its class, and the name received or extruded as x.
-pub record NamesAre (class : List ℕ) (x : ℕ) (names : List ℕ) : Type 0 where
-  pub free : (n : ℕ) → n < nameCount → getD names n 0 ≡ getD class n 0
-  pub new : getD names nameCount 0 ≡ x
+-- What the names are written as in a result: each as its class.
+unfoldable pub NamesAre : List ℕ → List ℕ → Type 0
+NamesAre class names = (n : ℕ) → n < nameCount → getD names n 0 ≡ getD class n 0
 
 -- The result of a candidate in canonical form (document 01, "Action and result are rewritten by the condition").
 unfoldable pub ResultIs : List ℕ → List ℕ → Bool → ℕ → List ℕ → ℕ → List ℕ → ℕ → List ℕ → Type 0

@@ -1,11 +1,11 @@
--- Where a candidate of a term stands by its number, and what its action does: the promises of the functions that find it. The term is `ren σ P`,
--- where P is what the bytes at hand code: in a called body σ puts the call's names for the parameters.
+-- What the action of a candidate does, by the candidate's number: the promises of the functions that find it. The term is `ren σ P`, where P is what
+-- the bytes at hand code: in a called body σ puts the call's names for the parameters.
 use mathlib.Core.Path.{_≡_}
 use mathlib.Core.Bool.{Bool, true, false, cond, _&&_, not}
 use mathlib.Core.List.{List, _++_}
-use Prim.Native.Nat.{ℕ, _+_, _-_, _*_, _<_, _≤_}
+use Prim.Native.Nat.{ℕ, _+_, _-_, _<_, _≤_}
 use lib.ListN.{length, getD, drop}
-use lib.Dec.{eqb, ltb}
+use lib.Dec.{eqb}
 use Rattle.calculus.specs.Abstraction.{Act, tauA, inpA, outA, boutA}
 use Rattle.calculus.specs.Cond.{Cond}
 use Rattle.calculus.specs.Term.{Term, ren}
@@ -17,7 +17,7 @@ use Rattle.steps.specs.Listing.{bodyOf}
 use Rattle.steps.specs.Names.{turn}
 use Rattle.steps.specs.Raw.{Candidate, step, blocked, visible, silent}
 use Rattle.steps.specs.Slots.{slotOf}
-use Rattle.steps.specs.declared.pass.Numbers.{Numbers}
+use Rattle.steps.specs.Tally.{endAt}
 use Rattle.steps.specs.declared.pass.Passed.{Passed}
 
 -- the silent candidates of a term, or its visible ones
@@ -39,30 +39,32 @@ Does free D σ (inpA a) kind object = kind ≡ 1
 Does free D σ (outA a b) kind object = (kind ≡ 2) × Sent free D σ b object
 Does free D σ (boutA a) kind object = kind ≡ 3
 
--- The answer to the number i among the candidates cs of a term whose bytes are n long.
-pub record PassedIs (free D : ℕ) (σ : ℕ → ℕ) (cs : List Candidate) (n at i : ℕ) (r : Passed) : Type 0 where
-  pub end : r .end ≡ at + n
-  pub past : r .found ≡ false → i ≡ length cs + r .rest
-  pub here : r .found ≡ true → i < length cs
-  pub does : (M : Cond) (α : Act) (A : Term) → r .found ≡ true → getD cs i blocked ≡ step M α A → Does free D σ α (r .kind) (r .object)
-
+-- What the action of the candidate number i does, if there is such a candidate.
 pub record PassIs (question s : List ℕ) (at D calls : ℕ) (silently : Bool) (i : ℕ) (r : Passed) : Type 0 where
-  pub on : at ≤ r .end
   pub slot : r .object < 256
-  pub fewer : r .rest ≤ i
-  pub is : (q : Question) (free : ℕ) (σ : ℕ → ℕ) (P : Term) (rest : List ℕ)
+  pub does : (q : Question) (free : ℕ) (σ : ℕ → ℕ) (P : Term) (rest : List ℕ)
       → checkOf question ≡ result q
       → free ≤ nameCount
       → InScope free (q .arities) D P
       → drop at s ≡ encode D P ++ rest
-      → PassedIs free D σ (candidates silently (bodyOf (q .bodies)) calls (ren σ P)) (length (encode D P)) at i r
+      → (M : Cond) (α : Act) (A : Term)
+      → getD (candidates silently (bodyOf (q .bodies)) calls (ren σ P)) i blocked ≡ step M α A
+      → Does free D σ α (r .kind) (r .object)
+
+-- Of inaction or a prefix, by its first byte; a free output sends the name in its third.
+pub record PrefixIs (s : List ℕ) (at D : ℕ) (r : Passed) : Type 0 where
+  pub slot : r .object < 256
+  pub kind : r .kind ≡ getD s at 0 - 1
+  pub object : getD s at 0 ≡ 3 → r .object ≡ turn 128 tableNames D (getD s (at + 2) 0)
+
+-- The right side of a choice or parallel stands where the left one ends.
+pub record MiddleIs (s t : List ℕ) (at r : ℕ) : Type 0 where
+  pub none : length s ≤ at + 1 → r ≡ at + 1
+  pub is : at + 1 < length s → r ≡ endAt t (at + 1)
 
 -- The answers that the code builds.
-abbrev pub pastAt : ℕ → ℕ → Passed
-pastAt rest end = record { found = false; rest = rest; end = end; kind = 0; object = 0 }
-
-abbrev pub endingAt : ℕ → Passed → Passed
-endingAt end p = record { found = p .found; rest = p .rest; end = end; kind = p .kind; object = p .object }
+abbrev pub nothingSent : Passed
+nothingSent = record { kind = 0; object = 0 }
 
 -- [Open]: the name of the binder at level D, the innermost, is sent.
 unfoldable pub opensAt : ℕ → ℕ → ℕ → Bool
@@ -70,26 +72,13 @@ opensAt D kind object = eqb kind 2 && eqb object (tableNames + D)
 
 unfoldable pub leavingAt : ℕ → Passed → Passed
 leavingAt D p =
-    record { found = p .found; rest = p .rest; end = p .end; kind = cond (opensAt D (p .kind) (p .object)) 3 (p .kind); object = p .object }
+    record { kind = cond (opensAt D (p .kind) (p .object)) 3 (p .kind); object = p .object }
 
 -- A parameter of a called body is the call's name in its place.
-unfoldable pub returnedAt : List ℕ → ℕ → ℕ → ℕ → Passed → Passed
-returnedAt s at D end p =
-    record { found = p .found; rest = p .rest; end = end; kind = p .kind; object = turn 128 tableNames D (getD s (at + (p .object - tableNames)) 0) }
+unfoldable pub returnedAt : List ℕ → ℕ → ℕ → Passed → Passed
+returnedAt s at D p =
+    record { kind = p .kind; object = turn 128 tableNames D (getD s (at + (p .object - tableNames)) 0) }
 
 -- Whether a term that begins with one of the bytes 0 to 4 has a candidate: the silent prefix a silent one, the others a visible one.
 unfoldable pub counted : Bool → ℕ → Bool
 counted silently t = cond (eqb t 0) false (cond (eqb t 1) silently (not silently))
-
--- The number j of a communication among w visible candidates of the right side is made of the two sides' numbers (Numbering).
--- What is known of w: whether j is among them, or what is left of j behind them.
-pub record SplitIs (j : ℕ) (found : Bool) (rest : ℕ) (n : Numbers) : Type 0 where
-  pub below : (m : ℕ) → m ≤ n .left → m * n .width + n .right ≤ j
-  pub is : (w : ℕ) → (found ≡ true → j < w) → (found ≡ false → j ≡ w + rest)
-      → (n .none ≡ true → w ≡ 0)
-      × (n .none ≡ false → (j ≡ n .left * w + n .right) × (n .right < w) × ((m : ℕ) → m ≤ n .left → m * n .width ≡ m * w))
-
--- A communication: found if the left side has the candidate, and what is left of the number otherwise.
-unfoldable pub metAt : Passed → Numbers → ℕ → Passed
-metAt x n end =
-    record { found = x .found; rest = cond (x .found) 0 (x .rest * n .width + n .right); end = end; kind = 0; object = 0 }

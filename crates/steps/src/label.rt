@@ -11,10 +11,10 @@ use crate::action::Action;
 use crate::action::Label;
 use crate::bodies::body_of;
 use crate::bodies::call_at;
+use crate::pass::middle_of;
 use crate::rules::communication;
 use crate::rules::matching;
 use crate::rules::restricted;
-use crate::tally::end_at;
 use crate::tally::number_at;
 use crate::tally::tally;
 use crate::tally::visible_at;
@@ -150,6 +150,7 @@ fn nth_either(
     requires { ⌜ (at < length (now src)) × (5 < getD (now src) at 0) × (getD (now src) at 0 < 8) × Within (now src) at inner depth calls × TallyIs (now question) (now src) calls (now tally) ⌝ }
     ensures { λ r. ⌜ NthIs (now (question .entry)) (now (src .entry)) at i silent (now (args .entry)) inner depth calls r ⌝ }
 {
+    let middle = middle_of(src, tally, at);
     let left = number_at(tally, at + 1, silent);
     if i < left {
         return nth(
@@ -164,10 +165,6 @@ fn nth_either(
             depth,
             calls,
         );
-    }
-    let middle = end_at(tally, at + 1);
-    if middle <= at {
-        return Label::blocked();
     }
     let j = i - left;
     let right = number_at(tally, middle, silent);

@@ -21,12 +21,12 @@ use terms::limits::GREATEST_ARITY;
 use terms::limits::LONGEST_TERM;
 use terms::limits::NAME_COUNT;
 
-// What the names are written as in a result: each as its class, and the name received or extruded as `x`.
-fn result_names(class: &[u8], x: u8) -> [u8; NAME_SLOTS]
+// What the names are written as in a result: each as its class.
+fn result_names(class: &[u8]) -> [u8; NAME_SLOTS]
     requires { ⌜ nameCount ≤ length (now class) ⌝ }
-    ensures { λ r. ⌜ NamesAre (now (class .entry)) x r ⌝ }
+    ensures { λ r. ⌜ NamesAre (now (class .entry)) r ⌝ }
 {
-    let mut names = [x; NAME_SLOTS];
+    let mut names = [0u8; NAME_SLOTS];
     copy(class, 0, NAME_COUNT, &mut names, 0);
     names
 }
@@ -47,14 +47,15 @@ fn write_result(
     ensures { λ r. ⌜ ResultIs (now (question .entry)) (now (part .entry)) silently i (now (class .entry)) x (now (out .entry)) r (now (out .exit)) ⌝ }
 {
     let task = Task {
-        names: result_names(class, x),
+        new: x,
         levels: 0,
         calls: 1,
         still: false,
         silently,
         number: i,
     };
-    write(question, part, 0, 0, task, out, 0)
+    let mut names = result_names(class);
+    write(question, part, tally, 0, 0, task, &mut names, out, 0)
 }
 
 // Puts the step with this header, the candidate number `i`, into the list. A result that is too long passes a limit.

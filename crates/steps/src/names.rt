@@ -38,32 +38,16 @@ pub fn slot_of(b: u8, binders: usize) -> usize
     turned(b as usize, 128, TABLE_NAMES, binders)
 }
 
-// The table beneath one binder more, whose name stands for `slot`.
-pub fn entered(names: [u8; NAME_SLOTS], binders: usize, slot: u8) -> [u8; NAME_SLOTS]
-    requires { ⌜ binders < mostBinders ⌝ }
-    ensures { λ r. ⌜ r ≡ set names (tableNames + binders) slot ⌝ }
-{
-    let mut inner = names;
-    inner[TABLE_NAMES + binders] = slot;
-    inner
-}
-
 // The table for the body of a call whose `count` names stand at `at`: each parameter stands for what the call's name stands for.
-pub fn called(
-    src: &[u8],
-    at: usize,
-    count: usize,
-    binders: usize,
-    names: [u8; NAME_SLOTS],
-) -> [u8; NAME_SLOTS]
+pub fn called(src: &[u8], at: usize, count: usize, binders: usize, names: &[u8]) -> [u8; NAME_SLOTS]
     requires { ⌜ (count ≤ greatestArity) × (binders ≤ mostBinders) × (at ≤ 256) ⌝ }
-    ensures { λ r. ⌜ CalledIs (now (src .entry)) at count binders names r ⌝ }
+    ensures { λ r. ⌜ CalledIs (now (src .entry)) at count binders (now (names .entry)) r ⌝ }
 {
-    let mut inner = names;
+    let mut inner = [0u8; NAME_SLOTS];
     let mut j = 0;
     while j < count {
         let s = slot_of(get(src, at + j), binders);
-        inner[TABLE_NAMES + j] = get(&names, s);
+        inner[TABLE_NAMES + j] = get(names, s);
         j += 1;
     }
     inner
@@ -78,15 +62,15 @@ fn byte_of(slot: u8, levels: usize) -> u8
 }
 
 // The same names as a table for renaming, to terms under `levels` restrictions.
-pub fn renaming(names: [u8; NAME_SLOTS], binders: usize, levels: usize) -> [u8; NAME_SLOTS]
+pub fn renaming(names: &[u8], binders: usize, levels: usize) -> [u8; NAME_SLOTS]
     requires { ⌜ (binders ≤ mostBinders) × (levels ≤ 128) ⌝ }
-    ensures { λ r. ⌜ TableIs names binders levels r ⌝ }
+    ensures { λ r. ⌜ TableIs (now (names .entry)) binders levels r ⌝ }
 {
     let mut table = [0u8; NAME_SLOTS];
     let mut i = 0;
     while i < NAME_SLOTS {
         let s = turned(i, TABLE_NAMES, TABLE_NAMES, binders);
-        let b = byte_of(get(&names, s), levels);
+        let b = byte_of(get(names, s), levels);
         table[i] = b;
         i += 1;
     }

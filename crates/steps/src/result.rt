@@ -1,37 +1,38 @@
 // The bytes of a candidate's result, written in place from left to right. A table says what each name of the bytes at hand is written as, so
-// that nothing is renamed afterwards: document 01, "Action and result are rewritten by the condition".
+// that nothing is renamed afterwards: document 01, "Action and result are rewritten by the condition". There is one table for a part: what is
+// within a binder has the binder's slot to itself. The body of a call has a table of its own.
 ghost use mathlib.Core.Path.{_≡_};
 ghost use mathlib.Core.Bool.{true, false};
 ghost use mathlib.Core.List.{[], _∷_};
 ghost use Prim.Native.Nat.{_+_, _≤_, _<_};
 ghost use lib.ListN.{length, getD};
 ghost use Rattle.terms.specs.Limits.{greatestArity, longestTerm};
-ghost use Rattle.steps.specs.Names.{mostBinders, nameSlots};
-ghost use Rattle.steps.specs.Results.{named, numbered, resting, visibly, extruding, restricting, sending, closing, CallingIs, opening, StoreIs, TermIs, WriteIs, Room, meetingPlan, PlanIs};
+ghost use Rattle.steps.specs.Names.{mostBinders, nameSlots, Kept};
+ghost use Rattle.steps.specs.Results.{numbered, resting, visibly, beneath, sending, closing, inside, opening, SplitIs, StoreIs, TermIs, WriteIs, Room, Writing, meetingPlan, PlanIs};
+ghost use Rattle.steps.specs.Tally.{TallyIs};
 use crate::bodies::arities_of;
 use crate::bodies::body_of;
 use crate::bodies::call_at;
 use crate::bodies::end_of;
-use crate::names::NAME_SLOTS;
 use crate::names::called;
-use crate::names::entered;
 use crate::names::renaming;
-use crate::pass::Numbers;
 use crate::pass::OUTPUT;
 use crate::pass::Passed;
+use crate::pass::middle_of;
 use crate::pass::opens;
 use crate::pass::pass;
-use crate::pass::split;
+use crate::tally::number_at;
+use crate::tally::tally;
+use crate::tally::visible_at;
 use terms::bytes::get;
 use terms::bytes::room;
-use terms::limits::NAME_COUNT;
 use terms::limits::TABLE_NAMES;
 use terms::rename::rename;
 
 // What is to be written of a term.
 pub struct Task {
-    // what each name is written as, and behind the free names the name received or extruded, by slots
-    pub names: [u8; NAME_SLOTS],
+    // what the name received or extruded is written as, by its slot
+    pub new: u8,
     // the restrictions written around
     pub levels: usize,
     // the calls that may still be opened
@@ -51,27 +52,12 @@ pub struct Plan {
     pub right: Task,
 }
 
-// The same with other names, under so many restrictions.
-fn with_names(task: Task, names: [u8; NAME_SLOTS], levels: usize) -> Task
-    ensures { λ r. ⌜ r ≡ named names levels task ⌝ }
-{
-    Task {
-        names,
-        levels,
-        calls: task.calls,
-        still: task.still,
-        silently: task.silently,
-        number: task.number,
-    }
-}
-
 // Another number.
 fn with_number(task: Task, n: usize) -> Task
     ensures { λ r. ⌜ r ≡ numbered n task ⌝ }
 {
-    let names = task.names;
     Task {
-        names,
+        new: task.new,
         levels: task.levels,
         calls: task.calls,
         still: task.still,
@@ -82,11 +68,10 @@ fn with_number(task: Task, n: usize) -> Task
 
 // The term itself.
 fn rest(task: Task) -> Task
-    ensures { λ r. ⌜ (r ≡ resting task) × (length (task .names) ≡ nameSlots) ⌝ }
+    ensures { λ r. ⌜ r ≡ resting task ⌝ }
 {
-    let names = task.names;
     Task {
-        names,
+        new: task.new,
         levels: task.levels,
         calls: task.calls,
         still: true,
@@ -99,9 +84,8 @@ fn rest(task: Task) -> Task
 fn side(task: Task, n: usize) -> Task
     ensures { λ r. ⌜ r ≡ visibly n task ⌝ }
 {
-    let names = task.names;
     Task {
-        names,
+        new: task.new,
         levels: task.levels,
         calls: task.calls,
         still: false,
@@ -110,34 +94,34 @@ fn side(task: Task, n: usize) -> Task
     }
 }
 
-// Beneath a restriction whose name is extruded: [Open].
-fn extrude(task: Task, binders: usize) -> Task
-    requires { ⌜ binders < mostBinders ⌝ }
-    ensures { λ r. ⌜ (r ≡ extruding binders task) × (length (task .names) ≡ nameSlots) ⌝ }
-{
-    let names = task.names;
-    let inner = entered(names, binders, names[NAME_COUNT]);
-    with_names(task, inner, task.levels)
-}
-
 // Beneath a restriction that is written: [Res].
-fn restrict(task: Task, binders: usize) -> Task
-    requires { ⌜ (binders < mostBinders) × (task .levels ≤ 128) ⌝ }
-    ensures { λ r. ⌜ (r ≡ restricting binders task) × (length (task .names) ≡ nameSlots) ⌝ }
+fn restrict(task: Task) -> Task
+    requires { ⌜ task .levels ≤ 128 ⌝ }
+    ensures { λ r. ⌜ r ≡ beneath task ⌝ }
 {
-    let levels = task.levels;
-    let names = task.names;
-    let inner = entered(names, binders, (TABLE_NAMES + levels) as u8);
-    with_names(task, inner, levels + 1)
+    Task {
+        new: task.new,
+        levels: task.levels + 1,
+        calls: task.calls,
+        still: task.still,
+        silently: task.silently,
+        number: task.number,
+    }
 }
 
 // The name in a slot is received: [Com].
-fn receive(task: Task, slot: usize) -> Task
-    ensures { λ r. ⌜ r ≡ sending slot task ⌝ }
+fn receive(task: Task, names: &[u8], slot: usize) -> Task
+    ensures { λ r. ⌜ r ≡ sending (getD (now (names .entry)) slot 0) task ⌝ }
 {
-    let mut names = task.names;
-    names[NAME_COUNT] = get(&names, slot);
-    with_names(task, names, task.levels)
+    let received = get(names, slot);
+    Task {
+        new: received,
+        levels: task.levels,
+        calls: task.calls,
+        still: task.still,
+        silently: task.silently,
+        number: task.number,
+    }
 }
 
 // The name received or extruded is that of a new restriction: [Close].
@@ -145,21 +129,23 @@ fn close(task: Task) -> Task
     requires { ⌜ task .levels ≤ 128 ⌝ }
     ensures { λ r. ⌜ r ≡ closing task ⌝ }
 {
-    let levels = task.levels;
-    let mut names = task.names;
-    names[NAME_COUNT] = (TABLE_NAMES + levels) as u8;
-    with_names(task, names, levels + 1)
+    Task {
+        new: (TABLE_NAMES + task.levels) as u8,
+        levels: task.levels + 1,
+        calls: task.calls,
+        still: task.still,
+        silently: task.silently,
+        number: task.number,
+    }
 }
 
-// In the body of a call whose `count` names stand at `at`: [Con].
-fn call(task: Task, src: &[u8], at: usize, count: usize, binders: usize) -> Task
-    requires { ⌜ (count ≤ greatestArity) × (binders ≤ mostBinders) × (at ≤ 256) × (0 < task .calls) ⌝ }
-    ensures { λ r. ⌜ CallingIs (now (src .entry)) at count binders task r ⌝ }
+// In the body of a call: [Con].
+fn enter(task: Task) -> Task
+    requires { ⌜ 0 < task .calls ⌝ }
+    ensures { λ r. ⌜ r ≡ inside task ⌝ }
 {
-    let names = task.names;
-    let inner = called(src, at, count, binders, names);
     Task {
-        names: inner,
+        new: task.new,
         levels: task.levels,
         calls: task.calls - 1,
         still: task.still,
@@ -186,20 +172,20 @@ fn write_term(
     src: &[u8],
     at: usize,
     binders: usize,
-    task: Task,
+    levels: usize,
+    names: &[u8],
     out: &mut [u8],
     put: usize,
 ) -> usize
-    requires { ⌜ (binders ≤ mostBinders) × Room task (now out) put ⌝ }
-    ensures { λ r. ⌜ TermIs (now (question .entry)) (now (src .entry)) at binders (task .names) (task .levels) (now (out .entry)) put r (now (out .exit)) ⌝ }
+    requires { ⌜ (binders ≤ mostBinders) × Room levels (now out) put ⌝ }
+    ensures { λ r. ⌜ TermIs (now (question .entry)) (now (src .entry)) at binders (now (names .entry)) levels (now (out .entry)) put r (now (out .exit)) ⌝ }
 {
     let arities = arities_of(question);
     let n = end_of(src, at, arities) - at;
     if !room(out.len(), put, n) {
         return out.len() + 1;
     }
-    let names = task.names;
-    let table = renaming(names, binders, task.levels);
+    let table = renaming(names, binders, levels);
     rename(src, at, arities, &table, out, put);
     put + n
 }
@@ -211,21 +197,23 @@ fn write_prefix(
     at: usize,
     binders: usize,
     task: Task,
+    names: &mut [u8],
     out: &mut [u8],
     put: usize,
 ) -> usize
-    requires { ⌜ (at < length (now src)) × (getD (now src) at 0 < 5) × (binders < mostBinders) × (task .still ≡ false) × Room task (now out) put ⌝ }
-    ensures { λ r. ⌜ WriteIs (now (question .entry)) (now (src .entry)) at binders task (now (out .entry)) put r (now (out .exit)) ⌝ }
+    requires { ⌜ (at < length (now src)) × (getD (now src) at 0 < 5) × (binders < mostBinders) × (task .still ≡ false) × (length (now names) ≡ nameSlots) × Room (task .levels) (now out) put ⌝ }
+    ensures { λ r. ⌜ WriteIs (now (question .entry)) (now (src .entry)) at binders (now (names .entry)) task (now (out .entry)) put r (now (out .exit)) × Kept binders (now (names .entry)) (now (names .exit)) ⌝ }
 {
     let t = get(src, at);
+    let levels = task.levels;
     if t == 1 {
-        return write_term(question, src, at + 1, binders, task, out, put);
+        return write_term(question, src, at + 1, binders, levels, names, out, put);
     }
     if t == 3 {
-        return write_term(question, src, at + 3, binders, task, out, put);
+        return write_term(question, src, at + 3, binders, levels, names, out, put);
     }
-    let inner = extrude(task, binders);
-    write_term(question, src, at + 2, binders + 1, inner, out, put)
+    names[TABLE_NAMES + binders] = task.new;
+    write_term(question, src, at + 2, binders + 1, levels, names, out, put)
 }
 
 // The bytes before the sides of a parallel.
@@ -243,161 +231,284 @@ fn open_pair(out: &mut [u8], put: usize, closed: bool) -> usize
     store(out, e, 7)
 }
 
+// The numbers of the two sides of a communication.
+pub struct Numbers {
+    pub left: usize,
+    pub right: usize,
+}
+
+// The numbers of the sides of the communication number `j`, where the right side has `n` visible candidates.
+fn split(j: usize, n: usize) -> Numbers
+    ensures { λ r. ⌜ SplitIs j n r ⌝ }
+{
+    if n == 0 {
+        return Numbers { left: 0, right: 0 };
+    }
+    Numbers {
+        left: j / n,
+        right: j % n,
+    }
+}
+
 // The sides of a communication whose actions are those of `x` and `z`.
-fn meet(task: Task, middle: usize, n: Numbers, x: Passed, z: Passed) -> Plan
+fn meet(task: Task, names: &[u8], middle: usize, n: Numbers, x: Passed, z: Passed) -> Plan
     requires { ⌜ task .levels ≤ 128 ⌝ }
-    ensures { λ r. ⌜ r ≡ meetingPlan task middle n x z ⌝ }
+    ensures { λ r. ⌜ r ≡ meetingPlan (now (names .entry)) task middle n x z ⌝ }
 {
     let left = side(task, n.left);
     let right = side(task, n.right);
     if x.kind == OUTPUT {
-        let right = receive(right, x.object);
         return Plan {
             close: false,
             middle,
             left,
-            right,
+            right: receive(right, names, x.object),
         };
     }
     if z.kind == OUTPUT {
-        let left = receive(left, z.object);
         return Plan {
             close: false,
             middle,
-            left,
+            left: receive(left, names, z.object),
             right,
         };
     }
-    let left = close(left);
-    let right = close(right);
     Plan {
         close: true,
         middle,
-        left,
-        right,
+        left: close(left),
+        right: close(right),
     }
 }
 
 // What is to be written of the sides of the parallel at `at`.
-fn plan_of(question: &[u8], src: &[u8], at: usize, binders: usize, task: Task) -> Plan
-    requires { ⌜ (length (now src) ≤ longestTerm) × (at < length (now src)) × (binders ≤ at + greatestArity) × (task .levels ≤ 128) × (task .still ≡ false) ⌝ }
-    ensures { λ r. ⌜ PlanIs (now (question .entry)) (now (src .entry)) at binders task r ⌝ }
+fn plan_of(
+    question: &[u8],
+    src: &[u8],
+    tally: &[usize],
+    at: usize,
+    binders: usize,
+    task: Task,
+    names: &[u8],
+) -> Plan
+    requires { ⌜ (length (now src) ≤ longestTerm) × (at < length (now src)) × (binders ≤ at + greatestArity) × (task .levels ≤ 128) × (task .still ≡ false) × (task .calls ≤ 1) × TallyIs (now question) (now src) (task .calls) (now tally) ⌝ }
+    ensures { λ r. ⌜ PlanIs (now (question .entry)) (now (src .entry)) at binders (now (names .entry)) task r ⌝ }
 {
     let calls = task.calls;
     let silently = task.silently;
-    let p = pass(question, src, at + 1, binders, calls, silently, task.number);
-    let middle = p.end;
-    let still = rest(task);
-    if p.found {
+    let number = task.number;
+    let middle = middle_of(src, tally, at);
+    let left = number_at(tally, at + 1, silently);
+    if number < left {
         return Plan {
             close: false,
             middle,
             left: task,
-            right: still,
+            right: rest(task),
         };
     }
-    let q = pass(question, src, middle, binders, calls, silently, p.rest);
-    if q.found {
-        let right = with_number(task, p.rest);
+    let i = number - left;
+    let right = number_at(tally, middle, silently);
+    if i < right {
         return Plan {
             close: false,
             middle,
-            left: still,
-            right,
+            left: rest(task),
+            right: with_number(task, i),
         };
     }
-    let j = q.rest;
-    let y = pass(question, src, middle, binders, calls, false, j);
-    let n = split(j, y.found, y.rest);
-    let x = pass(question, src, at + 1, binders, calls, false, n.left);
-    let z = pass(question, src, middle, binders, calls, false, n.right);
-    meet(task, middle, n, x, z)
+    let n = split(i - right, visible_at(tally, middle));
+    let x = pass(question, src, tally, at + 1, binders, calls, false, n.left);
+    let z = pass(question, src, tally, middle, binders, calls, false, n.right);
+    meet(task, names, middle, n, x, z)
+}
+
+// The choice at `at`: one side.
+fn write_choice(
+    question: &[u8],
+    src: &[u8],
+    tally: &[usize],
+    at: usize,
+    binders: usize,
+    task: Task,
+    names: &mut [u8],
+    out: &mut [u8],
+    put: usize,
+) -> usize
+    requires { ⌜ (at < length (now src)) × (getD (now src) at 0 ≡ 6) × (task .still ≡ false) × Writing (now question) (now src) (now tally) at binders (now names) task (now out) put ⌝ }
+    ensures { λ r. ⌜ WriteIs (now (question .entry)) (now (src .entry)) at binders (now (names .entry)) task (now (out .entry)) put r (now (out .exit)) × Kept binders (now (names .entry)) (now (names .exit)) ⌝ }
+{
+    let number = task.number;
+    let n = number_at(tally, at + 1, task.silently);
+    if number < n {
+        return write(question, src, tally, at + 1, binders, task, names, out, put);
+    }
+    let middle = middle_of(src, tally, at);
+    let right = with_number(task, number - n);
+    write(
+        question,
+        src,
+        tally,
+        middle,
+        binders,
+        right,
+        names,
+        out,
+        put,
+    )
+}
+
+// The parallel at `at`: both sides.
+fn write_parallel(
+    question: &[u8],
+    src: &[u8],
+    tally: &[usize],
+    at: usize,
+    binders: usize,
+    task: Task,
+    names: &mut [u8],
+    out: &mut [u8],
+    put: usize,
+) -> usize
+    requires { ⌜ (at < length (now src)) × (getD (now src) at 0 ≡ 7) × (task .still ≡ false) × Writing (now question) (now src) (now tally) at binders (now names) task (now out) put ⌝ }
+    ensures { λ r. ⌜ WriteIs (now (question .entry)) (now (src .entry)) at binders (now (names .entry)) task (now (out .entry)) put r (now (out .exit)) × Kept binders (now (names .entry)) (now (names .exit)) ⌝ }
+{
+    let plan = plan_of(question, src, tally, at, binders, task, names);
+    let e = open_pair(out, put, plan.close);
+    if out.len() < e {
+        return e;
+    }
+    let left = plan.left;
+    let m = write(question, src, tally, at + 1, binders, left, names, out, e);
+    if out.len() < m {
+        return m;
+    }
+    let right = plan.right;
+    write(
+        question,
+        src,
+        tally,
+        plan.middle,
+        binders,
+        right,
+        names,
+        out,
+        m,
+    )
+}
+
+// The restriction at `at`. It is written unless its name is extruded: [Open].
+fn write_restriction(
+    question: &[u8],
+    src: &[u8],
+    tally: &[usize],
+    at: usize,
+    binders: usize,
+    task: Task,
+    names: &mut [u8],
+    out: &mut [u8],
+    put: usize,
+) -> usize
+    requires { ⌜ (at < length (now src)) × (getD (now src) at 0 ≡ 8) × (task .still ≡ false) × Writing (now question) (now src) (now tally) at binders (now names) task (now out) put ⌝ }
+    ensures { λ r. ⌜ WriteIs (now (question .entry)) (now (src .entry)) at binders (now (names .entry)) task (now (out .entry)) put r (now (out .exit)) × Kept binders (now (names .entry)) (now (names .exit)) ⌝ }
+{
+    let calls = task.calls;
+    let next = at + 1;
+    let inner = binders + 1;
+    let p = pass(
+        question,
+        src,
+        tally,
+        next,
+        inner,
+        calls,
+        task.silently,
+        task.number,
+    );
+    if opens(p.kind, p.object, binders) {
+        names[TABLE_NAMES + binders] = task.new;
+        return write(question, src, tally, next, inner, task, names, out, put);
+    }
+    let e = store(out, put, 8);
+    if out.len() < e {
+        return e;
+    }
+    names[TABLE_NAMES + binders] = (TABLE_NAMES + task.levels) as u8;
+    write(
+        question,
+        src,
+        tally,
+        next,
+        inner,
+        restrict(task),
+        names,
+        out,
+        e,
+    )
+}
+
+// The call at `at`: its body, with a table for the call's names.
+fn write_call(
+    question: &[u8],
+    src: &[u8],
+    at: usize,
+    binders: usize,
+    task: Task,
+    names: &[u8],
+    out: &mut [u8],
+    put: usize,
+) -> usize
+    requires { ⌜ (at < length (now src)) × (8 < getD (now src) at 0) × (task .still ≡ false) × (task .calls ≤ 1) × (length (now src) ≤ longestTerm) × (binders ≤ at + greatestArity) × Room (task .levels) (now out) put ⌝ }
+    ensures { λ r. ⌜ WriteIs (now (question .entry)) (now (src .entry)) at binders (now (names .entry)) task (now (out .entry)) put r (now (out .exit)) ⌝ }
+{
+    let o = call_at(question, src, at, task.calls);
+    let n = o.arity;
+    if !o.allowed {
+        return out.len() + 1;
+    }
+    let inner = enter(task);
+    let body = body_of(question, o.definition);
+    let numbers = tally(question, body, inner.calls);
+    let mut given = called(src, at + 2, n, binders, names);
+    write(question, body, &numbers, 0, n, inner, &mut given, out, put)
 }
 
 // What the task asks for of the term at `at`, from `put` on. The answer is where the bytes end, or past the end of `out` where there is no room.
 pub fn write(
     question: &[u8],
     src: &[u8],
+    tally: &[usize],
     at: usize,
     binders: usize,
     task: Task,
+    names: &mut [u8],
     out: &mut [u8],
     put: usize,
 ) -> usize
-    requires { ⌜ (length (now src) ≤ longestTerm) × (binders ≤ at + greatestArity) × Room task (now out) put ⌝ }
-    ensures { λ r. ⌜ WriteIs (now (question .entry)) (now (src .entry)) at binders task (now (out .entry)) put r (now (out .exit)) ⌝ }
+    requires { ⌜ Writing (now question) (now src) (now tally) at binders (now names) task (now out) put ⌝ }
+    ensures { λ r. ⌜ WriteIs (now (question .entry)) (now (src .entry)) at binders (now (names .entry)) task (now (out .entry)) put r (now (out .exit)) × Kept binders (now (names .entry)) (now (names .exit)) ⌝ }
 {
     if src.len() <= at {
         return out.len() + 1;
     }
     if task.still {
-        return write_term(question, src, at, binders, task, out, put);
+        return write_term(question, src, at, binders, task.levels, names, out, put);
     }
     let t = get(src, at);
-    let calls = task.calls;
     if t < 5 {
-        return write_prefix(question, src, at, binders, task, out, put);
+        return write_prefix(question, src, at, binders, task, names, out, put);
     }
     if t == 5 {
-        return write(question, src, at + 3, binders, task, out, put);
+        return write(question, src, tally, at + 3, binders, task, names, out, put);
     }
     if t == 6 {
-        let p = pass(
-            question,
-            src,
-            at + 1,
-            binders,
-            calls,
-            task.silently,
-            task.number,
-        );
-        if p.found {
-            return write(question, src, at + 1, binders, task, out, put);
-        }
-        let right = with_number(task, p.rest);
-        return write(question, src, p.end, binders, right, out, put);
+        return write_choice(question, src, tally, at, binders, task, names, out, put);
+    }
+    if t == 7 {
+        return write_parallel(question, src, tally, at, binders, task, names, out, put);
     }
     if t == 8 {
-        let p = pass(
-            question,
-            src,
-            at + 1,
-            binders + 1,
-            calls,
-            task.silently,
-            task.number,
-        );
-        if opens(p.kind, p.object, binders) {
-            let inner = extrude(task, binders);
-            return write(question, src, at + 1, binders + 1, inner, out, put);
-        }
-        let e = store(out, put, 8);
-        if out.len() < e {
-            return e;
-        }
-        let inner = restrict(task, binders);
-        return write(question, src, at + 1, binders + 1, inner, out, e);
+        return write_restriction(question, src, tally, at, binders, task, names, out, put);
     }
-    if 8 < t {
-        let o = call_at(question, src, at, calls);
-        let n = o.arity;
-        if !o.allowed {
-            return out.len() + 1;
-        }
-        let body = body_of(question, o.definition);
-        let inner = call(task, src, at + 2, n, binders);
-        return write(question, body, 0, n, inner, out, put);
-    }
-    let plan = plan_of(question, src, at, binders, task);
-    let left = plan.left;
-    let right = plan.right;
-    let e = open_pair(out, put, plan.close);
-    if out.len() < e {
-        return e;
-    }
-    let m = write(question, src, at + 1, binders, left, out, e);
-    if out.len() < m {
-        return m;
-    }
-    write(question, src, plan.middle, binders, right, out, m)
+    write_call(question, src, at, binders, task, names, out, put)
 }

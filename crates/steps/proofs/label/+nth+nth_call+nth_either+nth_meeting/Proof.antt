@@ -8,7 +8,8 @@ use borrow.Author.Needs.{needs}
 use borrow.Author.Tests.{not-true, not-false}
 use Rattle.terms.specs.Limits.{longestTerm}
 use Rattle.steps.specs.LabelWalk.{slotAt}
-use Rattle.steps.proofs.LabelWalks.{weight-on, weight-part, weight-body, room-on, room-under, room-body, nth-none, nth-prefix, nth-mat, nth-res, nth-left, nth-stuck, nth-right, nth-met, nth-closed, nth-cut, nth-called, meet-none, meet-both}
+use Rattle.steps.proofs.LabelWalks.{weight-on, weight-part, weight-body, room-on, room-under, room-body, nth-none, nth-prefix, nth-mat, nth-res, nth-left, nth-right, nth-met, nth-closed, nth-cut, nth-called, meet-none, meet-both}
+use Rattle.steps.proofs.TwoSides.{middle-on}
 use borrow.Fn.Kinds.{In}
 use borrow.Fn.PlainCycle.{Measures, is, falls, and}
 use Rattle.steps.proofs.label.nth.Reads as nth
@@ -29,10 +30,10 @@ use Rattle.steps.proofs.bodies.call_at.Reads as call-at-reads
 use Rattle.steps.proofs.label.arguments.Reads as arguments-reads
 use Rattle.steps.proofs.label.nth_prefix.Reads as nth-prefix-reads
 use Rattle.steps.proofs.label.slot.Reads as slot-reads
+use Rattle.steps.proofs.pass.middle_of.Reads as middle-of-reads
 use Rattle.steps.proofs.rules.communication.Reads as communication-reads
 use Rattle.steps.proofs.rules.matching.Reads as matching-reads
 use Rattle.steps.proofs.rules.restricted.Reads as restricted-reads
-use Rattle.steps.proofs.tally.end_at.Reads as end-at-reads
 use Rattle.steps.proofs.tally.number_at.Reads as number-at-reads
 use Rattle.steps.proofs.tally.tally.Reads as tally-reads
 use Rattle.steps.proofs.tally.visible_at.Reads as visible-at-reads
@@ -88,7 +89,7 @@ abbrev nth-call-claims : ℕ → nth-call-lts.Claims
 nth-call-claims t = (call-at-reads.Asked, call-at-reads.Learnt, blocked-reads.Asked, blocked-reads.Learnt, arguments-reads.Asked, arguments-reads.Learnt, body-of-reads.Asked, body-of-reads.Learnt, tally-reads.Asked, tally-reads.Learnt, nth-below t, nth.Post)
 
 abbrev nth-either-claims : ℕ → nth-either-lts.Claims
-nth-either-claims t = (number-at-reads.Asked, number-at-reads.Learnt, nth-below t, nth.Post, end-at-reads.Asked, end-at-reads.Learnt, blocked-reads.Asked, blocked-reads.Learnt, nth-meeting-below t, nth-meeting.Post)
+nth-either-claims t = (middle-of-reads.Asked, middle-of-reads.Learnt, number-at-reads.Asked, number-at-reads.Learnt, nth-below t, nth.Post, nth-meeting-below t, nth-meeting.Post)
 
 abbrev nth-meeting-claims : ℕ → nth-meeting-lts.Claims
 nth-meeting-claims t = (visible-at-reads.Asked, visible-at-reads.Learnt, blocked-reads.Asked, blocked-reads.Learnt, nth-below t, nth.Post, communication-reads.Asked, communication-reads.Learnt)
@@ -213,6 +214,9 @@ nth-call-nth-requires t c κs = let a = c .before .before .before .before .befor
 nth-call-returns-3 : (t : ℕ) → nth-call-lts.Need-returns-3 (nth-call-claims t) (nth-call-at t) nth-call.Post
 nth-call-returns-3 t c = let a = c .before .before .before .before .before .before .before .before .before .before .before .before .before .before .args in let m = c .before .before .before .before .before .before .before .before .before .before .call-at .ensures .may (not-false _ (c .before .before .before .before .before .before .before .before .if1 .left)) in nth-called (a .question .now) (a .src .now) (a .at) (a .i) (a .silent) (a .args .now) (a .inner) (a .depth) (a .calls) (c .before .before .before .before .before .before .before .before .before .before .before .before .before .before .pre .1 .1) (c .before .before .before .before .before .before .before .before .before .before .call-at .result) (c .before .before .before .before .before .before .before .before .before .before .call-at .ensures) _ (m .0) (c .before .before .before .before .body-of .result .now) (c .before .before .before .before .body-of .ensures) (c .before .before .before .before .before .arguments .result) (c .before .before .before .before .before .arguments .ensures) (c .nth .ensures)
 
+nth-either-middle-of-requires : (t : ℕ) → nth-either-lts.Need-middle-of-requires (nth-either-claims t) (nth-either-at t) nth-either.Post
+nth-either-middle-of-requires t c κs = (c .before .before .before .before .pre .1 .0, c .before .before .before .before .pre .1 .3 .short)
+
 nth-either-add-number-at : (t : ℕ) → nth-either-lts.Need-add-number-at (nth-either-claims t) (nth-either-at t) nth-either.Post
 nth-either-add-number-at t c = search needs
 
@@ -223,37 +227,25 @@ nth-either-add-nth : (t : ℕ) → nth-either-lts.Need-add-nth (nth-either-claim
 nth-either-add-nth t c = search needs
 
 nth-either-nth-requires : (t : ℕ) → nth-either-lts.Need-nth-requires (nth-either-claims t) (nth-either-at t) nth-either.Post
-nth-either-nth-requires t c κs = let a = c .before .before .before .before .before .before .args in (weight-on (a .calls * 113) (length (a .src .now)) (a .at) (a .at + 1) t 2 (c .before .before .before .before .before .before .pre .0) (omega arith) (c .before .before .before .before .before .before .pre .1 .0), (room-on (a .src .now) (a .at) (a .at + 1) (a .inner) (a .depth) (a .calls) (c .before .before .before .before .before .before .pre .1 .3) (omega arith), c .before .before .before .before .before .before .pre .1 .4))
+nth-either-nth-requires t c κs = let a = c .before .before .before .before .before .before .before .args in (weight-on (a .calls * 113) (length (a .src .now)) (a .at) (a .at + 1) t 2 (c .before .before .before .before .before .before .before .pre .0) (omega arith) (c .before .before .before .before .before .before .before .pre .1 .0), (room-on (a .src .now) (a .at) (a .at + 1) (a .inner) (a .depth) (a .calls) (c .before .before .before .before .before .before .before .pre .1 .3) (omega arith), c .before .before .before .before .before .before .before .pre .1 .4))
 
 nth-either-returns : (t : ℕ) → nth-either-lts.Need-returns (nth-either-claims t) (nth-either-at t) nth-either.Post
-nth-either-returns t c = let a = c .before .before .before .before .before .before .before .args in nth-left (a .question .now) (a .src .now) (a .at) (a .i) (a .silent) (a .args .now) (a .inner) (a .depth) (a .calls) (c .before .before .before .before .before .before .before .pre .1 .1) (c .before .before .before .before .before .before .before .pre .1 .2) (a .tally .now) (c .before .before .before .before .before .before .before .pre .1 .4) (rw (c .before .before .number-at .ensures) at (c .before .if1 .taken)) _ (c .nth .ensures)
-
-nth-either-add-end-at : (t : ℕ) → nth-either-lts.Need-add-end-at (nth-either-claims t) (nth-either-at t) nth-either.Post
-nth-either-add-end-at t c = search needs
-
-nth-either-end-at-requires : (t : ℕ) → nth-either-lts.Need-end-at-requires (nth-either-claims t) (nth-either-at t) nth-either.Post
-nth-either-end-at-requires t c κs = search needs
-
-nth-either-blocked-requires : (t : ℕ) → nth-either-lts.Need-blocked-requires (nth-either-claims t) (nth-either-at t) nth-either.Post
-nth-either-blocked-requires t c κs = search needs
-
-nth-either-returns-2 : (t : ℕ) → nth-either-lts.Need-returns-2 (nth-either-claims t) (nth-either-at t) nth-either.Post
-nth-either-returns-2 t c = let a = c .before .before .before .before .before .before .before .before .before .args in nth-stuck (a .question .now) (a .src .now) (a .at) (a .i) (a .silent) (a .args .now) (a .inner) (a .depth) (a .calls) (c .before .before .before .before .before .before .before .before .before .pre .1 .1) (c .before .before .before .before .before .before .before .before .before .pre .1 .2) (a .tally .now) (c .before .before .before .before .before .before .before .before .before .pre .1 .4) (rw (c .before .before .end-at .ensures) at (c .before .if2 .taken)) _
+nth-either-returns t c = let a = c .before .before .before .before .before .before .before .before .args in nth-left (a .question .now) (a .src .now) (a .at) (a .i) (a .silent) (a .args .now) (a .inner) (a .depth) (a .calls) (c .before .before .before .before .before .before .before .before .pre .1 .1) (c .before .before .before .before .before .before .before .before .pre .1 .2) (a .tally .now) (c .before .before .before .before .before .before .before .before .pre .1 .4) (c .before .before .before .middle-of .result) (c .before .before .before .middle-of .ensures) (rw (c .before .before .number-at .ensures) at (c .before .if1 .taken)) _ (c .nth .ensures)
 
 nth-either-number-at-requires-2 : (t : ℕ) → nth-either-lts.Need-number-at-requires-2 (nth-either-claims t) (nth-either-at t) nth-either.Post
 nth-either-number-at-requires-2 t c κs = search needs
 
 nth-either-nth-requires-2 : (t : ℕ) → nth-either-lts.Need-nth-requires-2 (nth-either-claims t) (nth-either-at t) nth-either.Post
-nth-either-nth-requires-2 t c κs = let a = c .before .before .before .before .before .before .before .before .before .before .args in (weight-on (a .calls * 113) (length (a .src .now)) (a .at) (c .before .before .before .end-at .result) t 2 (c .before .before .before .before .before .before .before .before .before .before .pre .0) (omega (arith, c .before .before .if2 .left)) (c .before .before .before .before .before .before .before .before .before .before .pre .1 .0), (room-on (a .src .now) (a .at) (c .before .before .before .end-at .result) (a .inner) (a .depth) (a .calls) (c .before .before .before .before .before .before .before .before .before .before .pre .1 .3) (omega (arith, c .before .before .if2 .left)), c .before .before .before .before .before .before .before .before .before .before .pre .1 .4))
+nth-either-nth-requires-2 t c κs = let a = c .before .before .before .before .before .before .before .before .before .args in let on = middle-on (a .question .now) (a .src .now) (a .calls) (a .tally .now) (c .before .before .before .before .before .before .before .before .before .pre .1 .4) (a .at) (c .before .before .before .before .middle-of .result) (c .before .before .before .before .middle-of .ensures) (c .before .before .before .before .before .before .before .before .before .pre .1 .0) in (weight-on (a .calls * 113) (length (a .src .now)) (a .at) (c .before .before .before .before .middle-of .result) t 2 (c .before .before .before .before .before .before .before .before .before .pre .0) (on) (c .before .before .before .before .before .before .before .before .before .pre .1 .0), (room-on (a .src .now) (a .at) (c .before .before .before .before .middle-of .result) (a .inner) (a .depth) (a .calls) (c .before .before .before .before .before .before .before .before .before .pre .1 .3) (omega arith), c .before .before .before .before .before .before .before .before .before .pre .1 .4))
 
-nth-either-returns-3 : (t : ℕ) → nth-either-lts.Need-returns-3 (nth-either-claims t) (nth-either-at t) nth-either.Post
-nth-either-returns-3 t c = let a = c .before .before .before .before .before .before .before .before .before .before .before .args in nth-right (a .question .now) (a .src .now) (a .at) (a .i) (a .silent) (a .args .now) (a .inner) (a .depth) (a .calls) (c .before .before .before .before .before .before .before .before .before .before .before .pre .1 .1) (c .before .before .before .before .before .before .before .before .before .before .before .pre .1 .2) (a .tally .now) (c .before .before .before .before .before .before .before .before .before .before .before .pre .1 .4) (rw (c .before .before .before .before .before .before .number-at .ensures) at (c .before .before .before .before .before .if1 .left)) _ (rw (c .before .before .before .before .before .before .number-at .ensures, c .before .before .number-at2 .ensures, c .before .before .before .before .end-at .ensures) at (c .before .if3 .taken)) (rw (c .before .before .before .before .before .before .number-at .ensures, c .before .before .before .before .end-at .ensures) at (c .nth2 .ensures))
+nth-either-returns-2 : (t : ℕ) → nth-either-lts.Need-returns-2 (nth-either-claims t) (nth-either-at t) nth-either.Post
+nth-either-returns-2 t c = let a = c .before .before .before .before .before .before .before .before .before .before .args in nth-right (a .question .now) (a .src .now) (a .at) (a .i) (a .silent) (a .args .now) (a .inner) (a .depth) (a .calls) (c .before .before .before .before .before .before .before .before .before .before .pre .1 .1) (c .before .before .before .before .before .before .before .before .before .before .pre .1 .2) (a .tally .now) (c .before .before .before .before .before .before .before .before .before .before .pre .1 .4) (c .before .before .before .before .before .middle-of .result) (c .before .before .before .before .before .middle-of .ensures) (rw (c .before .before .before .before .number-at .ensures) at (c .before .before .before .if1 .left)) _ (rw (c .before .before .before .before .number-at .ensures, c .before .before .number-at2 .ensures) at (c .before .if2 .taken)) (rw (c .before .before .before .before .number-at .ensures) at (c .nth2 .ensures))
 
 nth-either-nth-meeting-requires : (t : ℕ) → nth-either-lts.Need-nth-meeting-requires (nth-either-claims t) (nth-either-at t) nth-either.Post
-nth-either-nth-meeting-requires t c κs = let a = c .before .before .before .before .before .before .before .before .before .before .args in (weight-part (a .calls * 113) (length (a .src .now)) (a .at) t 1 (c .before .before .before .before .before .before .before .before .before .before .pre .0), (c .before .before .before .before .before .before .before .before .before .before .pre .1 .0, omega (arith, c .before .before .if2 .left), c .before .before .before .before .before .before .before .before .before .before .pre .1 .3, c .before .before .before .before .before .before .before .before .before .before .pre .1 .4))
+nth-either-nth-meeting-requires t c κs = let a = c .before .before .before .before .before .before .before .before .before .args in (weight-part (a .calls * 113) (length (a .src .now)) (a .at) t 1 (c .before .before .before .before .before .before .before .before .before .pre .0), (c .before .before .before .before .before .before .before .before .before .pre .1 .0, middle-on (a .question .now) (a .src .now) (a .calls) (a .tally .now) (c .before .before .before .before .before .before .before .before .before .pre .1 .4) (a .at) (c .before .before .before .before .middle-of .result) (c .before .before .before .before .middle-of .ensures) (c .before .before .before .before .before .before .before .before .before .pre .1 .0), c .before .before .before .before .before .before .before .before .before .pre .1 .3, c .before .before .before .before .before .before .before .before .before .pre .1 .4))
 
-nth-either-returns-4 : (t : ℕ) → nth-either-lts.Need-returns-4 (nth-either-claims t) (nth-either-at t) nth-either.Post
-nth-either-returns-4 t c = let a = c .before .before .before .before .before .before .before .before .before .before .before .args in nth-met (a .question .now) (a .src .now) (a .at) (a .i) (a .silent) (a .args .now) (a .inner) (a .depth) (a .calls) (c .before .before .before .before .before .before .before .before .before .before .before .pre .1 .1) (c .before .before .before .before .before .before .before .before .before .before .before .pre .1 .2) (a .tally .now) (c .before .before .before .before .before .before .before .before .before .before .before .pre .1 .4) (rw (c .before .before .before .before .before .before .number-at .ensures) at (c .before .before .before .before .before .if1 .left)) _ (rw (c .before .before .before .before .before .before .number-at .ensures, c .before .before .number-at2 .ensures, c .before .before .before .before .end-at .ensures) at (c .before .if3 .left)) (rw (c .before .before .before .before .before .before .number-at .ensures, c .before .before .number-at2 .ensures, c .before .before .before .before .end-at .ensures) at (c .nth-meeting .ensures))
+nth-either-returns-3 : (t : ℕ) → nth-either-lts.Need-returns-3 (nth-either-claims t) (nth-either-at t) nth-either.Post
+nth-either-returns-3 t c = let a = c .before .before .before .before .before .before .before .before .before .before .args in nth-met (a .question .now) (a .src .now) (a .at) (a .i) (a .silent) (a .args .now) (a .inner) (a .depth) (a .calls) (c .before .before .before .before .before .before .before .before .before .before .pre .1 .1) (c .before .before .before .before .before .before .before .before .before .before .pre .1 .2) (a .tally .now) (c .before .before .before .before .before .before .before .before .before .before .pre .1 .4) (c .before .before .before .before .before .middle-of .result) (c .before .before .before .before .before .middle-of .ensures) (rw (c .before .before .before .before .number-at .ensures) at (c .before .before .before .if1 .left)) _ (rw (c .before .before .before .before .number-at .ensures, c .before .before .number-at2 .ensures) at (c .before .if2 .left)) (rw (c .before .before .before .before .number-at .ensures, c .before .before .number-at2 .ensures) at (c .nth-meeting .ensures))
 
 nth-meeting-visible-at-requires : (t : ℕ) → nth-meeting-lts.Need-visible-at-requires (nth-meeting-claims t) (nth-meeting-at t) nth-meeting.Post
 nth-meeting-visible-at-requires t c κs = search needs
@@ -366,33 +358,28 @@ pub +nth+nth-call+nth-either+nth-meeting-spec : {M : Type 1} → statement M
     (nth-call-nth-requires t)
     (nth-call-returns-3 t))
     (λ t. nth-either-lts.spec (
+      middle-of-reads.Asked,
+      middle-of-reads.Learnt,
       number-at-reads.Asked,
       number-at-reads.Learnt,
       nth-below t,
       nth.Post,
-      end-at-reads.Asked,
-      end-at-reads.Learnt,
-      blocked-reads.Asked,
-      blocked-reads.Learnt,
       nth-meeting-below t,
       nth-meeting.Post,
     )
     (nth-either-at t)
     nth-either.Post
+    (nth-either-middle-of-requires t)
     (nth-either-add-number-at t)
     (nth-either-number-at-requires t)
     (nth-either-add-nth t)
     (nth-either-nth-requires t)
     (nth-either-returns t)
-    (nth-either-add-end-at t)
-    (nth-either-end-at-requires t)
-    (nth-either-blocked-requires t)
-    (nth-either-returns-2 t)
     (nth-either-number-at-requires-2 t)
     (nth-either-nth-requires-2 t)
-    (nth-either-returns-3 t)
+    (nth-either-returns-2 t)
     (nth-either-nth-meeting-requires t)
-    (nth-either-returns-4 t))
+    (nth-either-returns-3 t))
     λ t. nth-meeting-lts.spec (
       visible-at-reads.Asked,
       visible-at-reads.Learnt,

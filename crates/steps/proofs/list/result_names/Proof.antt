@@ -11,7 +11,7 @@ copy-requires : tie.Need-copy-requires
 copy-requires c κs = search needs
 
 returns : tie.Need-returns
-returns c = names-stored (c .before .before .before .before .args .class .now) (c .before .before .before .before .args .x) _ (search needs) (c .before .copy .ensures)
+returns c = names-stored (c .before .before .before .before .args .class .now) _ (search needs) (c .before .copy .ensures)
 
 pub result-names-spec : {M : Type 1} → statement M
 result-names-spec = tie.close (tie.spec slice-aggregate-copy copy-requires returns)

@@ -17,7 +17,7 @@ abbrev μ-loop : tie.MeasureT-loop
 μ-loop src at count binders names inner₀ j₀ inner j = count - j
 
 loop-holds : tie.Need-loop-holds Inv-loop μ-loop
-loop-holds c = (search needs, called-none _ _ _ _, search needs)
+loop-holds c = (search needs, called-none _ _ _ _ _, search needs)
 
 add-get : tie.Need-add-get Inv-loop μ-loop
 add-get c = search needs
@@ -27,9 +27,6 @@ get-requires c κs = search needs
 
 slot-of-requires : tie.Need-slot-of-requires Inv-loop μ-loop
 slot-of-requires c κs = search needs
-
-slice-aggregate-get : tie.Need-slice-aggregate-get Inv-loop μ-loop
-slice-aggregate-get c = search needs
 
 get-requires-2 : tie.Need-get-requires-2 Inv-loop μ-loop
 get-requires-2 c κs = search needs
@@ -48,13 +45,13 @@ loop-less c = search needs
 
 loop-again : tie.Need-loop-again Inv-loop μ-loop
 loop-again c = let a = c .before .before .before .before .before .before .before .args in
-    let l = c .before .before .before .before .before .loop in
-    let e : c .get2 .result ≡ getD (a .t5) (turn 128 tableNames (a .binders) (getD (a .src .now) (a .at + l .j) 0)) 0 =
-    c .get2 .ensures ∙ ap (λ (k : ℕ). getD (a .t5) k 0) (c .before .before .slot-of .ensures ∙ ap (turn 128 tableNames (a .binders)) (c .before .before .before .get .ensures)) in
-    (search needs, called-more (a .src .now) (a .at) (l .j) (a .binders) (a .t5) (l .inner) _ (omega arith) e (l .inv .1), length-set (l .inner) _ _ ∙ l .inv .2)
+    let l = c .before .before .before .before .loop in
+    let e : c .get2 .result ≡ getD (a .names .now) (turn 128 tableNames (a .binders) (getD (a .src .now) (a .at + l .j) 0)) 0 =
+    c .get2 .ensures ∙ ap (λ (k : ℕ). getD (a .names .now) k 0) (c .before .slot-of .ensures ∙ ap (turn 128 tableNames (a .binders)) (c .before .before .get .ensures)) in
+    (search needs, called-more (a .src .now) (a .at) (l .j) (a .binders) (a .names .now) (l .inner) _ (omega arith) e (l .inv .1), length-set (l .inner) _ _ ∙ l .inv .2)
 
 returns : tie.Need-returns Inv-loop μ-loop
-returns c = let a = c .before .before .before .args in
+returns c = let a = c .before .before .before .before .args in
     let l = c .before .loop in
     let e : l .j ≡ a .count = omega arith in
     rw e at (l .inv .1)
@@ -69,7 +66,6 @@ called-spec =
     add-get
     get-requires
     slot-of-requires
-    slice-aggregate-get
     get-requires-2
     add-inner
     array-write-inner

@@ -11,19 +11,16 @@ use Rattle.steps.proofs.names.renaming.Statement.{statement}
 use Rattle.steps.proofs.names.renaming.Tie as tie
 
 abbrev Inv-loop : tie.InvT-loop
-Inv-loop binders levels names table₀ i₀ table i = Filling (λ n. turn tableNames 128 levels (getD names (turn tableNames tableNames binders n) 0)) table₀ table i × (i ≤ nameSlots) × (length table₀ ≡ nameSlots)
+Inv-loop names binders levels table₀ i₀ table i = Filling (λ n. turn tableNames 128 levels (getD names (turn tableNames tableNames binders n) 0)) table₀ table i × (i ≤ nameSlots) × (length table₀ ≡ nameSlots)
 
 abbrev μ-loop : tie.MeasureT-loop
-μ-loop binders levels names table₀ i₀ table i = nameSlots - i
+μ-loop names binders levels table₀ i₀ table i = nameSlots - i
 
 loop-holds : tie.Need-loop-holds Inv-loop μ-loop
 loop-holds c = (fill-start _ _, search needs, refl)
 
 turned-requires : tie.Need-turned-requires Inv-loop μ-loop
 turned-requires c κs = search needs
-
-slice-aggregate-get : tie.Need-slice-aggregate-get Inv-loop μ-loop
-slice-aggregate-get c = search needs
 
 get-requires : tie.Need-get-requires Inv-loop μ-loop
 get-requires c κs = search needs
@@ -42,9 +39,9 @@ loop-less c = search needs
 
 loop-again : tie.Need-loop-again Inv-loop μ-loop
 loop-again c = let a = c .before .before .before .before .before .before .args in
-    let l = c .before .before .before .before .before .loop in
-    let e : c .byte-of .result ≡ turn tableNames 128 (a .levels) (getD (a .t1) (turn tableNames tableNames (a .binders) (l .i)) 0) =
-    c .byte-of .ensures ∙ ap (turn tableNames 128 (a .levels)) (c .before .get .ensures ∙ ap (λ (k : ℕ). getD (a .t1) k 0) (c .before .before .before .turned .ensures)) in
+    let l = c .before .before .before .before .loop in
+    let e : c .byte-of .result ≡ turn tableNames 128 (a .levels) (getD (a .names .now) (turn tableNames tableNames (a .binders) (l .i)) 0) =
+    c .byte-of .ensures ∙ ap (turn tableNames 128 (a .levels)) (c .before .get .ensures ∙ ap (λ (k : ℕ). getD (a .names .now) k 0) (c .before .before .turned .ensures)) in
     (fill-step _ _ _ (l .i) _ (omega arith) e (l .inv .0), search needs, refl)
 
 returns : tie.Need-returns Inv-loop μ-loop
@@ -59,7 +56,6 @@ renaming-spec =
     μ-loop
     loop-holds
     turned-requires
-    slice-aggregate-get
     get-requires
     byte-of-requires
     array-write-table

@@ -1,10 +1,9 @@
 -- `steps::result::write_prefix` meets its contract. Assumes nothing.
-use mathlib.Core.Path.{_≡_, sym, ap, _∙_}
+use mathlib.Core.Path.{sym, _∙_}
+use Prim.Native.Nat.{_+_}
 use native.Mathlib.Omega.{arith}
-use lib.ListN.{length}
 use borrow.Author.Needs.{needs}
-use Rattle.steps.specs.Names.{nameSlots}
-use Rattle.steps.specs.declared.result.Task.{Task}
+use Rattle.steps.proofs.NameSlots.{kept-all, kept-within}
 use Rattle.steps.proofs.AskLaws.{write-tau, write-out, write-bound}
 use Rattle.steps.proofs.result.write_prefix.Statement.{statement}
 use Rattle.steps.proofs.result.write_prefix.Tie as tie
@@ -21,8 +20,11 @@ write-term-requires c κs = search needs
 same-length : tie.Need-same-length
 same-length c = search needs
 
+same-length-2 : tie.Need-same-length-2
+same-length-2 c = search needs
+
 returns : tie.Need-returns
-returns c = let a = c .before .before .before .before .before .before .before .before .before .args in write-tau (a .question .now) (a .src .now) (a .at) (a .binders) (a .task) (a .out .now) (a .put) (c .before .before .write-term .result) _ (c .before .before .before .before .before .before .before .before .before .pre .3) (sym (c .before .before .before .before .before .get .ensures) ∙ c .before .before .before .before .if1 .taken) (c .before .before .write-term .ensures)
+returns c = let a = c .before .before .before .before .before .before .before .before .before .before .before .args in (write-tau (a .question .now) (a .src .now) (a .at) (a .binders) (a .names .now) (a .task) (a .out .now) (a .put) (c .before .before .write-term .result) _ (c .before .before .before .before .before .before .before .before .before .before .before .pre .3) (sym (c .before .before .before .before .before .before .get .ensures) ∙ c .before .before .before .before .before .if1 .taken) (c .before .before .write-term .ensures), kept-all (a .binders) (a .names .now))
 
 add-write-term-2 : tie.Need-add-write-term-2
 add-write-term-2 c = search needs
@@ -30,14 +32,20 @@ add-write-term-2 c = search needs
 write-term-requires-2 : tie.Need-write-term-requires-2
 write-term-requires-2 c κs = search needs
 
-same-length-2 : tie.Need-same-length-2
-same-length-2 c = search needs
+same-length-3 : tie.Need-same-length-3
+same-length-3 c = search needs
+
+same-length-4 : tie.Need-same-length-4
+same-length-4 c = search needs
 
 returns-2 : tie.Need-returns-2
-returns-2 c = let a = c .before .before .before .before .before .before .before .before .before .before .args in write-out (a .question .now) (a .src .now) (a .at) (a .binders) (a .task) (a .out .now) (a .put) (c .before .before .write-term2 .result) _ (c .before .before .before .before .before .before .before .before .before .before .pre .3) (sym (c .before .before .before .before .before .before .get .ensures) ∙ c .before .before .before .before .if2 .taken) (c .before .before .write-term2 .ensures)
+returns-2 c = let a = c .before .before .before .before .before .before .before .before .before .before .before .before .args in (write-out (a .question .now) (a .src .now) (a .at) (a .binders) (a .names .now) (a .task) (a .out .now) (a .put) (c .before .before .write-term2 .result) _ (c .before .before .before .before .before .before .before .before .before .before .before .before .pre .3) (sym (c .before .before .before .before .before .before .before .get .ensures) ∙ c .before .before .before .before .before .if2 .taken) (c .before .before .write-term2 .ensures), kept-all (a .binders) (a .names .now))
 
-extrude-requires : tie.Need-extrude-requires
-extrude-requires c κs = search needs
+add-names : tie.Need-add-names
+add-names c = search needs
+
+slice-write-names : tie.Need-slice-write-names
+slice-write-names c = search needs
 
 add-write-term-3 : tie.Need-add-write-term-3
 add-write-term-3 c = search needs
@@ -46,16 +54,16 @@ add-write-term-4 : tie.Need-add-write-term-4
 add-write-term-4 c = search needs
 
 write-term-requires-3 : tie.Need-write-term-requires-3
-write-term-requires-3 c κs = let l : c .before .extrude .result .levels ≡ c .before .before .before .before .before .before .before .before .args .task .levels = ap (λ (t : Task). t .levels) (c .before .extrude .ensures .0) in omega (arith, l, c .before .before .before .before .before .before .before .before .pre)
+write-term-requires-3 c κs = search needs
 
-same-length-3 : tie.Need-same-length-3
-same-length-3 c = search needs
+same-length-5 : tie.Need-same-length-5
+same-length-5 c = search needs
+
+same-length-6 : tie.Need-same-length-6
+same-length-6 c = search needs
 
 returns-3 : tie.Need-returns-3
-returns-3 c = let a = c .before .before .before .before .before .before .before .before .before .before .before .args in
-    let l : length (a .task .names) ≡ nameSlots = search needs in
-    write-bound (a .question .now) (a .src .now) (a .at) (a .binders) (a .task) (a .out .now) (a .put) (c .before .before .write-term3 .result) _ (c .before .before .before .before .before .before .before .before .before .before .before .pre .3) (omega (arith, l, c .before .before .before .before .before .before .before .before .before .before .before .pre)) (c .before .before .before .before .extrude .result) (c .before .before .before .before .extrude .ensures .0) (c .before .before .write-term3 .ensures)
-    (c .before .before .before .before .before .before .before .before .before .before .before .pre .1) (λ e. c .before .before .before .before .before .before .if1 .left (c .before .before .before .before .before .before .before .get .ensures ∙ e)) (λ e. c .before .before .before .before .before .if2 .left (c .before .before .before .before .before .before .before .get .ensures ∙ e))
+returns-3 c = let a = c .before .before .before .before .before .before .before .before .before .before .before .before .args in (write-bound (a .question .now) (a .src .now) (a .at) (a .binders) (a .names .now) (a .task) (a .out .now) (a .put) (c .before .before .write-term3 .result) _ (c .before .before .before .before .before .before .before .before .before .before .before .before .pre .3) (omega (arith, c .before .before .before .before .before .before .before .before .before .before .before .before .pre .2, c .before .before .before .before .before .before .before .before .before .before .before .before .pre .4)) (c .before .before .write-term3 .ensures) (c .before .before .before .before .before .before .before .before .before .before .before .before .pre .1) (λ e. c .before .before .before .before .before .before .if1 .left (c .before .before .before .before .before .before .before .get .ensures ∙ e)) (λ e. c .before .before .before .before .before .if2 .left (c .before .before .before .before .before .before .before .get .ensures ∙ e)), kept-within (a .binders) (a .task .new) (a .names .now) _ (kept-all (a .binders + 1) _))
 
 pub write-prefix-spec : {M : Type 1} → statement M
 write-prefix-spec =
@@ -65,14 +73,18 @@ write-prefix-spec =
     add-write-term
     write-term-requires
     same-length
+    same-length-2
     returns
     add-write-term-2
     write-term-requires-2
-    same-length-2
+    same-length-3
+    same-length-4
     returns-2
-    extrude-requires
+    add-names
+    slice-write-names
     add-write-term-3
     add-write-term-4
     write-term-requires-3
-    same-length-3
+    same-length-5
+    same-length-6
     returns-3)

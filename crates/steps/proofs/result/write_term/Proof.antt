@@ -23,7 +23,7 @@ add-result : tie.Need-add-result
 add-result c = search needs
 
 returns : tie.Need-returns
-returns c = let a = c .before .before .before .before .before .before .before .args in term-full (a .question .now) (a .src .now) (a .at) (a .binders) (a .task .names) (a .task .levels) (a .out .now) (a .put) (c .before .before .before .arities-of .result .now) (c .before .before .before .arities-of .ensures) (c .before .before .end-of .result) (c .before .before .end-of .ensures) (search needs) (leb-false _ _ (sym (c .before .room .ensures) ∙ not-true _ (c .if1 .taken)))
+returns c = let a = c .before .before .before .before .before .before .before .before .args in term-full (a .question .now) (a .src .now) (a .at) (a .binders) (a .names .now) (a .levels) (a .out .now) (a .put) (c .before .before .before .arities-of .result .now) (c .before .before .before .arities-of .ensures) (c .before .before .end-of .result) (c .before .before .end-of .ensures) (search needs) (leb-false _ _ (sym (c .before .room .ensures) ∙ not-true _ (c .if1 .taken)))
 
 renaming-requires : tie.Need-renaming-requires
 renaming-requires c κs = search needs
@@ -41,7 +41,7 @@ same-length : tie.Need-same-length
 same-length c = search needs
 
 returns-2 : tie.Need-returns-2
-returns-2 c = let a = c .before .before .before .before .before .before .before .before .before .before .before .before .before .before .args in term-done (a .question .now) (a .src .now) (a .at) (a .binders) (a .task .names) (a .task .levels) (a .out .now) (a .put) (c .before .before .before .before .before .before .before .before .before .before .arities-of .result .now) (c .before .before .before .before .before .before .before .before .before .before .arities-of .ensures) (c .before .before .before .before .before .before .before .before .before .end-of .result) (c .before .before .before .before .before .before .before .before .before .end-of .ensures) (search needs) (omega (arith, c .before .before .before .before .before .before .before .before .before .before .before .before .before .before .pre)) (leb-true _ _ (sym (c .before .before .before .before .before .before .before .before .room .ensures) ∙ not-false _ (c .before .before .before .before .before .before .before .if1 .left))) (c .before .before .before .before .before .renaming .result) (c .before .before .before .before .before .renaming .ensures) (c .before .before .rename .result) _ (c .before .before .rename .ensures)
+returns-2 c = let a = c .before .before .before .before .before .before .before .before .before .before .before .before .before .before .args in term-done (a .question .now) (a .src .now) (a .at) (a .binders) (a .names .now) (a .levels) (a .out .now) (a .put) (c .before .before .before .before .before .before .before .before .before .arities-of .result .now) (c .before .before .before .before .before .before .before .before .before .arities-of .ensures) (c .before .before .before .before .before .before .before .before .end-of .result) (c .before .before .before .before .before .before .before .before .end-of .ensures) (search needs) (omega (arith, c .before .before .before .before .before .before .before .before .before .before .before .before .before .before .pre)) (leb-true _ _ (sym (c .before .before .before .before .before .before .before .room .ensures) ∙ not-false _ (c .before .before .before .before .before .before .if1 .left))) (c .before .before .before .before .before .renaming .result) (c .before .before .before .before .before .renaming .ensures) (c .before .before .rename .result) _ (c .before .before .rename .ensures)
 
 pub write-term-spec : {M : Type 1} → statement M
 write-term-spec =
