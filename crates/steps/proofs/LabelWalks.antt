@@ -2,7 +2,7 @@
 use mathlib.Core.Path.{_≡_, refl, sym, ap, ap₂, subst, _∙_}
 use mathlib.Core.Bool.{Bool, true, false}
 use mathlib.Core.List.{List, [], _∷_, _++_, map, append-nil}
-use Prim.Native.Nat.{ℕ, suc, _+_, _-_, _*_, _/_, _%_, _<_, _≤_}
+use Prim.Native.Nat.{ℕ, suc, _+_, _-_, _*_, _/_, _%_, _<_, _≤_, max}
 use native.Mathlib.Nat.{mul-zero}
 use native.Mathlib.Omega.{arith}
 use lib.ListN.{length, getD, drop, length-map}
@@ -364,12 +364,14 @@ weight-part c l a t j h = omega arith
 pub weight-body : (c l a b t j : ℕ) → 4 * (c * 113 + (l - a)) + j ≡ t → 0 < c → b ≤ longestTerm → 4 * ((c - 1) * 113 + (b - 0)) + 3 < t
 weight-body c l a b t j h k m = omega arith
 
--- The room for slots further on, beneath a restriction, and in a called body.
+-- The room for slots further on, beneath restrictions, and in a called body.
 pub room-on : (s : List ℕ) (at b inner depth calls : ℕ) → Within s at inner depth calls → at ≤ b → Within s b inner depth calls
 room-on s at b inner depth calls W h = record { short = W .short; once = W .once; outer = W .outer; room = let r = W .room in omega arith }
 
-pub room-under : (s : List ℕ) (at inner depth calls : ℕ) → Within s at inner depth calls → at < length s → Within s (at + 1) (inner + 1) (depth + 1) calls
-room-under s at inner depth calls W h = record { short = W .short; once = W .once; outer = let o = W .outer in omega arith; room = let r = W .room in omega arith }
+pub room-under : (s : List ℕ) (at inner depth calls k : ℕ) → Within s at inner depth calls → at < length s → at + k ≤ max at (length s)
+    → Within s (at + k) (inner + k) (depth + k) calls
+room-under s at inner depth calls k W h m =
+    record { short = W .short; once = W .once; outer = let o = W .outer in omega arith; room = let r = W .room in omega arith }
 
 pub room-body : (s : List ℕ) (at inner depth calls : ℕ) (body : List ℕ) → Within s at inner depth calls → 0 < calls → length body ≤ longestTerm
     → Within body 0 0 depth (calls - 1)

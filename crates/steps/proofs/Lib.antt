@@ -36,6 +36,7 @@ pub mod QuestionDefinitions
 pub mod RawComplete
 pub mod RawSound
 pub mod Restriction
+pub mod RestrictionRuns
 pub mod ResultLaws
 pub mod Scope
 pub mod SlotLaws

@@ -3,7 +3,7 @@
 use mathlib.Core.Path.{_≡_}
 use mathlib.Core.Bool.{Bool, cond}
 use mathlib.Core.List.{List, _++_}
-use Prim.Native.Nat.{ℕ, _+_, _-_, _*_, _<_, _≤_}
+use Prim.Native.Nat.{ℕ, _+_, _-_, _*_, _<_, _≤_, max}
 use lib.ListN.{length, getD, drop}
 use lib.Dec.{eqb, ltb}
 use Rattle.calculus.specs.Term.{Term, ren}
@@ -75,3 +75,16 @@ pub record MeetingIs (question s : List ℕ) (at middle i : ℕ) (args : List �
       → drop middle s ≡ encode D Q ++ rest
       → i < length (communications (visible (bodyOf (q .bodies)) calls (ren σ P)) (visible (bodyOf (q .bodies)) calls (ren σ Q)))
       → Labels depth (getD (communications (visible (bodyOf (q .bodies)) calls (ren σ P)) (visible (bodyOf (q .bodies)) calls (ren σ Q))) i blocked) r
+
+-- So many restrictions stand at `at` one within the other, and all that stand there if one does.
+pub record RestrictionsIs (s : List ℕ) (at r : ℕ) : Type 0 where
+  pub inside : at + r ≤ max at (length s)
+  pub are : (j : ℕ) → j < r → getD s (at + j) 0 ≡ 8
+  pub some : at < length s → getD s at 0 ≡ 8 → 1 ≤ r
+
+-- [Res] and [Open], once for each of `count` restrictions from `depth` on: from a label beneath them to one outside them.
+pub record LeavesIs (label : Label) (depth count : ℕ) (r : Label) : Type 0 where
+  pub is : (question s : List ℕ) (at i : ℕ) (silently : Bool) (args : List ℕ) (inner calls : ℕ)
+      → ((j : ℕ) → j < count → getD s (at + j) 0 ≡ 8)
+      → NthIs question s (at + count) i silently args (inner + count) (depth + count) calls label
+      → NthIs question s at i silently args inner depth calls r

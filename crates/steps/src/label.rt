@@ -4,7 +4,7 @@ ghost use mathlib.Core.Path.{_≡_};
 ghost use Prim.Native.Nat.{_+_, _≤_, _<_};
 ghost use lib.ListN.{length, getD};
 ghost use Rattle.terms.specs.Limits.{nameCount, greatestArity};
-ghost use Rattle.steps.specs.LabelWalk.{slotAt, ArgumentsIs, prefixAction, PrefixLabelIs, Within, NthIs, MeetingIs};
+ghost use Rattle.steps.specs.LabelWalk.{slotAt, ArgumentsIs, prefixAction, PrefixLabelIs, RestrictionsIs, LeavesIs, Within, NthIs, MeetingIs};
 ghost use Rattle.steps.specs.Slots.{slotCount};
 ghost use Rattle.steps.specs.Tally.{TallyIs};
 use crate::action::Action;
@@ -84,6 +84,34 @@ fn nth_prefix(src: &[u8], at: usize, args: &[u8], inner: usize, depth: usize) ->
     let a = slot(get(src, at + 1), args, inner, depth);
     let b = slot(get(src, at + 2), args, inner, depth);
     Label::found(prefix_action(t, a, b))
+}
+
+// How many restrictions stand at `at`, one within the other.
+fn restrictions_at(src: &[u8], at: usize) -> usize
+    ensures { λ r. ⌜ RestrictionsIs (now (src .entry)) at r ⌝ }
+{
+    let mut k = at;
+    while k < src.len() {
+        if src[k] != 8 {
+            return k - at;
+        }
+        k += 1;
+    }
+    k - at
+}
+
+// The restrictions at `depth` and above it, `count` in all, are left from within.
+fn leave(label: Label, depth: usize, count: usize) -> Label
+    requires { ⌜ nameCount + depth + count ≤ slotCount ⌝ }
+    ensures { λ r. ⌜ LeavesIs label depth count r ⌝ }
+{
+    let mut out = label;
+    let mut left = count;
+    while 0 < left {
+        left -= 1;
+        out = restricted(out, depth + left);
+    }
+    out
 }
 
 // The communications of the two sides of the parallel at `at`: their numbers are those of the left side's visible candidates times the number
@@ -280,19 +308,20 @@ pub fn nth(
         return matching(p, a, b);
     }
     if t == 8 {
+        let k = restrictions_at(src, at);
         let p = nth(
             question,
             src,
             tally,
-            at + 1,
+            at + k,
             i,
             silent,
             args,
-            inner + 1,
-            depth + 1,
+            inner + k,
+            depth + k,
             calls,
         );
-        return restricted(p, depth);
+        return leave(p, depth, k);
     }
     nth_either(
         question,

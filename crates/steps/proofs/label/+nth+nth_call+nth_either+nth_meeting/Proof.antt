@@ -8,7 +8,7 @@ use borrow.Author.Needs.{needs}
 use borrow.Author.Tests.{not-true, not-false}
 use Rattle.terms.specs.Limits.{longestTerm}
 use Rattle.steps.specs.LabelWalk.{slotAt}
-use Rattle.steps.proofs.LabelWalks.{weight-on, weight-part, weight-body, room-on, room-under, room-body, nth-none, nth-prefix, nth-mat, nth-res, nth-left, nth-right, nth-met, nth-closed, nth-cut, nth-called, meet-none, meet-both}
+use Rattle.steps.proofs.LabelWalks.{weight-on, weight-part, weight-body, room-on, room-under, room-body, nth-none, nth-prefix, nth-mat, nth-left, nth-right, nth-met, nth-closed, nth-cut, nth-called, meet-none, meet-both}
 use Rattle.steps.proofs.TwoSides.{middle-on}
 use borrow.Fn.Kinds.{In}
 use borrow.Fn.PlainCycle.{Measures, is, falls, and}
@@ -28,12 +28,13 @@ use Rattle.steps.proofs.action.Label.blocked.Reads as blocked-reads
 use Rattle.steps.proofs.bodies.body_of.Reads as body-of-reads
 use Rattle.steps.proofs.bodies.call_at.Reads as call-at-reads
 use Rattle.steps.proofs.label.arguments.Reads as arguments-reads
+use Rattle.steps.proofs.label.leave.Reads as leave-reads
 use Rattle.steps.proofs.label.nth_prefix.Reads as nth-prefix-reads
+use Rattle.steps.proofs.label.restrictions_at.Reads as restrictions-at-reads
 use Rattle.steps.proofs.label.slot.Reads as slot-reads
 use Rattle.steps.proofs.pass.middle_of.Reads as middle-of-reads
 use Rattle.steps.proofs.rules.communication.Reads as communication-reads
 use Rattle.steps.proofs.rules.matching.Reads as matching-reads
-use Rattle.steps.proofs.rules.restricted.Reads as restricted-reads
 use Rattle.steps.proofs.tally.number_at.Reads as number-at-reads
 use Rattle.steps.proofs.tally.tally.Reads as tally-reads
 use Rattle.steps.proofs.tally.visible_at.Reads as visible-at-reads
@@ -83,7 +84,7 @@ nth-meeting-below t =
     and 4 nth-meeting-kinds.ps (falls 4 nth-meeting-kinds.ps _<_ μ-nth-meeting t) nth-meeting.Pre
 
 abbrev nth-claims : ℕ → nth-lts.Claims
-nth-claims t = (blocked-reads.Asked, blocked-reads.Learnt, nth-prefix-reads.Asked, nth-prefix-reads.Learnt, nth-call-below t, nth-call.Post, get-reads.Asked, get-reads.Learnt, slot-reads.Asked, slot-reads.Learnt, nth-below t, nth.Post, matching-reads.Asked, matching-reads.Learnt, restricted-reads.Asked, restricted-reads.Learnt, nth-either-below t, nth-either.Post)
+nth-claims t = (blocked-reads.Asked, blocked-reads.Learnt, nth-prefix-reads.Asked, nth-prefix-reads.Learnt, nth-call-below t, nth-call.Post, get-reads.Asked, get-reads.Learnt, slot-reads.Asked, slot-reads.Learnt, nth-below t, nth.Post, matching-reads.Asked, matching-reads.Learnt, restrictions-at-reads.Asked, restrictions-at-reads.Learnt, leave-reads.Asked, leave-reads.Learnt, nth-either-below t, nth-either.Post)
 
 abbrev nth-call-claims : ℕ → nth-call-lts.Claims
 nth-call-claims t = (call-at-reads.Asked, call-at-reads.Learnt, blocked-reads.Asked, blocked-reads.Learnt, arguments-reads.Asked, arguments-reads.Learnt, body-of-reads.Asked, body-of-reads.Learnt, tally-reads.Asked, tally-reads.Learnt, nth-below t, nth.Post)
@@ -145,23 +146,26 @@ nth-matching-requires t c κs = search needs
 nth-returns-4 : (t : ℕ) → nth-lts.Need-returns-4 (nth-claims t) (nth-at t) nth.Post
 nth-returns-4 t c = let a = c .before .before .before .before .before .before .before .before .before .before .before .before .before .before .before .args in nth-mat (a .question .now) (a .src .now) (a .at) (a .i) (a .silent) (a .args .now) (a .inner) (a .depth) (a .calls) (c .before .before .before .before .before .before .if4 .taken) (c .before .nth .result) _ (c .before .before .before .before .slot .result) (c .before .before .slot2 .result) (c .before .before .before .before .slot .ensures ∙ ap (slotAt (a .args .now) (a .inner) (a .depth)) (c .before .before .before .before .before .get .ensures)) (c .before .before .slot2 .ensures ∙ ap (slotAt (a .args .now) (a .inner) (a .depth)) (c .before .before .before .get2 .ensures)) (c .before .nth .ensures) (c .matching .ensures)
 
+nth-restrictions-at-requires : (t : ℕ) → nth-lts.Need-restrictions-at-requires (nth-claims t) (nth-at t) nth.Post
+nth-restrictions-at-requires t c κs = search needs
+
 nth-add-nth-2 : (t : ℕ) → nth-lts.Need-add-nth-2 (nth-claims t) (nth-at t) nth.Post
-nth-add-nth-2 t c = search needs
+nth-add-nth-2 t c = let w = c .before .before .before .before .before .before .before .before .before .before .before .pre .1 .0 .short in omega (arith, c .restrictions-at .ensures .inside, c .before .before .before .before .before .before .if1 .left)
 
 nth-add-nth-3 : (t : ℕ) → nth-lts.Need-add-nth-3 (nth-claims t) (nth-at t) nth.Post
-nth-add-nth-3 t c = let w = c .before .before .before .before .before .before .before .before .before .before .pre .1 .0 .room in let o = c .before .before .before .before .before .before .before .before .before .before .pre .1 .0 .outer in omega arith
+nth-add-nth-3 t c = let w = c .before .before .before .before .before .before .before .before .before .before .before .pre .1 .0 .room in let o = c .before .before .before .before .before .before .before .before .before .before .before .pre .1 .0 .outer in omega (arith, c .restrictions-at .ensures .inside, c .before .before .before .before .before .before .if1 .left)
 
 nth-add-nth-4 : (t : ℕ) → nth-lts.Need-add-nth-4 (nth-claims t) (nth-at t) nth.Post
-nth-add-nth-4 t c = let w = c .before .before .before .before .before .before .before .before .before .before .pre .1 .0 .room in omega arith
+nth-add-nth-4 t c = let w = c .before .before .before .before .before .before .before .before .before .before .before .pre .1 .0 .room in omega (arith, c .restrictions-at .ensures .inside, c .before .before .before .before .before .before .if1 .left)
 
 nth-nth-requires-2 : (t : ℕ) → nth-lts.Need-nth-requires-2 (nth-claims t) (nth-at t) nth.Post
-nth-nth-requires-2 t c κs = let a = c .before .before .before .before .before .before .before .before .before .before .args in (weight-on (a .calls * 113) (length (a .src .now)) (a .at) (a .at + 1) t 3 (c .before .before .before .before .before .before .before .before .before .before .pre .0) (omega arith) (c .before .before .before .before .before .if1 .left), (room-under (a .src .now) (a .at) (a .inner) (a .depth) (a .calls) (c .before .before .before .before .before .before .before .before .before .before .pre .1 .0) (c .before .before .before .before .before .if1 .left), c .before .before .before .before .before .before .before .before .before .before .pre .1 .1))
+nth-nth-requires-2 t c κs = let a = c .before .before .before .before .before .before .before .before .before .before .before .args in let k = c .restrictions-at .result in let R = c .restrictions-at .ensures in let h = c .before .before .before .before .before .before .if1 .left in (weight-on (a .calls * 113) (length (a .src .now)) (a .at) (a .at + k) t 3 (c .before .before .before .before .before .before .before .before .before .before .before .pre .0) (omega (arith, R .some h (c .before .if5 .taken))) h, (room-under (a .src .now) (a .at) (a .inner) (a .depth) (a .calls) k (c .before .before .before .before .before .before .before .before .before .before .before .pre .1 .0) h (R .inside), c .before .before .before .before .before .before .before .before .before .before .before .pre .1 .1))
 
-nth-restricted-requires : (t : ℕ) → nth-lts.Need-restricted-requires (nth-claims t) (nth-at t) nth.Post
-nth-restricted-requires t c κs = let w = c .before .before .before .before .before .before .before .before .before .before .before .pre .1 .0 .room in omega (arith, c .before .before .before .before .before .before .if1 .left)
+nth-leave-requires : (t : ℕ) → nth-lts.Need-leave-requires (nth-claims t) (nth-at t) nth.Post
+nth-leave-requires t c κs = let w = c .before .before .before .before .before .before .before .before .before .before .before .before .pre .1 .0 .room in omega (arith, c .before .restrictions-at .ensures .inside, c .before .before .before .before .before .before .before .if1 .left)
 
 nth-returns-5 : (t : ℕ) → nth-lts.Need-returns-5 (nth-claims t) (nth-at t) nth.Post
-nth-returns-5 t c = let a = c .before .before .before .before .before .before .before .before .before .before .before .before .args in nth-res (a .question .now) (a .src .now) (a .at) (a .i) (a .silent) (a .args .now) (a .inner) (a .depth) (a .calls) (c .before .before .if5 .taken) (c .before .nth2 .result) _ (c .before .nth2 .ensures) (c .restricted .ensures)
+nth-returns-5 t c = let a = c .before .before .before .before .before .before .before .before .before .before .before .before .before .args in c .leave .ensures .is (a .question .now) (a .src .now) (a .at) (a .i) (a .silent) (a .args .now) (a .inner) (a .calls) (c .before .before .restrictions-at .ensures .are) (c .before .nth2 .ensures)
 
 nth-nth-either-requires : (t : ℕ) → nth-lts.Need-nth-either-requires (nth-claims t) (nth-at t) nth.Post
 nth-nth-either-requires t c κs = let a = c .before .before .before .before .before .before .before .before .before .before .args in (weight-part (a .calls * 113) (length (a .src .now)) (a .at) t 2 (c .before .before .before .before .before .before .before .before .before .before .pre .0), (c .before .before .before .before .before .if1 .left, omega (arith, c .before .before .before .if2 .left, c .before .if4 .left), omega (arith, c .before .before .if3 .left, c .if5 .left), c .before .before .before .before .before .before .before .before .before .before .pre .1 .0, c .before .before .before .before .before .before .before .before .before .before .pre .1 .1))
@@ -294,8 +298,10 @@ pub +nth+nth-call+nth-either+nth-meeting-spec : {M : Type 1} → statement M
       nth.Post,
       matching-reads.Asked,
       matching-reads.Learnt,
-      restricted-reads.Asked,
-      restricted-reads.Learnt,
+      restrictions-at-reads.Asked,
+      restrictions-at-reads.Learnt,
+      leave-reads.Asked,
+      leave-reads.Learnt,
       nth-either-below t,
       nth-either.Post,
     )
@@ -318,11 +324,12 @@ pub +nth+nth-call+nth-either+nth-meeting-spec : {M : Type 1} → statement M
     (nth-nth-requires t)
     (nth-matching-requires t)
     (nth-returns-4 t)
+    (nth-restrictions-at-requires t)
     (nth-add-nth-2 t)
     (nth-add-nth-3 t)
     (nth-add-nth-4 t)
     (nth-nth-requires-2 t)
-    (nth-restricted-requires t)
+    (nth-leave-requires t)
     (nth-returns-5 t)
     (nth-nth-either-requires t)
     (nth-returns-6 t))

@@ -1,0 +1,76 @@
+-- Restrictions that stand one within the other: their run is found, and they are left one by one. Assumes nothing.
+use mathlib.Core.Path.{_≡_, refl, ap, subst, _∙_}
+use mathlib.Core.Bool.{Bool, true, false}
+use mathlib.Core.List.{List}
+use Prim.Native.Nat.{ℕ, _+_, _-_, _<_, _≤_, max}
+use native.Mathlib.Omega.{arith}
+use borrow.Author.Tests.{eqb-true, eqb-false}
+use lib.Dec.{eqb}
+use lib.ListN.{length, getD}
+use Rattle.steps.specs.Labels.{RestrictedIs}
+use Rattle.steps.specs.LabelWalk.{RestrictionsIs, LeavesIs, NthIs}
+use Rattle.steps.specs.declared.action.Label.{Label}
+use Rattle.steps.proofs.LabelWalks.{nth-res}
+
+-- n restrictions stand at `at`
+pub record Eights (s : List ℕ) (at n : ℕ) : Type 0 where
+  pub are : (j : ℕ) → j < n → getD s (at + j) 0 ≡ 8
+
+pub eights-none : (s : List ℕ) (at n : ℕ) → n ≡ 0 → Eights s at n
+eights-none s at n z = record { are = λ j h. absurd (omega arith) }
+
+pub eights-more : (s : List ℕ) (at k : ℕ) → at ≤ k → getD s k 0 ≡ 8 → Eights s at (k - at) → Eights s at (k + 1 - at)
+eights-more s at k l g E = record { are = λ j h. go j h (eqb j (k - at)) refl }
+  where
+    go : (j : ℕ) → j < k + 1 - at → (b : Bool) → eqb j (k - at) ≡ b → getD s (at + j) 0 ≡ 8
+    go j h true e = let m : at + j ≡ k = omega (arith, eqb-true j (k - at) e) in ap (λ (m : ℕ). getD s m 0) m ∙ g
+    go j h false e = E .are j (omega (arith, eqb-false j (k - at) e))
+
+module _ (s : List ℕ) (at k : ℕ) (l : at ≤ k) (m : k ≤ max at (length s)) (E : Eights s at (k - at)) where
+  -- the run ends before a byte that is not 8, or where the bytes end
+  pub run-ended : (getD s k 0 ≡ 8 → ⊥) → RestrictionsIs s at (k - at)
+  run-ended z = record {
+    inside = omega arith;
+    are = E .are;
+    some = λ h g. go h g (eqb k at) refl;
+  }
+    where
+      go : at < length s → getD s at 0 ≡ 8 → (b : Bool) → eqb k at ≡ b → 1 ≤ k - at
+      go h g true e = absurd (z (ap (λ (m : ℕ). getD s m 0) (eqb-true k at e) ∙ g))
+      go h g false e = omega (arith, eqb-false k at e)
+
+  pub run-whole : length s ≤ k → RestrictionsIs s at (k - at)
+  run-whole z = record { inside = omega arith; are = E .are; some = λ h g. omega arith }
+
+-- Of `count` restrictions from `depth` on all but `left` are left.
+pub record Leaving (label : Label) (depth count left : ℕ) (r : Label) : Type 0 where
+  pub is : (question s : List ℕ) (at i : ℕ) (silently : Bool) (args : List ℕ) (inner calls : ℕ)
+      → ((j : ℕ) → j < count → getD s (at + j) 0 ≡ 8)
+      → NthIs question s (at + count) i silently args (inner + count) (depth + count) calls label
+      → NthIs question s (at + left) i silently args (inner + left) (depth + left) calls r
+
+pub leaving-none : (label : Label) (depth count : ℕ) → Leaving label depth count count label
+leaving-none label depth count = record { is = λ question s at i t args inner calls are N. N }
+
+-- The same place, restrictions and depth by other sums.
+moved : (question s : List ℕ) (i : ℕ) (t : Bool) (args : List ℕ) (calls : ℕ) (r : Label) (a b c x y z : ℕ) → a ≡ x → b ≡ y → c ≡ z
+    → NthIs question s a i t args b c calls r → NthIs question s x i t args y z calls r
+moved question s i t args calls r a b c x y z p q w N =
+    subst (λ (k : ℕ). NthIs question s x i t args y k calls r) w (subst (λ (k : ℕ). NthIs question s x i t args k c calls r) q
+    (subst (λ (k : ℕ). NthIs question s k i t args b c calls r) p N))
+
+pub leaving-one : (label : Label) (depth count left m : ℕ) (p r : Label) → m + 1 ≡ left → left ≤ count → Leaving label depth count left p
+    → RestrictedIs p (depth + m) r → Leaving label depth count m r
+leaving-one label depth count left m p r e l L R = record {
+  is = λ question s at i t args inner calls are N.
+      nth-res question s (at + m) i t args (inner + m) (depth + m) calls (are m (omega arith)) p r
+      (moved question s i t args calls p (at + left) (inner + left) (depth + left) (at + m + 1) (inner + m + 1) (depth + m + 1) (omega arith) (omega arith) (omega arith)
+      (L .is question s at i t args inner calls are N)) R;
+}
+
+pub leaving-all : (label : Label) (depth count left : ℕ) (r : Label) → left ≤ 0 → Leaving label depth count left r → LeavesIs label depth count r
+leaving-all label depth count left r z L = record {
+  is = λ question s at i t args inner calls are N.
+      moved question s i t args calls r (at + left) (inner + left) (depth + left) at inner depth (omega arith) (omega arith) (omega arith)
+      (L .is question s at i t args inner calls are N);
+}
