@@ -368,9 +368,9 @@ weight-body c l a b t j h k m = omega arith
 pub room-on : (s : List ℕ) (at b inner depth calls : ℕ) → Within s at inner depth calls → at ≤ b → Within s b inner depth calls
 room-on s at b inner depth calls W h = record { short = W .short; once = W .once; outer = W .outer; room = let r = W .room in omega arith }
 
-pub room-under : (s : List ℕ) (at inner depth calls k : ℕ) → Within s at inner depth calls → at < length s → at + k ≤ max at (length s)
-    → Within s (at + k) (inner + k) (depth + k) calls
-room-under s at inner depth calls k W h m =
+pub room-under : (s : List ℕ) (at inner depth calls k n : ℕ) → Within s at inner depth calls → at < length s → at + k ≤ max at (length s) → k ≤ n
+    → Within s (at + n) (inner + k) (depth + k) calls
+room-under s at inner depth calls k n W h m l =
     record { short = W .short; once = W .once; outer = let o = W .outer in omega arith; room = let r = W .room in omega arith }
 
 pub room-body : (s : List ℕ) (at inner depth calls : ℕ) (body : List ℕ) → Within s at inner depth calls → 0 < calls → length body ≤ longestTerm

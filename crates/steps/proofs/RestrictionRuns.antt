@@ -1,16 +1,16 @@
 -- Restrictions that stand one within the other: their run is found, and they are left one by one. Assumes nothing.
-use mathlib.Core.Path.{_≡_, refl, ap, subst, _∙_}
-use mathlib.Core.Bool.{Bool, true, false}
+use mathlib.Core.Path.{_≡_, refl, sym, ap, subst, _∙_}
+use mathlib.Core.Bool.{Bool, true, false, cond}
 use mathlib.Core.List.{List}
 use Prim.Native.Nat.{ℕ, _+_, _-_, _<_, _≤_, max}
 use native.Mathlib.Omega.{arith}
-use borrow.Author.Tests.{eqb-true, eqb-false}
-use lib.Dec.{eqb}
+use borrow.Author.Tests.{eqb-true, eqb-false, ltb-true, ltb-false}
+use lib.Dec.{eqb, ltb}
 use lib.ListN.{length, getD}
-use Rattle.steps.specs.Labels.{RestrictedIs}
-use Rattle.steps.specs.LabelWalk.{RestrictionsIs, LeavesIs, NthIs}
+use Rattle.steps.specs.Labels.{MatchingIs, RestrictedIs}
+use Rattle.steps.specs.LabelWalk.{slotAt, RestrictionsIs, LeavesIs, pastOf, OutsideOfIs, NthIs}
 use Rattle.steps.specs.declared.action.Label.{Label}
-use Rattle.steps.proofs.LabelWalks.{nth-res}
+use Rattle.steps.proofs.LabelWalks.{nth-mat, nth-res}
 
 -- n restrictions stand at `at`
 pub record Eights (s : List ℕ) (at n : ℕ) : Type 0 where
@@ -74,3 +74,60 @@ leaving-all label depth count left r z L = record {
       moved question s i t args calls r (at + left) (inner + left) (depth + left) at inner depth (omega arith) (omega arith) (omega arith)
       (L .is question s at i t args inner calls are N);
 }
+
+-- What stands beneath: past a match, past restrictions, or neither.
+pub past-none : (t k : ℕ) → pastOf t k ≡ 0 → (t ≡ 5 → ⊥) × (k ≡ 0)
+unfolding pastOf
+past-none t k z = go (eqb t 5) refl z
+  where
+    go : (b : Bool) → eqb t 5 ≡ b → cond b 3 k ≡ 0 → (t ≡ 5 → ⊥) × (k ≡ 0)
+    go true e h = absurd (omega arith)
+    go false e h = (eqb-false t 5 e, h)
+
+pub past-most : (t k : ℕ) → pastOf t k ≤ k + 3
+unfolding pastOf
+past-most t k = go (eqb t 5)
+  where
+    go : (b : Bool) → cond b 3 k ≤ k + 3
+    go true = omega arith
+    go false = omega arith
+
+past-match : (t k : ℕ) → k ≡ 0 → (pastOf t k ≡ 0 → ⊥) → (t ≡ 5) × (pastOf t k ≡ 3)
+unfolding pastOf
+past-match t k z n = go (eqb t 5) refl n
+  where
+    go : (b : Bool) → eqb t 5 ≡ b → (cond b 3 k ≡ 0 → ⊥) → (t ≡ 5) × (cond b 3 k ≡ 3)
+    go true e h = (eqb-true t 5 e, refl)
+    go false e h = absurd (h z)
+
+past-run : (t k : ℕ) → t ≡ 8 → pastOf t k ≡ k
+unfolding pastOf
+past-run t k e = ap (λ (t : ℕ). pastOf t k) e
+
+-- the first of the run
+first : (s : List ℕ) (at k : ℕ) → ((j : ℕ) → j < k → getD s (at + j) 0 ≡ 8) → 0 < k → getD s at 0 ≡ 8
+first s at k are h = let e : at + 0 ≡ at = omega arith in ap (λ (m : ℕ). getD s m 0) (sym e) ∙ are 0 h
+
+pub past-over : (s : List ℕ) (at k : ℕ) → RestrictionsIs s at k → k ≤ pastOf (getD s at 0) k
+past-over s at k R = go (ltb 0 k) refl
+  where
+    go : (b : Bool) → ltb 0 k ≡ b → k ≤ pastOf (getD s at 0) k
+    go true e = omega (arith, past-run (getD s at 0) k (first s at k (R .are) (ltb-true 0 k e)))
+    go false e = omega (arith, ltb-false 0 k e)
+
+module _ (s : List ℕ) (at count : ℕ) (args : List ℕ) (inner depth : ℕ) (p r : Label) where
+  pub outside-match : count ≡ 0 → (a b : ℕ) → a ≡ slotAt args inner depth (getD s (at + 1) 0) → b ≡ slotAt args inner depth (getD s (at + 2) 0) → MatchingIs p a b r
+      → OutsideOfIs s at count args inner depth p r
+  outside-match z a b ea eb M = record {
+    is = λ question i t calls n are N.
+        let k = past-match (getD s at 0) count z n in
+        nth-mat question s at i t args inner depth calls (k .0) p r a b ea eb
+        (moved question s i t args calls p _ _ _ (at + 3) inner depth (omega (arith, k .1)) (omega arith) (omega arith) N) M;
+  }
+
+  pub outside-run : (count ≡ 0 → ⊥) → LeavesIs p depth count r → OutsideOfIs s at count args inner depth p r
+  outside-run z L = record {
+    is = λ question i t calls n are N.
+        let k = past-run (getD s at 0) count (first s at count are (omega arith)) in
+        L .is question s at i t args inner calls are (moved question s i t args calls p _ _ _ (at + count) (inner + count) (depth + count) (omega (arith, k)) refl refl N);
+  }

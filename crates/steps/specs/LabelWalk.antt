@@ -88,3 +88,15 @@ pub record LeavesIs (label : Label) (depth count : ℕ) (r : Label) : Type 0 whe
       → ((j : ℕ) → j < count → getD s (at + j) 0 ≡ 8)
       → NthIs question s (at + count) i silently args (inner + count) (depth + count) calls label
       → NthIs question s at i silently args inner depth calls r
+
+-- How far the term beneath stands behind a first byte t: 3 for a match, the number of the restrictions that stand there otherwise.
+unfoldable pub pastOf : ℕ → ℕ → ℕ
+pastOf t count = cond (eqb t 5) 3 count
+
+-- [Match], or [Res] and [Open] for each of `count` restrictions at `at`: from a label beneath to one outside.
+pub record OutsideOfIs (s : List ℕ) (at count : ℕ) (args : List ℕ) (inner depth : ℕ) (label r : Label) : Type 0 where
+  pub is : (question : List ℕ) (i : ℕ) (silently : Bool) (calls : ℕ)
+      → (pastOf (getD s at 0) count ≡ 0 → ⊥)
+      → ((j : ℕ) → j < count → getD s (at + j) 0 ≡ 8)
+      → NthIs question s (at + pastOf (getD s at 0) count) i silently args (inner + count) (depth + count) calls label
+      → NthIs question s at i silently args inner depth calls r

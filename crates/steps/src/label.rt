@@ -4,7 +4,7 @@ ghost use mathlib.Core.Path.{_≡_};
 ghost use Prim.Native.Nat.{_+_, _≤_, _<_};
 ghost use lib.ListN.{length, getD};
 ghost use Rattle.terms.specs.Limits.{nameCount, greatestArity};
-ghost use Rattle.steps.specs.LabelWalk.{slotAt, ArgumentsIs, prefixAction, PrefixLabelIs, RestrictionsIs, LeavesIs, Within, NthIs, MeetingIs};
+ghost use Rattle.steps.specs.LabelWalk.{slotAt, ArgumentsIs, prefixAction, PrefixLabelIs, RestrictionsIs, LeavesIs, pastOf, OutsideOfIs, Within, NthIs, MeetingIs};
 ghost use Rattle.steps.specs.Slots.{slotCount};
 ghost use Rattle.steps.specs.Tally.{TallyIs};
 use crate::action::Action;
@@ -112,6 +112,37 @@ fn leave(label: Label, depth: usize, count: usize) -> Label
         out = restricted(out, depth + left);
     }
     out
+}
+
+// How far the term beneath a match or beneath `count` restrictions stands behind the first byte `t`: 0 where neither stands.
+fn past(t: u8, count: usize) -> usize
+    ensures { λ r. ⌜ r ≡ pastOf t count ⌝ }
+{
+    if t == 5 {
+        return 3;
+    }
+    count
+}
+
+// The label outside the `count` restrictions at `at`, or outside the match there if there are none.
+fn outside_of(
+    label: Label,
+    src: &[u8],
+    at: usize,
+    count: usize,
+    args: &[u8],
+    inner: usize,
+    depth: usize,
+) -> Label
+    requires { ⌜ (inner ≤ depth) × (at < length (now src)) × (nameCount + depth + count ≤ slotCount) ⌝ }
+    ensures { λ r. ⌜ OutsideOfIs (now (src .entry)) at count (now (args .entry)) inner depth label r ⌝ }
+{
+    if count == 0 {
+        let a = slot(get(src, at + 1), args, inner, depth);
+        let b = slot(get(src, at + 2), args, inner, depth);
+        return matching(label, a, b);
+    }
+    leave(label, depth, count)
 }
 
 // The communications of the two sides of the parallel at `at`: their numbers are those of the left side's visible candidates times the number
@@ -290,14 +321,14 @@ pub fn nth(
     if 8 < t {
         return nth_call(question, src, at, i, silent, args, inner, depth, calls);
     }
-    if t == 5 {
-        let a = slot(get(src, at + 1), args, inner, depth);
-        let b = slot(get(src, at + 2), args, inner, depth);
-        let p = nth(
+    let k = restrictions_at(src, at);
+    let n = past(t, k);
+    if n == 0 {
+        return nth_either(
             question,
             src,
             tally,
-            at + 3,
+            at,
             i,
             silent,
             args,
@@ -305,34 +336,18 @@ pub fn nth(
             depth,
             calls,
         );
-        return matching(p, a, b);
     }
-    if t == 8 {
-        let k = restrictions_at(src, at);
-        let p = nth(
-            question,
-            src,
-            tally,
-            at + k,
-            i,
-            silent,
-            args,
-            inner + k,
-            depth + k,
-            calls,
-        );
-        return leave(p, depth, k);
-    }
-    nth_either(
+    let p = nth(
         question,
         src,
         tally,
-        at,
+        at + n,
         i,
         silent,
         args,
-        inner,
-        depth,
+        inner + k,
+        depth + k,
         calls,
-    )
+    );
+    outside_of(p, src, at, k, args, inner, depth)
 }

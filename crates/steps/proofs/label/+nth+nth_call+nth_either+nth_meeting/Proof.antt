@@ -1,14 +1,14 @@
 -- `steps::label::nth`, `nth_call`, `nth_either` and `nth_meeting` meet their contracts. The measure: the bytes left, and 113 for each call that may
 -- be opened. Assumes nothing.
-use mathlib.Core.Path.{ap, _∙_}
+use mathlib.Core.Path.{_≡_, sym, ap, _∙_}
 use Prim.Native.Nat.{ℕ, _+_, _-_, _*_, _<_, _≤_}
 use native.Mathlib.Omega.{arith}
-use lib.ListN.{length}
+use lib.ListN.{length, getD}
 use borrow.Author.Needs.{needs}
 use borrow.Author.Tests.{not-true, not-false}
 use Rattle.terms.specs.Limits.{longestTerm}
-use Rattle.steps.specs.LabelWalk.{slotAt}
-use Rattle.steps.proofs.LabelWalks.{weight-on, weight-part, weight-body, room-on, room-under, room-body, nth-none, nth-prefix, nth-mat, nth-left, nth-right, nth-met, nth-closed, nth-cut, nth-called, meet-none, meet-both}
+use Rattle.steps.proofs.LabelWalks.{weight-on, weight-part, weight-body, room-on, room-under, room-body, nth-none, nth-prefix, nth-left, nth-right, nth-met, nth-closed, nth-cut, nth-called, meet-none, meet-both}
+use Rattle.steps.proofs.RestrictionRuns.{past-none, past-most, past-over}
 use Rattle.steps.proofs.TwoSides.{middle-on}
 use borrow.Fn.Kinds.{In}
 use borrow.Fn.PlainCycle.{Measures, is, falls, and}
@@ -28,17 +28,15 @@ use Rattle.steps.proofs.action.Label.blocked.Reads as blocked-reads
 use Rattle.steps.proofs.bodies.body_of.Reads as body-of-reads
 use Rattle.steps.proofs.bodies.call_at.Reads as call-at-reads
 use Rattle.steps.proofs.label.arguments.Reads as arguments-reads
-use Rattle.steps.proofs.label.leave.Reads as leave-reads
 use Rattle.steps.proofs.label.nth_prefix.Reads as nth-prefix-reads
+use Rattle.steps.proofs.label.outside_of.Reads as outside-of-reads
+use Rattle.steps.proofs.label.past.Reads as past-reads
 use Rattle.steps.proofs.label.restrictions_at.Reads as restrictions-at-reads
-use Rattle.steps.proofs.label.slot.Reads as slot-reads
 use Rattle.steps.proofs.pass.middle_of.Reads as middle-of-reads
 use Rattle.steps.proofs.rules.communication.Reads as communication-reads
-use Rattle.steps.proofs.rules.matching.Reads as matching-reads
 use Rattle.steps.proofs.tally.number_at.Reads as number-at-reads
 use Rattle.steps.proofs.tally.tally.Reads as tally-reads
 use Rattle.steps.proofs.tally.visible_at.Reads as visible-at-reads
-use Rattle.terms.proofs.bytes.get.Reads as get-reads
 use Rattle.steps.proofs.label.+nth+nth_call+nth_either+nth_meeting.{statement}
 use Rattle.steps.proofs.label.+nth+nth_call+nth_either+nth_meeting.Tie.{close}
 
@@ -84,7 +82,7 @@ nth-meeting-below t =
     and 4 nth-meeting-kinds.ps (falls 4 nth-meeting-kinds.ps _<_ μ-nth-meeting t) nth-meeting.Pre
 
 abbrev nth-claims : ℕ → nth-lts.Claims
-nth-claims t = (blocked-reads.Asked, blocked-reads.Learnt, nth-prefix-reads.Asked, nth-prefix-reads.Learnt, nth-call-below t, nth-call.Post, get-reads.Asked, get-reads.Learnt, slot-reads.Asked, slot-reads.Learnt, nth-below t, nth.Post, matching-reads.Asked, matching-reads.Learnt, restrictions-at-reads.Asked, restrictions-at-reads.Learnt, leave-reads.Asked, leave-reads.Learnt, nth-either-below t, nth-either.Post)
+nth-claims t = (blocked-reads.Asked, blocked-reads.Learnt, nth-prefix-reads.Asked, nth-prefix-reads.Learnt, nth-call-below t, nth-call.Post, restrictions-at-reads.Asked, restrictions-at-reads.Learnt, past-reads.Asked, past-reads.Learnt, nth-either-below t, nth-either.Post, nth-below t, nth.Post, outside-of-reads.Asked, outside-of-reads.Learnt)
 
 abbrev nth-call-claims : ℕ → nth-call-lts.Claims
 nth-call-claims t = (call-at-reads.Asked, call-at-reads.Learnt, blocked-reads.Asked, blocked-reads.Learnt, arguments-reads.Asked, arguments-reads.Learnt, body-of-reads.Asked, body-of-reads.Learnt, tally-reads.Asked, tally-reads.Learnt, nth-below t, nth.Post)
@@ -116,62 +114,46 @@ nth-nth-call-requires t c κs = let a = c .before .before .before .before .befor
 nth-returns-3 : (t : ℕ) → nth-lts.Need-returns-3 (nth-claims t) (nth-at t) nth.Post
 nth-returns-3 t c = c .nth-call .ensures
 
-nth-add-get : (t : ℕ) → nth-lts.Need-add-get (nth-claims t) (nth-at t) nth.Post
-nth-add-get t c = search needs
-
-nth-get-requires : (t : ℕ) → nth-lts.Need-get-requires (nth-claims t) (nth-at t) nth.Post
-nth-get-requires t c κs = search needs
-
-nth-slot-requires : (t : ℕ) → nth-lts.Need-slot-requires (nth-claims t) (nth-at t) nth.Post
-nth-slot-requires t c κs = let w = c .before .before .before .before .before .before .before .before .before .before .pre .1 .0 .room in (c .before .before .before .before .before .before .before .before .before .before .pre .1 .0 .outer, omega arith)
-
-nth-add-get-2 : (t : ℕ) → nth-lts.Need-add-get-2 (nth-claims t) (nth-at t) nth.Post
-nth-add-get-2 t c = search needs
-
-nth-get-requires-2 : (t : ℕ) → nth-lts.Need-get-requires-2 (nth-claims t) (nth-at t) nth.Post
-nth-get-requires-2 t c κs = search needs
-
-nth-slot-requires-2 : (t : ℕ) → nth-lts.Need-slot-requires-2 (nth-claims t) (nth-at t) nth.Post
-nth-slot-requires-2 t c κs = let w = c .before .before .before .before .before .before .before .before .before .before .before .before .pre .1 .0 .room in (c .before .before .before .before .before .before .before .before .before .before .before .before .pre .1 .0 .outer, omega arith)
-
-nth-add-nth : (t : ℕ) → nth-lts.Need-add-nth (nth-claims t) (nth-at t) nth.Post
-nth-add-nth t c = search needs
-
-nth-nth-requires : (t : ℕ) → nth-lts.Need-nth-requires (nth-claims t) (nth-at t) nth.Post
-nth-nth-requires t c κs = let a = c .before .before .before .before .before .before .before .before .before .before .before .before .before .args in (weight-on (a .calls * 113) (length (a .src .now)) (a .at) (a .at + 3) t 3 (c .before .before .before .before .before .before .before .before .before .before .before .before .before .pre .0) (omega arith) (c .before .before .before .before .before .before .before .before .if1 .left), (room-on (a .src .now) (a .at) (a .at + 3) (a .inner) (a .depth) (a .calls) (c .before .before .before .before .before .before .before .before .before .before .before .before .before .pre .1 .0) (omega arith), c .before .before .before .before .before .before .before .before .before .before .before .before .before .pre .1 .1))
-
-nth-matching-requires : (t : ℕ) → nth-lts.Need-matching-requires (nth-claims t) (nth-at t) nth.Post
-nth-matching-requires t c κs = search needs
-
-nth-returns-4 : (t : ℕ) → nth-lts.Need-returns-4 (nth-claims t) (nth-at t) nth.Post
-nth-returns-4 t c = let a = c .before .before .before .before .before .before .before .before .before .before .before .before .before .before .before .args in nth-mat (a .question .now) (a .src .now) (a .at) (a .i) (a .silent) (a .args .now) (a .inner) (a .depth) (a .calls) (c .before .before .before .before .before .before .if4 .taken) (c .before .nth .result) _ (c .before .before .before .before .slot .result) (c .before .before .slot2 .result) (c .before .before .before .before .slot .ensures ∙ ap (slotAt (a .args .now) (a .inner) (a .depth)) (c .before .before .before .before .before .get .ensures)) (c .before .before .slot2 .ensures ∙ ap (slotAt (a .args .now) (a .inner) (a .depth)) (c .before .before .before .get2 .ensures)) (c .before .nth .ensures) (c .matching .ensures)
-
 nth-restrictions-at-requires : (t : ℕ) → nth-lts.Need-restrictions-at-requires (nth-claims t) (nth-at t) nth.Post
 nth-restrictions-at-requires t c κs = search needs
 
-nth-add-nth-2 : (t : ℕ) → nth-lts.Need-add-nth-2 (nth-claims t) (nth-at t) nth.Post
-nth-add-nth-2 t c = let w = c .before .before .before .before .before .before .before .before .before .before .before .pre .1 .0 .short in omega (arith, c .restrictions-at .ensures .inside, c .before .before .before .before .before .before .if1 .left)
-
-nth-add-nth-3 : (t : ℕ) → nth-lts.Need-add-nth-3 (nth-claims t) (nth-at t) nth.Post
-nth-add-nth-3 t c = let w = c .before .before .before .before .before .before .before .before .before .before .before .pre .1 .0 .room in let o = c .before .before .before .before .before .before .before .before .before .before .before .pre .1 .0 .outer in omega (arith, c .restrictions-at .ensures .inside, c .before .before .before .before .before .before .if1 .left)
-
-nth-add-nth-4 : (t : ℕ) → nth-lts.Need-add-nth-4 (nth-claims t) (nth-at t) nth.Post
-nth-add-nth-4 t c = let w = c .before .before .before .before .before .before .before .before .before .before .before .pre .1 .0 .room in omega (arith, c .restrictions-at .ensures .inside, c .before .before .before .before .before .before .if1 .left)
-
-nth-nth-requires-2 : (t : ℕ) → nth-lts.Need-nth-requires-2 (nth-claims t) (nth-at t) nth.Post
-nth-nth-requires-2 t c κs = let a = c .before .before .before .before .before .before .before .before .before .before .before .args in let k = c .restrictions-at .result in let R = c .restrictions-at .ensures in let h = c .before .before .before .before .before .before .if1 .left in (weight-on (a .calls * 113) (length (a .src .now)) (a .at) (a .at + k) t 3 (c .before .before .before .before .before .before .before .before .before .before .before .pre .0) (omega (arith, R .some h (c .before .if5 .taken))) h, (room-under (a .src .now) (a .at) (a .inner) (a .depth) (a .calls) k (c .before .before .before .before .before .before .before .before .before .before .before .pre .1 .0) h (R .inside), c .before .before .before .before .before .before .before .before .before .before .before .pre .1 .1))
-
-nth-leave-requires : (t : ℕ) → nth-lts.Need-leave-requires (nth-claims t) (nth-at t) nth.Post
-nth-leave-requires t c κs = let w = c .before .before .before .before .before .before .before .before .before .before .before .before .pre .1 .0 .room in omega (arith, c .before .restrictions-at .ensures .inside, c .before .before .before .before .before .before .before .if1 .left)
-
-nth-returns-5 : (t : ℕ) → nth-lts.Need-returns-5 (nth-claims t) (nth-at t) nth.Post
-nth-returns-5 t c = let a = c .before .before .before .before .before .before .before .before .before .before .before .before .before .args in c .leave .ensures .is (a .question .now) (a .src .now) (a .at) (a .i) (a .silent) (a .args .now) (a .inner) (a .calls) (c .before .before .restrictions-at .ensures .are) (c .before .nth2 .ensures)
+nth-past-requires : (t : ℕ) → nth-lts.Need-past-requires (nth-claims t) (nth-at t) nth.Post
+nth-past-requires t c κs = search needs
 
 nth-nth-either-requires : (t : ℕ) → nth-lts.Need-nth-either-requires (nth-claims t) (nth-at t) nth.Post
-nth-nth-either-requires t c κs = let a = c .before .before .before .before .before .before .before .before .before .before .args in (weight-part (a .calls * 113) (length (a .src .now)) (a .at) t 2 (c .before .before .before .before .before .before .before .before .before .before .pre .0), (c .before .before .before .before .before .if1 .left, omega (arith, c .before .before .before .if2 .left, c .before .if4 .left), omega (arith, c .before .before .if3 .left, c .if5 .left), c .before .before .before .before .before .before .before .before .before .before .pre .1 .0, c .before .before .before .before .before .before .before .before .before .before .pre .1 .1))
+nth-nth-either-requires t c κs =
+    let a = c .before .before .before .before .before .before .before .before .before .before .before .args in
+    let h = c .before .before .before .before .before .before .if1 .left in
+    let z = past-none (getD (a .src .now) (a .at) 0) (c .before .before .restrictions-at .result) (sym (c .before .past .ensures) ∙ c .if4 .taken) in
+    let n : getD (a .src .now) (a .at) 0 ≡ 8 → ⊥ = λ e. omega (arith, c .before .before .restrictions-at .ensures .some h e, z .1) in
+    (weight-part (a .calls * 113) (length (a .src .now)) (a .at) t 2 (c .before .before .before .before .before .before .before .before .before .before .before .pre .0), (h, omega (arith, c .before .before .before .before .if2 .left, z .0), omega (arith, c .before .before .before .if3 .left, n), c .before .before .before .before .before .before .before .before .before .before .before .pre .1 .0, c .before .before .before .before .before .before .before .before .before .before .before .pre .1 .1))
 
-nth-returns-6 : (t : ℕ) → nth-lts.Need-returns-6 (nth-claims t) (nth-at t) nth.Post
-nth-returns-6 t c = c .nth-either .ensures
+nth-returns-4 : (t : ℕ) → nth-lts.Need-returns-4 (nth-claims t) (nth-at t) nth.Post
+nth-returns-4 t c = c .nth-either .ensures
+
+nth-add-nth : (t : ℕ) → nth-lts.Need-add-nth (nth-claims t) (nth-at t) nth.Post
+nth-add-nth t c = let w = c .before .before .before .before .before .before .before .before .before .before .before .pre .1 .0 .short in let a = c .before .before .before .before .before .before .before .before .before .before .before .args in omega (arith, c .before .before .restrictions-at .ensures .inside, c .before .before .before .before .before .before .if1 .left, c .before .past .ensures, past-most (getD (a .src .now) (a .at) 0) (c .before .before .restrictions-at .result))
+
+nth-add-nth-2 : (t : ℕ) → nth-lts.Need-add-nth-2 (nth-claims t) (nth-at t) nth.Post
+nth-add-nth-2 t c = let w = c .before .before .before .before .before .before .before .before .before .before .before .pre .1 .0 .room in let o = c .before .before .before .before .before .before .before .before .before .before .before .pre .1 .0 .outer in omega (arith, c .before .before .restrictions-at .ensures .inside, c .before .before .before .before .before .before .if1 .left)
+
+nth-add-nth-3 : (t : ℕ) → nth-lts.Need-add-nth-3 (nth-claims t) (nth-at t) nth.Post
+nth-add-nth-3 t c = let w = c .before .before .before .before .before .before .before .before .before .before .before .pre .1 .0 .room in omega (arith, c .before .before .restrictions-at .ensures .inside, c .before .before .before .before .before .before .if1 .left)
+
+nth-nth-requires : (t : ℕ) → nth-lts.Need-nth-requires (nth-claims t) (nth-at t) nth.Post
+nth-nth-requires t c κs =
+    let a = c .before .before .before .before .before .before .before .before .before .before .before .args in
+    let k = c .before .before .restrictions-at .result in
+    let n = c .before .past .result in
+    let R = c .before .before .restrictions-at .ensures in
+    let h = c .before .before .before .before .before .before .if1 .left in
+    (weight-on (a .calls * 113) (length (a .src .now)) (a .at) (a .at + n) t 3 (c .before .before .before .before .before .before .before .before .before .before .before .pre .0) (omega (arith, c .if4 .left)) h, (room-under (a .src .now) (a .at) (a .inner) (a .depth) (a .calls) k n (c .before .before .before .before .before .before .before .before .before .before .before .pre .1 .0) h (R .inside) (omega (arith, past-over (a .src .now) (a .at) k R, c .before .past .ensures)), c .before .before .before .before .before .before .before .before .before .before .before .pre .1 .1))
+
+nth-outside-of-requires : (t : ℕ) → nth-lts.Need-outside-of-requires (nth-claims t) (nth-at t) nth.Post
+nth-outside-of-requires t c κs = let w = c .before .before .before .before .before .before .before .before .before .before .before .before .pre .1 .0 .room in (c .before .before .before .before .before .before .before .before .before .before .before .before .pre .1 .0 .outer, c .before .before .before .before .before .before .before .if1 .left, omega (arith, c .before .before .before .restrictions-at .ensures .inside, c .before .before .before .before .before .before .before .if1 .left))
+
+nth-returns-5 : (t : ℕ) → nth-lts.Need-returns-5 (nth-claims t) (nth-at t) nth.Post
+nth-returns-5 t c = let a = c .before .before .before .before .before .before .before .before .before .before .before .before .before .args in c .outside-of .ensures .is (a .question .now) (a .i) (a .silent) (a .calls) (λ z. c .before .before .if4 .left (c .before .before .before .past .ensures ∙ z)) (c .before .before .before .before .restrictions-at .ensures .are) (rw (c .before .before .before .past .ensures) at (c .before .nth .ensures))
 
 nth-call-call-at-requires : (t : ℕ) → nth-call-lts.Need-call-at-requires (nth-call-claims t) (nth-call-at t) nth-call.Post
 nth-call-call-at-requires t c κs = search needs
@@ -290,20 +272,16 @@ pub +nth+nth-call+nth-either+nth-meeting-spec : {M : Type 1} → statement M
       nth-prefix-reads.Learnt,
       nth-call-below t,
       nth-call.Post,
-      get-reads.Asked,
-      get-reads.Learnt,
-      slot-reads.Asked,
-      slot-reads.Learnt,
-      nth-below t,
-      nth.Post,
-      matching-reads.Asked,
-      matching-reads.Learnt,
       restrictions-at-reads.Asked,
       restrictions-at-reads.Learnt,
-      leave-reads.Asked,
-      leave-reads.Learnt,
+      past-reads.Asked,
+      past-reads.Learnt,
       nth-either-below t,
       nth-either.Post,
+      nth-below t,
+      nth.Post,
+      outside-of-reads.Asked,
+      outside-of-reads.Learnt,
     )
     (nth-at t)
     nth.Post
@@ -314,25 +292,16 @@ pub +nth+nth-call+nth-either+nth-meeting-spec : {M : Type 1} → statement M
     (nth-returns-2 t)
     (nth-nth-call-requires t)
     (nth-returns-3 t)
-    (nth-add-get t)
-    (nth-get-requires t)
-    (nth-slot-requires t)
-    (nth-add-get-2 t)
-    (nth-get-requires-2 t)
-    (nth-slot-requires-2 t)
-    (nth-add-nth t)
-    (nth-nth-requires t)
-    (nth-matching-requires t)
-    (nth-returns-4 t)
     (nth-restrictions-at-requires t)
+    (nth-past-requires t)
+    (nth-nth-either-requires t)
+    (nth-returns-4 t)
+    (nth-add-nth t)
     (nth-add-nth-2 t)
     (nth-add-nth-3 t)
-    (nth-add-nth-4 t)
-    (nth-nth-requires-2 t)
-    (nth-leave-requires t)
-    (nth-returns-5 t)
-    (nth-nth-either-requires t)
-    (nth-returns-6 t))
+    (nth-nth-requires t)
+    (nth-outside-of-requires t)
+    (nth-returns-5 t))
     (λ t. nth-call-lts.spec (
       call-at-reads.Asked,
       call-at-reads.Learnt,
