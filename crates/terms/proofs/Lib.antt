@@ -17,12 +17,10 @@ pub mod FramingLaws
 pub mod FreeMarks
 pub mod FreeTests
 pub mod GrammarLaws
-pub mod InstantiatingTable
 mod MergeChecks
 pub mod MergeLaws
 pub mod MergeWriting
 pub mod NameTables
-pub mod OpeningTable
 pub mod Places
 pub mod QuestionPlaces
 pub mod ReadEncoded

@@ -27,7 +27,3 @@ longestTerm = 112
 -- Check 12, in bytes: 120 pairs of 16 names.
 abbrev pub longestApart : ℕ
 longestApart = 240
-
--- A table for terms under up to 128 binders, which are as many as have bytes.
-abbrev pub fullTable : ℕ
-fullTable = tableNames + 128

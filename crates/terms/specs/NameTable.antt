@@ -1,11 +1,11 @@
 -- A renaming as a table of name bytes. One routine renames a term's bytes by any such table, so a caller that merges names, rewrites by a
--- condition, instantiates, binds a name or opens a call's body fills a table and shows `Represents`.
+-- condition or writes a result fills a table and shows `Represents`.
 use mathlib.Core.Path.{_≡_}
 use mathlib.Core.Bool.{cond}
 use mathlib.Core.List.{List}
 use Prim.Native.Nat.{ℕ, _+_, _-_, _<_}
-use lib.ListN.{length, getD}
-use lib.Dec.{ltb, eqb}
+use lib.ListN.{getD}
+use lib.Dec.{ltb}
 use Rattle.terms.specs.Limits.{tableNames}
 use Rattle.terms.specs.Encoding.{nameByte}
 
@@ -32,13 +32,3 @@ renamedByte inner table b =
 unfoldable pub RepresentsBeneath : ℕ → ℕ → ℕ → ℕ → List ℕ → (ℕ → ℕ) → Type 0
 RepresentsBeneath inner free d d′ table ρ =
     (m : ℕ) → m < d + free → (renamedByte inner table (nameByte d m) ≡ nameByte d′ (ρ m)) × (ρ m < d′ + tableNames)
-
--- The table that opens a body: its parameters, the last innermost, become the call's names, whose bytes these are. A body has no free names.
-unfoldable pub openingEntry : List ℕ → ℕ → ℕ
-openingEntry names k =
-    cond (ltb k tableNames) 0
-    (cond (ltb (k - tableNames) (length names)) (getD names (length names - 1 - (k - tableNames)) 0) 0)
-
--- The table that instantiates the innermost binder by the name whose byte b is: the other binders come down by one.
-unfoldable pub instantiatingEntry : ℕ → ℕ → ℕ
-instantiatingEntry b k = cond (ltb k tableNames) k (cond (eqb k tableNames) b (k - tableNames - 1 + 128))

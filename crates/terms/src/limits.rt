@@ -17,9 +17,3 @@ pub const LONGEST_TERM: usize = 112;
 
 // The bytes of the apart list.
 pub const LONGEST_APART: usize = 240;
-
-// The length of a table that opens a body: the names it begins with, and as many parameters as a definition may have.
-pub const OPENING_TABLE: usize = 25;
-
-// The length of a table for terms under up to 128 binders, which are as many as have bytes.
-pub const FULL_TABLE: usize = 145;
