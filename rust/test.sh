@@ -8,5 +8,8 @@ if [[ ! -f $library ]]; then
     echo "rust/test.sh: $library is missing: run \`rt staticlib exchange\` at the root of the repository" >&2
     exit 1
 fi
-cargo fmt --check
+# the layout of the code, where the toolchain has its formatter
+if cargo fmt --version >/dev/null 2>&1; then
+    cargo fmt --check
+fi
 cargo test --release --offline --workspace
