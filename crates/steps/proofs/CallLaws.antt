@@ -138,14 +138,14 @@ module _ (question : List ℕ) (q : Question) (ok : checkOf question ≡ result 
 
 -- A call, and whether it may be opened.
 pub opening-is : (question s : List ℕ) (at calls : ℕ) (arities body : List ℕ) (k n : ℕ) (may : Bool) → AritiesIs question arities → BodyIs question k body
-    → k ≡ getD s (at + 1) 0 → n ≡ getD arities k 0 → MayOpenIs calls n (length body) may
+    → k ≡ getD s (at + 1) 0 → n ≡ getD arities k 0 → MayOpenIs calls k n (length body) may
     → OpeningIs question s at calls (record { allowed = may; definition = k; arity = n; end = at + 2 + n })
 unfolding AritiesIs
 opening-is question s at calls arities body k n may ar B ek en M = record {
   definition = ek;
   arity = λ q ok. en ∙ ap (λ (l : List ℕ). getD l k 0) (ar q ok);
   end = refl;
-  may = λ t. let m = M .may t in (m .0, m .1, subst (λ (l : List ℕ). length l ≤ longestTerm) (B .piece) (m .2));
+  may = λ t. let m = M .may t in (m .0, m .1, subst (λ (l : List ℕ). length l ≤ longestTerm) (B .piece) (m .2), m .3);
   not = λ t q ok l. go t q ok l calls refl;
 }
   where
@@ -153,7 +153,7 @@ opening-is question s at calls arities body k n may ar B ek en M = record {
     go t q ok l zero z = z
     go t q ok l (suc c) z =
         let a : n ≡ getD (q .arities) k 0 = en ∙ ap (λ (l : List ℕ). getD l k 0) (ar q ok) in
-        absurd (M .not t (omega arith) (omega (arith, few-parameters question q ok k)) (omega (arith, ap length (B .is q ok l), body-size question q ok k)))
+        absurd (M .not t (omega arith) (omega (arith, few-parameters question q ok k)) (omega (arith, ap length (B .is q ok l), body-size question q ok k)) (omega (arith, accepted-well-formed question q ok .definitions)))
 
 -- The call at `at`.
 module _ (question s : List ℕ) (at D calls : ℕ) (t : Bool) (i : ℕ) (g : 8 < getD s at 0) (k n : ℕ) (K : k ≡ getD s (at + 1) 0)

@@ -5,7 +5,7 @@ use mathlib.Core.List.{List, [], _∷_, _++_, map, append-assoc}
 use Prim.Native.Nat.{ℕ, _+_, _-_, _*_, _<_, _≤_, max}
 use native.Mathlib.Nat.{mul-add, add-mul, mul-le-mul, mul-le-mul-left, one-le-mul}
 use native.Mathlib.Omega.{arith}
-use mir.Syntax.{w64}
+use mir.Syntax.{w32, w64}
 use mir.Val.{Fits}
 use lib.ListN.{length, getD, drop, length-append, length-map}
 use lib.Dec.{eqb, leb}
@@ -18,7 +18,8 @@ use Rattle.terms.proofs.Stores.{getD-front}
 use Rattle.steps.specs.Fronts.{TermFrontIs}
 use Rattle.steps.specs.Passing.{candidates}
 use Rattle.steps.specs.Raw.{matching, leftSteps, rightSteps, restricted, visible, silent, visibleOf, silentOf}
-use Rattle.steps.specs.Tallying.{visibleCall, silentCall, Few, FewCalls, CallsAre, EntryIs, nothingAt, entryAt, talliedEntry, prefixEntry, callEntry, choiceEntry, parallelEntry, Small, Filled}
+use Rattle.steps.specs.Tally.{visibleCall, silentCall, Few, FewCalls}
+use Rattle.steps.specs.Tallying.{CallsAre, EntryIs, nothingAt, entryAt, talliedEntry, prefixEntry, callEntry, choiceEntry, parallelEntry, Small, Filled}
 use Rattle.steps.specs.declared.front.TermFront.{TermFront}
 use Rattle.steps.specs.declared.tally.Entry.{Entry}
 use Rattle.steps.proofs.CandidateForms.{candidates-mat, candidates-res, candidates-sum, candidates-par, meetings, tag, tag-at, only-prefix, only-call, only-sum, only-par}
@@ -154,6 +155,15 @@ module _ (s arities called : List ℕ) (at : ℕ) where
       let i = E .inside in
       let k : longestTerm * (r .end - at) ≤ longestTerm * longestTerm = omega arith in
       (omega (arith, f .0), omega (arith, f .1, mul-le-mul k k))
+
+  -- So its numbers and its end fit the tally.
+  pub entry-fits : (r : Entry) → length s ≤ longestTerm → at ≤ longestTerm → FewCalls longestTerm called → EntryIs s arities called at r
+      → Fits w32 (r .visible) × Fits w32 (r .silent) × Fits w32 (r .end)
+  unfolding Small
+  entry-fits r l i c E =
+      let f = small-entry r l c E in
+      let j = E .inside in
+      (omega (arith, f .0), omega (arith, f .1), omega arith)
 
   module _ (h : TermFront) (F : TermFrontIs s at arities h) where
     front : (free D : ℕ) (P : Term) (rest : List ℕ) → InScope free arities D P → drop at s ≡ encode D P ++ rest

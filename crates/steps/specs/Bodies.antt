@@ -8,7 +8,7 @@ use Rattle.calculus.specs.Term.{Term}
 use Rattle.terms.specs.Answer.{result}
 use Rattle.terms.specs.Encoding.{encode, InScope}
 use Rattle.terms.specs.FieldPlaces.{fieldAt, fieldPlace}
-use Rattle.terms.specs.Limits.{greatestArity, longestTerm}
+use Rattle.terms.specs.Limits.{mostDefinitions, greatestArity, longestTerm}
 use Rattle.terms.specs.Question.{Question, checkOf}
 use Rattle.steps.specs.Listing.{bodyOf}
 use Rattle.steps.specs.declared.bodies.Opening.{Opening}
@@ -20,9 +20,9 @@ pub record BodyIs (question : List ℕ) (k : ℕ) (r : List ℕ) : Type 0 where
   pub piece : r ≡ fieldAt question (fieldPlace question k)
   pub is : (q : Question) → checkOf question ≡ result q → k < length (q .arities) → r ≡ encode (getD (q .arities) k 0) (bodyOf (q .bodies) k)
 
-pub record MayOpenIs (calls arity size : ℕ) (r : Bool) : Type 0 where
-  pub may : r ≡ true → (0 < calls) × (arity ≤ greatestArity) × (size ≤ longestTerm)
-  pub not : r ≡ false → 0 < calls → arity ≤ greatestArity → size ≤ longestTerm → ⊥
+pub record MayOpenIs (calls definition arity size : ℕ) (r : Bool) : Type 0 where
+  pub may : r ≡ true → (0 < calls) × (arity ≤ greatestArity) × (size ≤ longestTerm) × (definition < mostDefinitions)
+  pub not : r ≡ false → 0 < calls → arity ≤ greatestArity → size ≤ longestTerm → definition < mostDefinitions → ⊥
 
 -- A call at `at`. Where it may not be opened although a call is left to open, the question is not accepted.
 pub record OpeningIs (question s : List ℕ) (at calls : ℕ) (r : Opening) : Type 0 where
@@ -30,6 +30,7 @@ pub record OpeningIs (question s : List ℕ) (at calls : ℕ) (r : Opening) : Ty
   pub arity : (q : Question) → checkOf question ≡ result q → r .arity ≡ getD (q .arities) (r .definition) 0
   pub end : r .end ≡ at + 2 + r .arity
   pub may : r .allowed ≡ true → (0 < calls) × (r .arity ≤ greatestArity) × (length (fieldAt question (fieldPlace question (r .definition))) ≤ longestTerm)
+      × (r .definition < mostDefinitions)
   pub not : r .allowed ≡ false → (q : Question) → checkOf question ≡ result q → r .definition < length (q .arities) → calls ≡ 0
 
 -- Of terms in scope; where there is none, the end is not before the beginning.

@@ -19,7 +19,7 @@ use Rattle.steps.specs.Listing.{bodyOf}
 use Rattle.steps.specs.Names.{nameSlots, HasNames, HasNew}
 use Rattle.steps.specs.Passing.{candidates}
 use Rattle.steps.specs.Raw.{Candidate, step, blocked}
-use Rattle.steps.specs.Tally.{TallyIs}
+use Rattle.steps.specs.Tally.{TallyIs, BodiesTallied}
 use Rattle.steps.specs.declared.result.Numbers.{Numbers}
 use Rattle.steps.specs.declared.pass.Passed.{Passed}
 use Rattle.steps.specs.declared.result.Plan.{Plan}
@@ -85,10 +85,10 @@ abbrev pub Room : ℕ → List ℕ → ℕ → Type 0
 Room levels out put = (levels + length out ≤ 128 + put) × (put ≤ length out)
 
 -- What the walk needs.
-abbrev pub Writing : List ℕ → List ℕ → List ℕ → ℕ → ℕ → List ℕ → Task → List ℕ → ℕ → Type 0
-Writing question s t at D names task out put =
+abbrev pub Writing : List ℕ → List ℕ → List ℕ → List ℕ → ℕ → ℕ → List ℕ → Task → List ℕ → ℕ → Type 0
+Writing question bodies s t at D names task out put =
     (length s ≤ longestTerm) × (D ≤ at + greatestArity) × (task .calls ≤ 1) × (length names ≡ nameSlots) × Room (task .levels) out put
-    × TallyIs question s (task .calls) t
+    × TallyIs question s (task .calls) t × BodiesTallied question bodies
 
 -- The tasks that the code makes of a task.
 abbrev pub numbered : ℕ → Task → Task

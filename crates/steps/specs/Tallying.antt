@@ -1,38 +1,21 @@
--- What the functions that make a tally promise: the entry of one place, the entries from a place on, and the numbers of the calls.
+-- What the functions that make a tally promise: the entry of one place, and the entries from a place on.
 use mathlib.Core.Bool.{Bool, cond}
 use mathlib.Core.Path.{_≡_}
 use mathlib.Core.List.{List, _++_}
 use Prim.Native.Nat.{ℕ, _+_, _-_, _*_, _<_, _≤_, max}
 use lib.Dec.{eqb, leb}
-use lib.ListN.{length, getD, drop}
+use lib.ListN.{length, drop}
 use Rattle.calculus.specs.Term.{Term, call, ren}
-use Rattle.terms.specs.Answer.{result}
 use Rattle.terms.specs.Encoding.{encode, InScope}
 use Rattle.terms.specs.Limits.{longestTerm}
-use Rattle.terms.specs.Question.{Question, checkOf}
 use Rattle.steps.specs.Limits.{mostCandidates}
-use Rattle.steps.specs.Listing.{bodyOf}
 use Rattle.steps.specs.Raw.{visible, silent}
-use Rattle.steps.specs.Tally.{visibleAt, silentAt, endAt}
+use Rattle.steps.specs.Tally.{visibleAt, silentAt, endAt, visibleCall, silentCall, Few, FewCalls}
 use Rattle.steps.specs.declared.tally.Entry.{Entry}
 
 -- the visible or the silent ones
 unfoldable pub numberAt : List ℕ → ℕ → Bool → ℕ
 numberAt t at silently = cond silently (silentAt t at) (visibleAt t at)
-
--- The numbers of the calls of definition k stand side by side.
-unfoldable pub visibleCall : List ℕ → ℕ → ℕ
-visibleCall called k = getD called (k + k) 0
-
-unfoldable pub silentCall : List ℕ → ℕ → ℕ
-silentCall called k = getD called (k + k + 1) 0
-
--- n visible and m silent candidates are few for so many bytes, where a call has at most B visible ones
-unfoldable pub Few : ℕ → ℕ → ℕ → ℕ → Type 0
-Few B bytes n m = (n ≤ B * bytes) × (m ≤ B * bytes * (B * bytes))
-
-unfoldable pub FewCalls : ℕ → List ℕ → Type 0
-FewCalls B called = (1 ≤ B) × ((k : ℕ) → Few B 1 (visibleCall called k) (silentCall called k))
 
 -- Whatever names a call has, its candidates are so many.
 unfoldable pub CallsAre : List ℕ → (ℕ → Term) → ℕ → List ℕ → Type 0
@@ -84,14 +67,3 @@ Small p = (p .visible ≤ longestTerm * longestTerm) × (p .silent ≤ mostCandi
 unfoldable pub Filled : List ℕ → List ℕ → List ℕ → ℕ → List ℕ → Type 0
 Filled s arities called from t =
     (at : ℕ) → from ≤ at → at < length s → (at < endAt t at) × EntryIs s arities called at (entryAt t at)
-
--- The numbers of a call of definition k, where no further call may be opened.
-pub record BodyEntryIs (question : List ℕ) (k : ℕ) (r : Entry) : Type 0 where
-  pub few : Few longestTerm 1 (r .visible) (r .silent)
-  pub is : (q : Question) (xs : List ℕ) → checkOf question ≡ result q → k < length (q .arities)
-      → (r .visible ≡ length (visible (bodyOf (q .bodies)) 1 (call k xs))) × (r .silent ≡ length (silent (bodyOf (q .bodies)) 1 (call k xs)))
-
--- The numbers of the calls, where so many may be opened one within the other.
-pub record CallNumbersAre (question : List ℕ) (calls : ℕ) (r : List ℕ) : Type 0 where
-  pub few : FewCalls longestTerm r
-  pub is : (q : Question) → checkOf question ≡ result q → CallsAre (q .arities) (bodyOf (q .bodies)) calls r

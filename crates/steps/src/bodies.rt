@@ -9,6 +9,7 @@ use terms::frame::field_at;
 use terms::frame::field_place;
 use terms::limits::GREATEST_ARITY;
 use terms::limits::LONGEST_TERM;
+use terms::limits::MOST_DEFINITIONS;
 use terms::shape::shape_at;
 
 // The arities.
@@ -26,10 +27,13 @@ pub fn body_of(question: &[u8], k: usize) -> &[u8]
 }
 
 // Whether a call may be opened: one is left to open, and its definition keeps within the limits of an accepted question.
-fn may_open(calls: usize, arity: usize, size: usize) -> bool
-    ensures { λ r. ⌜ MayOpenIs calls arity size r ⌝ }
+fn may_open(calls: usize, definition: usize, arity: usize, size: usize) -> bool
+    ensures { λ r. ⌜ MayOpenIs calls definition arity size r ⌝ }
 {
     if calls == 0 {
+        return false;
+    }
+    if MOST_DEFINITIONS <= definition {
         return false;
     }
     if GREATEST_ARITY < arity {
@@ -57,7 +61,7 @@ pub fn call_at(question: &[u8], src: &[u8], at: usize, calls: usize) -> Opening
     let k = get(src, at + 1) as usize;
     let n = get(arities_of(question), k) as usize;
     let body = body_of(question, k);
-    let allowed = may_open(calls, n, body.len());
+    let allowed = may_open(calls, k, n, body.len());
     Opening {
         allowed,
         definition: k,

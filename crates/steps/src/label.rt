@@ -6,7 +6,7 @@ ghost use lib.ListN.{length, getD};
 ghost use Rattle.terms.specs.Limits.{nameCount, greatestArity};
 ghost use Rattle.steps.specs.LabelWalk.{slotAt, ArgumentsIs, prefixAction, PrefixLabelIs, RestrictionsIs, LeavesIs, pastOf, OutsideOfIs, Within, NthIs, MeetingIs};
 ghost use Rattle.steps.specs.Slots.{slotCount};
-ghost use Rattle.steps.specs.Tally.{TallyIs};
+ghost use Rattle.steps.specs.Tally.{TallyIs, BodiesTallied};
 use crate::action::Action;
 use crate::action::Label;
 use crate::bodies::body_of;
@@ -15,8 +15,8 @@ use crate::pass::middle_of;
 use crate::rules::communication;
 use crate::rules::matching;
 use crate::rules::restricted;
+use crate::tally::body_tally;
 use crate::tally::number_at;
-use crate::tally::tally;
 use crate::tally::visible_at;
 use terms::bytes::get;
 use terms::limits::GREATEST_ARITY;
@@ -149,8 +149,9 @@ fn outside_of(
 // of the right side's, and those.
 fn nth_meeting(
     question: &[u8],
+    bodies: &[u32],
     src: &[u8],
-    tally: &[usize],
+    tally: &[u32],
     at: usize,
     middle: usize,
     i: usize,
@@ -159,7 +160,7 @@ fn nth_meeting(
     depth: usize,
     calls: usize,
 ) -> Label
-    requires { ⌜ (at < length (now src)) × (at < middle) × Within (now src) at inner depth calls × TallyIs (now question) (now src) calls (now tally) ⌝ }
+    requires { ⌜ (at < length (now src)) × (at < middle) × Within (now src) at inner depth calls × TallyIs (now question) (now src) calls (now tally) × BodiesTallied (now question) (now bodies) ⌝ }
     ensures { λ r. ⌜ MeetingIs (now (question .entry)) (now (src .entry)) at middle i (now (args .entry)) inner depth calls r ⌝ }
 {
     let n = visible_at(tally, middle);
@@ -168,6 +169,7 @@ fn nth_meeting(
     }
     let p = nth(
         question,
+        bodies,
         src,
         tally,
         at + 1,
@@ -180,6 +182,7 @@ fn nth_meeting(
     );
     let q = nth(
         question,
+        bodies,
         src,
         tally,
         middle,
@@ -196,8 +199,9 @@ fn nth_meeting(
 // The choice or parallel at `at`: the left side's candidates, then the right side's, and then the communications.
 fn nth_either(
     question: &[u8],
+    bodies: &[u32],
     src: &[u8],
-    tally: &[usize],
+    tally: &[u32],
     at: usize,
     i: usize,
     silent: bool,
@@ -206,7 +210,7 @@ fn nth_either(
     depth: usize,
     calls: usize,
 ) -> Label
-    requires { ⌜ (at < length (now src)) × (5 < getD (now src) at 0) × (getD (now src) at 0 < 8) × Within (now src) at inner depth calls × TallyIs (now question) (now src) calls (now tally) ⌝ }
+    requires { ⌜ (at < length (now src)) × (5 < getD (now src) at 0) × (getD (now src) at 0 < 8) × Within (now src) at inner depth calls × TallyIs (now question) (now src) calls (now tally) × BodiesTallied (now question) (now bodies) ⌝ }
     ensures { λ r. ⌜ NthIs (now (question .entry)) (now (src .entry)) at i silent (now (args .entry)) inner depth calls r ⌝ }
 {
     let middle = middle_of(src, tally, at);
@@ -214,6 +218,7 @@ fn nth_either(
     if i < left {
         return nth(
             question,
+            bodies,
             src,
             tally,
             at + 1,
@@ -230,6 +235,7 @@ fn nth_either(
     if j < right {
         return nth(
             question,
+            bodies,
             src,
             tally,
             middle,
@@ -243,6 +249,7 @@ fn nth_either(
     }
     nth_meeting(
         question,
+        bodies,
         src,
         tally,
         at,
@@ -258,6 +265,7 @@ fn nth_either(
 // The call at `at`: the candidates of the body, while calls are left to open.
 fn nth_call(
     question: &[u8],
+    bodies: &[u32],
     src: &[u8],
     at: usize,
     i: usize,
@@ -267,7 +275,7 @@ fn nth_call(
     depth: usize,
     calls: usize,
 ) -> Label
-    requires { ⌜ (at < length (now src)) × (8 < getD (now src) at 0) × Within (now src) at inner depth calls ⌝ }
+    requires { ⌜ (at < length (now src)) × (8 < getD (now src) at 0) × Within (now src) at inner depth calls × BodiesTallied (now question) (now bodies) ⌝ }
     ensures { λ r. ⌜ NthIs (now (question .entry)) (now (src .entry)) at i silent (now (args .entry)) inner depth calls r ⌝ }
 {
     let o = call_at(question, src, at, calls);
@@ -279,11 +287,12 @@ fn nth_call(
     }
     let given = arguments(src, at + 2, o.arity, args, inner, depth);
     let body = body_of(question, o.definition);
-    let within = tally(question, body, calls - 1);
+    let within = body_tally(bodies, o.definition);
     nth(
         question,
+        bodies,
         body,
-        &within,
+        within,
         0,
         i,
         silent,
@@ -298,8 +307,9 @@ fn nth_call(
 // the parameters, and so many calls may be opened one within the other.
 pub fn nth(
     question: &[u8],
+    bodies: &[u32],
     src: &[u8],
-    tally: &[usize],
+    tally: &[u32],
     at: usize,
     i: usize,
     silent: bool,
@@ -308,7 +318,7 @@ pub fn nth(
     depth: usize,
     calls: usize,
 ) -> Label
-    requires { ⌜ Within (now src) at inner depth calls × TallyIs (now question) (now src) calls (now tally) ⌝ }
+    requires { ⌜ Within (now src) at inner depth calls × TallyIs (now question) (now src) calls (now tally) × BodiesTallied (now question) (now bodies) ⌝ }
     ensures { λ r. ⌜ NthIs (now (question .entry)) (now (src .entry)) at i silent (now (args .entry)) inner depth calls r ⌝ }
 {
     if src.len() <= at {
@@ -319,13 +329,25 @@ pub fn nth(
         return nth_prefix(src, at, args, inner, depth);
     }
     if 8 < t {
-        return nth_call(question, src, at, i, silent, args, inner, depth, calls);
+        return nth_call(
+            question,
+            bodies,
+            src,
+            at,
+            i,
+            silent,
+            args,
+            inner,
+            depth,
+            calls,
+        );
     }
     let k = restrictions_at(src, at);
     let n = past(t, k);
     if n == 0 {
         return nth_either(
             question,
+            bodies,
             src,
             tally,
             at,
@@ -339,6 +361,7 @@ pub fn nth(
     }
     let p = nth(
         question,
+        bodies,
         src,
         tally,
         at + n,

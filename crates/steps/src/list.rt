@@ -4,7 +4,7 @@ ghost use lib.ListN.{length};
 ghost use Rattle.terms.specs.Limits.{nameCount, longestTerm};
 ghost use Rattle.steps.specs.Limits.{stepBytes, mostSteps};
 ghost use Rattle.steps.specs.PartLister.{NamesAre, ResultIs, PutStepIs, TakeIs, GatherIs, ListPartIs};
-ghost use Rattle.steps.specs.Tally.{TallyIs};
+ghost use Rattle.steps.specs.Tally.{TallyIs, BodiesTallied};
 use crate::action::Label;
 use crate::action::Status;
 use crate::label::nth;
@@ -14,6 +14,7 @@ use crate::listed::step_entry;
 use crate::names::NAME_SLOTS;
 use crate::result::Task;
 use crate::result::write;
+use crate::tally::body_tallies;
 use crate::tally::number_at;
 use crate::tally::tally;
 use terms::bytes::copy;
@@ -35,15 +36,16 @@ fn result_names(class: &[u8]) -> [u8; NAME_SLOTS]
 // where there is no room.
 fn write_result(
     question: &[u8],
+    bodies: &[u32],
     part: &[u8],
-    tally: &[usize],
+    tally: &[u32],
     silently: bool,
     i: usize,
     class: &[u8],
     x: u8,
     out: &mut [u8],
 ) -> usize
-    requires { ⌜ (length (now part) ≤ longestTerm) × (nameCount ≤ length (now class)) × (length (now out) ≤ longestTerm) × TallyIs (now question) (now part) 1 (now tally) ⌝ }
+    requires { ⌜ (length (now part) ≤ longestTerm) × (nameCount ≤ length (now class)) × (length (now out) ≤ longestTerm) × TallyIs (now question) (now part) 1 (now tally) × BodiesTallied (now question) (now bodies) ⌝ }
     ensures { λ r. ⌜ ResultIs (now (question .entry)) (now (part .entry)) silently i (now (class .entry)) x (now (out .entry)) r (now (out .exit)) ⌝ }
 {
     let task = Task {
@@ -55,14 +57,26 @@ fn write_result(
         number: i,
     };
     let mut names = result_names(class);
-    write(question, part, tally, 0, 0, task, &mut names, out, 0)
+    write(
+        question,
+        bodies,
+        part,
+        tally,
+        0,
+        0,
+        task,
+        &mut names,
+        out,
+        0,
+    )
 }
 
 // Puts the step with this header, the candidate number `i`, into the list. A result that is too long passes a limit.
 fn put_step(
     question: &[u8],
+    bodies: &[u32],
     part: &[u8],
-    tally: &[usize],
+    tally: &[u32],
     silently: bool,
     i: usize,
     header: Label,
@@ -70,13 +84,23 @@ fn put_step(
     area: &mut [u8],
     count: usize,
 ) -> usize
-    requires { ⌜ (count ≤ mostSteps) × (mostSteps * stepBytes ≤ length (now area)) × (length (now part) ≤ longestTerm) × TallyIs (now question) (now part) 1 (now tally) ⌝ }
+    requires { ⌜ (count ≤ mostSteps) × (mostSteps * stepBytes ≤ length (now area)) × (length (now part) ≤ longestTerm) × TallyIs (now question) (now part) 1 (now tally) × BodiesTallied (now question) (now bodies) ⌝ }
     ensures { λ r. ⌜ PutStepIs (now (question .entry)) (now (part .entry)) silently i header x (now (area .entry)) count r (now (area .exit)) ⌝ }
 {
     let condition = header.condition;
     let class = condition.class;
     let mut result = [0u8; LONGEST_TERM];
-    let n = write_result(question, part, tally, silently, i, &class, x, &mut result);
+    let n = write_result(
+        question,
+        bodies,
+        part,
+        tally,
+        silently,
+        i,
+        &class,
+        x,
+        &mut result,
+    );
     if LONGEST_TERM < n {
         return MOST_STEPS + 1;
     }
@@ -87,45 +111,70 @@ fn put_step(
 // Puts the candidate number `i` into the list. Answers how many steps there are then.
 fn take_candidate(
     question: &[u8],
+    bodies: &[u32],
     part: &[u8],
-    tally: &[usize],
+    tally: &[u32],
     silently: bool,
     i: usize,
     x: u8,
     area: &mut [u8],
     count: usize,
 ) -> usize
-    requires { ⌜ (count ≤ mostSteps) × (mostSteps * stepBytes ≤ length (now area)) × (length (now part) ≤ longestTerm) × TallyIs (now question) (now part) 1 (now tally) ⌝ }
+    requires { ⌜ (count ≤ mostSteps) × (mostSteps * stepBytes ≤ length (now area)) × (length (now part) ≤ longestTerm) × TallyIs (now question) (now part) 1 (now tally) × BodiesTallied (now question) (now bodies) ⌝ }
     ensures { λ r. ⌜ TakeIs (now (question .entry)) (now (part .entry)) silently i x (now (area .entry)) count r (now (area .exit)) ⌝ }
 {
     // In a body every call is beneath a prefix (check 11), so that one call is opened.
     let none = [0u8; GREATEST_ARITY];
-    let label = nth(question, part, tally, 0, i, silently, &none, 0, 0, 1);
+    let label = nth(
+        question,
+        bodies,
+        part,
+        tally,
+        0,
+        i,
+        silently,
+        &none,
+        0,
+        0,
+        1,
+    );
     let status = label.status;
     match status {
         Status::Blocked => count,
-        Status::Found => put_step(question, part, tally, silently, i, label, x, area, count),
+        Status::Found => put_step(
+            question,
+            bodies,
+            part,
+            tally,
+            silently,
+            i,
+            label,
+            x,
+            area,
+            count,
+        ),
     }
 }
 
 // Puts all candidates of one kind into the list, until a limit is passed. Answers how many steps there are then.
 fn gather(
     question: &[u8],
+    bodies: &[u32],
     part: &[u8],
-    tally: &[usize],
+    tally: &[u32],
     silently: bool,
     x: u8,
     area: &mut [u8],
     count: usize,
 ) -> usize
-    requires { ⌜ (count ≤ mostSteps) × (mostSteps * stepBytes ≤ length (now area)) × (length (now part) ≤ longestTerm) × TallyIs (now question) (now part) 1 (now tally) ⌝ }
+    requires { ⌜ (count ≤ mostSteps) × (mostSteps * stepBytes ≤ length (now area)) × (length (now part) ≤ longestTerm) × TallyIs (now question) (now part) 1 (now tally) × BodiesTallied (now question) (now bodies) ⌝ }
     ensures { λ r. ⌜ GatherIs (now (question .entry)) (now (part .entry)) silently x (now (area .entry)) count r (now (area .exit)) ⌝ }
 {
     let number = number_at(tally, 0, silently);
     let mut n = count;
     let mut i = 0;
     while i < number {
-        let m = take_candidate(question, part, tally, silently, i, x, area, n);
+        let m = take_candidate(question, bodies, part, tally, silently, i, x, area, n);
         if MOST_STEPS < m {
             return m;
         }
@@ -140,20 +189,35 @@ pub enum ListAnswer {
     Count(usize),
 }
 
-// Lists the steps of a part under the definitions of an accepted question, for the new name `x`. The area must hold as many steps as the limit
-// allows.
-pub fn list_part(question: &[u8], part: &[u8], x: u8, area: &mut [u8]) -> ListAnswer
-    requires { ⌜ (mostSteps * stepBytes ≤ length (now area)) × (length (now part) ≤ longestTerm) ⌝ }
+// Lists the steps of a part under the definitions of an accepted question whose bodies are tallied, for the new name `x`. The area must hold as
+// many steps as the limit allows.
+pub fn list_tallied(
+    question: &[u8],
+    bodies: &[u32],
+    part: &[u8],
+    x: u8,
+    area: &mut [u8],
+) -> ListAnswer
+    requires { ⌜ (mostSteps * stepBytes ≤ length (now area)) × (length (now part) ≤ longestTerm) × BodiesTallied (now question) (now bodies) ⌝ }
     ensures { λ r. ⌜ ListPartIs (now (question .entry)) (now (part .entry)) x (now (area .entry)) r (now (area .exit)) ⌝ }
 {
-    let numbers = tally(question, part, 1);
-    let visible = gather(question, part, &numbers, false, x, area, 0);
+    let numbers = tally(question, bodies, part);
+    let visible = gather(question, bodies, part, &numbers, false, x, area, 0);
     if MOST_STEPS < visible {
         return ListAnswer::Unsettled;
     }
-    let all = gather(question, part, &numbers, true, x, area, visible);
+    let all = gather(question, bodies, part, &numbers, true, x, area, visible);
     if MOST_STEPS < all {
         return ListAnswer::Unsettled;
     }
     ListAnswer::Count(all)
+}
+
+// The same for bodies that are not tallied yet.
+pub fn list_part(question: &[u8], part: &[u8], x: u8, area: &mut [u8]) -> ListAnswer
+    requires { ⌜ (mostSteps * stepBytes ≤ length (now area)) × (length (now part) ≤ longestTerm) ⌝ }
+    ensures { λ r. ⌜ ListPartIs (now (question .entry)) (now (part .entry)) x (now (area .entry)) r (now (area .exit)) ⌝ }
+{
+    let bodies = body_tallies(question);
+    list_tallied(question, &bodies, part, x, area)
 }

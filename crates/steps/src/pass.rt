@@ -7,13 +7,13 @@ ghost use lib.ListN.{length, getD};
 ghost use Rattle.terms.specs.Limits.{tableNames, greatestArity, longestTerm};
 ghost use Rattle.steps.specs.Names.{mostBinders};
 ghost use Rattle.steps.specs.Passing.{nothingSent, PrefixIs, opensAt, leavingAt, returnedAt, PassIs, MiddleIs};
-ghost use Rattle.steps.specs.Tally.{TallyIs};
+ghost use Rattle.steps.specs.Tally.{TallyIs, BodiesTallied};
 use crate::bodies::body_of;
 use crate::bodies::call_at;
 use crate::names::slot_of;
+use crate::tally::body_tally;
 use crate::tally::end_at;
 use crate::tally::number_at;
-use crate::tally::tally;
 use terms::bytes::get;
 use terms::limits::TABLE_NAMES;
 
@@ -109,7 +109,7 @@ fn pass_prefix(src: &[u8], at: usize, binders: usize) -> Passed
 }
 
 // Where the right side of the choice or parallel at `at` stands.
-pub fn middle_of(src: &[u8], tally: &[usize], at: usize) -> usize
+pub fn middle_of(src: &[u8], tally: &[u32], at: usize) -> usize
     requires { ⌜ (at < length (now src)) × (length (now src) ≤ longestTerm) ⌝ }
     ensures { λ r. ⌜ MiddleIs (now (src .entry)) (now (tally .entry)) at r ⌝ }
 {
@@ -123,6 +123,7 @@ pub fn middle_of(src: &[u8], tally: &[usize], at: usize) -> usize
 // The call at `at`: a candidate of the body.
 fn pass_call(
     question: &[u8],
+    bodies: &[u32],
     src: &[u8],
     at: usize,
     binders: usize,
@@ -130,7 +131,7 @@ fn pass_call(
     silently: bool,
     i: usize,
 ) -> Passed
-    requires { ⌜ (at < length (now src)) × (8 < getD (now src) at 0) × (length (now src) ≤ longestTerm) × (binders ≤ at + greatestArity) × (calls ≤ 1) ⌝ }
+    requires { ⌜ (at < length (now src)) × (8 < getD (now src) at 0) × (length (now src) ≤ longestTerm) × (binders ≤ at + greatestArity) × (calls ≤ 1) × BodiesTallied (now question) (now bodies) ⌝ }
     ensures { λ r. ⌜ PassIs (now (question .entry)) (now (src .entry)) at binders calls silently i r ⌝ }
 {
     let o = call_at(question, src, at, calls);
@@ -139,8 +140,18 @@ fn pass_call(
         return silent();
     }
     let body = body_of(question, o.definition);
-    let numbers = tally(question, body, calls - 1);
-    let p = pass(question, body, &numbers, 0, n, calls - 1, silently, i);
+    let numbers = body_tally(bodies, o.definition);
+    let p = pass(
+        question,
+        bodies,
+        body,
+        numbers,
+        0,
+        n,
+        calls - 1,
+        silently,
+        i,
+    );
     returned(p, src, at + 2, binders)
 }
 
@@ -148,15 +159,16 @@ fn pass_call(
 // within the other. A communication is silent.
 pub fn pass(
     question: &[u8],
+    bodies: &[u32],
     src: &[u8],
-    tally: &[usize],
+    tally: &[u32],
     at: usize,
     binders: usize,
     calls: usize,
     silently: bool,
     i: usize,
 ) -> Passed
-    requires { ⌜ (length (now src) ≤ longestTerm) × (binders ≤ at + greatestArity) × (calls ≤ 1) × TallyIs (now question) (now src) calls (now tally) ⌝ }
+    requires { ⌜ (length (now src) ≤ longestTerm) × (binders ≤ at + greatestArity) × (calls ≤ 1) × TallyIs (now question) (now src) calls (now tally) × BodiesTallied (now question) (now bodies) ⌝ }
     ensures { λ r. ⌜ PassIs (now (question .entry)) (now (src .entry)) at binders calls silently i r ⌝ }
 {
     if src.len() <= at {
@@ -167,11 +179,22 @@ pub fn pass(
         return pass_prefix(src, at, binders);
     }
     if t == 5 {
-        return pass(question, src, tally, at + 3, binders, calls, silently, i);
+        return pass(
+            question,
+            bodies,
+            src,
+            tally,
+            at + 3,
+            binders,
+            calls,
+            silently,
+            i,
+        );
     }
     if t == 8 {
         let p = pass(
             question,
+            bodies,
             src,
             tally,
             at + 1,
@@ -183,16 +206,36 @@ pub fn pass(
         return leaving(p, binders);
     }
     if 8 < t {
-        return pass_call(question, src, at, binders, calls, silently, i);
+        return pass_call(question, bodies, src, at, binders, calls, silently, i);
     }
     let left = number_at(tally, at + 1, silently);
     if i < left {
-        return pass(question, src, tally, at + 1, binders, calls, silently, i);
+        return pass(
+            question,
+            bodies,
+            src,
+            tally,
+            at + 1,
+            binders,
+            calls,
+            silently,
+            i,
+        );
     }
     let middle = middle_of(src, tally, at);
     let j = i - left;
     if j < number_at(tally, middle, silently) {
-        return pass(question, src, tally, middle, binders, calls, silently, j);
+        return pass(
+            question,
+            bodies,
+            src,
+            tally,
+            middle,
+            binders,
+            calls,
+            silently,
+            j,
+        );
     }
     silent()
 }

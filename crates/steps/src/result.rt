@@ -9,7 +9,7 @@ ghost use lib.ListN.{length, getD};
 ghost use Rattle.terms.specs.Limits.{greatestArity, longestTerm};
 ghost use Rattle.steps.specs.Names.{mostBinders, nameSlots, Kept};
 ghost use Rattle.steps.specs.Results.{numbered, resting, visibly, beneath, sending, closing, inside, opening, SplitIs, StoreIs, TermIs, WriteIs, Room, Writing, meetingPlan, PlanIs};
-ghost use Rattle.steps.specs.Tally.{TallyIs};
+ghost use Rattle.steps.specs.Tally.{TallyIs, BodiesTallied};
 use crate::bodies::arities_of;
 use crate::bodies::body_of;
 use crate::bodies::call_at;
@@ -21,8 +21,8 @@ use crate::pass::Passed;
 use crate::pass::middle_of;
 use crate::pass::opens;
 use crate::pass::pass;
+use crate::tally::body_tally;
 use crate::tally::number_at;
-use crate::tally::tally;
 use crate::tally::visible_at;
 use terms::bytes::get;
 use terms::bytes::room;
@@ -284,14 +284,15 @@ fn meet(task: Task, names: &[u8], middle: usize, n: Numbers, x: Passed, z: Passe
 // What is to be written of the sides of the parallel at `at`.
 fn plan_of(
     question: &[u8],
+    bodies: &[u32],
     src: &[u8],
-    tally: &[usize],
+    tally: &[u32],
     at: usize,
     binders: usize,
     task: Task,
     names: &[u8],
 ) -> Plan
-    requires { ⌜ (length (now src) ≤ longestTerm) × (at < length (now src)) × (binders ≤ at + greatestArity) × (task .levels ≤ 128) × (task .still ≡ false) × (task .calls ≤ 1) × TallyIs (now question) (now src) (task .calls) (now tally) ⌝ }
+    requires { ⌜ (length (now src) ≤ longestTerm) × (at < length (now src)) × (binders ≤ at + greatestArity) × (task .levels ≤ 128) × (task .still ≡ false) × (task .calls ≤ 1) × TallyIs (now question) (now src) (task .calls) (now tally) × BodiesTallied (now question) (now bodies) ⌝ }
     ensures { λ r. ⌜ PlanIs (now (question .entry)) (now (src .entry)) at binders (now (names .entry)) task r ⌝ }
 {
     let calls = task.calls;
@@ -318,16 +319,37 @@ fn plan_of(
         };
     }
     let n = split(i - right, visible_at(tally, middle));
-    let x = pass(question, src, tally, at + 1, binders, calls, false, n.left);
-    let z = pass(question, src, tally, middle, binders, calls, false, n.right);
+    let x = pass(
+        question,
+        bodies,
+        src,
+        tally,
+        at + 1,
+        binders,
+        calls,
+        false,
+        n.left,
+    );
+    let z = pass(
+        question,
+        bodies,
+        src,
+        tally,
+        middle,
+        binders,
+        calls,
+        false,
+        n.right,
+    );
     meet(task, names, middle, n, x, z)
 }
 
 // The choice at `at`: one side.
 fn write_choice(
     question: &[u8],
+    bodies: &[u32],
     src: &[u8],
-    tally: &[usize],
+    tally: &[u32],
     at: usize,
     binders: usize,
     task: Task,
@@ -335,18 +357,30 @@ fn write_choice(
     out: &mut [u8],
     put: usize,
 ) -> usize
-    requires { ⌜ (at < length (now src)) × (getD (now src) at 0 ≡ 6) × (task .still ≡ false) × Writing (now question) (now src) (now tally) at binders (now names) task (now out) put ⌝ }
+    requires { ⌜ (at < length (now src)) × (getD (now src) at 0 ≡ 6) × (task .still ≡ false) × Writing (now question) (now bodies) (now src) (now tally) at binders (now names) task (now out) put ⌝ }
     ensures { λ r. ⌜ WriteIs (now (question .entry)) (now (src .entry)) at binders (now (names .entry)) task (now (out .entry)) put r (now (out .exit)) × Kept binders (now (names .entry)) (now (names .exit)) ⌝ }
 {
     let number = task.number;
     let n = number_at(tally, at + 1, task.silently);
     if number < n {
-        return write(question, src, tally, at + 1, binders, task, names, out, put);
+        return write(
+            question,
+            bodies,
+            src,
+            tally,
+            at + 1,
+            binders,
+            task,
+            names,
+            out,
+            put,
+        );
     }
     let middle = middle_of(src, tally, at);
     let right = with_number(task, number - n);
     write(
         question,
+        bodies,
         src,
         tally,
         middle,
@@ -361,8 +395,9 @@ fn write_choice(
 // The parallel at `at`: both sides.
 fn write_parallel(
     question: &[u8],
+    bodies: &[u32],
     src: &[u8],
-    tally: &[usize],
+    tally: &[u32],
     at: usize,
     binders: usize,
     task: Task,
@@ -370,22 +405,34 @@ fn write_parallel(
     out: &mut [u8],
     put: usize,
 ) -> usize
-    requires { ⌜ (at < length (now src)) × (getD (now src) at 0 ≡ 7) × (task .still ≡ false) × Writing (now question) (now src) (now tally) at binders (now names) task (now out) put ⌝ }
+    requires { ⌜ (at < length (now src)) × (getD (now src) at 0 ≡ 7) × (task .still ≡ false) × Writing (now question) (now bodies) (now src) (now tally) at binders (now names) task (now out) put ⌝ }
     ensures { λ r. ⌜ WriteIs (now (question .entry)) (now (src .entry)) at binders (now (names .entry)) task (now (out .entry)) put r (now (out .exit)) × Kept binders (now (names .entry)) (now (names .exit)) ⌝ }
 {
-    let plan = plan_of(question, src, tally, at, binders, task, names);
+    let plan = plan_of(question, bodies, src, tally, at, binders, task, names);
     let e = open_pair(out, put, plan.close);
     if out.len() < e {
         return e;
     }
     let left = plan.left;
-    let m = write(question, src, tally, at + 1, binders, left, names, out, e);
+    let m = write(
+        question,
+        bodies,
+        src,
+        tally,
+        at + 1,
+        binders,
+        left,
+        names,
+        out,
+        e,
+    );
     if out.len() < m {
         return m;
     }
     let right = plan.right;
     write(
         question,
+        bodies,
         src,
         tally,
         plan.middle,
@@ -400,8 +447,9 @@ fn write_parallel(
 // The restriction at `at`. It is written unless its name is extruded: [Open].
 fn write_restriction(
     question: &[u8],
+    bodies: &[u32],
     src: &[u8],
-    tally: &[usize],
+    tally: &[u32],
     at: usize,
     binders: usize,
     task: Task,
@@ -409,7 +457,7 @@ fn write_restriction(
     out: &mut [u8],
     put: usize,
 ) -> usize
-    requires { ⌜ (at < length (now src)) × (getD (now src) at 0 ≡ 8) × (task .still ≡ false) × Writing (now question) (now src) (now tally) at binders (now names) task (now out) put ⌝ }
+    requires { ⌜ (at < length (now src)) × (getD (now src) at 0 ≡ 8) × (task .still ≡ false) × Writing (now question) (now bodies) (now src) (now tally) at binders (now names) task (now out) put ⌝ }
     ensures { λ r. ⌜ WriteIs (now (question .entry)) (now (src .entry)) at binders (now (names .entry)) task (now (out .entry)) put r (now (out .exit)) × Kept binders (now (names .entry)) (now (names .exit)) ⌝ }
 {
     let calls = task.calls;
@@ -417,6 +465,7 @@ fn write_restriction(
     let inner = binders + 1;
     let p = pass(
         question,
+        bodies,
         src,
         tally,
         next,
@@ -427,7 +476,18 @@ fn write_restriction(
     );
     if opens(p.kind, p.object, binders) {
         names[TABLE_NAMES + binders] = task.new;
-        return write(question, src, tally, next, inner, task, names, out, put);
+        return write(
+            question,
+            bodies,
+            src,
+            tally,
+            next,
+            inner,
+            task,
+            names,
+            out,
+            put,
+        );
     }
     let e = store(out, put, 8);
     if out.len() < e {
@@ -436,6 +496,7 @@ fn write_restriction(
     names[TABLE_NAMES + binders] = (TABLE_NAMES + task.levels) as u8;
     write(
         question,
+        bodies,
         src,
         tally,
         next,
@@ -450,6 +511,7 @@ fn write_restriction(
 // The call at `at`: its body, with a table for the call's names.
 fn write_call(
     question: &[u8],
+    bodies: &[u32],
     src: &[u8],
     at: usize,
     binders: usize,
@@ -458,7 +520,7 @@ fn write_call(
     out: &mut [u8],
     put: usize,
 ) -> usize
-    requires { ⌜ (at < length (now src)) × (8 < getD (now src) at 0) × (task .still ≡ false) × (task .calls ≤ 1) × (length (now src) ≤ longestTerm) × (binders ≤ at + greatestArity) × Room (task .levels) (now out) put ⌝ }
+    requires { ⌜ (at < length (now src)) × (8 < getD (now src) at 0) × (task .still ≡ false) × (task .calls ≤ 1) × (length (now src) ≤ longestTerm) × (binders ≤ at + greatestArity) × Room (task .levels) (now out) put × BodiesTallied (now question) (now bodies) ⌝ }
     ensures { λ r. ⌜ WriteIs (now (question .entry)) (now (src .entry)) at binders (now (names .entry)) task (now (out .entry)) put r (now (out .exit)) ⌝ }
 {
     let o = call_at(question, src, at, task.calls);
@@ -468,16 +530,28 @@ fn write_call(
     }
     let inner = enter(task);
     let body = body_of(question, o.definition);
-    let numbers = tally(question, body, inner.calls);
+    let numbers = body_tally(bodies, o.definition);
     let mut given = called(src, at + 2, n, binders, names);
-    write(question, body, &numbers, 0, n, inner, &mut given, out, put)
+    write(
+        question,
+        bodies,
+        body,
+        numbers,
+        0,
+        n,
+        inner,
+        &mut given,
+        out,
+        put,
+    )
 }
 
 // What the task asks for of the term at `at`, from `put` on. The answer is where the bytes end, or past the end of `out` where there is no room.
 pub fn write(
     question: &[u8],
+    bodies: &[u32],
     src: &[u8],
-    tally: &[usize],
+    tally: &[u32],
     at: usize,
     binders: usize,
     task: Task,
@@ -485,7 +559,7 @@ pub fn write(
     out: &mut [u8],
     put: usize,
 ) -> usize
-    requires { ⌜ Writing (now question) (now src) (now tally) at binders (now names) task (now out) put ⌝ }
+    requires { ⌜ Writing (now question) (now bodies) (now src) (now tally) at binders (now names) task (now out) put ⌝ }
     ensures { λ r. ⌜ WriteIs (now (question .entry)) (now (src .entry)) at binders (now (names .entry)) task (now (out .entry)) put r (now (out .exit)) × Kept binders (now (names .entry)) (now (names .exit)) ⌝ }
 {
     if src.len() <= at {
@@ -499,16 +573,60 @@ pub fn write(
         return write_prefix(question, src, at, binders, task, names, out, put);
     }
     if t == 5 {
-        return write(question, src, tally, at + 3, binders, task, names, out, put);
+        return write(
+            question,
+            bodies,
+            src,
+            tally,
+            at + 3,
+            binders,
+            task,
+            names,
+            out,
+            put,
+        );
     }
     if t == 6 {
-        return write_choice(question, src, tally, at, binders, task, names, out, put);
+        return write_choice(
+            question,
+            bodies,
+            src,
+            tally,
+            at,
+            binders,
+            task,
+            names,
+            out,
+            put,
+        );
     }
     if t == 7 {
-        return write_parallel(question, src, tally, at, binders, task, names, out, put);
+        return write_parallel(
+            question,
+            bodies,
+            src,
+            tally,
+            at,
+            binders,
+            task,
+            names,
+            out,
+            put,
+        );
     }
     if t == 8 {
-        return write_restriction(question, src, tally, at, binders, task, names, out, put);
+        return write_restriction(
+            question,
+            bodies,
+            src,
+            tally,
+            at,
+            binders,
+            task,
+            names,
+            out,
+            put,
+        );
     }
-    write_call(question, src, at, binders, task, names, out, put)
+    write_call(question, bodies, src, at, binders, task, names, out, put)
 }

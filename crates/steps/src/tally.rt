@@ -2,9 +2,9 @@
 ghost use mathlib.Core.Path.{_≡_};
 ghost use Prim.Native.Nat.{_+_, _<_, _≤_};
 ghost use lib.ListN.{length, getD};
-ghost use Rattle.terms.specs.Limits.{longestTerm};
-ghost use Rattle.steps.specs.Tally.{visibleAt, silentAt, endAt, TallyIs};
-ghost use Rattle.steps.specs.Tallying.{numberAt, FewCalls, EntryIs, talliedEntry, prefixEntry, callEntry, choiceEntry, parallelEntry, Small, Filled, BodyEntryIs, CallNumbersAre};
+ghost use Rattle.terms.specs.Limits.{longestTerm, mostDefinitions};
+ghost use Rattle.steps.specs.Tally.{tallySize, bodyTallies, visibleAt, silentAt, endAt, TallyIs, FewCalls, bodyTally, TalliedBelow, BodiesTallied};
+ghost use Rattle.steps.specs.Tallying.{numberAt, EntryIs, talliedEntry, prefixEntry, callEntry, choiceEntry, parallelEntry, Small, Filled};
 use crate::bodies::arities_of;
 use crate::bodies::body_of;
 use crate::front::front_at;
@@ -15,11 +15,11 @@ use terms::limits::MOST_DEFINITIONS;
 // Three times the longest term: at each place the visible candidates, the silent ones, and the end.
 pub const TALLY: usize = 336;
 
-// Two numbers for each definition.
-const CALLED: usize = 32;
+// A tally for each definition.
+pub const BODY_TALLIES: usize = 5376;
 
 // The number at `i` behind `from`, and 0 past the end.
-fn number(list: &[usize], from: usize, i: usize) -> usize
+fn number(list: &[u32], from: usize, i: usize) -> usize
     ensures { λ r. ⌜ r ≡ getD (now (list .entry)) (from + i) 0 ⌝ }
 {
     let n = list.len();
@@ -29,28 +29,28 @@ fn number(list: &[usize], from: usize, i: usize) -> usize
     if n - from <= i {
         return 0;
     }
-    list[from + i]
+    list[from + i] as usize
 }
 
-pub fn visible_at(tally: &[usize], at: usize) -> usize
+pub fn visible_at(tally: &[u32], at: usize) -> usize
     ensures { λ r. ⌜ r ≡ visibleAt (now (tally .entry)) at ⌝ }
 {
     number(tally, 0, at)
 }
 
-pub fn silent_at(tally: &[usize], at: usize) -> usize
+pub fn silent_at(tally: &[u32], at: usize) -> usize
     ensures { λ r. ⌜ r ≡ silentAt (now (tally .entry)) at ⌝ }
 {
     number(tally, LONGEST_TERM, at)
 }
 
-pub fn end_at(tally: &[usize], at: usize) -> usize
+pub fn end_at(tally: &[u32], at: usize) -> usize
     ensures { λ r. ⌜ r ≡ endAt (now (tally .entry)) at ⌝ }
 {
     number(tally, LONGEST_TERM + LONGEST_TERM, at)
 }
 
-pub fn number_at(tally: &[usize], at: usize, silently: bool) -> usize
+pub fn number_at(tally: &[u32], at: usize, silently: bool) -> usize
     ensures { λ r. ⌜ r ≡ numberAt (now (tally .entry)) at silently ⌝ }
 {
     if silently {
@@ -67,7 +67,7 @@ pub struct Entry {
 }
 
 // The entry of a place that is tallied. Past the bytes there is nothing.
-fn tallied(tally: &[usize], at: usize, size: usize) -> Entry
+fn tallied(tally: &[u32], at: usize, size: usize) -> Entry
     ensures { λ r. ⌜ r ≡ talliedEntry (now (tally .entry)) at size ⌝ }
 {
     if size <= at {
@@ -102,14 +102,14 @@ fn prefix_entry(t: u8, end: usize) -> Entry
     }
 }
 
-// A call of definition `k` that ends at `end`.
-fn call_entry(called: &[usize], k: u8, end: usize) -> Entry
-    ensures { λ r. ⌜ r ≡ callEntry (now (called .entry)) k end ⌝ }
+// A call of definition `k` that ends at `end`: its body's numbers.
+fn call_entry(bodies: &[u32], k: u8, end: usize) -> Entry
+    ensures { λ r. ⌜ r ≡ callEntry (now (bodies .entry)) k end ⌝ }
 {
-    let i = k as usize;
+    let at = TALLY * (k as usize);
     Entry {
-        visible: number(called, i, i),
-        silent: number(called, i + i, 1),
+        visible: visible_at(bodies, at),
+        silent: silent_at(bodies, at),
         end,
     }
 }
@@ -139,9 +139,9 @@ fn parallel(p: Entry, q: Entry) -> Entry
 }
 
 // The entry of a place from the entries behind it.
-fn entry_at(src: &[u8], at: usize, arities: &[u8], called: &[usize], tally: &[usize]) -> Entry
-    requires { ⌜ (at < length (now src)) × (length (now src) ≤ longestTerm) × FewCalls longestTerm (now called) × Filled (now src) (now arities) (now called) (1 + at) (now tally) ⌝ }
-    ensures { λ r. ⌜ (at < r .end) × EntryIs (now (src .entry)) (now (arities .entry)) (now (called .entry)) at r ⌝ }
+fn entry_at(src: &[u8], at: usize, arities: &[u8], bodies: &[u32], tally: &[u32]) -> Entry
+    requires { ⌜ (at < length (now src)) × (length (now src) ≤ longestTerm) × FewCalls longestTerm (now bodies) × Filled (now src) (now arities) (now bodies) (1 + at) (now tally) ⌝ }
+    ensures { λ r. ⌜ (at < r .end) × EntryIs (now (src .entry)) (now (arities .entry)) (now (bodies .entry)) at r ⌝ }
 {
     let h = front_at(src, at, arities);
     let t = h.tag;
@@ -154,7 +154,7 @@ fn entry_at(src: &[u8], at: usize, arities: &[u8], called: &[usize], tally: &[us
         };
     }
     if t == 9 {
-        return call_entry(called, get(src, at + 1), next);
+        return call_entry(bodies, get(src, at + 1), next);
     }
     let p = tallied(tally, next, src.len());
     if t < 5 {
@@ -170,72 +170,68 @@ fn entry_at(src: &[u8], at: usize, arities: &[u8], called: &[usize], tally: &[us
     p
 }
 
-// The tally of a part or body, from the numbers of the calls.
-fn filled(src: &[u8], arities: &[u8], called: &[usize]) -> [usize; TALLY]
-    requires { ⌜ (length (now src) ≤ longestTerm) × FewCalls longestTerm (now called) ⌝ }
-    ensures { λ r. ⌜ Filled (now (src .entry)) (now (arities .entry)) (now (called .entry)) 0 r ⌝ }
+// Fills the tally of a part or body, where a call has the numbers of its body.
+fn fill(src: &[u8], arities: &[u8], bodies: &[u32], tally: &mut [u32])
+    requires { ⌜ (length (now src) ≤ longestTerm) × FewCalls longestTerm (now bodies) × (length (now tally) ≡ tallySize) ⌝ }
+    ensures { λ _. ⌜ Filled (now (src .entry)) (now (arities .entry)) (now (bodies .entry)) 0 (now (tally .exit)) ⌝ }
 {
-    let mut tally = [0usize; TALLY];
     let mut at = src.len();
     while 0 < at {
         at -= 1;
-        let e = entry_at(src, at, arities, called, &tally);
-        tally[at] = e.visible;
-        tally[LONGEST_TERM + at] = e.silent;
-        tally[LONGEST_TERM + LONGEST_TERM + at] = e.end;
+        let e = entry_at(src, at, arities, bodies, tally);
+        tally[at] = e.visible as u32;
+        tally[LONGEST_TERM + at] = e.silent as u32;
+        tally[LONGEST_TERM + LONGEST_TERM + at] = e.end as u32;
     }
-    tally
 }
 
-// The numbers of a call of definition `k`: those of its body, in which no further call may be opened.
-fn body_entry(question: &[u8], k: usize) -> Entry
-    ensures { λ r. ⌜ BodyEntryIs (now (question .entry)) k r ⌝ }
+// Tallies the body of definition `k`, in which no further call may be opened. What is too long for a body has no candidates.
+fn tally_body(question: &[u8], k: usize, bodies: &mut [u32])
+    requires { ⌜ (k < mostDefinitions) × TalliedBelow (now question) k (now bodies) ⌝ }
+    ensures { λ _. ⌜ TalliedBelow (now (question .entry)) (k + 1) (now (bodies .exit)) ⌝ }
 {
-    let arities = arities_of(question);
     let body = body_of(question, k);
-    if arities.len() <= k {
-        return Entry {
-            visible: 0,
-            silent: 0,
-            end: 0,
-        };
+    if body.len() == 0 {
+        return;
     }
     if LONGEST_TERM < body.len() {
-        return Entry {
-            visible: 0,
-            silent: 0,
-            end: 0,
-        };
+        return;
     }
-    let none = [0usize; CALLED];
-    let t = filled(body, arities, &none);
-    tallied(&t, 0, body.len())
+    let none = [0u32; 1];
+    let from = TALLY * k;
+    let end = from + TALLY;
+    fill(body, arities_of(question), &none, &mut bodies[from..end]);
 }
 
-// The numbers of the calls of each definition.
-fn call_numbers(question: &[u8], calls: usize) -> [usize; CALLED]
-    requires { ⌜ calls ≤ 1 ⌝ }
-    ensures { λ r. ⌜ CallNumbersAre (now (question .entry)) calls r ⌝ }
+// The tallies of the bodies of all definitions, one behind the other.
+pub fn body_tallies(question: &[u8]) -> [u32; BODY_TALLIES]
+    ensures { λ r. ⌜ BodiesTallied (now (question .entry)) r ⌝ }
 {
-    let mut called = [0usize; CALLED];
-    if calls == 0 {
-        return called;
-    }
+    let mut bodies = [0u32; BODY_TALLIES];
     let mut k = 0;
     while k < MOST_DEFINITIONS {
-        let e = body_entry(question, k);
-        called[k + k] = e.visible;
-        called[k + k + 1] = e.silent;
+        tally_body(question, k, &mut bodies);
         k += 1;
     }
-    called
+    bodies
 }
 
-// Tallies the candidates of a part or body, in which so many calls may be opened one within the other.
-pub fn tally(question: &[u8], src: &[u8], calls: usize) -> [usize; TALLY]
-    requires { ⌜ (calls ≤ 1) × (length (now src) ≤ longestTerm) ⌝ }
-    ensures { λ r. ⌜ TallyIs (now (question .entry)) (now (src .entry)) calls r ⌝ }
+// The tally of the body of definition `k`.
+pub fn body_tally(bodies: &[u32], k: usize) -> &[u32]
+    requires { ⌜ (k < mostDefinitions) × (length (now bodies) ≡ bodyTallies) ⌝ }
+    ensures { λ r. ⌜ now r ≡ bodyTally (now (bodies .entry)) k ⌝ }
 {
-    let called = call_numbers(question, calls);
-    filled(src, arities_of(question), &called)
+    let from = TALLY * k;
+    let end = from + TALLY;
+    &bodies[from..end]
+}
+
+// Tallies the candidates of a part, in which one call may be opened.
+pub fn tally(question: &[u8], bodies: &[u32], src: &[u8]) -> [u32; TALLY]
+    requires { ⌜ (length (now src) ≤ longestTerm) × BodiesTallied (now question) (now bodies) ⌝ }
+    ensures { λ r. ⌜ TallyIs (now (question .entry)) (now (src .entry)) 1 r ⌝ }
+{
+    let mut tally = [0u32; TALLY];
+    fill(src, arities_of(question), bodies, &mut tally);
+    tally
 }

@@ -20,13 +20,13 @@ put-step-requires : tie.Need-put-step-requires
 put-step-requires c κs = search needs
 
 returns : tie.Need-returns
-returns c = let a = c .before .before .before .before .before .before .before .before .args in takes-blocked (a .question .now) (a .part .now) (a .silently) (a .i) _ (c .before .before .nth .result) (c .before .before .nth .ensures) (a .x) (a .area .now) (a .count) (c .before .before .before .before .before .before .before .before .pre .1) (c .before .before .before .before .before .before .before .before .pre .0) (c .enum-told .given .1)
+returns c = let a = c .before .before .before .before .before .before .before .before .before .args in takes-blocked (a .question .now) (a .part .now) (a .silently) (a .i) _ (c .before .before .nth .result) (c .before .before .nth .ensures) (a .x) (a .area .now) (a .count) (c .before .before .before .before .before .before .before .before .before .pre .1) (c .before .before .before .before .before .before .before .before .before .pre .0) (c .enum-told .given .1)
 
 same-length : tie.Need-same-length
 same-length c = search needs
 
 returns-2 : tie.Need-returns-2
-returns-2 c = let a = c .before .before .before .before .before .before .before .before .before .before .before .before .args in takes-found (a .question .now) (a .part .now) (a .silently) (a .i) _ (c .before .before .before .before .before .before .nth .result) (c .before .before .before .before .before .before .nth .ensures) (a .x) (a .area .now) (a .count) (c .before .before .before .before .enum-told2 .given .1) (c .before .before .put-step .result) _ (c .before .before .put-step .ensures)
+returns-2 c = let a = c .before .before .before .before .before .before .before .before .before .before .before .before .before .args in takes-found (a .question .now) (a .part .now) (a .silently) (a .i) _ (c .before .before .before .before .before .before .nth .result) (c .before .before .before .before .before .before .nth .ensures) (a .x) (a .area .now) (a .count) (c .before .before .before .before .enum-told2 .given .1) (c .before .before .put-step .result) _ (c .before .before .put-step .ensures)
 
 pub take-candidate-spec : {M : Type 1} → statement M
 take-candidate-spec =

@@ -17,7 +17,7 @@ same-length : tie.Need-same-length
 same-length c = search needs
 
 returns : tie.Need-returns
-returns c = let a = c .before .before .before .before .before .before .before .before .before .before .before .before .args in result-written (a .question .now) (a .part .now) (a .silently) (a .i) (a .class .now) (a .x) (c .before .before .before .before .before .before .result-names .result) (c .before .before .before .before .before .before .result-names .ensures) (a .out .now) (c .before .before .before .write .result) _ (c .before .before .before .write .ensures .0)
+returns c = let a = c .before .before .before .before .before .before .before .before .before .before .before .before .before .args in result-written (a .question .now) (a .part .now) (a .silently) (a .i) (a .class .now) (a .x) (c .before .before .before .before .before .before .result-names .result) (c .before .before .before .before .before .before .result-names .ensures) (a .out .now) (c .before .before .before .write .result) _ (c .before .before .before .write .ensures .0)
 
 pub write-result-spec : {M : Type 1} → statement M
 write-result-spec =

@@ -1,4 +1,5 @@
 -- `steps::result::write` and the functions that it calls in turn meet their contracts. The measure: the bytes left, and 113 for each call that may be opened. Assumes nothing.
+use Rattle.steps.proofs.TallyLoops.{called-tally}
 use mathlib.Core.List.{[], _∷_}
 use mathlib.Core.Path.{_≡_, sym, ap, subst, _∙_}
 use Prim.Native.Nat.{ℕ, _+_, _-_, _*_, _<_, _≤_}
@@ -46,88 +47,88 @@ use Rattle.steps.proofs.result.with_number.Reads as with-number-reads
 use Rattle.steps.proofs.result.write_prefix.Reads as write-prefix-reads
 use Rattle.steps.proofs.result.write_term.Reads as write-term-reads
 use Rattle.steps.proofs.tally.number_at.Reads as number-at-reads
-use Rattle.steps.proofs.tally.tally.Reads as tally-reads
+use Rattle.steps.proofs.tally.body_tally.Reads as body-tally-reads
 use Rattle.steps.proofs.result.+write+write_call+write_choice+write_parallel+write_restriction.{statement}
 use Rattle.steps.proofs.result.+write+write_call+write_choice+write_parallel+write_restriction.Tie.{close}
 
-abbrev μ-write : Measures 5 write-kinds.ps ℕ
-μ-write κs a = 2 * (a .1 .1 .1 .1 .1 .0 .calls * 113 + (length (a .1 .0 .now) - a .1 .1 .1 .0)) + 1
+abbrev μ-write : Measures 6 write-kinds.ps ℕ
+μ-write κs a = 2 * (a .1 .1 .1 .1 .1 .1 .0 .calls * 113 + (length (a .1 .1 .0 .now) - a .1 .1 .1 .1 .0)) + 1
 
-abbrev μ-write-call : Measures 4 write-call-kinds.ps ℕ
-μ-write-call κs a = 2 * (a .1 .1 .1 .1 .0 .calls * 113 + (length (a .1 .0 .now) - a .1 .1 .0))
+abbrev μ-write-call : Measures 5 write-call-kinds.ps ℕ
+μ-write-call κs a = 2 * (a .1 .1 .1 .1 .1 .0 .calls * 113 + (length (a .1 .1 .0 .now) - a .1 .1 .1 .0))
 
-abbrev μ-write-choice : Measures 5 write-choice-kinds.ps ℕ
-μ-write-choice κs a = 2 * (a .1 .1 .1 .1 .1 .0 .calls * 113 + (length (a .1 .0 .now) - a .1 .1 .1 .0))
+abbrev μ-write-choice : Measures 6 write-choice-kinds.ps ℕ
+μ-write-choice κs a = 2 * (a .1 .1 .1 .1 .1 .1 .0 .calls * 113 + (length (a .1 .1 .0 .now) - a .1 .1 .1 .1 .0))
 
-abbrev μ-write-parallel : Measures 5 write-parallel-kinds.ps ℕ
-μ-write-parallel κs a = 2 * (a .1 .1 .1 .1 .1 .0 .calls * 113 + (length (a .1 .0 .now) - a .1 .1 .1 .0))
+abbrev μ-write-parallel : Measures 6 write-parallel-kinds.ps ℕ
+μ-write-parallel κs a = 2 * (a .1 .1 .1 .1 .1 .1 .0 .calls * 113 + (length (a .1 .1 .0 .now) - a .1 .1 .1 .1 .0))
 
-abbrev μ-write-restriction : Measures 5 write-restriction-kinds.ps ℕ
-μ-write-restriction κs a = 2 * (a .1 .1 .1 .1 .1 .0 .calls * 113 + (length (a .1 .0 .now) - a .1 .1 .1 .0))
+abbrev μ-write-restriction : Measures 6 write-restriction-kinds.ps ℕ
+μ-write-restriction κs a = 2 * (a .1 .1 .1 .1 .1 .1 .0 .calls * 113 + (length (a .1 .1 .0 .now) - a .1 .1 .1 .1 .0))
 
-abbrev write-at : ℕ → In 5 write-kinds.ps
-write-at t = and 5 write-kinds.ps (is 5 write-kinds.ps μ-write t) write.Pre
+abbrev write-at : ℕ → In 6 write-kinds.ps
+write-at t = and 6 write-kinds.ps (is 6 write-kinds.ps μ-write t) write.Pre
 
-abbrev write-below : ℕ → In 5 write-kinds.ps
-write-below t = and 5 write-kinds.ps (falls 5 write-kinds.ps _<_ μ-write t) write.Pre
+abbrev write-below : ℕ → In 6 write-kinds.ps
+write-below t = and 6 write-kinds.ps (falls 6 write-kinds.ps _<_ μ-write t) write.Pre
 
-abbrev write-call-at : ℕ → In 4 write-call-kinds.ps
+abbrev write-call-at : ℕ → In 5 write-call-kinds.ps
 write-call-at t =
-    and 4 write-call-kinds.ps (is 4 write-call-kinds.ps μ-write-call t) write-call.Pre
+    and 5 write-call-kinds.ps (is 5 write-call-kinds.ps μ-write-call t) write-call.Pre
 
-abbrev write-call-below : ℕ → In 4 write-call-kinds.ps
+abbrev write-call-below : ℕ → In 5 write-call-kinds.ps
 write-call-below t =
-    and 4 write-call-kinds.ps (falls 4 write-call-kinds.ps _<_ μ-write-call t) write-call.Pre
+    and 5 write-call-kinds.ps (falls 5 write-call-kinds.ps _<_ μ-write-call t) write-call.Pre
 
-abbrev write-choice-at : ℕ → In 5 write-choice-kinds.ps
+abbrev write-choice-at : ℕ → In 6 write-choice-kinds.ps
 write-choice-at t =
-    and 5 write-choice-kinds.ps (is 5 write-choice-kinds.ps μ-write-choice t) write-choice.Pre
+    and 6 write-choice-kinds.ps (is 6 write-choice-kinds.ps μ-write-choice t) write-choice.Pre
 
-abbrev write-choice-below : ℕ → In 5 write-choice-kinds.ps
+abbrev write-choice-below : ℕ → In 6 write-choice-kinds.ps
 write-choice-below t =
     and
-    5
+    6
     write-choice-kinds.ps
-    (falls 5 write-choice-kinds.ps _<_ μ-write-choice t)
+    (falls 6 write-choice-kinds.ps _<_ μ-write-choice t)
     write-choice.Pre
 
-abbrev write-parallel-at : ℕ → In 5 write-parallel-kinds.ps
+abbrev write-parallel-at : ℕ → In 6 write-parallel-kinds.ps
 write-parallel-at t =
     and
-    5
+    6
     write-parallel-kinds.ps
-    (is 5 write-parallel-kinds.ps μ-write-parallel t)
+    (is 6 write-parallel-kinds.ps μ-write-parallel t)
     write-parallel.Pre
 
-abbrev write-parallel-below : ℕ → In 5 write-parallel-kinds.ps
+abbrev write-parallel-below : ℕ → In 6 write-parallel-kinds.ps
 write-parallel-below t =
     and
-    5
+    6
     write-parallel-kinds.ps
-    (falls 5 write-parallel-kinds.ps _<_ μ-write-parallel t)
+    (falls 6 write-parallel-kinds.ps _<_ μ-write-parallel t)
     write-parallel.Pre
 
-abbrev write-restriction-at : ℕ → In 5 write-restriction-kinds.ps
+abbrev write-restriction-at : ℕ → In 6 write-restriction-kinds.ps
 write-restriction-at t =
     and
-    5
+    6
     write-restriction-kinds.ps
-    (is 5 write-restriction-kinds.ps μ-write-restriction t)
+    (is 6 write-restriction-kinds.ps μ-write-restriction t)
     write-restriction.Pre
 
-abbrev write-restriction-below : ℕ → In 5 write-restriction-kinds.ps
+abbrev write-restriction-below : ℕ → In 6 write-restriction-kinds.ps
 write-restriction-below t =
     and
-    5
+    6
     write-restriction-kinds.ps
-    (falls 5 write-restriction-kinds.ps _<_ μ-write-restriction t)
+    (falls 6 write-restriction-kinds.ps _<_ μ-write-restriction t)
     write-restriction.Pre
 
 abbrev write-claims : ℕ → write-lts.Claims
 write-claims t = (write-term-reads.Asked, write-term-reads.Learnt, get-reads.Asked, get-reads.Learnt, write-prefix-reads.Asked, write-prefix-reads.Learnt, write-below t, write.Post, write-choice-below t, write-choice.Post, write-parallel-below t, write-parallel.Post, write-restriction-below t, write-restriction.Post, write-call-below t, write-call.Post)
 
 abbrev write-call-claims : ℕ → write-call-lts.Claims
-write-call-claims t = (call-at-reads.Asked, call-at-reads.Learnt, enter-reads.Asked, enter-reads.Learnt, body-of-reads.Asked, body-of-reads.Learnt, tally-reads.Asked, tally-reads.Learnt, called-reads.Asked, called-reads.Learnt, write-below t, write.Post)
+write-call-claims t = (call-at-reads.Asked, call-at-reads.Learnt, enter-reads.Asked, enter-reads.Learnt, body-of-reads.Asked, body-of-reads.Learnt, body-tally-reads.Asked, body-tally-reads.Learnt, called-reads.Asked, called-reads.Learnt, write-below t, write.Post)
 
 abbrev write-choice-claims : ℕ → write-choice-lts.Claims
 write-choice-claims t = (number-at-reads.Asked, number-at-reads.Learnt, write-below t, write.Post, middle-of-reads.Asked, middle-of-reads.Learnt, with-number-reads.Asked, with-number-reads.Learnt)
@@ -142,10 +143,10 @@ write-add-result : (t : ℕ) → write-lts.Need-add-result (write-claims t) (wri
 write-add-result t c = search needs
 
 write-returns : (t : ℕ) → write-lts.Need-returns (write-claims t) (write-at t) write.Post
-write-returns t c = let a = c .before .before .before .before .before .before .args in (write-none (a .question .now) (a .src .now) (a .at) (a .binders) (a .names .now) (a .task) (a .out .now) (a .put) _ _ (omega (arith, c .before .before .before .before .before .before .pre .1 .4)) (c .if1 .taken), kept-all (a .binders) (a .names .now))
+write-returns t c = let a = c .before .before .before .before .before .before .before .args in (write-none (a .question .now) (a .src .now) (a .at) (a .binders) (a .names .now) (a .task) (a .out .now) (a .put) _ _ (omega (arith, c .before .before .before .before .before .before .before .pre .1 .4)) (c .if1 .taken), kept-all (a .binders) (a .names .now))
 
 write-write-term-requires : (t : ℕ) → write-lts.Need-write-term-requires (write-claims t) (write-at t) write.Post
-write-write-term-requires t c κs = (omega (arith, c .before .before .before .before .before .before .before .before .before .pre .1 .0, c .before .before .before .before .before .before .before .before .before .pre .1 .1, c .before .before .before .if1 .left), c .before .before .before .before .before .before .before .before .before .pre .1 .4)
+write-write-term-requires t c κs = (omega (arith, c .before .before .before .before .before .before .before .before .before .before .pre .1 .0, c .before .before .before .before .before .before .before .before .before .before .pre .1 .1, c .before .before .before .if1 .left), c .before .before .before .before .before .before .before .before .before .before .pre .1 .4)
 
 write-same-length : (t : ℕ) → write-lts.Need-same-length (write-claims t) (write-at t) write.Post
 write-same-length t c = search needs
@@ -154,13 +155,13 @@ write-same-length-2 : (t : ℕ) → write-lts.Need-same-length-2 (write-claims t
 write-same-length-2 t c = search needs
 
 write-returns-2 : (t : ℕ) → write-lts.Need-returns-2 (write-claims t) (write-at t) write.Post
-write-returns-2 t c = let a = c .before .before .before .before .before .before .before .before .before .before .before .before .args in (write-still (a .question .now) (a .src .now) (a .at) (a .binders) (a .names .now) (a .task) (a .out .now) (a .put) (c .before .before .write-term .result) _ (c .before .before .before .before .before .if2 .taken) (c .before .before .write-term .ensures), kept-all (a .binders) (a .names .now))
+write-returns-2 t c = let a = c .before .before .before .before .before .before .before .before .before .before .before .before .before .args in (write-still (a .question .now) (a .src .now) (a .at) (a .binders) (a .names .now) (a .task) (a .out .now) (a .put) (c .before .before .write-term .result) _ (c .before .before .before .before .before .if2 .taken) (c .before .before .write-term .ensures), kept-all (a .binders) (a .names .now))
 
 write-get-requires : (t : ℕ) → write-lts.Need-get-requires (write-claims t) (write-at t) write.Post
 write-get-requires t c κs = search needs
 
 write-write-prefix-requires : (t : ℕ) → write-lts.Need-write-prefix-requires (write-claims t) (write-at t) write.Post
-write-write-prefix-requires t c κs = (c .before .before .before .before .before .if1 .left, omega (arith, c .before .before .before .get .ensures, c .before .before .if3 .taken), omega (arith, c .before .before .before .before .before .before .before .before .before .before .before .pre .1 .0, c .before .before .before .before .before .before .before .before .before .before .before .pre .1 .1, c .before .before .before .before .before .if1 .left), c .before .before .before .before .if2 .left, c .before .before .before .before .before .before .before .before .before .before .before .pre .1 .3, c .before .before .before .before .before .before .before .before .before .before .before .pre .1 .4)
+write-write-prefix-requires t c κs = (c .before .before .before .before .before .if1 .left, omega (arith, c .before .before .before .get .ensures, c .before .before .if3 .taken), omega (arith, c .before .before .before .before .before .before .before .before .before .before .before .before .pre .1 .0, c .before .before .before .before .before .before .before .before .before .before .before .before .pre .1 .1, c .before .before .before .before .before .if1 .left), c .before .before .before .before .if2 .left, c .before .before .before .before .before .before .before .before .before .before .before .before .pre .1 .3, c .before .before .before .before .before .before .before .before .before .before .before .before .pre .1 .4)
 
 write-same-length-3 : (t : ℕ) → write-lts.Need-same-length-3 (write-claims t) (write-at t) write.Post
 write-same-length-3 t c = search needs
@@ -175,7 +176,7 @@ write-add-write : (t : ℕ) → write-lts.Need-add-write (write-claims t) (write
 write-add-write t c = search needs
 
 write-write-requires : (t : ℕ) → write-lts.Need-write-requires (write-claims t) (write-at t) write.Post
-write-write-requires t c κs = (omega (arith, c .before .before .before .before .before .before .before .before .before .before .before .before .pre .0, c .before .before .before .before .before .before .if1 .left), (c .before .before .before .before .before .before .before .before .before .before .before .before .pre .1 .0, omega (arith, c .before .before .before .before .before .before .before .before .before .before .before .before .pre .1 .1), c .before .before .before .before .before .before .before .before .before .before .before .before .pre .1 .2, c .before .before .before .before .before .before .before .before .before .before .before .before .pre .1 .3, c .before .before .before .before .before .before .before .before .before .before .before .before .pre .1 .4, c .before .before .before .before .before .before .before .before .before .before .before .before .pre .1 .5))
+write-write-requires t c κs = (omega (arith, c .before .before .before .before .before .before .before .before .before .before .before .before .before .pre .0, c .before .before .before .before .before .before .if1 .left), (c .before .before .before .before .before .before .before .before .before .before .before .before .before .pre .1 .0, omega (arith, c .before .before .before .before .before .before .before .before .before .before .before .before .before .pre .1 .1), c .before .before .before .before .before .before .before .before .before .before .before .before .before .pre .1 .2, c .before .before .before .before .before .before .before .before .before .before .before .before .before .pre .1 .3, c .before .before .before .before .before .before .before .before .before .before .before .before .before .pre .1 .4, c .before .before .before .before .before .before .before .before .before .before .before .before .before .pre .1 .5, c .before .before .before .before .before .before .before .before .before .before .before .before .before .pre .1 .6))
 
 write-same-length-5 : (t : ℕ) → write-lts.Need-same-length-5 (write-claims t) (write-at t) write.Post
 write-same-length-5 t c = search needs
@@ -184,10 +185,10 @@ write-same-length-6 : (t : ℕ) → write-lts.Need-same-length-6 (write-claims t
 write-same-length-6 t c = search needs
 
 write-returns-4 : (t : ℕ) → write-lts.Need-returns-4 (write-claims t) (write-at t) write.Post
-write-returns-4 t c = let a = c .before .before .before .before .before .before .before .before .before .before .before .before .before .before .before .before .before .args in (write-mat (a .question .now) (a .src .now) (a .at) (a .binders) (a .names .now) (a .task) (c .before .before .before .before .before .before .before .before .before .before .if2 .left) (a .out .now) (a .put) (sym (c .before .before .before .before .before .before .before .before .before .get .ensures) ∙ c .before .before .before .before .before .before .before .if4 .taken) (c .before .before .before .before .write .result) _ (c .before .before .before .before .write .ensures .0), c .before .before .before .before .write .ensures .1)
+write-returns-4 t c = let a = c .before .before .before .before .before .before .before .before .before .before .before .before .before .before .before .before .before .before .args in (write-mat (a .question .now) (a .src .now) (a .at) (a .binders) (a .names .now) (a .task) (c .before .before .before .before .before .before .before .before .before .before .if2 .left) (a .out .now) (a .put) (sym (c .before .before .before .before .before .before .before .before .before .get .ensures) ∙ c .before .before .before .before .before .before .before .if4 .taken) (c .before .before .before .before .write .result) _ (c .before .before .before .before .write .ensures .0), c .before .before .before .before .write .ensures .1)
 
 write-write-choice-requires : (t : ℕ) → write-lts.Need-write-choice-requires (write-claims t) (write-at t) write.Post
-write-write-choice-requires t c κs = (omega (arith, c .before .before .before .before .before .before .before .before .before .before .before .before .before .pre .0), (c .before .before .before .before .before .before .before .if1 .left, sym (c .before .before .before .before .before .get .ensures) ∙ c .before .before .if5 .taken, c .before .before .before .before .before .before .if2 .left, c .before .before .before .before .before .before .before .before .before .before .before .before .before .pre .1))
+write-write-choice-requires t c κs = (omega (arith, c .before .before .before .before .before .before .before .before .before .before .before .before .before .before .pre .0), (c .before .before .before .before .before .before .before .if1 .left, sym (c .before .before .before .before .before .get .ensures) ∙ c .before .before .if5 .taken, c .before .before .before .before .before .before .if2 .left, c .before .before .before .before .before .before .before .before .before .before .before .before .before .before .pre .1))
 
 write-same-length-7 : (t : ℕ) → write-lts.Need-same-length-7 (write-claims t) (write-at t) write.Post
 write-same-length-7 t c = search needs
@@ -199,7 +200,7 @@ write-returns-5 : (t : ℕ) → write-lts.Need-returns-5 (write-claims t) (write
 write-returns-5 t c = c .before .before .before .before .write-choice .ensures
 
 write-write-parallel-requires : (t : ℕ) → write-lts.Need-write-parallel-requires (write-claims t) (write-at t) write.Post
-write-write-parallel-requires t c κs = (omega (arith, c .before .before .before .before .before .before .before .before .before .before .before .before .before .before .pre .0), (c .before .before .before .before .before .before .before .before .if1 .left, sym (c .before .before .before .before .before .before .get .ensures) ∙ c .before .before .if6 .taken, c .before .before .before .before .before .before .before .if2 .left, c .before .before .before .before .before .before .before .before .before .before .before .before .before .before .pre .1))
+write-write-parallel-requires t c κs = (omega (arith, c .before .before .before .before .before .before .before .before .before .before .before .before .before .before .before .pre .0), (c .before .before .before .before .before .before .before .before .if1 .left, sym (c .before .before .before .before .before .before .get .ensures) ∙ c .before .before .if6 .taken, c .before .before .before .before .before .before .before .if2 .left, c .before .before .before .before .before .before .before .before .before .before .before .before .before .before .before .pre .1))
 
 write-same-length-9 : (t : ℕ) → write-lts.Need-same-length-9 (write-claims t) (write-at t) write.Post
 write-same-length-9 t c = search needs
@@ -211,7 +212,7 @@ write-returns-6 : (t : ℕ) → write-lts.Need-returns-6 (write-claims t) (write
 write-returns-6 t c = c .before .before .before .before .write-parallel .ensures
 
 write-write-restriction-requires : (t : ℕ) → write-lts.Need-write-restriction-requires (write-claims t) (write-at t) write.Post
-write-write-restriction-requires t c κs = (omega (arith, c .before .before .before .before .before .before .before .before .before .before .before .before .before .before .before .pre .0), (c .before .before .before .before .before .before .before .before .before .if1 .left, sym (c .before .before .before .before .before .before .before .get .ensures) ∙ c .before .before .if7 .taken, c .before .before .before .before .before .before .before .before .if2 .left, c .before .before .before .before .before .before .before .before .before .before .before .before .before .before .before .pre .1))
+write-write-restriction-requires t c κs = (omega (arith, c .before .before .before .before .before .before .before .before .before .before .before .before .before .before .before .before .pre .0), (c .before .before .before .before .before .before .before .before .before .if1 .left, sym (c .before .before .before .before .before .before .before .get .ensures) ∙ c .before .before .if7 .taken, c .before .before .before .before .before .before .before .before .if2 .left, c .before .before .before .before .before .before .before .before .before .before .before .before .before .before .before .before .pre .1))
 
 write-same-length-11 : (t : ℕ) → write-lts.Need-same-length-11 (write-claims t) (write-at t) write.Post
 write-same-length-11 t c = search needs
@@ -223,7 +224,7 @@ write-returns-7 : (t : ℕ) → write-lts.Need-returns-7 (write-claims t) (write
 write-returns-7 t c = c .before .before .before .before .write-restriction .ensures
 
 write-write-call-requires : (t : ℕ) → write-lts.Need-write-call-requires (write-claims t) (write-at t) write.Post
-write-write-call-requires t c κs = (omega (arith, c .before .before .before .before .before .before .before .before .before .before .before .before .before .before .before .pre .0), (c .before .before .before .before .before .before .before .before .before .if1 .left, omega (arith, c .before .before .before .before .before .before .before .get .ensures, c .before .before .before .before .before .before .if3 .left, c .before .before .before .before .before .if4 .left, c .before .before .before .before .if5 .left, c .before .before .before .if6 .left, c .before .before .if7 .left), c .before .before .before .before .before .before .before .before .if2 .left, c .before .before .before .before .before .before .before .before .before .before .before .before .before .before .before .pre .1 .2, c .before .before .before .before .before .before .before .before .before .before .before .before .before .before .before .pre .1 .0, c .before .before .before .before .before .before .before .before .before .before .before .before .before .before .before .pre .1 .1, c .before .before .before .before .before .before .before .before .before .before .before .before .before .before .before .pre .1 .4))
+write-write-call-requires t c κs = (omega (arith, c .before .before .before .before .before .before .before .before .before .before .before .before .before .before .before .before .pre .0), (c .before .before .before .before .before .before .before .before .before .if1 .left, omega (arith, c .before .before .before .before .before .before .before .get .ensures, c .before .before .before .before .before .before .if3 .left, c .before .before .before .before .before .if4 .left, c .before .before .before .before .if5 .left, c .before .before .before .if6 .left, c .before .before .if7 .left), c .before .before .before .before .before .before .before .before .if2 .left, c .before .before .before .before .before .before .before .before .before .before .before .before .before .before .before .before .pre .1 .2, c .before .before .before .before .before .before .before .before .before .before .before .before .before .before .before .before .pre .1 .0, c .before .before .before .before .before .before .before .before .before .before .before .before .before .before .before .before .pre .1 .1, c .before .before .before .before .before .before .before .before .before .before .before .before .before .before .before .before .pre .1 .4, c .before .before .before .before .before .before .before .before .before .before .before .before .before .before .before .before .pre .1 .6))
 
 write-same-length-13 : (t : ℕ) → write-lts.Need-same-length-13 (write-claims t) (write-at t) write.Post
 write-same-length-13 t c = search needs
@@ -232,16 +233,16 @@ write-same-length-14 : (t : ℕ) → write-lts.Need-same-length-14 (write-claims
 write-same-length-14 t c = search needs
 
 write-returns-8 : (t : ℕ) → write-lts.Need-returns-8 (write-claims t) (write-at t) write.Post
-write-returns-8 t c = let a = c .before .before .before .before .before .before .before .before .before .before .before .before .before .before .before .before .before .before .args in (c .before .before .write-call .ensures, kept-all (a .binders) (a .names .now))
+write-returns-8 t c = let a = c .before .before .before .before .before .before .before .before .before .before .before .before .before .before .before .before .before .before .before .args in (c .before .before .write-call .ensures, kept-all (a .binders) (a .names .now))
 
 write-call-call-at-requires : (t : ℕ) → write-call-lts.Need-call-at-requires (write-call-claims t) (write-call-at t) write-call.Post
-write-call-call-at-requires t c κs = c .before .before .before .before .pre .1 .0
+write-call-call-at-requires t c κs = c .before .before .before .before .before .pre .1 .0
 
 write-call-add-result : (t : ℕ) → write-call-lts.Need-add-result (write-call-claims t) (write-call-at t) write-call.Post
 write-call-add-result t c = search needs
 
 write-call-returns : (t : ℕ) → write-call-lts.Need-returns (write-call-claims t) (write-call-at t) write-call.Post
-write-call-returns t c = let a = c .before .before .before .before .before .before .before .args in write-closed (a .question .now) (a .src .now) (a .at) (a .binders) (a .names .now) (a .task) (c .before .before .before .before .before .before .before .pre .1 .2) (a .out .now) (a .put) (c .before .before .before .before .before .before .before .pre .1 .1) (c .before .before .call-at .result) (c .before .before .call-at .ensures) (not-true _ (c .if1 .taken)) _ _ (omega (arith, c .before .before .before .before .before .before .before .pre .1 .6))
+write-call-returns t c = let a = c .before .before .before .before .before .before .before .before .args in write-closed (a .question .now) (a .src .now) (a .at) (a .binders) (a .names .now) (a .task) (c .before .before .before .before .before .before .before .before .pre .1 .2) (a .out .now) (a .put) (c .before .before .before .before .before .before .before .before .pre .1 .1) (c .before .before .call-at .result) (c .before .before .call-at .ensures) (not-true _ (c .if1 .taken)) _ _ (omega (arith, c .before .before .before .before .before .before .before .before .pre .1 .6))
 
 write-call-enter-requires : (t : ℕ) → write-call-lts.Need-enter-requires (write-call-claims t) (write-call-at t) write-call.Post
 write-call-enter-requires t c κs = let m = c .before .before .call-at .ensures .may (not-false _ (c .if1 .left)) in m .0
@@ -249,29 +250,26 @@ write-call-enter-requires t c κs = let m = c .before .before .call-at .ensures 
 write-call-body-of-requires : (t : ℕ) → write-call-lts.Need-body-of-requires (write-call-claims t) (write-call-at t) write-call.Post
 write-call-body-of-requires t c κs = search needs
 
-write-call-tally-requires : (t : ℕ) → write-call-lts.Need-tally-requires (write-call-claims t) (write-call-at t) write-call.Post
-write-call-tally-requires t c κs = let a = c .before .before .before .before .before .before .before .before .before .args in let m = c .before .before .before .before .call-at .ensures .may (not-false _ (c .before .before .if1 .left)) in let k : c .before .enter .result .calls ≡ a .task .calls - 1 = ap (λ (t : Task). t .calls) (c .before .enter .ensures) in (omega (arith, k, c .before .before .before .before .before .before .before .before .before .pre .1 .3), omega (arith, m, ap length (c .body-of .ensures .piece)))
+write-call-body-tally-requires : (t : ℕ) → write-call-lts.Need-body-tally-requires (write-call-claims t) (write-call-at t) write-call.Post
+write-call-body-tally-requires t c κs = (c .before .before .before .before .call-at .ensures .may (not-false _ (c .before .before .if1 .left)) .3, c .before .before .before .before .before .before .before .before .before .before .pre .1 .7 .size)
 
 write-call-add-called : (t : ℕ) → write-call-lts.Need-add-called (write-call-claims t) (write-call-at t) write-call.Post
-write-call-add-called t c = omega (arith, c .before .before .before .before .before .before .before .before .before .before .pre .1 .0, c .before .before .before .before .before .before .before .before .before .before .pre .1 .4)
+write-call-add-called t c = omega (arith, c .before .before .before .before .before .before .before .before .before .before .before .pre .1 .0, c .before .before .before .before .before .before .before .before .before .before .before .pre .1 .4)
 
 write-call-called-requires : (t : ℕ) → write-call-lts.Need-called-requires (write-call-claims t) (write-call-at t) write-call.Post
-write-call-called-requires t c κs = let m = c .before .before .before .before .before .call-at .ensures .may (not-false _ (c .before .before .before .if1 .left)) in (m .1, omega (arith, c .before .before .before .before .before .before .before .before .before .before .pre .1 .0, c .before .before .before .before .before .before .before .before .before .before .pre .1 .4, c .before .before .before .before .before .before .before .before .before .before .pre .1 .5), omega (arith, c .before .before .before .before .before .before .before .before .before .before .pre .1 .0, c .before .before .before .before .before .before .before .before .before .before .pre .1 .4))
+write-call-called-requires t c κs = let m = c .before .before .before .before .before .call-at .ensures .may (not-false _ (c .before .before .before .if1 .left)) in (m .1, omega (arith, c .before .before .before .before .before .before .before .before .before .before .before .pre .1 .0, c .before .before .before .before .before .before .before .before .before .before .before .pre .1 .4, c .before .before .before .before .before .before .before .before .before .before .before .pre .1 .5), omega (arith, c .before .before .before .before .before .before .before .before .before .before .before .pre .1 .0, c .before .before .before .before .before .before .before .before .before .before .before .pre .1 .4))
 
 write-call-slice-aggregate-write : (t : ℕ) → write-call-lts.Need-slice-aggregate-write (write-call-claims t) (write-call-at t) write-call.Post
 write-call-slice-aggregate-write t c = search needs
 
-write-call-slice-aggregate-write-2 : (t : ℕ) → write-call-lts.Need-slice-aggregate-write-2 (write-call-claims t) (write-call-at t) write-call.Post
-write-call-slice-aggregate-write-2 t c = search needs
-
 write-call-write-requires : (t : ℕ) → write-call-lts.Need-write-requires (write-call-claims t) (write-call-at t) write-call.Post
-write-call-write-requires t c κs = let a = c .before .before .before .before .before .before .before .before .before .before .before .before .before .before .args in let m = c .before .before .before .before .before .before .before .before .before .call-at .ensures .may (not-false _ (c .before .before .before .before .before .before .before .if1 .left)) in let k : c .before .before .before .before .before .before .enter .result .calls ≡ a .task .calls - 1 = ap (λ (t : Task). t .calls) (c .before .before .before .before .before .before .enter .ensures) in let l : c .before .before .before .before .before .before .enter .result .levels ≡ a .task .levels = ap (λ (t : Task). t .levels) (c .before .before .before .before .before .before .enter .ensures) in let b = ap length (c .before .before .before .before .before .body-of .ensures .piece) in (omega (arith, c .before .before .before .before .before .before .before .before .before .before .before .before .before .before .pre .0, c .before .before .before .before .before .before .before .before .before .before .before .before .before .before .pre .1 .0, m, k, b), (omega (arith, m, b), omega (arith, m), omega (arith, k, c .before .before .before .before .before .before .before .before .before .before .before .before .before .before .pre .1 .3), search needs, (omega (arith, l, c .before .before .before .before .before .before .before .before .before .before .before .before .before .before .pre .1 .6), c .before .before .before .before .before .before .before .before .before .before .before .before .before .before .pre .1 .6 .1), c .before .before .before .before .tally .ensures))
+write-call-write-requires t c κs = let a = c .before .before .before .before .before .before .before .before .before .before .before .before .before .before .args in let m = c .before .before .before .before .before .before .before .before .call-at .ensures .may (not-false _ (c .before .before .before .before .before .before .if1 .left)) in let k : c .before .before .before .before .before .enter .result .calls ≡ a .task .calls - 1 = ap (λ (t : Task). t .calls) (c .before .before .before .before .before .enter .ensures) in let l : c .before .before .before .before .before .enter .result .levels ≡ a .task .levels = ap (λ (t : Task). t .levels) (c .before .before .before .before .before .enter .ensures) in let b = ap length (c .before .before .before .before .body-of .ensures .piece) in (omega (arith, c .before .before .before .before .before .before .before .before .before .before .before .before .before .before .pre .0, c .before .before .before .before .before .before .before .before .before .before .before .before .before .before .pre .1 .0, m, k, b), (omega (arith, m, b), omega (arith, m), omega (arith, k, c .before .before .before .before .before .before .before .before .before .before .before .before .before .before .pre .1 .3), search needs, (omega (arith, l, c .before .before .before .before .before .before .before .before .before .before .before .before .before .before .pre .1 .6), c .before .before .before .before .before .before .before .before .before .before .before .before .before .before .pre .1 .6 .1), called-tally (a .question .now) (a .bodies .now) (a .src .now) (a .at) (a .task .calls) (c .before .before .before .before .before .before .before .before .before .before .before .before .before .before .pre .1 .7) (c .before .before .before .before .before .before .before .before .call-at .result) (c .before .before .before .before .before .before .before .before .call-at .ensures) (not-false _ (c .before .before .before .before .before .before .if1 .left)) (c .before .before .before .before .before .before .before .before .before .before .before .before .before .before .pre .1 .3) (c .before .before .before .before .body-of .result .now) (c .before .before .before .before .body-of .ensures) (c .before .before .before .body-tally .result .now) (c .before .before .before .body-tally .ensures) _ k, c .before .before .before .before .before .before .before .before .before .before .before .before .before .before .pre .1 .7))
 
 write-call-same-length : (t : ℕ) → write-call-lts.Need-same-length (write-call-claims t) (write-call-at t) write-call.Post
 write-call-same-length t c = search needs
 
 write-call-returns-2 : (t : ℕ) → write-call-lts.Need-returns-2 (write-call-claims t) (write-call-at t) write-call.Post
-write-call-returns-2 t c = let a = c .before .before .before .before .before .before .before .before .before .before .before .before .before .before .before .before .before .before .args in let m = c .before .before .before .before .before .before .before .before .before .before .before .before .before .call-at .ensures .may (not-false _ (c .before .before .before .before .before .before .before .before .before .before .before .if1 .left)) in write-opened (a .question .now) (a .src .now) (a .at) (a .binders) (a .names .now) (a .task) (c .before .before .before .before .before .before .before .before .before .before .before .before .before .before .before .before .before .before .pre .1 .2) (a .out .now) (a .put) (c .before .before .before .before .before .before .before .before .before .before .before .before .before .before .before .before .before .before .pre .1 .1) (c .before .before .before .before .before .before .before .before .before .before .before .before .before .call-at .result) (c .before .before .before .before .before .before .before .before .before .before .before .before .before .call-at .ensures) (c .before .before .before .before .before .before .before .before .before .body-of .result .now) (c .before .before .before .before .before .before .before .before .before .body-of .ensures) (a .task .calls - 1) (omega (arith, m)) (c .before .before .before .before .before .before .before .before .before .before .enter .result) (c .before .before .before .before .before .before .before .before .before .before .enter .ensures) (c .before .before .before .before .before .before .before .called .result) (c .before .before .before .before .before .before .before .called .ensures) (c .before .before .before .write .result) _ (c .before .before .before .write .ensures .0)
+write-call-returns-2 t c = let a = c .before .before .before .before .before .before .before .before .before .before .before .before .before .before .before .before .before .before .args in let m = c .before .before .before .before .before .before .before .before .before .before .before .before .call-at .ensures .may (not-false _ (c .before .before .before .before .before .before .before .before .before .before .if1 .left)) in write-opened (a .question .now) (a .src .now) (a .at) (a .binders) (a .names .now) (a .task) (c .before .before .before .before .before .before .before .before .before .before .before .before .before .before .before .before .before .before .pre .1 .2) (a .out .now) (a .put) (c .before .before .before .before .before .before .before .before .before .before .before .before .before .before .before .before .before .before .pre .1 .1) (c .before .before .before .before .before .before .before .before .before .before .before .before .call-at .result) (c .before .before .before .before .before .before .before .before .before .before .before .before .call-at .ensures) (c .before .before .before .before .before .before .before .before .body-of .result .now) (c .before .before .before .before .before .before .before .before .body-of .ensures) (a .task .calls - 1) (omega (arith, m)) (c .before .before .before .before .before .before .before .before .before .enter .result) (c .before .before .before .before .before .before .before .before .before .enter .ensures) (c .before .before .before .before .before .before .called .result) (c .before .before .before .before .before .before .called .ensures) (c .before .before .before .write .result) _ (c .before .before .before .write .ensures .0)
 
 write-choice-add-number-at : (t : ℕ) → write-choice-lts.Need-add-number-at (write-choice-claims t) (write-choice-at t) write-choice.Post
 write-choice-add-number-at t c = search needs
@@ -283,7 +281,7 @@ write-choice-add-write : (t : ℕ) → write-choice-lts.Need-add-write (write-ch
 write-choice-add-write t c = search needs
 
 write-choice-write-requires : (t : ℕ) → write-choice-lts.Need-write-requires (write-choice-claims t) (write-choice-at t) write-choice.Post
-write-choice-write-requires t c κs = (omega (arith, c .before .before .before .before .before .before .before .before .before .pre .0, c .before .before .before .before .before .before .before .before .before .pre .1 .0), (c .before .before .before .before .before .before .before .before .before .pre .1 .3 .0, omega (arith, c .before .before .before .before .before .before .before .before .before .pre .1 .3 .1), c .before .before .before .before .before .before .before .before .before .pre .1 .3 .2, c .before .before .before .before .before .before .before .before .before .pre .1 .3 .3, c .before .before .before .before .before .before .before .before .before .pre .1 .3 .4, c .before .before .before .before .before .before .before .before .before .pre .1 .3 .5))
+write-choice-write-requires t c κs = (omega (arith, c .before .before .before .before .before .before .before .before .before .before .pre .0, c .before .before .before .before .before .before .before .before .before .before .pre .1 .0), (c .before .before .before .before .before .before .before .before .before .before .pre .1 .3 .0, omega (arith, c .before .before .before .before .before .before .before .before .before .before .pre .1 .3 .1), c .before .before .before .before .before .before .before .before .before .before .pre .1 .3 .2, c .before .before .before .before .before .before .before .before .before .before .pre .1 .3 .3, c .before .before .before .before .before .before .before .before .before .before .pre .1 .3 .4, c .before .before .before .before .before .before .before .before .before .before .pre .1 .3 .5, c .before .before .before .before .before .before .before .before .before .before .pre .1 .3 .6))
 
 write-choice-same-length : (t : ℕ) → write-choice-lts.Need-same-length (write-choice-claims t) (write-choice-at t) write-choice.Post
 write-choice-same-length t c = search needs
@@ -292,16 +290,16 @@ write-choice-same-length-2 : (t : ℕ) → write-choice-lts.Need-same-length-2 (
 write-choice-same-length-2 t c = search needs
 
 write-choice-returns : (t : ℕ) → write-choice-lts.Need-returns (write-choice-claims t) (write-choice-at t) write-choice.Post
-write-choice-returns t c = let a = c .before .before .before .before .before .before .before .before .before .before .before .before .before .before .args in (write-sum-left (a .question .now) (a .src .now) (a .at) (a .binders) (a .names .now) (a .task) (c .before .before .before .before .before .before .before .before .before .before .before .before .before .before .pre .1 .2) (a .out .now) (a .put) (c .before .before .before .before .before .before .before .before .before .before .before .before .before .before .pre .1 .1) (a .tally .now) (c .before .before .before .before .before .before .before .before .before .before .before .before .before .before .pre .1 .3 .5) (subst (λ (n : ℕ). a .task .number < n) (c .before .before .before .before .before .before .before .before .number-at .ensures) (c .before .before .before .before .before .before .before .if1 .taken)) (c .before .before .before .before .write .result) _ (c .before .before .before .before .write .ensures .0), c .before .before .before .before .write .ensures .1)
+write-choice-returns t c = let a = c .before .before .before .before .before .before .before .before .before .before .before .before .before .before .before .args in (write-sum-left (a .question .now) (a .src .now) (a .at) (a .binders) (a .names .now) (a .task) (c .before .before .before .before .before .before .before .before .before .before .before .before .before .before .before .pre .1 .2) (a .out .now) (a .put) (c .before .before .before .before .before .before .before .before .before .before .before .before .before .before .before .pre .1 .1) (a .tally .now) (c .before .before .before .before .before .before .before .before .before .before .before .before .before .before .before .pre .1 .3 .5) (subst (λ (n : ℕ). a .task .number < n) (c .before .before .before .before .before .before .before .before .number-at .ensures) (c .before .before .before .before .before .before .before .if1 .taken)) (c .before .before .before .before .write .result) _ (c .before .before .before .before .write .ensures .0), c .before .before .before .before .write .ensures .1)
 
 write-choice-middle-of-requires : (t : ℕ) → write-choice-lts.Need-middle-of-requires (write-choice-claims t) (write-choice-at t) write-choice.Post
-write-choice-middle-of-requires t c κs = (c .before .before .before .before .before .before .before .pre .1 .0, c .before .before .before .before .before .before .before .pre .1 .3 .0)
+write-choice-middle-of-requires t c κs = (c .before .before .before .before .before .before .before .before .pre .1 .0, c .before .before .before .before .before .before .before .before .pre .1 .3 .0)
 
 write-choice-with-number-requires : (t : ℕ) → write-choice-lts.Need-with-number-requires (write-choice-claims t) (write-choice-at t) write-choice.Post
 write-choice-with-number-requires t c κs = search needs
 
 write-choice-write-requires-2 : (t : ℕ) → write-choice-lts.Need-write-requires-2 (write-choice-claims t) (write-choice-at t) write-choice.Post
-write-choice-write-requires-2 t c κs = let a = c .before .before .before .before .before .before .before .before .before .before .before .args in let h = middle-on (a .question .now) (a .src .now) (a .task .calls) (a .tally .now) (c .before .before .before .before .before .before .before .before .before .before .before .pre .1 .3 .5) (a .at) (c .before .before .before .middle-of .result) (c .before .before .before .middle-of .ensures) (c .before .before .before .before .before .before .before .before .before .before .before .pre .1 .0) in let k : c .before .before .with-number .result .calls ≡ a .task .calls = ap (λ (t : Task). t .calls) (c .before .before .with-number .ensures) in let l : c .before .before .with-number .result .levels ≡ a .task .levels = ap (λ (t : Task). t .levels) (c .before .before .with-number .ensures) in (omega (arith, c .before .before .before .before .before .before .before .before .before .before .before .pre .0, c .before .before .before .before .before .before .before .before .before .before .before .pre .1 .0, k, h), (c .before .before .before .before .before .before .before .before .before .before .before .pre .1 .3 .0, omega (arith, c .before .before .before .before .before .before .before .before .before .before .before .pre .1 .3 .1, h), omega (arith, k, c .before .before .before .before .before .before .before .before .before .before .before .pre .1 .3 .2), c .before .before .before .before .before .before .before .before .before .before .before .pre .1 .3 .3, (omega (arith, l, c .before .before .before .before .before .before .before .before .before .before .before .pre .1 .3 .4), c .before .before .before .before .before .before .before .before .before .before .before .pre .1 .3 .4 .1), subst (λ (n : ℕ). TallyIs (a .question .now) (a .src .now) n (a .tally .now)) (sym k) (c .before .before .before .before .before .before .before .before .before .before .before .pre .1 .3 .5)))
+write-choice-write-requires-2 t c κs = let a = c .before .before .before .before .before .before .before .before .before .before .before .before .args in let h = middle-on (a .question .now) (a .src .now) (a .task .calls) (a .tally .now) (c .before .before .before .before .before .before .before .before .before .before .before .before .pre .1 .3 .5) (a .at) (c .before .before .before .middle-of .result) (c .before .before .before .middle-of .ensures) (c .before .before .before .before .before .before .before .before .before .before .before .before .pre .1 .0) in let k : c .before .before .with-number .result .calls ≡ a .task .calls = ap (λ (t : Task). t .calls) (c .before .before .with-number .ensures) in let l : c .before .before .with-number .result .levels ≡ a .task .levels = ap (λ (t : Task). t .levels) (c .before .before .with-number .ensures) in (omega (arith, c .before .before .before .before .before .before .before .before .before .before .before .before .pre .0, c .before .before .before .before .before .before .before .before .before .before .before .before .pre .1 .0, k, h), (c .before .before .before .before .before .before .before .before .before .before .before .before .pre .1 .3 .0, omega (arith, c .before .before .before .before .before .before .before .before .before .before .before .before .pre .1 .3 .1, h), omega (arith, k, c .before .before .before .before .before .before .before .before .before .before .before .before .pre .1 .3 .2), c .before .before .before .before .before .before .before .before .before .before .before .before .pre .1 .3 .3, (omega (arith, l, c .before .before .before .before .before .before .before .before .before .before .before .before .pre .1 .3 .4), c .before .before .before .before .before .before .before .before .before .before .before .before .pre .1 .3 .4 .1), subst (λ (n : ℕ). TallyIs (a .question .now) (a .src .now) n (a .tally .now)) (sym k) (c .before .before .before .before .before .before .before .before .before .before .before .before .pre .1 .3 .5), c .before .before .before .before .before .before .before .before .before .before .before .before .pre .1 .3 .6))
 
 write-choice-same-length-3 : (t : ℕ) → write-choice-lts.Need-same-length-3 (write-choice-claims t) (write-choice-at t) write-choice.Post
 write-choice-same-length-3 t c = search needs
@@ -310,13 +308,13 @@ write-choice-same-length-4 : (t : ℕ) → write-choice-lts.Need-same-length-4 (
 write-choice-same-length-4 t c = search needs
 
 write-choice-returns-2 : (t : ℕ) → write-choice-lts.Need-returns-2 (write-choice-claims t) (write-choice-at t) write-choice.Post
-write-choice-returns-2 t c = let a = c .before .before .before .before .before .before .before .before .before .before .before .before .before .before .before .before .args in (write-sum-right (a .question .now) (a .src .now) (a .at) (a .binders) (a .names .now) (a .task) (c .before .before .before .before .before .before .before .before .before .before .before .before .before .before .before .before .pre .1 .2) (a .out .now) (a .put) (c .before .before .before .before .before .before .before .before .before .before .before .before .before .before .before .before .pre .1 .1) (a .tally .now) (c .before .before .before .before .before .before .before .before .before .before .before .before .before .before .before .before .pre .1 .3 .5) (c .before .before .before .before .before .before .before .before .middle-of .result) (c .before .before .before .before .before .before .before .before .middle-of .ensures) (subst (λ (n : ℕ). n ≤ a .task .number) (c .before .before .before .before .before .before .before .before .before .before .number-at .ensures) (c .before .before .before .before .before .before .before .before .before .if1 .left)) _ (ap (λ (n : ℕ). a .task .number - n) (c .before .before .before .before .before .before .before .before .before .before .number-at .ensures)) (c .before .before .before .before .before .before .before .with-number .result) (c .before .before .before .before .before .before .before .with-number .ensures) (c .before .before .before .before .write2 .result) _ (c .before .before .before .before .write2 .ensures .0), c .before .before .before .before .write2 .ensures .1)
+write-choice-returns-2 t c = let a = c .before .before .before .before .before .before .before .before .before .before .before .before .before .before .before .before .before .args in (write-sum-right (a .question .now) (a .src .now) (a .at) (a .binders) (a .names .now) (a .task) (c .before .before .before .before .before .before .before .before .before .before .before .before .before .before .before .before .before .pre .1 .2) (a .out .now) (a .put) (c .before .before .before .before .before .before .before .before .before .before .before .before .before .before .before .before .before .pre .1 .1) (a .tally .now) (c .before .before .before .before .before .before .before .before .before .before .before .before .before .before .before .before .before .pre .1 .3 .5) (c .before .before .before .before .before .before .before .before .middle-of .result) (c .before .before .before .before .before .before .before .before .middle-of .ensures) (subst (λ (n : ℕ). n ≤ a .task .number) (c .before .before .before .before .before .before .before .before .before .before .number-at .ensures) (c .before .before .before .before .before .before .before .before .before .if1 .left)) _ (ap (λ (n : ℕ). a .task .number - n) (c .before .before .before .before .before .before .before .before .before .before .number-at .ensures)) (c .before .before .before .before .before .before .before .with-number .result) (c .before .before .before .before .before .before .before .with-number .ensures) (c .before .before .before .before .write2 .result) _ (c .before .before .before .before .write2 .ensures .0), c .before .before .before .before .write2 .ensures .1)
 
 write-parallel-plan-of-requires : (t : ℕ) → write-parallel-lts.Need-plan-of-requires (write-parallel-claims t) (write-parallel-at t) write-parallel.Post
-write-parallel-plan-of-requires t c κs = (c .before .before .before .before .before .before .pre .1 .3 .0, c .before .before .before .before .before .before .pre .1 .0, c .before .before .before .before .before .before .pre .1 .3 .1, omega (arith, c .before .before .before .before .before .before .pre .1 .3 .4), c .before .before .before .before .before .before .pre .1 .2, c .before .before .before .before .before .before .pre .1 .3 .2, c .before .before .before .before .before .before .pre .1 .3 .5)
+write-parallel-plan-of-requires t c κs = (c .before .before .before .before .before .before .before .pre .1 .3 .0, c .before .before .before .before .before .before .before .pre .1 .0, c .before .before .before .before .before .before .before .pre .1 .3 .1, omega (arith, c .before .before .before .before .before .before .before .pre .1 .3 .4), c .before .before .before .before .before .before .before .pre .1 .2, c .before .before .before .before .before .before .before .pre .1 .3 .2, c .before .before .before .before .before .before .before .pre .1 .3 .5, c .before .before .before .before .before .before .before .pre .1 .3 .6)
 
 write-parallel-open-pair-requires : (t : ℕ) → write-parallel-lts.Need-open-pair-requires (write-parallel-claims t) (write-parallel-at t) write-parallel.Post
-write-parallel-open-pair-requires t c κs = c .before .before .before .before .before .before .before .before .pre .1 .3 .4 .1
+write-parallel-open-pair-requires t c κs = c .before .before .before .before .before .before .before .before .before .pre .1 .3 .4 .1
 
 write-parallel-same-length : (t : ℕ) → write-parallel-lts.Need-same-length (write-parallel-claims t) (write-parallel-at t) write-parallel.Post
 write-parallel-same-length t c = search needs
@@ -325,13 +323,13 @@ write-parallel-same-length-2 : (t : ℕ) → write-parallel-lts.Need-same-length
 write-parallel-same-length-2 t c = search needs
 
 write-parallel-returns : (t : ℕ) → write-parallel-lts.Need-returns (write-parallel-claims t) (write-parallel-at t) write-parallel.Post
-write-parallel-returns t c = let a = c .before .before .before .before .before .before .before .before .before .before .before .before .args in let s = c .before .before .before .open-pair .kept .0 in (write-par-stop (a .question .now) (a .src .now) (a .at) (a .binders) (a .names .now) (a .task) (c .before .before .before .before .before .before .before .before .before .before .before .before .pre .1 .2) (a .out .now) (a .put) (c .before .before .before .before .before .before .before .before .before .before .before .before .pre .1 .1) (c .before .before .before .before .before .plan-of .result) (c .before .before .before .before .before .plan-of .ensures) (c .before .before .before .open-pair .result) _ (c .before .before .before .open-pair .ensures) (omega (arith, s, c .if1 .taken)), kept-all (a .binders) (a .names .now))
+write-parallel-returns t c = let a = c .before .before .before .before .before .before .before .before .before .before .before .before .before .args in let s = c .before .before .before .open-pair .kept .0 in (write-par-stop (a .question .now) (a .src .now) (a .at) (a .binders) (a .names .now) (a .task) (c .before .before .before .before .before .before .before .before .before .before .before .before .before .pre .1 .2) (a .out .now) (a .put) (c .before .before .before .before .before .before .before .before .before .before .before .before .before .pre .1 .1) (c .before .before .before .before .before .plan-of .result) (c .before .before .before .before .before .plan-of .ensures) (c .before .before .before .open-pair .result) _ (c .before .before .before .open-pair .ensures) (omega (arith, s, c .if1 .taken)), kept-all (a .binders) (a .names .now))
 
 write-parallel-add-write : (t : ℕ) → write-parallel-lts.Need-add-write (write-parallel-claims t) (write-parallel-at t) write-parallel.Post
 write-parallel-add-write t c = search needs
 
 write-parallel-write-requires : (t : ℕ) → write-parallel-lts.Need-write-requires (write-parallel-claims t) (write-parallel-at t) write-parallel.Post
-write-parallel-write-requires t c κs = let a = c .before .before .before .before .before .before .before .before .before .before .before .before .before .before .before .args in let s = c .before .before .before .before .before .before .open-pair .kept .0 in let w = written-to (a .out .now) (a .put) (opening (c .before .before .before .before .before .before .before .before .plan-of .result .close)) (c .before .before .before .before .before .before .open-pair .result) _ (c .before .before .before .before .before .before .open-pair .ensures .is) (omega (arith, s, c .before .before .before .if1 .left)) in let k = c .before .before .before .before .before .before .before .before .plan-of .ensures .leftCalls in (omega (arith, c .before .before .before .before .before .before .before .before .before .before .before .before .before .before .before .pre .0, c .before .before .before .before .before .before .before .before .before .before .before .before .before .before .before .pre .1 .0, k), (c .before .before .before .before .before .before .before .before .before .before .before .before .before .before .before .pre .1 .3 .0, omega (arith, c .before .before .before .before .before .before .before .before .before .before .before .before .before .before .before .pre .1 .3 .1), omega (arith, k, c .before .before .before .before .before .before .before .before .before .before .before .before .before .before .before .pre .1 .3 .2), c .before .before .before .before .before .before .before .before .before .before .before .before .before .before .before .pre .1 .3 .3, (omega (arith, s, w, c .before .before .before .before .before .before .before .before .before .before .before .before .before .before .before .pre .1 .3 .4, c .before .before .before .before .before .before .before .before .plan-of .ensures .leftLevels), omega (arith, s, c .before .before .before .if1 .left)), subst (λ (n : ℕ). TallyIs (a .question .now) (a .src .now) n (a .tally .now)) (sym k) (c .before .before .before .before .before .before .before .before .before .before .before .before .before .before .before .pre .1 .3 .5)))
+write-parallel-write-requires t c κs = let a = c .before .before .before .before .before .before .before .before .before .before .before .before .before .before .before .before .args in let s = c .before .before .before .before .before .before .open-pair .kept .0 in let w = written-to (a .out .now) (a .put) (opening (c .before .before .before .before .before .before .before .before .plan-of .result .close)) (c .before .before .before .before .before .before .open-pair .result) _ (c .before .before .before .before .before .before .open-pair .ensures .is) (omega (arith, s, c .before .before .before .if1 .left)) in let k = c .before .before .before .before .before .before .before .before .plan-of .ensures .leftCalls in (omega (arith, c .before .before .before .before .before .before .before .before .before .before .before .before .before .before .before .before .pre .0, c .before .before .before .before .before .before .before .before .before .before .before .before .before .before .before .before .pre .1 .0, k), (c .before .before .before .before .before .before .before .before .before .before .before .before .before .before .before .before .pre .1 .3 .0, omega (arith, c .before .before .before .before .before .before .before .before .before .before .before .before .before .before .before .before .pre .1 .3 .1), omega (arith, k, c .before .before .before .before .before .before .before .before .before .before .before .before .before .before .before .before .pre .1 .3 .2), c .before .before .before .before .before .before .before .before .before .before .before .before .before .before .before .before .pre .1 .3 .3, (omega (arith, s, w, c .before .before .before .before .before .before .before .before .before .before .before .before .before .before .before .before .pre .1 .3 .4, c .before .before .before .before .before .before .before .before .plan-of .ensures .leftLevels), omega (arith, s, c .before .before .before .if1 .left)), subst (λ (n : ℕ). TallyIs (a .question .now) (a .src .now) n (a .tally .now)) (sym k) (c .before .before .before .before .before .before .before .before .before .before .before .before .before .before .before .before .pre .1 .3 .5), c .before .before .before .before .before .before .before .before .before .before .before .before .before .before .before .before .pre .1 .3 .6))
 
 write-parallel-same-length-3 : (t : ℕ) → write-parallel-lts.Need-same-length-3 (write-parallel-claims t) (write-parallel-at t) write-parallel.Post
 write-parallel-same-length-3 t c = search needs
@@ -340,10 +338,10 @@ write-parallel-same-length-4 : (t : ℕ) → write-parallel-lts.Need-same-length
 write-parallel-same-length-4 t c = search needs
 
 write-parallel-returns-2 : (t : ℕ) → write-parallel-lts.Need-returns-2 (write-parallel-claims t) (write-parallel-at t) write-parallel.Post
-write-parallel-returns-2 t c = let a = c .before .before .before .before .before .before .before .before .before .before .before .before .before .before .before .before .before .before .before .before .before .args in let s = c .before .before .before .before .before .before .before .before .before .before .before .before .open-pair .kept .0 in let u = c .before .before .before .before .before .write .kept .1 .1 .1 .1 .1 .1 .1 .0 in (write-left-stop (a .question .now) (a .src .now) (a .at) (a .binders) (a .names .now) (a .task) (c .before .before .before .before .before .before .before .before .before .before .before .before .before .before .before .before .before .before .before .before .before .pre .1 .2) (a .out .now) (a .put) (c .before .before .before .before .before .before .before .before .before .before .before .before .before .before .before .before .before .before .before .before .before .pre .1 .1) (c .before .before .before .before .before .before .before .before .before .before .before .before .before .before .plan-of .result) (c .before .before .before .before .before .before .before .before .before .before .before .before .before .before .plan-of .ensures) (c .before .before .before .before .before .before .before .before .before .before .before .before .open-pair .result) _ (c .before .before .before .before .before .before .before .before .before .before .before .before .open-pair .ensures) (omega (arith, s, c .before .before .before .before .before .before .before .before .before .if1 .left)) s (c .before .before .before .before .before .write .result) _ (c .before .before .before .before .before .write .ensures .0) (omega (arith, s, u, c .if2 .taken)), c .before .before .before .before .before .write .ensures .1)
+write-parallel-returns-2 t c = let a = c .before .before .before .before .before .before .before .before .before .before .before .before .before .before .before .before .before .before .before .before .before .before .args in let s = c .before .before .before .before .before .before .before .before .before .before .before .before .open-pair .kept .0 in let u = c .before .before .before .before .before .write .kept .1 .1 .1 .1 .1 .1 .1 .1 .0 in (write-left-stop (a .question .now) (a .src .now) (a .at) (a .binders) (a .names .now) (a .task) (c .before .before .before .before .before .before .before .before .before .before .before .before .before .before .before .before .before .before .before .before .before .before .pre .1 .2) (a .out .now) (a .put) (c .before .before .before .before .before .before .before .before .before .before .before .before .before .before .before .before .before .before .before .before .before .before .pre .1 .1) (c .before .before .before .before .before .before .before .before .before .before .before .before .before .before .plan-of .result) (c .before .before .before .before .before .before .before .before .before .before .before .before .before .before .plan-of .ensures) (c .before .before .before .before .before .before .before .before .before .before .before .before .open-pair .result) _ (c .before .before .before .before .before .before .before .before .before .before .before .before .open-pair .ensures) (omega (arith, s, c .before .before .before .before .before .before .before .before .before .if1 .left)) s (c .before .before .before .before .before .write .result) _ (c .before .before .before .before .before .write .ensures .0) (omega (arith, s, u, c .if2 .taken)), c .before .before .before .before .before .write .ensures .1)
 
 write-parallel-write-requires-2 : (t : ℕ) → write-parallel-lts.Need-write-requires-2 (write-parallel-claims t) (write-parallel-at t) write-parallel.Post
-write-parallel-write-requires-2 t c κs = let a = c .before .before .before .before .before .before .before .before .before .before .before .before .before .before .before .before .before .before .before .before .before .before .before .before .args in let s = c .before .before .before .before .before .before .before .before .before .before .before .before .before .before .before .open-pair .kept .0 in let w = written-to (a .out .now) (a .put) (opening (c .before .before .before .before .before .before .before .before .before .before .before .before .before .before .before .before .before .plan-of .result .close)) (c .before .before .before .before .before .before .before .before .before .before .before .before .before .before .before .open-pair .result) _ (c .before .before .before .before .before .before .before .before .before .before .before .before .before .before .before .open-pair .ensures .is) (omega (arith, s, c .before .before .before .before .before .before .before .before .before .before .before .before .if1 .left)) in let u = c .before .before .before .before .before .before .before .before .write .kept .1 .1 .1 .1 .1 .1 .1 .0 in let v = c .before .before .before .before .before .before .before .before .write .kept .1 .1 .1 .1 .1 .1 .0 in let k = c .before .before .before .before .before .before .before .before .before .before .before .before .before .before .before .before .before .plan-of .ensures .rightCalls in (omega (arith, c .before .before .before .before .before .before .before .before .before .before .before .before .before .before .before .before .before .before .before .before .before .before .before .before .pre .0, c .before .before .before .before .before .before .before .before .before .before .before .before .before .before .before .before .before .before .before .before .before .before .before .before .pre .1 .0, k, c .before .before .before .before .before .before .before .before .before .before .before .before .before .before .before .before .before .plan-of .ensures .on), (c .before .before .before .before .before .before .before .before .before .before .before .before .before .before .before .before .before .before .before .before .before .before .before .before .pre .1 .3 .0, omega (arith, c .before .before .before .before .before .before .before .before .before .before .before .before .before .before .before .before .before .before .before .before .before .before .before .before .pre .1 .3 .1, c .before .before .before .before .before .before .before .before .before .before .before .before .before .before .before .before .before .plan-of .ensures .on), omega (arith, k, c .before .before .before .before .before .before .before .before .before .before .before .before .before .before .before .before .before .before .before .before .before .before .before .before .pre .1 .3 .2), v ∙ c .before .before .before .before .before .before .before .before .before .before .before .before .before .before .before .before .before .before .before .before .before .before .before .before .pre .1 .3 .3, (omega (arith, s, u, w, c .before .before .before .before .before .before .before .before .before .before .before .before .before .before .before .before .before .before .before .before .before .before .before .before .pre .1 .3 .4, c .before .before .before .before .before .before .before .before .before .before .before .before .before .before .before .before .before .plan-of .ensures .rightLevels, c .before .before .before .before .before .before .before .before .write .ensures .0 .on), omega (arith, s, u, c .before .before .before .if2 .left)), subst (λ (n : ℕ). TallyIs (a .question .now) (a .src .now) n (a .tally .now)) (sym k) (c .before .before .before .before .before .before .before .before .before .before .before .before .before .before .before .before .before .before .before .before .before .before .before .before .pre .1 .3 .5)))
+write-parallel-write-requires-2 t c κs = let a = c .before .before .before .before .before .before .before .before .before .before .before .before .before .before .before .before .before .before .before .before .before .before .before .before .before .args in let s = c .before .before .before .before .before .before .before .before .before .before .before .before .before .before .before .open-pair .kept .0 in let w = written-to (a .out .now) (a .put) (opening (c .before .before .before .before .before .before .before .before .before .before .before .before .before .before .before .before .before .plan-of .result .close)) (c .before .before .before .before .before .before .before .before .before .before .before .before .before .before .before .open-pair .result) _ (c .before .before .before .before .before .before .before .before .before .before .before .before .before .before .before .open-pair .ensures .is) (omega (arith, s, c .before .before .before .before .before .before .before .before .before .before .before .before .if1 .left)) in let u = c .before .before .before .before .before .before .before .before .write .kept .1 .1 .1 .1 .1 .1 .1 .1 .0 in let v = c .before .before .before .before .before .before .before .before .write .kept .1 .1 .1 .1 .1 .1 .1 .0 in let k = c .before .before .before .before .before .before .before .before .before .before .before .before .before .before .before .before .before .plan-of .ensures .rightCalls in (omega (arith, c .before .before .before .before .before .before .before .before .before .before .before .before .before .before .before .before .before .before .before .before .before .before .before .before .before .pre .0, c .before .before .before .before .before .before .before .before .before .before .before .before .before .before .before .before .before .before .before .before .before .before .before .before .before .pre .1 .0, k, c .before .before .before .before .before .before .before .before .before .before .before .before .before .before .before .before .before .plan-of .ensures .on), (c .before .before .before .before .before .before .before .before .before .before .before .before .before .before .before .before .before .before .before .before .before .before .before .before .before .pre .1 .3 .0, omega (arith, c .before .before .before .before .before .before .before .before .before .before .before .before .before .before .before .before .before .before .before .before .before .before .before .before .before .pre .1 .3 .1, c .before .before .before .before .before .before .before .before .before .before .before .before .before .before .before .before .before .plan-of .ensures .on), omega (arith, k, c .before .before .before .before .before .before .before .before .before .before .before .before .before .before .before .before .before .before .before .before .before .before .before .before .before .pre .1 .3 .2), v ∙ c .before .before .before .before .before .before .before .before .before .before .before .before .before .before .before .before .before .before .before .before .before .before .before .before .before .pre .1 .3 .3, (omega (arith, s, u, w, c .before .before .before .before .before .before .before .before .before .before .before .before .before .before .before .before .before .before .before .before .before .before .before .before .before .pre .1 .3 .4, c .before .before .before .before .before .before .before .before .before .before .before .before .before .before .before .before .before .plan-of .ensures .rightLevels, c .before .before .before .before .before .before .before .before .write .ensures .0 .on), omega (arith, s, u, c .before .before .before .if2 .left)), subst (λ (n : ℕ). TallyIs (a .question .now) (a .src .now) n (a .tally .now)) (sym k) (c .before .before .before .before .before .before .before .before .before .before .before .before .before .before .before .before .before .before .before .before .before .before .before .before .before .pre .1 .3 .5), c .before .before .before .before .before .before .before .before .before .before .before .before .before .before .before .before .before .before .before .before .before .before .before .before .before .pre .1 .3 .6))
 
 write-parallel-same-length-5 : (t : ℕ) → write-parallel-lts.Need-same-length-5 (write-parallel-claims t) (write-parallel-at t) write-parallel.Post
 write-parallel-same-length-5 t c = search needs
@@ -352,73 +350,73 @@ write-parallel-same-length-6 : (t : ℕ) → write-parallel-lts.Need-same-length
 write-parallel-same-length-6 t c = search needs
 
 write-parallel-returns-3 : (t : ℕ) → write-parallel-lts.Need-returns-3 (write-parallel-claims t) (write-parallel-at t) write-parallel.Post
-write-parallel-returns-3 t c = let a = c .before .before .before .before .before .before .before .before .before .before .before .before .before .before .before .before .before .before .before .before .before .before .before .before .before .before .before .before .before .args in let s = c .before .before .before .before .before .before .before .before .before .before .before .before .before .before .before .before .before .before .before .before .open-pair .kept .0 in let u = c .before .before .before .before .before .before .before .before .before .before .before .before .before .write .kept .1 .1 .1 .1 .1 .1 .1 .0 in (write-par (a .question .now) (a .src .now) (a .at) (a .binders) (a .names .now) (a .task) (c .before .before .before .before .before .before .before .before .before .before .before .before .before .before .before .before .before .before .before .before .before .before .before .before .before .before .before .before .before .pre .1 .2) (a .out .now) (a .put) (c .before .before .before .before .before .before .before .before .before .before .before .before .before .before .before .before .before .before .before .before .before .before .before .before .before .before .before .before .before .pre .1 .1) (c .before .before .before .before .before .before .before .before .before .before .before .before .before .before .before .before .before .before .before .before .before .before .plan-of .result) (c .before .before .before .before .before .before .before .before .before .before .before .before .before .before .before .before .before .before .before .before .before .before .plan-of .ensures) (c .before .before .before .before .before .before .before .before .before .before .before .before .before .before .before .before .before .before .before .before .open-pair .result) _ (c .before .before .before .before .before .before .before .before .before .before .before .before .before .before .before .before .before .before .before .before .open-pair .ensures) (omega (arith, s, c .before .before .before .before .before .before .before .before .before .before .before .before .before .before .before .before .before .if1 .left)) s (c .before .before .before .before .before .before .before .before .before .before .before .before .before .write .result) _ (c .before .before .before .before .before .before .before .before .before .before .before .before .before .write .ensures .0) (omega (arith, s, u, c .before .before .before .before .before .before .before .before .if2 .left)) (u ∙ s) _ (c .before .before .before .before .before .before .before .before .before .before .before .before .before .write .ensures .1) (c .before .before .before .before .write2 .result) _ (c .before .before .before .before .write2 .ensures .0), kept-then (a .binders) (a .names .now) _ _ (c .before .before .before .before .before .before .before .before .before .before .before .before .before .write .ensures .1) (c .before .before .before .before .write2 .ensures .1))
+write-parallel-returns-3 t c = let a = c .before .before .before .before .before .before .before .before .before .before .before .before .before .before .before .before .before .before .before .before .before .before .before .before .before .before .before .before .before .before .args in let s = c .before .before .before .before .before .before .before .before .before .before .before .before .before .before .before .before .before .before .before .before .open-pair .kept .0 in let u = c .before .before .before .before .before .before .before .before .before .before .before .before .before .write .kept .1 .1 .1 .1 .1 .1 .1 .1 .0 in (write-par (a .question .now) (a .src .now) (a .at) (a .binders) (a .names .now) (a .task) (c .before .before .before .before .before .before .before .before .before .before .before .before .before .before .before .before .before .before .before .before .before .before .before .before .before .before .before .before .before .before .pre .1 .2) (a .out .now) (a .put) (c .before .before .before .before .before .before .before .before .before .before .before .before .before .before .before .before .before .before .before .before .before .before .before .before .before .before .before .before .before .before .pre .1 .1) (c .before .before .before .before .before .before .before .before .before .before .before .before .before .before .before .before .before .before .before .before .before .before .plan-of .result) (c .before .before .before .before .before .before .before .before .before .before .before .before .before .before .before .before .before .before .before .before .before .before .plan-of .ensures) (c .before .before .before .before .before .before .before .before .before .before .before .before .before .before .before .before .before .before .before .before .open-pair .result) _ (c .before .before .before .before .before .before .before .before .before .before .before .before .before .before .before .before .before .before .before .before .open-pair .ensures) (omega (arith, s, c .before .before .before .before .before .before .before .before .before .before .before .before .before .before .before .before .before .if1 .left)) s (c .before .before .before .before .before .before .before .before .before .before .before .before .before .write .result) _ (c .before .before .before .before .before .before .before .before .before .before .before .before .before .write .ensures .0) (omega (arith, s, u, c .before .before .before .before .before .before .before .before .if2 .left)) (u ∙ s) _ (c .before .before .before .before .before .before .before .before .before .before .before .before .before .write .ensures .1) (c .before .before .before .before .write2 .result) _ (c .before .before .before .before .write2 .ensures .0), kept-then (a .binders) (a .names .now) _ _ (c .before .before .before .before .before .before .before .before .before .before .before .before .before .write .ensures .1) (c .before .before .before .before .write2 .ensures .1))
 
 write-restriction-add-next : (t : ℕ) → write-restriction-lts.Need-add-next (write-restriction-claims t) (write-restriction-at t) write-restriction.Post
 write-restriction-add-next t c = search needs
 
 write-restriction-add-inner : (t : ℕ) → write-restriction-lts.Need-add-inner (write-restriction-claims t) (write-restriction-at t) write-restriction.Post
-write-restriction-add-inner t c = omega (arith, c .before .before .before .before .before .pre .1 .3, c .before .before .before .before .before .pre .1 .0)
+write-restriction-add-inner t c = omega (arith, c .before .before .before .before .before .before .pre .1 .3, c .before .before .before .before .before .before .pre .1 .0)
 
 write-restriction-pass-requires : (t : ℕ) → write-restriction-lts.Need-pass-requires (write-restriction-claims t) (write-restriction-at t) write-restriction.Post
-write-restriction-pass-requires t c κs = (c .before .before .before .before .before .pre .1 .3 .0, omega (arith, c .before .before .before .before .before .pre .1 .3 .1), c .before .before .before .before .before .pre .1 .3 .2, c .before .before .before .before .before .pre .1 .3 .5)
+write-restriction-pass-requires t c κs = (c .before .before .before .before .before .before .pre .1 .3 .0, omega (arith, c .before .before .before .before .before .before .pre .1 .3 .1), c .before .before .before .before .before .before .pre .1 .3 .2, c .before .before .before .before .before .before .pre .1 .3 .5, c .before .before .before .before .before .before .pre .1 .3 .6)
 
 write-restriction-opens-requires : (t : ℕ) → write-restriction-lts.Need-opens-requires (write-restriction-claims t) (write-restriction-at t) write-restriction.Post
-write-restriction-opens-requires t c κs = omega (arith, c .before .before .before .before .before .before .pre .1 .3 .0, c .before .before .before .before .before .before .pre .1 .3 .1, c .before .before .before .before .before .before .pre .1 .0)
+write-restriction-opens-requires t c κs = omega (arith, c .before .before .before .before .before .before .before .pre .1 .3 .0, c .before .before .before .before .before .before .before .pre .1 .3 .1, c .before .before .before .before .before .before .before .pre .1 .0)
 
 write-restriction-add-names : (t : ℕ) → write-restriction-lts.Need-add-names (write-restriction-claims t) (write-restriction-at t) write-restriction.Post
-write-restriction-add-names t c = omega (arith, c .before .before .before .before .before .before .before .before .pre .1 .3 .0, c .before .before .before .before .before .before .before .before .pre .1 .3 .1, c .before .before .before .before .before .before .before .before .pre .1 .0)
+write-restriction-add-names t c = omega (arith, c .before .before .before .before .before .before .before .before .before .pre .1 .3 .0, c .before .before .before .before .before .before .before .before .before .pre .1 .3 .1, c .before .before .before .before .before .before .before .before .before .pre .1 .0)
 
 write-restriction-slice-write-names : (t : ℕ) → write-restriction-lts.Need-slice-write-names (write-restriction-claims t) (write-restriction-at t) write-restriction.Post
-write-restriction-slice-write-names t c = omega (arith, c .before .before .before .before .before .before .before .before .pre .1 .3 .0, c .before .before .before .before .before .before .before .before .pre .1 .3 .1, c .before .before .before .before .before .before .before .before .pre .1 .3 .3, c .before .before .before .before .before .before .before .before .pre .1 .0)
+write-restriction-slice-write-names t c = omega (arith, c .before .before .before .before .before .before .before .before .before .pre .1 .3 .0, c .before .before .before .before .before .before .before .before .before .pre .1 .3 .1, c .before .before .before .before .before .before .before .before .before .pre .1 .3 .3, c .before .before .before .before .before .before .before .before .before .pre .1 .0)
 
 write-restriction-write-requires : (t : ℕ) → write-restriction-lts.Need-write-requires (write-restriction-claims t) (write-restriction-at t) write-restriction.Post
-write-restriction-write-requires t c κs = let a = c .before .before .before .before .before .before .before .before .before .before .args in (omega (arith, c .before .before .before .before .before .before .before .before .before .before .pre .0, c .before .before .before .before .before .before .before .before .before .before .pre .1 .0), (c .before .before .before .before .before .before .before .before .before .before .pre .1 .3 .0, omega (arith, c .before .before .before .before .before .before .before .before .before .before .pre .1 .3 .1), c .before .before .before .before .before .before .before .before .before .before .pre .1 .3 .2, length-set (a .names .now) (tableNames + a .binders) (a .task .new) ∙ c .before .before .before .before .before .before .before .before .before .before .pre .1 .3 .3, c .before .before .before .before .before .before .before .before .before .before .pre .1 .3 .4, c .before .before .before .before .before .before .before .before .before .before .pre .1 .3 .5))
+write-restriction-write-requires t c κs = let a = c .before .before .before .before .before .before .before .before .before .before .before .args in (omega (arith, c .before .before .before .before .before .before .before .before .before .before .before .pre .0, c .before .before .before .before .before .before .before .before .before .before .before .pre .1 .0), (c .before .before .before .before .before .before .before .before .before .before .before .pre .1 .3 .0, omega (arith, c .before .before .before .before .before .before .before .before .before .before .before .pre .1 .3 .1), c .before .before .before .before .before .before .before .before .before .before .before .pre .1 .3 .2, length-set (a .names .now) (tableNames + a .binders) (a .task .new) ∙ c .before .before .before .before .before .before .before .before .before .before .before .pre .1 .3 .3, c .before .before .before .before .before .before .before .before .before .before .before .pre .1 .3 .4, c .before .before .before .before .before .before .before .before .before .before .before .pre .1 .3 .5, c .before .before .before .before .before .before .before .before .before .before .before .pre .1 .3 .6))
 
 write-restriction-same-length : (t : ℕ) → write-restriction-lts.Need-same-length (write-restriction-claims t) (write-restriction-at t) write-restriction.Post
-write-restriction-same-length t c = c .before .before .before .before .write .kept .1 .1 .1 .1 .1 .1 .0 ∙ length-set (c .before .before .before .before .before .before .before .before .before .before .before .before .before .before .before .args .names .now) _ _
+write-restriction-same-length t c = c .before .before .before .before .write .kept .1 .1 .1 .1 .1 .1 .1 .0 ∙ length-set (c .before .before .before .before .before .before .before .before .before .before .before .before .before .before .before .before .args .names .now) _ _
 
 write-restriction-same-length-2 : (t : ℕ) → write-restriction-lts.Need-same-length-2 (write-restriction-claims t) (write-restriction-at t) write-restriction.Post
 write-restriction-same-length-2 t c = search needs
 
 write-restriction-returns : (t : ℕ) → write-restriction-lts.Need-returns (write-restriction-claims t) (write-restriction-at t) write-restriction.Post
-write-restriction-returns t c = let a = c .before .before .before .before .before .before .before .before .before .before .before .before .before .before .before .args in (write-open (a .question .now) (a .src .now) (a .at) (a .binders) (a .names .now) (a .task) (c .before .before .before .before .before .before .before .before .before .before .before .before .before .before .before .pre .1 .2) (a .out .now) (a .put) (c .before .before .before .before .before .before .before .before .before .before .before .before .before .before .before .pre .1 .1) (c .before .before .before .before .before .before .before .before .before .pass .result) (c .before .before .before .before .before .before .before .before .before .pass .ensures) (omega (arith, c .before .before .before .before .before .before .before .before .before .before .before .before .before .before .before .pre .1 .3 .0, c .before .before .before .before .before .before .before .before .before .before .before .before .before .before .before .pre .1 .3 .1, c .before .before .before .before .before .before .before .before .before .before .before .before .before .before .before .pre .1 .3 .3, c .before .before .before .before .before .before .before .before .before .before .before .before .before .before .before .pre .1 .0)) (sym (c .before .before .before .before .before .before .before .before .opens .ensures) ∙ c .before .before .before .before .before .before .before .if1 .taken) (c .before .before .before .before .write .result) _ (c .before .before .before .before .write .ensures .0), kept-within (a .binders) (a .task .new) (a .names .now) _ (c .before .before .before .before .write .ensures .1))
+write-restriction-returns t c = let a = c .before .before .before .before .before .before .before .before .before .before .before .before .before .before .before .before .args in (write-open (a .question .now) (a .src .now) (a .at) (a .binders) (a .names .now) (a .task) (c .before .before .before .before .before .before .before .before .before .before .before .before .before .before .before .before .pre .1 .2) (a .out .now) (a .put) (c .before .before .before .before .before .before .before .before .before .before .before .before .before .before .before .before .pre .1 .1) (c .before .before .before .before .before .before .before .before .before .pass .result) (c .before .before .before .before .before .before .before .before .before .pass .ensures) (omega (arith, c .before .before .before .before .before .before .before .before .before .before .before .before .before .before .before .before .pre .1 .3 .0, c .before .before .before .before .before .before .before .before .before .before .before .before .before .before .before .before .pre .1 .3 .1, c .before .before .before .before .before .before .before .before .before .before .before .before .before .before .before .before .pre .1 .3 .3, c .before .before .before .before .before .before .before .before .before .before .before .before .before .before .before .before .pre .1 .0)) (sym (c .before .before .before .before .before .before .before .before .opens .ensures) ∙ c .before .before .before .before .before .before .before .if1 .taken) (c .before .before .before .before .write .result) _ (c .before .before .before .before .write .ensures .0), kept-within (a .binders) (a .task .new) (a .names .now) _ (c .before .before .before .before .write .ensures .1))
 
 write-restriction-store-requires : (t : ℕ) → write-restriction-lts.Need-store-requires (write-restriction-claims t) (write-restriction-at t) write-restriction.Post
-write-restriction-store-requires t c κs = c .before .before .before .before .before .before .before .before .before .pre .1 .3 .4 .1
+write-restriction-store-requires t c κs = c .before .before .before .before .before .before .before .before .before .before .pre .1 .3 .4 .1
 
 write-restriction-same-length-3 : (t : ℕ) → write-restriction-lts.Need-same-length-3 (write-restriction-claims t) (write-restriction-at t) write-restriction.Post
 write-restriction-same-length-3 t c = search needs
 
 write-restriction-returns-2 : (t : ℕ) → write-restriction-lts.Need-returns-2 (write-restriction-claims t) (write-restriction-at t) write-restriction.Post
-write-restriction-returns-2 t c = let a = c .before .before .before .before .before .before .before .before .before .before .before .before .before .args in let s = c .before .before .before .store .kept .0 in (write-res-stop (a .question .now) (a .src .now) (a .at) (a .binders) (a .names .now) (a .task) (c .before .before .before .before .before .before .before .before .before .before .before .before .before .pre .1 .2) (a .out .now) (a .put) (c .before .before .before .before .before .before .before .before .before .before .before .before .before .pre .1 .1) (c .before .before .before .before .before .before .before .pass .result) (c .before .before .before .before .before .before .before .pass .ensures) (sym (c .before .before .before .before .before .before .opens .ensures) ∙ c .before .before .before .before .before .if1 .left) (c .before .before .before .store .result) _ (c .before .before .before .store .ensures) (omega (arith, s, c .if2 .taken)), kept-all (a .binders) (a .names .now))
+write-restriction-returns-2 t c = let a = c .before .before .before .before .before .before .before .before .before .before .before .before .before .before .args in let s = c .before .before .before .store .kept .0 in (write-res-stop (a .question .now) (a .src .now) (a .at) (a .binders) (a .names .now) (a .task) (c .before .before .before .before .before .before .before .before .before .before .before .before .before .before .pre .1 .2) (a .out .now) (a .put) (c .before .before .before .before .before .before .before .before .before .before .before .before .before .before .pre .1 .1) (c .before .before .before .before .before .before .before .pass .result) (c .before .before .before .before .before .before .before .pass .ensures) (sym (c .before .before .before .before .before .before .opens .ensures) ∙ c .before .before .before .before .before .if1 .left) (c .before .before .before .store .result) _ (c .before .before .before .store .ensures) (omega (arith, s, c .if2 .taken)), kept-all (a .binders) (a .names .now))
 
 write-restriction-add-names-2 : (t : ℕ) → write-restriction-lts.Need-add-names-2 (write-restriction-claims t) (write-restriction-at t) write-restriction.Post
-write-restriction-add-names-2 t c = omega (arith, c .before .before .before .before .before .before .before .before .before .before .before .before .before .before .pre .1 .3 .4)
+write-restriction-add-names-2 t c = omega (arith, c .before .before .before .before .before .before .before .before .before .before .before .before .before .before .before .pre .1 .3 .4)
 
 write-restriction-cast-names : (t : ℕ) → write-restriction-lts.Need-cast-names (write-restriction-claims t) (write-restriction-at t) write-restriction.Post
-write-restriction-cast-names t c = omega (arith, c .before .before .before .before .before .before .before .before .before .before .before .before .before .before .pre .1 .3 .4)
+write-restriction-cast-names t c = omega (arith, c .before .before .before .before .before .before .before .before .before .before .before .before .before .before .before .pre .1 .3 .4)
 
 write-restriction-add-names-3 : (t : ℕ) → write-restriction-lts.Need-add-names-3 (write-restriction-claims t) (write-restriction-at t) write-restriction.Post
-write-restriction-add-names-3 t c = omega (arith, c .before .before .before .before .before .before .before .before .before .before .before .before .before .before .pre .1 .3 .0, c .before .before .before .before .before .before .before .before .before .before .before .before .before .before .pre .1 .3 .1, c .before .before .before .before .before .before .before .before .before .before .before .before .before .before .pre .1 .0)
+write-restriction-add-names-3 t c = omega (arith, c .before .before .before .before .before .before .before .before .before .before .before .before .before .before .before .pre .1 .3 .0, c .before .before .before .before .before .before .before .before .before .before .before .before .before .before .before .pre .1 .3 .1, c .before .before .before .before .before .before .before .before .before .before .before .before .before .before .before .pre .1 .0)
 
 write-restriction-slice-write-names-2 : (t : ℕ) → write-restriction-lts.Need-slice-write-names-2 (write-restriction-claims t) (write-restriction-at t) write-restriction.Post
-write-restriction-slice-write-names-2 t c = omega (arith, c .before .before .before .before .before .before .before .before .before .before .before .before .before .before .pre .1 .3 .0, c .before .before .before .before .before .before .before .before .before .before .before .before .before .before .pre .1 .3 .1, c .before .before .before .before .before .before .before .before .before .before .before .before .before .before .pre .1 .3 .3, c .before .before .before .before .before .before .before .before .before .before .before .before .before .before .pre .1 .0)
+write-restriction-slice-write-names-2 t c = omega (arith, c .before .before .before .before .before .before .before .before .before .before .before .before .before .before .before .pre .1 .3 .0, c .before .before .before .before .before .before .before .before .before .before .before .before .before .before .before .pre .1 .3 .1, c .before .before .before .before .before .before .before .before .before .before .before .before .before .before .before .pre .1 .3 .3, c .before .before .before .before .before .before .before .before .before .before .before .before .before .before .before .pre .1 .0)
 
 write-restriction-restrict-requires : (t : ℕ) → write-restriction-lts.Need-restrict-requires (write-restriction-claims t) (write-restriction-at t) write-restriction.Post
-write-restriction-restrict-requires t c κs = omega (arith, c .before .before .before .before .before .before .before .before .before .before .before .before .before .before .pre .1 .3 .4)
+write-restriction-restrict-requires t c κs = omega (arith, c .before .before .before .before .before .before .before .before .before .before .before .before .before .before .before .pre .1 .3 .4)
 
 write-restriction-write-requires-2 : (t : ℕ) → write-restriction-lts.Need-write-requires-2 (write-restriction-claims t) (write-restriction-at t) write-restriction.Post
-write-restriction-write-requires-2 t c κs = let a = c .before .before .before .before .before .before .before .before .before .before .before .before .before .before .before .before .before .args in let s = c .before .before .before .before .before .before .before .store .kept .0 in let w = written-to (a .out .now) (a .put) (8 ∷ []) (c .before .before .before .before .before .before .before .store .result) _ (c .before .before .before .before .before .before .before .store .ensures .is) (omega (arith, s, c .before .before .before .before .if2 .left)) in let k : c .before .before .restrict .result .calls ≡ a .task .calls = ap (λ (t : Task). t .calls) (c .before .before .restrict .ensures) in let l : c .before .before .restrict .result .levels ≡ a .task .levels + 1 = ap (λ (t : Task). t .levels) (c .before .before .restrict .ensures) in (omega (arith, c .before .before .before .before .before .before .before .before .before .before .before .before .before .before .before .before .before .pre .0, c .before .before .before .before .before .before .before .before .before .before .before .before .before .before .before .before .before .pre .1 .0, k), (c .before .before .before .before .before .before .before .before .before .before .before .before .before .before .before .before .before .pre .1 .3 .0, omega (arith, c .before .before .before .before .before .before .before .before .before .before .before .before .before .before .before .before .before .pre .1 .3 .1), omega (arith, k, c .before .before .before .before .before .before .before .before .before .before .before .before .before .before .before .before .before .pre .1 .3 .2), length-set (a .names .now) (tableNames + a .binders) (tableNames + a .task .levels) ∙ c .before .before .before .before .before .before .before .before .before .before .before .before .before .before .before .before .before .pre .1 .3 .3, (omega (arith, l, s, w, c .before .before .before .before .before .before .before .before .before .before .before .before .before .before .before .before .before .pre .1 .3 .4), omega (arith, s, c .before .before .before .before .if2 .left)), subst (λ (n : ℕ). TallyIs (a .question .now) (a .src .now) n (a .tally .now)) (sym k) (c .before .before .before .before .before .before .before .before .before .before .before .before .before .before .before .before .before .pre .1 .3 .5)))
+write-restriction-write-requires-2 t c κs = let a = c .before .before .before .before .before .before .before .before .before .before .before .before .before .before .before .before .before .before .args in let s = c .before .before .before .before .before .before .before .store .kept .0 in let w = written-to (a .out .now) (a .put) (8 ∷ []) (c .before .before .before .before .before .before .before .store .result) _ (c .before .before .before .before .before .before .before .store .ensures .is) (omega (arith, s, c .before .before .before .before .if2 .left)) in let k : c .before .before .restrict .result .calls ≡ a .task .calls = ap (λ (t : Task). t .calls) (c .before .before .restrict .ensures) in let l : c .before .before .restrict .result .levels ≡ a .task .levels + 1 = ap (λ (t : Task). t .levels) (c .before .before .restrict .ensures) in (omega (arith, c .before .before .before .before .before .before .before .before .before .before .before .before .before .before .before .before .before .before .pre .0, c .before .before .before .before .before .before .before .before .before .before .before .before .before .before .before .before .before .before .pre .1 .0, k), (c .before .before .before .before .before .before .before .before .before .before .before .before .before .before .before .before .before .before .pre .1 .3 .0, omega (arith, c .before .before .before .before .before .before .before .before .before .before .before .before .before .before .before .before .before .before .pre .1 .3 .1), omega (arith, k, c .before .before .before .before .before .before .before .before .before .before .before .before .before .before .before .before .before .before .pre .1 .3 .2), length-set (a .names .now) (tableNames + a .binders) (tableNames + a .task .levels) ∙ c .before .before .before .before .before .before .before .before .before .before .before .before .before .before .before .before .before .before .pre .1 .3 .3, (omega (arith, l, s, w, c .before .before .before .before .before .before .before .before .before .before .before .before .before .before .before .before .before .before .pre .1 .3 .4), omega (arith, s, c .before .before .before .before .if2 .left)), subst (λ (n : ℕ). TallyIs (a .question .now) (a .src .now) n (a .tally .now)) (sym k) (c .before .before .before .before .before .before .before .before .before .before .before .before .before .before .before .before .before .before .pre .1 .3 .5), c .before .before .before .before .before .before .before .before .before .before .before .before .before .before .before .before .before .before .pre .1 .3 .6))
 
 write-restriction-same-length-4 : (t : ℕ) → write-restriction-lts.Need-same-length-4 (write-restriction-claims t) (write-restriction-at t) write-restriction.Post
-write-restriction-same-length-4 t c = c .before .before .before .before .write2 .kept .1 .1 .1 .1 .1 .1 .0 ∙ length-set (c .before .before .before .before .before .before .before .before .before .before .before .before .before .before .before .before .before .before .before .before .before .before .args .names .now) _ _
+write-restriction-same-length-4 t c = c .before .before .before .before .write2 .kept .1 .1 .1 .1 .1 .1 .1 .0 ∙ length-set (c .before .before .before .before .before .before .before .before .before .before .before .before .before .before .before .before .before .before .before .before .before .before .before .args .names .now) _ _
 
 write-restriction-same-length-5 : (t : ℕ) → write-restriction-lts.Need-same-length-5 (write-restriction-claims t) (write-restriction-at t) write-restriction.Post
 write-restriction-same-length-5 t c = search needs
 
 write-restriction-returns-3 : (t : ℕ) → write-restriction-lts.Need-returns-3 (write-restriction-claims t) (write-restriction-at t) write-restriction.Post
-write-restriction-returns-3 t c = let a = c .before .before .before .before .before .before .before .before .before .before .before .before .before .before .before .before .before .before .before .before .before .before .args in let s = c .before .before .before .before .before .before .before .before .before .before .before .before .store .kept .0 in (write-res (a .question .now) (a .src .now) (a .at) (a .binders) (a .names .now) (a .task) (c .before .before .before .before .before .before .before .before .before .before .before .before .before .before .before .before .before .before .before .before .before .before .pre .1 .2) (a .out .now) (a .put) (c .before .before .before .before .before .before .before .before .before .before .before .before .before .before .before .before .before .before .before .before .before .before .pre .1 .1) (c .before .before .before .before .before .before .before .before .before .before .before .before .before .before .before .before .pass .result) (c .before .before .before .before .before .before .before .before .before .before .before .before .before .before .before .before .pass .ensures) (sym (c .before .before .before .before .before .before .before .before .before .before .before .before .before .before .before .opens .ensures) ∙ c .before .before .before .before .before .before .before .before .before .before .before .before .before .before .if1 .left) (c .before .before .before .before .before .before .before .before .before .before .before .before .store .result) _ (c .before .before .before .before .before .before .before .before .before .before .before .before .store .ensures) (omega (arith, c .before .before .before .before .before .before .before .before .before .before .before .before .before .before .before .before .before .before .before .before .before .before .pre .1 .3 .0, c .before .before .before .before .before .before .before .before .before .before .before .before .before .before .before .before .before .before .before .before .before .before .pre .1 .3 .1, c .before .before .before .before .before .before .before .before .before .before .before .before .before .before .before .before .before .before .before .before .before .before .pre .1 .3 .3, c .before .before .before .before .before .before .before .before .before .before .before .before .before .before .before .before .before .before .before .before .before .before .pre .1 .0)) (omega (arith, s, c .before .before .before .before .before .before .before .before .before .if2 .left)) s (c .before .before .before .before .before .before .before .restrict .result) (c .before .before .before .before .before .before .before .restrict .ensures) (c .before .before .before .before .write2 .result) _ (c .before .before .before .before .write2 .ensures .0), kept-within (a .binders) (tableNames + a .task .levels) (a .names .now) _ (c .before .before .before .before .write2 .ensures .1))
+write-restriction-returns-3 t c = let a = c .before .before .before .before .before .before .before .before .before .before .before .before .before .before .before .before .before .before .before .before .before .before .before .args in let s = c .before .before .before .before .before .before .before .before .before .before .before .before .store .kept .0 in (write-res (a .question .now) (a .src .now) (a .at) (a .binders) (a .names .now) (a .task) (c .before .before .before .before .before .before .before .before .before .before .before .before .before .before .before .before .before .before .before .before .before .before .before .pre .1 .2) (a .out .now) (a .put) (c .before .before .before .before .before .before .before .before .before .before .before .before .before .before .before .before .before .before .before .before .before .before .before .pre .1 .1) (c .before .before .before .before .before .before .before .before .before .before .before .before .before .before .before .before .pass .result) (c .before .before .before .before .before .before .before .before .before .before .before .before .before .before .before .before .pass .ensures) (sym (c .before .before .before .before .before .before .before .before .before .before .before .before .before .before .before .opens .ensures) ∙ c .before .before .before .before .before .before .before .before .before .before .before .before .before .before .if1 .left) (c .before .before .before .before .before .before .before .before .before .before .before .before .store .result) _ (c .before .before .before .before .before .before .before .before .before .before .before .before .store .ensures) (omega (arith, c .before .before .before .before .before .before .before .before .before .before .before .before .before .before .before .before .before .before .before .before .before .before .before .pre .1 .3 .0, c .before .before .before .before .before .before .before .before .before .before .before .before .before .before .before .before .before .before .before .before .before .before .before .pre .1 .3 .1, c .before .before .before .before .before .before .before .before .before .before .before .before .before .before .before .before .before .before .before .before .before .before .before .pre .1 .3 .3, c .before .before .before .before .before .before .before .before .before .before .before .before .before .before .before .before .before .before .before .before .before .before .before .pre .1 .0)) (omega (arith, s, c .before .before .before .before .before .before .before .before .before .if2 .left)) s (c .before .before .before .before .before .before .before .restrict .result) (c .before .before .before .before .before .before .before .restrict .ensures) (c .before .before .before .before .write2 .result) _ (c .before .before .before .before .write2 .ensures .0), kept-within (a .binders) (tableNames + a .task .levels) (a .names .now) _ (c .before .before .before .before .write2 .ensures .1))
 
 pub +write+write-call+write-choice+write-parallel+write-restriction-spec :
     {M : Type 1} → statement M
@@ -472,11 +470,10 @@ pub +write+write-call+write-choice+write-parallel+write-restriction-spec :
     (write-call-returns t)
     (write-call-enter-requires t)
     (write-call-body-of-requires t)
-    (write-call-tally-requires t)
+    (write-call-body-tally-requires t)
     (write-call-add-called t)
     (write-call-called-requires t)
     (write-call-slice-aggregate-write t)
-    (write-call-slice-aggregate-write-2 t)
     (write-call-write-requires t)
     (write-call-same-length t)
     (write-call-returns-2 t))

@@ -3,6 +3,7 @@ use mathlib.Core.Path.{sym}
 use lib.ListN.{List·getD-eq-default}
 use native.Mathlib.Omega.{arith}
 use borrow.Author.Needs.{needs}
+use Prim.Native.Nat.{_+_}
 use Rattle.steps.proofs.tally.number.Statement.{statement}
 use Rattle.steps.proofs.tally.number.Tie as tie
 
@@ -24,10 +25,13 @@ mul-result c = search needs
 shared-slice-read-result : tie.Need-shared-slice-read-result
 shared-slice-read-result c = search needs
 
+cast-result : tie.Need-cast-result
+cast-result c = omega (arith, c .shared-slice-known .given (c .before .before .before .args .from + c .before .before .before .args .i))
+
 returns-3 : tie.Need-returns-3
 returns-3 c = search needs
 
 pub number-spec : {M : Type 1} → statement M
 number-spec =
     tie.close
-    (tie.spec returns sub-if2 returns-2 add-result mul-result shared-slice-read-result returns-3)
+    (tie.spec returns sub-if2 returns-2 add-result mul-result shared-slice-read-result cast-result returns-3)

@@ -1,0 +1,51 @@
+-- `steps::tally::body_tallies` meets its contract. Assumes nothing.
+use mathlib.Core.Path.{subst}
+use Prim.Native.Nat.{ℕ, _-_, _≤_}
+use native.Mathlib.Omega.{arith}
+use borrow.Author.Needs.{needs}
+use Rattle.terms.specs.Limits.{mostDefinitions}
+use Rattle.steps.specs.Tally.{TalliedBelow}
+use Rattle.steps.proofs.TallyLoops.{tallied-none}
+use Rattle.steps.proofs.tally.body_tallies.Statement.{statement}
+use Rattle.steps.proofs.tally.body_tallies.Tie as tie
+
+abbrev Inv-loop : tie.InvT-loop
+Inv-loop question bodies₀ k₀ bodies k = (k ≤ mostDefinitions) × TalliedBelow question k bodies
+
+abbrev μ-loop : tie.MeasureT-loop
+μ-loop question bodies₀ k₀ bodies k = mostDefinitions - k
+
+loop-holds : tie.Need-loop-holds Inv-loop μ-loop
+loop-holds c = (omega arith, tallied-none (c .before .args .question .now))
+
+slice-aggregate-tally-body : tie.Need-slice-aggregate-tally-body Inv-loop μ-loop
+slice-aggregate-tally-body c = search needs
+
+tally-body-requires : tie.Need-tally-body-requires Inv-loop μ-loop
+tally-body-requires c κs = (c .before .loop-test .taken, c .before .before .loop .inv .1)
+
+add-k : tie.Need-add-k Inv-loop μ-loop
+add-k c = omega (arith, c .before .before .before .loop-test .taken)
+
+loop-less : tie.Need-loop-less Inv-loop μ-loop
+loop-less c = omega (arith, c .before .before .before .loop-test .taken)
+
+loop-again : tie.Need-loop-again Inv-loop μ-loop
+loop-again c = (omega (arith, c .before .before .before .loop-test .taken), c .before .tally-body .ensures)
+
+returns : tie.Need-returns Inv-loop μ-loop
+returns c = subst (λ (k : ℕ). TalliedBelow (c .before .before .before .args .question .now) k (c .before .loop .bodies)) (omega (arith, c .before .loop .inv .0, c .loop-test .left)) (c .before .loop .inv .1)
+
+pub body-tallies-spec : {M : Type 1} → statement M
+body-tallies-spec =
+    tie.close
+    (tie.spec
+    Inv-loop
+    μ-loop
+    loop-holds
+    slice-aggregate-tally-body
+    tally-body-requires
+    add-k
+    loop-less
+    loop-again
+    returns)
