@@ -39,6 +39,7 @@ pub mod Restriction
 pub mod RestrictionRuns
 pub mod ResultLaws
 pub mod Scope
+pub mod SilentSteps
 pub mod SlotLaws
 pub mod Sorted
 pub mod StepEntries

@@ -16,7 +16,7 @@ use Rattle.terms.specs.Encoding.{nameByte}
 use Rattle.terms.specs.NameTable.{slot, Represents}
 use Rattle.terms.proofs.NameTables.{byte-bound, byte-free}
 use Rattle.steps.specs.Slots.{slotOf}
-use Rattle.steps.specs.Names.{mostBinders, nameSlots, HasNames, HasNew, Kept, turn, CalledIs, TableIs}
+use Rattle.steps.specs.Names.{HasNames, HasNew, Kept, turn, CalledIs, TableIs}
 
 pub turn-free : (from to D w : ℕ) → w < from → turn from to D w ≡ w
 unfolding turn
@@ -105,21 +105,21 @@ slot-of-place D m h = go (ltb m D) refl
         let l = ltb-false m D t in
         rw (slot-free tableNames D m l, t) (turn-free tableNames tableNames D (m - D) (omega arith))
 
-place-within : (D m : ℕ) → D ≤ mostBinders → m < D + tableNames → slot D m < nameSlots
+place-within : (D m : ℕ) → m < D + tableNames → slot D m < tableNames + D
 unfolding slot
-place-within D m d h = go (ltb m D) refl
+place-within D m h = go (ltb m D) refl
   where
-    go : (t : Bool) → ltb m D ≡ t → slot D m < nameSlots
+    go : (t : Bool) → ltb m D ≡ t → slot D m < tableNames + D
     go true t = rw t (omega (arith, ltb-true m D t))
     go false t = rw t (omega (arith, ltb-false m D t))
 
 module _ (free D D′ : ℕ) (names : List ℕ) (τ : ℕ → ℕ) (has : HasNames free D D′ names τ) where
   -- As a table for renaming.
-  pub names-represent : (table : List ℕ) → free ≤ tableNames → D ≤ mostBinders → TableIs names D D′ table → Represents free D D′ table τ
+  pub names-represent : (table : List ℕ) → free ≤ tableNames → TableIs names D D′ table → Represents free D D′ table τ
   unfolding HasNames TableIs Represents
-  names-represent table few deep is m h =
+  names-represent table few is m h =
       let (e, r) = has m h in (
-        is (slot D m) (place-within D m deep (omega arith))
+        is (slot D m) (place-within D m (omega arith))
             ∙ ap (λ (k : ℕ). turn tableNames 128 D′ (getD names k 0)) (slot-of-place D m (omega arith))
             ∙ ap (turn tableNames 128 D′) e ∙ byte-of-slot D′ (τ m) r,
         r,

@@ -4,28 +4,30 @@ use mathlib.Core.Bool.{Bool, true, false}
 use mathlib.Core.List.{List, [], _∷_, _++_, map, append-assoc, append-nil}
 use Prim.Native.Nat.{ℕ, suc, _+_, _-_, _<_, _≤_}
 use native.Mathlib.Omega.{arith}
-use lib.ListN.{length, getD, drop, set, length-append, length-drop}
-use lib.Seq.{sets, drop-drop}
+use lib.ListN.{length, getD, take, drop, set, length-append, length-drop}
+use lib.Seq.{sets, take-at, drop-drop}
 use lib.Dec.{leb}
 use borrow.Author.Tests.{leb-true, leb-false}
 use Rattle.calculus.specs.Abstraction.{Act, tauA}
 use Rattle.calculus.specs.Term.{Term, mat, sum, par, res, call, ren, lift}
-use Rattle.calculus.proofs.Renaming.{ren-∘}
+use Rattle.calculus.proofs.FreeNames.{ren-ext}
+use Rattle.calculus.proofs.Renaming.{ren-∘, ren-id}
 use Rattle.terms.specs.Answer.{result}
 use Rattle.terms.specs.Encoding.{encode, InScope}
 use Rattle.terms.specs.Limits.{nameCount, tableNames}
 use Rattle.terms.specs.Question.{Question, checkOf}
 use Rattle.terms.specs.Renaming.{RenameIs}
 use Rattle.terms.proofs.ReadEncoded.{encode-some}
+use Rattle.terms.proofs.ScopeLaws.{free-below}
 use Rattle.terms.proofs.Shapes.{length-ren}
 use Rattle.terms.proofs.Stores.{sets-join}
-use Rattle.steps.specs.Bodies.{AritiesIs, BodyIs, OpeningIs, EndIs}
+use Rattle.steps.specs.Bodies.{AritiesIs, BodyIs, OpeningIs}
 use Rattle.steps.specs.Listing.{bodyOf}
 use Rattle.steps.specs.Passing.{candidates, Does, PassIs, MiddleIs, opensAt}
 use Rattle.steps.specs.Raw.{Candidate, step, blocked}
-use Rattle.steps.specs.Names.{mostBinders, Kept, CalledIs, TableIs}
+use Rattle.steps.specs.Names.{Kept, CalledIs, UnchangedIs, TableIs}
 use Rattle.steps.specs.Results.{receiving, chosen, Asks, Written, StoreIs, TermIs, WriteIs, numbered, beneath, inside, entering, opening, Parts, PlanIs}
-use Rattle.steps.specs.Tally.{TallyIs}
+use Rattle.steps.specs.Tally.{endAt, TallyIs, EndsTallied}
 use Rattle.steps.specs.Tallying.{numberAt}
 use Rattle.steps.specs.declared.bodies.Opening.{Opening}
 use Rattle.steps.specs.declared.pass.Passed.{Passed}
@@ -34,9 +36,11 @@ use Rattle.steps.specs.declared.result.Task.{Task}
 use Rattle.steps.proofs.CallLaws.{params, names-call, body-scope, at-call}
 use Rattle.steps.proofs.AskLaws.{chosen-is, ask-open, res-part, ask-res}
 use Rattle.steps.proofs.CandidateForms.{candidates-mat, candidates-res, candidates-call, candidates-no-call, tag-at, only-mat, only-sum, only-par, only-res}
+use Rattle.steps.proofs.FrontLaws.{stands}
 use Rattle.steps.proofs.NameSlots.{names-represent, names-kept}
 use Rattle.steps.proofs.Numbering.{nth-matching, nth-restricted, some-candidate}
 use Rattle.steps.proofs.Premises.{never, Under, matching-of, under-of}
+use Rattle.steps.proofs.SlotLaws.{names-unchanged}
 use Rattle.steps.proofs.TwoSides.{sides-sum, at-left, at-right, number-is, behind}
 
 -- What fits ends where it should.
@@ -80,35 +84,61 @@ pub plan-same : (c : Bool) (m : ℕ) (l l′ r r′ : Task) → l ≡ l′ → r
     → _≡_ {A = Plan} (record { close = c; middle = m; left = l; right = r }) (record { close = c; middle = m; left = l′; right = r′ })
 plan-same c m l l′ r r′ p q = ap₂ (λ (x y : Task). record { close = c; middle = m; left = x; right = y }) p q
 
+-- The ends of a tally, whatever its numbers.
+pub ends-tallied : (question s : List ℕ) (calls : ℕ) (t : List ℕ) → TallyIs question s calls t → EndsTallied question s t
+ends-tallied question s calls t T =
+    record { on = T .on; is = λ q at free D P rest ok scope st. T .is q at free D (λ (n : ℕ). n) P rest ok scope st .2 }
+
 -- A term, renamed by the table.
-module _ (question s : List ℕ) (at D : ℕ) (names : List ℕ) (levels : ℕ) (out : List ℕ) (put : ℕ) (arities : List ℕ) (ar : AritiesIs question arities) (e : ℕ)
-    (E : EndIs s at arities e) where
-  ends : (q : Question) (free : ℕ) (τ : ℕ → ℕ) (P : Term) (rest : List ℕ) → checkOf question ≡ result q → InScope free (q .arities) D P
-      → drop at s ≡ encode D P ++ rest → e - at ≡ length (encode levels (ren τ P))
-  unfolding AritiesIs
-  ends q free τ P rest ok scope st =
-      omega (arith, E .is free D P rest (subst (λ (l : List ℕ). InScope free l D P) (sym (ar q ok)) scope) st, length-ren D levels τ P)
-
-  pub term-full : put ≤ length out → length out < put + (e - at) → TermIs question s at D names levels out put (length out + 1) out
-  term-full h full = record {
+module _ (question s : List ℕ) (at D : ℕ) (names : List ℕ) (levels : ℕ) (out : List ℕ) (put : ℕ) where
+  pub term-none : length s ≤ at → put ≤ length out → TermIs question s at D names levels out put (length out + 1) out
+  term-none past h = record {
     on = omega arith;
-    is = λ q free τ P rest ok few scope st has.
-        let l = ends q free τ P rest ok scope st in
-        record { fits = λ f. absurd (omega arith); over = λ f. omega arith };
+    is = λ q free τ P rest ok few scope st has. let z = stands s at D P rest st in absurd (omega arith);
   }
 
-  pub term-done : D ≤ mostBinders → levels + length out ≤ 128 + put → put + (e - at) ≤ length out → (table : List ℕ) → TableIs names D levels table
-      → (r : ℕ) (out′ : List ℕ) → RenameIs s at arities table out put r out′ → TermIs question s at D names levels out put (put + (e - at)) out′
-  unfolding AritiesIs RenameIs
-  term-done deep low room table T r out′ R = record {
-    on = omega arith;
-    is = λ q free τ P rest ok few scope st has.
-        let l = ends q free τ P rest ok scope st in
-        let m = length-ren D levels τ P in
-        let w = R free D levels τ P rest (omega arith) (names-represent free D levels names τ has table (omega arith) deep T)
-        (subst (λ (l : List ℕ). InScope free l D P) (sym (ar q ok)) scope) st (omega arith) (omega arith) in
-        record { fits = λ f. (omega arith, w .1); over = λ f. absurd (omega arith) };
-  }
+  module _ (t : List ℕ) (T : EndsTallied question s t) (e : ℕ) (E : e ≡ endAt t at) where
+    ends : (q : Question) (free : ℕ) (τ : ℕ → ℕ) (P : Term) (rest : List ℕ) → checkOf question ≡ result q → InScope free (q .arities) D P
+        → drop at s ≡ encode D P ++ rest → e - at ≡ length (encode levels (ren τ P))
+    ends q free τ P rest ok scope st = omega (arith, E, T .is q at free D P rest ok scope st, length-ren D levels τ P)
+
+    pub term-full : put ≤ length out → length out < put + (e - at) → TermIs question s at D names levels out put (length out + 1) out
+    term-full h full = record {
+      on = omega arith;
+      is = λ q free τ P rest ok few scope st has.
+          let l = ends q free τ P rest ok scope st in
+          record { fits = λ f. absurd (omega arith); over = λ f. omega arith };
+    }
+
+    -- Where no name is changed, the bytes are those of the term.
+    pub term-same : put + (e - at) ≤ length out → UnchangedIs names D levels true → (out′ : List ℕ) → out′ ≡ sets out put (take (e - at) (drop at s))
+        → TermIs question s at D names levels out put (put + (e - at)) out′
+    unfolding UnchangedIs
+    term-same room U out′ w = record {
+      on = omega arith;
+      is = λ q free τ P rest ok few scope st has.
+          let l = ends q free τ P rest ok scope st in
+          let u = U refl in
+          let same : ren τ P ≡ P =
+          ren-ext τ (λ (n : ℕ). n) P (λ n f. names-unchanged free D levels names τ has (omega arith) (u .0) (u .1) n (free-below free (q .arities) D P scope n f)) ∙ ren-id P in
+          let b : encode levels (ren τ P) ≡ encode D P = ap₂ encode (u .0) same in
+          let c : take (e - at) (drop at s) ≡ encode levels (ren τ P) =
+          ap (take (e - at)) st ∙ take-at (encode D P) rest (e - at) (sym (l ∙ ap length b)) ∙ sym b in
+          record { fits = λ f. (omega arith, w ∙ ap (sets out put) c); over = λ f. absurd (omega arith) };
+    }
+
+    pub term-done : levels + length out ≤ 128 + put → put + (e - at) ≤ length out → (arities : List ℕ) → AritiesIs question arities → (table : List ℕ) → TableIs names D levels table
+        → (r : ℕ) (out′ : List ℕ) → RenameIs s at arities table out put r out′ → TermIs question s at D names levels out put (put + (e - at)) out′
+    unfolding AritiesIs RenameIs
+    term-done low room arities ar table B r out′ R = record {
+      on = omega arith;
+      is = λ q free τ P rest ok few scope st has.
+          let l = ends q free τ P rest ok scope st in
+          let m = length-ren D levels τ P in
+          let w = R free D levels τ P rest (omega arith) (names-represent free D levels names τ has table (omega arith) B)
+          (subst (λ (l : List ℕ). InScope free l D P) (sym (ar q ok)) scope) st (omega arith) (omega arith) in
+          record { fits = λ f. (omega arith, w .1); over = λ f. absurd (omega arith) };
+    }
 
 -- What is asked for by a table is asked for by any that has kept what the names need.
 asks-kept : (names names′ : List ℕ) (task : Task) (body : ℕ → Term) (free D : ℕ) (σ : ℕ → ℕ) (P : Term) (bs : List ℕ) → free ≤ nameCount → Kept D names names′

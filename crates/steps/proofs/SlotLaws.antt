@@ -5,10 +5,12 @@ use mathlib.Core.List.{List, [], _∷_, _++_}
 use Prim.Native.Nat.{ℕ, zero, suc, _+_, _<_, _≤_}
 use native.Mathlib.Omega.{arith}
 use lib.Dec.{ltb}
+use lib.ListN.{getD}
 use borrow.Author.Tests.{ltb-true, ltb-false}
 use Rattle.calculus.specs.Cond.{Cond, mapP, Unif, cls}
 use Rattle.calculus.proofs.Conditions.{E2, E3, δ, δ-self, δ-eq, δ-ne, Unif-mapP, cls-le, cls-~, mapP-~, mapP-∘}
-use Rattle.terms.specs.Limits.{nameCount}
+use Rattle.terms.specs.Limits.{nameCount, tableNames}
+use Rattle.steps.specs.Names.{HasNames}
 use Rattle.steps.specs.Raw.{spares, sparesRestricted, outside}
 use Rattle.steps.specs.Slots.{slotOf, HasClasses, Below}
 use Rattle.steps.proofs.NameSlots.{slot-bound, slot-free, slot-inner}
@@ -108,3 +110,21 @@ pub below-append : (n : ℕ) (M N : Cond) → Below n M → Below n N → Below 
 unfolding Below
 below-append n [] N b c = c
 below-append n (p ∷ M) N b c = (b .0, b .1, below-append n M N (b .2) c)
+
+-- Names with the same slot are the same.
+same-slot : (names D m n : ℕ) → m < D + names → n < D + names → slotOf names D m ≡ slotOf names D n → m ≡ n
+same-slot names D m n h k e = go (ltb m D) refl (ltb n D) refl
+  where
+    go : (t : Bool) → ltb m D ≡ t → (u : Bool) → ltb n D ≡ u → m ≡ n
+    go true t true u = omega (arith, e, ltb-true m D t, ltb-true n D u, slot-bound names D m (ltb-true m D t), slot-bound names D n (ltb-true n D u))
+    go true t false u = omega (arith, e, ltb-true m D t, ltb-false n D u, slot-bound names D m (ltb-true m D t), slot-free names D n (ltb-false n D u))
+    go false t true u = omega (arith, e, ltb-false m D t, ltb-true n D u, slot-free names D m (ltb-false m D t), slot-bound names D n (ltb-true n D u))
+    go false t false u = omega (arith, e, ltb-false m D t, ltb-false n D u, slot-free names D m (ltb-false m D t), slot-free names D n (ltb-false n D u))
+
+-- Where each slot in use has itself, each name stands for itself.
+pub names-unchanged : (free D D′ : ℕ) (names : List ℕ) (τ : ℕ → ℕ) → HasNames free D D′ names τ → free ≤ tableNames → D′ ≡ D
+    → ((i : ℕ) → i < tableNames + D → getD names i 0 ≡ i) → (m : ℕ) → m < D + free → τ m ≡ m
+unfolding HasNames
+names-unchanged free D D′ names τ has few same is m h =
+    let (e, r) = has m h in
+    sym (same-slot tableNames D m (τ m) (omega arith) (omega arith) (sym (is (slotOf tableNames D m) (slot-below tableNames D m (omega arith))) ∙ e ∙ ap (λ (d : ℕ). slotOf tableNames d (τ m)) same))

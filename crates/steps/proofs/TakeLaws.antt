@@ -6,8 +6,8 @@ use mathlib.Core.Path.{_≡_, refl, sym, _∙_, ap, subst}
 use native.Mathlib.Omega.{arith}
 use Prim.Native.Nat.{ℕ, _+_, _*_, _<_, _≤_}
 use lib.Dec.{leb}
-use lib.ListN.{length, getD, take, drop, replicate, length-replicate, List·getD-append}
-use lib.Seq.{sets, sets-eq, getD-take, length-take-le}
+use lib.ListN.{length, getD, set, take, drop, replicate, length-replicate, List·getD-append}
+use lib.Seq.{sets, sets-eq, getD-take, getD-set-other, length-take-le}
 use Rattle.calculus.specs.Abstraction.{Act, tauA, inpA, outA, boutA}
 use Rattle.calculus.specs.Cond.{Cond, cls}
 use Rattle.calculus.specs.Term.{Term, ren}
@@ -36,10 +36,10 @@ use Rattle.steps.proofs.CollectLaws.{put-blocked, put-step, put-long, t
 use Rattle.steps.proofs.StepEntries.{slot-name, class-names}
 
 -- The table of a result: the classes are stored in it.
-pub names-stored : (class : List ℕ) (names : List ℕ) → nameCount ≤ length class
-    → names ≡ sets (replicate nameSlots 0) 0 (take nameCount class) → NamesAre class names
+pub names-stored : (class : List ℕ) (names : List ℕ) (v : ℕ) → nameCount ≤ length class
+    → names ≡ sets (replicate nameSlots 0) 0 (take nameCount class) → NamesAre class (set names nameCount v)
 unfolding NamesAre
-names-stored class names many e n h =
+names-stored class names v many e n h =
     let xs : List ℕ = take nameCount class in
     let ys : List ℕ = drop nameCount (replicate nameSlots 0) in
     let l : length xs ≡ nameCount = length-take-le nameCount class many in
@@ -47,7 +47,7 @@ names-stored class names many e n h =
     let whole : names ≡ xs ++ ys =
     e ∙ sets-eq xs (replicate nameSlots 0) 0 (omega (arith, length-replicate {A = ℕ} nameSlots 0))
     ∙ ap (λ n. xs ++ drop n (replicate nameSlots 0)) k in
-    ap (λ t. getD t n 0) whole ∙ List·getD-append xs ys 0 n (omega arith) ∙ getD-take nameCount class n 0 h
+    getD-set-other names nameCount n v 0 (λ z. omega arith) ∙ ap (λ t. getD t n 0) whole ∙ List·getD-append xs ys 0 n (omega arith) ∙ getD-take nameCount class n 0 h
 
 has-names : (names class : List ℕ) → NamesAre class names → (M : Cond) → ((n : ℕ) → n < nameCount → getD class n 0 ≡ cls M n)
     → HasNames nameCount 0 0 names (λ n. cls M n)

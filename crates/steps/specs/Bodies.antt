@@ -1,12 +1,11 @@
--- The definitions of an accepted question in its bytes, and where a term ends.
+-- The definitions of an accepted question in its bytes.
 use mathlib.Core.Path.{_≡_}
 use mathlib.Core.Bool.{Bool, true, false}
-use mathlib.Core.List.{List, _++_}
-use Prim.Native.Nat.{ℕ, _+_, _<_, _≤_, max}
-use lib.ListN.{length, getD, drop}
-use Rattle.calculus.specs.Term.{Term}
+use mathlib.Core.List.{List}
+use Prim.Native.Nat.{ℕ, _+_, _<_, _≤_}
+use lib.ListN.{length, getD}
 use Rattle.terms.specs.Answer.{result}
-use Rattle.terms.specs.Encoding.{encode, InScope}
+use Rattle.terms.specs.Encoding.{encode}
 use Rattle.terms.specs.FieldPlaces.{fieldAt, fieldPlace}
 use Rattle.terms.specs.Limits.{mostDefinitions, greatestArity, longestTerm}
 use Rattle.terms.specs.Question.{Question, checkOf}
@@ -32,9 +31,3 @@ pub record OpeningIs (question s : List ℕ) (at calls : ℕ) (r : Opening) : Ty
   pub may : r .allowed ≡ true → (0 < calls) × (r .arity ≤ greatestArity) × (length (fieldAt question (fieldPlace question (r .definition))) ≤ longestTerm)
       × (r .definition < mostDefinitions)
   pub not : r .allowed ≡ false → (q : Question) → checkOf question ≡ result q → r .definition < length (q .arities) → calls ≡ 0
-
--- Of terms in scope; where there is none, the end is not before the beginning.
-pub record EndIs (s : List ℕ) (at : ℕ) (arities : List ℕ) (r : ℕ) : Type 0 where
-  pub on : at ≤ r
-  pub inside : r ≤ max at (length s)
-  pub is : (free d : ℕ) (P : Term) (rest : List ℕ) → InScope free arities d P → drop at s ≡ encode d P ++ rest → r ≡ at + length (encode d P)

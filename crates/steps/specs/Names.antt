@@ -1,7 +1,7 @@
 -- What the names of the bytes that a walk is at stand for. A called body is walked in place under its parameters, so its names stand for
 -- others; a table says which, by slots (Slots): a name's slot among these bytes holds the slot of the name outside.
 use mathlib.Core.Path.{_≡_}
-use mathlib.Core.Bool.{cond}
+use mathlib.Core.Bool.{Bool, true, cond}
 use mathlib.Core.List.{List}
 use Prim.Native.Nat.{ℕ, _+_, _-_, _<_}
 use lib.ListN.{getD}
@@ -38,6 +38,10 @@ unfoldable pub CalledIs : List ℕ → ℕ → ℕ → ℕ → List ℕ → List
 CalledIs s at count D names r =
     (j : ℕ) → j < count → getD r (tableNames + j) 0 ≡ getD names (turn 128 tableNames D (getD s (at + j) 0)) 0
 
+-- Each name stays as it is: the slots in use hold themselves.
+unfoldable pub UnchangedIs : List ℕ → ℕ → ℕ → Bool → Type 0
+UnchangedIs names D D′ r = r ≡ true → (D′ ≡ D) × ((i : ℕ) → i < tableNames + D → getD names i 0 ≡ i)
+
 -- The table for renaming, which has the binders from the innermost outward.
 unfoldable pub TableIs : List ℕ → ℕ → ℕ → List ℕ → Type 0
-TableIs names D D′ r = (i : ℕ) → i < nameSlots → getD r i 0 ≡ turn tableNames 128 D′ (getD names (turn tableNames tableNames D i) 0)
+TableIs names D D′ r = (i : ℕ) → i < tableNames + D → getD r i 0 ≡ turn tableNames 128 D′ (getD names (turn tableNames tableNames D i) 0)

@@ -17,7 +17,7 @@ use Rattle.terms.specs.Limits.{nameCount, tableNames, greatestArity, longestTer
 use Rattle.terms.specs.Question.{Question, checkOf}
 use Rattle.steps.specs.Listing.{bodyOf}
 use Rattle.steps.specs.Names.{nameSlots, HasNames, HasNew}
-use Rattle.steps.specs.Passing.{candidates}
+use Rattle.steps.specs.Passing.{candidates, PassIs, opensAt}
 use Rattle.steps.specs.Raw.{Candidate, step, blocked}
 use Rattle.steps.specs.Tally.{TallyIs, BodiesTallied}
 use Rattle.steps.specs.declared.result.Numbers.{Numbers}
@@ -68,6 +68,12 @@ pub record TermIs (question s : List ℕ) (at D : ℕ) (names : List ℕ) (level
       → drop at s ≡ encode D P ++ rest
       → HasNames free D levels names τ
       → Written out put (encode levels (ren τ P)) r out′
+
+-- Whether the name of the restriction at `at` is sent, by what the action of the candidate beneath it does.
+pub record ExtrudedIs (question s : List ℕ) (at D : ℕ) (task : Task) (r : Bool) : Type 0 where
+  pub passed : Passed
+  pub does : PassIs question s (at + 1) (D + 1) (task .calls) (task .silently) (task .number) passed
+  pub is : r ≡ opensAt D (passed .kind) (passed .object)
 
 -- What a task asks for of the term at `at`.
 pub record WriteIs (question s : List ℕ) (at D : ℕ) (names : List ℕ) (task : Task) (out : List ℕ) (put r : ℕ) (out′ : List ℕ) : Type 0 where

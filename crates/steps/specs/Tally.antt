@@ -41,6 +41,15 @@ pub record TallyIs (question s : List ℕ) (calls : ℕ) (t : List ℕ) : Type 0
       × (silentAt t at ≡ length (silent (bodyOf (q .bodies)) calls (ren σ P)))
       × (endAt t at ≡ at + length (encode D P))
 
+-- The ends alone, which are the same however many calls may be opened.
+pub record EndsTallied (question s t : List ℕ) : Type 0 where
+  pub on : (at : ℕ) → at < length s → (at < endAt t at) × (endAt t at ≤ length s)
+  pub is : (q : Question) (at free D : ℕ) (P : Term) (rest : List ℕ)
+      → checkOf question ≡ result q
+      → InScope free (q .arities) D P
+      → drop at s ≡ encode D P ++ rest
+      → endAt t at ≡ at + length (encode D P)
+
 -- The tally of body k, and the numbers of the calls of definition k: those of the whole body.
 unfoldable pub bodyTally : List ℕ → ℕ → List ℕ
 bodyTally t k = take tallySize (drop (tallySize * k) t)

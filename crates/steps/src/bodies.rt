@@ -1,16 +1,14 @@
-// The definitions of an accepted question: their arities and bodies as pieces of it. And where a term ends.
+// The definitions of an accepted question: their arities and bodies as pieces of it.
 ghost use Prim.Native.Nat.{_<_};
 ghost use lib.ListN.{length};
-ghost use Rattle.steps.specs.Bodies.{AritiesIs, BodyIs, MayOpenIs, OpeningIs, EndIs};
+ghost use Rattle.steps.specs.Bodies.{AritiesIs, BodyIs, MayOpenIs, OpeningIs};
 use terms::bytes::get;
-use terms::bytes::room;
 use terms::frame::arities;
 use terms::frame::field_at;
 use terms::frame::field_place;
 use terms::limits::GREATEST_ARITY;
 use terms::limits::LONGEST_TERM;
 use terms::limits::MOST_DEFINITIONS;
-use terms::shape::shape_at;
 
 // The arities.
 pub fn arities_of(question: &[u8]) -> &[u8]
@@ -68,27 +66,4 @@ pub fn call_at(question: &[u8], src: &[u8], at: usize, calls: usize) -> Opening
         arity: n,
         end: at + 2 + n,
     }
-}
-
-// Where the term at `at` ends.
-pub fn end_of(src: &[u8], at: usize, arities: &[u8]) -> usize
-    ensures { λ r. ⌜ EndIs (now (src .entry)) at (now (arities .entry)) r ⌝ }
-{
-    if src.len() <= at {
-        return at;
-    }
-    let h = shape_at(src, at, arities);
-    let n = h.fixed + h.names;
-    let parts = h.parts;
-    if !room(src.len(), at, n) {
-        return at;
-    }
-    if parts == 0 {
-        return at + n;
-    }
-    let e = end_of(src, at + n, arities);
-    if parts == 1 {
-        return e;
-    }
-    end_of(src, e, arities)
 }

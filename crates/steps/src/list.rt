@@ -22,13 +22,14 @@ use terms::limits::GREATEST_ARITY;
 use terms::limits::LONGEST_TERM;
 use terms::limits::NAME_COUNT;
 
-// What the names are written as in a result: each as its class.
+// What the names are written as in a result: each as its class. The new name's slot has itself.
 fn result_names(class: &[u8]) -> [u8; NAME_SLOTS]
     requires { ⌜ nameCount ≤ length (now class) ⌝ }
     ensures { λ r. ⌜ NamesAre (now (class .entry)) r ⌝ }
 {
     let mut names = [0u8; NAME_SLOTS];
     copy(class, 0, NAME_COUNT, &mut names, 0);
+    names[NAME_COUNT] = NAME_COUNT as u8;
     names
 }
 

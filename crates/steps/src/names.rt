@@ -2,9 +2,8 @@
 // says which. Nothing is copied or shifted when a call is opened, and no name can be captured.
 ghost use mathlib.Core.Path.{_≡_};
 ghost use Prim.Native.Nat.{_+_, _≤_, _<_};
-ghost use lib.ListN.{set};
 ghost use Rattle.terms.specs.Limits.{tableNames, greatestArity};
-ghost use Rattle.steps.specs.Names.{mostBinders, turn, CalledIs, TableIs};
+ghost use Rattle.steps.specs.Names.{mostBinders, turn, CalledIs, UnchangedIs, TableIs};
 use terms::bytes::get;
 use terms::limits::TABLE_NAMES;
 
@@ -61,6 +60,24 @@ fn byte_of(slot: u8, levels: usize) -> u8
     turned(slot as usize, TABLE_NAMES, 128, levels) as u8
 }
 
+// Whether each name stays as it is: as many restrictions are written as there are binders, and each slot has itself.
+pub fn unchanged(names: &[u8], binders: usize, levels: usize) -> bool
+    requires { ⌜ binders ≤ mostBinders ⌝ }
+    ensures { λ r. ⌜ UnchangedIs (now (names .entry)) binders levels r ⌝ }
+{
+    if levels != binders {
+        return false;
+    }
+    let mut i = 0;
+    while i < TABLE_NAMES + binders {
+        if get(names, i) as usize != i {
+            return false;
+        }
+        i += 1;
+    }
+    true
+}
+
 // The same names as a table for renaming, to terms under `levels` restrictions.
 pub fn renaming(names: &[u8], binders: usize, levels: usize) -> [u8; NAME_SLOTS]
     requires { ⌜ (binders ≤ mostBinders) × (levels ≤ 128) ⌝ }
@@ -68,7 +85,7 @@ pub fn renaming(names: &[u8], binders: usize, levels: usize) -> [u8; NAME_SLOTS]
 {
     let mut table = [0u8; NAME_SLOTS];
     let mut i = 0;
-    while i < NAME_SLOTS {
+    while i < TABLE_NAMES + binders {
         let s = turned(i, TABLE_NAMES, TABLE_NAMES, binders);
         let b = byte_of(get(names, s), levels);
         table[i] = b;

@@ -1,8 +1,8 @@
-// What the action of a candidate does as far as a result depends on it, by the candidate's number. A walk straight down to it: a tally says on which
-// side it stands. No result is written and no condition is kept.
+// What the action of a visible candidate does as far as a result depends on it, by the candidate's number. A walk straight down to it: a tally
+// says on which side it stands. No result is written and no condition is kept.
 ghost use mathlib.Core.Path.{_≡_};
-ghost use mathlib.Core.Bool.{Bool};
-ghost use Prim.Native.Nat.{ℕ, _+_, _-_, _≤_, _<_};
+ghost use mathlib.Core.Bool.{false};
+ghost use Prim.Native.Nat.{_+_, _-_, _≤_, _<_};
 ghost use lib.ListN.{length, getD};
 ghost use Rattle.terms.specs.Limits.{tableNames, greatestArity, longestTerm};
 ghost use Rattle.steps.specs.Names.{mostBinders};
@@ -13,7 +13,7 @@ use crate::bodies::call_at;
 use crate::names::slot_of;
 use crate::tally::body_tally;
 use crate::tally::end_at;
-use crate::tally::number_at;
+use crate::tally::visible_at;
 use terms::bytes::get;
 use terms::limits::TABLE_NAMES;
 
@@ -128,11 +128,10 @@ fn pass_call(
     at: usize,
     binders: usize,
     calls: usize,
-    silently: bool,
     i: usize,
 ) -> Passed
     requires { ⌜ (at < length (now src)) × (8 < getD (now src) at 0) × (length (now src) ≤ longestTerm) × (binders ≤ at + greatestArity) × (calls ≤ 1) × BodiesTallied (now question) (now bodies) ⌝ }
-    ensures { λ r. ⌜ PassIs (now (question .entry)) (now (src .entry)) at binders calls silently i r ⌝ }
+    ensures { λ r. ⌜ PassIs (now (question .entry)) (now (src .entry)) at binders calls false i r ⌝ }
 {
     let o = call_at(question, src, at, calls);
     let n = o.arity;
@@ -141,22 +140,11 @@ fn pass_call(
     }
     let body = body_of(question, o.definition);
     let numbers = body_tally(bodies, o.definition);
-    let p = pass(
-        question,
-        bodies,
-        body,
-        numbers,
-        0,
-        n,
-        calls - 1,
-        silently,
-        i,
-    );
+    let p = pass(question, bodies, body, numbers, 0, n, calls - 1, i);
     returned(p, src, at + 2, binders)
 }
 
-// The candidate number `i` of the term at `at`, among its silent candidates or among its visible ones, where so many calls may be opened one
-// within the other. A communication is silent.
+// The visible candidate number `i` of the term at `at`, where so many calls may be opened one within the other.
 pub fn pass(
     question: &[u8],
     bodies: &[u32],
@@ -165,11 +153,10 @@ pub fn pass(
     at: usize,
     binders: usize,
     calls: usize,
-    silently: bool,
     i: usize,
 ) -> Passed
     requires { ⌜ (length (now src) ≤ longestTerm) × (binders ≤ at + greatestArity) × (calls ≤ 1) × TallyIs (now question) (now src) calls (now tally) × BodiesTallied (now question) (now bodies) ⌝ }
-    ensures { λ r. ⌜ PassIs (now (question .entry)) (now (src .entry)) at binders calls silently i r ⌝ }
+    ensures { λ r. ⌜ PassIs (now (question .entry)) (now (src .entry)) at binders calls false i r ⌝ }
 {
     if src.len() <= at {
         return silent();
@@ -179,63 +166,23 @@ pub fn pass(
         return pass_prefix(src, at, binders);
     }
     if t == 5 {
-        return pass(
-            question,
-            bodies,
-            src,
-            tally,
-            at + 3,
-            binders,
-            calls,
-            silently,
-            i,
-        );
+        return pass(question, bodies, src, tally, at + 3, binders, calls, i);
     }
     if t == 8 {
-        let p = pass(
-            question,
-            bodies,
-            src,
-            tally,
-            at + 1,
-            binders + 1,
-            calls,
-            silently,
-            i,
-        );
+        let p = pass(question, bodies, src, tally, at + 1, binders + 1, calls, i);
         return leaving(p, binders);
     }
     if 8 < t {
-        return pass_call(question, bodies, src, at, binders, calls, silently, i);
+        return pass_call(question, bodies, src, at, binders, calls, i);
     }
-    let left = number_at(tally, at + 1, silently);
+    let left = visible_at(tally, at + 1);
     if i < left {
-        return pass(
-            question,
-            bodies,
-            src,
-            tally,
-            at + 1,
-            binders,
-            calls,
-            silently,
-            i,
-        );
+        return pass(question, bodies, src, tally, at + 1, binders, calls, i);
     }
     let middle = middle_of(src, tally, at);
     let j = i - left;
-    if j < number_at(tally, middle, silently) {
-        return pass(
-            question,
-            bodies,
-            src,
-            tally,
-            middle,
-            binders,
-            calls,
-            silently,
-            j,
-        );
+    if j < visible_at(tally, middle) {
+        return pass(question, bodies, src, tally, middle, binders, calls, j);
     }
     silent()
 }

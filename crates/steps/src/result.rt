@@ -8,22 +8,24 @@ ghost use Prim.Native.Nat.{_+_, _≤_, _<_};
 ghost use lib.ListN.{length, getD};
 ghost use Rattle.terms.specs.Limits.{greatestArity, longestTerm};
 ghost use Rattle.steps.specs.Names.{mostBinders, nameSlots, Kept};
-ghost use Rattle.steps.specs.Results.{numbered, resting, visibly, beneath, sending, closing, inside, opening, SplitIs, StoreIs, TermIs, WriteIs, Room, Writing, meetingPlan, PlanIs};
-ghost use Rattle.steps.specs.Tally.{TallyIs, BodiesTallied};
+ghost use Rattle.steps.specs.Results.{numbered, resting, visibly, beneath, sending, closing, inside, opening, SplitIs, StoreIs, TermIs, ExtrudedIs, WriteIs, Room, Writing, meetingPlan, PlanIs};
+ghost use Rattle.steps.specs.Tally.{TallyIs, EndsTallied, BodiesTallied};
 use crate::bodies::arities_of;
 use crate::bodies::body_of;
 use crate::bodies::call_at;
-use crate::bodies::end_of;
 use crate::names::called;
 use crate::names::renaming;
+use crate::names::unchanged;
 use crate::pass::OUTPUT;
 use crate::pass::Passed;
 use crate::pass::middle_of;
 use crate::pass::opens;
 use crate::pass::pass;
 use crate::tally::body_tally;
+use crate::tally::end_at;
 use crate::tally::number_at;
 use crate::tally::visible_at;
+use terms::bytes::copy;
 use terms::bytes::get;
 use terms::bytes::room;
 use terms::limits::TABLE_NAMES;
@@ -166,10 +168,11 @@ fn store(out: &mut [u8], put: usize, b: u8) -> usize
     put + 1
 }
 
-// The term at `at`, renamed by the table.
+// The term at `at`, renamed by the table. Where each name stays as it is, its bytes are copied.
 fn write_term(
     question: &[u8],
     src: &[u8],
+    tally: &[u32],
     at: usize,
     binders: usize,
     levels: usize,
@@ -177,16 +180,22 @@ fn write_term(
     out: &mut [u8],
     put: usize,
 ) -> usize
-    requires { ⌜ (binders ≤ mostBinders) × Room levels (now out) put ⌝ }
+    requires { ⌜ (binders ≤ mostBinders) × Room levels (now out) put × EndsTallied (now question) (now src) (now tally) ⌝ }
     ensures { λ r. ⌜ TermIs (now (question .entry)) (now (src .entry)) at binders (now (names .entry)) levels (now (out .entry)) put r (now (out .exit)) ⌝ }
 {
-    let arities = arities_of(question);
-    let n = end_of(src, at, arities) - at;
+    if src.len() <= at {
+        return out.len() + 1;
+    }
+    let n = end_at(tally, at) - at;
     if !room(out.len(), put, n) {
         return out.len() + 1;
     }
+    if unchanged(names, binders, levels) {
+        copy(src, at, n, out, put);
+        return put + n;
+    }
     let table = renaming(names, binders, levels);
-    rename(src, at, arities, &table, out, put);
+    rename(src, at, arities_of(question), &table, out, put);
     put + n
 }
 
@@ -194,6 +203,7 @@ fn write_term(
 fn write_prefix(
     question: &[u8],
     src: &[u8],
+    tally: &[u32],
     at: usize,
     binders: usize,
     task: Task,
@@ -201,19 +211,49 @@ fn write_prefix(
     out: &mut [u8],
     put: usize,
 ) -> usize
-    requires { ⌜ (at < length (now src)) × (getD (now src) at 0 < 5) × (binders < mostBinders) × (task .still ≡ false) × (length (now names) ≡ nameSlots) × Room (task .levels) (now out) put ⌝ }
+    requires { ⌜ (at < length (now src)) × (getD (now src) at 0 < 5) × (binders < mostBinders) × (task .still ≡ false) × (length (now names) ≡ nameSlots) × Room (task .levels) (now out) put × TallyIs (now question) (now src) (task .calls) (now tally) ⌝ }
     ensures { λ r. ⌜ WriteIs (now (question .entry)) (now (src .entry)) at binders (now (names .entry)) task (now (out .entry)) put r (now (out .exit)) × Kept binders (now (names .entry)) (now (names .exit)) ⌝ }
 {
     let t = get(src, at);
     let levels = task.levels;
     if t == 1 {
-        return write_term(question, src, at + 1, binders, levels, names, out, put);
+        return write_term(
+            question,
+            src,
+            tally,
+            at + 1,
+            binders,
+            levels,
+            names,
+            out,
+            put,
+        );
     }
     if t == 3 {
-        return write_term(question, src, at + 3, binders, levels, names, out, put);
+        return write_term(
+            question,
+            src,
+            tally,
+            at + 3,
+            binders,
+            levels,
+            names,
+            out,
+            put,
+        );
     }
     names[TABLE_NAMES + binders] = task.new;
-    write_term(question, src, at + 2, binders + 1, levels, names, out, put)
+    write_term(
+        question,
+        src,
+        tally,
+        at + 2,
+        binders + 1,
+        levels,
+        names,
+        out,
+        put,
+    )
 }
 
 // The bytes before the sides of a parallel.
@@ -319,17 +359,7 @@ fn plan_of(
         };
     }
     let n = split(i - right, visible_at(tally, middle));
-    let x = pass(
-        question,
-        bodies,
-        src,
-        tally,
-        at + 1,
-        binders,
-        calls,
-        false,
-        n.left,
-    );
+    let x = pass(question, bodies, src, tally, at + 1, binders, calls, n.left);
     let z = pass(
         question,
         bodies,
@@ -338,7 +368,6 @@ fn plan_of(
         middle,
         binders,
         calls,
-        false,
         n.right,
     );
     meet(task, names, middle, n, x, z)
@@ -444,6 +473,37 @@ fn write_parallel(
     )
 }
 
+// Whether the name of the restriction at `at` is extruded: [Open]. A silent action sends no name.
+fn extruded(
+    question: &[u8],
+    bodies: &[u32],
+    src: &[u8],
+    tally: &[u32],
+    at: usize,
+    binders: usize,
+    task: Task,
+) -> bool
+    requires { ⌜ (at < length (now src)) × (length (now src) ≤ longestTerm) × (binders ≤ at + greatestArity) × (task .calls ≤ 1) × TallyIs (now question) (now src) (task .calls) (now tally) × BodiesTallied (now question) (now bodies) ⌝ }
+    ensures { λ r. ⌜ ExtrudedIs (now (question .entry)) (now (src .entry)) at binders task r ⌝ }
+{
+    if task.silently {
+        return false;
+    }
+    let calls = task.calls;
+    let number = task.number;
+    let p = pass(
+        question,
+        bodies,
+        src,
+        tally,
+        at + 1,
+        binders + 1,
+        calls,
+        number,
+    );
+    opens(p.kind, p.object, binders)
+}
+
 // The restriction at `at`. It is written unless its name is extruded: [Open].
 fn write_restriction(
     question: &[u8],
@@ -460,21 +520,9 @@ fn write_restriction(
     requires { ⌜ (at < length (now src)) × (getD (now src) at 0 ≡ 8) × (task .still ≡ false) × Writing (now question) (now bodies) (now src) (now tally) at binders (now names) task (now out) put ⌝ }
     ensures { λ r. ⌜ WriteIs (now (question .entry)) (now (src .entry)) at binders (now (names .entry)) task (now (out .entry)) put r (now (out .exit)) × Kept binders (now (names .entry)) (now (names .exit)) ⌝ }
 {
-    let calls = task.calls;
     let next = at + 1;
     let inner = binders + 1;
-    let p = pass(
-        question,
-        bodies,
-        src,
-        tally,
-        next,
-        inner,
-        calls,
-        task.silently,
-        task.number,
-    );
-    if opens(p.kind, p.object, binders) {
+    if extruded(question, bodies, src, tally, at, binders, task) {
         names[TABLE_NAMES + binders] = task.new;
         return write(
             question,
@@ -566,11 +614,21 @@ pub fn write(
         return out.len() + 1;
     }
     if task.still {
-        return write_term(question, src, at, binders, task.levels, names, out, put);
+        return write_term(
+            question,
+            src,
+            tally,
+            at,
+            binders,
+            task.levels,
+            names,
+            out,
+            put,
+        );
     }
     let t = get(src, at);
     if t < 5 {
-        return write_prefix(question, src, at, binders, task, names, out, put);
+        return write_prefix(question, src, tally, at, binders, task, names, out, put);
     }
     if t == 5 {
         return write(

@@ -1,6 +1,6 @@
 -- `steps::names::renaming` meets its contract. Assumes nothing.
 use mathlib.Core.Path.{_≡_, refl, ap, _∙_}
-use Prim.Native.Nat.{ℕ, _-_, _≤_}
+use Prim.Native.Nat.{ℕ, _+_, _-_, _≤_}
 use native.Mathlib.Omega.{arith}
 use lib.ListN.{length, getD}
 use borrow.Author.Needs.{needs}
@@ -11,13 +11,16 @@ use Rattle.steps.proofs.names.renaming.Statement.{statement}
 use Rattle.steps.proofs.names.renaming.Tie as tie
 
 abbrev Inv-loop : tie.InvT-loop
-Inv-loop names binders levels table₀ i₀ table i = Filling (λ n. turn tableNames 128 levels (getD names (turn tableNames tableNames binders n) 0)) table₀ table i × (i ≤ nameSlots) × (length table₀ ≡ nameSlots)
+Inv-loop names binders levels table₀ i₀ table i = Filling (λ n. turn tableNames 128 levels (getD names (turn tableNames tableNames binders n) 0)) table₀ table i × (i ≤ tableNames + binders) × (length table₀ ≡ nameSlots)
 
 abbrev μ-loop : tie.MeasureT-loop
-μ-loop names binders levels table₀ i₀ table i = nameSlots - i
+μ-loop names binders levels table₀ i₀ table i = tableNames + binders - i
 
 loop-holds : tie.Need-loop-holds Inv-loop μ-loop
 loop-holds c = (fill-start _ _, search needs, refl)
+
+add-loop : tie.Need-add-loop Inv-loop μ-loop
+add-loop c = search needs
 
 turned-requires : tie.Need-turned-requires Inv-loop μ-loop
 turned-requires c κs = search needs
@@ -55,6 +58,7 @@ renaming-spec =
     Inv-loop
     μ-loop
     loop-holds
+    add-loop
     turned-requires
     get-requires
     byte-of-requires

@@ -1,5 +1,6 @@
 -- `steps::pass::pass` and `pass_call` meet their contracts. The measure: the bytes left, and 113 for each call that may be opened. Assumes nothing.
 use Rattle.steps.proofs.TallyLoops.{called-tally}
+use mathlib.Core.Bool.{false}
 use mathlib.Core.Path.{refl, sym, ap, subst, _∙_}
 use Prim.Native.Nat.{ℕ, _+_, _-_, _*_, _<_, _≤_}
 use native.Mathlib.Omega.{arith}
@@ -9,6 +10,7 @@ use borrow.Author.Tests.{not-true, not-false}
 use borrow.Fn.Kinds.{In}
 use borrow.Fn.PlainCycle.{Measures, is, falls, and}
 use Rattle.terms.proofs.bytes.get.Reads as get-reads
+use Rattle.steps.specs.Tallying.{numberAt}
 use Rattle.steps.proofs.TwoSides.{middle-on, pass-left, pass-right, pass-met}
 use Rattle.steps.proofs.PassLaws.{pass-none, pass-prefix, pass-mat, pass-res}
 use Rattle.steps.proofs.CallLaws.{pass-closed, pass-opened}
@@ -25,7 +27,7 @@ use Rattle.steps.proofs.pass.middle_of.Reads as middle-of-reads
 use Rattle.steps.proofs.pass.pass_prefix.Reads as pass-prefix-reads
 use Rattle.steps.proofs.pass.returned.Reads as returned-reads
 use Rattle.steps.proofs.pass.silent.Reads as silent-reads
-use Rattle.steps.proofs.tally.number_at.Reads as number-at-reads
+use Rattle.steps.proofs.tally.visible_at.Reads as visible-at-reads
 use Rattle.steps.proofs.tally.body_tally.Reads as body-tally-reads
 use Rattle.steps.proofs.pass.+pass+pass_call.{statement}
 use Rattle.steps.proofs.pass.+pass+pass_call.Tie.{close}
@@ -50,7 +52,7 @@ pass-call-below t =
     and 3 pass-call-kinds.ps (falls 3 pass-call-kinds.ps _<_ μ-pass-call t) pass-call.Pre
 
 abbrev pass-claims : ℕ → pass-lts.Claims
-pass-claims t = (silent-reads.Asked, silent-reads.Learnt, get-reads.Asked, get-reads.Learnt, pass-prefix-reads.Asked, pass-prefix-reads.Learnt, pass-below t, pass.Post, leaving-reads.Asked, leaving-reads.Learnt, pass-call-below t, pass-call.Post, number-at-reads.Asked, number-at-reads.Learnt, middle-of-reads.Asked, middle-of-reads.Learnt)
+pass-claims t = (silent-reads.Asked, silent-reads.Learnt, get-reads.Asked, get-reads.Learnt, pass-prefix-reads.Asked, pass-prefix-reads.Learnt, pass-below t, pass.Post, leaving-reads.Asked, leaving-reads.Learnt, pass-call-below t, pass-call.Post, visible-at-reads.Asked, visible-at-reads.Learnt, middle-of-reads.Asked, middle-of-reads.Learnt)
 
 abbrev pass-call-claims : ℕ → pass-call-lts.Claims
 pass-call-claims t = (call-at-reads.Asked, call-at-reads.Learnt, silent-reads.Asked, silent-reads.Learnt, body-of-reads.Asked, body-of-reads.Learnt, body-tally-reads.Asked, body-tally-reads.Learnt, pass-below t, pass.Post, returned-reads.Asked, returned-reads.Learnt)
@@ -59,7 +61,7 @@ pass-silent-requires : (t : ℕ) → pass-lts.Need-silent-requires (pass-claims 
 pass-silent-requires t c κs = search needs
 
 pass-returns : (t : ℕ) → pass-lts.Need-returns (pass-claims t) (pass-at t) pass.Post
-pass-returns t c = let a = c .before .before .before .before .before .before .args in rw (c .silent .ensures) (pass-none (a .question .now) (a .src .now) (a .at) (a .binders) (a .calls) (a .silently) (a .i) (c .before .if1 .taken))
+pass-returns t c = let a = c .before .before .before .before .before .before .args in rw (c .silent .ensures) (pass-none (a .question .now) (a .src .now) (a .at) (a .binders) (a .calls) false (a .i) (c .before .if1 .taken))
 
 pass-get-requires : (t : ℕ) → pass-lts.Need-get-requires (pass-claims t) (pass-at t) pass.Post
 pass-get-requires t c κs = search needs
@@ -68,7 +70,7 @@ pass-pass-prefix-requires : (t : ℕ) → pass-lts.Need-pass-prefix-requires (pa
 pass-pass-prefix-requires t c κs = (c .before .before .if1 .left, omega (arith, c .before .get .ensures, c .if2 .taken), omega (arith, c .before .before .before .before .before .before .before .pre .1 .0, c .before .before .before .before .before .before .before .pre .1 .1, c .before .before .if1 .left))
 
 pass-returns-2 : (t : ℕ) → pass-lts.Need-returns-2 (pass-claims t) (pass-at t) pass.Post
-pass-returns-2 t c = let a = c .before .before .before .before .before .before .before .before .args in pass-prefix (a .question .now) (a .src .now) (a .at) (a .binders) (a .calls) (a .silently) (a .i) (omega (arith, c .before .before .get .ensures, c .before .if2 .taken)) (c .pass-prefix .result) (c .pass-prefix .ensures)
+pass-returns-2 t c = let a = c .before .before .before .before .before .before .before .before .args in pass-prefix (a .question .now) (a .src .now) (a .at) (a .binders) (a .calls) false (a .i) (omega (arith, c .before .before .get .ensures, c .before .if2 .taken)) (c .pass-prefix .result) (c .pass-prefix .ensures)
 
 pass-add-pass : (t : ℕ) → pass-lts.Need-add-pass (pass-claims t) (pass-at t) pass.Post
 pass-add-pass t c = search needs
@@ -77,7 +79,7 @@ pass-pass-requires : (t : ℕ) → pass-lts.Need-pass-requires (pass-claims t) (
 pass-pass-requires t c κs = (omega (arith, c .before .before .before .before .before .before .before .before .pre .0, c .before .before .before .if1 .left), (c .before .before .before .before .before .before .before .before .pre .1 .0, omega (arith, c .before .before .before .before .before .before .before .before .pre .1 .1, c .before .before .before .if1 .left), c .before .before .before .before .before .before .before .before .pre .1 .2, c .before .before .before .before .before .before .before .before .pre .1 .3, c .before .before .before .before .before .before .before .before .pre .1 .4))
 
 pass-returns-3 : (t : ℕ) → pass-lts.Need-returns-3 (pass-claims t) (pass-at t) pass.Post
-pass-returns-3 t c = let a = c .before .before .before .before .before .before .before .before .before .args in pass-mat (a .question .now) (a .src .now) (a .at) (a .binders) (a .calls) (a .silently) (a .i) (c .pass .result) (sym (c .before .before .before .get .ensures) ∙ c .before .if3 .taken) (c .pass .ensures)
+pass-returns-3 t c = let a = c .before .before .before .before .before .before .before .before .before .args in pass-mat (a .question .now) (a .src .now) (a .at) (a .binders) (a .calls) false (a .i) (c .pass .result) (sym (c .before .before .before .get .ensures) ∙ c .before .if3 .taken) (c .pass .ensures)
 
 pass-add-pass-2 : (t : ℕ) → pass-lts.Need-add-pass-2 (pass-claims t) (pass-at t) pass.Post
 pass-add-pass-2 t c = search needs
@@ -92,7 +94,7 @@ pass-leaving-requires : (t : ℕ) → pass-lts.Need-leaving-requires (pass-claim
 pass-leaving-requires t c κs = omega (arith, c .before .before .before .before .before .before .before .before .before .before .pre .1 .0, c .before .before .before .before .before .before .before .before .before .before .pre .1 .1, c .before .before .before .before .before .if1 .left)
 
 pass-returns-4 : (t : ℕ) → pass-lts.Need-returns-4 (pass-claims t) (pass-at t) pass.Post
-pass-returns-4 t c = let a = c .before .before .before .before .before .before .before .before .before .before .before .args in rw (c .leaving .ensures) (pass-res (a .question .now) (a .src .now) (a .at) (a .binders) (a .calls) (a .silently) (a .i) (c .before .pass2 .result) (sym (c .before .before .before .before .before .get .ensures) ∙ c .before .before .if4 .taken) (c .before .pass2 .ensures))
+pass-returns-4 t c = let a = c .before .before .before .before .before .before .before .before .before .before .before .args in rw (c .leaving .ensures) (pass-res (a .question .now) (a .src .now) (a .at) (a .binders) (a .calls) false (a .i) (c .before .pass2 .result) (sym (c .before .before .before .before .before .get .ensures) ∙ c .before .before .if4 .taken) (c .before .pass2 .ensures))
 
 pass-pass-call-requires : (t : ℕ) → pass-lts.Need-pass-call-requires (pass-claims t) (pass-at t) pass.Post
 pass-pass-call-requires t c κs = (omega (arith, c .before .before .before .before .before .before .before .before .before .before .pre .0), (c .before .before .before .before .before .if1 .left, omega (arith, c .before .before .before .before .get .ensures, c .if5 .taken), c .before .before .before .before .before .before .before .before .before .before .pre .1 .0, c .before .before .before .before .before .before .before .before .before .before .pre .1 .1, c .before .before .before .before .before .before .before .before .before .before .pre .1 .2, c .before .before .before .before .before .before .before .before .before .before .pre .1 .4))
@@ -100,11 +102,11 @@ pass-pass-call-requires t c κs = (omega (arith, c .before .before .before .befo
 pass-returns-5 : (t : ℕ) → pass-lts.Need-returns-5 (pass-claims t) (pass-at t) pass.Post
 pass-returns-5 t c = c .pass-call .ensures
 
-pass-add-number-at : (t : ℕ) → pass-lts.Need-add-number-at (pass-claims t) (pass-at t) pass.Post
-pass-add-number-at t c = search needs
+pass-add-visible-at : (t : ℕ) → pass-lts.Need-add-visible-at (pass-claims t) (pass-at t) pass.Post
+pass-add-visible-at t c = search needs
 
-pass-number-at-requires : (t : ℕ) → pass-lts.Need-number-at-requires (pass-claims t) (pass-at t) pass.Post
-pass-number-at-requires t c κs = search needs
+pass-visible-at-requires : (t : ℕ) → pass-lts.Need-visible-at-requires (pass-claims t) (pass-at t) pass.Post
+pass-visible-at-requires t c κs = search needs
 
 pass-add-pass-4 : (t : ℕ) → pass-lts.Need-add-pass-4 (pass-claims t) (pass-at t) pass.Post
 pass-add-pass-4 t c = search needs
@@ -113,25 +115,28 @@ pass-pass-requires-3 : (t : ℕ) → pass-lts.Need-pass-requires-3 (pass-claims 
 pass-pass-requires-3 t c κs = (omega (arith, c .before .before .before .before .before .before .before .before .before .before .before .before .pre .0, c .before .before .before .before .before .before .before .if1 .left), (c .before .before .before .before .before .before .before .before .before .before .before .before .pre .1 .0, omega (arith, c .before .before .before .before .before .before .before .before .before .before .before .before .pre .1 .1, c .before .before .before .before .before .before .before .if1 .left), c .before .before .before .before .before .before .before .before .before .before .before .before .pre .1 .2, c .before .before .before .before .before .before .before .before .before .before .before .before .pre .1 .3, c .before .before .before .before .before .before .before .before .before .before .before .before .pre .1 .4))
 
 pass-returns-6 : (t : ℕ) → pass-lts.Need-returns-6 (pass-claims t) (pass-at t) pass.Post
-pass-returns-6 t c = let a = c .before .before .before .before .before .before .before .before .before .before .before .before .before .args in pass-left (a .question .now) (a .src .now) (a .at) (a .binders) (a .calls) (a .silently) (a .i) (a .tally .now) (c .before .before .before .before .before .before .before .before .before .before .before .before .before .pre .1 .3) (omega (arith, c .before .before .before .before .before .before .before .get .ensures, c .before .before .before .before .before .before .if2 .left, c .before .before .before .before .before .if3 .left, c .before .before .before .before .if4 .left, c .before .before .before .if5 .left), omega (arith, c .before .before .before .before .before .before .before .get .ensures, c .before .before .before .before .before .before .if2 .left, c .before .before .before .before .before .if3 .left, c .before .before .before .before .if4 .left, c .before .before .before .if5 .left)) (subst (λ (n : ℕ). a .i < n) (c .before .before .number-at .ensures) (c .before .if6 .taken)) (c .pass3 .result) (c .pass3 .ensures)
+unfolding numberAt
+pass-returns-6 t c = let a = c .before .before .before .before .before .before .before .before .before .before .before .before .before .args in pass-left (a .question .now) (a .src .now) (a .at) (a .binders) (a .calls) false (a .i) (a .tally .now) (c .before .before .before .before .before .before .before .before .before .before .before .before .before .pre .1 .3) (omega (arith, c .before .before .before .before .before .before .before .get .ensures, c .before .before .before .before .before .before .if2 .left, c .before .before .before .before .before .if3 .left, c .before .before .before .before .if4 .left, c .before .before .before .if5 .left), omega (arith, c .before .before .before .before .before .before .before .get .ensures, c .before .before .before .before .before .before .if2 .left, c .before .before .before .before .before .if3 .left, c .before .before .before .before .if4 .left, c .before .before .before .if5 .left)) (subst (λ (n : ℕ). a .i < n) (c .before .before .visible-at .ensures) (c .before .if6 .taken)) (c .pass3 .result) (c .pass3 .ensures)
 
 pass-middle-of-requires : (t : ℕ) → pass-lts.Need-middle-of-requires (pass-claims t) (pass-at t) pass.Post
 pass-middle-of-requires t c κs = (c .before .before .before .before .before .before .before .if1 .left, c .before .before .before .before .before .before .before .before .before .before .before .before .pre .1 .0)
 
-pass-number-at-requires-2 : (t : ℕ) → pass-lts.Need-number-at-requires-2 (pass-claims t) (pass-at t) pass.Post
-pass-number-at-requires-2 t c κs = search needs
+pass-visible-at-requires-2 : (t : ℕ) → pass-lts.Need-visible-at-requires-2 (pass-claims t) (pass-at t) pass.Post
+pass-visible-at-requires-2 t c κs = search needs
 
 pass-pass-requires-4 : (t : ℕ) → pass-lts.Need-pass-requires-4 (pass-claims t) (pass-at t) pass.Post
 pass-pass-requires-4 t c κs = let a = c .before .before .before .before .before .before .before .before .before .before .before .before .before .before .before .args in let h = middle-on (a .question .now) (a .src .now) (a .calls) (a .tally .now) (c .before .before .before .before .before .before .before .before .before .before .before .before .before .before .before .pre .1 .3) (a .at) (c .before .before .middle-of .result) (c .before .before .middle-of .ensures) (c .before .before .before .before .before .before .before .before .before .before .if1 .left) in (omega (arith, c .before .before .before .before .before .before .before .before .before .before .before .before .before .before .before .pre .0, c .before .before .before .before .before .before .before .before .before .before .if1 .left, h), (c .before .before .before .before .before .before .before .before .before .before .before .before .before .before .before .pre .1 .0, omega (arith, c .before .before .before .before .before .before .before .before .before .before .before .before .before .before .before .pre .1 .1, c .before .before .before .before .before .before .before .before .before .before .if1 .left, h), c .before .before .before .before .before .before .before .before .before .before .before .before .before .before .before .pre .1 .2, c .before .before .before .before .before .before .before .before .before .before .before .before .before .before .before .pre .1 .3, c .before .before .before .before .before .before .before .before .before .before .before .before .before .before .before .pre .1 .4))
 
 pass-returns-7 : (t : ℕ) → pass-lts.Need-returns-7 (pass-claims t) (pass-at t) pass.Post
-pass-returns-7 t c = let a = c .before .before .before .before .before .before .before .before .before .before .before .before .before .before .before .before .args in pass-right (a .question .now) (a .src .now) (a .at) (a .binders) (a .calls) (a .silently) (a .i) (a .tally .now) (c .before .before .before .before .before .before .before .before .before .before .before .before .before .before .before .before .pre .1 .3) (omega (arith, c .before .before .before .before .before .before .before .before .before .before .get .ensures, c .before .before .before .before .before .before .before .before .before .if2 .left, c .before .before .before .before .before .before .before .before .if3 .left, c .before .before .before .before .before .before .before .if4 .left, c .before .before .before .before .before .before .if5 .left), omega (arith, c .before .before .before .before .before .before .before .before .before .before .get .ensures, c .before .before .before .before .before .before .before .before .before .if2 .left, c .before .before .before .before .before .before .before .before .if3 .left, c .before .before .before .before .before .before .before .if4 .left, c .before .before .before .before .before .before .if5 .left)) (c .before .before .before .middle-of .result) (c .before .before .before .middle-of .ensures) (subst (λ (n : ℕ). n ≤ a .i) (c .before .before .before .before .before .number-at .ensures) (c .before .before .before .before .if6 .left)) _ (ap (λ (n : ℕ). a .i - n) (c .before .before .before .before .before .number-at .ensures)) (subst (λ (n : ℕ). a .i - c .before .before .before .before .before .number-at .result < n) (c .before .before .number-at2 .ensures) (c .before .if7 .taken)) (c .pass4 .result) (c .pass4 .ensures)
+unfolding numberAt
+pass-returns-7 t c = let a = c .before .before .before .before .before .before .before .before .before .before .before .before .before .before .before .before .args in pass-right (a .question .now) (a .src .now) (a .at) (a .binders) (a .calls) false (a .i) (a .tally .now) (c .before .before .before .before .before .before .before .before .before .before .before .before .before .before .before .before .pre .1 .3) (omega (arith, c .before .before .before .before .before .before .before .before .before .before .get .ensures, c .before .before .before .before .before .before .before .before .before .if2 .left, c .before .before .before .before .before .before .before .before .if3 .left, c .before .before .before .before .before .before .before .if4 .left, c .before .before .before .before .before .before .if5 .left), omega (arith, c .before .before .before .before .before .before .before .before .before .before .get .ensures, c .before .before .before .before .before .before .before .before .before .if2 .left, c .before .before .before .before .before .before .before .before .if3 .left, c .before .before .before .before .before .before .before .if4 .left, c .before .before .before .before .before .before .if5 .left)) (c .before .before .before .middle-of .result) (c .before .before .before .middle-of .ensures) (subst (λ (n : ℕ). n ≤ a .i) (c .before .before .before .before .before .visible-at .ensures) (c .before .before .before .before .if6 .left)) _ (ap (λ (n : ℕ). a .i - n) (c .before .before .before .before .before .visible-at .ensures)) (subst (λ (n : ℕ). a .i - c .before .before .before .before .before .visible-at .result < n) (c .before .before .visible-at2 .ensures) (c .before .if7 .taken)) (c .pass4 .result) (c .pass4 .ensures)
 
 pass-silent-requires-2 : (t : ℕ) → pass-lts.Need-silent-requires-2 (pass-claims t) (pass-at t) pass.Post
 pass-silent-requires-2 t c κs = search needs
 
 pass-returns-8 : (t : ℕ) → pass-lts.Need-returns-8 (pass-claims t) (pass-at t) pass.Post
-pass-returns-8 t c = let a = c .before .before .before .before .before .before .before .before .before .before .before .before .before .before .before .before .args in rw (c .silent2 .ensures) (pass-met (a .question .now) (a .src .now) (a .at) (a .binders) (a .calls) (a .silently) (a .i) (a .tally .now) (c .before .before .before .before .before .before .before .before .before .before .before .before .before .before .before .before .pre .1 .3) (omega (arith, c .before .before .before .before .before .before .before .before .before .before .get .ensures, c .before .before .before .before .before .before .before .before .before .if2 .left, c .before .before .before .before .before .before .before .before .if3 .left, c .before .before .before .before .before .before .before .if4 .left, c .before .before .before .before .before .before .if5 .left), omega (arith, c .before .before .before .before .before .before .before .before .before .before .get .ensures, c .before .before .before .before .before .before .before .before .before .if2 .left, c .before .before .before .before .before .before .before .before .if3 .left, c .before .before .before .before .before .before .before .if4 .left, c .before .before .before .before .before .before .if5 .left)) (c .before .before .before .middle-of .result) (c .before .before .before .middle-of .ensures) (subst (λ (n : ℕ). n ≤ a .i) (c .before .before .before .before .before .number-at .ensures) (c .before .before .before .before .if6 .left)) _ (ap (λ (n : ℕ). a .i - n) (c .before .before .before .before .before .number-at .ensures)) (subst (λ (n : ℕ). n ≤ a .i - c .before .before .before .before .before .number-at .result) (c .before .before .number-at2 .ensures) (c .before .if7 .left)))
+unfolding numberAt
+pass-returns-8 t c = let a = c .before .before .before .before .before .before .before .before .before .before .before .before .before .before .before .before .args in rw (c .silent2 .ensures) (pass-met (a .question .now) (a .src .now) (a .at) (a .binders) (a .calls) false (a .i) (a .tally .now) (c .before .before .before .before .before .before .before .before .before .before .before .before .before .before .before .before .pre .1 .3) (omega (arith, c .before .before .before .before .before .before .before .before .before .before .get .ensures, c .before .before .before .before .before .before .before .before .before .if2 .left, c .before .before .before .before .before .before .before .before .if3 .left, c .before .before .before .before .before .before .before .if4 .left, c .before .before .before .before .before .before .if5 .left), omega (arith, c .before .before .before .before .before .before .before .before .before .before .get .ensures, c .before .before .before .before .before .before .before .before .before .if2 .left, c .before .before .before .before .before .before .before .before .if3 .left, c .before .before .before .before .before .before .before .if4 .left, c .before .before .before .before .before .before .if5 .left)) (c .before .before .before .middle-of .result) (c .before .before .before .middle-of .ensures) (subst (λ (n : ℕ). n ≤ a .i) (c .before .before .before .before .before .visible-at .ensures) (c .before .before .before .before .if6 .left)) _ (ap (λ (n : ℕ). a .i - n) (c .before .before .before .before .before .visible-at .ensures)) (subst (λ (n : ℕ). n ≤ a .i - c .before .before .before .before .before .visible-at .result) (c .before .before .visible-at2 .ensures) (c .before .if7 .left)))
 
 pass-call-call-at-requires : (t : ℕ) → pass-call-lts.Need-call-at-requires (pass-call-claims t) (pass-call-at t) pass-call.Post
 pass-call-call-at-requires t c κs = c .before .before .before .pre .1 .0
@@ -140,7 +145,7 @@ pass-call-silent-requires : (t : ℕ) → pass-call-lts.Need-silent-requires (pa
 pass-call-silent-requires t c κs = search needs
 
 pass-call-returns : (t : ℕ) → pass-call-lts.Need-returns (pass-call-claims t) (pass-call-at t) pass-call.Post
-pass-call-returns t c = let a = c .before .before .before .before .before .before .before .args in rw (c .silent .ensures) (pass-closed (a .question .now) (a .src .now) (a .at) (a .binders) (a .calls) (a .silently) (a .i) (c .before .before .before .before .before .before .before .pre .1 .1) (c .before .before .before .call-at .result .definition) (c .before .before .before .call-at .result .arity) (c .before .before .before .call-at .ensures .definition) (c .before .before .before .call-at .ensures .arity) (c .before .before .before .call-at .ensures .not (not-true _ (c .before .if1 .taken))))
+pass-call-returns t c = let a = c .before .before .before .before .before .before .before .args in rw (c .silent .ensures) (pass-closed (a .question .now) (a .src .now) (a .at) (a .binders) (a .calls) false (a .i) (c .before .before .before .before .before .before .before .pre .1 .1) (c .before .before .before .call-at .result .definition) (c .before .before .before .call-at .result .arity) (c .before .before .before .call-at .ensures .definition) (c .before .before .before .call-at .ensures .arity) (c .before .before .before .call-at .ensures .not (not-true _ (c .before .if1 .taken))))
 
 pass-call-body-of-requires : (t : ℕ) → pass-call-lts.Need-body-of-requires (pass-call-claims t) (pass-call-at t) pass-call.Post
 pass-call-body-of-requires t c κs = search needs
@@ -161,7 +166,7 @@ pass-call-returned-requires : (t : ℕ) → pass-call-lts.Need-returned-requires
 pass-call-returned-requires t c κs = (omega (arith, c .before .before .before .before .before .before .before .before .before .pre .1 .0, c .before .before .before .before .before .before .before .before .before .pre .1 .2, c .before .before .before .before .before .before .before .before .before .pre .1 .3), omega (arith, c .before .before .before .before .before .before .before .before .before .pre .1 .0, c .before .before .before .before .before .before .before .before .before .pre .1 .2), c .pass .ensures .slot)
 
 pass-call-returns-2 : (t : ℕ) → pass-call-lts.Need-returns-2 (pass-call-claims t) (pass-call-at t) pass-call.Post
-pass-call-returns-2 t c = let a = c .before .before .before .before .before .before .before .before .before .before .args in let m = c .before .before .before .before .before .before .call-at .ensures .may (not-false _ (c .before .before .before .before .if1 .left)) in rw (c .returned .ensures) (pass-opened (a .question .now) (a .src .now) (a .at) (a .binders) (a .calls) (a .silently) (a .i) (c .before .before .before .before .before .before .before .before .before .before .pre .1 .1) (c .before .before .before .before .before .before .call-at .result .definition) (c .before .before .before .before .before .before .call-at .result .arity) (c .before .before .before .before .before .before .call-at .ensures .definition) (c .before .before .before .before .before .before .call-at .ensures .arity) (c .before .before .before .body-of .result .now) (c .before .before .before .body-of .ensures) (omega (arith, c .before .before .before .before .before .before .before .before .before .before .pre .1 .0, c .before .before .before .before .before .before .before .before .before .before .pre .1 .2, c .before .before .before .before .before .before .before .before .before .before .pre .1 .3)) (a .calls - 1) (omega (arith, m)) (c .before .pass .result) (c .before .pass .ensures))
+pass-call-returns-2 t c = let a = c .before .before .before .before .before .before .before .before .before .before .args in let m = c .before .before .before .before .before .before .call-at .ensures .may (not-false _ (c .before .before .before .before .if1 .left)) in rw (c .returned .ensures) (pass-opened (a .question .now) (a .src .now) (a .at) (a .binders) (a .calls) false (a .i) (c .before .before .before .before .before .before .before .before .before .before .pre .1 .1) (c .before .before .before .before .before .before .call-at .result .definition) (c .before .before .before .before .before .before .call-at .result .arity) (c .before .before .before .before .before .before .call-at .ensures .definition) (c .before .before .before .before .before .before .call-at .ensures .arity) (c .before .before .before .body-of .result .now) (c .before .before .before .body-of .ensures) (omega (arith, c .before .before .before .before .before .before .before .before .before .before .pre .1 .0, c .before .before .before .before .before .before .before .before .before .before .pre .1 .2, c .before .before .before .before .before .before .before .before .before .before .pre .1 .3)) (a .calls - 1) (omega (arith, m)) (c .before .pass .result) (c .before .pass .ensures))
 
 pub +pass+pass-call-spec : {M : Type 1} → statement M
 +pass+pass-call-spec = close μ-pass μ-pass-call (λ t. pass-lts.spec (pass-claims t)
@@ -182,13 +187,13 @@ pub +pass+pass-call-spec : {M : Type 1} → statement M
     (pass-returns-4 t)
     (pass-pass-call-requires t)
     (pass-returns-5 t)
-    (pass-add-number-at t)
-    (pass-number-at-requires t)
+    (pass-add-visible-at t)
+    (pass-visible-at-requires t)
     (pass-add-pass-4 t)
     (pass-pass-requires-3 t)
     (pass-returns-6 t)
     (pass-middle-of-requires t)
-    (pass-number-at-requires-2 t)
+    (pass-visible-at-requires-2 t)
     (pass-pass-requires-4 t)
     (pass-returns-7 t)
     (pass-silent-requires-2 t)

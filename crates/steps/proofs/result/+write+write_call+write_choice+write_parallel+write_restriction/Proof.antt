@@ -15,7 +15,7 @@ use Rattle.steps.specs.Tally.{TallyIs}
 use Rattle.steps.specs.Results.{opening}
 use Rattle.steps.specs.declared.result.Task.{Task}
 use Rattle.steps.proofs.TwoSides.{middle-on}
-use Rattle.steps.proofs.ResultLaws.{written-to, write-none, write-still, write-mat, write-sum-left, write-sum-right, write-open, write-res, write-res-stop, write-closed, write-opened, write-par-stop, write-left-stop, write-par}
+use Rattle.steps.proofs.ResultLaws.{ends-tallied, written-to, write-none, write-still, write-mat, write-sum-left, write-sum-right, write-open, write-res, write-res-stop, write-closed, write-opened, write-par-stop, write-left-stop, write-par}
 use Rattle.steps.proofs.NameSlots.{kept-all, kept-within, kept-then}
 use Rattle.steps.proofs.result.write.Reads as write
 use Rattle.steps.proofs.result.write.Kinds as write-kinds
@@ -36,9 +36,8 @@ use Rattle.steps.proofs.bodies.body_of.Reads as body-of-reads
 use Rattle.steps.proofs.bodies.call_at.Reads as call-at-reads
 use Rattle.steps.proofs.names.called.Reads as called-reads
 use Rattle.steps.proofs.pass.middle_of.Reads as middle-of-reads
-use Rattle.steps.proofs.pass.opens.Reads as opens-reads
-use Rattle.steps.proofs.pass.pass.Reads as pass-reads
 use Rattle.steps.proofs.result.enter.Reads as enter-reads
+use Rattle.steps.proofs.result.extruded.Reads as extruded-reads
 use Rattle.steps.proofs.result.open_pair.Reads as open-pair-reads
 use Rattle.steps.proofs.result.plan_of.Reads as plan-of-reads
 use Rattle.steps.proofs.result.restrict.Reads as restrict-reads
@@ -137,7 +136,7 @@ abbrev write-parallel-claims : ℕ → write-parallel-lts.Claims
 write-parallel-claims t = (plan-of-reads.Asked, plan-of-reads.Learnt, open-pair-reads.Asked, open-pair-reads.Learnt, write-below t, write.Post)
 
 abbrev write-restriction-claims : ℕ → write-restriction-lts.Claims
-write-restriction-claims t = (pass-reads.Asked, pass-reads.Learnt, opens-reads.Asked, opens-reads.Learnt, write-below t, write.Post, store-reads.Asked, store-reads.Learnt, restrict-reads.Asked, restrict-reads.Learnt)
+write-restriction-claims t = (extruded-reads.Asked, extruded-reads.Learnt, write-below t, write.Post, store-reads.Asked, store-reads.Learnt, restrict-reads.Asked, restrict-reads.Learnt)
 
 write-add-result : (t : ℕ) → write-lts.Need-add-result (write-claims t) (write-at t) write.Post
 write-add-result t c = search needs
@@ -146,7 +145,7 @@ write-returns : (t : ℕ) → write-lts.Need-returns (write-claims t) (write-at 
 write-returns t c = let a = c .before .before .before .before .before .before .before .args in (write-none (a .question .now) (a .src .now) (a .at) (a .binders) (a .names .now) (a .task) (a .out .now) (a .put) _ _ (omega (arith, c .before .before .before .before .before .before .before .pre .1 .4)) (c .if1 .taken), kept-all (a .binders) (a .names .now))
 
 write-write-term-requires : (t : ℕ) → write-lts.Need-write-term-requires (write-claims t) (write-at t) write.Post
-write-write-term-requires t c κs = (omega (arith, c .before .before .before .before .before .before .before .before .before .before .pre .1 .0, c .before .before .before .before .before .before .before .before .before .before .pre .1 .1, c .before .before .before .if1 .left), c .before .before .before .before .before .before .before .before .before .before .pre .1 .4)
+write-write-term-requires t c κs = (omega (arith, c .before .before .before .before .before .before .before .before .before .before .pre .1 .0, c .before .before .before .before .before .before .before .before .before .before .pre .1 .1, c .before .before .before .if1 .left), c .before .before .before .before .before .before .before .before .before .before .pre .1 .4, ends-tallied (c .before .before .before .before .before .before .before .before .before .before .args .question .now) (c .before .before .before .before .before .before .before .before .before .before .args .src .now) (c .before .before .before .before .before .before .before .before .before .before .args .task .calls) (c .before .before .before .before .before .before .before .before .before .before .args .tally .now) (c .before .before .before .before .before .before .before .before .before .before .pre .1 .5))
 
 write-same-length : (t : ℕ) → write-lts.Need-same-length (write-claims t) (write-at t) write.Post
 write-same-length t c = search needs
@@ -161,7 +160,7 @@ write-get-requires : (t : ℕ) → write-lts.Need-get-requires (write-claims t) 
 write-get-requires t c κs = search needs
 
 write-write-prefix-requires : (t : ℕ) → write-lts.Need-write-prefix-requires (write-claims t) (write-at t) write.Post
-write-write-prefix-requires t c κs = (c .before .before .before .before .before .if1 .left, omega (arith, c .before .before .before .get .ensures, c .before .before .if3 .taken), omega (arith, c .before .before .before .before .before .before .before .before .before .before .before .before .pre .1 .0, c .before .before .before .before .before .before .before .before .before .before .before .before .pre .1 .1, c .before .before .before .before .before .if1 .left), c .before .before .before .before .if2 .left, c .before .before .before .before .before .before .before .before .before .before .before .before .pre .1 .3, c .before .before .before .before .before .before .before .before .before .before .before .before .pre .1 .4)
+write-write-prefix-requires t c κs = (c .before .before .before .before .before .if1 .left, omega (arith, c .before .before .before .get .ensures, c .before .before .if3 .taken), omega (arith, c .before .before .before .before .before .before .before .before .before .before .before .before .pre .1 .0, c .before .before .before .before .before .before .before .before .before .before .before .before .pre .1 .1, c .before .before .before .before .before .if1 .left), c .before .before .before .before .if2 .left, c .before .before .before .before .before .before .before .before .before .before .before .before .pre .1 .3, c .before .before .before .before .before .before .before .before .before .before .before .before .pre .1 .4, c .before .before .before .before .before .before .before .before .before .before .before .before .pre .1 .5)
 
 write-same-length-3 : (t : ℕ) → write-lts.Need-same-length-3 (write-claims t) (write-at t) write.Post
 write-same-length-3 t c = search needs
@@ -358,65 +357,62 @@ write-restriction-add-next t c = search needs
 write-restriction-add-inner : (t : ℕ) → write-restriction-lts.Need-add-inner (write-restriction-claims t) (write-restriction-at t) write-restriction.Post
 write-restriction-add-inner t c = omega (arith, c .before .before .before .before .before .before .pre .1 .3, c .before .before .before .before .before .before .pre .1 .0)
 
-write-restriction-pass-requires : (t : ℕ) → write-restriction-lts.Need-pass-requires (write-restriction-claims t) (write-restriction-at t) write-restriction.Post
-write-restriction-pass-requires t c κs = (c .before .before .before .before .before .before .pre .1 .3 .0, omega (arith, c .before .before .before .before .before .before .pre .1 .3 .1), c .before .before .before .before .before .before .pre .1 .3 .2, c .before .before .before .before .before .before .pre .1 .3 .5, c .before .before .before .before .before .before .pre .1 .3 .6)
-
-write-restriction-opens-requires : (t : ℕ) → write-restriction-lts.Need-opens-requires (write-restriction-claims t) (write-restriction-at t) write-restriction.Post
-write-restriction-opens-requires t c κs = omega (arith, c .before .before .before .before .before .before .before .pre .1 .3 .0, c .before .before .before .before .before .before .before .pre .1 .3 .1, c .before .before .before .before .before .before .before .pre .1 .0)
+write-restriction-extruded-requires : (t : ℕ) → write-restriction-lts.Need-extruded-requires (write-restriction-claims t) (write-restriction-at t) write-restriction.Post
+write-restriction-extruded-requires t c κs = (c .before .before .before .before .before .before .pre .1 .0, c .before .before .before .before .before .before .pre .1 .3 .0, c .before .before .before .before .before .before .pre .1 .3 .1, c .before .before .before .before .before .before .pre .1 .3 .2, c .before .before .before .before .before .before .pre .1 .3 .5, c .before .before .before .before .before .before .pre .1 .3 .6)
 
 write-restriction-add-names : (t : ℕ) → write-restriction-lts.Need-add-names (write-restriction-claims t) (write-restriction-at t) write-restriction.Post
-write-restriction-add-names t c = omega (arith, c .before .before .before .before .before .before .before .before .before .pre .1 .3 .0, c .before .before .before .before .before .before .before .before .before .pre .1 .3 .1, c .before .before .before .before .before .before .before .before .before .pre .1 .0)
+write-restriction-add-names t c = omega (arith, c .before .before .before .before .before .before .before .before .pre .1 .3 .0, c .before .before .before .before .before .before .before .before .pre .1 .3 .1, c .before .before .before .before .before .before .before .before .pre .1 .0)
 
 write-restriction-slice-write-names : (t : ℕ) → write-restriction-lts.Need-slice-write-names (write-restriction-claims t) (write-restriction-at t) write-restriction.Post
-write-restriction-slice-write-names t c = omega (arith, c .before .before .before .before .before .before .before .before .before .pre .1 .3 .0, c .before .before .before .before .before .before .before .before .before .pre .1 .3 .1, c .before .before .before .before .before .before .before .before .before .pre .1 .3 .3, c .before .before .before .before .before .before .before .before .before .pre .1 .0)
+write-restriction-slice-write-names t c = omega (arith, c .before .before .before .before .before .before .before .before .pre .1 .3 .0, c .before .before .before .before .before .before .before .before .pre .1 .3 .1, c .before .before .before .before .before .before .before .before .pre .1 .3 .3, c .before .before .before .before .before .before .before .before .pre .1 .0)
 
 write-restriction-write-requires : (t : ℕ) → write-restriction-lts.Need-write-requires (write-restriction-claims t) (write-restriction-at t) write-restriction.Post
-write-restriction-write-requires t c κs = let a = c .before .before .before .before .before .before .before .before .before .before .before .args in (omega (arith, c .before .before .before .before .before .before .before .before .before .before .before .pre .0, c .before .before .before .before .before .before .before .before .before .before .before .pre .1 .0), (c .before .before .before .before .before .before .before .before .before .before .before .pre .1 .3 .0, omega (arith, c .before .before .before .before .before .before .before .before .before .before .before .pre .1 .3 .1), c .before .before .before .before .before .before .before .before .before .before .before .pre .1 .3 .2, length-set (a .names .now) (tableNames + a .binders) (a .task .new) ∙ c .before .before .before .before .before .before .before .before .before .before .before .pre .1 .3 .3, c .before .before .before .before .before .before .before .before .before .before .before .pre .1 .3 .4, c .before .before .before .before .before .before .before .before .before .before .before .pre .1 .3 .5, c .before .before .before .before .before .before .before .before .before .before .before .pre .1 .3 .6))
+write-restriction-write-requires t c κs = let a = c .before .before .before .before .before .before .before .before .before .before .args in (omega (arith, c .before .before .before .before .before .before .before .before .before .before .pre .0, c .before .before .before .before .before .before .before .before .before .before .pre .1 .0), (c .before .before .before .before .before .before .before .before .before .before .pre .1 .3 .0, omega (arith, c .before .before .before .before .before .before .before .before .before .before .pre .1 .3 .1), c .before .before .before .before .before .before .before .before .before .before .pre .1 .3 .2, length-set (a .names .now) (tableNames + a .binders) (a .task .new) ∙ c .before .before .before .before .before .before .before .before .before .before .pre .1 .3 .3, c .before .before .before .before .before .before .before .before .before .before .pre .1 .3 .4, c .before .before .before .before .before .before .before .before .before .before .pre .1 .3 .5, c .before .before .before .before .before .before .before .before .before .before .pre .1 .3 .6))
 
 write-restriction-same-length : (t : ℕ) → write-restriction-lts.Need-same-length (write-restriction-claims t) (write-restriction-at t) write-restriction.Post
-write-restriction-same-length t c = c .before .before .before .before .write .kept .1 .1 .1 .1 .1 .1 .1 .0 ∙ length-set (c .before .before .before .before .before .before .before .before .before .before .before .before .before .before .before .before .args .names .now) _ _
+write-restriction-same-length t c = c .before .before .before .before .write .kept .1 .1 .1 .1 .1 .1 .1 .0 ∙ length-set (c .before .before .before .before .before .before .before .before .before .before .before .before .before .before .before .args .names .now) _ _
 
 write-restriction-same-length-2 : (t : ℕ) → write-restriction-lts.Need-same-length-2 (write-restriction-claims t) (write-restriction-at t) write-restriction.Post
 write-restriction-same-length-2 t c = search needs
 
 write-restriction-returns : (t : ℕ) → write-restriction-lts.Need-returns (write-restriction-claims t) (write-restriction-at t) write-restriction.Post
-write-restriction-returns t c = let a = c .before .before .before .before .before .before .before .before .before .before .before .before .before .before .before .before .args in (write-open (a .question .now) (a .src .now) (a .at) (a .binders) (a .names .now) (a .task) (c .before .before .before .before .before .before .before .before .before .before .before .before .before .before .before .before .pre .1 .2) (a .out .now) (a .put) (c .before .before .before .before .before .before .before .before .before .before .before .before .before .before .before .before .pre .1 .1) (c .before .before .before .before .before .before .before .before .before .pass .result) (c .before .before .before .before .before .before .before .before .before .pass .ensures) (omega (arith, c .before .before .before .before .before .before .before .before .before .before .before .before .before .before .before .before .pre .1 .3 .0, c .before .before .before .before .before .before .before .before .before .before .before .before .before .before .before .before .pre .1 .3 .1, c .before .before .before .before .before .before .before .before .before .before .before .before .before .before .before .before .pre .1 .3 .3, c .before .before .before .before .before .before .before .before .before .before .before .before .before .before .before .before .pre .1 .0)) (sym (c .before .before .before .before .before .before .before .before .opens .ensures) ∙ c .before .before .before .before .before .before .before .if1 .taken) (c .before .before .before .before .write .result) _ (c .before .before .before .before .write .ensures .0), kept-within (a .binders) (a .task .new) (a .names .now) _ (c .before .before .before .before .write .ensures .1))
+write-restriction-returns t c = let a = c .before .before .before .before .before .before .before .before .before .before .before .before .before .before .before .args in (write-open (a .question .now) (a .src .now) (a .at) (a .binders) (a .names .now) (a .task) (c .before .before .before .before .before .before .before .before .before .before .before .before .before .before .before .pre .1 .2) (a .out .now) (a .put) (c .before .before .before .before .before .before .before .before .before .before .before .before .before .before .before .pre .1 .1) (c .before .before .before .before .before .before .before .before .extruded .ensures .passed) (c .before .before .before .before .before .before .before .before .extruded .ensures .does) (omega (arith, c .before .before .before .before .before .before .before .before .before .before .before .before .before .before .before .pre .1 .3 .0, c .before .before .before .before .before .before .before .before .before .before .before .before .before .before .before .pre .1 .3 .1, c .before .before .before .before .before .before .before .before .before .before .before .before .before .before .before .pre .1 .3 .3, c .before .before .before .before .before .before .before .before .before .before .before .before .before .before .before .pre .1 .0)) (sym (c .before .before .before .before .before .before .before .before .extruded .ensures .is) ∙ c .before .before .before .before .before .before .before .if1 .taken) (c .before .before .before .before .write .result) _ (c .before .before .before .before .write .ensures .0), kept-within (a .binders) (a .task .new) (a .names .now) _ (c .before .before .before .before .write .ensures .1))
 
 write-restriction-store-requires : (t : ℕ) → write-restriction-lts.Need-store-requires (write-restriction-claims t) (write-restriction-at t) write-restriction.Post
-write-restriction-store-requires t c κs = c .before .before .before .before .before .before .before .before .before .before .pre .1 .3 .4 .1
+write-restriction-store-requires t c κs = c .before .before .before .before .before .before .before .before .before .pre .1 .3 .4 .1
 
 write-restriction-same-length-3 : (t : ℕ) → write-restriction-lts.Need-same-length-3 (write-restriction-claims t) (write-restriction-at t) write-restriction.Post
 write-restriction-same-length-3 t c = search needs
 
 write-restriction-returns-2 : (t : ℕ) → write-restriction-lts.Need-returns-2 (write-restriction-claims t) (write-restriction-at t) write-restriction.Post
-write-restriction-returns-2 t c = let a = c .before .before .before .before .before .before .before .before .before .before .before .before .before .before .args in let s = c .before .before .before .store .kept .0 in (write-res-stop (a .question .now) (a .src .now) (a .at) (a .binders) (a .names .now) (a .task) (c .before .before .before .before .before .before .before .before .before .before .before .before .before .before .pre .1 .2) (a .out .now) (a .put) (c .before .before .before .before .before .before .before .before .before .before .before .before .before .before .pre .1 .1) (c .before .before .before .before .before .before .before .pass .result) (c .before .before .before .before .before .before .before .pass .ensures) (sym (c .before .before .before .before .before .before .opens .ensures) ∙ c .before .before .before .before .before .if1 .left) (c .before .before .before .store .result) _ (c .before .before .before .store .ensures) (omega (arith, s, c .if2 .taken)), kept-all (a .binders) (a .names .now))
+write-restriction-returns-2 t c = let a = c .before .before .before .before .before .before .before .before .before .before .before .before .before .args in let s = c .before .before .before .store .kept .0 in (write-res-stop (a .question .now) (a .src .now) (a .at) (a .binders) (a .names .now) (a .task) (c .before .before .before .before .before .before .before .before .before .before .before .before .before .pre .1 .2) (a .out .now) (a .put) (c .before .before .before .before .before .before .before .before .before .before .before .before .before .pre .1 .1) (c .before .before .before .before .before .before .extruded .ensures .passed) (c .before .before .before .before .before .before .extruded .ensures .does) (sym (c .before .before .before .before .before .before .extruded .ensures .is) ∙ c .before .before .before .before .before .if1 .left) (c .before .before .before .store .result) _ (c .before .before .before .store .ensures) (omega (arith, s, c .if2 .taken)), kept-all (a .binders) (a .names .now))
 
 write-restriction-add-names-2 : (t : ℕ) → write-restriction-lts.Need-add-names-2 (write-restriction-claims t) (write-restriction-at t) write-restriction.Post
-write-restriction-add-names-2 t c = omega (arith, c .before .before .before .before .before .before .before .before .before .before .before .before .before .before .before .pre .1 .3 .4)
+write-restriction-add-names-2 t c = omega (arith, c .before .before .before .before .before .before .before .before .before .before .before .before .before .before .pre .1 .3 .4)
 
 write-restriction-cast-names : (t : ℕ) → write-restriction-lts.Need-cast-names (write-restriction-claims t) (write-restriction-at t) write-restriction.Post
-write-restriction-cast-names t c = omega (arith, c .before .before .before .before .before .before .before .before .before .before .before .before .before .before .before .pre .1 .3 .4)
+write-restriction-cast-names t c = omega (arith, c .before .before .before .before .before .before .before .before .before .before .before .before .before .before .pre .1 .3 .4)
 
 write-restriction-add-names-3 : (t : ℕ) → write-restriction-lts.Need-add-names-3 (write-restriction-claims t) (write-restriction-at t) write-restriction.Post
-write-restriction-add-names-3 t c = omega (arith, c .before .before .before .before .before .before .before .before .before .before .before .before .before .before .before .pre .1 .3 .0, c .before .before .before .before .before .before .before .before .before .before .before .before .before .before .before .pre .1 .3 .1, c .before .before .before .before .before .before .before .before .before .before .before .before .before .before .before .pre .1 .0)
+write-restriction-add-names-3 t c = omega (arith, c .before .before .before .before .before .before .before .before .before .before .before .before .before .before .pre .1 .3 .0, c .before .before .before .before .before .before .before .before .before .before .before .before .before .before .pre .1 .3 .1, c .before .before .before .before .before .before .before .before .before .before .before .before .before .before .pre .1 .0)
 
 write-restriction-slice-write-names-2 : (t : ℕ) → write-restriction-lts.Need-slice-write-names-2 (write-restriction-claims t) (write-restriction-at t) write-restriction.Post
-write-restriction-slice-write-names-2 t c = omega (arith, c .before .before .before .before .before .before .before .before .before .before .before .before .before .before .before .pre .1 .3 .0, c .before .before .before .before .before .before .before .before .before .before .before .before .before .before .before .pre .1 .3 .1, c .before .before .before .before .before .before .before .before .before .before .before .before .before .before .before .pre .1 .3 .3, c .before .before .before .before .before .before .before .before .before .before .before .before .before .before .before .pre .1 .0)
+write-restriction-slice-write-names-2 t c = omega (arith, c .before .before .before .before .before .before .before .before .before .before .before .before .before .before .pre .1 .3 .0, c .before .before .before .before .before .before .before .before .before .before .before .before .before .before .pre .1 .3 .1, c .before .before .before .before .before .before .before .before .before .before .before .before .before .before .pre .1 .3 .3, c .before .before .before .before .before .before .before .before .before .before .before .before .before .before .pre .1 .0)
 
 write-restriction-restrict-requires : (t : ℕ) → write-restriction-lts.Need-restrict-requires (write-restriction-claims t) (write-restriction-at t) write-restriction.Post
-write-restriction-restrict-requires t c κs = omega (arith, c .before .before .before .before .before .before .before .before .before .before .before .before .before .before .before .pre .1 .3 .4)
+write-restriction-restrict-requires t c κs = omega (arith, c .before .before .before .before .before .before .before .before .before .before .before .before .before .before .pre .1 .3 .4)
 
 write-restriction-write-requires-2 : (t : ℕ) → write-restriction-lts.Need-write-requires-2 (write-restriction-claims t) (write-restriction-at t) write-restriction.Post
-write-restriction-write-requires-2 t c κs = let a = c .before .before .before .before .before .before .before .before .before .before .before .before .before .before .before .before .before .before .args in let s = c .before .before .before .before .before .before .before .store .kept .0 in let w = written-to (a .out .now) (a .put) (8 ∷ []) (c .before .before .before .before .before .before .before .store .result) _ (c .before .before .before .before .before .before .before .store .ensures .is) (omega (arith, s, c .before .before .before .before .if2 .left)) in let k : c .before .before .restrict .result .calls ≡ a .task .calls = ap (λ (t : Task). t .calls) (c .before .before .restrict .ensures) in let l : c .before .before .restrict .result .levels ≡ a .task .levels + 1 = ap (λ (t : Task). t .levels) (c .before .before .restrict .ensures) in (omega (arith, c .before .before .before .before .before .before .before .before .before .before .before .before .before .before .before .before .before .before .pre .0, c .before .before .before .before .before .before .before .before .before .before .before .before .before .before .before .before .before .before .pre .1 .0, k), (c .before .before .before .before .before .before .before .before .before .before .before .before .before .before .before .before .before .before .pre .1 .3 .0, omega (arith, c .before .before .before .before .before .before .before .before .before .before .before .before .before .before .before .before .before .before .pre .1 .3 .1), omega (arith, k, c .before .before .before .before .before .before .before .before .before .before .before .before .before .before .before .before .before .before .pre .1 .3 .2), length-set (a .names .now) (tableNames + a .binders) (tableNames + a .task .levels) ∙ c .before .before .before .before .before .before .before .before .before .before .before .before .before .before .before .before .before .before .pre .1 .3 .3, (omega (arith, l, s, w, c .before .before .before .before .before .before .before .before .before .before .before .before .before .before .before .before .before .before .pre .1 .3 .4), omega (arith, s, c .before .before .before .before .if2 .left)), subst (λ (n : ℕ). TallyIs (a .question .now) (a .src .now) n (a .tally .now)) (sym k) (c .before .before .before .before .before .before .before .before .before .before .before .before .before .before .before .before .before .before .pre .1 .3 .5), c .before .before .before .before .before .before .before .before .before .before .before .before .before .before .before .before .before .before .pre .1 .3 .6))
+write-restriction-write-requires-2 t c κs = let a = c .before .before .before .before .before .before .before .before .before .before .before .before .before .before .before .before .before .args in let s = c .before .before .before .before .before .before .before .store .kept .0 in let w = written-to (a .out .now) (a .put) (8 ∷ []) (c .before .before .before .before .before .before .before .store .result) _ (c .before .before .before .before .before .before .before .store .ensures .is) (omega (arith, s, c .before .before .before .before .if2 .left)) in let k : c .before .before .restrict .result .calls ≡ a .task .calls = ap (λ (t : Task). t .calls) (c .before .before .restrict .ensures) in let l : c .before .before .restrict .result .levels ≡ a .task .levels + 1 = ap (λ (t : Task). t .levels) (c .before .before .restrict .ensures) in (omega (arith, c .before .before .before .before .before .before .before .before .before .before .before .before .before .before .before .before .before .pre .0, c .before .before .before .before .before .before .before .before .before .before .before .before .before .before .before .before .before .pre .1 .0, k), (c .before .before .before .before .before .before .before .before .before .before .before .before .before .before .before .before .before .pre .1 .3 .0, omega (arith, c .before .before .before .before .before .before .before .before .before .before .before .before .before .before .before .before .before .pre .1 .3 .1), omega (arith, k, c .before .before .before .before .before .before .before .before .before .before .before .before .before .before .before .before .before .pre .1 .3 .2), length-set (a .names .now) (tableNames + a .binders) (tableNames + a .task .levels) ∙ c .before .before .before .before .before .before .before .before .before .before .before .before .before .before .before .before .before .pre .1 .3 .3, (omega (arith, l, s, w, c .before .before .before .before .before .before .before .before .before .before .before .before .before .before .before .before .before .pre .1 .3 .4), omega (arith, s, c .before .before .before .before .if2 .left)), subst (λ (n : ℕ). TallyIs (a .question .now) (a .src .now) n (a .tally .now)) (sym k) (c .before .before .before .before .before .before .before .before .before .before .before .before .before .before .before .before .before .pre .1 .3 .5), c .before .before .before .before .before .before .before .before .before .before .before .before .before .before .before .before .before .pre .1 .3 .6))
 
 write-restriction-same-length-4 : (t : ℕ) → write-restriction-lts.Need-same-length-4 (write-restriction-claims t) (write-restriction-at t) write-restriction.Post
-write-restriction-same-length-4 t c = c .before .before .before .before .write2 .kept .1 .1 .1 .1 .1 .1 .1 .0 ∙ length-set (c .before .before .before .before .before .before .before .before .before .before .before .before .before .before .before .before .before .before .before .before .before .before .before .args .names .now) _ _
+write-restriction-same-length-4 t c = c .before .before .before .before .write2 .kept .1 .1 .1 .1 .1 .1 .1 .0 ∙ length-set (c .before .before .before .before .before .before .before .before .before .before .before .before .before .before .before .before .before .before .before .before .before .before .args .names .now) _ _
 
 write-restriction-same-length-5 : (t : ℕ) → write-restriction-lts.Need-same-length-5 (write-restriction-claims t) (write-restriction-at t) write-restriction.Post
 write-restriction-same-length-5 t c = search needs
 
 write-restriction-returns-3 : (t : ℕ) → write-restriction-lts.Need-returns-3 (write-restriction-claims t) (write-restriction-at t) write-restriction.Post
-write-restriction-returns-3 t c = let a = c .before .before .before .before .before .before .before .before .before .before .before .before .before .before .before .before .before .before .before .before .before .before .before .args in let s = c .before .before .before .before .before .before .before .before .before .before .before .before .store .kept .0 in (write-res (a .question .now) (a .src .now) (a .at) (a .binders) (a .names .now) (a .task) (c .before .before .before .before .before .before .before .before .before .before .before .before .before .before .before .before .before .before .before .before .before .before .before .pre .1 .2) (a .out .now) (a .put) (c .before .before .before .before .before .before .before .before .before .before .before .before .before .before .before .before .before .before .before .before .before .before .before .pre .1 .1) (c .before .before .before .before .before .before .before .before .before .before .before .before .before .before .before .before .pass .result) (c .before .before .before .before .before .before .before .before .before .before .before .before .before .before .before .before .pass .ensures) (sym (c .before .before .before .before .before .before .before .before .before .before .before .before .before .before .before .opens .ensures) ∙ c .before .before .before .before .before .before .before .before .before .before .before .before .before .before .if1 .left) (c .before .before .before .before .before .before .before .before .before .before .before .before .store .result) _ (c .before .before .before .before .before .before .before .before .before .before .before .before .store .ensures) (omega (arith, c .before .before .before .before .before .before .before .before .before .before .before .before .before .before .before .before .before .before .before .before .before .before .before .pre .1 .3 .0, c .before .before .before .before .before .before .before .before .before .before .before .before .before .before .before .before .before .before .before .before .before .before .before .pre .1 .3 .1, c .before .before .before .before .before .before .before .before .before .before .before .before .before .before .before .before .before .before .before .before .before .before .before .pre .1 .3 .3, c .before .before .before .before .before .before .before .before .before .before .before .before .before .before .before .before .before .before .before .before .before .before .before .pre .1 .0)) (omega (arith, s, c .before .before .before .before .before .before .before .before .before .if2 .left)) s (c .before .before .before .before .before .before .before .restrict .result) (c .before .before .before .before .before .before .before .restrict .ensures) (c .before .before .before .before .write2 .result) _ (c .before .before .before .before .write2 .ensures .0), kept-within (a .binders) (tableNames + a .task .levels) (a .names .now) _ (c .before .before .before .before .write2 .ensures .1))
+write-restriction-returns-3 t c = let a = c .before .before .before .before .before .before .before .before .before .before .before .before .before .before .before .before .before .before .before .before .before .before .args in let s = c .before .before .before .before .before .before .before .before .before .before .before .before .store .kept .0 in (write-res (a .question .now) (a .src .now) (a .at) (a .binders) (a .names .now) (a .task) (c .before .before .before .before .before .before .before .before .before .before .before .before .before .before .before .before .before .before .before .before .before .before .pre .1 .2) (a .out .now) (a .put) (c .before .before .before .before .before .before .before .before .before .before .before .before .before .before .before .before .before .before .before .before .before .before .pre .1 .1) (c .before .before .before .before .before .before .before .before .before .before .before .before .before .before .before .extruded .ensures .passed) (c .before .before .before .before .before .before .before .before .before .before .before .before .before .before .before .extruded .ensures .does) (sym (c .before .before .before .before .before .before .before .before .before .before .before .before .before .before .before .extruded .ensures .is) ∙ c .before .before .before .before .before .before .before .before .before .before .before .before .before .before .if1 .left) (c .before .before .before .before .before .before .before .before .before .before .before .before .store .result) _ (c .before .before .before .before .before .before .before .before .before .before .before .before .store .ensures) (omega (arith, c .before .before .before .before .before .before .before .before .before .before .before .before .before .before .before .before .before .before .before .before .before .before .pre .1 .3 .0, c .before .before .before .before .before .before .before .before .before .before .before .before .before .before .before .before .before .before .before .before .before .before .pre .1 .3 .1, c .before .before .before .before .before .before .before .before .before .before .before .before .before .before .before .before .before .before .before .before .before .before .pre .1 .3 .3, c .before .before .before .before .before .before .before .before .before .before .before .before .before .before .before .before .before .before .before .before .before .before .pre .1 .0)) (omega (arith, s, c .before .before .before .before .before .before .before .before .before .if2 .left)) s (c .before .before .before .before .before .before .before .restrict .result) (c .before .before .before .before .before .before .before .restrict .ensures) (c .before .before .before .before .write2 .result) _ (c .before .before .before .before .write2 .ensures .0), kept-within (a .binders) (tableNames + a .task .levels) (a .names .now) _ (c .before .before .before .before .write2 .ensures .1))
 
 pub +write+write-call+write-choice+write-parallel+write-restriction-spec :
     {M : Type 1} → statement M
@@ -515,8 +511,7 @@ pub +write+write-call+write-choice+write-parallel+write-restriction-spec :
     write-restriction.Post
     (write-restriction-add-next t)
     (write-restriction-add-inner t)
-    (write-restriction-pass-requires t)
-    (write-restriction-opens-requires t)
+    (write-restriction-extruded-requires t)
     (write-restriction-add-names t)
     (write-restriction-slice-write-names t)
     (write-restriction-write-requires t)
