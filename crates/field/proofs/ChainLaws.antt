@@ -259,15 +259,16 @@ module _ (capacity : ℕ) (work work′ : List ℕ) where
           size-same work work′ (slotBytes * i + j) (links i j h (omega arith)) (rw (← z) (links i (j + 1) (omega arith) l))
 
 -- The byte behind a key may change.
+pub key-flag : (work : List ℕ) (i v k : ℕ) → keyAt (set work (slotBytes * i + keyBytes) v) k ≡ keyAt work k
+key-flag work i v k =
+    key-kept work (set work (slotBytes * i + keyBytes) v) k (length-set work (slotBytes * i + keyBytes) v)
+    (λ j m. getD-set-other work (slotBytes * i + keyBytes) (slotBytes * k + j) v 0 (λ z. omega arith))
+
 pub chained-flag : (capacity : ℕ) (work : List ℕ) (count i v : ℕ) → Chained capacity work count
     → Chained capacity (set work (slotBytes * i + keyBytes) v) count
 chained-flag capacity work count i v =
-    chained-kept capacity work (set work (slotBytes * i + keyBytes) v) count
-    (λ k l. key-kept work (set work (slotBytes * i + keyBytes) v) k (length-set work (slotBytes * i + keyBytes) v) (λ j m. other k j (λ z. omega arith)))
-    (λ k j h l. other k j (λ z. omega arith))
-  where
-    other : (k j : ℕ) → (slotBytes * k + j ≡ slotBytes * i + keyBytes → ⊥) → getD (set work (slotBytes * i + keyBytes) v) (slotBytes * k + j) 0 ≡ getD work (slotBytes * k + j) 0
-    other k j n = getD-set-other work (slotBytes * i + keyBytes) (slotBytes * k + j) v 0 n
+    chained-kept capacity work (set work (slotBytes * i + keyBytes) v) count (λ k l. key-flag work i v k)
+    (λ k j h l. getD-set-other work (slotBytes * i + keyBytes) (slotBytes * k + j) v 0 (λ z. omega arith))
 
 -- A slot that is not counted may get its key and the byte behind it.
 getD-behind : (l : List ℕ) (p k : ℕ) (xs : List ℕ) → p + length xs ≤ k → getD (sets l p xs) k 0 ≡ getD l k 0

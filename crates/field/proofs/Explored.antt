@@ -42,6 +42,9 @@ module _ (S : Setting) (start : Situation) where
     pub explored-length : length rs ≤ capacity
     explored-length = run-start capacity rs e .within
 
+    pub explored-leads : All (λ r. successors S (r .self) ≡ leads (r .wants)) rs
+    explored-leads = run-within S (run-start capacity rs e .run)
+
     pub explored-within : (other : ℕ) → length rs ≤ other → fieldOf S other start ≡ explored rs
     unfolding fieldOf
     explored-within other l = run-explored S (run-start capacity rs e .run) other l

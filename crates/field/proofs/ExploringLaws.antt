@@ -1,11 +1,12 @@
 -- A situation taken up, and exploration over all of them. Assumes nothing.
-use mathlib.Core.Bool.{true, false}
-use mathlib.Core.List.{List, [], _∷_, _++_}
+use mathlib.Core.Bool.{Bool, true, false, cond}
+use mathlib.Core.List.{List, [], _∷_, _++_, map}
 use mathlib.Core.Path.{_≡_, refl, sym, _∙_, ap, subst}
+use native.Mathlib.Decide.{ℕ-discrete, decLt}
 use native.Mathlib.Omega.{arith}
 use native.Mathlib.Numerals.{add-one}
 use Prim.Native.Nat.{ℕ, _+_, _*_, _<_, _≤_}
-use lib.ListN.{length, getD, drop}
+use lib.ListN.{length, getD, drop, length-map, List·getD-append, List·getD-map}
 use lib.Seq.{take-all}
 use Rattle.calculus.specs.Definitions.{Defs}
 use Rattle.calculus.specs.Free.{fn}
@@ -18,13 +19,13 @@ use Rattle.steps.specs.Lists.{All}
 use Rattle.steps.proofs.Membership.{∈-all, all-∈}
 use Rattle.steps.proofs.QuestionDefinitions.{definitions}
 use Rattle.field.specs.Chains.{Clears, LinkIs}
-use Rattle.field.specs.Exploration.{incomplete, fieldOf, together}
-use Rattle.field.specs.Growing.{Proper, Fitting, grown, Knows, GrowsTo, Puts, slotWith, Flagged, moved, GrowsSides, Follows, GrowIs}
-use Rattle.field.specs.Holding.{Explores, ExploreIs}
+use Rattle.field.specs.Exploration.{unseen, together, unanswered, Row, incomplete, explored, fieldOf}
+use Rattle.field.specs.Growing.{Proper, Fitting, grown, Knows, GrowsTo, Puts, slotWith, Flagged, moved, Strikes, Leads, GrowsSides, Follows, GrowIs}
+use Rattle.field.specs.Holding.{StruckFirst, Explores, ExploreIs}
 use Rattle.field.specs.Leading.{placed, StartIs}
 use Rattle.field.specs.Setting.{Setting, settingOf}
 use Rattle.field.specs.Situation.{Situation, freeIn, situation, startOf}
-use Rattle.field.specs.Slot.{keyBytes, slotBytes}
+use Rattle.field.specs.Slot.{flag, keyBytes, slotBytes, struckAt}
 use Rattle.field.specs.Successors.{Outcome, pastLimit, leads, moves, successors}
 use Rattle.field.specs.TakingUp.{SidesListed, ListsAre, TakenAs, TakesUp}
 use Rattle.field.specs.declared.explore.Explored.{Explored}
@@ -33,14 +34,14 @@ use Rattle.field.specs.declared.explore.Growth.{Growth}
 use Rattle.field.specs.declared.explore.Growth.the-variants.{Full, Known}
 use Rattle.field.specs.declared.taking.Lists.the-variants.{Past, Listed}
 use Rattle.field.specs.declared.taking.TakenUp.{TakenUp}
+use Rattle.field.proofs.Explored.{explored-leads}
 use Rattle.field.proofs.FieldIsSmallest.{invariant}
-use Rattle.field.proofs.Growth.{Exploring, exploring-start, exploring-past, exploring-full, exploring-on, exploring-end}
+use Rattle.field.proofs.Growth.{grown-unseen, Exploring, exploring-start, exploring-past, exploring-full, exploring-on, exploring-end}
 use Rattle.field.proofs.GrowingLaws.{grows-full, whole-key}
-use Rattle.field.proofs.Loops.{together-++}
-use Rattle.field.proofs.Members.{getD-∈}
+use Rattle.field.proofs.Members.{getD-∈, getD-within}
 use Rattle.field.proofs.QuestionField.{question-setting, start-proper}
 use Rattle.field.proofs.Reached.{together-leads}
-use Rattle.field.proofs.SlotWriting.{slot-rest, knows-more}
+use Rattle.field.proofs.SlotWriting.{slot-rest, slot-struck, knows-more}
 
 -- What a proper situation of an accepted question leads to is proper.
 module _ (question : List ℕ) (q : Question) (accepted : checkOf question ≡ result q) where
@@ -78,14 +79,14 @@ module _ (question : List ℕ) (taken capacity : ℕ) (work : List ℕ) (known :
     taken-as : TakenAs q s up firsts seconds
     taken-as = T .is q s accepted (K .slots .held taken d inside) (proper .first) (proper .second)
 
-    follows-past : up .lists ≡ Past → Follows (q .arities) capacity ks (successors (settingOf (q .bodies)) s) Full work
+    follows-past : up .lists ≡ Past → Follows (q .arities) capacity taken (successors (settingOf (q .bodies)) s) work known Full work
     unfolding ListsAre Follows
     follows-past e =
         let p : successors (settingOf (q .bodies)) s ≡ pastLimit = subst (λ l. ListsAre q s l firsts seconds) e (taken-as .lists) in
-        subst (λ o. Follows (q .arities) capacity ks o Full work) (sym p) refl
+        subst (λ o. Follows (q .arities) capacity taken o work known Full work) (sym p) refl
 
     module _ (n m : ℕ) (e : up .lists ≡ Listed n m) (r : Growth) (work′ : List ℕ)
-        (g : GrowsSides (q .arities) (up .free) (up .apart) firsts n seconds m capacity work known r work′) where
+        (g : GrowsSides (q .arities) (up .free) (up .apart) taken firsts n seconds m capacity work known r work′) where
       sides : SidesListed q s n m firsts seconds
       unfolding ListsAre
       sides = subst (λ l. ListsAre q s l firsts seconds) e (taken-as .lists)
@@ -97,38 +98,109 @@ module _ (question : List ℕ) (taken capacity : ℕ) (work : List ℕ) (known :
       ms = moves nameCount (placed false) (freeIn nameCount (s .first) (s .second)) (s .apart) (sides .ps) (sides .qs)
           ++ moves nameCount (placed true) (freeIn nameCount (s .first) (s .second)) (s .apart) (sides .qs) (sides .ps)
 
-      both : together ms ≡ moved false names (s .apart) (sides .ps) (sides .qs) ++ moved true names (s .apart) (sides .qs) (sides .ps)
+      both : ms ≡ moved false names (s .apart) (sides .ps) (sides .qs) ++ moved true names (s .apart) (sides .qs) (sides .ps)
       unfolding moved freeIn
-      both = together-++ (moves nameCount (placed false) (freeIn nameCount (s .first) (s .second)) (s .apart) (sides .ps) (sides .qs))
-          (moves nameCount (placed true) (freeIn nameCount (s .first) (s .second)) (s .apart) (sides .qs) (sides .ps))
+      both = refl
 
-      follows-listed : Follows (q .arities) capacity ks (successors (settingOf (q .bodies)) s) r work′
-      unfolding Follows Puts
+      follows-listed : Follows (q .arities) capacity taken (successors (settingOf (q .bodies)) s) work known r work′
+      unfolding Follows
       follows-listed =
           let flags : Flagged (up .free) (up .apart) names (s .apart) =
           record { names = taken-as .free; pairs = taken-as .apart; distinction = proper .distinction } in
-          subst (λ o. Follows (q .arities) capacity ks o r work′) (sym (sides .leading))
-          (subst (λ l. GrowsTo (q .arities) capacity (grown ks l) r work′) (sym both)
+          subst (λ o. Follows (q .arities) capacity taken o work known r work′) (sym (sides .leading))
+          (subst (λ l. Leads (q .arities) capacity taken l work known r work′) (sym both)
           (g .is names (s .apart) (sides .ps) (sides .qs) flags (sides .first) (sides .second)
-          (subst (All (Proper nameCount (q .arities))) both (together-proper question q accepted s ms proper (sides .leading))) ks K))
+          (subst (λ l. All (Proper nameCount (q .arities)) (together l)) both (together-proper question q accepted s ms proper (sides .leading)))))
 
   pub grow-past : up .lists ≡ Past → GrowIs question taken capacity work known Full work
   grow-past e = record { grows = grows-full capacity work known; is = λ q a ks d K. follows-past q a ks d K e }
 
   pub grow-listed : (n m : ℕ) → up .lists ≡ Listed n m → (arities : List ℕ) → AritiesIs question arities → (r : Growth) (work′ : List ℕ)
-      → GrowsSides arities (up .free) (up .apart) firsts n seconds m capacity work known r work′ → GrowIs question taken capacity work known r work′
+      → GrowsSides arities (up .free) (up .apart) taken firsts n seconds m capacity work known r work′ → GrowIs question taken capacity work known r work′
   unfolding AritiesIs
   grow-listed n m e arities A r work′ g = record {
     grows = g .grows;
     is = λ q a ks d K. follows-listed q a ks d K n m e r work′
-        (subst (λ l. GrowsSides l (up .free) (up .apart) firsts n seconds m capacity work known r work′) (A q a) g);
+        (subst (λ l. GrowsSides l (up .free) (up .apart) taken firsts n seconds m capacity work known r work′) (A q a) g);
   }
 
--- Exploration: the known situations, of which the first `taken` have been taken up.
+-- Exploration: the known situations, of which the first `taken` have been taken up. Exactly those of them with a permitted step that has no answer
+-- are struck out.
 pub record Explorer (q : Question) (capacity : ℕ) (work : List ℕ) (known taken : ℕ) : Type 0 where
   pub ks : List Situation
   pub exploring : Exploring (settingOf (q .bodies)) capacity (startOf q) ks taken
   pub knows : Knows (q .arities) capacity work known ks
+  pub struck : (i : ℕ) (ms : List (List Situation)) → i < taken → successors (settingOf (q .bodies)) (getD ks i (startOf q)) ≡ leads ms
+      → getD work (struckAt i) 0 ≡ flag (unanswered ms)
+  pub left : (i : ℕ) → taken ≤ i → i < known → getD work (struckAt i) 0 ≡ 0
+
+-- The situations known stay, and those found come behind them.
+grown-front : (ks ss : List Situation) (i : ℕ) (d : Situation) → i < length ks → getD (grown ks ss) i d ≡ getD ks i d
+grown-front ks ss i d h = ap (λ l. getD l i d) (grown-unseen ks ss) ∙ List·getD-append ks (unseen ks ss) d i h
+
+flag-is : (b : Bool) → cond b 1 0 ≡ flag b
+unfolding flag
+flag-is true = refl
+flag-is false = refl
+
+-- One more is taken up.
+module _ (q : Question) (capacity : ℕ) (work : List ℕ) (known taken : ℕ) (y : Explorer q capacity work known taken) (waits : taken < known)
+    (ms : List (List Situation)) (e : successors (settingOf (q .bodies)) (getD (y .ks) taken (startOf q)) ≡ leads ms)
+    (n : ℕ) (few : n ≤ capacity) (more : known ≤ n) (work′ : List ℕ) (f : Leads (q .arities) capacity taken ms work known (Known n) work′) where
+  abbrev all : List Situation
+  all = grown (y .ks) (together ms)
+
+  abbrev steps : Strikes taken ms work known n work′
+  steps = f .strikes n refl
+
+  knows-all : Knows (q .arities) capacity work′ n all
+  unfolding Puts GrowsTo
+  knows-all = f .puts (y .ks) (y .knows)
+
+  struck-now : (i : ℕ) (ns : List (List Situation)) → i < taken + 1 → successors (settingOf (q .bodies)) (getD all i (startOf q)) ≡ leads ns
+      → getD work′ (struckAt i) 0 ≡ flag (unanswered ns)
+  struck-now i ns h k = go (ℕ-discrete i taken)
+    where
+      there : getD all i (startOf q) ≡ getD (y .ks) i (startOf q)
+      there = grown-front (y .ks) (together ms) i (startOf q) (omega (arith, y .knows .count))
+
+      go : Dec (i ≡ taken) → getD work′ (struckAt i) 0 ≡ flag (unanswered ns)
+      go (yes d) =
+          let t : successors (settingOf (q .bodies)) (getD (y .ks) taken (startOf q)) ≡ leads ns =
+          subst (λ j. successors (settingOf (q .bodies)) (getD (y .ks) j (startOf q)) ≡ leads ns) d (ap (successors (settingOf (q .bodies))) (sym there) ∙ k) in
+          let z : ms ≡ ns = cc in
+          rw (d, ← z) (steps .here ∙ ap (cond (unanswered ms) 1) (y .left taken (omega arith) waits) ∙ flag-is (unanswered ms))
+      go (no d) =
+          steps .others i (omega arith) d ∙ y .struck i ns (omega arith) (ap (successors (settingOf (q .bodies))) (sym there) ∙ k)
+
+  left-now : (i : ℕ) → taken + 1 ≤ i → i < n → getD work′ (struckAt i) 0 ≡ 0
+  left-now i h l = go (decLt i known)
+    where
+      go : Dec (i < known) → getD work′ (struckAt i) 0 ≡ 0
+      go (yes b) = steps .others i b (λ z. omega arith) ∙ y .left i (omega arith) b
+      go (no b) = steps .fresh i (omega arith) l
+
+  explorer-next : Explorer q capacity work′ n (taken + 1)
+  explorer-next = record {
+    ks = all;
+    exploring = rw add-one (exploring-on (settingOf (q .bodies)) capacity (startOf q) (y .ks) taken (y .exploring) (omega (arith, y .knows .count)) ms e
+        (omega (arith, knows-all .count)));
+    knows = knows-all;
+    struck = struck-now;
+    left = left-now;
+  }
+
+-- all rows, once all are taken up
+struck-first : (q : Question) (capacity : ℕ) (work : List ℕ) (known taken : ℕ) (y : Explorer q capacity work known taken) (rs : List Row) → length rs ≤ taken
+    → fieldOf (settingOf (q .bodies)) capacity (startOf q) ≡ explored rs → map (λ r. r .self) rs ≡ y .ks → StruckFirst work rs
+unfolding StruckFirst
+struck-first q capacity work known taken y rs m e s i d h =
+    let S : Setting = settingOf (q .bodies) in
+    let r : Row = getD rs i d in
+    let self : getD (y .ks) i (d .self) ≡ r .self = ap (λ l. getD l i (d .self)) (sym s) ∙ List·getD-map (λ (r : Row). r .self) rs i d in
+    let there : getD (y .ks) i (startOf q) ≡ r .self = getD-within (y .ks) i (startOf q) (d .self) (omega (arith, ap length s, length-map rs (λ (r : Row). r .self))) ∙ self in
+    y .struck i (r .wants) (omega arith)
+    (ap (successors S) there ∙ all-∈ (λ r. successors S (r .self) ≡ leads (r .wants)) rs (explored-leads S (startOf q) capacity rs e) r (getD-∈ rs i d h))
 
 module _ (question : List ℕ) (capacity : ℕ) (work₀ : List ℕ) where
   pub record Explorers (work : List ℕ) (known taken : ℕ) : Type 0 where
@@ -137,7 +209,7 @@ module _ (question : List ℕ) (capacity : ℕ) (work₀ : List ℕ) where
 
   module _ (work : List ℕ) (known taken : ℕ) (x : Explorers work known taken) (waits : taken < known) (work′ : List ℕ) where
     pub explorers-next : (n : ℕ) → GrowIs question taken capacity work known (Known n) work′ → Explorers work′ n (taken + 1)
-    unfolding Follows GrowsTo
+    unfolding Follows
     explorers-next n g = record {
       rest = g .grows .rest ∙ x .rest;
       is = λ q a.
@@ -146,17 +218,14 @@ module _ (question : List ℕ) (capacity : ℕ) (work₀ : List ℕ) where
     }
       where
         next : (q : Question) (y : Explorer q capacity work known taken) (o : Outcome) → successors (settingOf (q .bodies)) (getD (y .ks) taken (startOf q)) ≡ o
-            → Follows (q .arities) capacity (y .ks) o (Known n) work′ → Explorer q capacity work′ n (taken + 1)
+            → Follows (q .arities) capacity taken o work known (Known n) work′ → Explorer q capacity work′ n (taken + 1)
         next q y pastLimit e f = let z : _≡_ {A = ℕ} 0 1 = cc in absurd (omega arith)
-        next q y (leads ms) e f = record {
-          ks = grown (y .ks) (together ms);
-          exploring = rw add-one (exploring-on (settingOf (q .bodies)) capacity (startOf q) (y .ks) taken (y .exploring) (omega (arith, y .knows .count)) ms e
-              (omega (arith, f .count, g .grows .within n refl .1)));
-          knows = f;
-        }
+        next q y (leads ms) e f =
+            let w = g .grows .within n refl in
+            explorer-next q capacity work known taken y waits ms e n (w .1) (w .0) work′ f
 
     pub explorers-full : GrowIs question taken capacity work known Full work′ → ExploreIs question capacity work₀ Incomplete work′
-    unfolding Explores Follows GrowsTo
+    unfolding Explores Follows Puts GrowsTo
     explorers-full g = record {
       rest = g .grows .rest ∙ x .rest;
       within = λ n e. let z : _≡_ {A = ℕ} 0 1 = cc in absurd (omega arith);
@@ -167,9 +236,10 @@ module _ (question : List ℕ) (capacity : ℕ) (work₀ : List ℕ) where
     }
       where
         none : (q : Question) (y : Explorer q capacity work known taken) (o : Outcome) → successors (settingOf (q .bodies)) (getD (y .ks) taken (startOf q)) ≡ o
-            → Follows (q .arities) capacity (y .ks) o Full work′ → fieldOf (settingOf (q .bodies)) capacity (startOf q) ≡ incomplete
+            → Follows (q .arities) capacity taken o work known Full work′ → fieldOf (settingOf (q .bodies)) capacity (startOf q) ≡ incomplete
         none q y pastLimit e f = exploring-past (settingOf (q .bodies)) capacity (startOf q) (y .ks) taken (y .exploring) (omega (arith, y .knows .count)) e
-        none q y (leads ms) e f = exploring-full (settingOf (q .bodies)) capacity (startOf q) (y .ks) taken (y .exploring) (omega (arith, y .knows .count)) ms e f
+        none q y (leads ms) e f =
+            exploring-full (settingOf (q .bodies)) capacity (startOf q) (y .ks) taken (y .exploring) (omega (arith, y .knows .count)) ms e (f .puts (y .ks) (y .knows))
 
   pub explorers-end : (work : List ℕ) (known taken : ℕ) → Explorers work known taken → taken ≡ known → 1 ≤ known → known ≤ capacity
       → ExploreIs question capacity work₀ (Field known) work
@@ -186,8 +256,9 @@ module _ (question : List ℕ) (capacity : ℕ) (work₀ : List ℕ) where
           let n : taken ≡ length (y .ks) = omega (arith, y .knows .count) in
           let z : Exploring (settingOf (q .bodies)) capacity (startOf q) (y .ks) (length (y .ks)) = subst (Exploring (settingOf (q .bodies)) capacity (startOf q) (y .ks)) n (y .exploring) in
           let m : known ≡ length (z .rows) = omega (arith, z .count, y .knows .count) in
-          rw (exploring-end (settingOf (q .bodies)) capacity (startOf q) (y .ks) z)
-          (ap Field m, rw (z .selves ∙ take-all (length (y .ks)) (y .ks) (omega arith)) (y .knows .slots))
+          let e = exploring-end (settingOf (q .bodies)) capacity (startOf q) (y .ks) z in
+          let selves = z .selves ∙ take-all (length (y .ks)) (y .ks) (omega arith) in
+          rw e (ap Field m, rw selves (y .knows .slots), struck-first q capacity work known taken y (z .rows) (omega arith) e selves)
 
 -- The start in the first slot.
 module _ (question : List ℕ) (capacity : ℕ) (some : 1 ≤ capacity) (work : List ℕ) (room : slotBytes * capacity ≤ length work) (key : List ℕ)
@@ -202,11 +273,13 @@ module _ (question : List ℕ) (capacity : ℕ) (some : 1 ≤ capacity) (work : 
     is = λ q a.
         let f = start-fitting question q a in
         let none : Knows (q .arities) capacity clear 0 [] =
-        record { count = refl; fitting = tt; slots = record { held = λ i d k. absurd (omega arith); left = λ i k. absurd (omega arith) }; chained = C .chained } in
+        record { count = refl; fitting = tt; slots = record { held = λ i d k. absurd (omega arith) }; chained = C .chained } in
         record {
           ks = startOf q ∷ [];
           exploring = exploring-start (settingOf (q .bodies)) capacity (startOf q) some;
           knows = knows-more clear key 0 slot long (q .arities) capacity [] none (startOf q) f (whole-key key (startOf q) (f .fits) (S q a)) work₀ L;
+          struck = λ i ms h. absurd (omega arith);
+          left = slot-struck clear key 0 slot long capacity work₀ L .fresh;
         };
   }
 

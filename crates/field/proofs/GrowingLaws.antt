@@ -1,11 +1,12 @@
 -- The known situations grow: by one, by what the answers to a step lead to, by what the steps of a side lead to. Assumes nothing.
-use mathlib.Core.Bool.{Bool, true, false}
+use mathlib.Core.Bool.{Bool, true, false, cond, _||_}
 use mathlib.Core.List.{List, [], _∷_, _++_, map, append-nil}
 use mathlib.Core.Path.{_≡_, refl, sym, _∙_, ap, ap₂, subst}
+use native.Mathlib.Decide.{decLt}
 use native.Mathlib.Omega.{arith}
 use Prim.Native.Nat.{ℕ, suc, _+_, _*_, _<_, _≤_}
-use lib.ListN.{length, getD, take, drop, length-append, take-append-drop}
-use lib.Seq.{take-suc, take-all, split-at}
+use lib.ListN.{length, getD, set, take, drop, length-append, take-append-drop}
+use lib.Seq.{take-suc, take-all, split-at, getD-set-same, getD-set-other, drop-set-lt}
 use Rattle.calculus.specs.Cond.{Pairs}
 use Rattle.calculus.specs.Term.{ren}
 use Rattle.calculus.proofs.Renaming.{map-++}
@@ -18,21 +19,21 @@ use Rattle.steps.specs.Lists.{All}
 use Rattle.steps.proofs.Membership.{all-imp}
 use Rattle.field.specs.Chains.{LinkIs, FindsIn}
 use Rattle.field.specs.Entry.{EntryAt, AnswersIs}
-use Rattle.field.specs.Exploration.{together}
-use Rattle.field.specs.Growing.{Proper, Fits, Fitting, grownBy, grown, GrowsTo, Puts, Grows, slotWith, AddIs, Flagged, answered, GrowsAnswer, GrowsAnswers, moved, GrowsStep, GrowsSide, GrowsSides}
+use Rattle.field.specs.Exploration.{together, unanswered}
+use Rattle.field.specs.Growing.{Proper, Fits, Fitting, grownBy, grown, GrowsTo, Puts, Grows, slotWith, KeepsStruck, AddIs, Flagged, answered, GrowsAnswer, GrowsAnswers, FirstAnswerIs, moved, Strikes, Leads, GrowsStep, GrowsSide, GrowsSides}
 use Rattle.field.specs.Leading.{placed, leading, SuccessorIs}
 use Rattle.field.specs.PairFlags.{PermittedIs}
 use Rattle.field.specs.Situation.{Situation, freeFrom, situation}
-use Rattle.field.specs.Slot.{keyOf, keyBytes, slotBytes}
+use Rattle.field.specs.Slot.{keyOf, keyBytes, slotBytes, struckAt}
 use Rattle.field.specs.Successors.{select, permitted, answers, moves}
-use Rattle.field.specs.TakingUp.{ListAt}
+use Rattle.field.specs.TakingUp.{ListAt, EntriesAt}
 use Rattle.field.specs.declared.explore.Growth.{Growth}
 use Rattle.field.specs.declared.explore.Growth.the-variants.{Full, Known}
 use Rattle.field.specs.declared.find.Found.the-variants.{At, Nothing}
 use Rattle.field.proofs.Growth.{grown-longer}
 use Rattle.field.proofs.KeysDiffer.{length-key, found-slot, found-no-slot}
 use Rattle.field.proofs.Loops.{select-++, grown-++, together-++, answersTo, moves-are}
-use Rattle.field.proofs.SlotWriting.{slot-rest, knows-more}
+use Rattle.field.proofs.SlotWriting.{slot-rest, slot-struck, knows-struck, knows-more}
 
 -- What holds of any growth.
 pub grows-none : (capacity : ℕ) (work : List ℕ) (known : ℕ) → known ≤ capacity → Grows capacity work known (Known known) work
@@ -47,6 +48,74 @@ grows-more capacity work known n work′ r work″ g h = record {
   rest = h .rest ∙ g .rest;
   within = λ m e. let (a, b) = g .within n refl in let (c, d) = h .within m e in (omega arith, d);
 }
+
+-- What is left and what is struck out, while none is struck out.
+pub keeps-none : (work : List ℕ) (known n : ℕ) → Known known ≡ Known n → KeepsStruck work known n work
+keeps-none work known n e = let z : known ≡ n = cc in record { kept = λ i h. refl; fresh = λ i h l. absurd (omega arith) }
+
+keeps-full : (work : List ℕ) (known n : ℕ) (work′ : List ℕ) → Full ≡ Known n → KeepsStruck work known n work′
+keeps-full work known n work′ e = let z : _≡_ {A = ℕ} 0 1 = cc in absurd (omega arith)
+
+keeps-more : (work : List ℕ) (known n m : ℕ) (work′ work″ : List ℕ) → known ≤ n → KeepsStruck work known n work′ → KeepsStruck work′ n m work″
+    → KeepsStruck work known m work″
+keeps-more work known n m work′ work″ h x y = record {
+  kept = λ i l. y .kept i (omega arith) ∙ x .kept i l;
+  fresh = λ i l k. go i l k (decLt i n);
+}
+  where
+    go : (i : ℕ) → known ≤ i → i < m → Dec (i < n) → getD work″ (struckAt i) 0 ≡ 0
+    go i l k (yes b) = y .kept i b ∙ x .fresh i l b
+    go i l k (no b) = y .fresh i (omega arith) k
+
+-- The situation taken up is struck out by a move that has no answer.
+unanswered-++ : (ms ns : List (List Situation)) → unanswered (ms ++ ns) ≡ (unanswered ms || unanswered ns)
+unfolding unanswered
+unanswered-++ [] ns = refl
+unanswered-++ ([] ∷ ms) ns = refl
+unanswered-++ ((s ∷ m) ∷ ms) ns = unanswered-++ ms ns
+
+unanswered-some : (xs : List Situation) (y : Situation) (ys : List Situation) → unanswered ((xs ++ (y ∷ ys)) ∷ []) ≡ false
+unfolding unanswered
+unanswered-some [] y ys = refl
+unanswered-some (x ∷ xs) y ys = refl
+
+module _ (taken : ℕ) (work : List ℕ) (known : ℕ) where
+  strikes-none : (n : ℕ) → Known known ≡ Known n → Strikes taken [] work known n work
+  unfolding unanswered
+  strikes-none n e = let z : known ≡ n = cc in record { here = refl; others = λ i h l. refl; fresh = λ i h l. absurd (omega arith) }
+
+  strikes-here : struckAt taken < length work → (n : ℕ) → Known known ≡ Known n → Strikes taken ([] ∷ []) work known n (set work (struckAt taken) 1)
+  unfolding unanswered
+  strikes-here room n e =
+      let z : known ≡ n = cc in
+      record {
+        here = getD-set-same work (struckAt taken) 1 0 room;
+        others = λ i h l. getD-set-other work (struckAt taken) (struckAt i) 1 0 (λ k. l (omega arith));
+        fresh = λ i h l. absurd (omega arith);
+      }
+
+  module _ (waits : taken < known) where
+    strikes-kept : (ms : List (List Situation)) (n : ℕ) (work′ : List ℕ) → unanswered ms ≡ false → KeepsStruck work known n work′
+        → Strikes taken ms work known n work′
+    strikes-kept ms n work′ e x = record { here = rw e (x .kept taken waits); others = λ i h l. x .kept i h; fresh = x .fresh }
+
+    strikes-more : (ms ns : List (List Situation)) (n m : ℕ) (work′ work″ : List ℕ) → known ≤ n → Strikes taken ms work known n work′
+        → Strikes taken ns work′ n m work″ → Strikes taken (ms ++ ns) work known m work″
+    strikes-more ms ns n m work′ work″ h x y = record {
+      here = y .here ∙ ap (cond (unanswered ns) 1) (x .here) ∙ both (unanswered ms) (unanswered ns) ∙ ap (λ b. cond b 1 (getD work (struckAt taken) 0)) (sym (unanswered-++ ms ns));
+      others = λ i l k. y .others i (omega arith) k ∙ x .others i l k;
+      fresh = λ i l k. go i l k (decLt i n);
+    }
+      where
+        both : (b c : Bool) → cond c 1 (cond b 1 (getD work (struckAt taken) 0)) ≡ cond (b || c) 1 (getD work (struckAt taken) 0)
+        both true true = refl
+        both true false = refl
+        both false true = refl
+        both false false = refl
+
+        go : (i : ℕ) → known ≤ i → i < m → Dec (i < n) → getD work″ (struckAt i) 0 ≡ 0
+        go i l k (yes b) = y .others i b (λ e. omega arith) ∙ x .fresh i l b
+        go i l k (no b) = y .fresh i (omega arith) k
 
 -- One list of situations after another.
 module _ (arities : List ℕ) (capacity : ℕ) (work : List ℕ) (known : ℕ) where
@@ -64,6 +133,27 @@ module _ (arities : List ℕ) (capacity : ℕ) (work : List ℕ) (known : ℕ) w
   unfolding Puts GrowsTo
   puts-full xs ys work′ p ks K = let h = p ks K in rw (grown-++ ks xs ys) (omega (arith, h, grown-longer (grown ks xs) ys))
 
+  -- One list of moves after another.
+  module _ (taken : ℕ) where
+    leads-none : Leads arities capacity taken [] work known (Known known) work
+    unfolding together
+    leads-none = record { puts = puts-none; strikes = strikes-none taken work known }
+
+    module _ (ms ns : List (List Situation)) where
+      leads-more : taken < known → (n : ℕ) → known ≤ n → (work′ : List ℕ) (r : Growth) (work″ : List ℕ)
+          → Leads arities capacity taken ms work known (Known n) work′ → Leads arities capacity taken ns work′ n r work″
+          → Leads arities capacity taken (ms ++ ns) work known r work″
+      leads-more waits n h work′ r work″ x y = record {
+        puts = rw (together-++ ms ns) (puts-more (together ms) (together ns) n work′ r work″ (x .puts) (y .puts));
+        strikes = λ m e. strikes-more taken work known waits ms ns n m work′ work″ h (x .strikes n refl) (y .strikes m e);
+      }
+
+      leads-full : (work′ : List ℕ) → Leads arities capacity taken ms work known Full work′ → Leads arities capacity taken (ms ++ ns) work known Full work′
+      leads-full work′ x = record {
+        puts = rw (together-++ ms ns) (puts-full (together ms) (together ns) work′ (x .puts));
+        strikes = λ m e. let z : _≡_ {A = ℕ} 0 1 = cc in absurd (omega arith);
+      }
+
 all-proper : (arities : List ℕ) (ks : List Situation) → All (Fitting arities) ks → All (Proper nameCount arities) ks
 all-proper arities ks = all-imp (Fitting arities) (Proper nameCount arities) ks (λ s f. f .proper)
 
@@ -77,6 +167,7 @@ module _ (capacity : ℕ) (work : List ℕ) (known : ℕ) (key : List ℕ) where
     unfolding Puts GrowsTo grown grownBy
     add-found i f = record {
       grows = grows-none capacity work known few;
+      keeps = keeps-none work known;
       is = λ arities s h e ks K.
           rw (found-slot arities work known ks (K .count) (K .slots) (all-proper arities ks (K .fitting)) s (h .proper) (h .fits) key e i (f .is (K .chained))) K;
     }
@@ -86,6 +177,7 @@ module _ (capacity : ℕ) (work : List ℕ) (known : ℕ) (key : List ℕ) where
     unfolding Puts GrowsTo grown grownBy
     add-full q = record {
       grows = grows-full capacity work known;
+      keeps = λ n. keeps-full work known n work;
       is = λ arities s h e ks K.
           rw (found-no-slot arities work known ks (K .count) (K .slots) (all-proper arities ks (K .fitting)) s (h .proper) (h .fits) key e (f .is (K .chained)))
           (omega (arith, K .count, length-append ks (s ∷ [])));
@@ -102,30 +194,22 @@ module _ (capacity : ℕ) (work : List ℕ) (known : ℕ) (key : List ℕ) where
             rest = slot-rest work key known l long capacity h work′ L;
             within = λ n e. let z : known + 1 ≡ n = cc in (omega arith, omega arith);
           };
+          keeps = λ n e. let z : known + 1 ≡ n = cc in rw (← z) (slot-struck work key known l long capacity work′ L);
           is = λ arities s g e ks K.
               rw (found-no-slot arities work known ks (K .count) (K .slots) (all-proper arities ks (K .fitting)) s (g .proper) (g .fits) key e (f .is (K .chained)))
               (knows-more work key known l long arities capacity ks K s g (whole-key key s (g .fits) e) work′ L);
         }
 
 -- A loop over a list of steps: f says what a part of the list leads to.
-module _ (arities : List ℕ) (capacity : ℕ) (work : List ℕ) (known : ℕ) (f : List ListedStep → List Situation)
-    (parts : (xs ys : List ListedStep) → f (xs ++ ys) ≡ f xs ++ f ys) (xs : List ListedStep) where
-  run-next : (j : ℕ) (d : ListedStep) → j < length xs → (n : ℕ) (work′ : List ℕ) (r : Growth) (work″ : List ℕ)
-      → Puts arities capacity work known (f (take j xs)) (Known n) work′ → Puts arities capacity work′ n (f (getD xs j d ∷ [])) r work″
-      → Puts arities capacity work known (f (take (j + 1) xs)) r work″
-  run-next j d h n work′ r work″ p q =
-      let e : j + 1 ≡ suc j = omega arith in
-      rw (e, take-suc xs j d h, parts (take j xs) (getD xs j d ∷ []))
-      (puts-more arities capacity work known (f (take j xs)) (f (getD xs j d ∷ [])) n work′ r work″ p q)
+module _ {A : Type 0} (f : List ListedStep → List A) (parts : (xs ys : List ListedStep) → f (xs ++ ys) ≡ f xs ++ f ys) (xs : List ListedStep) (j : ℕ) where
+  part-next : (d : ListedStep) → j < length xs → f (take (j + 1) xs) ≡ f (take j xs) ++ f (getD xs j d ∷ [])
+  part-next d h = let e : j + 1 ≡ suc j = omega arith in ap (λ k. f (take k xs)) e ∙ ap f (take-suc xs j d h) ∙ parts (take j xs) (getD xs j d ∷ [])
 
-  run-full : (j : ℕ) (work′ : List ℕ) → Puts arities capacity work known (f (take j xs)) Full work′ → Puts arities capacity work known (f xs) Full work′
-  run-full j work′ p =
-      subst (λ l. Puts arities capacity work known l Full work′) (sym (parts (take j xs) (drop j xs)) ∙ ap f (take-append-drop j xs))
-      (puts-full arities capacity work known (f (take j xs)) (f (drop j xs)) work′ p)
+  part-rest : f xs ≡ f (take j xs) ++ f (drop j xs)
+  part-rest = ap f (sym (take-append-drop j xs)) ∙ parts (take j xs) (drop j xs)
 
-  run-whole : (j : ℕ) (r : Growth) (work′ : List ℕ) → length xs ≤ j → Puts arities capacity work known (f (take j xs)) r work′
-      → Puts arities capacity work known (f xs) r work′
-  run-whole j r work′ h p = subst (λ l. Puts arities capacity work known (f l) r work′) (take-all j xs h) p
+  part-whole : length xs ≤ j → f xs ≡ f (take j xs)
+  part-whole h = ap f (sym (take-all j xs h))
 
 -- what holds of all that the list leads to holds of what one step of it leads to
 module _ (S : Situation → Type 0) where
@@ -166,17 +250,31 @@ module _ (second : Bool) (G : List ℕ) (D : Pairs) where
   moved-++ ts xs ys =
       let F : List ℕ = freeFrom G 0 nameCount in
       let g : ListedStep → List Situation = λ s. answersTo nameCount (placed second) F D s ts in
-      ap together (moves-are nameCount (placed second) F D (xs ++ ys) ts ∙ ap (map g) (select-++ (permitted D) xs ys) ∙ map-++ g (select (permitted D) xs) (select (permitted D) ys))
-      ∙ together-++ (map g (select (permitted D) xs)) (map g (select (permitted D) ys))
-      ∙ sym (ap₂ (λ a b. together a ++ together b) (moves-are nameCount (placed second) F D xs ts) (moves-are nameCount (placed second) F D ys ts))
+      moves-are nameCount (placed second) F D (xs ++ ys) ts ∙ ap (map g) (select-++ (permitted D) xs ys) ∙ map-++ g (select (permitted D) xs) (select (permitted D) ys)
+      ∙ sym (ap₂ _++_ (moves-are nameCount (placed second) F D xs ts) (moves-are nameCount (placed second) F D ys ts))
 
-  moved-one : (s : ListedStep) (ts : List ListedStep) → permitted D s ≡ true → moved second G D (s ∷ []) ts ≡ answered second G D s ts
-  unfolding moved moves select together answered leading
-  moved-one s ts e = rw e (append-nil (answered second G D s ts))
+  together-moved : (ts xs ys : List ListedStep)
+      → together (moved second G D (xs ++ ys) ts) ≡ together (moved second G D xs ts) ++ together (moved second G D ys ts)
+  together-moved ts xs ys = ap together (moved-++ ts xs ys) ∙ together-++ (moved second G D xs ts) (moved second G D ys ts)
+
+  moved-one : (s : ListedStep) (ts : List ListedStep) → permitted D s ≡ true → moved second G D (s ∷ []) ts ≡ answered second G D s ts ∷ []
+  unfolding moved moves select answered leading
+  moved-one s ts e = rw e
 
   moved-none : (s : ListedStep) (ts : List ListedStep) → permitted D s ≡ false → moved second G D (s ∷ []) ts ≡ []
-  unfolding moved moves select together
+  unfolding moved moves select
   moved-none s ts e = rw e
+
+  together-one : (xs : List Situation) → together (xs ∷ []) ≡ xs
+  unfolding together
+  together-one xs = append-nil xs
+
+  answered-some : (s : ListedStep) (ts : List ListedStep) (j : ℕ) (d : ListedStep) → j < length ts → answers nameCount s (getD ts j d) ≡ true
+      → unanswered (answered second G D s ts ∷ []) ≡ false
+  answered-some s ts j d h e =
+      let t : ListedStep = getD ts j d in
+      rw (split-at ts j d h, answered-++ s (take j ts) (t ∷ drop (suc j) ts), answered-++ s (t ∷ []) (drop (suc j) ts), answered-one s t e)
+      (unanswered-some (answered second G D s (take j ts)) (leading second (freeFrom G 0 nameCount) D s t) (answered second G D s (drop (suc j) ts)))
 
 -- A step and its answer that fit lead to a situation that fits.
 fits-second : (s t : ListedStep) (area others : List ℕ) (at place : ℕ) → EntryAt area at s → EntryAt others place t
@@ -202,6 +300,7 @@ module _ (arities free apart : List ℕ) (second : Bool) (area : List ℕ) (at :
     unfolding AnswersIs
     answer-none few A = record {
       grows = grows-none capacity work known few;
+      keeps = keeps-none work known;
       is = λ G D s t flags e i f j p.
           rw (answered-none second G D s t (sym (A s t e f))) (puts-none arities capacity work known);
     }
@@ -212,6 +311,7 @@ module _ (arities free apart : List ℕ) (second : Bool) (area : List ℕ) (at :
     unfolding AnswersIs SuccessorIs
     answer-added A key K r work′ a = record {
       grows = a .grows;
+      keeps = a .keeps;
       is = λ G D s t flags e i f j p.
           let F : List ℕ = freeFrom G 0 nameCount in
           let o = answered-one second G D s t (sym (A s t e f)) in
@@ -220,158 +320,252 @@ module _ (arities free apart : List ℕ) (second : Bool) (area : List ℕ) (at :
           rw o (a .is arities (leading second F D s t) fit (K G D s t (flags .names) (flags .pairs) e f i j));
     }
 
-  -- The loop over the answers, once the first j are looked at.
-  module _ (count capacity : ℕ) (work₀ : List ℕ) (known : ℕ) where
+  -- The loop over the answers from number `first` on, once the first j are looked at.
+  module _ (first count capacity : ℕ) (work₀ : List ℕ) (known : ℕ) where
     pub record Answers (work : List ℕ) (now j : ℕ) : Type 0 where
       pub grows : Grows capacity work₀ known (Known now) work
+      pub keeps : KeepsStruck work₀ known now work
       pub is : (G : List ℕ) (D : Pairs) (s : ListedStep) (ts : List ListedStep) → Flagged free apart G D
           → EntryAt area at s → InScope nameCount arities 0 (s .result)
           → ListAt arities others count ts
+          → select (answers nameCount s) (take first ts) ≡ []
           → All (Proper nameCount arities) (answered second G D s ts)
           → Puts arities capacity work₀ known (answered second G D s (take j ts)) (Known now) work
 
-    pub answers-start : known ≤ capacity → Answers work₀ known 0
-    unfolding answered select
-    answers-start few = record { grows = grows-none capacity work₀ known few; is = λ G D s ts flags e i l p. puts-none arities capacity work₀ known }
+    pub answers-start : known ≤ capacity → Answers work₀ known first
+    unfolding answered
+    answers-start few = record {
+      grows = grows-none capacity work₀ known few;
+      keeps = keeps-none work₀ known known refl;
+      is = λ G D s ts flags e i l o p. rw o (puts-none arities capacity work₀ known);
+    }
 
     module _ (work : List ℕ) (now j : ℕ) (x : Answers work now j) (more : j < count) (r : Growth) (work′ : List ℕ)
         (g : GrowsAnswer arities free apart second area at others (stepBytes * j) capacity work now r work′) where
       next-answer : (G : List ℕ) (D : Pairs) (s : ListedStep) (ts : List ListedStep) → Flagged free apart G D
           → EntryAt area at s → InScope nameCount arities 0 (s .result)
           → ListAt arities others count ts
+          → select (answers nameCount s) (take first ts) ≡ []
           → All (Proper nameCount arities) (answered second G D s ts)
           → Puts arities capacity work₀ known (answered second G D s (take (j + 1) ts)) r work′
-      next-answer G D s ts flags e i l p =
+      next-answer G D s ts flags e i l o p =
           let f : List ListedStep → List Situation = answered second G D s in
           let h : j < length ts = omega (arith, l .number) in
           let t : ListedStep = getD ts j s in
-          run-next arities capacity work₀ known f (answered-++ second G D s) ts j s h now work r work′ (x .is G D s ts flags e i l p)
-          (g .is G D s t flags e i (l .entry j s more) (l .scope j s more) (all-one (Proper nameCount arities) f (answered-++ second G D s) ts j s h p))
+          rw (part-next f (answered-++ second G D s) ts j s h)
+          (puts-more arities capacity work₀ known (f (take j ts)) (f (t ∷ [])) now work r work′ (x .is G D s ts flags e i l o p)
+          (g .is G D s t flags e i (l .entry j s more) (l .scope j s more) (all-one (Proper nameCount arities) f (answered-++ second G D s) ts j s h p)))
+
+      next-keeps : (n : ℕ) → r ≡ Known n → KeepsStruck work₀ known n work′
+      next-keeps n e = keeps-more work₀ known now n work work′ (x .grows .within now refl .0) (x .keeps) (g .keeps n e)
 
     pub answers-next : (work : List ℕ) (now j : ℕ) (n : ℕ) (work′ : List ℕ) → Answers work now j → j < count
         → GrowsAnswer arities free apart second area at others (stepBytes * j) capacity work now (Known n) work′ → Answers work′ n (j + 1)
     answers-next work now j n work′ x more g = record {
       grows = grows-more capacity work₀ known now work (Known n) work′ (x .grows) (g .grows);
+      keeps = next-keeps work now j x more (Known n) work′ g n refl;
       is = next-answer work now j x more (Known n) work′ g;
     }
 
     pub answers-full : (work : List ℕ) (now j : ℕ) (work′ : List ℕ) → Answers work now j → j < count
         → GrowsAnswer arities free apart second area at others (stepBytes * j) capacity work now Full work′
-        → GrowsAnswers arities free apart second area at others count capacity work₀ known Full work′
+        → GrowsAnswers arities free apart second area at others first count capacity work₀ known Full work′
     answers-full work now j work′ x more g = record {
       grows = grows-more capacity work₀ known now work Full work′ (x .grows) (g .grows);
-      is = λ G D s ts flags e i l p.
-          run-full arities capacity work₀ known (answered second G D s) (answered-++ second G D s) ts (j + 1) work′
-          (next-answer work now j x more Full work′ g G D s ts flags e i l p);
+      keeps = next-keeps work now j x more Full work′ g;
+      is = λ G D s ts flags e i l o p.
+          let f : List ListedStep → List Situation = answered second G D s in
+          rw (part-rest f (answered-++ second G D s) ts (j + 1))
+          (puts-full arities capacity work₀ known (f (take (j + 1) ts)) (f (drop (j + 1) ts)) work′ (next-answer work now j x more Full work′ g G D s ts flags e i l o p));
     }
 
     pub answers-end : (work : List ℕ) (now j : ℕ) → Answers work now j → count ≤ j
-        → GrowsAnswers arities free apart second area at others count capacity work₀ known (Known now) work
+        → GrowsAnswers arities free apart second area at others first count capacity work₀ known (Known now) work
     answers-end work now j x h = record {
       grows = x .grows;
-      is = λ G D s ts flags e i l p.
-          run-whole arities capacity work₀ known (answered second G D s) (answered-++ second G D s) ts j (Known now) work (omega (arith, l .number))
-          (x .is G D s ts flags e i l p);
+      keeps = λ n e. let z : now ≡ n = cc in rw (← z) (x .keeps);
+      is = λ G D s ts flags e i l o p.
+          rw (part-whole (answered second G D s) (answered-++ second G D s) ts j (omega (arith, l .number))) (x .is G D s ts flags e i l o p);
     }
 
-    -- One step of the side.
-    pub step-none : known ≤ capacity → PermittedIs apart area at false
-        → GrowsStep arities free apart second area at others count capacity work₀ known (Known known) work₀
-    unfolding PermittedIs
-    step-none few P = record {
-      grows = grows-none capacity work₀ known few;
-      is = λ G D s ts flags e i l p.
-          rw (moved-none second G D s ts (sym (P D s (flags .distinction) (flags .pairs) e))) (puts-none arities capacity work₀ known);
+-- The first answer.
+module _ (area : List ℕ) (at : ℕ) (others : List ℕ) (count : ℕ) where
+  -- none of the first j answers
+  abbrev pub NoAnswer : ℕ → Type 0
+  NoAnswer j = (s : ListedStep) (ts : List ListedStep) → EntryAt area at s → EntriesAt others count ts → select (answers nameCount s) (take j ts) ≡ []
+
+  pub no-answer-yet : NoAnswer 0
+  unfolding select
+  no-answer-yet s ts e l = refl
+
+  module _ (j : ℕ) (more : j < count) (so : NoAnswer j) (b : Bool) (A : AnswersIs area at others (stepBytes * j) b) where
+    pub no-answer-next : b ≡ false → NoAnswer (j + 1)
+    unfolding AnswersIs EntriesAt select
+    no-answer-next q s ts e l =
+        let t : ListedStep = getD ts j s in
+        let a : answers nameCount s t ≡ false = sym (A s t e (l .1 j s more)) ∙ q in
+        part-next (select (answers nameCount s)) (select-++ (answers nameCount s)) ts j s (omega (arith, l .0)) ∙ rw (so s ts e l, a)
+
+    pub answer-first : b ≡ true → FirstAnswerIs area at others count j
+    unfolding AnswersIs EntriesAt
+    answer-first q = record {
+      within = omega arith;
+      none = so;
+      answer = λ s ts d e l h. sym (A s (getD ts j d) e (l .1 j d h)) ∙ q;
     }
 
-    pub step-answered : PermittedIs apart area at true → (r : Growth) (work′ : List ℕ)
-        → GrowsAnswers arities free apart second area at others count capacity work₀ known r work′
-        → GrowsStep arities free apart second area at others count capacity work₀ known r work′
+  pub answer-nowhere : (j : ℕ) → j ≡ count → NoAnswer j → FirstAnswerIs area at others count count
+  answer-nowhere j q so = record {
+    within = omega arith;
+    none = λ s ts e l. rw (← q) (so s ts e l);
+    answer = λ s ts d e l h. absurd (omega arith);
+  }
+
+list-entries : (arities area : List ℕ) (count : ℕ) (ts : List ListedStep) → ListAt arities area count ts → EntriesAt area count ts
+unfolding EntriesAt
+list-entries arities area count ts l = (l .number, l .entry)
+
+-- One step of a side.
+module _ (arities free apart : List ℕ) (second : Bool) (taken : ℕ) (area : List ℕ) (at : ℕ) (others : List ℕ) (count capacity : ℕ) (work : List ℕ) (known : ℕ) where
+  pub step-none : known ≤ capacity → PermittedIs apart area at false
+      → GrowsStep arities free apart second taken area at others count capacity work known (Known known) work
+  unfolding PermittedIs
+  step-none few P = record {
+    grows = grows-none capacity work known few;
+    is = λ G D s ts flags e i l p.
+        rw (moved-none second G D s ts (sym (P D s (flags .distinction) (flags .pairs) e))) (leads-none arities capacity work known taken);
+  }
+
+  module _ (P : PermittedIs apart area at true) (first : ℕ) (F : FirstAnswerIs area at others count first) (waits : taken < known) where
+    pub step-struck : first ≡ count → known ≤ capacity → slotBytes * capacity ≤ length work
+        → GrowsStep arities free apart second taken area at others count capacity work known (Known known) (set work (struckAt taken) 1)
+    unfolding PermittedIs answered together Puts GrowsTo grown
+    step-struck q few room = record {
+      grows = record {
+        rest = drop-set-lt (slotBytes * capacity) work (struckAt taken) 1 (omega arith);
+        within = grows-none capacity work known few .within;
+      };
+      is = λ G D s ts flags e i l p.
+          let n : take first ts ≡ ts = take-all first ts (omega (arith, l .number)) in
+          let o : select (answers nameCount s) ts ≡ [] = ap (select (answers nameCount s)) (sym n) ∙ F .none s ts e (list-entries arities others count ts l) in
+          rw (moved-one second G D s ts (sym (P D s (flags .distinction) (flags .pairs) e)), o)
+          (record {
+            puts = λ ks K. knows-struck arities capacity work known ks taken 1 K;
+            strikes = strikes-here taken work known (omega arith);
+          });
+    }
+
+    pub step-answered : (first ≡ count → ⊥) → (r : Growth) (work′ : List ℕ)
+        → GrowsAnswers arities free apart second area at others first count capacity work known r work′
+        → GrowsStep arities free apart second taken area at others count capacity work known r work′
     unfolding PermittedIs
-    step-answered P r work′ g = record {
+    step-answered q r work′ g = record {
       grows = g .grows;
       is = λ G D s ts flags e i l p.
           let o = moved-one second G D s ts (sym (P D s (flags .distinction) (flags .pairs) e)) in
-          rw o (g .is G D s ts flags e i l (subst (All (Proper nameCount arities)) o p));
+          let t = ap together o ∙ together-one second G D (answered second G D s ts) in
+          let k = list-entries arities others count ts l in
+          let h : first < count = omega (arith, F .within) in
+          record {
+            puts = rw t (g .is G D s ts flags e i l (F .none s ts e k) (subst (All (Proper nameCount arities)) t p));
+            strikes = λ n z. strikes-kept taken work known waits (moved second G D (s ∷ []) ts) n work′
+                (ap unanswered o ∙ answered-some second G D s ts first s (omega (arith, l .number)) (F .answer s ts s e k h)) (g .keeps n z);
+          };
     }
 
 -- The steps of one side.
-module _ (arities free apart : List ℕ) (second : Bool) (area : List ℕ) (steps : ℕ) (others : List ℕ) (count capacity : ℕ) (work₀ : List ℕ) (known : ℕ) where
+module _ (arities free apart : List ℕ) (second : Bool) (taken : ℕ) (area : List ℕ) (steps : ℕ) (others : List ℕ) (count capacity : ℕ) (work₀ : List ℕ) (known : ℕ) where
   -- The loop over them, once the first i are looked at.
   pub record Steps (work : List ℕ) (now i : ℕ) : Type 0 where
     pub grows : Grows capacity work₀ known (Known now) work
     pub is : (G : List ℕ) (D : Pairs) (ss ts : List ListedStep) → Flagged free apart G D
         → ListAt arities area steps ss → ListAt arities others count ts
-        → All (Proper nameCount arities) (moved second G D ss ts)
-        → Puts arities capacity work₀ known (moved second G D (take i ss) ts) (Known now) work
+        → All (Proper nameCount arities) (together (moved second G D ss ts))
+        → Leads arities capacity taken (moved second G D (take i ss) ts) work₀ known (Known now) work
 
   pub steps-start : known ≤ capacity → Steps work₀ known 0
-  unfolding moved moves select together
-  steps-start few = record { grows = grows-none capacity work₀ known few; is = λ G D ss ts flags k l p. puts-none arities capacity work₀ known }
+  unfolding moved moves select
+  steps-start few = record { grows = grows-none capacity work₀ known few; is = λ G D ss ts flags k l p. leads-none arities capacity work₀ known taken }
 
-  module _ (work : List ℕ) (now i : ℕ) (x : Steps work now i) (more : i < steps) (r : Growth) (work′ : List ℕ)
-      (g : GrowsStep arities free apart second area (stepBytes * i) others count capacity work now r work′) where
+  module _ (waits : taken < known) (work : List ℕ) (now i : ℕ) (x : Steps work now i) (more : i < steps) (r : Growth) (work′ : List ℕ)
+      (g : GrowsStep arities free apart second taken area (stepBytes * i) others count capacity work now r work′) where
     next-step : (G : List ℕ) (D : Pairs) (ss ts : List ListedStep) → Flagged free apart G D
         → ListAt arities area steps ss → ListAt arities others count ts
-        → All (Proper nameCount arities) (moved second G D ss ts)
-        → Puts arities capacity work₀ known (moved second G D (take (i + 1) ss) ts) r work′
+        → All (Proper nameCount arities) (together (moved second G D ss ts))
+        → Leads arities capacity taken (moved second G D (take (i + 1) ss) ts) work₀ known r work′
     next-step G D ss ts flags k l p =
-        let f : List ListedStep → List Situation = λ xs. moved second G D xs ts in
+        let f : List ListedStep → List (List Situation) = λ xs. moved second G D xs ts in
         let h : i < length ss = omega (arith, k .number) in
         let d : ListedStep = some ss (omega arith) in
         let s : ListedStep = getD ss i d in
-        run-next arities capacity work₀ known f (moved-++ second G D ts) ss i d h now work r work′ (x .is G D ss ts flags k l p)
-        (g .is G D s ts flags (k .entry i d more) (k .scope i d more) l (all-one (Proper nameCount arities) f (moved-++ second G D ts) ss i d h p))
+        rw (part-next f (moved-++ second G D ts) ss i d h)
+        (leads-more arities capacity work₀ known taken (f (take i ss)) (f (s ∷ [])) waits now (x .grows .within now refl .0) work r work′ (x .is G D ss ts flags k l p)
+        (g .is G D s ts flags (k .entry i d more) (k .scope i d more) l
+        (all-one (Proper nameCount arities) (λ xs. together (moved second G D xs ts)) (together-moved second G D ts) ss i d h p)))
       where
         some : (xs : List ListedStep) → 0 < length xs → ListedStep
         some [] h = absurd (omega arith)
         some (y ∷ ys) h = y
 
-  pub steps-next : (work : List ℕ) (now i : ℕ) (n : ℕ) (work′ : List ℕ) → Steps work now i → i < steps
-      → GrowsStep arities free apart second area (stepBytes * i) others count capacity work now (Known n) work′ → Steps work′ n (i + 1)
-  steps-next work now i n work′ x more g = record {
-    grows = grows-more capacity work₀ known now work (Known n) work′ (x .grows) (g .grows);
-    is = next-step work now i x more (Known n) work′ g;
-  }
+  module _ (waits : taken < known) (work : List ℕ) (now i : ℕ) where
+    pub steps-next : (n : ℕ) (work′ : List ℕ) → Steps work now i → i < steps
+        → GrowsStep arities free apart second taken area (stepBytes * i) others count capacity work now (Known n) work′ → Steps work′ n (i + 1)
+    steps-next n work′ x more g = record {
+      grows = grows-more capacity work₀ known now work (Known n) work′ (x .grows) (g .grows);
+      is = next-step waits work now i x more (Known n) work′ g;
+    }
 
-  pub steps-full : (work : List ℕ) (now i : ℕ) (work′ : List ℕ) → Steps work now i → i < steps
-      → GrowsStep arities free apart second area (stepBytes * i) others count capacity work now Full work′
-      → GrowsSide arities free apart second area steps others count capacity work₀ known Full work′
-  steps-full work now i work′ x more g = record {
-    grows = grows-more capacity work₀ known now work Full work′ (x .grows) (g .grows);
-    is = λ G D ss ts flags k l p.
-        run-full arities capacity work₀ known (λ xs. moved second G D xs ts) (moved-++ second G D ts) ss (i + 1) work′
-        (next-step work now i x more Full work′ g G D ss ts flags k l p);
-  }
+    pub steps-full : (work′ : List ℕ) → Steps work now i → i < steps
+        → GrowsStep arities free apart second taken area (stepBytes * i) others count capacity work now Full work′
+        → GrowsSide arities free apart second taken area steps others count capacity work₀ known Full work′
+    steps-full work′ x more g = record {
+      grows = grows-more capacity work₀ known now work Full work′ (x .grows) (g .grows);
+      is = λ G D ss ts flags k l p.
+          let f : List ListedStep → List (List Situation) = λ xs. moved second G D xs ts in
+          rw (part-rest f (moved-++ second G D ts) ss (i + 1))
+          (leads-full arities capacity work₀ known taken (f (take (i + 1) ss)) (f (drop (i + 1) ss)) work′
+          (next-step waits work now i x more Full work′ g G D ss ts flags k l p));
+    }
 
   pub steps-end : (work : List ℕ) (now i : ℕ) → Steps work now i → steps ≤ i
-      → GrowsSide arities free apart second area steps others count capacity work₀ known (Known now) work
+      → GrowsSide arities free apart second taken area steps others count capacity work₀ known (Known now) work
   steps-end work now i x h = record {
     grows = x .grows;
     is = λ G D ss ts flags k l p.
-        run-whole arities capacity work₀ known (λ xs. moved second G D xs ts) (moved-++ second G D ts) ss i (Known now) work (omega (arith, k .number))
-        (x .is G D ss ts flags k l p);
+        rw (part-whole (λ xs. moved second G D xs ts) (moved-++ second G D ts) ss i (omega (arith, k .number))) (x .is G D ss ts flags k l p);
   }
 
 -- Both sides.
-module _ (arities free apart firsts : List ℕ) (n : ℕ) (seconds : List ℕ) (m capacity : ℕ) (work : List ℕ) (known : ℕ) where
-  pub sides-full : (work′ : List ℕ) → GrowsSide arities free apart false firsts n seconds m capacity work known Full work′
-      → GrowsSides arities free apart firsts n seconds m capacity work known Full work′
+module _ (arities free apart : List ℕ) (taken : ℕ) (firsts : List ℕ) (n : ℕ) (seconds : List ℕ) (m capacity : ℕ) (work : List ℕ) (known : ℕ) where
+  -- what holds of all moves holds of those of each side
+  module _ (ms ns : List (List Situation)) (p : All (Proper nameCount arities) (together (ms ++ ns))) where
+    of-both : All (Proper nameCount arities) (together ms ++ together ns)
+    of-both = subst (All (Proper nameCount arities)) (together-++ ms ns) p
+
+    of-first : All (Proper nameCount arities) (together ms)
+    of-first = all-left (Proper nameCount arities) (together ms) (together ns) of-both
+
+    of-second : All (Proper nameCount arities) (together ns)
+    of-second = all-right (Proper nameCount arities) (together ms) (together ns) of-both
+
+  pub sides-full : (work′ : List ℕ) → GrowsSide arities free apart false taken firsts n seconds m capacity work known Full work′
+      → GrowsSides arities free apart taken firsts n seconds m capacity work known Full work′
   sides-full work′ g = record {
     grows = g .grows;
     is = λ G D ps qs flags k l p.
-        puts-full arities capacity work known (moved false G D ps qs) (moved true G D qs ps) work′
-        (g .is G D ps qs flags k l (all-left (Proper nameCount arities) (moved false G D ps qs) (moved true G D qs ps) p));
+        let ms = moved false G D ps qs in
+        let ns = moved true G D qs ps in
+        leads-full arities capacity work known taken ms ns work′ (g .is G D ps qs flags k l (of-first ms ns p));
   }
 
-  pub sides-both : (now : ℕ) (work′ : List ℕ) → GrowsSide arities free apart false firsts n seconds m capacity work known (Known now) work′
-      → (r : Growth) (work″ : List ℕ) → GrowsSide arities free apart true seconds m firsts n capacity work′ now r work″
-      → GrowsSides arities free apart firsts n seconds m capacity work known r work″
-  sides-both now work′ g r work″ h = record {
+  pub sides-both : taken < known → (now : ℕ) (work′ : List ℕ) → GrowsSide arities free apart false taken firsts n seconds m capacity work known (Known now) work′
+      → (r : Growth) (work″ : List ℕ) → GrowsSide arities free apart true taken seconds m firsts n capacity work′ now r work″
+      → GrowsSides arities free apart taken firsts n seconds m capacity work known r work″
+  sides-both waits now work′ g r work″ h = record {
     grows = grows-more capacity work known now work′ r work″ (g .grows) (h .grows);
     is = λ G D ps qs flags k l p.
-        let S : Situation → Type 0 = Proper nameCount arities in
-        puts-more arities capacity work known (moved false G D ps qs) (moved true G D qs ps) now work′ r work″
-        (g .is G D ps qs flags k l (all-left S (moved false G D ps qs) (moved true G D qs ps) p))
-        (h .is G D qs ps flags l k (all-right S (moved false G D ps qs) (moved true G D qs ps) p));
+        let ms = moved false G D ps qs in
+        let ns = moved true G D qs ps in
+        leads-more arities capacity work known taken ms ns waits now (g .grows .within now refl .0) work′ r work″
+        (g .is G D ps qs flags k l (of-first ms ns p)) (h .is G D qs ps flags l k (of-second ms ns p));
   }

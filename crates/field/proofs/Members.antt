@@ -23,6 +23,11 @@ module _ {A : Type 0} where
   getD-∈ (x ∷ xs) zero d h = inl refl
   getD-∈ (x ∷ xs) (suc i) d h = inr (getD-∈ xs i d (omega arith))
 
+  pub getD-within : (xs : List A) (i : ℕ) (d e : A) → i < length xs → getD xs i d ≡ getD xs i e
+  getD-within [] i d e h = absurd (omega arith)
+  getD-within (x ∷ xs) zero d e h = refl
+  getD-within (x ∷ xs) (suc i) d e h = getD-within xs i d e (omega arith)
+
   pub ∈-number : (x : A) (xs : List A) → x ∈ xs → (i : ℕ) × (i < length xs) × ((d : A) → x ≡ getD xs i d)
   ∈-number x (y ∷ xs) (inl e) = (0, omega arith, λ d. e)
   ∈-number x (y ∷ xs) (inr m) = let (i, l, e) = ∈-number x xs m in (suc i, omega arith, e)

@@ -9,13 +9,13 @@ use lib.Seq.{sets, sets-eq, length-sets, length-take-le, drop-at, take-at, getD-
 use Rattle.terms.proofs.Stores.{getD-front, sets-join}
 use Rattle.steps.proofs.Membership.{all-++}
 use Rattle.steps.proofs.Moves.{getD-before}
-use Rattle.field.specs.Chains.{Chained, KeepsKeys, LinkIs}
-use Rattle.field.specs.Growing.{Fits, Fitting, Knows, slotWith}
+use Rattle.field.specs.Chains.{Chained, LinkIs}
+use Rattle.field.specs.Growing.{Fits, Fitting, Knows, slotWith, KeepsStruck}
 use Rattle.field.specs.Holding.{SlotsHold}
 use Rattle.field.specs.Key.{SituationAt, keyAt}
 use Rattle.field.specs.Situation.{Situation}
-use Rattle.field.specs.Slot.{keyOf, keyBytes, slotBytes}
-use Rattle.field.proofs.ChainLaws.{keeps-key, chained-slot}
+use Rattle.field.specs.Slot.{keyOf, keyBytes, slotBytes, struckAt}
+use Rattle.field.proofs.ChainLaws.{keeps-key, key-flag, chained-flag, chained-slot}
 use Rattle.field.proofs.KeysDiffer.{slot-key}
 
 -- A run of stores leaves what is behind it, and what is before it.
@@ -40,15 +40,23 @@ key-situation area at s f e = record {
   second = f .second;
 }
 
--- the slots where only links change
-slots-kept : (capacity : ℕ) (work work′ : List ℕ) → KeepsKeys capacity work work′ → (ks : List Situation) → SlotsHold work ks → SlotsHold work′ ks
-unfolding keyAt
-slots-kept capacity work work′ K ks h = record {
-  held = λ i d l.
-      let t : SituationAt work (slotBytes * i) (getD ks i d) = h .held i d l in
-      key-situation work′ (slotBytes * i) (getD ks i d) (record { first = t .first; second = t .second })
-      (keeps-key capacity work work′ K i ∙ slot-key work i (getD ks i d) t);
-  left = λ i l. K .slots i keyBytes (omega arith) ∙ h .left i l;
+-- the situations where no key changes
+module _ (work work′ : List ℕ) (keys : (i : ℕ) → keyAt work′ i ≡ keyAt work i) where
+  pub situation-kept : (i : ℕ) (s : Situation) → SituationAt work (slotBytes * i) s → SituationAt work′ (slotBytes * i) s
+  unfolding keyAt
+  situation-kept i s t = key-situation work′ (slotBytes * i) s (record { first = t .first; second = t .second }) (keys i ∙ slot-key work i s t)
+
+  slots-kept : (ks : List Situation) → SlotsHold work ks → SlotsHold work′ ks
+  slots-kept ks h = record { held = λ i d l. situation-kept i (getD ks i d) (h .held i d l) }
+
+-- a situation struck out
+pub knows-struck : (arities : List ℕ) (capacity : ℕ) (work : List ℕ) (known : ℕ) (ks : List Situation) (i v : ℕ) → Knows arities capacity work known ks
+    → Knows arities capacity (set work (struckAt i) v) known ks
+knows-struck arities capacity work known ks i v K = record {
+  count = K .count;
+  fitting = K .fitting;
+  slots = slots-kept work (set work (struckAt i) v) (key-flag work i v) ks (K .slots);
+  chained = chained-flag capacity work known i v (K .chained);
 }
 
 module _ (work key : List ℕ) (i : ℕ) (room : slotBytes * i + slotBytes ≤ length work) (long : keyBytes ≤ length key) where
@@ -92,6 +100,13 @@ module _ (work key : List ℕ) (i : ℕ) (room : slotBytes * i + slotBytes ≤ l
   unfolding slotWith
   slot-other j h = getD-before work (slotBytes * j + keyBytes) (slotBytes * i) new (omega arith)
 
+  -- it is left, and the others are as they were
+  pub slot-struck : (capacity : ℕ) (work′ : List ℕ) → LinkIs capacity (slotWith work i key) i work′ → KeepsStruck work i (i + 1) work′
+  slot-struck capacity work′ L = record {
+    kept = λ j h. L .keeps .slots j keyBytes (omega arith) ∙ slot-other j h;
+    fresh = λ j h l. let e : i ≡ j = omega arith in L .keeps .slots j keyBytes (omega arith) ∙ rw (← e) slot-left;
+  }
+
   -- One more situation is known.
   module _ (arities : List ℕ) (capacity : ℕ) (ks : List Situation) (known : Knows arities capacity work i ks) (s : Situation) (f : Fitting arities s)
       (e : take keyBytes key ≡ keyOf s) where
@@ -117,12 +132,7 @@ module _ (work key : List ℕ) (i : ℕ) (room : slotBytes * i + slotBytes ≤ l
     count-now = length-append ks (s ∷ []) ∙ omega (arith, known .count)
 
     slots-now : SlotsHold now (ks ++ (s ∷ []))
-    slots-now = record {
-      held = λ j d h. below-more Held i held-before held-here j (omega (arith, count-now)) d;
-      left = λ j h.
-          below-more (λ k. getD now (slotBytes * k + keyBytes) 0 ≡ 0) i
-          (λ k l. slot-other k l ∙ known .slots .left k (omega (arith, known .count))) slot-left j (omega (arith, count-now));
-    }
+    slots-now = record { held = λ j d h. below-more Held i held-before held-here j (omega (arith, count-now)) d }
 
     chained-now : Chained capacity now i
     unfolding slotWith
@@ -132,7 +142,7 @@ module _ (work key : List ℕ) (i : ℕ) (room : slotBytes * i + slotBytes ≤ l
     knows-more work′ L = record {
       count = count-now;
       fitting = all-++ (Fitting arities) ks (s ∷ []) (known .fitting) (f, tt);
-      slots = slots-kept capacity now work′ (L .keeps) (ks ++ (s ∷ [])) slots-now;
+      slots = slots-kept now work′ (keeps-key capacity now work′ (L .keeps)) (ks ++ (s ∷ [])) slots-now;
       chained = L .chained chained-now;
     }
 

@@ -16,15 +16,15 @@ use Rattle.steps.specs.Listed.{ListedStep}
 use Rattle.steps.specs.Lists.{All}
 use Rattle.field.specs.Chains.{Chained}
 use Rattle.field.specs.Entry.{EntryAt}
-use Rattle.field.specs.Exploration.{found, together}
+use Rattle.field.specs.Exploration.{found, together, unanswered}
 use Rattle.field.specs.Holding.{SlotsHold}
 use Rattle.field.specs.Leading.{placed, leading}
 use Rattle.field.specs.NameFlags.{HasNames}
 use Rattle.field.specs.Setting.{settingOf}
 use Rattle.field.specs.Situation.{Situation, freeFrom, situation}
-use Rattle.field.specs.Slot.{flagsOf, keyOf, keyBytes, slotBytes}
+use Rattle.field.specs.Slot.{flagsOf, keyOf, keyBytes, slotBytes, struckAt}
 use Rattle.field.specs.Successors.{Outcome, pastLimit, leads, select, answers, moves, successors}
-use Rattle.field.specs.TakingUp.{ListAt}
+use Rattle.field.specs.TakingUp.{ListAt, EntriesAt}
 use Rattle.field.specs.declared.explore.Growth.{Growth}
 use Rattle.field.specs.declared.explore.Growth.the-variants.{Full, Known}
 
@@ -79,9 +79,15 @@ pub record Grows (capacity : ℕ) (work : List ℕ) (known : ℕ) (r : Growth) (
 unfoldable pub slotWith : List ℕ → ℕ → List ℕ → List ℕ
 slotWith work i key = sets work (slotBytes * i) (take keyBytes key ++ (0 ∷ []))
 
+-- The situations left stay left, those struck out stay struck out, and the new ones are left.
+pub record KeepsStruck (work : List ℕ) (known n : ℕ) (work′ : List ℕ) : Type 0 where
+  pub kept : (i : ℕ) → i < known → getD work′ (struckAt i) 0 ≡ getD work (struckAt i) 0
+  pub fresh : (i : ℕ) → known ≤ i → i < n → getD work′ (struckAt i) 0 ≡ 0
+
 -- One situation.
 pub record AddIs (capacity : ℕ) (work : List ℕ) (known : ℕ) (key : List ℕ) (r : Growth) (work′ : List ℕ) : Type 0 where
   pub grows : Grows capacity work known r work′
+  pub keeps : (n : ℕ) → r ≡ Known n → KeepsStruck work known n work′
   pub is : (arities : List ℕ) (s : Situation) → Fitting arities s → key ≡ keyOf s → Puts arities capacity work known (s ∷ []) r work′
 
 -- The names G and the apart pairs D of the situation taken up, as flags.
@@ -98,60 +104,81 @@ answered second G D s ts = map (leading second (freeFrom G 0 nameCount) D s) (se
 pub record GrowsAnswer (arities free apart : List ℕ) (second : Bool) (area : List ℕ) (at : ℕ) (others : List ℕ) (place capacity : ℕ) (work : List ℕ)
     (known : ℕ) (r : Growth) (work′ : List ℕ) : Type 0 where
   pub grows : Grows capacity work known r work′
+  pub keeps : (n : ℕ) → r ≡ Known n → KeepsStruck work known n work′
   pub is : (G : List ℕ) (D : Pairs) (s t : ListedStep) → Flagged free apart G D
       → EntryAt area at s → InScope nameCount arities 0 (s .result)
       → EntryAt others place t → InScope nameCount arities 0 (t .result)
       → All (Proper nameCount arities) (answered second G D s (t ∷ []))
       → Puts arities capacity work known (answered second G D s (t ∷ [])) r work′
 
--- Every answer to it.
-pub record GrowsAnswers (arities free apart : List ℕ) (second : Bool) (area : List ℕ) (at : ℕ) (others : List ℕ) (count capacity : ℕ) (work : List ℕ)
+-- Every answer to it, where none before `first` answers.
+pub record GrowsAnswers (arities free apart : List ℕ) (second : Bool) (area : List ℕ) (at : ℕ) (others : List ℕ) (first count capacity : ℕ) (work : List ℕ)
     (known : ℕ) (r : Growth) (work′ : List ℕ) : Type 0 where
   pub grows : Grows capacity work known r work′
+  pub keeps : (n : ℕ) → r ≡ Known n → KeepsStruck work known n work′
   pub is : (G : List ℕ) (D : Pairs) (s : ListedStep) (ts : List ListedStep) → Flagged free apart G D
       → EntryAt area at s → InScope nameCount arities 0 (s .result)
       → ListAt arities others count ts
+      → select (answers nameCount s) (take first ts) ≡ []
       → All (Proper nameCount arities) (answered second G D s ts)
       → Puts arities capacity work known (answered second G D s ts) r work′
 
--- what the permitted of ss and their answers lead to
-unfoldable pub moved : Bool → List ℕ → Pairs → List ListedStep → List ListedStep → List Situation
-moved second G D ss ts = together (moves nameCount (placed second) (freeFrom G 0 nameCount) D ss ts)
+-- The first of `count` steps that answers the one at `at`, or `count`.
+pub record FirstAnswerIs (area : List ℕ) (at : ℕ) (others : List ℕ) (count r : ℕ) : Type 0 where
+  pub within : r ≤ count
+  pub none : (s : ListedStep) (ts : List ListedStep) → EntryAt area at s → EntriesAt others count ts → select (answers nameCount s) (take r ts) ≡ []
+  pub answer : (s : ListedStep) (ts : List ListedStep) (d : ListedStep) → EntryAt area at s → EntriesAt others count ts → r < count
+      → answers nameCount s (getD ts r d) ≡ true
+
+-- what the permitted of ss lead to, each by its answers
+unfoldable pub moved : Bool → List ℕ → Pairs → List ListedStep → List ListedStep → List (List Situation)
+moved second G D ss ts = moves nameCount (placed second) (freeFrom G 0 nameCount) D ss ts
+
+-- Of the situation of number `taken` the moves ms were looked at: it is struck out if one of them has no answer. The others keep their bytes.
+pub record Strikes (taken : ℕ) (ms : List (List Situation)) (work : List ℕ) (known n : ℕ) (work′ : List ℕ) : Type 0 where
+  pub here : getD work′ (struckAt taken) 0 ≡ cond (unanswered ms) 1 (getD work (struckAt taken) 0)
+  pub others : (i : ℕ) → i < known → (i ≡ taken → ⊥) → getD work′ (struckAt i) 0 ≡ getD work (struckAt i) 0
+  pub fresh : (i : ℕ) → known ≤ i → i < n → getD work′ (struckAt i) 0 ≡ 0
+
+-- What they lead to is put behind the known ones.
+pub record Leads (arities : List ℕ) (capacity taken : ℕ) (ms : List (List Situation)) (work : List ℕ) (known : ℕ) (r : Growth) (work′ : List ℕ) : Type 0 where
+  pub puts : Puts arities capacity work known (together ms) r work′
+  pub strikes : (n : ℕ) → r ≡ Known n → Strikes taken ms work known n work′
 
 -- One step.
-pub record GrowsStep (arities free apart : List ℕ) (second : Bool) (area : List ℕ) (at : ℕ) (others : List ℕ) (count capacity : ℕ) (work : List ℕ)
+pub record GrowsStep (arities free apart : List ℕ) (second : Bool) (taken : ℕ) (area : List ℕ) (at : ℕ) (others : List ℕ) (count capacity : ℕ) (work : List ℕ)
     (known : ℕ) (r : Growth) (work′ : List ℕ) : Type 0 where
   pub grows : Grows capacity work known r work′
   pub is : (G : List ℕ) (D : Pairs) (s : ListedStep) (ts : List ListedStep) → Flagged free apart G D
       → EntryAt area at s → InScope nameCount arities 0 (s .result)
       → ListAt arities others count ts
-      → All (Proper nameCount arities) (moved second G D (s ∷ []) ts)
-      → Puts arities capacity work known (moved second G D (s ∷ []) ts) r work′
+      → All (Proper nameCount arities) (together (moved second G D (s ∷ []) ts))
+      → Leads arities capacity taken (moved second G D (s ∷ []) ts) work known r work′
 
 -- Every step of one side.
-pub record GrowsSide (arities free apart : List ℕ) (second : Bool) (area : List ℕ) (steps : ℕ) (others : List ℕ) (count capacity : ℕ) (work : List ℕ)
-    (known : ℕ) (r : Growth) (work′ : List ℕ) : Type 0 where
+pub record GrowsSide (arities free apart : List ℕ) (second : Bool) (taken : ℕ) (area : List ℕ) (steps : ℕ) (others : List ℕ) (count capacity : ℕ)
+    (work : List ℕ) (known : ℕ) (r : Growth) (work′ : List ℕ) : Type 0 where
   pub grows : Grows capacity work known r work′
   pub is : (G : List ℕ) (D : Pairs) (ss ts : List ListedStep) → Flagged free apart G D
       → ListAt arities area steps ss → ListAt arities others count ts
-      → All (Proper nameCount arities) (moved second G D ss ts)
-      → Puts arities capacity work known (moved second G D ss ts) r work′
+      → All (Proper nameCount arities) (together (moved second G D ss ts))
+      → Leads arities capacity taken (moved second G D ss ts) work known r work′
 
 -- Both sides.
-pub record GrowsSides (arities free apart firsts : List ℕ) (n : ℕ) (seconds : List ℕ) (m capacity : ℕ) (work : List ℕ)
+pub record GrowsSides (arities free apart : List ℕ) (taken : ℕ) (firsts : List ℕ) (n : ℕ) (seconds : List ℕ) (m capacity : ℕ) (work : List ℕ)
     (known : ℕ) (r : Growth) (work′ : List ℕ) : Type 0 where
   pub grows : Grows capacity work known r work′
   pub is : (G : List ℕ) (D : Pairs) (ps qs : List ListedStep) → Flagged free apart G D
       → ListAt arities firsts n ps → ListAt arities seconds m qs
-      → All (Proper nameCount arities) (moved false G D ps qs ++ moved true G D qs ps)
-      → Puts arities capacity work known (moved false G D ps qs ++ moved true G D qs ps) r work′
+      → All (Proper nameCount arities) (together (moved false G D ps qs ++ moved true G D qs ps))
+      → Leads arities capacity taken (moved false G D ps qs ++ moved true G D qs ps) work known r work′
 
 -- The situation of number `taken` is taken up: it is past a limit, or what it leads to is put behind the known ones.
-unfoldable pub Follows : List ℕ → ℕ → List Situation → Outcome → Growth → List ℕ → Type 0
-Follows arities capacity ks pastLimit r work′ = r ≡ Full
-Follows arities capacity ks (leads ms) r work′ = GrowsTo arities capacity (grown ks (together ms)) r work′
+unfoldable pub Follows : List ℕ → ℕ → ℕ → Outcome → List ℕ → ℕ → Growth → List ℕ → Type 0
+Follows arities capacity taken pastLimit work known r work′ = r ≡ Full
+Follows arities capacity taken (leads ms) work known r work′ = Leads arities capacity taken ms work known r work′
 
 pub record GrowIs (question : List ℕ) (taken capacity : ℕ) (work : List ℕ) (known : ℕ) (r : Growth) (work′ : List ℕ) : Type 0 where
   pub grows : Grows capacity work known r work′
   pub is : (q : Question) → checkOf question ≡ result q → (ks : List Situation) (d : Situation) → Knows (q .arities) capacity work known ks
-      → Follows (q .arities) capacity ks (successors (settingOf (q .bodies)) (getD ks taken d)) r work′
+      → Follows (q .arities) capacity taken (successors (settingOf (q .bodies)) (getD ks taken d)) work known r work′

@@ -49,3 +49,7 @@ keyBytes = 241
 
 abbrev pub slotBytes : ℕ
 slotBytes = 256
+
+-- The byte of slot i behind its key: 0 while the situation is left, 1 once it is struck out.
+abbrev pub struckAt : ℕ → ℕ
+struckAt i = slotBytes * i + keyBytes

@@ -3,7 +3,7 @@ ghost use Prim.Native.Nat.{_+_, _*_, _<_, _≤_};
 ghost use lib.ListN.{length};
 ghost use Rattle.steps.specs.Limits.{stepBytes, mostSteps};
 ghost use Rattle.field.specs.Chains.{LinkIs};
-ghost use Rattle.field.specs.Growing.{slotWith, AddIs, GrowsAnswer, GrowsAnswers, GrowsStep, GrowsSide, GrowsSides, GrowIs};
+ghost use Rattle.field.specs.Growing.{slotWith, AddIs, GrowsAnswer, GrowsAnswers, FirstAnswerIs, GrowsStep, GrowsSide, GrowsSides, GrowIs};
 ghost use Rattle.field.specs.Holding.{ExploreIs};
 ghost use Rattle.field.specs.Slot.{keyBytes, slotBytes};
 use crate::chains::clear_heads;
@@ -89,7 +89,7 @@ fn grow_answer(
     add(work, capacity, known, &key)
 }
 
-// What every answer of the other side, which has `count` steps, leads to.
+// What every answer of the other side, which has `count` steps, leads to; none before `first` answers.
 fn grow_answers(
     arities: &[u8],
     free: &[u8],
@@ -98,16 +98,17 @@ fn grow_answers(
     area: &[u8],
     at: usize,
     others: &[u8],
+    first: usize,
     count: usize,
     work: &mut [u8],
     capacity: usize,
     known: usize,
 ) -> Growth
-    requires { ⌜ (1 ≤ capacity) × (known ≤ capacity) × (capacity ≤ 4096) × (slotBytes * capacity ≤ length (now work)) × (at + stepBytes ≤ length (now area)) × (count ≤ mostSteps) × (mostSteps * stepBytes ≤ length (now others)) ⌝ }
-    ensures { λ r. ⌜ GrowsAnswers (now (arities .entry)) (now (free .entry)) apart second (now (area .entry)) at (now (others .entry)) count capacity (now (work .entry)) known r (now (work .exit)) ⌝ }
+    requires { ⌜ (1 ≤ capacity) × (known ≤ capacity) × (capacity ≤ 4096) × (slotBytes * capacity ≤ length (now work)) × (at + stepBytes ≤ length (now area)) × (first ≤ count) × (count ≤ mostSteps) × (mostSteps * stepBytes ≤ length (now others)) ⌝ }
+    ensures { λ r. ⌜ GrowsAnswers (now (arities .entry)) (now (free .entry)) apart second (now (area .entry)) at (now (others .entry)) first count capacity (now (work .entry)) known r (now (work .exit)) ⌝ }
 {
     let mut so_far = known;
-    let mut j = 0;
+    let mut j = first;
     while j < count {
         let growth = grow_answer(
             arities,
@@ -131,12 +132,29 @@ fn grow_answers(
     Growth::Known(so_far)
 }
 
-// What the step at `at` leads to, if it is permitted.
+// The first of the other side's `count` steps that answers the one at `at`, or `count` if none does.
+fn first_answer(area: &[u8], at: usize, others: &[u8], count: usize) -> usize
+    requires { ⌜ (at ≤ length (now area)) × (stepBytes * count ≤ length (now others)) ⌝ }
+    ensures { λ r. ⌜ FirstAnswerIs (now (area .entry)) at (now (others .entry)) count r ⌝ }
+{
+    let mut j = 0;
+    while j < count {
+        if answers(area, at, others, STEP_BYTES * j) {
+            return j;
+        }
+        j += 1;
+    }
+    count
+}
+
+// What the step at `at` of the situation in slot `taken` leads to, if it is permitted. Where no answer is there, none is ever left: the situation
+// is struck out.
 fn grow_step(
     arities: &[u8],
     free: &[u8],
     apart: [u8; PAIR_COUNT],
     second: bool,
+    taken: usize,
     area: &[u8],
     at: usize,
     others: &[u8],
@@ -145,10 +163,15 @@ fn grow_step(
     capacity: usize,
     known: usize,
 ) -> Growth
-    requires { ⌜ (1 ≤ capacity) × (known ≤ capacity) × (capacity ≤ 4096) × (slotBytes * capacity ≤ length (now work)) × (at + stepBytes ≤ length (now area)) × (count ≤ mostSteps) × (mostSteps * stepBytes ≤ length (now others)) ⌝ }
-    ensures { λ r. ⌜ GrowsStep (now (arities .entry)) (now (free .entry)) apart second (now (area .entry)) at (now (others .entry)) count capacity (now (work .entry)) known r (now (work .exit)) ⌝ }
+    requires { ⌜ (taken < known) × (known ≤ capacity) × (capacity ≤ 4096) × (slotBytes * capacity ≤ length (now work)) × (at + stepBytes ≤ length (now area)) × (count ≤ mostSteps) × (mostSteps * stepBytes ≤ length (now others)) ⌝ }
+    ensures { λ r. ⌜ GrowsStep (now (arities .entry)) (now (free .entry)) apart second taken (now (area .entry)) at (now (others .entry)) count capacity (now (work .entry)) known r (now (work .exit)) ⌝ }
 {
     if !permitted(&apart, area, at) {
+        return Growth::Known(known);
+    }
+    let first = first_answer(area, at, others, count);
+    if first == count {
+        work[SLOT_BYTES * taken + KEY_BYTES] = 1;
         return Growth::Known(known);
     }
     grow_answers(
@@ -159,6 +182,7 @@ fn grow_step(
         area,
         at,
         others,
+        first,
         count,
         work,
         capacity,
@@ -172,6 +196,7 @@ fn grow_side(
     free: &[u8],
     apart: [u8; PAIR_COUNT],
     second: bool,
+    taken: usize,
     area: &[u8],
     steps: usize,
     others: &[u8],
@@ -180,8 +205,8 @@ fn grow_side(
     capacity: usize,
     known: usize,
 ) -> Growth
-    requires { ⌜ (1 ≤ capacity) × (known ≤ capacity) × (capacity ≤ 4096) × (slotBytes * capacity ≤ length (now work)) × (steps ≤ mostSteps) × (mostSteps * stepBytes ≤ length (now area)) × (count ≤ mostSteps) × (mostSteps * stepBytes ≤ length (now others)) ⌝ }
-    ensures { λ r. ⌜ GrowsSide (now (arities .entry)) (now (free .entry)) apart second (now (area .entry)) steps (now (others .entry)) count capacity (now (work .entry)) known r (now (work .exit)) ⌝ }
+    requires { ⌜ (taken < known) × (known ≤ capacity) × (capacity ≤ 4096) × (slotBytes * capacity ≤ length (now work)) × (steps ≤ mostSteps) × (mostSteps * stepBytes ≤ length (now area)) × (count ≤ mostSteps) × (mostSteps * stepBytes ≤ length (now others)) ⌝ }
+    ensures { λ r. ⌜ GrowsSide (now (arities .entry)) (now (free .entry)) apart second taken (now (area .entry)) steps (now (others .entry)) count capacity (now (work .entry)) known r (now (work .exit)) ⌝ }
 {
     let mut so_far = known;
     let mut i = 0;
@@ -191,6 +216,7 @@ fn grow_side(
             free,
             apart,
             second,
+            taken,
             area,
             STEP_BYTES * i,
             others,
@@ -213,6 +239,7 @@ fn grow_sides(
     arities: &[u8],
     free: &[u8],
     apart: [u8; PAIR_COUNT],
+    taken: usize,
     firsts: &[u8],
     n: usize,
     seconds: &[u8],
@@ -221,14 +248,15 @@ fn grow_sides(
     capacity: usize,
     known: usize,
 ) -> Growth
-    requires { ⌜ (1 ≤ capacity) × (known ≤ capacity) × (capacity ≤ 4096) × (slotBytes * capacity ≤ length (now work)) × (n ≤ mostSteps) × (mostSteps * stepBytes ≤ length (now firsts)) × (m ≤ mostSteps) × (mostSteps * stepBytes ≤ length (now seconds)) ⌝ }
-    ensures { λ r. ⌜ GrowsSides (now (arities .entry)) (now (free .entry)) apart (now (firsts .entry)) n (now (seconds .entry)) m capacity (now (work .entry)) known r (now (work .exit)) ⌝ }
+    requires { ⌜ (taken < known) × (known ≤ capacity) × (capacity ≤ 4096) × (slotBytes * capacity ≤ length (now work)) × (n ≤ mostSteps) × (mostSteps * stepBytes ≤ length (now firsts)) × (m ≤ mostSteps) × (mostSteps * stepBytes ≤ length (now seconds)) ⌝ }
+    ensures { λ r. ⌜ GrowsSides (now (arities .entry)) (now (free .entry)) apart taken (now (firsts .entry)) n (now (seconds .entry)) m capacity (now (work .entry)) known r (now (work .exit)) ⌝ }
 {
     let growth = grow_side(
         arities,
         free,
         apart,
         false,
+        taken,
         firsts,
         n,
         seconds,
@@ -244,6 +272,7 @@ fn grow_sides(
             free,
             apart,
             true,
+            taken,
             seconds,
             m,
             firsts,
@@ -278,6 +307,7 @@ fn grow(
             arities_of(question),
             &free,
             apart,
+            taken,
             firsts,
             n,
             seconds,

@@ -1,11 +1,11 @@
 -- The verdict from the work area: exploration, strike-out in place, and whether the start is left. Assumes nothing.
 use mathlib.Core.Bool.{Bool, true, false, cond}
-use mathlib.Core.List.{List}
+use mathlib.Core.List.{List, []}
 use mathlib.Core.Path.{_≡_, refl, sym, ap, _∙_, subst}
 use native.Mathlib.Omega.{arith}
 use Prim.Native.Nat.{ℕ, _*_, _<_, _≤_}
 use lib.Dec.{eqb}
-use lib.ListN.{length, getD, length-map}
+use lib.ListN.{length, getD, length-map, List·getD-map}
 use borrow.Author.Tests.{eq-eqb, ne-eqb}
 use Rattle.calculus.specs.Definitions.{Defs}
 use Rattle.terms.specs.Answer.{result}
@@ -15,12 +15,12 @@ use Rattle.steps.specs.Lists.{_∈_}
 use Rattle.steps.proofs.Membership.{all-∈}
 use Rattle.steps.proofs.QuestionDefinitions.{definitions}
 use Rattle.field.specs.Chains.{Chained}
-use Rattle.field.specs.Exploration.{found, Row, Exploration, incomplete, explored, fieldOf}
-use Rattle.field.specs.Holding.{SlotsHold, Explores, ExploreIs}
+use Rattle.field.specs.Exploration.{found, unanswered, Row, Exploration, incomplete, explored, fieldOf}
+use Rattle.field.specs.Holding.{SlotsHold, StruckFirst, Explores, ExploreIs}
 use Rattle.field.specs.Key.{keyAt}
 use Rattle.field.specs.Setting.{Setting, settingOf}
 use Rattle.field.specs.Situation.{Situation, sameSituation, startOf}
-use Rattle.field.specs.Slot.{slotBytes}
+use Rattle.field.specs.Slot.{slotBytes, flag, struckAt}
 use Rattle.field.specs.Successors.{leads, successors}
 use Rattle.field.specs.declared.explore.Explored.{Explored}
 use Rattle.field.specs.declared.explore.Explored.the-variants.{Incomplete, Field}
@@ -33,7 +33,7 @@ use Rattle.field.proofs.Unseen.{∈-found}
 use Rattle.field.proofs.Members.{getD-∈}
 use Rattle.field.proofs.KeysDiffer.{key-equal, slot-key}
 use Rattle.verdict.specs.Judging.{judgedAnswer, DecidesIs}
-use Rattle.verdict.specs.Striking.{struckAt, leftOf, marks, Standing, Searching, SurvivesIs, Strikes, AllSurvive, StartSurvivesIs}
+use Rattle.verdict.specs.Striking.{leftOf, marks, Standing, Searching, SurvivesIs, Strikes, AllSurvive, StartSurvivesIs}
 use Rattle.verdict.specs.Verdict.{same, different, decided, allAnswered, verdictOf}
 use Rattle.verdict.specs.declared.judge.Judged.{Judged}
 use Rattle.verdict.specs.declared.judge.Judged.the-variants.{Unsettled, Same, Different}
@@ -50,6 +50,7 @@ use Rattle.verdict.proofs.StrikeLaws.{still, strikes-rest, strikes-to}
 -- The explored field of an accepted question in the slots.
 module _ (question : List ℕ) (q : Question) (accepted : checkOf question ≡ result q) (capacity : ℕ) (rs : List Row)
     (field : fieldOf (settingOf (q .bodies)) capacity (startOf q) ≡ explored rs) (work : List ℕ) (holds : SlotsHold work (selves rs))
+    (first : StruckFirst work rs)
     (chained : Chained capacity work (length rs))
     (room : slotBytes * length rs ≤ length work) where
   abbrev S : Setting
@@ -115,6 +116,19 @@ module _ (question : List ℕ) (q : Question) (accepted : checkOf question ≡ r
       let z : ms ≡ r .wants = cc in
       those .closed r j w (subst (λ ms. w ∈ ms) z i) t k
 
+  -- a situation with a permitted step that has no answer is struck out
+  struck-unanswered : (i : ℕ) (d : Situation) (ms : List (List Situation)) → i < length rs → successors S (getD (selves rs) i d) ≡ leads ms
+      → unanswered ms ≡ true → getD work (struckAt i) 0 ≡ 0 → ⊥
+  unfolding StruckFirst flag
+  struck-unanswered i d ms h e u z =
+      let q : Row = record { self = d; wants = [] } in
+      let r : Row = getD rs i q in
+      let l = within r (getD-∈ rs i q h) in
+      let t : successors S (r .self) ≡ leads ms = ap (successors S) (sym (List·getD-map (λ (r : Row). r .self) rs i q)) ∙ e in
+      let w : r .wants ≡ ms = cc in
+      let o : _≡_ {A = ℕ} 0 1 = sym z ∙ first i q h ∙ ap flag (ap unanswered w ∙ u) in
+      omega arith
+
   searching : Searching question capacity work (length rs)
   unfolding settingOf
   searching = record {
@@ -127,6 +141,7 @@ module _ (question : List ℕ) (q : Question) (accepted : checkOf question ≡ r
     second = λ s m. those .proper s m .second;
     distinction = λ s m. those .proper s m .distinction;
     closed = leads-within;
+    struck = struck-unanswered;
   }
 
   start-here : getD (selves rs) 0 (startOf q) ≡ startOf q
@@ -138,7 +153,7 @@ module _ (question : List ℕ) (q : Question) (accepted : checkOf question ≡ r
   module _ (v : List ℕ) (strikes : Strikes question capacity (length rs) work v) where
     struck : StrikesTo rs (leftOf v (selves rs))
     unfolding searching
-    struck = strikes-to question capacity work rs searching refl room within (λ i h. holds .left i (omega (arith, count))) strikes
+    struck = strikes-to question capacity work rs searching refl room within first strikes
 
     search : Searching question capacity v (length rs)
     search = still question capacity (length rs) strikes searching
@@ -206,7 +221,7 @@ module _ (question : List ℕ) (capacity : ℕ) (work w : List ℕ) (x : Explore
         go q a (explored rs) f k =
             let z : n ≡ length rs = cc (k .0) in
             j ∙ ap (λ m. result (cond r (same m) (different m))) z
-            ∙ sym (ap result (verdict-is question q a capacity rs f w (k .1) (subst (Chained capacity w) z (e .chained q a n h)) (omega (arith, e .within n h .1)) r u
+            ∙ sym (ap result (verdict-is question q a capacity rs f w (k .1) (k .2) (subst (Chained capacity w) z (e .chained q a n h)) (omega (arith, e .within n h .1)) r u
             (subst (λ m. StartSurvivesIs question capacity w m r u) z s)))
 
     pub same-is : r ≡ true → DecidesIs question capacity work (Same n) u

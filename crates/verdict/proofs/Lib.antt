@@ -17,5 +17,6 @@ pub mod SideLaws
 pub mod Soundness
 pub mod StrikeLaws
 pub mod SurviveLaws
+pub mod Unanswered
 pub mod VerdictIsDefinition13
 pub mod WorkedExchanges

@@ -6,8 +6,8 @@ use native.Mathlib.Omega.{arith}
 use Prim.Native.Nat.{ℕ, zero, suc, _+_, _*_, _<_, _≤_}
 use lib.ListN.{length, getD, set, length-set}
 use lib.Seq.{getD-set-same, getD-set-other, ext-getD}
-use Rattle.field.specs.Slot.{slotBytes}
-use Rattle.verdict.specs.Striking.{struckAt, marksFrom, marks, zeros}
+use Rattle.field.specs.Slot.{slotBytes, struckAt}
+use Rattle.verdict.specs.Striking.{marksFrom, marks, zeros}
 use Rattle.verdict.proofs.Living.{struck-fewer}
 
 length-marksFrom : (work : List ℕ) (i n : ℕ) → length (marksFrom work i n) ≡ n

@@ -1,67 +1,67 @@
 -- Striking out in the work area: what it keeps, and that it strikes out as `StrikesTo` does (AnyOrder). Assumes nothing.
 use mathlib.Core.Bool.{Bool, true, false, cond}
-use mathlib.Core.List.{List, [], _++_}
+use mathlib.Core.List.{List, []}
 use mathlib.Core.Logic.{_⊎_}
 use mathlib.Core.Path.{_≡_, refl, sym, ap, _∙_, subst}
-use native.Mathlib.Decide.{decLt}
+use native.Mathlib.Decide.{ℕ-discrete, decLt}
 use native.Mathlib.Omega.{arith}
-use Prim.Native.Nat.{ℕ, _+_, _-_, _*_, _<_, _≤_}
-use lib.ListN.{length, getD, set, take, drop, replicate, length-set, length-replicate, getD-replicate, take-append-drop, List·getD-map}
-use lib.Seq.{take-set-le, drop-set-lt, drop-set-add, ext-getD}
+use Prim.Native.Nat.{ℕ, _+_, _*_, _<_, _≤_}
+use lib.ListN.{length, getD, set, drop, replicate, length-set, length-map, length-replicate, getD-replicate, List·getD-map}
+use lib.Seq.{drop-set-lt, getD-set-other, ext-getD}
 use borrow.Author.Tests.{eqb-true, eqb-false}
 use Rattle.calculus.specs.Term.{nil}
 use Rattle.steps.specs.Lists.{_∈_}
-use Rattle.field.specs.Exploration.{Row}
-use Rattle.field.specs.Key.{SituationAt, keyAt}
+use Rattle.field.specs.Exploration.{unanswered, Row}
+use Rattle.field.specs.Holding.{StruckFirst}
 use Rattle.field.specs.Setting.{settingOf}
 use Rattle.field.specs.Situation.{Situation}
-use Rattle.field.specs.Slot.{keyBytes, slotBytes}
+use Rattle.field.specs.Slot.{slotBytes, struckAt}
 use Rattle.field.specs.Successors.{leads, successors}
 use Rattle.field.proofs.Run.{selves}
-use Rattle.field.proofs.ChainLaws.{chained-flag}
-use Rattle.field.proofs.KeysDiffer.{slot-key}
+use Rattle.field.proofs.ChainLaws.{key-flag, chained-flag}
 use Rattle.field.proofs.Members.{getD-∈}
-use Rattle.verdict.specs.Striking.{struckAt, marks, living, zeros, leftOf, Standing, LeftAtIs, Searching, SurvivesIs, Strikes, none-struck, one-struck, StrikesOne, AllSurvive, PassIs, StartSurvivesIs}
+use Rattle.field.proofs.SlotWriting.{situation-kept}
+use Rattle.verdict.specs.Striking.{marks, living, zeros, leftOf, Standing, LeftAtIs, Searching, SurvivesIs, Strikes, none-struck, one-struck, StrikesOne, AllSurvive, PassIs, SomeStruckIs, StartSurvivesIs}
 use Rattle.verdict.specs.Verdict.{allAnswered}
 use Rattle.verdict.proofs.AnyOrder.{StrikesTo, all-left}
 use Rattle.verdict.proofs.AnyOrder as order
 use Rattle.verdict.proofs.Living.{struck-either, struck-within, all-living}
 use Rattle.verdict.proofs.Marks.{length-marks, marks-at, marks-set, zeros-fewer}
 use Rattle.verdict.proofs.Rounds.{true-not-false}
+use Rattle.verdict.proofs.Unanswered.{all-within, strikes-flagged}
 
 pub left-zero : (work : List ℕ) (i : ℕ) (r : Bool) → LeftAtIs work i r → r ≡ true → getD work (struckAt i) 0 ≡ 0
 unfolding LeftAtIs
 left-zero work i r l e = eqb-true (getD work (struckAt i) 0) 0 (sym l ∙ e)
 
+-- some_struck
+pub some-gone : (work : List ℕ) (count i : ℕ) (r : Bool) → i < count → LeftAtIs work i r → r ≡ false → SomeStruckIs work count true
+unfolding LeftAtIs
+some-gone work count i r h l e = record {
+  some = λ q. (i, h, eqb-false (getD work (struckAt i) 0) 0 (sym l ∙ e));
+  none = λ q. true-not-false refl q;
+}
+
+pub none-gone : (work : List ℕ) (count : ℕ) → ((i : ℕ) → i < count → getD work (struckAt i) 0 ≡ 0) → SomeStruckIs work count false
+none-gone work count h = record { some = λ q. true-not-false q refl; none = λ q. h }
+
+-- All are left where no byte says otherwise.
+left-all : (work : List ℕ) (known : List Situation) → ((i : ℕ) → i < length known → getD work (struckAt i) 0 ≡ 0) → leftOf work known ≡ known
+left-all work known h =
+    let n = length known in
+    let zero : marks work n ≡ replicate n 0 =
+    ext-getD 0 (marks work n) (replicate n 0) (length-marks work n ∙ sym (length-replicate {A = ℕ} n 0))
+    (λ i l.
+    let k : i < n = omega (arith, length-marks work n) in
+    marks-at work n i 0 k ∙ h i k ∙ sym (getD-replicate {A = ℕ} n i 0 0 k)) in
+    ap (λ fs. living fs known) zero ∙ all-living known
+
 -- One store changes no key.
 module _ (v : List ℕ) (i : ℕ) where
-  key-kept : (j : ℕ) → keyAt (set v (struckAt i) 1) j ≡ keyAt v j
-  unfolding keyAt
-  key-kept j = go (decLt i j)
-    where
-      go : Dec (i < j) → take keyBytes (drop (slotBytes * j) (set v (struckAt i) 1)) ≡ take keyBytes (drop (slotBytes * j) v)
-      go (yes h) = ap (take keyBytes) (drop-set-lt (slotBytes * j) v (struckAt i) 1 (omega arith))
-      go (no h) =
-          let k : ℕ = slotBytes * (i - j) + keyBytes in
-          let e : struckAt i ≡ slotBytes * j + k = omega arith in
-          ap (λ p. take keyBytes (drop (slotBytes * j) (set v p 1))) e ∙ ap (take keyBytes) (drop-set-add (slotBytes * j) v k 1)
-          ∙ take-set-le keyBytes (drop (slotBytes * j) v) k 1 (omega arith)
-
-  situation-kept : (j : ℕ) (s : Situation) → SituationAt v (slotBytes * j) s → SituationAt (set v (struckAt i) 1) (slotBytes * j) s
-  unfolding keyAt
-  situation-kept j s h =
-      let after : List ℕ = drop (slotBytes * j) (set v (struckAt i) 1) in
-      record {
-        rest = drop keyBytes after;
-        there = sym (take-append-drop keyBytes after) ∙ ap (λ k. k ++ drop keyBytes after) (key-kept j ∙ slot-key v j s h);
-        first = h .first;
-        second = h .second;
-      }
-
   standing-kept : {capacity : ℕ} (known : List Situation) → Standing capacity v known → Standing capacity (set v (struckAt i) 1) known
   standing-kept {capacity} known st = record {
-    held = λ j d h. situation-kept j (getD known j d) (st .held j d h);
-    once = λ j k g h e. st .once j k g h (sym (key-kept j) ∙ e ∙ key-kept k);
+    held = λ j d h. situation-kept v (set v (struckAt i) 1) (key-flag v i 1) j (getD known j d) (st .held j d h);
+    once = λ j k g h e. st .once j k g h (sym (key-flag v i 1 j) ∙ e ∙ key-flag v i 1 k);
     chained = chained-flag capacity v (length known) i 1 (st .chained);
     exact = st .exact;
   }
@@ -88,6 +88,15 @@ module _ (question : List ℕ) (capacity count : ℕ) where
   strikes-standing known none-struck st = st
   strikes-standing known (one-struck {v} t i h z d) st = standing-kept v i known (strikes-standing known t st)
 
+  -- what is struck out stays struck out
+  pub strikes-gone : {work v : List ℕ} (j : ℕ) → Strikes question capacity count work v → (getD work (struckAt j) 0 ≡ 0 → ⊥) → getD v (struckAt j) 0 ≡ 0 → ⊥
+  strikes-gone j none-struck h e = h e
+  strikes-gone j (one-struck {v} t i l z d) h e = go (ℕ-discrete j i) (λ x. strikes-gone j t h x)
+    where
+      go : Dec (j ≡ i) → (getD v (struckAt j) 0 ≡ 0 → ⊥) → ⊥
+      go (yes k) gone = gone (ap (λ n. getD v (struckAt n) 0) k ∙ z)
+      go (no k) gone = gone (sym (getD-set-other v (struckAt i) (struckAt j) 1 0 (λ q. k (omega arith))) ∙ e)
+
   -- the field stays in the work area
   unfoldable pub still : {work v : List ℕ} → Strikes question capacity count work v → Searching question capacity work count → Searching question capacity v count
   still s f = record {
@@ -100,6 +109,7 @@ module _ (question : List ℕ) (capacity count : ℕ) where
     second = f .second;
     distinction = f .distinction;
     closed = f .closed;
+    struck = λ i d ms h e u. strikes-gone i s (f .struck i d ms h e u);
   }
 
   -- strike_one
@@ -168,7 +178,7 @@ module _ (question : List ℕ) (capacity count : ℕ) where
   unfolding AllSurvive
   passed work struck v i e p = record { strikes = p .strikes; fewer = p .fewer; none = λ x j h z. p .none x j (omega arith) h z }
 
-  -- start_survives
+  -- survives_passes
   pub pass-less : (v u : List ℕ) (again r : Bool) → slotBytes * count ≤ length v → again ≡ true → PassIs question capacity v count r u
       → zeros (marks u count) + cond r 1 0 < zeros (marks v count) + cond again 1 0
   pass-less v u again r room e p = rw e (go r refl)
@@ -190,23 +200,42 @@ module _ (question : List ℕ) (capacity count : ℕ) where
       → StartSurvivesIs question capacity work count true v
   start-stays work v s z a = record { strikes = s; stays = λ q. (z, a); goes = λ q. true-not-false refl q }
 
--- Over the rows of the field, from a work area in which all are left.
+  -- start_survives
+  pub start-gone : (work : List ℕ) (b : Bool) → LeftAtIs work 0 b → b ≡ false → StartSurvivesIs question capacity work count false work
+  unfolding LeftAtIs
+  start-gone work b l e = record {
+    strikes = none-struck;
+    stays = λ q. true-not-false q refl;
+    goes = λ q z. eqb-false (getD work (struckAt 0) 0) 0 (sym l ∙ e) z;
+  }
+
+  pub none-struck-stays : (work : List ℕ) (b : Bool) → 1 ≤ count → SomeStruckIs work count b → b ≡ false → StartSurvivesIs question capacity work count true work
+  unfolding AllSurvive SurvivesIs
+  none-struck-stays work b some s e = start-stays work work none-struck (s .none e 0 some) each
+    where
+      each : AllSurvive question capacity work count
+      each i h z f d ms l = sym (rw (left-all work (f .known) (λ j k. s .none e j (omega (arith, f .number)))) (go (unanswered ms) refl))
+        where
+          go : (u : Bool) → unanswered ms ≡ u → allAnswered (f .known) ms ≡ true
+          go true u = absurd (f .struck i d ms h l u z)
+          go false u = all-within (f .known) ms u (f .closed (getD (f .known) i d) (getD-∈ (f .known) i d (omega (arith, f .number))) ms l)
+
+-- Over the rows of the field, from a work area in which exactly those with a permitted step that has no answer are struck out.
 module _ (question : List ℕ) (capacity : ℕ) (work : List ℕ) (rs : List Row) (f : Searching question capacity work (length rs)) (those : f .known ≡ selves rs)
     (room : slotBytes * length rs ≤ length work)
     (rows : (r : Row) → r ∈ rs → successors (settingOf (f .read .bodies)) (r .self) ≡ leads (r .wants))
-    (fresh : (i : ℕ) → i < length rs → getD work (struckAt i) 0 ≡ 0) where
-  all-zero : marks work (length (f .known)) ≡ replicate (length (f .known)) 0
-  all-zero =
-      let n = length (f .known) in
-      ext-getD 0 (marks work n) (replicate n 0) (length-marks work n ∙ sym (length-replicate {A = ℕ} n 0))
-      (λ i h.
-      let l : i < n = omega (arith, length-marks work n) in
-      marks-at work n i 0 l ∙ fresh i (omega (arith, f .number)) ∙ sym (getD-replicate {A = ℕ} n i 0 0 l))
+    (first : StruckFirst work rs) where
+  struck-at-first : StrikesTo rs (leftOf work (selves rs))
+  unfolding StruckFirst
+  struck-at-first =
+      let n : length (selves rs) ≡ length rs = length-map rs (λ (r : Row). r .self) in
+      strikes-flagged rs [] (marks work (length (selves rs))) rs (length-marks work (length (selves rs)) ∙ n) (λ q m. m)
+      (λ i d h. marks-at work (length (selves rs)) i 0 (omega arith) ∙ first i d h) all-left
 
   pub strikes-to : {v : List ℕ} → Strikes question capacity (length rs) work v → StrikesTo rs (leftOf v (f .known))
   unfolding still SurvivesIs
   strikes-to none-struck =
-      subst (StrikesTo rs) (sym (ap (λ fs. living fs (f .known)) all-zero ∙ all-living (f .known) ∙ those)) all-left
+      subst (λ k. StrikesTo rs (leftOf work k)) (sym those) struck-at-first
   strikes-to (one-struck {v} t i h z d) =
       order.one-struck (strikes-to t) r (getD-∈ rs i blank h) unanswered either within
     where

@@ -2,7 +2,7 @@
 use mathlib.Core.Bool.{Bool, true, false, cond, _&&_}
 use mathlib.Core.List.{List, [], _∷_}
 use mathlib.Core.Path.{_≡_}
-use Prim.Native.Nat.{ℕ, zero, suc, _+_, _*_, _<_}
+use Prim.Native.Nat.{ℕ, zero, suc, _*_, _<_}
 use lib.Dec.{eqb}
 use lib.ListN.{length, getD, set, take}
 use Rattle.calculus.specs.Cond.{Pairs}
@@ -15,22 +15,18 @@ use Rattle.steps.specs.Listed.{ListedStep}
 use Rattle.steps.specs.Lists.{_∈_}
 use Rattle.field.specs.Chains.{Chained}
 use Rattle.field.specs.Entry.{EntryAt}
-use Rattle.field.specs.Exploration.{found}
+use Rattle.field.specs.Exploration.{found, unanswered}
 use Rattle.field.specs.Key.{SituationAt, keyAt}
 use Rattle.field.specs.Leading.{placed, leading}
 use Rattle.field.specs.NameFlags.{HasNames}
 use Rattle.field.specs.Setting.{settingOf}
 use Rattle.field.specs.Situation.{Situation, freeFrom, sameSituation}
-use Rattle.field.specs.Slot.{flagsOf, keyBytes, slotBytes}
+use Rattle.field.specs.Slot.{flagsOf, keyBytes, slotBytes, struckAt}
 use Rattle.field.specs.Successors.{answers, moves, leads, successors}
 use Rattle.field.specs.TakingUp.{ListAt}
 use Rattle.verdict.specs.Verdict.{allAnswered}
 
--- The byte of slot i behind its key: 0 while the situation is left, 1 once it is struck out.
-abbrev pub struckAt : ℕ → ℕ
-struckAt i = slotBytes * i + keyBytes
-
--- these bytes of as many slots, from slot i on
+-- the bytes that say so of as many slots, from slot i on
 unfoldable pub marksFrom : List ℕ → ℕ → ℕ → List ℕ
 marksFrom work i zero = []
 marksFrom work i (suc n) = getD work (struckAt i) 0 ∷ marksFrom work (suc i) n
@@ -99,7 +95,8 @@ SideAnsweredIs arities capacity work count free apart second area n others m r =
     (p : Side arities capacity work count free apart second area n others m)
     → r ≡ allAnswered (leftOf work (p .known)) (moves nameCount (placed second) (freeFrom (p .names) 0 nameCount) (p .pairs) (p .steps) (p .replies))
 
--- The field of an accepted question in the work area: its situations lead to each other only.
+-- The field of an accepted question in the work area: its situations lead to each other only, and those with a permitted step that has no answer at
+-- all are struck out.
 pub record Searching (question : List ℕ) (capacity : ℕ) (work : List ℕ) (count : ℕ) : Type 0 where
   pub read : Question
   pub accepted : checkOf question ≡ result read
@@ -111,6 +108,8 @@ pub record Searching (question : List ℕ) (capacity : ℕ) (work : List ℕ) (c
   pub distinction : (s : Situation) → s ∈ known → Irr (s .apart)
   pub closed : (s : Situation) → s ∈ known → (ms : List (List Situation)) → successors (settingOf (read .bodies)) s ≡ leads ms
       → (w : List Situation) → w ∈ ms → (t : Situation) → t ∈ w → t ∈ known
+  pub struck : (i : ℕ) (d : Situation) (ms : List (List Situation)) → i < count → successors (settingOf (read .bodies)) (getD known i d) ≡ leads ms
+      → unanswered ms ≡ true → getD work (struckAt i) 0 ≡ 0 → ⊥
 
 -- Whether each permitted step of situation i is answered by those left.
 unfoldable pub SurvivesIs : List ℕ → ℕ → List ℕ → ℕ → ℕ → Bool → Type 0
@@ -138,6 +137,11 @@ pub record PassIs (question : List ℕ) (capacity : ℕ) (work : List ℕ) (coun
   pub strikes : Strikes question capacity count work work′
   pub fewer : r ≡ true → zeros (marks work′ count) < zeros (marks work count)
   pub none : r ≡ false → AllSurvive question capacity work′ count
+
+-- Whether one of the first `count` situations is struck out.
+pub record SomeStruckIs (work : List ℕ) (count : ℕ) (r : Bool) : Type 0 where
+  pub some : r ≡ true → (i : ℕ) × (i < count) × (getD work (struckAt i) 0 ≡ 0 → ⊥)
+  pub none : r ≡ false → (i : ℕ) → i < count → getD work (struckAt i) 0 ≡ 0
 
 -- Whether the start is left, where none is left to strike out or the start is not left.
 pub record StartSurvivesIs (question : List ℕ) (capacity : ℕ) (work : List ℕ) (count : ℕ) (r : Bool) (work′ : List ℕ) : Type 0 where

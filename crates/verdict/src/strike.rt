@@ -1,9 +1,9 @@
 // Strike-out over the situations of the field, in place: document 01, "The field and the verdict".
 ghost use Prim.Native.Nat.{_+_, _*_, _<_, _≤_};
 ghost use lib.ListN.{length};
-ghost use Rattle.field.specs.Slot.{keyBytes, slotBytes};
-ghost use Rattle.steps.specs.Limits.{stepBytes};
-ghost use Rattle.verdict.specs.Striking.{struckAt, LeftAtIs, LeftIs, AnswerLeftIs, SideAnsweredIs, SurvivesIs, StrikesOne, PassIs, StartSurvivesIs};
+ghost use Rattle.field.specs.Slot.{keyBytes, slotBytes, struckAt};
+ghost use Rattle.steps.specs.Limits.{stepBytes, mostSteps};
+ghost use Rattle.verdict.specs.Striking.{LeftAtIs, LeftIs, AnswerLeftIs, SideAnsweredIs, SurvivesIs, StrikesOne, PassIs, SomeStruckIs, StartSurvivesIs};
 use field::chains::find_chained;
 use field::entries::answers;
 use field::find::Found;
@@ -14,14 +14,12 @@ use field::results::successor;
 use field::taking::Lists;
 use field::taking::take_up;
 use steps::bodies::arities_of;
+use steps::limits::MOST_STEPS;
 use steps::limits::STEP_BYTES;
 use terms::bytes::get;
 
 // The byte of a slot behind its key: 0 while the situation is left, 1 once it is struck out.
 const STRUCK: usize = 241;
-
-// The bytes of a list of steps.
-const LIST_BYTES: usize = 33792;
 
 // Whether situation `i` is left.
 fn left_at(work: &[u8], i: usize) -> bool
@@ -115,14 +113,20 @@ fn side_answered(
     true
 }
 
-// Whether each permitted step of either side of situation `i` is answered by a situation that is left.
-fn survives(question: &[u8], work: &[u8], capacity: usize, count: usize, i: usize) -> bool
-    requires { ⌜ (i < count) × (count ≤ capacity) × (slotBytes * capacity ≤ length (now work)) ⌝ }
+// Whether each permitted step of either side of situation `i` is answered by a situation that is left; the two lists are for the steps of its sides.
+fn survives(
+    question: &[u8],
+    work: &[u8],
+    capacity: usize,
+    count: usize,
+    i: usize,
+    firsts: &mut [u8],
+    seconds: &mut [u8],
+) -> bool
+    requires { ⌜ (i < count) × (count ≤ capacity) × (slotBytes * capacity ≤ length (now work)) × (mostSteps * stepBytes ≤ length (now firsts)) × (mostSteps * stepBytes ≤ length (now seconds)) ⌝ }
     ensures { λ r. ⌜ SurvivesIs (now (question .entry)) capacity (now (work .entry)) count i r ⌝ }
 {
-    let mut firsts = [0u8; LIST_BYTES];
-    let mut seconds = [0u8; LIST_BYTES];
-    let taken = take_up(question, work, SLOT_BYTES * i, &mut firsts, &mut seconds);
+    let taken = take_up(question, work, SLOT_BYTES * i, firsts, seconds);
     let free = taken.free;
     let apart = taken.apart;
     let lists = taken.lists;
@@ -139,9 +143,9 @@ fn survives(question: &[u8], work: &[u8], capacity: usize, count: usize, i: usiz
                 &free,
                 apart,
                 false,
-                &firsts,
+                firsts,
                 n,
-                &seconds,
+                seconds,
                 m,
             ) {
                 return false;
@@ -154,9 +158,9 @@ fn survives(question: &[u8], work: &[u8], capacity: usize, count: usize, i: usiz
                 &free,
                 apart,
                 true,
-                &seconds,
+                seconds,
                 m,
-                &firsts,
+                firsts,
                 n,
             )
         }
@@ -164,14 +168,22 @@ fn survives(question: &[u8], work: &[u8], capacity: usize, count: usize, i: usiz
 }
 
 // Strikes out situation `i` if it is left and does not survive; whether it did.
-fn strike_one(question: &[u8], work: &mut [u8], capacity: usize, count: usize, i: usize) -> bool
-    requires { ⌜ (i < count) × (count ≤ capacity) × (slotBytes * capacity ≤ length (now work)) ⌝ }
+fn strike_one(
+    question: &[u8],
+    work: &mut [u8],
+    capacity: usize,
+    count: usize,
+    i: usize,
+    firsts: &mut [u8],
+    seconds: &mut [u8],
+) -> bool
+    requires { ⌜ (i < count) × (count ≤ capacity) × (slotBytes * capacity ≤ length (now work)) × (mostSteps * stepBytes ≤ length (now firsts)) × (mostSteps * stepBytes ≤ length (now seconds)) ⌝ }
     ensures { λ r. ⌜ StrikesOne (now (question .entry)) capacity (now (work .entry)) count i r (now (work .exit)) ⌝ }
 {
     if !left_at(work, i) {
         return false;
     }
-    if survives(question, work, capacity, count, i) {
+    if survives(question, work, capacity, count, i, firsts, seconds) {
         return false;
     }
     work[SLOT_BYTES * i + STRUCK] = 1;
@@ -179,15 +191,22 @@ fn strike_one(question: &[u8], work: &mut [u8], capacity: usize, count: usize, i
 }
 
 // One pass from the last situation to the first; whether it struck any out.
-fn strike_pass(question: &[u8], work: &mut [u8], capacity: usize, count: usize) -> bool
-    requires { ⌜ (count ≤ capacity) × (slotBytes * capacity ≤ length (now work)) ⌝ }
+fn strike_pass(
+    question: &[u8],
+    work: &mut [u8],
+    capacity: usize,
+    count: usize,
+    firsts: &mut [u8],
+    seconds: &mut [u8],
+) -> bool
+    requires { ⌜ (count ≤ capacity) × (slotBytes * capacity ≤ length (now work)) × (mostSteps * stepBytes ≤ length (now firsts)) × (mostSteps * stepBytes ≤ length (now seconds)) ⌝ }
     ensures { λ r. ⌜ PassIs (now (question .entry)) capacity (now (work .entry)) count r (now (work .exit)) ⌝ }
 {
     let mut struck = false;
     let mut i = count;
     while 0 < i {
         i -= 1;
-        if strike_one(question, work, capacity, count, i) {
+        if strike_one(question, work, capacity, count, i, firsts, seconds) {
             struck = true;
         }
     }
@@ -195,16 +214,48 @@ fn strike_pass(question: &[u8], work: &mut [u8], capacity: usize, count: usize) 
 }
 
 // Passes until one strikes out none or the start is struck out; whether the start is left.
-pub fn start_survives(question: &[u8], work: &mut [u8], capacity: usize, count: usize) -> bool
+fn survives_passes(question: &[u8], work: &mut [u8], capacity: usize, count: usize) -> bool
     requires { ⌜ (1 ≤ count) × (count ≤ capacity) × (slotBytes * capacity ≤ length (now work)) ⌝ }
     ensures { λ r. ⌜ StartSurvivesIs (now (question .entry)) capacity (now (work .entry)) count r (now (work .exit)) ⌝ }
 {
+    let mut firsts = [0u8; MOST_STEPS * STEP_BYTES];
+    let mut seconds = [0u8; MOST_STEPS * STEP_BYTES];
     let mut again = true;
     while again {
-        again = strike_pass(question, work, capacity, count);
+        again = strike_pass(question, work, capacity, count, &mut firsts, &mut seconds);
         if !left_at(work, 0) {
             return false;
         }
     }
     true
+}
+
+// Whether one of the first `count` situations is struck out.
+fn some_struck(work: &[u8], count: usize) -> bool
+    requires { ⌜ slotBytes * count ≤ length (now work) ⌝ }
+    ensures { λ r. ⌜ SomeStruckIs (now (work .entry)) count r ⌝ }
+{
+    let mut i = 0;
+    while i < count {
+        if !left_at(work, i) {
+            return true;
+        }
+        i += 1;
+    }
+    false
+}
+
+// Whether the start survives. Exploration struck out the situations with a step that has no answer at all; if there are none, all survive, since
+// every answer leads to a situation of the field.
+pub fn start_survives(question: &[u8], work: &mut [u8], capacity: usize, count: usize) -> bool
+    requires { ⌜ (1 ≤ count) × (count ≤ capacity) × (slotBytes * capacity ≤ length (now work)) ⌝ }
+    ensures { λ r. ⌜ StartSurvivesIs (now (question .entry)) capacity (now (work .entry)) count r (now (work .exit)) ⌝ }
+{
+    if !left_at(work, 0) {
+        return false;
+    }
+    if !some_struck(work, count) {
+        return true;
+    }
+    survives_passes(question, work, capacity, count)
 }

@@ -9,14 +9,14 @@ use Rattle.field.proofs.explore.grow_answers.Statement.{statement}
 use Rattle.field.proofs.explore.grow_answers.Tie as tie
 
 abbrev Inv-loop : tie.InvT-loop
-Inv-loop arities free apart second area at others count work₀ capacity known so-far₀ j₀ work so-far j =
-    (j ≤ count) × (length work ≡ length work₀) × (so-far ≤ capacity) × Answers arities free apart second area at others count capacity work₀ known work so-far j
+Inv-loop arities free apart second area at others first count work₀ capacity known so-far₀ j₀ work so-far j =
+    (j ≤ count) × (length work ≡ length work₀) × (so-far ≤ capacity) × Answers arities free apart second area at others first count capacity work₀ known work so-far j
 
 abbrev μ-loop : tie.MeasureT-loop
-μ-loop arities free apart second area at others count work₀ capacity known so-far₀ j₀ work so-far j = count - j
+μ-loop arities free apart second area at others first count work₀ capacity known so-far₀ j₀ work so-far j = count - j
 
 loop-holds : tie.Need-loop-holds Inv-loop μ-loop
-loop-holds c = (search needs, search needs, search needs, answers-start _ _ _ _ _ _ _ _ _ _ _ (omega arith))
+loop-holds c = (search needs, search needs, search needs, answers-start _ _ _ _ _ _ _ _ _ _ _ _ (omega arith))
 
 mul-grow-answer : tie.Need-mul-grow-answer Inv-loop μ-loop
 mul-grow-answer c = search needs
@@ -34,7 +34,7 @@ same-length : tie.Need-same-length Inv-loop μ-loop
 same-length c = search needs
 
 returns : tie.Need-returns Inv-loop μ-loop
-returns c = answers-full _ _ _ _ _ _ _ _ _ _ _ _ _ _ _ (c .before .before .before .before .before .before .before .loop .inv .3) (c .before .before .before .before .before .before .loop-test .taken) (rw (c .enum-told .given .1) at (c .before .before .before .before .grow-answer .ensures))
+returns c = answers-full _ _ _ _ _ _ _ _ _ _ _ _ _ _ _ _ (c .before .before .before .before .before .before .before .loop .inv .3) (c .before .before .before .before .before .before .loop-test .taken) (rw (c .enum-told .given .1) at (c .before .before .before .before .grow-answer .ensures))
 
 add-j : tie.Need-add-j Inv-loop μ-loop
 add-j c = search needs
@@ -45,13 +45,13 @@ loop-less c = search needs
 loop-again : tie.Need-loop-again Inv-loop μ-loop
 loop-again c =
     let g = rw (c .before .growth .given .1) at (c .before .before .before .before .before .grow-answer .ensures) in
-    (search needs, search needs, g .grows .within _ refl .1, answers-next _ _ _ _ _ _ _ _ _ _ _ _ _ _ _ _ (c .before .before .before .before .before .before .before .before .loop .inv .3) (c .before .before .before .before .before .before .before .loop-test .taken) g)
+    (search needs, search needs, g .grows .within _ refl .1, answers-next _ _ _ _ _ _ _ _ _ _ _ _ _ _ _ _ _ (c .before .before .before .before .before .before .before .before .loop .inv .3) (c .before .before .before .before .before .before .before .loop-test .taken) g)
 
 same-length-2 : tie.Need-same-length-2 Inv-loop μ-loop
 same-length-2 c = search needs
 
 returns-2 : tie.Need-returns-2 Inv-loop μ-loop
-returns-2 c = answers-end _ _ _ _ _ _ _ _ _ _ _ _ _ _ (c .before .loop .inv .3) (omega arith)
+returns-2 c = answers-end _ _ _ _ _ _ _ _ _ _ _ _ _ _ _ (c .before .loop .inv .3) (omega arith)
 
 pub grow-answers-spec : {M : Type 1} → statement M
 grow-answers-spec =

@@ -1,4 +1,5 @@
 -- `field::explore::grow_sides` meets its contract. Assumes nothing.
+use native.Mathlib.Omega.{arith}
 use mathlib.Core.Path.{refl}
 use Rattle.field.proofs.GrowingLaws.{sides-full, sides-both}
 use borrow.Author.Needs.{needs}
@@ -24,13 +25,13 @@ same-length : tie.Need-same-length
 same-length c = search needs
 
 returns : tie.Need-returns
-returns c = sides-full _ _ _ _ _ _ _ _ _ _ _ (rw (c .enum-told .given .1) at (c .before .before .before .before .grow-side .ensures))
+returns c = sides-full _ _ _ _ _ _ _ _ _ _ _ _ (rw (c .enum-told .given .1) at (c .before .before .before .before .grow-side .ensures))
 
 same-length-2 : tie.Need-same-length-2
 same-length-2 c = search needs
 
 returns-2 : tie.Need-returns-2
-returns-2 c = sides-both _ _ _ _ _ _ _ _ _ _ _ _ (rw (c .before .before .before .before .before .growth .given .1) at (c .before .before .before .before .before .before .before .before .before .grow-side .ensures)) _ _ (c .before .before .grow-side2 .ensures)
+returns-2 c = sides-both _ _ _ _ _ _ _ _ _ _ _ (omega arith) _ _ (rw (c .before .before .before .before .before .growth .given .1) at (c .before .before .before .before .before .before .before .before .before .grow-side .ensures)) _ _ (c .before .before .grow-side2 .ensures)
 
 pub grow-sides-spec : {M : Type 1} → statement M
 grow-sides-spec =

@@ -1,7 +1,7 @@
 -- `field::explore::grow_step` meets its contract. Assumes nothing.
 use native.Mathlib.Omega.{arith}
 use borrow.Author.Tests.{not-true, not-false}
-use Rattle.field.proofs.GrowingLaws.{step-none, step-answered}
+use Rattle.field.proofs.GrowingLaws.{step-none, step-struck, step-answered}
 use borrow.Author.Needs.{needs}
 use Rattle.field.proofs.explore.grow_step.Statement.{statement}
 use Rattle.field.proofs.explore.grow_step.Tie as tie
@@ -13,16 +13,34 @@ permitted-requires : tie.Need-permitted-requires
 permitted-requires c κs = search needs
 
 returns : tie.Need-returns
-returns c = step-none _ _ _ _ _ _ _ _ _ _ _ (omega arith) (rw (not-true (c .before .permitted .result) (c .if1 .taken)) at (c .before .permitted .ensures))
+returns c = step-none _ _ _ _ _ _ _ _ _ _ _ _ (omega arith) (rw (not-true (c .before .permitted .result) (c .if1 .taken)) at (c .before .permitted .ensures))
 
-grow-answers-requires : tie.Need-grow-answers-requires
-grow-answers-requires c κs = search needs
+first-answer-requires : tie.Need-first-answer-requires
+first-answer-requires c κs = search needs
+
+mul-work : tie.Need-mul-work
+mul-work c = search needs
+
+add-work : tie.Need-add-work
+add-work c = search needs
+
+slice-write-work : tie.Need-slice-write-work
+slice-write-work c = search needs
 
 same-length : tie.Need-same-length
 same-length c = search needs
 
 returns-2 : tie.Need-returns-2
-returns-2 c = step-answered _ _ _ _ _ _ _ _ _ _ _ (rw (not-false (c .before .before .before .before .before .permitted .result) (c .before .before .before .before .if1 .left)) at (c .before .before .before .before .before .permitted .ensures)) _ _ (c .before .before .grow-answers .ensures)
+returns-2 c = step-struck _ _ _ _ _ _ _ _ _ _ _ _ (rw (not-false (c .before .before .before .permitted .result) (c .before .before .if1 .left)) at (c .before .before .before .permitted .ensures)) _ (c .before .first-answer .ensures) (omega arith) (c .if2 .taken) (omega arith) (omega arith)
+
+grow-answers-requires : tie.Need-grow-answers-requires
+grow-answers-requires c κs = search needs
+
+same-length-2 : tie.Need-same-length-2
+same-length-2 c = search needs
+
+returns-3 : tie.Need-returns-3
+returns-3 c = step-answered _ _ _ _ _ _ _ _ _ _ _ _ (rw (not-false (c .before .before .before .before .before .before .before .permitted .result) (c .before .before .before .before .before .before .if1 .left)) at (c .before .before .before .before .before .before .before .permitted .ensures)) _ (c .before .before .before .before .before .first-answer .ensures) (c .before .before .before .before .before .before .before .before .before .before .before .before .before .before .pre .0) (c .before .before .before .before .if2 .left) _ _ (c .before .before .grow-answers .ensures)
 
 pub grow-step-spec : {M : Type 1} → statement M
 grow-step-spec =
@@ -31,6 +49,12 @@ grow-step-spec =
     slice-aggregate-permitted
     permitted-requires
     returns
-    grow-answers-requires
+    first-answer-requires
+    mul-work
+    add-work
+    slice-write-work
     same-length
-    returns-2)
+    returns-2
+    grow-answers-requires
+    same-length-2
+    returns-3)

@@ -1,68 +1,48 @@
 -- `verdict::strike::start_survives` meets its contract. Assumes nothing.
 use native.Mathlib.Omega.{arith}
 use borrow.Author.Needs.{needs}
-use borrow.Author.Tests.{not-true, not-false}
-use mathlib.Core.Bool.{false, cond}
-use mathlib.Core.Path.{_≡_, refl}
-use Prim.Native.Nat.{_+_}
-use lib.ListN.{length, getD}
-use Rattle.verdict.specs.Striking.{struckAt, marks, zeros, Strikes, none-struck, AllSurvive}
-use Rattle.verdict.proofs.Rounds.{true-not-false}
-use Rattle.verdict.proofs.StrikeLaws.{strikes-then, left-zero, pass-less, start-goes, start-stays}
+use borrow.Author.Tests.{not-true}
+use Rattle.verdict.proofs.StrikeLaws.{start-gone, none-struck-stays}
 use Rattle.verdict.proofs.strike.start_survives.Statement.{statement}
 use Rattle.verdict.proofs.strike.start_survives.Tie as tie
 
-abbrev Inv-loop : tie.InvT-loop
-Inv-loop question work₀ capacity count again₀ work again =
-    (length work ≡ length work₀) × Strikes question capacity count work₀ work
-    × (again ≡ false → (getD work (struckAt 0) 0 ≡ 0) × AllSurvive question capacity work count)
-
-abbrev μ-loop : tie.MeasureT-loop
-μ-loop question work₀ capacity count again₀ work again = zeros (marks work count) + cond again 1 0
-
-loop-holds : tie.Need-loop-holds Inv-loop μ-loop
-loop-holds c = (refl, none-struck, λ q. true-not-false refl q)
-
-strike-pass-requires : tie.Need-strike-pass-requires Inv-loop μ-loop
-strike-pass-requires c κs = search needs
-
-left-at-requires : tie.Need-left-at-requires Inv-loop μ-loop
+left-at-requires : tie.Need-left-at-requires
 left-at-requires c κs = search needs
 
-same-length : tie.Need-same-length Inv-loop μ-loop
+same-length : tie.Need-same-length
 same-length c = search needs
 
-returns : tie.Need-returns Inv-loop μ-loop
-returns c = start-goes _ _ _ _ _ _ _ _ (c .before .before .before .before .before .before .before .before .loop .inv .1) (c .before .before .before .before .before .strike-pass .ensures) (c .before .left-at .ensures) (not-true _ (c .if1 .taken))
+returns : tie.Need-returns
+returns c = start-gone _ _ _ _ _ (c .before .left-at .ensures) (not-true _ (c .if1 .taken))
 
-loop-less : tie.Need-loop-less Inv-loop μ-loop
-loop-less c = pass-less _ _ _ _ _ _ _ (omega arith) (c .before .before .before .before .before .before .before .loop-test .taken) (c .before .before .before .before .before .strike-pass .ensures)
+some-struck-requires : tie.Need-some-struck-requires
+some-struck-requires c κs = search needs
 
-loop-again : tie.Need-loop-again Inv-loop μ-loop
-loop-again c = (
-  search needs,
-  strikes-then _ _ _ (c .before .before .before .before .before .before .before .before .loop .inv .1) (c .before .before .before .before .before .strike-pass .ensures .strikes),
-  λ q. (left-zero _ _ _ (c .before .left-at .ensures) (not-false _ (c .if1 .left)), c .before .before .before .before .before .strike-pass .ensures .none q),
-)
-
-same-length-2 : tie.Need-same-length-2 Inv-loop μ-loop
+same-length-2 : tie.Need-same-length-2
 same-length-2 c = search needs
 
-returns-2 : tie.Need-returns-2 Inv-loop μ-loop
-returns-2 c = let w = c .before .loop .inv .2 (c .loop-test .left) in start-stays _ _ _ _ _ (c .before .loop .inv .1) (w .0) (w .1)
+returns-2 : tie.Need-returns-2
+returns-2 c = none-struck-stays _ _ _ _ _ (omega arith) (c .before .some-struck .ensures) (not-true _ (c .if2 .taken))
+
+survives-passes-requires : tie.Need-survives-passes-requires
+survives-passes-requires c κs = search needs
+
+same-length-3 : tie.Need-same-length-3
+same-length-3 c = search needs
+
+returns-3 : tie.Need-returns-3
+returns-3 c = c .before .before .survives-passes .ensures
 
 pub start-survives-spec : {M : Type 1} → statement M
 start-survives-spec =
     tie.close
     (tie.spec
-    Inv-loop
-    μ-loop
-    loop-holds
-    strike-pass-requires
     left-at-requires
     same-length
     returns
-    loop-less
-    loop-again
+    some-struck-requires
     same-length-2
-    returns-2)
+    returns-2
+    survives-passes-requires
+    same-length-3
+    returns-3)

@@ -20,8 +20,14 @@ survives-requires c κs = search needs
 same-length-2 : tie.Need-same-length-2
 same-length-2 c = search needs
 
+same-length-3 : tie.Need-same-length-3
+same-length-3 c = search needs
+
+same-length-4 : tie.Need-same-length-4
+same-length-4 c = search needs
+
 returns-2 : tie.Need-returns-2
-returns-2 c = survivor-kept _ _ _ _ _ _ (c .before .survives .ensures) (c .if2 .taken)
+returns-2 c = survivor-kept _ _ _ _ _ _ (c .before .before .before .before .before .survives .ensures) (c .if2 .taken)
 
 mul-work : tie.Need-mul-work
 mul-work c = search needs
@@ -32,11 +38,17 @@ add-work c = search needs
 slice-write-work : tie.Need-slice-write-work
 slice-write-work c = search needs
 
-same-length-3 : tie.Need-same-length-3
-same-length-3 c = search needs
+same-length-5 : tie.Need-same-length-5
+same-length-5 c = search needs
+
+same-length-6 : tie.Need-same-length-6
+same-length-6 c = search needs
+
+same-length-7 : tie.Need-same-length-7
+same-length-7 c = search needs
 
 returns-3 : tie.Need-returns-3
-returns-3 c = one-strikes _ _ _ _ _ _ (left-zero _ _ _ (c .before .before .before .before .left-at .ensures) (not-false _ (c .before .before .before .if1 .left))) (c .before .survives .ensures) (c .if2 .left)
+returns-3 c = one-strikes _ _ _ _ _ _ (left-zero _ _ _ (c .before .before .before .before .before .before .before .before .before .before .left-at .ensures) (not-false _ (c .before .before .before .before .before .before .before .before .before .if1 .left))) (c .before .before .before .before .before .survives .ensures) (c .if2 .left)
 
 pub strike-one-spec : {M : Type 1} → statement M
 strike-one-spec =
@@ -47,9 +59,13 @@ strike-one-spec =
     returns
     survives-requires
     same-length-2
+    same-length-3
+    same-length-4
     returns-2
     mul-work
     add-work
     slice-write-work
-    same-length-3
+    same-length-5
+    same-length-6
+    same-length-7
     returns-3)

@@ -9,14 +9,14 @@ use Rattle.verdict.proofs.strike.strike_pass.Statement.{statement}
 use Rattle.verdict.proofs.strike.strike_pass.Tie as tie
 
 abbrev Inv-loop : tie.InvT-loop
-Inv-loop question work₀ capacity count struck₀ i₀ work struck i =
-    (i ≤ count) × (length work ≡ length work₀) × Passing question capacity count work₀ struck work i
+Inv-loop question work₀ capacity count firsts₀ seconds₀ struck₀ i₀ work firsts seconds struck i =
+    (i ≤ count) × (length work ≡ length work₀) × (length firsts ≡ length firsts₀) × (length seconds ≡ length seconds₀) × Passing question capacity count work₀ struck work i
 
 abbrev μ-loop : tie.MeasureT-loop
-μ-loop question work₀ capacity count struck₀ i₀ work struck i = i
+μ-loop question work₀ capacity count firsts₀ seconds₀ struck₀ i₀ work firsts seconds struck i = i
 
 loop-holds : tie.Need-loop-holds Inv-loop μ-loop
-loop-holds c = (search needs, refl, passing-start _ _ _ _)
+loop-holds c = (search needs, refl, refl, refl, passing-start _ _ _ _)
 
 sub-i : tie.Need-sub-i Inv-loop μ-loop
 sub-i c = search needs
@@ -28,19 +28,25 @@ loop-less : tie.Need-loop-less Inv-loop μ-loop
 loop-less c = search needs
 
 loop-again : tie.Need-loop-again Inv-loop μ-loop
-loop-again c = (search needs, search needs, passing-struck _ _ _ _ _ _ (c .before .before .before .before .before .before .loop .i) _ (omega arith) (c .before .before .before .before .before .before .loop .inv .2) (omega arith) _ _ (omega arith) (c .before .before .before .strike-one .ensures) (c .if1 .taken))
+loop-again c = (search needs, search needs, search needs, search needs, passing-struck _ _ _ _ _ _ (c .before .before .before .before .before .before .before .before .before .before .before .before .loop .i) _ (omega arith) (c .before .before .before .before .before .before .before .before .before .before .before .before .loop .inv .4) (omega arith) _ _ (omega arith) (c .before .before .before .before .before .before .before .strike-one .ensures) (c .if1 .taken))
 
 loop-less-2 : tie.Need-loop-less-2 Inv-loop μ-loop
 loop-less-2 c = search needs
 
 loop-again-2 : tie.Need-loop-again-2 Inv-loop μ-loop
-loop-again-2 c = (search needs, search needs, passing-kept _ _ _ _ _ _ (c .before .before .before .before .before .before .loop .i) _ (omega arith) (c .before .before .before .before .before .before .loop .inv .2) (omega arith) _ _ (c .before .before .before .strike-one .ensures) (c .if1 .left))
+loop-again-2 c = (search needs, search needs, search needs, search needs, passing-kept _ _ _ _ _ _ (c .before .before .before .before .before .before .before .before .before .before .before .before .loop .i) _ (omega arith) (c .before .before .before .before .before .before .before .before .before .before .before .before .loop .inv .4) (omega arith) _ _ (c .before .before .before .before .before .before .before .strike-one .ensures) (c .if1 .left))
 
 same-length : tie.Need-same-length Inv-loop μ-loop
 same-length c = search needs
 
+same-length-2 : tie.Need-same-length-2 Inv-loop μ-loop
+same-length-2 c = search needs
+
+same-length-3 : tie.Need-same-length-3 Inv-loop μ-loop
+same-length-3 c = search needs
+
 returns : tie.Need-returns Inv-loop μ-loop
-returns c = passed _ _ _ _ _ _ (c .before .loop .i) (omega arith) (c .before .loop .inv .2)
+returns c = passed _ _ _ _ _ _ (c .before .loop .i) (omega arith) (c .before .loop .inv .4)
 
 pub strike-pass-spec : {M : Type 1} → statement M
 strike-pass-spec =
@@ -56,4 +62,6 @@ strike-pass-spec =
     loop-less-2
     loop-again-2
     same-length
+    same-length-2
+    same-length-3
     returns)
