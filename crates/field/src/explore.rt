@@ -2,6 +2,7 @@
 ghost use Prim.Native.Nat.{_+_, _*_, _<_, _≤_};
 ghost use lib.ListN.{length};
 ghost use Rattle.steps.specs.Limits.{stepBytes, mostSteps};
+ghost use Rattle.steps.specs.Tally.{BodiesTallied};
 ghost use Rattle.field.specs.Chains.{LinkIs};
 ghost use Rattle.field.specs.Growing.{slotWith, AddIs, GrowsAnswer, GrowsAnswers, FirstAnswerIs, GrowsStep, GrowsSide, GrowsSides, GrowIs};
 ghost use Rattle.field.specs.Holding.{ExploreIs};
@@ -22,6 +23,7 @@ use crate::taking::take_up;
 use steps::bodies::arities_of;
 use steps::limits::MOST_STEPS;
 use steps::limits::STEP_BYTES;
+use steps::tally::body_tallies;
 use terms::bytes::copy;
 
 // The size of the field, or a limit is passed.
@@ -287,6 +289,7 @@ fn grow_sides(
 // Takes up the situation in slot `taken`; the two lists are for the steps of its sides.
 fn grow(
     question: &[u8],
+    bodies: &[u32],
     taken: usize,
     firsts: &mut [u8],
     seconds: &mut [u8],
@@ -294,10 +297,10 @@ fn grow(
     capacity: usize,
     known: usize,
 ) -> Growth
-    requires { ⌜ (taken < known) × (known ≤ capacity) × (capacity ≤ 4096) × (slotBytes * capacity ≤ length (now work)) × (mostSteps * stepBytes ≤ length (now firsts)) × (mostSteps * stepBytes ≤ length (now seconds)) ⌝ }
+    requires { ⌜ (taken < known) × (known ≤ capacity) × (capacity ≤ 4096) × (slotBytes * capacity ≤ length (now work)) × (mostSteps * stepBytes ≤ length (now firsts)) × (mostSteps * stepBytes ≤ length (now seconds)) × BodiesTallied (now question) (now bodies) ⌝ }
     ensures { λ r. ⌜ GrowIs (now (question .entry)) taken capacity (now (work .entry)) known r (now (work .exit)) ⌝ }
 {
-    let up = take_up(question, work, SLOT_BYTES * taken, firsts, seconds);
+    let up = take_up(question, bodies, work, SLOT_BYTES * taken, firsts, seconds);
     let free = up.free;
     let apart = up.apart;
     let lists = up.lists;
@@ -327,6 +330,7 @@ pub fn explore(question: &[u8], capacity: usize, work: &mut [u8]) -> Explored
     clear_heads(work, capacity);
     let key = start_key(question);
     put(work, capacity, 0, &key);
+    let bodies = body_tallies(question);
     let mut firsts = [0u8; MOST_STEPS * STEP_BYTES];
     let mut seconds = [0u8; MOST_STEPS * STEP_BYTES];
     let mut known = 1;
@@ -334,6 +338,7 @@ pub fn explore(question: &[u8], capacity: usize, work: &mut [u8]) -> Explored
     while taken < known {
         let growth = grow(
             question,
+            &bodies,
             taken,
             &mut firsts,
             &mut seconds,

@@ -4,6 +4,7 @@ ghost use lib.ListN.{length};
 ghost use Rattle.terms.specs.Limits.{nameCount};
 ghost use Rattle.steps.specs.Limits.{stepBytes, mostSteps};
 ghost use Rattle.steps.specs.PartLister.{ListPartIs};
+ghost use Rattle.steps.specs.Tally.{BodiesTallied};
 ghost use Rattle.field.specs.Slot.{keyBytes};
 ghost use Rattle.field.specs.TakingUp.{SomeBindsIs, PastNamesIs, ListsSides, TakesUp};
 use crate::entries::binds;
@@ -16,7 +17,7 @@ use crate::slots::second_part;
 use steps::bodies::arities_of;
 use steps::limits::STEP_BYTES;
 use steps::list::ListAnswer;
-use steps::list::list_part;
+use steps::list::list_tallied;
 use terms::limits::LONGEST_TERM;
 use terms::limits::NAME_COUNT;
 
@@ -62,33 +63,34 @@ fn past_names(x: usize, firsts: &[u8], n: usize, seconds: &[u8], m: usize) -> bo
 }
 
 // Lists one side. A part above the limit stands in no slot.
-fn list_side(question: &[u8], part: &[u8], x: usize, area: &mut [u8]) -> ListAnswer
-    requires { ⌜ (mostSteps * stepBytes ≤ length (now area)) × (x ≤ nameCount) ⌝ }
+fn list_side(question: &[u8], bodies: &[u32], part: &[u8], x: usize, area: &mut [u8]) -> ListAnswer
+    requires { ⌜ (mostSteps * stepBytes ≤ length (now area)) × (x ≤ nameCount) × BodiesTallied (now question) (now bodies) ⌝ }
     ensures { λ r. ⌜ ListPartIs (now (question .entry)) (now (part .entry)) x (now (area .entry)) r (now (area .exit)) ⌝ }
 {
     if LONGEST_TERM < part.len() {
         return ListAnswer::Unsettled;
     }
-    list_part(question, part, x as u8, area)
+    list_tallied(question, bodies, part, x as u8, area)
 }
 
 // Lists both sides, each in its area, for the new name `x`.
 fn list_sides(
     question: &[u8],
+    bodies: &[u32],
     first: &[u8],
     second: &[u8],
     x: usize,
     firsts: &mut [u8],
     seconds: &mut [u8],
 ) -> Lists
-    requires { ⌜ (x ≤ nameCount) × (mostSteps * stepBytes ≤ length (now firsts)) × (mostSteps * stepBytes ≤ length (now seconds)) ⌝ }
+    requires { ⌜ (x ≤ nameCount) × (mostSteps * stepBytes ≤ length (now firsts)) × (mostSteps * stepBytes ≤ length (now seconds)) × BodiesTallied (now question) (now bodies) ⌝ }
     ensures { λ r. ⌜ ListsSides (now (question .entry)) (now (first .entry)) (now (second .entry)) x r (now (firsts .exit)) (now (seconds .exit)) ⌝ }
 {
-    let n = match list_side(question, first, x, firsts) {
+    let n = match list_side(question, bodies, first, x, firsts) {
         ListAnswer::Unsettled => return Lists::Past,
         ListAnswer::Count(n) => n,
     };
-    let m = match list_side(question, second, x, seconds) {
+    let m = match list_side(question, bodies, second, x, seconds) {
         ListAnswer::Unsettled => return Lists::Past,
         ListAnswer::Count(m) => m,
     };
@@ -98,15 +100,16 @@ fn list_sides(
     Lists::Listed(n, m)
 }
 
-// Takes up the situation at `at`.
+// Takes up the situation at `at`; `bodies` are the tallies of the definitions' bodies.
 pub fn take_up(
     question: &[u8],
+    bodies: &[u32],
     work: &[u8],
     at: usize,
     firsts: &mut [u8],
     seconds: &mut [u8],
 ) -> TakenUp
-    requires { ⌜ (at + keyBytes ≤ length (now work)) × (mostSteps * stepBytes ≤ length (now firsts)) × (mostSteps * stepBytes ≤ length (now seconds)) ⌝ }
+    requires { ⌜ (at + keyBytes ≤ length (now work)) × (mostSteps * stepBytes ≤ length (now firsts)) × (mostSteps * stepBytes ≤ length (now seconds)) × BodiesTallied (now question) (now bodies) ⌝ }
     ensures { λ r. ⌜ TakesUp (now (question .entry)) (now (work .entry)) at r (now (firsts .exit)) (now (seconds .exit)) ⌝ }
 {
     let first = first_part(work, at);
@@ -116,6 +119,6 @@ pub fn take_up(
     TakenUp {
         free: free,
         apart: apart_flags(work, at),
-        lists: list_sides(question, first, second, x, firsts, seconds),
+        lists: list_sides(question, bodies, first, second, x, firsts, seconds),
     }
 }

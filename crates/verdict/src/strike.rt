@@ -3,6 +3,7 @@ ghost use Prim.Native.Nat.{_+_, _*_, _<_, _≤_};
 ghost use lib.ListN.{length};
 ghost use Rattle.field.specs.Slot.{keyBytes, slotBytes, struckAt};
 ghost use Rattle.steps.specs.Limits.{stepBytes, mostSteps};
+ghost use Rattle.steps.specs.Tally.{BodiesTallied};
 ghost use Rattle.verdict.specs.Striking.{LeftAtIs, LeftIs, AnswerLeftIs, SideAnsweredIs, SurvivesIs, StrikesOne, PassIs, SomeStruckIs, StartSurvivesIs};
 use field::chains::find_chained;
 use field::entries::answers;
@@ -16,6 +17,7 @@ use field::taking::take_up;
 use steps::bodies::arities_of;
 use steps::limits::MOST_STEPS;
 use steps::limits::STEP_BYTES;
+use steps::tally::body_tallies;
 use terms::bytes::get;
 
 // The byte of a slot behind its key: 0 while the situation is left, 1 once it is struck out.
@@ -116,6 +118,7 @@ fn side_answered(
 // Whether each permitted step of either side of situation `i` is answered by a situation that is left; the two lists are for the steps of its sides.
 fn survives(
     question: &[u8],
+    bodies: &[u32],
     work: &[u8],
     capacity: usize,
     count: usize,
@@ -123,10 +126,10 @@ fn survives(
     firsts: &mut [u8],
     seconds: &mut [u8],
 ) -> bool
-    requires { ⌜ (i < count) × (count ≤ capacity) × (slotBytes * capacity ≤ length (now work)) × (mostSteps * stepBytes ≤ length (now firsts)) × (mostSteps * stepBytes ≤ length (now seconds)) ⌝ }
+    requires { ⌜ (i < count) × (count ≤ capacity) × (slotBytes * capacity ≤ length (now work)) × (mostSteps * stepBytes ≤ length (now firsts)) × (mostSteps * stepBytes ≤ length (now seconds)) × BodiesTallied (now question) (now bodies) ⌝ }
     ensures { λ r. ⌜ SurvivesIs (now (question .entry)) capacity (now (work .entry)) count i r ⌝ }
 {
-    let taken = take_up(question, work, SLOT_BYTES * i, firsts, seconds);
+    let taken = take_up(question, bodies, work, SLOT_BYTES * i, firsts, seconds);
     let free = taken.free;
     let apart = taken.apart;
     let lists = taken.lists;
@@ -170,6 +173,7 @@ fn survives(
 // Strikes out situation `i` if it is left and does not survive; whether it did.
 fn strike_one(
     question: &[u8],
+    bodies: &[u32],
     work: &mut [u8],
     capacity: usize,
     count: usize,
@@ -177,13 +181,13 @@ fn strike_one(
     firsts: &mut [u8],
     seconds: &mut [u8],
 ) -> bool
-    requires { ⌜ (i < count) × (count ≤ capacity) × (slotBytes * capacity ≤ length (now work)) × (mostSteps * stepBytes ≤ length (now firsts)) × (mostSteps * stepBytes ≤ length (now seconds)) ⌝ }
+    requires { ⌜ (i < count) × (count ≤ capacity) × (slotBytes * capacity ≤ length (now work)) × (mostSteps * stepBytes ≤ length (now firsts)) × (mostSteps * stepBytes ≤ length (now seconds)) × BodiesTallied (now question) (now bodies) ⌝ }
     ensures { λ r. ⌜ StrikesOne (now (question .entry)) capacity (now (work .entry)) count i r (now (work .exit)) ⌝ }
 {
     if !left_at(work, i) {
         return false;
     }
-    if survives(question, work, capacity, count, i, firsts, seconds) {
+    if survives(question, bodies, work, capacity, count, i, firsts, seconds) {
         return false;
     }
     work[SLOT_BYTES * i + STRUCK] = 1;
@@ -193,20 +197,21 @@ fn strike_one(
 // One pass from the last situation to the first; whether it struck any out.
 fn strike_pass(
     question: &[u8],
+    bodies: &[u32],
     work: &mut [u8],
     capacity: usize,
     count: usize,
     firsts: &mut [u8],
     seconds: &mut [u8],
 ) -> bool
-    requires { ⌜ (count ≤ capacity) × (slotBytes * capacity ≤ length (now work)) × (mostSteps * stepBytes ≤ length (now firsts)) × (mostSteps * stepBytes ≤ length (now seconds)) ⌝ }
+    requires { ⌜ (count ≤ capacity) × (slotBytes * capacity ≤ length (now work)) × (mostSteps * stepBytes ≤ length (now firsts)) × (mostSteps * stepBytes ≤ length (now seconds)) × BodiesTallied (now question) (now bodies) ⌝ }
     ensures { λ r. ⌜ PassIs (now (question .entry)) capacity (now (work .entry)) count r (now (work .exit)) ⌝ }
 {
     let mut struck = false;
     let mut i = count;
     while 0 < i {
         i -= 1;
-        if strike_one(question, work, capacity, count, i, firsts, seconds) {
+        if strike_one(question, bodies, work, capacity, count, i, firsts, seconds) {
             struck = true;
         }
     }
@@ -218,11 +223,20 @@ fn survives_passes(question: &[u8], work: &mut [u8], capacity: usize, count: usi
     requires { ⌜ (1 ≤ count) × (count ≤ capacity) × (slotBytes * capacity ≤ length (now work)) ⌝ }
     ensures { λ r. ⌜ StartSurvivesIs (now (question .entry)) capacity (now (work .entry)) count r (now (work .exit)) ⌝ }
 {
+    let bodies = body_tallies(question);
     let mut firsts = [0u8; MOST_STEPS * STEP_BYTES];
     let mut seconds = [0u8; MOST_STEPS * STEP_BYTES];
     let mut again = true;
     while again {
-        again = strike_pass(question, work, capacity, count, &mut firsts, &mut seconds);
+        again = strike_pass(
+            question,
+            &bodies,
+            work,
+            capacity,
+            count,
+            &mut firsts,
+            &mut seconds,
+        );
         if !left_at(work, 0) {
             return false;
         }

@@ -10,12 +10,12 @@ use Rattle.field.proofs.explore.explore.Statement.{statement}
 use Rattle.field.proofs.explore.explore.Tie as tie
 
 abbrev Inv-loop : tie.InvT-loop
-Inv-loop question capacity work₀ firsts₀ seconds₀ known₀ taken₀ work firsts seconds known taken =
+Inv-loop question capacity work₀ bodies firsts₀ seconds₀ known₀ taken₀ work firsts seconds known taken =
     (taken ≤ known) × (1 ≤ known) × (known ≤ capacity) × (length work ≡ length work₀) × (length firsts ≡ mostSteps * stepBytes) × (length seconds ≡ mostSteps * stepBytes)
     × Explorers question capacity work₀ work known taken
 
 abbrev μ-loop : tie.MeasureT-loop
-μ-loop question capacity work₀ firsts₀ seconds₀ known₀ taken₀ work firsts seconds known taken = capacity - taken
+μ-loop question capacity work₀ bodies firsts₀ seconds₀ known₀ taken₀ work firsts seconds known taken = capacity - taken
 
 clear-heads-requires : tie.Need-clear-heads-requires Inv-loop μ-loop
 clear-heads-requires c κs = search needs
@@ -29,14 +29,20 @@ slice-aggregate-put c = search needs
 put-requires : tie.Need-put-requires Inv-loop μ-loop
 put-requires c κs = search needs
 
+body-tallies-requires : tie.Need-body-tallies-requires Inv-loop μ-loop
+body-tallies-requires c κs = search needs
+
 loop-holds : tie.Need-loop-holds Inv-loop μ-loop
-loop-holds c = (search needs, search needs, search needs, search needs, search needs, search needs, explorers-start _ _ (omega arith) _ (omega arith) _ (omega arith) _ (c .before .before .before .before .before .before .before .before .clear-heads .ensures) _ (c .before .before .put .ensures) (c .before .before .before .before .before .start-key .ensures))
+loop-holds c = (search needs, search needs, search needs, search needs, search needs, search needs, explorers-start _ _ (omega arith) _ (omega arith) _ (omega arith) _ (c .before .before .before .before .before .before .before .before .before .clear-heads .ensures) _ (c .before .before .before .put .ensures) (c .before .before .before .before .before .before .start-key .ensures))
 
 slice-aggregate-grow : tie.Need-slice-aggregate-grow Inv-loop μ-loop
 slice-aggregate-grow c = search needs
 
 slice-aggregate-grow-2 : tie.Need-slice-aggregate-grow-2 Inv-loop μ-loop
 slice-aggregate-grow-2 c = search needs
+
+slice-aggregate-grow-3 : tie.Need-slice-aggregate-grow-3 Inv-loop μ-loop
+slice-aggregate-grow-3 c = search needs
 
 grow-requires : tie.Need-grow-requires Inv-loop μ-loop
 grow-requires c κs = search needs
@@ -51,7 +57,7 @@ same-length : tie.Need-same-length Inv-loop μ-loop
 same-length c = search needs
 
 returns : tie.Need-returns Inv-loop μ-loop
-returns c = explored-from _ _ (omega arith) _ (omega arith) _ (omega arith) _ (c .before .before .before .before .before .before .before .before .before .before .before .before .before .before .before .before .before .before .before .before .clear-heads .ensures) _ (c .before .before .before .before .before .before .before .before .before .before .before .before .before .before .put .ensures) _ _ (explorers-full _ _ _ _ _ _ (c .before .before .before .before .before .before .before .before .before .before .before .loop .inv .6) (c .before .before .before .before .before .before .before .before .before .before .loop-test .taken) _ (rw (c .enum-told .given .1) at (c .before .before .before .before .before .before .grow .ensures)))
+returns c = explored-from _ _ (omega arith) _ (omega arith) _ (omega arith) _ (c .before .before .before .before .before .before .before .before .before .before .before .before .before .before .before .before .before .before .before .before .before .before .clear-heads .ensures) _ (c .before .before .before .before .before .before .before .before .before .before .before .before .before .before .before .before .put .ensures) _ _ (explorers-full _ _ _ _ _ _ (c .before .before .before .before .before .before .before .before .before .before .before .before .loop .inv .6) (c .before .before .before .before .before .before .before .before .before .before .before .loop-test .taken) _ (rw (c .enum-told .given .1) at (c .before .before .before .before .before .before .grow .ensures)))
 
 add-taken : tie.Need-add-taken Inv-loop μ-loop
 add-taken c = search needs
@@ -63,13 +69,13 @@ loop-again : tie.Need-loop-again Inv-loop μ-loop
 loop-again c =
     let g = rw (c .before .growth .given .1) at (c .before .before .before .before .before .before .before .grow .ensures) in
     let b = g .grows .within _ refl in
-    (omega arith, omega arith, b .1, search needs, search needs, search needs, explorers-next _ _ _ _ _ _ (c .before .before .before .before .before .before .before .before .before .before .before .before .loop .inv .6) (c .before .before .before .before .before .before .before .before .before .before .before .loop-test .taken) _ _ g)
+    (omega arith, omega arith, b .1, search needs, search needs, search needs, explorers-next _ _ _ _ _ _ (c .before .before .before .before .before .before .before .before .before .before .before .before .before .loop .inv .6) (c .before .before .before .before .before .before .before .before .before .before .before .before .loop-test .taken) _ _ g)
 
 same-length-2 : tie.Need-same-length-2 Inv-loop μ-loop
 same-length-2 c = search needs
 
 returns-2 : tie.Need-returns-2 Inv-loop μ-loop
-returns-2 c = explored-from _ _ (omega arith) _ (omega arith) _ (omega arith) _ (c .before .before .before .before .before .before .before .before .before .before .clear-heads .ensures) _ (c .before .before .before .before .put .ensures) _ _ (explorers-end _ _ _ _ _ _ (c .before .loop .inv .6) (omega arith) (omega arith) (omega arith))
+returns-2 c = explored-from _ _ (omega arith) _ (omega arith) _ (omega arith) _ (c .before .before .before .before .before .before .before .before .before .before .before .clear-heads .ensures) _ (c .before .before .before .before .before .put .ensures) _ _ (explorers-end _ _ _ _ _ _ (c .before .loop .inv .6) (omega arith) (omega arith) (omega arith))
 
 pub explore-spec : {M : Type 1} → statement M
 explore-spec =
@@ -81,9 +87,11 @@ explore-spec =
     start-key-requires
     slice-aggregate-put
     put-requires
+    body-tallies-requires
     loop-holds
     slice-aggregate-grow
     slice-aggregate-grow-2
+    slice-aggregate-grow-3
     grow-requires
     enum-known-growth
     enum-told

@@ -37,7 +37,7 @@ same-length-3 : tie.Need-same-length-3
 same-length-3 c = search needs
 
 returns : tie.Need-returns
-returns c = grow-past _ _ _ _ _ (c .before .before .before .before .before .before .before .before .before .before .before .before .before .before .before .before .pre .0) _ _ _ (c .before .before .before .before .before .before .before .before .take-up .ensures) (c .enum-told .given .1)
+returns c = grow-past _ _ _ _ _ (c .before .before .before .before .before .before .before .before .before .before .before .before .before .before .before .before .before .pre .0) _ _ _ (c .before .before .before .before .before .before .before .before .take-up .ensures) (c .enum-told .given .1)
 
 same-length-4 : tie.Need-same-length-4
 same-length-4 c = search needs
@@ -49,7 +49,7 @@ same-length-6 : tie.Need-same-length-6
 same-length-6 c = search needs
 
 returns-2 : tie.Need-returns-2
-returns-2 c = grow-listed _ _ _ _ _ (c .before .before .before .before .before .before .before .before .before .before .before .before .before .before .before .before .before .before .before .before .before .before .before .before .before .pre .0) _ _ _ (c .before .before .before .before .before .before .before .before .before .before .before .before .before .before .before .before .before .take-up .ensures) _ _ (c .before .before .before .before .before .before .before .before .before .lists .given .1) _ (c .before .before .before .before .before .before .before .arities-of .ensures) _ _ (c .before .before .grow-sides .ensures)
+returns-2 c = grow-listed _ _ _ _ _ (c .before .before .before .before .before .before .before .before .before .before .before .before .before .before .before .before .before .before .before .before .before .before .before .before .before .before .pre .0) _ _ _ (c .before .before .before .before .before .before .before .before .before .before .before .before .before .before .before .before .before .take-up .ensures) _ _ (c .before .before .before .before .before .before .before .before .before .lists .given .1) _ (c .before .before .before .before .before .before .before .arities-of .ensures) _ _ (c .before .before .grow-sides .ensures)
 
 pub grow-spec : {M : Type 1} → statement M
 grow-spec =

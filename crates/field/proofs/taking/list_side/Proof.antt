@@ -7,11 +7,11 @@ use Rattle.field.proofs.taking.list_side.Tie as tie
 returns : tie.Need-returns
 returns c = long-part _ _ _ _ _ (c .if1 .taken)
 
-cast-list-part : tie.Need-cast-list-part
-cast-list-part c = search needs
+cast-list-tallied : tie.Need-cast-list-tallied
+cast-list-tallied c = search needs
 
-list-part-requires : tie.Need-list-part-requires
-list-part-requires c κs = search needs
+list-tallied-requires : tie.Need-list-tallied-requires
+list-tallied-requires c κs = search needs
 
 same-length : tie.Need-same-length
 same-length c = search needs
@@ -21,4 +21,4 @@ returns-2 c = search needs
 
 pub list-side-spec : {M : Type 1} → statement M
 list-side-spec =
-    tie.close (tie.spec returns cast-list-part list-part-requires same-length returns-2)
+    tie.close (tie.spec returns cast-list-tallied list-tallied-requires same-length returns-2)

@@ -9,11 +9,11 @@ use Rattle.verdict.proofs.strike.strike_pass.Statement.{statement}
 use Rattle.verdict.proofs.strike.strike_pass.Tie as tie
 
 abbrev Inv-loop : tie.InvT-loop
-Inv-loop question work₀ capacity count firsts₀ seconds₀ struck₀ i₀ work firsts seconds struck i =
+Inv-loop question bodies work₀ capacity count firsts₀ seconds₀ struck₀ i₀ work firsts seconds struck i =
     (i ≤ count) × (length work ≡ length work₀) × (length firsts ≡ length firsts₀) × (length seconds ≡ length seconds₀) × Passing question capacity count work₀ struck work i
 
 abbrev μ-loop : tie.MeasureT-loop
-μ-loop question work₀ capacity count firsts₀ seconds₀ struck₀ i₀ work firsts seconds struck i = i
+μ-loop question bodies work₀ capacity count firsts₀ seconds₀ struck₀ i₀ work firsts seconds struck i = i
 
 loop-holds : tie.Need-loop-holds Inv-loop μ-loop
 loop-holds c = (search needs, refl, refl, refl, passing-start _ _ _ _)

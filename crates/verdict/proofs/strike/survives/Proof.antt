@@ -35,13 +35,13 @@ same-length-2 : tie.Need-same-length-2
 same-length-2 c = search needs
 
 returns : tie.Need-returns
-returns c = first-fails _ _ _ _ _ (c .before .before .before .before .before .before .before .before .before .before .before .before .before .before .before .before .before .before .before .before .before .before .pre .0) _ _ _ (c .before .before .before .before .before .before .before .before .before .before .before .before .before .before .before .take-up .ensures) _ _ (c .before .before .before .before .before .before .before .lists .given .1) _ (c .before .before .before .before .before .arities-of .ensures) _ false (c .before .side-answered .ensures) (not-true _ (c .if1 .taken))
+returns c = first-fails _ _ _ _ _ (c .before .before .before .before .before .before .before .before .before .before .before .before .before .before .before .before .before .before .before .before .before .before .before .pre .0) _ _ _ (c .before .before .before .before .before .before .before .before .before .before .before .before .before .before .before .take-up .ensures) _ _ (c .before .before .before .before .before .before .before .lists .given .1) _ (c .before .before .before .before .before .arities-of .ensures) _ false (c .before .side-answered .ensures) (not-true _ (c .if1 .taken))
 
 slice-aggregate-side-answered-2 : tie.Need-slice-aggregate-side-answered-2
 slice-aggregate-side-answered-2 c = search needs
 
 side-answered-requires-2 : tie.Need-side-answered-requires-2
-side-answered-requires-2 c κs = let few = c .before .before .before .before .before .before .before .before .before .before .before .before .before .before .before .before .before .before .take-up .ensures .few _ _ (c .before .before .before .before .before .before .before .before .before .before .lists .given .1) in omega (arith, few .0, few .1, c .before .before .before .before .before .before .before .before .before .before .before .before .before .before .before .before .before .before .before .before .before .before .before .before .before .pre .0, c .before .before .before .before .before .before .before .before .before .before .before .before .before .before .before .before .before .before .before .before .before .before .before .before .before .pre .1, c .before .before .before .before .before .before .before .before .before .before .before .before .before .before .before .before .before .before .before .before .before .before .before .before .before .pre .2, c .before .before .before .before .before .before .before .before .before .before .before .before .before .before .before .before .before .before .before .before .before .before .before .before .before .pre .3, c .before .before .before .before .before .before .before .before .before .before .before .before .before .before .before .before .before .before .before .before .before .before .before .before .before .pre .4)
+side-answered-requires-2 c κs = let few = c .before .before .before .before .before .before .before .before .before .before .before .before .before .before .before .before .before .before .take-up .ensures .few _ _ (c .before .before .before .before .before .before .before .before .before .before .lists .given .1) in omega (arith, few .0, few .1, c .before .before .before .before .before .before .before .before .before .before .before .before .before .before .before .before .before .before .before .before .before .before .before .before .before .before .pre .0, c .before .before .before .before .before .before .before .before .before .before .before .before .before .before .before .before .before .before .before .before .before .before .before .before .before .before .pre .1, c .before .before .before .before .before .before .before .before .before .before .before .before .before .before .before .before .before .before .before .before .before .before .before .before .before .before .pre .2, c .before .before .before .before .before .before .before .before .before .before .before .before .before .before .before .before .before .before .before .before .before .before .before .before .before .before .pre .3, c .before .before .before .before .before .before .before .before .before .before .before .before .before .before .before .before .before .before .before .before .before .before .before .before .before .before .pre .4)
 
 same-length-3 : tie.Need-same-length-3
 same-length-3 c = search needs
@@ -50,7 +50,7 @@ same-length-4 : tie.Need-same-length-4
 same-length-4 c = search needs
 
 returns-2 : tie.Need-returns-2
-returns-2 c = past-limit _ _ _ _ _ (c .before .before .before .before .before .before .before .before .before .before .before .before .before .before .before .pre .0) _ _ _ (c .before .before .before .before .before .before .before .before .take-up .ensures) (c .enum-told .given .1)
+returns-2 c = past-limit _ _ _ _ _ (c .before .before .before .before .before .before .before .before .before .before .before .before .before .before .before .before .pre .0) _ _ _ (c .before .before .before .before .before .before .before .before .take-up .ensures) (c .enum-told .given .1)
 
 same-length-5 : tie.Need-same-length-5
 same-length-5 c = search needs
@@ -59,7 +59,7 @@ same-length-6 : tie.Need-same-length-6
 same-length-6 c = search needs
 
 returns-3 : tie.Need-returns-3
-returns-3 c = second-decides _ _ _ _ _ (c .before .before .before .before .before .before .before .before .before .before .before .before .before .before .before .before .before .before .before .before .before .before .before .before .before .before .pre .0) _ _ _ (c .before .before .before .before .before .before .before .before .before .before .before .before .before .before .before .before .before .before .before .take-up .ensures) _ _ (c .before .before .before .before .before .before .before .before .before .before .before .lists .given .1) _ (c .before .before .before .before .before .before .before .before .before .arities-of .ensures) _ _ (c .before .before .before .before .before .side-answered .ensures) (not-false _ (c .before .before .before .before .if1 .left)) (c .side-answered2 .ensures)
+returns-3 c = second-decides _ _ _ _ _ (c .before .before .before .before .before .before .before .before .before .before .before .before .before .before .before .before .before .before .before .before .before .before .before .before .before .before .before .pre .0) _ _ _ (c .before .before .before .before .before .before .before .before .before .before .before .before .before .before .before .before .before .before .before .take-up .ensures) _ _ (c .before .before .before .before .before .before .before .before .before .before .before .lists .given .1) _ (c .before .before .before .before .before .before .before .before .before .arities-of .ensures) _ _ (c .before .before .before .before .before .side-answered .ensures) (not-false _ (c .before .before .before .before .if1 .left)) (c .side-answered2 .ensures)
 
 pub survives-spec : {M : Type 1} → statement M
 survives-spec =

@@ -15,12 +15,15 @@ use Rattle.verdict.proofs.strike.survives_passes.Statement.{statement}
 use Rattle.verdict.proofs.strike.survives_passes.Tie as tie
 
 abbrev Inv-loop : tie.InvT-loop
-Inv-loop question work₀ capacity count firsts₀ seconds₀ again₀ work firsts seconds again =
+Inv-loop question work₀ capacity count bodies firsts₀ seconds₀ again₀ work firsts seconds again =
     (length work ≡ length work₀) × (length firsts ≡ mostSteps * stepBytes) × (length seconds ≡ mostSteps * stepBytes)
     × Strikes question capacity count work₀ work × (again ≡ false → (getD work (struckAt 0) 0 ≡ 0) × AllSurvive question capacity work count)
 
 abbrev μ-loop : tie.MeasureT-loop
-μ-loop question work₀ capacity count firsts₀ seconds₀ again₀ work firsts seconds again = zeros (marks work count) + cond again 1 0
+μ-loop question work₀ capacity count bodies firsts₀ seconds₀ again₀ work firsts seconds again = zeros (marks work count) + cond again 1 0
+
+body-tallies-requires : tie.Need-body-tallies-requires Inv-loop μ-loop
+body-tallies-requires c κs = search needs
 
 loop-holds : tie.Need-loop-holds Inv-loop μ-loop
 loop-holds c = (refl, search needs, search needs, none-struck, λ q. true-not-false refl q)
@@ -30,6 +33,9 @@ slice-aggregate-strike-pass c = search needs
 
 slice-aggregate-strike-pass-2 : tie.Need-slice-aggregate-strike-pass-2 Inv-loop μ-loop
 slice-aggregate-strike-pass-2 c = search needs
+
+slice-aggregate-strike-pass-3 : tie.Need-slice-aggregate-strike-pass-3 Inv-loop μ-loop
+slice-aggregate-strike-pass-3 c = search needs
 
 strike-pass-requires : tie.Need-strike-pass-requires Inv-loop μ-loop
 strike-pass-requires c κs = search needs
@@ -41,17 +47,17 @@ same-length : tie.Need-same-length Inv-loop μ-loop
 same-length c = search needs
 
 returns : tie.Need-returns Inv-loop μ-loop
-returns c = start-goes _ _ _ _ _ _ _ _ (c .before .before .before .before .before .before .before .before .before .before .before .before .loop .inv .3) (c .before .before .before .before .before .before .before .strike-pass .ensures) (c .before .left-at .ensures) (not-true _ (c .if1 .taken))
+returns c = start-goes _ _ _ _ _ _ _ _ (c .before .before .before .before .before .before .before .before .before .before .before .before .before .loop .inv .3) (c .before .before .before .before .before .before .before .strike-pass .ensures) (c .before .left-at .ensures) (not-true _ (c .if1 .taken))
 
 loop-less : tie.Need-loop-less Inv-loop μ-loop
-loop-less c = pass-less _ _ _ _ _ _ _ (omega arith) (c .before .before .before .before .before .before .before .before .before .before .before .loop-test .taken) (c .before .before .before .before .before .before .before .strike-pass .ensures)
+loop-less c = pass-less _ _ _ _ _ _ _ (omega arith) (c .before .before .before .before .before .before .before .before .before .before .before .before .loop-test .taken) (c .before .before .before .before .before .before .before .strike-pass .ensures)
 
 loop-again : tie.Need-loop-again Inv-loop μ-loop
 loop-again c = (
   search needs,
   search needs,
   search needs,
-  strikes-then _ _ _ (c .before .before .before .before .before .before .before .before .before .before .before .before .loop .inv .3) (c .before .before .before .before .before .before .before .strike-pass .ensures .strikes),
+  strikes-then _ _ _ (c .before .before .before .before .before .before .before .before .before .before .before .before .before .loop .inv .3) (c .before .before .before .before .before .before .before .strike-pass .ensures .strikes),
   λ q. (left-zero _ _ _ (c .before .left-at .ensures) (not-false _ (c .if1 .left)), c .before .before .before .before .before .before .before .strike-pass .ensures .none q),
 )
 
@@ -67,9 +73,11 @@ survives-passes-spec =
     (tie.spec
     Inv-loop
     μ-loop
+    body-tallies-requires
     loop-holds
     slice-aggregate-strike-pass
     slice-aggregate-strike-pass-2
+    slice-aggregate-strike-pass-3
     strike-pass-requires
     left-at-requires
     same-length
