@@ -1,7 +1,7 @@
 -- The chains of the buckets: a key is found along them, and what keeps them. Assumes nothing.
-use mathlib.Core.Path.{_≡_, refl, sym, ap, ap₂, _∙_}
+use mathlib.Core.Path.{_≡_, refl, sym, ap, _∙_}
 use mathlib.Core.Bool.{Bool, true, false, cond}
-use mathlib.Core.List.{List, [], _∷_, _++_}
+use mathlib.Core.List.{List, [], _∷_}
 use mathlib.Core.Logic.{⊎-elim}
 use Prim.Native.Nat.{ℕ, zero, suc, _+_, _-_, _*_, _/_, _%_, _<_, _≤_}
 use native.Mathlib.Decide.{decLt}
@@ -9,81 +9,66 @@ use native.Mathlib.Nat.{eq-or-lt-of-le, mod-lt}
 use native.Mathlib.Numerals.{add-one}
 use native.Mathlib.Omega.{arith}
 use borrow.Author.Count.{below-more}
-use borrow.Author.Tests.{eqb-true, eqb-false, eq-eqb, ne-eqb, ltb-true, ltb-false}
-use lib.Dec.{eqb, ltb}
+use borrow.Author.Tests.{eqb-true, eqb-false, eq-eqb, ne-eqb}
+use lib.Dec.{eqb}
 use lib.ListN.{length, getD, take, drop, set, length-set, length-take, length-drop}
-use lib.Seq.{sets, length-sets, take-suc, take-all, take-take, getD-set-same, getD-set-other, drop-set-lt, getD-take, length-take-le, ext-getD}
+use lib.Seq.{sets, length-sets, take-take, getD-set-same, getD-set-other, drop-set-lt, getD-take, ext-getD}
 use Rattle.terms.specs.FieldPlaces.{sizeAt}
-use Rattle.terms.proofs.Stores.{span, length-span, getD-span}
+use Rattle.terms.proofs.Stores.{span, getD-span}
 use Rattle.steps.proofs.Moves.{getD-before}
-use Rattle.field.specs.Chains.{mixed, spread, usedAt, spreadKey, bucketOf, bucketAt, BucketIs, headPlace, linkPlace, headAt, nextAt, putNumber, lastWith, lastIn, Chained, KeepsKeys, Clears, LinkIs, FindsIn}
+use Rattle.field.specs.Chains.{wordAt, folded, mixed, spread, bucketOf, bucketAt, BucketIs, headPlace, linkPlace, headAt, nextAt, putNumber, lastWith, lastIn, Chained, KeepsKeys, Clears, LinkIs, FindsIn}
 use Rattle.field.specs.Key.{keyAt, SameKeyIs, FoundIs}
-use Rattle.field.specs.Slot.{octets, keyBytes, slotBytes}
+use Rattle.field.specs.Slot.{keyBytes, slotBytes}
 use Rattle.field.specs.declared.find.Found.the-variants.{At, Nothing}
 use Rattle.field.proofs.KeyLaws.{found-at, other-slot}
 
--- One more byte.
-spread-snoc : (h : ℕ) (xs : List ℕ) (b : ℕ) → spread h (xs ++ (b ∷ [])) ≡ mixed (spread h xs) b
+-- Sixteen bytes more.
+pub mixed-is : (h : ℕ) (key : List ℕ) (at a b c d : ℕ) → a ≡ wordAt key at → b ≡ wordAt key (at + 4) → c ≡ wordAt key (at + 8) → d ≡ wordAt key (at + 12)
+    → folded (h * 252097829 + a * 261828187 + b * 141421387 + c * 173205089 + d * 223606807) ≡ mixed h key at
+unfolding mixed
+mixed-is h key at a b c d p q r s = rw (p, q, r, s)
+
+pub spread-next : (key : List ℕ) (i h r : ℕ) → h ≡ spread key i → r ≡ mixed h key (16 * i) → r ≡ spread key (i + 1)
 unfolding spread
-spread-snoc h [] b = refl
-spread-snoc h (x ∷ xs) b = spread-snoc (mixed h x) xs b
+spread-next key i h r e f = f ∙ rw (add-one, e)
 
-pub spread-next : (seed : ℕ) (bytes : List ℕ) (i h : ℕ) → i < length bytes → h ≡ spread seed (take i bytes)
-    → mixed h (getD bytes i 0) ≡ spread seed (take (i + 1) bytes)
-spread-next seed bytes i h l e = rw (add-one, take-suc bytes i 0 l, spread-snoc, e)
+pub spread-whole : (key : List ℕ) (i h : ℕ) → i ≡ 15 → h ≡ spread key i → h ≡ spread key 15
+spread-whole key i h q e = e ∙ ap (spread key) q
 
-pub spread-whole : (seed : ℕ) (bytes : List ℕ) (i h : ℕ) → length bytes ≤ i → h ≡ spread seed (take i bytes) → h ≡ spread seed bytes
-spread-whole seed bytes i h l e = e ∙ ap (spread seed) (take-all i bytes l)
+-- Only the bytes of the key are taken in.
+word-front : (key : List ℕ) (at : ℕ) → at + 4 ≤ keyBytes → wordAt (take keyBytes key) at ≡ wordAt key at
+unfolding wordAt
+word-front key at h =
+    rw (
+      getD-take keyBytes key at 0 (omega arith),
+      getD-take keyBytes key (at + 1) 0 (omega arith),
+      getD-take keyBytes key (at + 2) 0 (omega arith),
+      getD-take keyBytes key (at + 3) 0 (omega arith),
+    )
 
--- The bytes that say something.
-pub used-some : (key : List ℕ) (at n : ℕ) → n ≡ getD key at 0 → n < 113 → 1 + n ≡ usedAt key at
-unfolding usedAt
-used-some key at n e l = rw e (go (ltb (getD key at 0) 113) refl)
-  where
-    go : (t : Bool) → ltb (getD key at 0) 113 ≡ t → 1 + getD key at 0 ≡ cond t (1 + getD key at 0) 113
-    go true q = refl
-    go false q = absurd (omega (arith, ltb-false (getD key at 0) 113 q))
+mixed-front : (h : ℕ) (key : List ℕ) (at : ℕ) → at + 16 ≤ keyBytes → mixed h (take keyBytes key) at ≡ mixed h key at
+unfolding mixed
+mixed-front h key at l =
+    rw (
+      word-front key at (omega arith),
+      word-front key (at + 4) (omega arith),
+      word-front key (at + 8) (omega arith),
+      word-front key (at + 12) (omega arith),
+    )
 
-pub used-all : (key : List ℕ) (at n : ℕ) → n ≡ getD key at 0 → 113 ≤ n → 113 ≡ usedAt key at
-unfolding usedAt
-used-all key at n e l = go (ltb (getD key at 0) 113) refl
-  where
-    go : (t : Bool) → ltb (getD key at 0) 113 ≡ t → 113 ≡ cond t (1 + getD key at 0) 113
-    go true q = absurd (omega (arith, ltb-true (getD key at 0) 113 q))
-    go false q = refl
-
--- A piece of the front of a list.
-span-front : (s : List ℕ) (m at n : ℕ) → at + n ≤ m → m ≤ length s → span (take m s) at n ≡ span s at n
-span-front s m at n h l =
-    ext-getD 0 (span (take m s) at n) (span s at n) (long ∙ sym (length-span s at n (omega arith)))
-    (λ i k.
-    let b : i < n = omega (arith, long) in
-    getD-span (take m s) at n i b ∙ getD-take m s (at + i) 0 (omega arith) ∙ sym (getD-span s at n i b))
-  where
-    long : length (span (take m s) at n) ≡ n
-    long = length-span (take m s) at n (omega (arith, length-take-le m s l))
-
-used-front : (key : List ℕ) (at : ℕ) → at < keyBytes → usedAt (take keyBytes key) at ≡ usedAt key at
-unfolding usedAt
-used-front key at h = rw (getD-take keyBytes key at 0 h)
+spread-front : (key : List ℕ) (n : ℕ) → n ≤ 15 → spread (take keyBytes key) n ≡ spread key n
+unfolding spread
+spread-front key zero h = getD-take keyBytes key 240 0 (omega arith)
+spread-front key (suc n) h =
+    mixed-front (spread (take keyBytes key) n) key (16 * n) (omega arith) ∙ ap (λ k. mixed k key (16 * n)) (spread-front key n (omega arith))
 
 -- The bucket of the key that bytes begin with, as the code makes it.
-module _ (capacity : ℕ) (key : List ℕ) (lk : keyBytes ≤ length key) where
-  pub key-spread : (first second one two h : ℕ) → first ≡ usedAt key 0 → first ≤ 113 → second ≡ usedAt key 113 → second ≤ 113
-      → one ≡ spread 0 (take (first - 0) (drop 0 key)) → two ≡ spread one (take (113 + second - 113) (drop 113 key)) → h ≡ spread two (take (241 - 226) (drop 226 key))
-      → h ≡ spreadKey (take keyBytes key)
-  unfolding spreadKey
-  key-spread first second one two h f fl s sl e₁ e₂ e₃ =
-      let n : first - 0 ≡ usedAt (take keyBytes key) 0 = omega (arith, f, used-front key 0 (omega arith)) in
-      let m : 113 + second - 113 ≡ usedAt (take keyBytes key) 113 = omega (arith, s, used-front key 113 (omega arith)) in
-      let a : take (first - 0) (drop 0 key) ≡ take (usedAt (take keyBytes key) 0) (drop 0 (take keyBytes key)) = ap (λ k. take k (drop 0 key)) n ∙ sym (span-front key keyBytes 0 (usedAt (take keyBytes key) 0) (omega (arith, f, n)) lk) in
-      let b : take (113 + second - 113) (drop 113 key) ≡ take (usedAt (take keyBytes key) 113) (drop 113 (take keyBytes key)) = ap (λ k. take k (drop 113 key)) m ∙ sym (span-front key keyBytes 113 (usedAt (take keyBytes key) 113) (omega (arith, s, m)) lk) in
-      let d : take octets (drop 226 key) ≡ take octets (drop 226 (take keyBytes key)) = sym (span-front key keyBytes 226 octets (omega arith) lk) in
-      e₃ ∙ ap₂ spread (e₂ ∙ ap₂ spread (e₁ ∙ ap (spread 0) a) b) d
-
-  pub bucket-is : (h : ℕ) → 1 ≤ capacity → h ≡ spreadKey (take keyBytes key) → BucketIs capacity (take keyBytes key) ((h + h / 65536) % capacity)
-  unfolding bucketOf
-  bucket-is h pos e = record { is = ap (λ n. (n + n / 65536) % capacity) e; within = mod-lt (h + h / 65536) pos }
+pub bucket-is : (capacity : ℕ) (key : List ℕ) → 1 ≤ capacity → (h : ℕ) → h ≡ spread key 15 → BucketIs capacity (take keyBytes key) (h % capacity)
+unfolding bucketOf
+bucket-is capacity key pos h e = record {
+  is = ap (λ n. n % capacity) (e ∙ sym (spread-front key 15 (omega arith)));
+  within = mod-lt h pos;
+}
 
 -- Two bytes.
 length-put : (work : List ℕ) (at n : ℕ) → length (putNumber work at n) ≡ length work

@@ -50,7 +50,7 @@ permitted-apart (p ∷ D) s e a b (inr (inr h)) z =
     let c : ℕ → ℕ = classIn (s .classes) in
     permitted-apart D s (both-true (not (eqb (c (p .0)) (c (p .1)))) (permitted D s) e .1) a b h z
 
-apart-permitted : (D : Pairs) (s : ListedStep) → ((a b : ℕ) → Apart D a b → classIn (s .classes) a ≢ classIn (s .classes) b)
+pub apart-permitted : (D : Pairs) (s : ListedStep) → ((a b : ℕ) → Apart D a b → classIn (s .classes) a ≢ classIn (s .classes) b)
     → permitted D s ≡ true
 unfolding permitted
 apart-permitted [] s h = refl
@@ -76,7 +76,7 @@ implies-in c d (m ∷ ns) e n (inl h) =
 implies-in c d (m ∷ ns) e n (inr h) =
     implies-in c d ns (both-true (eqb (classIn c (classIn d m)) (classIn c m)) (implies c d ns) e .1) n h
 
-in-implies : (c d ns : List ℕ) → ((n : ℕ) → classIn c (classIn d n) ≡ classIn c n) → implies c d ns ≡ true
+pub in-implies : (c d ns : List ℕ) → ((n : ℕ) → classIn c (classIn d n) ≡ classIn c n) → implies c d ns ≡ true
 unfolding implies
 in-implies c d [] h = refl
 in-implies c d (n ∷ ns) h =

@@ -3,16 +3,19 @@ use mathlib.Core.Path.{_≡_, refl, sym, ap, ap₂, _∙_}
 use mathlib.Core.Bool.{Bool, true, false, _&&_}
 use mathlib.Core.List.{List, [], _∷_, _++_, append-assoc}
 use Prim.Native.Nat.{ℕ, zero, suc, _+_, _-_, _<_, _≤_}
+use native.Mathlib.Decide.{decLt}
 use native.Mathlib.Omega.{arith}
-use lib.ListN.{length, getD, drop, replicate, List·getD-append, List·getD-eq-default}
+use lib.ListN.{length, getD, drop, replicate, length-append, length-drop, List·getD-append, List·getD-eq-default}
 use lib.Seq.{drop-drop, drop-append-add, getD-drop, getD-append-add}
 use lib.Dec.{eqb}
 use borrow.Author.Tests.{eq-eqb, ne-eqb}
 use Rattle.terms.specs.Limits.{nameCount, longestTerm}
 use Rattle.steps.specs.Listed.{ListedStep, namesFrom, classIn, resultBytes, bytes}
-use Rattle.field.specs.Entry.{EntryAt, ClassOfIs, BindsIs, ImpliesIs, AnswersIs}
+use Rattle.field.specs.Entry.{EntryAt, ClassOfIs, TrivialIs, BindsIs, ImpliesIs, AnswersIs}
 use Rattle.field.specs.Slot.{partBytes}
 use Rattle.field.specs.Successors.{answers, bindsName, implies}
+use Rattle.field.proofs.ClassTests.{in-implies}
+use Rattle.field.proofs.Counting.{Passing}
 
 -- what stands behind the end matters not within
 pub inside : (l : List ℕ) (n a b : ℕ) → n < length l → getD l n a ≡ getD l n b
@@ -56,12 +59,40 @@ module _ (area : List ℕ) (at : ℕ) (s : ListedStep) (e : EntryAt area at s) w
   unfolding classIn
   entry-alone n l = sym (List·getD-eq-default (s .classes) n (omega (arith, e .count)))
 
+  pub entry-long : at + 19 ≤ length area
+  unfolding tail
+  entry-long =
+      omega (arith, e .count, length-drop at area, ap length laid, length-append (s .classes) tail)
+
   -- the result stands as a part does
   pub entry-result : drop (at + 19) area ≡ partBytes (s .result) ++ e .rest
   unfolding partBytes tail resultBytes
   entry-result =
       let n : length (s .classes) + 3 ≡ 19 = ap (λ m. m + 3) (e .count) in
       sym (drop-drop 19 at area) ∙ ap (drop 19) laid ∙ rw (← n) (drop-append-add (s .classes) tail 3)
+
+-- Each name is its own class.
+abbrev pub OwnClass : List ℕ → ℕ → ℕ → Type 0
+OwnClass area at n = getD area (at + n) 0 ≡ n
+
+pub trivial-is : (area : List ℕ) (at i : ℕ) (t : Bool) → nameCount ≤ i → Passing (OwnClass area at) i t → TrivialIs area at t
+unfolding TrivialIs
+trivial-is area at i t past so q s e m = go (decLt m nameCount)
+  where
+    go : Dec (m < nameCount) → classIn (s .classes) m ≡ m
+    go (yes l) = sym (entry-class area at s e m l) ∙ so q m (omega arith)
+    go (no l) = sym (entry-alone area at s e m (omega arith))
+
+pub not-trivial : (area : List ℕ) (at : ℕ) → TrivialIs area at false
+unfolding TrivialIs
+not-trivial area at q = let z : _≡_ {A = ℕ} 0 1 = cc in absurd (omega arith)
+
+-- What merges no names is implied.
+pub implied-trivial : (area : List ℕ) (at : ℕ) (others : List ℕ) (place : ℕ) (r : Bool) → TrivialIs others place r → r ≡ true
+    → ImpliesIs area at others place true
+unfolding TrivialIs ImpliesIs
+implied-trivial area at others place r h q s t e f =
+    sym (in-implies (s .classes) (t .classes) (namesFrom 0 nameCount) (λ n. ap (classIn (s .classes)) (h q t f n)))
 
 -- The test of implication name by name: those below n agree.
 abbrev pub Implied : List ℕ → ℕ → List ℕ → ℕ → ℕ → Type 0
@@ -115,6 +146,15 @@ third-fails true false c d e = refl
 third-fails false b c d e = refl
 
 module _ (area : List ℕ) (at : ℕ) (others : List ℕ) (place : ℕ) where
+  -- what is too short to have an action stands in no list
+  pub answers-short : length area < at + 19 → AnswersIs area at others place false
+  unfolding AnswersIs
+  answers-short h s t e f = absurd (omega (arith, entry-long area at s e))
+
+  pub answers-other-short : length others < place + 19 → AnswersIs area at others place false
+  unfolding AnswersIs
+  answers-other-short h s t e f = absurd (omega (arith, entry-long others place t f))
+
   pub answers-kind : (getD area (at + 16) 0 ≡ getD others (place + 16) 0 → ⊥) → AnswersIs area at others place false
   unfolding AnswersIs answers
   answers-kind k s t e f =

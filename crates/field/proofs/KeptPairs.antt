@@ -100,6 +100,20 @@ unfolding situation freeIn allPairs
 situation-kept P Q E =
     sym (ap (keep (holdsApart E)) (pairs-kept (fn P ++ fn Q) 0 nameCount) ∙ keep-keep (holdsApart E) (both (fn P ++ fn Q)) (pairsOf (namesFrom 0 nameCount)))
 
+-- Where no pair of names is apart, none is kept.
+keep-none : (f : ℕ → ℕ → Bool) (L : Pairs) → ((k : ℕ) → k < length L → f (getD L k (0, 0) .0) (getD L k (0, 0) .1) ≡ false) → keep f L ≡ []
+unfolding keep
+keep-none f [] h = refl
+keep-none f (p ∷ L) h = rw (h 0 (omega arith)) (keep-none f L (λ k l. h (suc k) (omega arith)))
+
+pub none-kept : (P Q : Term) (E : Pairs) → ((k : ℕ) → k < pairCount → holdsApart E (pairAt k .0) (pairAt k .1) ≡ false)
+    → situation nameCount P Q E .apart ≡ []
+unfolding pairAt
+none-kept P Q E h =
+    sym (situation-kept P Q E)
+    ∙ keep-none (λ a b. holdsApart E a b && (among (fn P ++ fn Q) a && among (fn P ++ fn Q) b)) allPairs
+    (λ k l. rw (h k (omega (arith, length-pairs))))
+
 -- The pairs of names that a distinction holds apart.
 kept-apart : (E L : Pairs) (a b : ℕ) → Apart (keep (holdsApart E) L) a b → Apart E a b
 unfolding keep

@@ -5,6 +5,8 @@ use mathlib.Core.List.{List, [], _∷_, _++_, map, append-assoc}
 use Prim.Native.Nat.{ℕ, zero, suc, _+_, _-_, _*_, _/_, _%_, _^_, _<_, _≤_}
 use native.Mathlib.Decide.{decLt}
 use native.Mathlib.Omega.{arith}
+use borrow.Author.Tests.{eqb-true, eqb-false}
+use lib.Dec.{eqb}
 use lib.ListN.{length, getD, take, drop, set, replicate, length-append, length-drop, length-replicate, List·getD-map, List·getD-eq-default}
 use lib.Seq.{sets, drop-drop, drop-at, take-at, getD-take, getD-drop, length-take-le, ext-getD}
 use Rattle.calculus.specs.Cond.{Pairs}
@@ -20,6 +22,7 @@ use Rattle.field.specs.PairFlags.{pairCount, pairAt}
 use Rattle.field.specs.Situation.{Situation}
 use Rattle.field.specs.Slot.{partBytes, flag, flagsOf, octet, octets, packed, keyOf, keyBytes, slotBytes}
 use Rattle.field.specs.declared.find.Found.the-variants.{At}
+use Rattle.field.proofs.Counting.{Failing}
 use Rattle.field.proofs.EntryLaws.{inside}
 use Rattle.field.proofs.PairLaws.{length-flags, flag-at}
 
@@ -219,23 +222,25 @@ unfolding Unpacks ApartFlagsIs
 apart-is area at r u s h = u (s .apart) (h .rest) (key-bits area at s h)
 
 -- Equal keys.
+abbrev pub SameByte : List ℕ → ℕ → List ℕ → ℕ → Type 0
+SameByte area at key j = getD area (at + j) 0 ≡ getD key j 0
+
 module _ (area : List ℕ) (at : ℕ) (key : List ℕ) (la : at + keyBytes ≤ length area) (lk : keyBytes ≤ length key) where
   read : (i : ℕ) → i < keyBytes → getD (take keyBytes (drop at area)) i 0 ≡ getD area (at + i) 0
   read i l = getD-take keyBytes (drop at area) i 0 l ∙ getD-drop at area i 0
 
-  pub key-same : (i : ℕ) → keyBytes ≤ i → ((j : ℕ) → j < i → getD area (at + j) 0 ≡ getD key j 0) → SameKeyIs area at key true
-  key-same i h so = record {
+  -- the number of bytes that differ is 0
+  pub key-is : (i n : ℕ) → i ≡ keyBytes → Failing (SameByte area at key) i n → SameKeyIs area at key (eqb n 0)
+  key-is i n past so = record {
     same = λ q. ext-getD 0 (take keyBytes (drop at area)) (take keyBytes key) (length-span area at keyBytes la ∙ sym (length-take-le keyBytes key lk))
         (λ j l.
         let m : j < keyBytes = omega (arith, length-span area at keyBytes la) in
-        read j m ∙ so j (omega arith) ∙ sym (getD-take keyBytes key j 0 m));
-    other = λ q. let z : _≡_ {A = ℕ} 0 1 = cc in absurd (omega arith);
-  }
-
-  pub key-other : (i : ℕ) → i < keyBytes → (getD area (at + i) 0 ≡ getD key i 0 → ⊥) → SameKeyIs area at key false
-  key-other i l k = record {
-    same = λ q. let z : _≡_ {A = ℕ} 0 1 = cc in absurd (omega arith);
-    other = λ q e. k (sym (read i l) ∙ ap (λ x. getD x i 0) e ∙ getD-take keyBytes key i 0 l);
+        read j m ∙ so .none (eqb-true n 0 q) j (omega arith) ∙ sym (getD-take keyBytes key j 0 m));
+    other = λ q e.
+        let all : n ≡ 0 = so .all (λ j l.
+        let m : j < keyBytes = omega arith in
+        sym (read j m) ∙ ap (λ x. getD x j 0) e ∙ getD-take keyBytes key j 0 m) in
+        eqb-false n 0 q all;
   }
 
 -- Which slot has the key.

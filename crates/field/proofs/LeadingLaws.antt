@@ -4,27 +4,31 @@ use mathlib.Core.Bool.{Bool, true, false}
 use mathlib.Core.List.{List, [], _++_, append-assoc, append-nil}
 use Prim.Native.Nat.{ℕ, _≤_}
 use native.Mathlib.Omega.{arith}
-use lib.ListN.{length, drop, length-append, length-drop}
+use lib.ListN.{length, drop, replicate, length-append, length-drop}
 use lib.Seq.{sets, drop-at}
 use Rattle.calculus.specs.Cond.{Pairs}
 use Rattle.calculus.specs.Term.{Term, ren}
 use Rattle.terms.specs.Encoding.{encode, InScope}
 use Rattle.terms.specs.Limits.{nameCount, longestTerm}
+use Rattle.terms.specs.Operations.{holdsApart}
 use Rattle.terms.proofs.RenamingKeeps.{scope-ren}
 use Rattle.terms.proofs.Shapes.{length-ren}
 use Rattle.terms.proofs.Stores.{sets-join, sets-middle, sets-start}
-use Rattle.steps.specs.Listed.{ListedStep, classIn, resultBytes}
+use Rattle.steps.specs.Listed.{ListedStep, namesFrom, classIn, resultBytes}
 use Rattle.field.specs.Entry.{EntryAt}
 use Rattle.field.specs.Key.{PartIs, Packs}
 use Rattle.field.specs.Leading.{placed, leading, PartsStand, PlacesResults, FreeOfParts, CompletesKey, SuccessorIs}
 use Rattle.field.specs.NameFlags.{FreeInEitherIs}
+use Rattle.field.specs.PairFlags.{NoneApartIs}
 use Rattle.field.specs.Resulting.{CopiesResult, RewritesResult}
-use Rattle.field.specs.Situation.{freeFrom, situation}
-use Rattle.field.specs.Slot.{partBytes, flagsOf, packed, keyOf, keyBytes}
+use Rattle.field.specs.Situation.{freeFrom, pairsOf, situation}
+use Rattle.field.specs.Slot.{partBytes, allPairs, flag, flagsOf, octet, octets, packed, keyOf, keyBytes}
 use Rattle.field.specs.Successors.{updatedBy}
 use Rattle.field.specs.Update.{KeptIs, UpdatedIs}
+use Rattle.field.proofs.KeptPairs.{none-kept}
 use Rattle.field.proofs.KeyLaws.{length-part, length-packed}
 use Rattle.field.proofs.KeysDiffer.{Fits}
+use Rattle.field.proofs.UpdateLaws.{pair-off}
 
 -- The parts that stand at the front of a key.
 pub free-of-parts : (key arities first second free : List ℕ) → PartIs key 0 first → PartIs key 113 second → FreeInEitherIs first second arities free
@@ -34,19 +38,38 @@ free-of-parts key arities first second free p q f P Q h =
     f P Q (h .scope) (h .scope₂) (p P (partBytes Q ++ h .rest) (h .there))
     (q Q (h .rest) (ap (drop 113) (h .there) ∙ drop-at (partBytes P) (partBytes Q ++ h .rest) 113 (length-part P (h .fits))))
 
--- The pairs take their place behind them.
-pub completes : (arities key free apart flags key′ : List ℕ) → FreeOfParts key arities free → KeptIs apart free flags → Packs flags key 226 key′
-    → CompletesKey arities apart key key′
-unfolding FreeOfParts KeptIs Packs CompletesKey keyOf situation
-completes arities key free apart flags key′ f k p P Q E h e =
+-- The flags of the pairs that are kept take their place behind them.
+completed : (arities key apart flags key′ : List ℕ)
+    → ((P Q : Term) (E : Pairs) → PartsStand arities key P Q → apart ≡ flagsOf E → flags ≡ flagsOf (situation nameCount P Q E .apart))
+    → Packs flags key 226 key′ → CompletesKey arities apart key key′
+unfolding Packs CompletesKey keyOf situation
+completed arities key apart flags key′ k p P Q E h e =
     let E′ : Pairs = situation nameCount P Q E .apart in
     let bits : List ℕ = packed (flagsOf E′) in
     let parts : List ℕ = partBytes P ++ partBytes Q in
     let t : key ≡ parts ++ (h .rest ++ []) = h .there ∙ simp (append-assoc, append-nil) in
     let n : 226 ≡ length parts = omega (arith, length-append (partBytes P) (partBytes Q), length-part P (h .fits), length-part Q (h .fits₂)) in
-    p E′ (k P Q E (f P Q h) e) ∙ ap (λ l. sets l 226 bits) t
+    p E′ (k P Q E h e) ∙ ap (λ l. sets l 226 bits) t
     ∙ sets-middle parts (h .rest) [] bits 226 n (length-packed (flagsOf E′) ∙ sym (h .bits))
     ∙ simp (append-assoc, append-nil)
+
+pub completes : (arities key free apart flags key′ : List ℕ) → FreeOfParts key arities free → KeptIs apart free flags → Packs flags key 226 key′
+    → CompletesKey arities apart key key′
+unfolding FreeOfParts KeptIs
+completes arities key free apart flags key′ f k p = completed arities key apart flags key′ (λ P Q E h e. k P Q E (f P Q h) e) p
+
+-- Where no flag is set, none is kept.
+no-bits : replicate octets 0 ≡ packed (flagsOf [])
+unfolding packed octet flagsOf allPairs pairsOf namesFrom holdsApart flag
+no-bits = refl
+
+pub completes-none : (arities key apart : List ℕ) (r : Bool) (key′ : List ℕ) → NoneApartIs apart r → r ≡ true
+    → key′ ≡ sets key 226 (replicate octets 0) → CompletesKey arities apart key key′
+unfolding NoneApartIs Packs
+completes-none arities key apart r key′ n q w =
+    completed arities key apart (flagsOf []) key′
+    (λ P Q E h e. ap flagsOf (sym (none-kept P Q E (λ k l. pair-off apart k l E e (n q k l)))))
+    (λ D e. w ∙ ap (sets key 226) (no-bits ∙ ap packed e))
 
 module _ (arities : List ℕ) (second : Bool) (area : List ℕ) (at : ℕ) (others : List ℕ) (place : ℕ) where
   -- the results fit

@@ -1,5 +1,6 @@
 pub mod ChainLaws
 pub mod ClassTests
+pub mod Counting
 pub mod EntryLaws
 pub mod Explored
 pub mod ExploringLaws

@@ -19,10 +19,12 @@ use Rattle.terms.specs.Operations.{holdsApart}
 use Rattle.terms.proofs.Answers.{both-true}
 use Rattle.terms.proofs.ApartLaws.{holds-apart, apart-holds}
 use Rattle.steps.specs.Listed.{ListedStep, classIn}
-use Rattle.field.specs.Entry.{EntryAt, ClassOfIs}
-use Rattle.field.specs.PairFlags.{pairCount, pairAt, NumberIs, AddsPair, MergesIs, PermittedIs}
+use Rattle.field.specs.Entry.{EntryAt, ClassOfIs, TrivialIs}
+use Rattle.field.specs.PairFlags.{pairCount, pairAt, NumberIs, AddsPair, NoneApartIs, MergesIs, PermittedIs}
 use Rattle.field.specs.Slot.{allPairs, flag, flagsOf}
 use Rattle.field.specs.Successors.{permitted}
+use Rattle.field.proofs.ClassTests.{apart-permitted}
+use Rattle.field.proofs.Counting.{Passing}
 use Rattle.field.proofs.EntryLaws.{inside, entry-alone}
 use Rattle.field.proofs.PairTables.{rows, number-right, pair-ordered, pair-below, pair-once, length-pairs}
 
@@ -84,6 +86,18 @@ module _ (flags : List ℕ) (a b : ℕ) where
           ∙ ap flag (sym (other-pair a b (pairAt k .0) (pairAt k .1) D
           (λ x y. d (pair-once k n h (is .below) (sym (is .first ∙ x)) (sym (is .second ∙ y))))
           (λ x y. omega (arith, is .first, is .second))))
+
+-- No flag is set.
+abbrev pub Unset : List ℕ → ℕ → Type 0
+Unset flags k = getD flags k 0 ≡ 0
+
+pub none-apart-is : (flags : List ℕ) (i : ℕ) (t : Bool) → pairCount ≤ i → Passing (Unset flags) i t → NoneApartIs flags t
+unfolding NoneApartIs
+none-apart-is flags i t past so q k l = so q k (omega arith)
+
+pub may-be-apart : (flags : List ℕ) → NoneApartIs flags false
+unfolding NoneApartIs
+may-be-apart flags q = let z : _≡_ {A = ℕ} 0 1 = cc in absurd (omega arith)
 
 -- the order of a pair means nothing
 pub adds-swapped : (flags : List ℕ) (a b : ℕ) (flags′ : List ℕ) → AddsPair flags b a flags′ → AddsPair flags a b flags′
@@ -163,6 +177,12 @@ module _ (flags area : List ℕ) (at : ℕ) where
       let (p, q) = both-true (holdsApart D (pairAt k .0) (pairAt k .1)) (eqb (c (pairAt k .0)) (c (pairAt k .1))) (sym (h D s e f)) in
       sym (merged-refused D s (pairAt k .0) (pairAt k .1) (holds-apart D (pairAt k .0) (pairAt k .1) p) (eqb-true (c (pairAt k .0)) (c (pairAt k .1)) q))
 
+  pub permitted-trivial : (r : Bool) → TrivialIs area at r → r ≡ true → PermittedIs flags area at true
+  unfolding TrivialIs PermittedIs
+  permitted-trivial r h q D s irr e f =
+      let own : (n : ℕ) → classIn (s .classes) n ≡ n = h q s f in
+      sym (apart-permitted D s (λ a b d z. irr a b d (sym (own a) ∙ z ∙ own b)))
+
   pub none-merged : (k : ℕ) → pairCount ≤ k → Respected flags area at k → PermittedIs flags area at true
   unfolding PermittedIs
   none-merged k past so D s irr e f = go (permitted D s) refl
@@ -215,3 +235,9 @@ module _ (flags : List ℕ) (k : ℕ) (area : List ℕ) (at : ℕ) (h : k < pair
       go : (t : Bool) → holdsApart D (pairAt k .0) (pairAt k .1) ≡ t → eqb a b ≡ (t && eqb (classIn (s .classes) (pairAt k .0)) (classIn (s .classes) (pairAt k .1)))
       go true u = ap₂ eqb (p s f) (q s f)
       go false u = absurd (z (held D e false u))
+
+-- Where no pair is apart every step is permitted.
+pub permitted-none : (flags area : List ℕ) (at : ℕ) (r : Bool) → NoneApartIs flags r → r ≡ true → PermittedIs flags area at true
+unfolding NoneApartIs MergesIs
+permitted-none flags area at r n q =
+    none-merged flags area at pairCount (omega arith) (λ D s e f j l. sym (merges-none flags j area at l (n q j l) D s e f))

@@ -1,11 +1,13 @@
 -- A result copied as a part, and one rewritten by a condition. Assumes nothing.
-use mathlib.Core.Path.{_≡_, refl, sym, ap, _∙_}
+use mathlib.Core.Path.{_≡_, refl, sym, ap, fun-ext, _∙_}
+use mathlib.Core.Bool.{Bool, true}
 use mathlib.Core.List.{List, [], _∷_, _++_}
 use Prim.Native.Nat.{ℕ, suc, _+_, _-_, _<_, _≤_}
 use native.Mathlib.Omega.{arith}
 use lib.ListN.{length, getD, take, drop, set, replicate}
 use lib.Seq.{sets, set-set, set-comm, take-at, getD-take, getD-drop, length-sets}
 use Rattle.calculus.specs.Term.{ren}
+use Rattle.calculus.proofs.Renaming.{ren-id}
 use Rattle.terms.specs.Encoding.{encode, InScope}
 use Rattle.terms.specs.Limits.{nameCount, longestTerm}
 use Rattle.terms.specs.Renaming.{RenameIs}
@@ -13,7 +15,7 @@ use Rattle.terms.proofs.NameTables.{represents-free}
 use Rattle.terms.proofs.Shapes.{length-ren}
 use Rattle.steps.specs.Limits.{stepBytes}
 use Rattle.steps.specs.Listed.{ListedStep, classIn, resultBytes}
-use Rattle.field.specs.Entry.{EntryAt}
+use Rattle.field.specs.Entry.{EntryAt, TrivialIs}
 use Rattle.field.specs.Resulting.{CopiesResult, RewritesResult}
 use Rattle.field.specs.Slot.{partBytes}
 use Rattle.field.proofs.EntryLaws.{entry-class, entry-result}
@@ -26,6 +28,15 @@ copies-result area at slot put slot′ w s e =
     let n : at + 18 + 1 ≡ at + 19 = omega arith in
     w ∙ ap (sets slot put) (ap (λ k. take 113 (drop k area)) n ∙ ap (take 113) (entry-result area at s e)
     ∙ take-at (partBytes (s .result)) (e .rest) 113 (length-part (s .result) (e .fits)))
+
+-- What merges no names rewrites nothing.
+pub copied-trivial : (area : List ℕ) (at : ℕ) (others : List ℕ) (place : ℕ) (arities slot : List ℕ) (put : ℕ) (slot₁ : List ℕ)
+    → CopiesResult others place slot put slot₁ → (r : Bool) → TrivialIs area at r → r ≡ true
+    → RewritesResult area at others place arities slot put slot₁
+unfolding CopiesResult TrivialIs RewritesResult
+copied-trivial area at others place arities slot put slot₁ w r h q s t e f scope =
+    let P = t .result in
+    w t f ∙ ap (λ Q. sets slot put (partBytes Q)) (sym (ap (λ c. ren c P) (fun-ext (h q s e)) ∙ ren-id P))
 
 -- A store before a run of stores may come after it.
 set-first : (l zs : List ℕ) (p q y : ℕ) → p < q → set (sets l q zs) p y ≡ sets (set l p y) q zs

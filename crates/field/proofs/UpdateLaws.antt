@@ -16,7 +16,7 @@ use Rattle.calculus.specs.Term.{Term}
 use Rattle.terms.specs.Limits.{nameCount}
 use Rattle.terms.specs.Operations.{holdsApart}
 use Rattle.steps.specs.Listed.{ListedStep, namesFrom, classIn}
-use Rattle.field.specs.Entry.{EntryAt, ClassOfIs}
+use Rattle.field.specs.Entry.{EntryAt, ClassOfIs, TrivialIs}
 use Rattle.field.specs.NameFlags.{HasNames}
 use Rattle.field.specs.PairFlags.{pairCount, pairAt, AddsPair}
 use Rattle.field.specs.Situation.{freeFrom, pairsOf, situation}
@@ -60,7 +60,7 @@ module _ (free : List ℕ) (n : ℕ) (l : n < nameCount) (G : List ℕ) (h : Has
   name-on z = flag-on (among G n) (getD free n 0) (name-test free n G l h (among G n) refl) z
 
 module _ (flags : List ℕ) (k : ℕ) (l : k < pairCount) (E : Pairs) (h : flags ≡ flagsOf E) where
-  pair-off : getD flags k 0 ≡ 0 → holdsApart E (pairAt k .0) (pairAt k .1) ≡ false
+  pub pair-off : getD flags k 0 ≡ 0 → holdsApart E (pairAt k .0) (pairAt k .1) ≡ false
   pair-off z = flag-off (holdsApart E (pairAt k .0) (pairAt k .1)) (getD flags k 0) (pair-test flags k E l h (holdsApart E (pairAt k .0) (pairAt k .1)) refl) z
 
   pair-on : (getD flags k 0 ≡ 0 → ⊥) → holdsApart E (pairAt k .0) (pairAt k .1) ≡ true
@@ -166,6 +166,17 @@ pub updated-is : (flags free area : List ℕ) (at : ℕ) (more new : List ℕ) �
     → RewritesPairs more area at (replicate pairCount 0) new → UpdatedIs flags free area at new
 unfolding AddsExtruded RewritesPairs UpdatedIs updatedBy
 updated-is flags free area at more new a r G D s h e f = r (times (extrudedBy s) (freeFrom G 0 nameCount) ++ D) s (a G D s h e f) no-pairs f
+
+-- What merges no names rewrites nothing.
+own-pairs : (c : ℕ → ℕ) → ((n : ℕ) → c n ≡ n) → (E : Pairs) → mapP c E ≡ E
+own-pairs c own [] = refl
+own-pairs c own (p ∷ E) = ap₂ _∷_ (λ i. (own (p .0) i, own (p .1) i)) (own-pairs c own E)
+
+pub updated-trivial : (flags free area : List ℕ) (at : ℕ) (more : List ℕ) → AddsExtruded flags free area at more
+    → (r : Bool) → TrivialIs area at r → r ≡ true → UpdatedIs flags free area at more
+unfolding AddsExtruded TrivialIs UpdatedIs updatedBy
+updated-trivial flags free area at more a r t q G D s h e f =
+    a G D s h e f ∙ ap flagsOf (sym (own-pairs (classIn (s .classes)) (t q s f) (times (extrudedBy s) (freeFrom G 0 nameCount) ++ D)))
 
 -- One pair kept if both names are free.
 module _ (flags : List ℕ) (k : ℕ) (l : k < pairCount) (free new : List ℕ) where

@@ -3,35 +3,45 @@
 -- of slots plus 1, and 0 stands for none.
 use mathlib.Core.Path.{_≡_}
 use mathlib.Core.Bool.{cond}
-use mathlib.Core.List.{List, [], _∷_}
+use mathlib.Core.List.{List}
 use Prim.Native.Nat.{ℕ, zero, suc, _+_, _*_, _/_, _%_, _<_}
-use lib.Dec.{eqb, ltb}
-use lib.ListN.{length, getD, take, drop, set}
+use lib.Dec.{eqb}
+use lib.ListN.{length, getD, drop, set}
 use Rattle.terms.specs.FieldPlaces.{sizeAt}
 use Rattle.field.specs.Key.{keyAt, FoundIs}
-use Rattle.field.specs.Slot.{octets, slotBytes}
+use Rattle.field.specs.Slot.{slotBytes}
 use Rattle.field.specs.declared.find.Found.{Found}
 use Rattle.field.specs.declared.find.Found.the-variants.{At}
 
--- one byte after the other, by a multiplier whose bits are well mixed, modulo 2 ^ 32
-abbrev pub mixed : ℕ → ℕ → ℕ
-mixed h b = (h * 2654435761 + b) % 4294967296
+-- four bytes as a number
+unfoldable pub wordAt : List ℕ → ℕ → ℕ
+wordAt key at = getD key at 0 + 256 * getD key (at + 1) 0 + 65536 * getD key (at + 2) 0 + 16777216 * getD key (at + 3) 0
 
-unfoldable pub spread : ℕ → List ℕ → ℕ
-spread h [] = h
-spread h (b ∷ bs) = spread (mixed h b) bs
+-- a number that is the same modulo the prime 4294967291, and small
+abbrev pub folded : ℕ → ℕ
+folded x = x % 4294967296 + 5 * (x / 4294967296)
 
--- how many bytes of the part at `at` say something: its length and that many, and not the zeros behind them
-unfoldable pub usedAt : List ℕ → ℕ → ℕ
-usedAt key at = cond (ltb (getD key at 0) 113) (1 + getD key at 0) 113
+-- sixteen bytes taken into a number, by multipliers whose bits are well mixed
+unfoldable pub mixed : ℕ → List ℕ → ℕ → ℕ
+mixed h key at =
+    folded (h * 252097829 + wordAt key at * 261828187 + wordAt key (at + 4) * 141421387 + wordAt key (at + 8) * 173205089 + wordAt key (at + 12) * 223606807)
 
-unfoldable pub spreadKey : List ℕ → ℕ
-spreadKey key =
-    spread (spread (spread 0 (take (usedAt key 0) (drop 0 key))) (take (usedAt key 113) (drop 113 key))) (take octets (drop 226 key))
+-- n times sixteen bytes of a key, after its last byte
+unfoldable pub spread : List ℕ → ℕ → ℕ
+spread key zero = getD key 240 0
+spread key (suc n) = mixed (spread key n) key (16 * n)
+
+pub record WordIs (key : List ℕ) (at r : ℕ) : Type 0 where
+  pub is : r ≡ wordAt key at
+  pub below : r < 4294967296
+
+pub record MixIs (h : ℕ) (key : List ℕ) (at r : ℕ) : Type 0 where
+  pub is : r ≡ mixed h key at
+  pub below : r < 25769803776
 
 -- the bucket of a key
 unfoldable pub bucketOf : ℕ → List ℕ → ℕ
-bucketOf capacity key = (spreadKey key + spreadKey key / 65536) % capacity
+bucketOf capacity key = spread key 15 % capacity
 
 unfoldable pub bucketAt : ℕ → List ℕ → ℕ → ℕ
 bucketAt capacity work i = bucketOf capacity (keyAt work i)

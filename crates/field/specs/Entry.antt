@@ -1,6 +1,6 @@
 -- A listed step as it stands in a list (document 01, "Steps": 132 bytes), and what the tests over such entries promise.
 use mathlib.Core.Path.{_≡_}
-use mathlib.Core.Bool.{Bool}
+use mathlib.Core.Bool.{Bool, true}
 use mathlib.Core.List.{List, _++_}
 use Prim.Native.Nat.{ℕ, _<_, _≤_}
 use lib.ListN.{length, drop}
@@ -18,6 +18,10 @@ pub record EntryAt (area : List ℕ) (at : ℕ) (s : ListedStep) : Type 0 where
 
 unfoldable pub ClassOfIs : List ℕ → ℕ → ℕ → ℕ → Type 0
 ClassOfIs area at n r = (s : ListedStep) → EntryAt area at s → r ≡ classIn (s .classes) n
+
+-- A test that is met says that each name is its own class.
+unfoldable pub TrivialIs : List ℕ → ℕ → Bool → Type 0
+TrivialIs area at r = r ≡ true → (s : ListedStep) → EntryAt area at s → (n : ℕ) → classIn (s .classes) n ≡ n
 
 unfoldable pub BindsIs : List ℕ → ℕ → Bool → Type 0
 BindsIs area at r = (s : ListedStep) → EntryAt area at s → r ≡ bindsName s

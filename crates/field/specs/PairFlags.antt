@@ -1,6 +1,6 @@
 -- Sets of apart pairs as one flag a pair of names (`flagsOf`), and what the code over them promises.
 use mathlib.Core.Path.{_≡_}
-use mathlib.Core.Bool.{Bool, _&&_}
+use mathlib.Core.Bool.{Bool, true, _&&_}
 use mathlib.Core.List.{List, _∷_}
 use Prim.Native.Nat.{ℕ, _<_}
 use lib.ListN.{getD}
@@ -37,6 +37,10 @@ pub record NumberIs (a b r : ℕ) : Type 0 where
 -- One pair is put to those that the flags say.
 unfoldable pub AddsPair : List ℕ → ℕ → ℕ → List ℕ → Type 0
 AddsPair flags a b flags′ = (D : Pairs) → flags ≡ flagsOf D → flags′ ≡ flagsOf ((a, b) ∷ D)
+
+-- A test that is met says that no flag is set.
+unfoldable pub NoneApartIs : List ℕ → Bool → Type 0
+NoneApartIs flags r = r ≡ true → (k : ℕ) → k < pairCount → getD flags k 0 ≡ 0
 
 -- whether pair k is held apart and merged
 unfoldable pub MergesIs : List ℕ → ℕ → List ℕ → ℕ → Bool → Type 0

@@ -2,15 +2,12 @@
 ghost use mathlib.Core.Path.{_≡_};
 ghost use Prim.Native.Nat.{_+_, _*_, _<_, _≤_};
 ghost use lib.ListN.{length, take};
-ghost use Rattle.field.specs.Chains.{spread, usedAt, putNumber, BucketIs, Clears, LinkIs, FindsIn};
+ghost use Rattle.field.specs.Chains.{spread, WordIs, MixIs, putNumber, BucketIs, Clears, LinkIs, FindsIn};
 ghost use Rattle.field.specs.Slot.{keyBytes, slotBytes};
 use crate::find::Found;
 use crate::find::KEY_BYTES;
 use crate::find::SLOT_BYTES;
 use crate::find::same_key;
-use crate::slots::BITS;
-use crate::slots::PART_BYTES;
-use terms::bytes::get;
 use terms::frame::size_at;
 
 // Where a bucket's head and a slot's link stand in a slot.
@@ -18,29 +15,45 @@ const HEAD: usize = 242;
 
 const LINK: usize = 244;
 
-// Takes the bytes into the number, one by one.
-fn spread(seed: usize, bytes: &[u8]) -> usize
-    requires { ⌜ seed < 4294967296 ⌝ }
-    ensures { λ r. ⌜ (r ≡ spread seed (now (bytes .entry))) × (r < 4294967296) ⌝ }
+// A key is 15 times sixteen bytes and one more.
+const ROUNDS: usize = 15;
+
+// Four bytes as a number.
+fn word(key: &[u8], at: usize) -> usize
+    requires { ⌜ at + 4 ≤ length (now key) ⌝ }
+    ensures { λ r. ⌜ WordIs (now (key .entry)) at r ⌝ }
 {
-    let mut h = seed;
+    key[at] as usize
+        + 256 * (key[at + 1] as usize)
+        + 65536 * (key[at + 2] as usize)
+        + 16777216 * (key[at + 3] as usize)
+}
+
+// Takes sixteen bytes into the number, modulo the prime 4294967291, though it is not wholly reduced.
+fn mix(h: usize, key: &[u8], at: usize) -> usize
+    requires { ⌜ (h < 25769803776) × (at + 16 ≤ length (now key)) ⌝ }
+    ensures { λ r. ⌜ MixIs h (now (key .entry)) at r ⌝ }
+{
+    let x = h * 252097829
+        + word(key, at) * 261828187
+        + word(key, at + 4) * 141421387
+        + word(key, at + 8) * 173205089
+        + word(key, at + 12) * 223606807;
+    x % 4294967296 + 5 * (x / 4294967296)
+}
+
+// Takes the bytes of a key into a number.
+fn spread(key: &[u8]) -> usize
+    requires { ⌜ keyBytes ≤ length (now key) ⌝ }
+    ensures { λ r. ⌜ r ≡ spread (now (key .entry)) 15 ⌝ }
+{
+    let mut h = key[KEY_BYTES - 1] as usize;
     let mut i = 0;
-    while i < bytes.len() {
-        h = (h * 2654435761 + bytes[i] as usize) % 4294967296;
+    while i < ROUNDS {
+        h = mix(h, key, 16 * i);
         i += 1;
     }
     h
-}
-
-// How many bytes of the part at `at` say something.
-fn used(key: &[u8], at: usize) -> usize
-    ensures { λ r. ⌜ (r ≡ usedAt (now (key .entry)) at) × (r ≤ 113) ⌝ }
-{
-    let n = get(key, at) as usize;
-    if n < PART_BYTES {
-        return 1 + n;
-    }
-    PART_BYTES
 }
 
 // The bucket of the key that the bytes begin with.
@@ -48,12 +61,7 @@ pub fn bucket(capacity: usize, key: &[u8]) -> usize
     requires { ⌜ (1 ≤ capacity) × (keyBytes ≤ length (now key)) ⌝ }
     ensures { λ r. ⌜ BucketIs capacity (take keyBytes (now (key .entry))) r ⌝ }
 {
-    let first = used(key, 0);
-    let second = PART_BYTES + used(key, PART_BYTES);
-    let one = spread(0, &key[0..first]);
-    let two = spread(one, &key[PART_BYTES..second]);
-    let h = spread(two, &key[BITS..KEY_BYTES]);
-    (h + h / 65536) % capacity
+    spread(key) % capacity
 }
 
 // Writes a number in two bytes.

@@ -1,7 +1,7 @@
 // Tests over listed steps, each an entry of a list: the list, and where the entry begins.
 ghost use Prim.Native.Nat.{_≤_};
 ghost use lib.ListN.{length};
-ghost use Rattle.field.specs.Entry.{ClassOfIs, BindsIs, ImpliesIs, AnswersIs};
+ghost use Rattle.field.specs.Entry.{ClassOfIs, TrivialIs, BindsIs, ImpliesIs, AnswersIs};
 use terms::bytes::get;
 use terms::limits::NAME_COUNT;
 
@@ -12,6 +12,8 @@ pub const CHANNEL: usize = NAME_COUNT + 1;
 
 pub const OBJECT: usize = NAME_COUNT + 2;
 
+const ACTION_END: usize = NAME_COUNT + 3;
+
 // The class of the name `n`; a number that is no name is alone in its class.
 pub fn class_of(area: &[u8], at: usize, n: usize) -> usize
     requires { ⌜ at ≤ length (now area) ⌝ }
@@ -21,6 +23,25 @@ pub fn class_of(area: &[u8], at: usize, n: usize) -> usize
         return get(area, at + n) as usize;
     }
     n
+}
+
+// Whether the step's condition merges no names: each is its own class.
+pub fn trivial(area: &[u8], at: usize) -> bool
+    requires { ⌜ at ≤ length (now area) ⌝ }
+    ensures { λ r. ⌜ TrivialIs (now (area .entry)) at r ⌝ }
+{
+    if area.len() - at < NAME_COUNT {
+        return false;
+    }
+    let mut own = true;
+    let mut n = 0;
+    while n < NAME_COUNT {
+        if area[at + n] as usize != n {
+            own = false;
+        }
+        n += 1;
+    }
+    own
 }
 
 // Whether the step receives or extrudes a name.
@@ -40,6 +61,9 @@ fn implies(area: &[u8], at: usize, others: &[u8], place: usize) -> bool
     requires { ⌜ (at ≤ length (now area)) × (place ≤ length (now others)) ⌝ }
     ensures { λ r. ⌜ ImpliesIs (now (area .entry)) at (now (others .entry)) place r ⌝ }
 {
+    if trivial(others, place) {
+        return true;
+    }
     let mut n = 0;
     while n < NAME_COUNT {
         let merged = class_of(area, at, class_of(others, place, n));
@@ -56,15 +80,21 @@ pub fn answers(area: &[u8], at: usize, others: &[u8], place: usize) -> bool
     requires { ⌜ (at ≤ length (now area)) × (place ≤ length (now others)) ⌝ }
     ensures { λ r. ⌜ AnswersIs (now (area .entry)) at (now (others .entry)) place r ⌝ }
 {
-    if get(area, at + KIND) != get(others, place + KIND) {
+    if area.len() - at < ACTION_END {
         return false;
     }
-    let channel = get(others, place + CHANNEL) as usize;
-    if get(area, at + CHANNEL) as usize != class_of(area, at, channel) {
+    if others.len() - place < ACTION_END {
         return false;
     }
-    let object = get(others, place + OBJECT) as usize;
-    if get(area, at + OBJECT) as usize != class_of(area, at, object) {
+    if area[at + KIND] != others[place + KIND] {
+        return false;
+    }
+    let channel = others[place + CHANNEL] as usize;
+    if area[at + CHANNEL] as usize != class_of(area, at, channel) {
+        return false;
+    }
+    let object = others[place + OBJECT] as usize;
+    if area[at + OBJECT] as usize != class_of(area, at, object) {
         return false;
     }
     implies(area, at, others, place)

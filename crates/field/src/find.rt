@@ -8,19 +8,20 @@ pub const KEY_BYTES: usize = 241;
 
 pub const SLOT_BYTES: usize = 256;
 
-// Whether the bytes from `at` on begin with the key.
+// Whether the bytes from `at` on begin with the key. All of them are compared, for a loop without an exit takes many at a time.
 pub fn same_key(area: &[u8], at: usize, key: &[u8]) -> bool
     requires { ⌜ (at + keyBytes ≤ length (now area)) × (keyBytes ≤ length (now key)) ⌝ }
     ensures { λ r. ⌜ SameKeyIs (now (area .entry)) at (now (key .entry)) r ⌝ }
 {
+    let mut different: u8 = 0;
     let mut i = 0;
     while i < KEY_BYTES {
         if area[at + i] != key[i] {
-            return false;
+            different += 1;
         }
         i += 1;
     }
-    true
+    different == 0
 }
 
 // What a search among the slots finds.

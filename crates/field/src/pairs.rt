@@ -3,15 +3,16 @@ ghost use mathlib.Core.Path.{_≡_};
 ghost use Prim.Native.Nat.{_<_, _≤_};
 ghost use lib.ListN.{length};
 ghost use Rattle.terms.specs.Limits.{nameCount};
-ghost use Rattle.field.specs.PairFlags.{pairCount, FirstIs, SecondIs, NumberIs, AddsPair, MergesIs, PermittedIs};
+ghost use Rattle.field.specs.PairFlags.{pairCount, FirstIs, SecondIs, NumberIs, AddsPair, NoneApartIs, MergesIs, PermittedIs};
 use crate::entries::class_of;
+use crate::entries::trivial;
 use terms::bytes::get;
 use terms::limits::NAME_COUNT;
 
 pub const PAIR_COUNT: usize = 120;
 
 // The smaller name of each pair.
-const FIRST: [usize; PAIR_COUNT] = [
+const FIRST: [u8; PAIR_COUNT] = [
     0,
     0,
     0,
@@ -135,7 +136,7 @@ const FIRST: [usize; PAIR_COUNT] = [
 ];
 
 // The larger one.
-const SECOND: [usize; PAIR_COUNT] = [
+const SECOND: [u8; PAIR_COUNT] = [
     1,
     2,
     3,
@@ -259,7 +260,7 @@ const SECOND: [usize; PAIR_COUNT] = [
 ];
 
 // Where the pairs begin whose smaller name is the index.
-const ROWS: [usize; NAME_COUNT] = [
+const ROWS: [u8; NAME_COUNT] = [
     0,
     15,
     29,
@@ -282,14 +283,14 @@ pub fn first_of(k: usize) -> usize
     requires { ⌜ k < pairCount ⌝ }
     ensures { λ r. ⌜ FirstIs k r ⌝ }
 {
-    FIRST[k]
+    FIRST[k] as usize
 }
 
 pub fn second_of(k: usize) -> usize
     requires { ⌜ k < pairCount ⌝ }
     ensures { λ r. ⌜ SecondIs k r ⌝ }
 {
-    SECOND[k]
+    SECOND[k] as usize
 }
 
 // The number of the pair of `a` and `b`.
@@ -297,7 +298,7 @@ fn number(a: usize, b: usize) -> usize
     requires { ⌜ (a < b) × (b < nameCount) ⌝ }
     ensures { λ r. ⌜ NumberIs a b r ⌝ }
 {
-    ROWS[a] + (b - a - 1)
+    ROWS[a] as usize + (b - a - 1)
 }
 
 // Puts the pair, its smaller name first, to those that the flags say. What is no pair of two names has no flag.
@@ -327,6 +328,24 @@ pub fn mark_pair(flags: &mut [u8], a: usize, b: usize)
     mark_ordered(flags, a, b);
 }
 
+// Whether no pair is apart.
+pub fn none_apart(flags: &[u8]) -> bool
+    ensures { λ r. ⌜ NoneApartIs (now (flags .entry)) r ⌝ }
+{
+    if flags.len() < PAIR_COUNT {
+        return false;
+    }
+    let mut none = true;
+    let mut k = 0;
+    while k < PAIR_COUNT {
+        if flags[k] != 0 {
+            none = false;
+        }
+        k += 1;
+    }
+    none
+}
+
 // Whether pair `k` is apart and the step's condition merges it.
 fn merges(apart: &[u8], k: usize, area: &[u8], at: usize) -> bool
     requires { ⌜ (k < pairCount) × (at ≤ length (now area)) ⌝ }
@@ -343,6 +362,12 @@ pub fn permitted(apart: &[u8], area: &[u8], at: usize) -> bool
     requires { ⌜ at ≤ length (now area) ⌝ }
     ensures { λ r. ⌜ PermittedIs (now (apart .entry)) (now (area .entry)) at r ⌝ }
 {
+    if trivial(area, at) {
+        return true;
+    }
+    if none_apart(apart) {
+        return true;
+    }
     let mut k = 0;
     while k < PAIR_COUNT {
         if merges(apart, k, area, at) {

@@ -7,10 +7,13 @@ ghost use Rattle.field.specs.Resulting.{CopiesResult, RewritesResult};
 ghost use Rattle.field.specs.Slot.{keyBytes};
 ghost use Rattle.steps.specs.Limits.{stepBytes};
 use crate::entries::OBJECT;
+use crate::entries::trivial;
 use crate::find::KEY_BYTES;
 use crate::names::free_in_either;
 use crate::pairs::PAIR_COUNT;
+use crate::pairs::none_apart;
 use crate::slots::BITS;
+use crate::slots::OCTETS;
 use crate::slots::PART_BYTES;
 use crate::slots::pack;
 use crate::slots::part_at;
@@ -42,6 +45,9 @@ fn rewrite_result(
     ensures { λ _. ⌜ RewritesResult (now (area .entry)) at (now (others .entry)) place (now (arities .entry)) (now (slot .entry)) put (now (slot .exit)) ⌝ }
 {
     copy_result(others, place, slot, put);
+    if trivial(area, at) {
+        return;
+    }
     rename(
         others,
         place + OBJECT + 2,
@@ -87,6 +93,10 @@ pub fn complete(key: &mut [u8], arities: &[u8], apart: [u8; PAIR_COUNT])
     requires { ⌜ length (now key) ≡ keyBytes ⌝ }
     ensures { λ _. ⌜ CompletesKey (now (arities .entry)) apart (now (key .entry)) (now (key .exit)) ⌝ }
 {
+    if none_apart(&apart) {
+        copy(&[0u8; OCTETS], 0, OCTETS, key, BITS);
+        return;
+    }
     let free = free_of_parts(key, arities);
     let flags = kept(&apart, &free);
     pack(&flags, key, BITS);

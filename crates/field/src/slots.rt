@@ -14,7 +14,7 @@ pub const PART_BYTES: usize = 113;
 // Where the bits are: behind the two parts.
 pub const BITS: usize = 226;
 
-const OCTETS: usize = 15;
+pub const OCTETS: usize = 15;
 
 // The part whose length stands at `at`; nothing where it runs past the end.
 pub fn part_at(area: &[u8], at: usize) -> &[u8]

@@ -8,6 +8,7 @@ ghost use Rattle.field.specs.Update.{AddsIfFree, AddsRow, AddsExtruded, 
 use crate::entries::KIND;
 use crate::entries::OBJECT;
 use crate::entries::class_of;
+use crate::entries::trivial;
 use crate::pairs::PAIR_COUNT;
 use crate::pairs::first_of;
 use crate::pairs::mark_pair;
@@ -82,6 +83,9 @@ pub fn updated(apart: [u8; PAIR_COUNT], free: &[u8], area: &[u8], at: usize) -> 
 {
     let mut more = apart;
     mark_extruded(&mut more, free, area, at);
+    if trivial(area, at) {
+        return more;
+    }
     let mut new = [0u8; PAIR_COUNT];
     rewrite(&more, area, at, &mut new);
     new

@@ -1,104 +1,120 @@
 -- `field::entries::answers` meets its contract. Assumes nothing.
-use mathlib.Core.Path.{sym, _∙_}
-use Prim.Native.Nat.{_-_}
-use Rattle.field.proofs.EntryLaws.{answers-kind, answers-channel, answers-object, answers-implied}
+use native.Mathlib.Omega.{arith}
 use borrow.Author.Needs.{needs}
+use Prim.Native.Nat.{_+_, _-_}
+use Rattle.field.proofs.EntryLaws.{answers-short, answers-other-short, answers-kind, answers-channel, answers-object, answers-implied}
 use Rattle.field.proofs.entries.answers.Statement.{statement}
 use Rattle.field.proofs.entries.answers.Tie as tie
 
-add-get : tie.Need-add-get
-add-get c = search needs
-
-get-requires : tie.Need-get-requires
-get-requires c κs = search needs
-
-add-get-2 : tie.Need-add-get-2
-add-get-2 c = search needs
-
-get-requires-2 : tie.Need-get-requires-2
-get-requires-2 c κs = search needs
+sub-if1 : tie.Need-sub-if1
+sub-if1 c = search needs
 
 returns : tie.Need-returns
-returns c = answers-kind (c .before .before .before .before .before .args .area .now) (c .before .before .before .before .before .args .at) (c .before .before .before .before .before .args .others .now) (c .before .before .before .before .before .args .place) (λ q. c .if1 .taken (c .before .before .get .ensures ∙ q ∙ sym (c .before .get2 .ensures)))
+returns c = answers-short (c .before .before .before .args .area .now) (c .before .before .before .args .at) (c .before .before .before .args .others .now) (c .before .before .before .args .place) (omega arith)
 
-add-get-3 : tie.Need-add-get-3
-add-get-3 c = search needs
+sub-if2 : tie.Need-sub-if2
+sub-if2 c = search needs
 
-get-requires-3 : tie.Need-get-requires-3
-get-requires-3 c κs = search needs
+returns-2 : tie.Need-returns-2
+returns-2 c = answers-other-short (c .before .before .before .before .args .area .now) (c .before .before .before .before .args .at) (c .before .before .before .before .args .others .now) (c .before .before .before .before .args .place) (omega arith)
+
+add-if3 : tie.Need-add-if3
+add-if3 c = search needs
+
+shared-slice-read-if3 : tie.Need-shared-slice-read-if3
+shared-slice-read-if3 c = search needs
+
+add-if3-2 : tie.Need-add-if3-2
+add-if3-2 c = search needs
+
+shared-slice-read-if3-2 : tie.Need-shared-slice-read-if3-2
+shared-slice-read-if3-2 c = search needs
+
+returns-3 : tie.Need-returns-3
+returns-3 c = answers-kind (c .before .before .before .before .before .before .before .args .area .now) (c .before .before .before .before .before .before .before .args .at) (c .before .before .before .before .before .before .before .args .others .now) (c .before .before .before .before .before .before .before .args .place) (c .if3 .taken)
+
+add-channel : tie.Need-add-channel
+add-channel c = search needs
+
+shared-slice-read-channel : tie.Need-shared-slice-read-channel
+shared-slice-read-channel c = search needs
 
 cast-channel : tie.Need-cast-channel
-cast-channel c = search needs
+cast-channel c = omega (arith, c .shared-slice-known5 .given (c .before .before .before .before .before .before .before .before .args .place + 17))
 
-add-get-4 : tie.Need-add-get-4
-add-get-4 c = search needs
+add-if4 : tie.Need-add-if4
+add-if4 c = search needs
 
-get-requires-4 : tie.Need-get-requires-4
-get-requires-4 c κs = search needs
+shared-slice-read-if4 : tie.Need-shared-slice-read-if4
+shared-slice-read-if4 c = search needs
 
-cast-if2 : tie.Need-cast-if2
-cast-if2 c = search needs
+cast-if4 : tie.Need-cast-if4
+cast-if4 c = omega (arith, c .shared-slice-known6 .given (c .before .before .before .before .before .before .before .before .before .args .at + 17))
 
 class-of-requires : tie.Need-class-of-requires
 class-of-requires c κs = search needs
 
-returns-2 : tie.Need-returns-2
-returns-2 c = answers-channel (c .before .before .before .before .before .before .before .before .before .args .area .now) (c .before .before .before .before .before .before .before .before .before .args .at) (c .before .before .before .before .before .before .before .before .before .args .others .now) (c .before .before .before .before .before .before .before .before .before .args .place) _ (rw (← c .before .before .before .get3 .ensures) (c .before .class-of .ensures)) (λ q. c .if2 .taken (c .before .before .get4 .ensures ∙ q))
+returns-4 : tie.Need-returns-4
+returns-4 c = answers-channel (c .before .before .before .before .before .before .before .before .before .before .before .args .area .now) (c .before .before .before .before .before .before .before .before .before .before .before .args .at) (c .before .before .before .before .before .before .before .before .before .before .before .args .others .now) (c .before .before .before .before .before .before .before .before .before .before .before .args .place) _ (c .before .class-of .ensures) (c .if4 .taken)
 
-add-get-5 : tie.Need-add-get-5
-add-get-5 c = search needs
+add-object : tie.Need-add-object
+add-object c = search needs
 
-get-requires-5 : tie.Need-get-requires-5
-get-requires-5 c κs = search needs
+shared-slice-read-object : tie.Need-shared-slice-read-object
+shared-slice-read-object c = search needs
 
 cast-object : tie.Need-cast-object
-cast-object c = search needs
+cast-object c = omega (arith, c .shared-slice-known7 .given (c .before .before .before .before .before .before .before .before .before .before .before .before .args .place + 18))
 
-add-get-6 : tie.Need-add-get-6
-add-get-6 c = search needs
+add-if5 : tie.Need-add-if5
+add-if5 c = search needs
 
-get-requires-6 : tie.Need-get-requires-6
-get-requires-6 c κs = search needs
+shared-slice-read-if5 : tie.Need-shared-slice-read-if5
+shared-slice-read-if5 c = search needs
 
-cast-if3 : tie.Need-cast-if3
-cast-if3 c = search needs
+cast-if5 : tie.Need-cast-if5
+cast-if5 c = omega (arith, c .shared-slice-known8 .given (c .before .before .before .before .before .before .before .before .before .before .before .before .before .args .at + 18))
 
 class-of-requires-2 : tie.Need-class-of-requires-2
 class-of-requires-2 c κs = search needs
 
-returns-3 : tie.Need-returns-3
-returns-3 c = answers-object (c .before .before .before .before .before .before .before .before .before .before .before .before .before .args .area .now) (c .before .before .before .before .before .before .before .before .before .before .before .before .before .args .at) (c .before .before .before .before .before .before .before .before .before .before .before .before .before .args .others .now) (c .before .before .before .before .before .before .before .before .before .before .before .before .before .args .place) _ (rw (← c .before .before .before .get5 .ensures) (c .before .class-of2 .ensures)) (λ q. c .if3 .taken (c .before .before .get6 .ensures ∙ q))
+returns-5 : tie.Need-returns-5
+returns-5 c = answers-object (c .before .before .before .before .before .before .before .before .before .before .before .before .before .before .before .args .area .now) (c .before .before .before .before .before .before .before .before .before .before .before .before .before .before .before .args .at) (c .before .before .before .before .before .before .before .before .before .before .before .before .before .before .before .args .others .now) (c .before .before .before .before .before .before .before .before .before .before .before .before .before .before .before .args .place) _ (c .before .class-of2 .ensures) (c .if5 .taken)
 
 implies-requires : tie.Need-implies-requires
 implies-requires c κs = search needs
 
-returns-4 : tie.Need-returns-4
-returns-4 c = answers-implied (c .before .before .before .before .before .before .before .before .before .before .before .before .before .before .args .area .now) (c .before .before .before .before .before .before .before .before .before .before .before .before .before .before .args .at) (c .before .before .before .before .before .before .before .before .before .before .before .before .before .before .args .others .now) (c .before .before .before .before .before .before .before .before .before .before .before .before .before .before .args .place) _ _ (rw (← c .before .before .before .before .before .before .before .before .get3 .ensures) (c .before .before .before .before .before .before .class-of .ensures)) (rw (← c .before .before .before .before .get5 .ensures) (c .before .before .class-of2 .ensures)) (sym (c .before .before .before .before .before .before .before .before .before .before .before .get .ensures) ∙ c .before .before .before .before .before .before .before .before .before .if1 .left ∙ c .before .before .before .before .before .before .before .before .before .before .get2 .ensures) (sym (c .before .before .before .before .before .before .before .get4 .ensures) ∙ c .before .before .before .before .before .if2 .left) (sym (c .before .before .before .get6 .ensures) ∙ c .before .if3 .left) _ (c .implies .ensures)
+returns-6 : tie.Need-returns-6
+returns-6 c = answers-implied (c .before .before .before .before .before .before .before .before .before .before .before .before .before .before .before .before .args .area .now) (c .before .before .before .before .before .before .before .before .before .before .before .before .before .before .before .before .args .at) (c .before .before .before .before .before .before .before .before .before .before .before .before .before .before .before .before .args .others .now) (c .before .before .before .before .before .before .before .before .before .before .before .before .before .before .before .before .args .place) _ _ (c .before .before .before .before .before .before .class-of .ensures) (c .before .before .class-of2 .ensures) (c .before .before .before .before .before .before .before .before .before .if3 .left) (c .before .before .before .before .before .if4 .left) (c .before .if5 .left) _ (c .implies .ensures)
 
 pub answers-spec : {M : Type 1} → statement M
 answers-spec =
     tie.close
     (tie.spec
-    add-get
-    get-requires
-    add-get-2
-    get-requires-2
+    sub-if1
     returns
-    add-get-3
-    get-requires-3
-    cast-channel
-    add-get-4
-    get-requires-4
-    cast-if2
-    class-of-requires
+    sub-if2
     returns-2
-    add-get-5
-    get-requires-5
-    cast-object
-    add-get-6
-    get-requires-6
-    cast-if3
-    class-of-requires-2
+    add-if3
+    shared-slice-read-if3
+    add-if3-2
+    shared-slice-read-if3-2
     returns-3
+    add-channel
+    shared-slice-read-channel
+    cast-channel
+    add-if4
+    shared-slice-read-if4
+    cast-if4
+    class-of-requires
+    returns-4
+    add-object
+    shared-slice-read-object
+    cast-object
+    add-if5
+    shared-slice-read-if5
+    cast-if5
+    class-of-requires-2
+    returns-5
     implies-requires
-    returns-4)
+    returns-6)

@@ -5,11 +5,12 @@ use borrow.Author.Needs.{needs}
 use Rattle.field.proofs.pairs.number.Statement.{statement}
 use Rattle.field.proofs.pairs.number.Tie as tie
 
-mul-result : tie.Need-mul-result
-mul-result c = search needs
-
 array-read-result : tie.Need-array-read-result
 array-read-result c = search needs
+
+cast-result : tie.Need-cast-result
+unfolding rows
+cast-result c = let n = number-right (c .args .a) (c .args .b) (search needs) (search needs) in omega (arith, n .below)
 
 sub-result : tie.Need-sub-result
 sub-result c = search needs
@@ -27,4 +28,4 @@ returns c = number-right (c .args .a) (c .args .b) (search needs) (search needs)
 
 pub number-spec : {M : Type 1} → statement M
 number-spec =
-    tie.close (tie.spec mul-result array-read-result sub-result sub-result-2 add-result returns)
+    tie.close (tie.spec array-read-result cast-result sub-result sub-result-2 add-result returns)

@@ -1,8 +1,26 @@
 -- `field::results::complete` meets its contract. Assumes nothing.
-use Rattle.field.proofs.LeadingLaws.{completes}
+use Rattle.field.proofs.LeadingLaws.{completes, completes-none}
 use borrow.Author.Needs.{needs}
 use Rattle.field.proofs.results.complete.Statement.{statement}
 use Rattle.field.proofs.results.complete.Tie as tie
+
+slice-aggregate-none-apart : tie.Need-slice-aggregate-none-apart
+slice-aggregate-none-apart c = search needs
+
+none-apart-requires : tie.Need-none-apart-requires
+none-apart-requires c κs = search needs
+
+slice-aggregate-copy : tie.Need-slice-aggregate-copy
+slice-aggregate-copy c = search needs
+
+copy-requires : tie.Need-copy-requires
+copy-requires c κs = search needs
+
+same-length : tie.Need-same-length
+same-length c = search needs
+
+returns : tie.Need-returns
+returns c = completes-none _ _ _ _ _ (c .before .before .before .before .before .before .none-apart .ensures) (c .before .before .before .before .before .if1 .taken) (c .before .before .copy .ensures)
 
 free-of-parts-requires : tie.Need-free-of-parts-requires
 free-of-parts-requires c κs = search needs
@@ -22,21 +40,27 @@ slice-aggregate-pack c = search needs
 pack-requires : tie.Need-pack-requires
 pack-requires c κs = search needs
 
-same-length : tie.Need-same-length
-same-length c = search needs
+same-length-2 : tie.Need-same-length-2
+same-length-2 c = search needs
 
-returns : tie.Need-returns
-returns c = completes _ _ _ _ _ _ (c .before .before .before .before .before .before .before .before .free-of-parts .ensures) (c .before .before .before .before .before .kept .ensures) (c .before .before .pack .ensures)
+returns-2 : tie.Need-returns-2
+returns-2 c = completes _ _ _ _ _ _ (c .before .before .before .before .before .before .before .before .free-of-parts .ensures) (c .before .before .before .before .before .kept .ensures) (c .before .before .pack .ensures)
 
 pub complete-spec : {M : Type 1} → statement M
 complete-spec =
     tie.close
     (tie.spec
+    slice-aggregate-none-apart
+    none-apart-requires
+    slice-aggregate-copy
+    copy-requires
+    same-length
+    returns
     free-of-parts-requires
     slice-aggregate-kept
     slice-aggregate-kept-2
     kept-requires
     slice-aggregate-pack
     pack-requires
-    same-length
-    returns)
+    same-length-2
+    returns-2)

@@ -1,12 +1,21 @@
 -- `field::results::rewrite_result` meets its contract. Assumes nothing.
 use Prim.Native.Nat.{_-_}
-use Rattle.field.proofs.ResultLaws.{rewrites-result}
+use Rattle.field.proofs.ResultLaws.{rewrites-result, copied-trivial}
 use borrow.Author.Needs.{needs}
 use Rattle.field.proofs.results.rewrite_result.Statement.{statement}
 use Rattle.field.proofs.results.rewrite_result.Tie as tie
 
 copy-result-requires : tie.Need-copy-result-requires
 copy-result-requires c κs = search needs
+
+trivial-requires : tie.Need-trivial-requires
+trivial-requires c κs = search needs
+
+same-length : tie.Need-same-length
+same-length c = search needs
+
+returns : tie.Need-returns
+returns c = copied-trivial _ _ _ _ _ _ _ _ (c .before .before .before .before .copy-result .ensures) _ (c .before .trivial .ensures) (c .if1 .taken)
 
 add-rename : tie.Need-add-rename
 add-rename c = search needs
@@ -29,17 +38,20 @@ add-rename-3 c = search needs
 rename-requires : tie.Need-rename-requires
 rename-requires c κs = search needs
 
-same-length : tie.Need-same-length
-same-length c = search needs
+same-length-2 : tie.Need-same-length-2
+same-length-2 c = search needs
 
-returns : tie.Need-returns
-returns c = rewrites-result _ _ _ _ _ _ _ (search needs) (search needs) _ _ _ (c .before .before .before .before .before .before .before .copy-result .ensures) (c .before .before .rename .ensures)
+returns-2 : tie.Need-returns-2
+returns-2 c = rewrites-result _ _ _ _ _ _ _ (search needs) (search needs) _ _ _ (c .before .before .before .before .before .before .before .before .before .copy-result .ensures) (c .before .before .rename .ensures)
 
 pub rewrite-result-spec : {M : Type 1} → statement M
 rewrite-result-spec =
     tie.close
     (tie.spec
     copy-result-requires
+    trivial-requires
+    same-length
+    returns
     add-rename
     add-rename-2
     sub-rename
@@ -47,5 +59,5 @@ rewrite-result-spec =
     part-rename-end
     add-rename-3
     rename-requires
-    same-length
-    returns)
+    same-length-2
+    returns-2)

@@ -1,6 +1,5 @@
 -- `field::update::updated` meets its contract. Assumes nothing.
-use Prim.Native.Nat.{_-_}
-use Rattle.field.proofs.UpdateLaws.{updated-is}
+use Rattle.field.proofs.UpdateLaws.{updated-is, updated-trivial}
 use borrow.Author.Needs.{needs}
 use Rattle.field.proofs.update.updated.Statement.{statement}
 use Rattle.field.proofs.update.updated.Tie as tie
@@ -11,6 +10,12 @@ slice-aggregate-mark-extruded c = search needs
 mark-extruded-requires : tie.Need-mark-extruded-requires
 mark-extruded-requires c κs = search needs
 
+trivial-requires : tie.Need-trivial-requires
+trivial-requires c κs = search needs
+
+returns : tie.Need-returns
+returns c = updated-trivial _ _ _ _ _ (c .before .before .before .mark-extruded .ensures) _ (c .before .trivial .ensures) (c .if1 .taken)
+
 slice-aggregate-rewrite : tie.Need-slice-aggregate-rewrite
 slice-aggregate-rewrite c = search needs
 
@@ -20,8 +25,8 @@ slice-aggregate-rewrite-2 c = search needs
 rewrite-requires : tie.Need-rewrite-requires
 rewrite-requires c κs = search needs
 
-returns : tie.Need-returns
-returns c = updated-is _ _ _ _ _ _ (c .before .before .before .before .before .mark-extruded .ensures) (c .before .rewrite .ensures)
+returns-2 : tie.Need-returns-2
+returns-2 c = updated-is _ _ _ _ _ _ (c .before .before .before .before .before .before .before .mark-extruded .ensures) (c .before .rewrite .ensures)
 
 pub updated-spec : {M : Type 1} → statement M
 updated-spec =
@@ -29,7 +34,9 @@ updated-spec =
     (tie.spec
     slice-aggregate-mark-extruded
     mark-extruded-requires
+    trivial-requires
+    returns
     slice-aggregate-rewrite
     slice-aggregate-rewrite-2
     rewrite-requires
-    returns)
+    returns-2)
