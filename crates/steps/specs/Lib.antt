@@ -2,6 +2,7 @@ pub mod Answering
 pub mod Bodies
 pub mod Collecting
 pub mod Conditions
+pub mod Contexts
 pub mod Derived
 pub mod Entries
 pub mod EntryBytes
@@ -18,6 +19,8 @@ pub mod PartLister
 pub mod Passing
 pub mod Raw
 pub mod Results
+pub mod Rows
 pub mod Slots
 pub mod Tally
 pub mod Tallying
+pub mod Walking

@@ -1,0 +1,89 @@
+-- The visible candidates of a term in a table, four bytes for each: what it does, its channel and its object; the fourth byte is 0. Names stand by
+-- their slots (Slots), which do not move when a restriction is left: so a row serves beneath a restriction and outside it.
+use mathlib.Core.Path.{_≡_}
+use mathlib.Core.Bool.{Bool, true, cond, _&&_}
+use mathlib.Core.List.{List, [], _++_}
+use Prim.Native.Nat.{ℕ, _+_, _*_, _<_, _≤_}
+use lib.ListN.{length, getD, drop}
+use lib.Dec.{eqb, ltb}
+use Rattle.calculus.specs.Abstraction.{Act, tauA}
+use Rattle.calculus.specs.Term.{Term, ren}
+use Rattle.terms.specs.Answer.{result}
+use Rattle.terms.specs.Encoding.{encode, InScope}
+use Rattle.terms.specs.Limits.{nameCount}
+use Rattle.terms.specs.Question.{Question, checkOf}
+use Rattle.steps.specs.LabelWalk.{HasSlots}
+use Rattle.steps.specs.Labels.{actionOf, ActionBelow}
+use Rattle.steps.specs.Listing.{bodyOf}
+use Rattle.steps.specs.Raw.{Candidate, step, blocked, visible, silent}
+use Rattle.steps.specs.declared.action.Action.{Action}
+use Rattle.steps.specs.declared.action.Action.the-variants.{Input, Output, NewOutput}
+
+abbrev pub rowBytes : ℕ
+rowBytes = 4
+
+-- An accepted part has at most 1,054 visible candidates: 28 for each call of two bytes, and a byte 07 between two of them.
+abbrev pub mostRows : ℕ
+mostRows = 1056
+
+-- The kind is 1 for an input, 2 for an output, 3 for a new-name output; it is 0 where the row says nothing.
+unfoldable pub kindAt : List ℕ → ℕ → ℕ
+kindAt rows i = getD rows (rowBytes * i) 0
+
+unfoldable pub channelAt : List ℕ → ℕ → ℕ
+channelAt rows i = getD rows (rowBytes * i + 1) 0
+
+unfoldable pub objectAt : List ℕ → ℕ → ℕ
+objectAt rows i = getD rows (rowBytes * i + 2) 0
+
+-- The action under d restrictions: an output of a name that is restricted further in extrudes it.
+unfoldable pub rowAction : (d kind channel object : ℕ) → Action
+rowAction d kind channel object =
+    cond (eqb kind 1) (Input channel) (cond (eqb kind 2 && ltb object (nameCount + d)) (Output channel object) (NewOutput channel))
+
+-- A candidate under d restrictions and its row: it is blocked if its channel is restricted further in, and else has no condition.
+pub record Outlined (d : ℕ) (c : Candidate) (kind channel object : ℕ) : Type 0 where
+  pub known : kind ≤ 3
+  pub inner : nameCount + d ≤ channel → c ≡ blocked
+  pub acts : channel < nameCount + d
+      → ((α : Act) × (A : Term) × (c ≡ step [] α A) × (actionOf d α ≡ rowAction d kind channel object) × ActionBelow (d + nameCount) α)
+
+unfoldable pub Row : ℕ → Candidate → List ℕ → ℕ → Type 0
+Row d c rows i = (kindAt rows i ≡ 0 → ⊥) → Outlined d c (kindAt rows i) (channelAt rows i) (objectAt rows i)
+
+-- The candidates cs, under d restrictions, are in the rows from number n on.
+unfoldable pub Rows : ℕ → List Candidate → List ℕ → ℕ → Type 0
+Rows d cs rows n = (j : ℕ) → j < length cs → Row d (getD cs j blocked) rows (n + j)
+
+-- The rows before number n are as they were.
+unfoldable pub RowsKept : ℕ → List ℕ → List ℕ → Type 0
+RowsKept n rows rows′ = (k : ℕ) → k < rowBytes * n → getD rows′ k 0 ≡ getD rows k 0
+
+-- The visible candidates of the term at `at` are put into the rows from number n on, while there is room; the answer is the number behind the last,
+-- or one past the last row. The term is `ren σ P`, as in LabelWalk.
+pub record ScanIs (question s : List ℕ) (at : ℕ) (args : List ℕ) (inner depth calls n : ℕ) (rows : List ℕ) (r : ℕ) (rows′ : List ℕ) : Type 0 where
+  pub on : n ≤ r
+  pub inside : r ≤ mostRows + 1
+  pub kept : RowsKept n rows rows′
+  pub is : (q : Question) (free D : ℕ) (σ : ℕ → ℕ) (P : Term) (rest : List ℕ)
+      → checkOf question ≡ result q
+      → free ≤ nameCount
+      → HasSlots free D args inner depth σ
+      → InScope free (q .arities) D P
+      → drop at s ≡ encode D P ++ rest
+      → n + length (visible (bodyOf (q .bodies)) calls (ren σ P)) ≤ mostRows
+      → (r ≡ n + length (visible (bodyOf (q .bodies)) calls (ren σ P))) × Rows depth (visible (bodyOf (q .bodies)) calls (ren σ P)) rows′ n
+
+-- Every silent candidate is a step without a condition.
+unfoldable pub Unconditional : List Candidate → Type 0
+Unconditional cs = (j : ℕ) → j < length cs → (A : Term) × (getD cs j blocked ≡ step [] tauA A)
+
+-- Whether the term at `at` has neither a match nor a parallel above its silent prefixes, in a called body either: then its silent candidates have no
+-- condition.
+pub record QuietIs (question s : List ℕ) (at calls : ℕ) (r : Bool) : Type 0 where
+  pub is : (q : Question) (free D : ℕ) (σ : ℕ → ℕ) (P : Term) (rest : List ℕ)
+      → r ≡ true
+      → checkOf question ≡ result q
+      → InScope free (q .arities) D P
+      → drop at s ≡ encode D P ++ rest
+      → Unconditional (silent (bodyOf (q .bodies)) calls (ren σ P))
