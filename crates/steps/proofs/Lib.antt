@@ -38,6 +38,7 @@ pub mod RawSound
 pub mod Restriction
 pub mod RestrictionRuns
 pub mod ResultLaws
+pub mod RowLaws
 pub mod Scope
 pub mod SilentSteps
 pub mod SlotLaws
@@ -47,3 +48,4 @@ pub mod TakeLaws
 pub mod TallyLaws
 pub mod TallyLoops
 pub mod TwoSides
+pub mod VisibleBound

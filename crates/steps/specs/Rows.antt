@@ -1,5 +1,5 @@
--- The visible candidates of a term in a table, four bytes for each: what it does, its channel and its object; the fourth byte is 0. Names stand by
--- their slots (Slots), which do not move when a restriction is left: so a row serves beneath a restriction and outside it.
+-- The visible candidates of a term in a table, four bytes for each: what it does, its channel and its object; the fourth byte is not used. Names
+-- stand by their slots (Slots), which do not move when a restriction is left: so a row serves beneath a restriction and outside it.
 use mathlib.Core.Path.{_≡_}
 use mathlib.Core.Bool.{Bool, true, cond, _&&_}
 use mathlib.Core.List.{List, [], _++_}
@@ -55,13 +55,17 @@ Row d c rows i = (kindAt rows i ≡ 0 → ⊥) → Outlined d c (kindAt rows i) 
 unfoldable pub Rows : ℕ → List Candidate → List ℕ → ℕ → Type 0
 Rows d cs rows n = (j : ℕ) → j < length cs → Row d (getD cs j blocked) rows (n + j)
 
+-- So many rows from number n on say nothing.
+unfoldable pub Unknown : ℕ → List ℕ → ℕ → Type 0
+Unknown count rows n = (j : ℕ) → j < count → kindAt rows (n + j) ≡ 0
+
 -- The rows before number n are as they were.
 unfoldable pub RowsKept : ℕ → List ℕ → List ℕ → Type 0
 RowsKept n rows rows′ = (k : ℕ) → k < rowBytes * n → getD rows′ k 0 ≡ getD rows k 0
 
 -- The visible candidates of the term at `at` are put into the rows from number n on, while there is room; the answer is the number behind the last,
--- or one past the last row. The term is `ren σ P`, as in LabelWalk.
-pub record ScanIs (question s : List ℕ) (at : ℕ) (args : List ℕ) (inner depth calls n : ℕ) (rows : List ℕ) (r : ℕ) (rows′ : List ℕ) : Type 0 where
+-- or one past the last row. Beneath a match, where `asked`, the rows say nothing. The term is `ren σ P`, as in LabelWalk.
+pub record ScanIs (question s : List ℕ) (at : ℕ) (asked : Bool) (args : List ℕ) (inner depth calls n : ℕ) (rows : List ℕ) (r : ℕ) (rows′ : List ℕ) : Type 0 where
   pub on : n ≤ r
   pub inside : r ≤ mostRows + 1
   pub kept : RowsKept n rows rows′
@@ -72,7 +76,9 @@ pub record ScanIs (question s : List ℕ) (at : ℕ) (args : List ℕ) (inner de
       → InScope free (q .arities) D P
       → drop at s ≡ encode D P ++ rest
       → n + length (visible (bodyOf (q .bodies)) calls (ren σ P)) ≤ mostRows
-      → (r ≡ n + length (visible (bodyOf (q .bodies)) calls (ren σ P))) × Rows depth (visible (bodyOf (q .bodies)) calls (ren σ P)) rows′ n
+      → (r ≡ n + length (visible (bodyOf (q .bodies)) calls (ren σ P)))
+      × Rows depth (visible (bodyOf (q .bodies)) calls (ren σ P)) rows′ n
+      × (asked ≡ true → Unknown (length (visible (bodyOf (q .bodies)) calls (ren σ P))) rows′ n)
 
 -- Every silent candidate is a step without a condition.
 unfoldable pub Unconditional : List Candidate → Type 0

@@ -1,0 +1,230 @@
+-- What the row of a candidate says: of its action, outside a restriction, beside another term; and rows that are kept. Assumes nothing.
+use mathlib.Core.Path.{_≡_, refl, sym, ap, ap₂, subst, _∙_}
+use mathlib.Core.Bool.{Bool, true, false, cond, _&&_}
+use mathlib.Core.List.{List, [], _++_, map}
+use Prim.Native.Nat.{ℕ, zero, suc, _+_, _-_, _*_, _<_, _≤_}
+use native.Mathlib.Omega.{arith}
+use lib.ListN.{length, getD, length-append, length-map, List·getD-append}
+use lib.Seq.{getD-append-add}
+use lib.Dec.{eqb, ltb}
+use borrow.Author.Tests.{eqb-true, eqb-false, ltb-true, ltb-false, lt-ltb}
+use Rattle.calculus.specs.Abstraction.{Act, tauA, inpA, outA, boutA, swap, weak}
+use Rattle.calculus.specs.Term.{Term, par, res, ren}
+use Rattle.terms.specs.Limits.{nameCount}
+use Rattle.steps.specs.Labels.{actionOf, ActionBelow}
+use Rattle.steps.specs.Raw.{Candidate, step, blocked, leftSteps, rightSteps, sparesRestricted, restrictedAction, restricted, visible, visibleOf}
+use Rattle.steps.specs.Rows.{rowBytes, kindAt, channelAt, objectAt, rowAction, Outlined, Row, Rows, Unknown, RowsKept}
+use Rattle.steps.specs.Slots.{slotOf}
+use Rattle.steps.specs.declared.action.Action.{Action}
+use Rattle.steps.specs.declared.action.Action.the-variants.{Silent, Input, Output, NewOutput}
+use Rattle.steps.proofs.NameSlots.{slot-inner}
+use Rattle.steps.proofs.Numbering.{nth-leftSteps, nth-rightSteps, nth-restricted}
+use Rattle.steps.proofs.SlotLaws.{slot-restricted, slot-below, slot-outside}
+
+-- The action of a row.
+module _ (d kind channel object : ℕ) where
+  pub row-input : kind ≡ 1 → rowAction d kind channel object ≡ Input channel
+  unfolding rowAction
+  row-input e = rw e refl
+
+  pub row-output : kind ≡ 2 → object < nameCount + d → rowAction d kind channel object ≡ Output channel object
+  unfolding rowAction
+  row-output e h = rw (e, lt-ltb object (nameCount + d) h) refl
+
+  abbrev by : Bool → Bool → Bool → Action
+  by x y z = cond x (Input channel) (cond (y && z) (Output channel object) (NewOutput channel))
+
+  pub row-cases : (C : Action → Type 0) → (kind ≡ 1 → C (Input channel)) → (kind ≡ 2 → object < nameCount + d → C (Output channel object))
+      → ((kind ≡ 1 → ⊥) → (kind ≡ 2 → nameCount + d ≤ object) → C (NewOutput channel)) → C (rowAction d kind channel object)
+  unfolding rowAction
+  row-cases C f g h = go (eqb kind 1) refl (eqb kind 2) refl (ltb object (nameCount + d)) refl
+    where
+      go : (x : Bool) → eqb kind 1 ≡ x → (y : Bool) → eqb kind 2 ≡ y → (z : Bool) → ltb object (nameCount + d) ≡ z → C (by x y z)
+      go true x y y′ z z′ = f (eqb-true kind 1 x)
+      go false x true y true z = g (eqb-true kind 2 y) (ltb-true object (nameCount + d) z)
+      go false x true y false z = h (eqb-false kind 1 x) (λ e. ltb-false object (nameCount + d) z)
+      go false x false y z z′ = h (eqb-false kind 1 x) (λ e. absurd (eqb-false kind 2 y e))
+
+  pub row-new : (kind ≡ 1 → ⊥) → (kind ≡ 2 → nameCount + d ≤ object) → rowAction d kind channel object ≡ NewOutput channel
+  row-new n m = row-cases (λ (r : Action). r ≡ NewOutput channel) (λ e. absurd (n e)) (λ e h. let k = m e in absurd (omega arith)) (λ x y. refl)
+
+  -- To show something of an action with this row, show it of the visible ones.
+  pub row-act : (C : Act → Type 0) → ((a : ℕ) → kind ≡ 1 → slotOf nameCount d a ≡ channel → C (inpA a))
+      → ((a b : ℕ) → kind ≡ 2 → object < nameCount + d → slotOf nameCount d a ≡ channel → slotOf nameCount d b ≡ object → C (outA a b))
+      → ((a : ℕ) → (kind ≡ 1 → ⊥) → (kind ≡ 2 → nameCount + d ≤ object) → slotOf nameCount d a ≡ channel → C (boutA a))
+      → (α : Act) → actionOf d α ≡ rowAction d kind channel object → C α
+  unfolding actionOf
+  row-act C f g h tauA = row-cases (λ (r : Action). Silent ≡ r → C tauA)
+      (λ k e. let z : _≡_ {A = ℕ} 0 1 = cc in absurd (omega arith)) (λ k l e. let z : _≡_ {A = ℕ} 0 1 = cc in absurd (omega arith)) (λ k l e. let z : _≡_ {A = ℕ} 0 1 = cc in absurd (omega arith))
+  row-act C f g h (inpA a) = row-cases (λ (r : Action). Input (slotOf nameCount d a) ≡ r → C (inpA a))
+      (λ k e. f a k (cc)) (λ k l e. let z : _≡_ {A = ℕ} 0 1 = cc in absurd (omega arith)) (λ k l e. let z : _≡_ {A = ℕ} 0 1 = cc in absurd (omega arith))
+  row-act C f g h (outA a b) = row-cases (λ (r : Action). Output (slotOf nameCount d a) (slotOf nameCount d b) ≡ r → C (outA a b))
+      (λ k e. let z : _≡_ {A = ℕ} 0 1 = cc in absurd (omega arith)) (λ k l e. g a b k l (cc) (cc)) (λ k l e. let z : _≡_ {A = ℕ} 0 1 = cc in absurd (omega arith))
+  row-act C f g h (boutA a) = row-cases (λ (r : Action). NewOutput (slotOf nameCount d a) ≡ r → C (boutA a))
+      (λ k e. let z : _≡_ {A = ℕ} 0 1 = cc in absurd (omega arith)) (λ k l e. let z : _≡_ {A = ℕ} 0 1 = cc in absurd (omega arith)) (λ k l e. h a k l (cc))
+
+-- [Res] and [Open]: the row serves outside the restriction.
+module _ (d kind channel object : ℕ) where
+  -- a step without a condition, and its row
+  abbrev Acts : ℕ → Candidate → Type 0
+  Acts d c = (α : Act) × (A : Term) × (c ≡ step [] α A) × (actionOf d α ≡ rowAction d kind channel object) × ActionBelow (d + nameCount) α
+
+  -- the channel is the restricted name
+  stops : channel ≡ nameCount + d → (α : Act) (A : Term) → actionOf (1 + d) α ≡ rowAction (1 + d) kind channel object → ActionBelow (1 + d + nameCount) α → restricted (step [] α A) ≡ blocked
+  unfolding ActionBelow restricted restrictedAction sparesRestricted
+  stops z α A e b = row-act (1 + d) kind channel object (λ (α : Act). ActionBelow (1 + d + nameCount) α → restricted (step [] α A) ≡ blocked)
+      (λ a k s. input a s) (λ a b k l s t h. output a b s (h .0)) (λ a k l s. new a s) α e b
+    where
+      apart : (a : ℕ) → slotOf nameCount (1 + d) (suc a) ≡ channel → suc a < 1 + d + nameCount → ⊥
+      apart a s h = omega (arith, slot-outside nameCount d a (omega arith))
+
+      input : (a : ℕ) → slotOf nameCount (1 + d) a ≡ channel → a < 1 + d + nameCount → restricted (step [] (inpA a) A) ≡ blocked
+      input zero s h = refl
+      input (suc a) s h = absurd (apart a s h)
+
+      output : (a b : ℕ) → slotOf nameCount (1 + d) a ≡ channel → a < 1 + d + nameCount → restricted (step [] (outA a b) A) ≡ blocked
+      output zero b s h = refl
+      output (suc a) b s h = absurd (apart a s h)
+
+      new : (a : ℕ) → slotOf nameCount (1 + d) a ≡ channel → a < 1 + d + nameCount → restricted (step [] (boutA a) A) ≡ blocked
+      new zero s h = refl
+      new (suc a) s h = absurd (apart a s h)
+
+  -- it is not
+  passes : channel < nameCount + d → (α : Act) (A : Term) → actionOf (1 + d) α ≡ rowAction (1 + d) kind channel object → ActionBelow (1 + d + nameCount) α → Acts d (restricted (step [] α A))
+  unfolding ActionBelow restricted restrictedAction sparesRestricted actionOf
+  passes z α A e b = row-act (1 + d) kind channel object (λ (α : Act). ActionBelow (1 + d + nameCount) α → Acts d (restricted (step [] α A)))
+      (λ a k s. input a k s) (λ a b k l s t. output a b k s t) (λ a k l s. new a k (λ e. let m = l e in omega arith) s) α e b
+    where
+      other : slotOf nameCount (1 + d) 0 ≡ channel → ⊥
+      other s = omega (arith, slot-restricted nameCount d)
+
+      input : (a : ℕ) → kind ≡ 1 → slotOf nameCount (1 + d) a ≡ channel → a < 1 + d + nameCount → Acts d (restricted (step [] (inpA a) A))
+      input zero k s h = absurd (other s)
+      input (suc a) k s h = (inpA a, res (ren swap A), refl, ap Input (sym (slot-inner nameCount d a) ∙ s) ∙ sym (row-input d kind channel object k), omega arith)
+
+      output : (a b : ℕ) → kind ≡ 2 → slotOf nameCount (1 + d) a ≡ channel → slotOf nameCount (1 + d) b ≡ object → (a < 1 + d + nameCount) × (b < 1 + d + nameCount)
+          → Acts d (restricted (step [] (outA a b) A))
+      output zero b k s t h = absurd (other s)
+      output (suc a) zero k s t h =
+          let o : nameCount + d ≤ object = omega (arith, slot-restricted nameCount d) in
+          (boutA a, A, refl, ap NewOutput (sym (slot-inner nameCount d a) ∙ s) ∙ sym (row-new d kind channel object (λ e. omega arith) (λ e. o)), omega (arith, h .0))
+      output (suc a) (suc b) k s t h =
+          let o : object < nameCount + d = omega (arith, slot-outside nameCount d b (omega (arith, h .1))) in
+          (outA a b, res A, refl, ap₂ Output (sym (slot-inner nameCount d a) ∙ s) (sym (slot-inner nameCount d b) ∙ t) ∙ sym (row-output d kind channel object k o), (omega (arith, h .0), omega (arith, h .1)))
+
+      new : (a : ℕ) → (kind ≡ 1 → ⊥) → (kind ≡ 2 → nameCount + d ≤ object) → slotOf nameCount (1 + d) a ≡ channel → a < 1 + d + nameCount → Acts d (restricted (step [] (boutA a) A))
+      new zero k l s h = absurd (other s)
+      new (suc a) k l s h = (boutA a, res (ren swap A), refl, ap NewOutput (sym (slot-inner nameCount d a) ∙ s) ∙ sym (row-new d kind channel object k l), omega arith)
+
+  pub outlined-restricted : (c : Candidate) → Outlined (1 + d) c kind channel object → Outlined d (restricted c) kind channel object
+  unfolding restricted
+  outlined-restricted c O = record {
+    known = O .known;
+    inner = λ h. go h (ltb channel (nameCount + (1 + d))) refl;
+    acts = λ h. let (α, A, e, act, b) = O .acts (omega arith) in subst (λ (c : Candidate). Acts d (restricted c)) (sym e) (passes h α A act b);
+  }
+    where
+      go : nameCount + d ≤ channel → (t : Bool) → ltb channel (nameCount + (1 + d)) ≡ t → restricted c ≡ blocked
+      go h true t =
+          let l = ltb-true channel (nameCount + (1 + d)) t in
+          let (α, A, e, act, b) = O .acts l in
+          ap restricted e ∙ stops (omega arith) α A act b
+      go h false t = ap restricted (O .inner (ltb-false channel (nameCount + (1 + d)) t))
+
+  -- [Par]
+  pub outlined-left : (Q : Term) (c : Candidate) → Outlined d c kind channel object → Outlined d (leftSteps Q c) kind channel object
+  unfolding leftSteps
+  outlined-left Q c O = record {
+    known = O .known;
+    inner = λ h. ap (leftSteps Q) (O .inner h);
+    acts = λ h. let (α, A, e, act, b) = O .acts h in (α, par A (weak α Q), ap (leftSteps Q) e, act, b);
+  }
+
+  pub outlined-right : (P : Term) (c : Candidate) → Outlined d c kind channel object → Outlined d (rightSteps P c) kind channel object
+  unfolding rightSteps
+  outlined-right P c O = record {
+    known = O .known;
+    inner = λ h. ap (rightSteps P) (O .inner h);
+    acts = λ h. let (α, A, e, act, b) = O .acts h in (α, par (weak α P) A, ap (rightSteps P) e, act, b);
+  }
+
+-- The rows of a list of candidates.
+module _ (rows : List ℕ) (n d : ℕ) where
+  pub rows-unknown : (cs : List Candidate) → Unknown (length cs) rows n → Rows d cs rows n
+  unfolding Rows Row Unknown
+  rows-unknown cs u j h known = absurd (known (u j h))
+
+  pub rows-append : (ps qs : List Candidate) → Rows d ps rows n → Rows d qs rows (n + length ps) → Rows d (ps ++ qs) rows n
+  unfolding Rows
+  rows-append ps qs f g j h = go (ltb j (length ps)) refl
+    where
+      go : (t : Bool) → ltb j (length ps) ≡ t → Row d (getD (ps ++ qs) j blocked) rows (n + j)
+      go true t = let l = ltb-true j (length ps) t in rw (List·getD-append ps qs blocked j l) (f j l)
+      go false t =
+          let l = ltb-false j (length ps) t in
+          let e : length ps + (j - length ps) ≡ j = omega arith in
+          let p : n + length ps + (j - length ps) ≡ n + j = omega arith in
+          let c : getD (ps ++ qs) j blocked ≡ getD qs (j - length ps) blocked = ap (λ (k : ℕ). getD (ps ++ qs) k blocked) (sym e) ∙ getD-append-add ps qs (j - length ps) blocked in
+          subst (λ (c : Candidate). Row d c rows (n + j)) (sym c) (subst (λ (i : ℕ). Row d (getD qs (j - length ps) blocked) rows i) p (g (j - length ps) (omega (arith, length-append ps qs))))
+
+  -- A rule with one premise, from rows under d₁ restrictions.
+  by-rule : (d₁ : ℕ) (f : Candidate → Candidate) → ((kind channel object : ℕ) (c : Candidate) → Outlined d₁ c kind channel object → Outlined d (f c) kind channel object)
+      → (cs : List Candidate) → ((i : ℕ) → getD (map f cs) i blocked ≡ f (getD cs i blocked)) → Rows d₁ cs rows n → Rows d (map f cs) rows n
+  unfolding Rows Row
+  by-rule d₁ f keeps cs nth r j h known =
+      subst (λ (c : Candidate). Outlined d c (kindAt rows (n + j)) (channelAt rows (n + j)) (objectAt rows (n + j))) (sym (nth j))
+      (keeps _ _ _ (getD cs j blocked) (r j (omega (arith, length-map cs f)) known))
+
+  pub rows-left : (Q : Term) (cs : List Candidate) → Rows d cs rows n → Rows d (map (leftSteps Q) cs) rows n
+  rows-left Q cs = by-rule d (leftSteps Q) (λ k a o. outlined-left d k a o Q) cs (nth-leftSteps Q cs)
+
+  pub rows-right : (P : Term) (cs : List Candidate) → Rows d cs rows n → Rows d (map (rightSteps P) cs) rows n
+  rows-right P cs = by-rule d (rightSteps P) (λ k a o. outlined-right d k a o P) cs (nth-rightSteps P cs)
+
+  pub rows-restricted : (cs : List Candidate) → Rows (1 + d) cs rows n → Rows d (map restricted cs) rows n
+  rows-restricted cs = by-rule (1 + d) restricted (λ k a o. outlined-restricted d k a o) cs (nth-restricted cs)
+
+-- The rows of a parallel, and those of a restriction.
+module _ (body : ℕ → Term) (calls : ℕ) (rows : List ℕ) (n d : ℕ) where
+  pub rows-par : (P Q : Term) → Rows d (visible body calls P) rows n → Rows d (visible body calls Q) rows (n + length (visible body calls P)) → Rows d (visible body calls (par P Q)) rows n
+  unfolding visible visibleOf
+  rows-par P Q f g =
+      let ps = visible body calls P in
+      let qs = visible body calls Q in
+      let ls = map (leftSteps Q) ps in
+      let rs = map (rightSteps P) qs in
+      rows-append rows n d ls rs (rows-left rows n d Q ps f)
+      (subst (λ (k : ℕ). Rows d rs rows (n + k)) (sym (length-map ps (leftSteps Q))) (rows-right rows (n + length ps) d P qs g))
+
+  pub rows-res : (P : Term) → Rows (1 + d) (visible body calls P) rows n → Rows d (visible body calls (res P)) rows n
+  unfolding visible visibleOf
+  rows-res P = rows-restricted rows n d (visible body calls P)
+
+-- Rows that are kept.
+pub kept-all : (n : ℕ) (rows : List ℕ) → RowsKept n rows rows
+unfolding RowsKept
+kept-all n rows k h = refl
+
+pub kept-then : (n m : ℕ) (rows rows₁ rows₂ : List ℕ) → n ≤ m → RowsKept n rows rows₁ → RowsKept m rows₁ rows₂ → RowsKept n rows rows₂
+unfolding RowsKept
+kept-then n m rows rows₁ rows₂ h f g k l = g k (omega arith) ∙ f k l
+
+module _ (m : ℕ) (rows rows′ : List ℕ) (kept : RowsKept m rows rows′) where
+  kind-kept : (i : ℕ) → i < m → kindAt rows′ i ≡ kindAt rows i
+  unfolding RowsKept kindAt
+  kind-kept i h = kept (rowBytes * i) (omega arith)
+
+  pub unknown-kept : (count n : ℕ) → n + count ≤ m → Unknown count rows n → Unknown count rows′ n
+  unfolding Unknown
+  unknown-kept count n h u j l = kind-kept (n + j) (omega arith) ∙ u j l
+
+  pub rows-kept : (d n : ℕ) (cs : List Candidate) → n + length cs ≤ m → Rows d cs rows n → Rows d cs rows′ n
+  unfolding Rows Row RowsKept channelAt objectAt
+  rows-kept d n cs h r j l known =
+      let k = kind-kept (n + j) (omega arith) in
+      let a : channelAt rows′ (n + j) ≡ channelAt rows (n + j) = kept (rowBytes * (n + j) + 1) (omega arith) in
+      let o : objectAt rows′ (n + j) ≡ objectAt rows (n + j) = kept (rowBytes * (n + j) + 2) (omega arith) in
+      subst (λ (k : ℕ). Outlined d (getD cs j blocked) k (channelAt rows′ (n + j)) (objectAt rows′ (n + j))) (sym k)
+      (subst (λ (a : ℕ). Outlined d (getD cs j blocked) (kindAt rows (n + j)) a (objectAt rows′ (n + j))) (sym a)
+      (subst (λ (o : ℕ). Outlined d (getD cs j blocked) (kindAt rows (n + j)) (channelAt rows (n + j)) o) (sym o) (r j l (λ z. known (k ∙ z)))))
