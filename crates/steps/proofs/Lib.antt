@@ -33,12 +33,14 @@ pub mod PassLaws
 pub mod PlanLaws
 pub mod Premises
 pub mod QuestionDefinitions
+pub mod QuietWalks
 pub mod RawComplete
 pub mod RawSound
 pub mod Restriction
 pub mod RestrictionRuns
 pub mod ResultLaws
 pub mod RowLaws
+pub mod RowWalks
 pub mod Scope
 pub mod SilentSteps
 pub mod SlotLaws

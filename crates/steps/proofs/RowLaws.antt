@@ -19,7 +19,7 @@ use Rattle.steps.specs.declared.action.Action.{Action}
 use Rattle.steps.specs.declared.action.Action.the-variants.{Silent, Input, Output, NewOutput}
 use Rattle.steps.proofs.NameSlots.{slot-inner}
 use Rattle.steps.proofs.Numbering.{nth-leftSteps, nth-rightSteps, nth-restricted}
-use Rattle.steps.proofs.SlotLaws.{slot-restricted, slot-below, slot-outside}
+use Rattle.steps.proofs.SlotLaws.{slot-restricted, slot-outside}
 
 -- The action of a row.
 module _ (d kind channel object : ℕ) where

@@ -3,7 +3,7 @@
 use mathlib.Core.Path.{_≡_}
 use mathlib.Core.Bool.{Bool, true, cond, _&&_}
 use mathlib.Core.List.{List, [], _++_}
-use Prim.Native.Nat.{ℕ, _+_, _*_, _<_, _≤_}
+use Prim.Native.Nat.{ℕ, _+_, _-_, _*_, _<_, _≤_}
 use lib.ListN.{length, getD, drop}
 use lib.Dec.{eqb, ltb}
 use Rattle.calculus.specs.Abstraction.{Act, tauA}
@@ -12,7 +12,7 @@ use Rattle.terms.specs.Answer.{result}
 use Rattle.terms.specs.Encoding.{encode, InScope}
 use Rattle.terms.specs.Limits.{nameCount}
 use Rattle.terms.specs.Question.{Question, checkOf}
-use Rattle.steps.specs.LabelWalk.{HasSlots}
+use Rattle.steps.specs.LabelWalk.{slotAt, HasSlots}
 use Rattle.steps.specs.Labels.{actionOf, ActionBelow}
 use Rattle.steps.specs.Listing.{bodyOf}
 use Rattle.steps.specs.Raw.{Candidate, step, blocked, visible, silent}
@@ -62,6 +62,21 @@ Unknown count rows n = (j : ℕ) → j < count → kindAt rows (n + j) ≡ 0
 -- The rows before number n are as they were.
 unfoldable pub RowsKept : ℕ → List ℕ → List ℕ → Type 0
 RowsKept n rows rows′ = (k : ℕ) → k < rowBytes * n → getD rows′ k 0 ≡ getD rows k 0
+
+-- One row put, while there is room.
+pub record PutRowIs (kind channel object n : ℕ) (rows : List ℕ) (r : ℕ) (rows′ : List ℕ) : Type 0 where
+  pub on : n ≤ r
+  pub inside : r ≤ mostRows + 1
+  pub kept : RowsKept n rows rows′
+  pub is : n < mostRows → (r ≡ n + 1) × (kindAt rows′ n ≡ kind) × (channelAt rows′ n ≡ channel) × (objectAt rows′ n ≡ object)
+
+-- The slot of the name that the prefix at `at` sends, if it is a free output.
+unfoldable pub sentSlot : List ℕ → ℕ → List ℕ → ℕ → ℕ → ℕ
+sentSlot s at args inner depth = cond (eqb (getD s at 0) 3) (slotAt args inner depth (getD s (at + 2) 0)) 0
+
+-- The row of the prefix at `at`.
+abbrev pub PrefixRowIs : List ℕ → ℕ → List ℕ → ℕ → ℕ → ℕ → List ℕ → ℕ → List ℕ → Type 0
+PrefixRowIs s at args inner depth = PutRowIs (getD s at 0 - 1) (slotAt args inner depth (getD s (at + 1) 0)) (sentSlot s at args inner depth)
 
 -- The visible candidates of the term at `at` are put into the rows from number n on, while there is room; the answer is the number behind the last,
 -- or one past the last row. Beneath a match, where `asked`, the rows say nothing. The term is `ren σ P`, as in LabelWalk.

@@ -23,7 +23,7 @@ use terms::limits::GREATEST_ARITY;
 use terms::limits::NAME_COUNT;
 
 // The slot of the name byte `b` beneath `inner` restrictions of the bytes at hand, `depth` in all.
-fn slot(b: u8, args: &[u8], inner: usize, depth: usize) -> u8
+pub fn slot(b: u8, args: &[u8], inner: usize, depth: usize) -> u8
     requires { ⌜ (inner ≤ depth) × (nameCount + depth ≤ slotCount) ⌝ }
     ensures { λ r. ⌜ r ≡ slotAt (now (args .entry)) inner depth b ⌝ }
 {
@@ -38,7 +38,7 @@ fn slot(b: u8, args: &[u8], inner: usize, depth: usize) -> u8
 }
 
 // The slots of a call's `count` names, which stand at `at`: the last parameter is the innermost.
-fn arguments(
+pub fn arguments(
     src: &[u8],
     at: usize,
     count: usize,

@@ -11,5 +11,6 @@ pub mod names;
 pub mod operation;
 pub mod pass;
 pub mod result;
+pub mod rows;
 pub mod rules;
 pub mod tally;

@@ -1,0 +1,355 @@
+-- The walk over the bytes of a term puts the rows of its visible candidates, form by form. Assumes nothing.
+use mathlib.Core.Path.{_≡_, refl, sym, ap, ap₂, subst, _∙_}
+use mathlib.Core.Bool.{Bool, true, false}
+use mathlib.Core.List.{List, [], _∷_, _++_, map, append-nil}
+use Prim.Native.Nat.{ℕ, suc, _+_, _-_, _*_, _<_, _≤_}
+use native.Mathlib.Omega.{arith}
+use lib.ListN.{length, getD, set, drop, length-append, length-map, length-set}
+use lib.Seq.{getD-set-same, getD-set-other}
+use lib.Dec.{ltb}
+use borrow.Author.Tests.{ltb-true, ltb-false, ne-eqb}
+use Rattle.calculus.specs.Abstraction.{Act, inpA, outA, boutA}
+use Rattle.calculus.specs.Term.{Term, inp, out, bout, sum, par, res, call, lift, ren}
+use Rattle.terms.specs.Answer.{result}
+use Rattle.terms.specs.Encoding.{nameByte, encode, InScope}
+use Rattle.terms.specs.Limits.{nameCount}
+use Rattle.terms.specs.Question.{Question, checkOf}
+use Rattle.terms.proofs.Stores.{getD-front}
+use Rattle.steps.specs.Bodies.{BodyIs, OpeningIs}
+use Rattle.steps.specs.Labels.{actionOf, ActionBelow}
+use Rattle.steps.specs.LabelWalk.{slotAt, HasSlots, ArgumentsIs}
+use Rattle.steps.specs.Listing.{bodyOf}
+use Rattle.steps.specs.Passing.{candidates, MiddleIs}
+use Rattle.steps.specs.Raw.{Candidate, step, blocked, matching, leftSteps, rightSteps, restricted, visible, visibleOf, visibleCalls}
+use Rattle.steps.specs.Rows.{rowBytes, mostRows, kindAt, channelAt, objectAt, rowAction, Outlined, Row, Rows, Unknown, RowsKept, PutRowIs, sentSlot, PrefixRowIs, ScanIs}
+use Rattle.steps.specs.Slots.{slotOf}
+use Rattle.steps.specs.Tally.{TallyIs}
+use Rattle.steps.specs.declared.action.Action.the-variants.{Input, Output, NewOutput}
+use Rattle.steps.specs.declared.bodies.Opening.{Opening}
+use Rattle.steps.proofs.ArgumentSlots.{slots-lift, slot-read, slots-call}
+use Rattle.steps.proofs.CallLaws.{params, at-call, body-scope}
+use Rattle.steps.proofs.CandidateForms.{candidates-call, tag, tag-at, only-mat, only-res, only-two, only-prefix}
+use Rattle.steps.proofs.FrontLaws.{stands, behind}
+use Rattle.steps.proofs.RowLaws.{row-input, row-output, row-new, rows-unknown, rows-append, rows-par, rows-res, rows-kept, unknown-kept, kept-all, kept-then}
+use Rattle.steps.proofs.SlotLaws.{slot-below}
+use Rattle.steps.proofs.TwoSides.{at-left}
+use Rattle.steps.proofs.TwoSides as two
+
+unknown-none : (rows : List ℕ) (n : ℕ) → Unknown 0 rows n
+unfolding Unknown
+unknown-none rows n j h = absurd (omega arith)
+
+unknown-both : (rows : List ℕ) (n a b : ℕ) → Unknown a rows n → Unknown b rows (n + a) → Unknown (a + b) rows n
+unfolding Unknown
+unknown-both rows n a b f g j h = go (ltb j a) refl
+  where
+    go : (t : Bool) → ltb j a ≡ t → kindAt rows (n + j) ≡ 0
+    go true t = f j (ltb-true j a t)
+    go false t =
+        let l = ltb-false j a t in
+        let e : n + j ≡ n + a + (j - a) = omega arith in
+        ap (kindAt rows) e ∙ g (j - a) (omega arith)
+
+-- How many candidates a restriction, a choice and a parallel have.
+module _ (body : ℕ → Term) (calls : ℕ) where
+  many-res : (P : Term) → length (visible body calls (res P)) ≡ length (visible body calls P)
+  unfolding visible visibleOf
+  many-res P = length-map (visible body calls P) restricted
+
+  many-sum : (P Q : Term) → length (visible body calls (sum P Q)) ≡ length (visible body calls P) + length (visible body calls Q)
+  unfolding visible visibleOf
+  many-sum P Q = length-append (visible body calls P) (visible body calls Q)
+
+  many-par : (P Q : Term) → length (visible body calls (par P Q)) ≡ length (visible body calls P) + length (visible body calls Q)
+  unfolding visible visibleOf
+  many-par P Q =
+      let ps = visible body calls P in
+      let qs = visible body calls Q in
+      omega (arith, length-append (map (leftSteps Q) ps) (map (rightSteps P) qs), length-map ps (leftSteps Q), length-map qs (rightSteps P))
+
+  rows-sum : (rows : List ℕ) (n d : ℕ) (P Q : Term) → Rows d (visible body calls P) rows n → Rows d (visible body calls Q) rows (n + length (visible body calls P))
+      → Rows d (visible body calls (sum P Q)) rows n
+  unfolding visible visibleOf
+  rows-sum rows n d P Q = rows-append rows n d (visible body calls P) (visible body calls Q)
+
+-- A row is put, or there is no room for it.
+module _ (kind channel object n : ℕ) (rows : List ℕ) where
+  pub row-over : mostRows ≤ n → n ≤ mostRows + 1 → PutRowIs kind channel object n rows (mostRows + 1) rows
+  row-over h m = record { on = m; inside = omega arith; kept = kept-all n rows; is = λ l. absurd (omega arith) }
+
+  pub row-put : (p : ℕ) → p ≡ rowBytes * n → n < mostRows → rowBytes * mostRows ≤ length rows
+      → PutRowIs kind channel object n rows (n + 1) (set (set (set rows p kind) (p + 1) channel) (p + 2) object)
+  unfolding RowsKept kindAt channelAt objectAt
+  row-put p e h m =
+      let rows₁ = set rows p kind in
+      let rows₂ = set rows₁ (p + 1) channel in
+      let l₁ = length-set rows p kind in
+      let l₂ = length-set rows₁ (p + 1) channel in
+      let other : (k : ℕ) → (k ≡ p + 2 → ⊥) → getD (set rows₂ (p + 2) object) k 0 ≡ getD rows₂ k 0 = λ k. getD-set-other rows₂ (p + 2) k object 0 in
+      let other₁ : (k : ℕ) → (k ≡ p + 1 → ⊥) → getD rows₂ k 0 ≡ getD rows₁ k 0 = λ k. getD-set-other rows₁ (p + 1) k channel 0 in
+      record {
+        on = omega arith;
+        inside = omega arith;
+        kept = λ k h. other k (λ z. omega arith) ∙ other₁ k (λ z. omega arith) ∙ getD-set-other rows p k kind 0 (λ z. omega arith);
+        is = λ h. (
+          refl,
+          ap (λ (k : ℕ). getD (set rows₂ (p + 2) object) k 0) (sym e) ∙ other p (λ z. omega arith) ∙ other₁ p (λ z. omega arith) ∙ getD-set-same rows p kind 0 (omega arith),
+          ap (λ (k : ℕ). getD (set rows₂ (p + 2) object) (k + 1) 0) (sym e) ∙ other (p + 1) (λ z. omega arith) ∙ getD-set-same rows₁ (p + 1) channel 0 (omega arith),
+          ap (λ (k : ℕ). getD (set rows₂ (p + 2) object) (k + 2) 0) (sym e) ∙ getD-set-same rows₂ (p + 2) object 0 (omega arith),
+        );
+      }
+
+-- The row of a prefix, by its bytes.
+module _ (s : List ℕ) (at : ℕ) (args : List ℕ) (inner depth t channel object : ℕ) (a : t ≡ getD s at 0) (b : channel ≡ slotAt args inner depth (getD s (at + 1) 0)) (n : ℕ) (rows : List ℕ) (r : ℕ)
+    (rows′ : List ℕ) (R : PutRowIs (t - 1) channel object n rows r rows′) where
+  prefix-row : object ≡ sentSlot s at args inner depth → PrefixRowIs s at args inner depth n rows r rows′
+  prefix-row e = rw (← a, ← b, ← e) R
+
+  pub prefix-sends : t ≡ 3 → object ≡ slotAt args inner depth (getD s (at + 2) 0) → PrefixRowIs s at args inner depth n rows r rows′
+  unfolding sentSlot
+  prefix-sends z e =
+      let k : getD s at 0 ≡ 3 = sym a ∙ z in
+      let o : object ≡ sentSlot s at args inner depth = rw k e in
+      prefix-row o
+
+  pub prefix-other : (t ≡ 3 → ⊥) → object ≡ 0 → PrefixRowIs s at args inner depth n rows r rows′
+  unfolding sentSlot
+  prefix-other z e =
+      let o : object ≡ sentSlot s at args inner depth = rw (ne-eqb (getD s at 0) 3 (λ k. z (a ∙ k))) e in
+      prefix-row o
+
+-- One row.
+module _ (d kind channel object : ℕ) (rows : List ℕ) (n : ℕ) (k : kindAt rows n ≡ kind) where
+  one-unknown : kind ≡ 0 → Unknown 1 rows n
+  unfolding Unknown
+  one-unknown z j h = let e : n + j ≡ n = omega arith in ap (kindAt rows) e ∙ k ∙ z
+
+  one-row : channelAt rows n ≡ channel → objectAt rows n ≡ object → (c : Candidate) → Outlined d c kind channel object → Rows d (c ∷ []) rows n
+  unfolding Rows Row
+  one-row a o c O j h known =
+      let z : j ≡ 0 = omega arith in
+      let e : n ≡ n + j = omega arith in
+      subst (λ (i : ℕ). Outlined d (getD (c ∷ []) j blocked) (kindAt rows i) (channelAt rows i) (objectAt rows i)) e
+      (subst (λ (i : ℕ). Outlined d (getD (c ∷ []) i blocked) (kindAt rows n) (channelAt rows n) (objectAt rows n)) (sym z)
+      (rw (k, a, o) O))
+
+-- The candidate of a visible prefix.
+module _ (d kind channel object : ℕ) (α : Act) (A : Term) (few : kind ≤ 3) (below : channel < nameCount + d) (e : actionOf d α ≡ rowAction d kind channel object) (b : ActionBelow (d + nameCount) α) where
+  outlined : Outlined d (step [] α A) kind channel object
+  outlined = record {
+    known = few;
+    inner = λ h. absurd (omega arith);
+    acts = λ h. (α, A, refl, e, b);
+  }
+
+module _ (question s : List ℕ) (at : ℕ) (asked : Bool) (args : List ℕ) (inner depth calls n : ℕ) (rows : List ℕ) where
+  abbrev seen : Question → (ℕ → ℕ) → Term → List Candidate
+  seen q σ P = visible (bodyOf (q .bodies)) calls (ren σ P)
+
+  -- what is to be shown of the candidates of each form
+  abbrev Has : ℕ → List ℕ → List Candidate → Type 0
+  Has r rows′ cs = (r ≡ n + length cs) × Rows depth cs rows′ n × (asked ≡ true → Unknown (length cs) rows′ n)
+
+  abbrev Shows : Question → (ℕ → ℕ) → ℕ → List ℕ → Term → Type 0
+  Shows q σ r rows′ P = n + length (seen q σ P) ≤ mostRows → Has r rows′ (seen q σ P)
+
+  abbrev Stands : Question → ℕ → ℕ → (ℕ → ℕ) → List ℕ → ℕ → List ℕ → Term → Type 0
+  Stands q free D σ rest r rows′ P = InScope free (q .arities) D P → drop at s ≡ encode D P ++ rest → Shows q σ r rows′ P
+
+  has-none : Has n rows []
+  has-none = (omega arith, rows-unknown rows n depth [] (unknown-none rows n), λ e. unknown-none rows n)
+
+  -- no term stands past the end
+  pub scan-none : n ≤ mostRows + 1 → length s ≤ at → ScanIs question s at asked args inner depth calls n rows n rows
+  scan-none m h = record {
+    on = omega arith;
+    inside = m;
+    kept = kept-all n rows;
+    is = λ q free D σ P rest ok few has scope st. let z = stands s at D P rest st in absurd (omega arith);
+  }
+
+  -- inaction and the silent prefix
+  pub scan-idle : n ≤ mostRows + 1 → getD s at 0 < 2 → ScanIs question s at asked args inner depth calls n rows n rows
+  unfolding visible visibleOf
+  scan-idle m g = record {
+    on = omega arith;
+    inside = m;
+    kept = kept-all n rows;
+    is = λ q free D σ P rest ok few has scope st.
+        let k = tag-at s at D P rest st in
+        only-prefix (λ (P : Term). tag P < 2 → Shows q σ n rows P)
+        (λ h l. has-none) (λ P h l. has-none) (λ a P h l. absurd (omega arith)) (λ a b P h l. absurd (omega arith)) (λ a P h l. absurd (omega arith))
+        P (omega arith) (omega arith);
+  }
+
+  module _ (l : 1 < getD s at 0) (g : getD s at 0 < 5) (r : ℕ) (rows′ : List ℕ) where
+    -- beneath a match
+    pub scan-asked : PutRowIs 0 0 0 n rows r rows′ → ScanIs question s at asked args inner depth calls n rows r rows′
+    unfolding visible visibleOf
+    scan-asked R = record {
+      on = R .on;
+      inside = R .inside;
+      kept = R .kept;
+      is = λ q free D σ P rest ok few has scope st.
+          let k = tag-at s at D P rest st in
+          let one : (c : Candidate) → n + 1 ≤ mostRows → Has r rows′ (c ∷ []) =
+          λ c h.
+          let w = R .is (omega arith) in
+          let u = one-unknown depth 0 0 0 rows′ n (w .1) refl in
+          (w .0, rows-unknown rows′ n depth (c ∷ []) u, λ e. u) in
+          only-prefix (λ (P : Term). 1 < tag P → Shows q σ r rows′ P)
+          (λ h. absurd (omega arith)) (λ P h. absurd (omega arith)) (λ a P h. one _) (λ a b P h. one _) (λ a P h. one _)
+          P (omega arith) (omega arith);
+    }
+
+    pub scan-prefix : asked ≡ false → PrefixRowIs s at args inner depth n rows r rows′ → ScanIs question s at asked args inner depth calls n rows r rows′
+    unfolding visible visibleOf InScope encode sentSlot actionOf ActionBelow
+    scan-prefix f R = record {
+      on = R .on;
+      inside = R .inside;
+      kept = R .kept;
+      is = λ q free D σ P rest ok few has scope st.
+          let read = slot-read free D args inner depth σ few has s at in
+          let t = tag-at s at D P rest st in
+          let channel = slotAt args inner depth (getD s (at + 1) 0) in
+          let object = sentSlot s at args inner depth in
+          let one : (c : Candidate) → Outlined depth c (getD s at 0 - 1) channel object → n + 1 ≤ mostRows → Has r rows′ (c ∷ []) =
+          λ c O h.
+          let w = R .is (omega arith) in
+          (w .0, one-row depth (getD s at 0 - 1) channel object rows′ n (w .1) (w .2) (w .3) c O, λ e. absurd (clash e)) in
+          only-prefix (λ (P : Term). 1 < tag P → getD s at 0 ≡ tag P → Stands q free D σ rest r rows′ P)
+          (λ h k. absurd (omega arith)) (λ P h k. absurd (omega arith))
+          (λ a P h k scope st.
+          let u = read 1 a (scope .0) (getD-front s at (encode D (inp a P)) rest 1 st (omega arith)) channel refl in
+          one _ (outlined depth (getD s at 0 - 1) channel object (inpA (σ a)) (ren (lift σ) P) (omega arith) (omega (arith, u .0, slot-below nameCount depth (σ a) (u .1)))
+          (ap Input (sym (u .0)) ∙ sym (row-input depth (getD s at 0 - 1) channel object (omega arith))) (u .1)))
+          (λ a b P h k scope st.
+          let u = read 1 a (scope .0) (getD-front s at (encode D (out a b P)) rest 1 st (omega arith)) channel refl in
+          let v = read 2 b (scope .1) (getD-front s at (encode D (out a b P)) rest 2 st (omega arith)) (slotAt args inner depth (getD s (at + 2) 0)) refl in
+          let o : object ≡ slotOf nameCount depth (σ b) = rw k (v .0) in
+          one _ (outlined depth (getD s at 0 - 1) channel object (outA (σ a) (σ b)) (ren σ P) (omega arith) (omega (arith, u .0, slot-below nameCount depth (σ a) (u .1)))
+          (ap₂ Output (sym (u .0)) (sym o) ∙ sym (row-output depth (getD s at 0 - 1) channel object (omega arith) (omega (arith, slot-below nameCount depth (σ b) (v .1))))) (u .1, v .1)))
+          (λ a P h k scope st.
+          let u = read 1 a (scope .0) (getD-front s at (encode D (bout a P)) rest 1 st (omega arith)) channel refl in
+          one _ (outlined depth (getD s at 0 - 1) channel object (boutA (σ a)) (ren (lift σ) P) (omega arith) (omega (arith, u .0, slot-below nameCount depth (σ a) (u .1)))
+          (ap NewOutput (sym (u .0)) ∙ sym (row-new depth (getD s at 0 - 1) channel object (λ e. omega arith) (λ e. absurd (omega arith)))) (u .1)))
+          P (omega arith) (omega arith) t scope st;
+    }
+      where
+        clash : asked ≡ true → ⊥
+        clash e = let z : _≡_ {A = ℕ} 0 1 = cc in omega arith
+
+  -- [Match]
+  pub scan-mat : getD s at 0 ≡ 5 → (r : ℕ) (rows′ : List ℕ) → ScanIs question s (at + 3) true args inner depth calls n rows r rows′ → ScanIs question s at asked args inner depth calls n rows r rows′
+  unfolding visible visibleOf InScope encode
+  scan-mat g r rows′ X = record {
+    on = X .on;
+    inside = X .inside;
+    kept = X .kept;
+    is = λ q free D σ P rest ok few has scope st. only-mat (Stands q free D σ rest r rows′)
+        (λ a b P scope st h.
+        let cs = seen q σ P in
+        let m : length (map (matching (σ a) (σ b)) cs) ≡ length cs = length-map cs (matching (σ a) (σ b)) in
+        let w = X .is q free D σ P rest ok few has (scope .2) (behind s at 3 (5 ∷ nameByte D a ∷ nameByte D b ∷ []) (encode D P ++ rest) st refl) (omega arith) in
+        let u : Unknown (length (map (matching (σ a) (σ b)) cs)) rows′ n = rw m (w .2 refl) in
+        (w .0 ∙ omega arith, rows-unknown rows′ n depth (map (matching (σ a) (σ b)) cs) u, λ e. u))
+        P (sym (tag-at s at D P rest st) ∙ g) scope st;
+  }
+
+  -- [Res] and [Open]
+  pub scan-res : getD s at 0 ≡ 8 → (r : ℕ) (rows′ : List ℕ) → ScanIs question s (at + 1) asked args (inner + 1) (depth + 1) calls n rows r rows′
+      → ScanIs question s at asked args inner depth calls n rows r rows′
+  unfolding InScope encode
+  scan-res g r rows′ X = record {
+    on = X .on;
+    inside = X .inside;
+    kept = X .kept;
+    is = λ q free D σ P rest ok few has scope st. only-res (Stands q free D σ rest r rows′)
+        (λ P scope st h.
+        let cs = seen q (lift σ) P in
+        let d : depth + 1 ≡ 1 + depth = omega arith in
+        let m = many-res (bodyOf (q .bodies)) calls (ren (lift σ) P) in
+        let w = X .is q free (1 + D) (lift σ) P rest ok few (slots-lift free D args inner depth σ few has) scope (behind s at 1 (8 ∷ []) (encode (1 + D) P ++ rest) st refl) (omega arith) in
+        (w .0 ∙ omega arith, rows-res (bodyOf (q .bodies)) calls rows′ n depth (ren (lift σ) P) (subst (λ (d : ℕ). Rows d cs rows′ n) d (w .1)), λ e. rw m (w .2 e)))
+        P (sym (tag-at s at D P rest st) ∙ g) scope st;
+  }
+
+  -- A choice or a parallel: the left side's rows, then the right side's.
+  module _ (l : 5 < getD s at 0) (g : getD s at 0 < 8) (numbers : List ℕ) (T : TallyIs question s calls numbers) (middle : ℕ) (N : MiddleIs s numbers at middle) (r₁ : ℕ) (rows₁ : List ℕ)
+      (X : ScanIs question s (at + 1) asked args inner depth calls n rows r₁ rows₁) (r : ℕ) (rows′ : List ℕ)
+      (Y : ScanIs question s middle asked args inner depth calls r₁ rows₁ r rows′) where
+    sides : (q : Question) (free D : ℕ) (σ : ℕ → ℕ) (P Q : Term) (rest : List ℕ) → checkOf question ≡ result q → free ≤ nameCount → HasSlots free D args inner depth σ
+        → InScope free (q .arities) D P → InScope free (q .arities) D Q → drop (at + 1) s ≡ encode D P ++ (encode D Q ++ rest)
+        → (cs : List Candidate) → length cs ≡ length (seen q σ P) + length (seen q σ Q)
+        → (Rows depth (seen q σ P) rows′ n → Rows depth (seen q σ Q) rows′ (n + length (seen q σ P)) → Rows depth cs rows′ n)
+        → n + length cs ≤ mostRows → Has r rows′ cs
+    sides q free D σ P Q rest ok few has sp sq st cs m join h =
+        let ps = seen q σ P in
+        let qs = seen q σ Q in
+        let (e, f, u) = X .is q free D σ P (encode D Q ++ rest) ok few has sp st (omega arith) in
+        let (e₂, f₂, u₂) = Y .is q free D σ Q rest ok few has sq (two.behind question s calls numbers T at middle N q free D σ P Q rest ok sp sq st) (omega arith) in (
+          omega arith,
+          join (rows-kept r₁ rows₁ rows′ (Y .kept) depth n ps (omega arith) f) (subst (Rows depth qs rows′) e f₂),
+          λ t. rw m (unknown-both rows′ n (length ps) (length qs) (unknown-kept r₁ rows₁ rows′ (Y .kept) (length ps) n (omega arith) (u t)) (subst (Unknown (length qs) rows′) e (u₂ t))),
+        )
+
+    pub scan-two : ScanIs question s at asked args inner depth calls n rows r rows′
+    unfolding InScope encode
+    scan-two = record {
+      on = let x = X .on in let y = Y .on in omega arith;
+      inside = Y .inside;
+      kept = kept-then n r₁ rows rows₁ rows′ (X .on) (X .kept) (Y .kept);
+      is = λ q free D σ P rest ok few has scope st.
+          let k = tag-at s at D P rest st in
+          let body = bodyOf (q .bodies) in
+          only-two (Stands q free D σ rest r rows′)
+          (λ P Q scope st. sides q free D σ P Q rest ok few has (scope .0) (scope .1) (at-left D s at P Q rest 6 st) _ (many-sum body calls (ren σ P) (ren σ Q)) (rows-sum body calls rows′ n depth (ren σ P) (ren σ Q)))
+          (λ P Q scope st. sides q free D σ P Q rest ok few has (scope .0) (scope .1) (at-left D s at P Q rest 7 st) _ (many-par body calls (ren σ P) (ren σ Q)) (rows-par body calls rows′ n depth (ren σ P) (ren σ Q)))
+          P (omega arith) (omega arith) scope st;
+    }
+
+  -- [Con]
+  module _ (g : 8 < getD s at 0) (o : Opening) (O : OpeningIs question s at calls o) where
+    -- no call is left to open, or the question is not accepted
+    pub scan-closed : n ≤ mostRows + 1 → o .allowed ≡ false → ScanIs question s at asked args inner depth calls n rows n rows
+    unfolding visible visibleOf visibleCalls
+    scan-closed m z = record {
+      on = omega arith;
+      inside = m;
+      kept = kept-all n rows;
+      is = λ q free D σ P rest ok few has scope st.
+          at-call question s at D calls false 0 g (o .definition) (o .arity) (O .definition) (O .arity) (Shows q σ n rows) q free P rest ok scope st
+          (λ xs e a k names st h. subst (λ (c : ℕ). Has n rows (visible (bodyOf (q .bodies)) c (call (o .definition) (map σ xs)))) (sym (O .not z q ok k)) has-none);
+    }
+
+    -- the call's names do not all stand there
+    pub scan-cut : n ≤ mostRows + 1 → length s < o .end → ScanIs question s at asked args inner depth calls n rows n rows
+    unfolding encode
+    scan-cut m h = record {
+      on = omega arith;
+      inside = m;
+      kept = kept-all n rows;
+      is = λ q free D σ P rest ok few has scope st.
+          at-call question s at D calls false 0 g (o .definition) (o .arity) (O .definition) (O .arity) (λ (P : Term). at + length (encode D P) ≤ length s → Shows q σ n rows P)
+          q free P rest ok scope st (λ xs m a k names st whole. absurd (omega (arith, O .end, length-map xs (nameByte D)))) (stands s at D P rest st .1);
+    }
+
+    pub scan-called : 0 < calls → (bytes : List ℕ) → BodyIs question (o .definition) bytes → (given : List ℕ) → ArgumentsIs s (at + 2) (o .arity) args inner depth given
+        → (r : ℕ) (rows′ : List ℕ) → ScanIs question bytes 0 asked given 0 depth (calls - 1) n rows r rows′ → ScanIs question s at asked args inner depth calls n rows r rows′
+    unfolding candidates
+    scan-called z bytes B given G r rows′ X = record {
+      on = X .on;
+      inside = X .inside;
+      kept = X .kept;
+      is = λ q free D σ P rest ok few has scope st.
+          let body = bodyOf (q .bodies) in
+          let k = o .definition in
+          let m = o .arity in
+          let more : calls ≡ suc (calls - 1) = omega arith in
+          at-call question s at D calls false 0 g k m (O .definition) (O .arity) (Shows q σ r rows′) q free P rest ok scope st
+          (λ xs e a j names st.
+          subst (λ (l : List Candidate). n + length l ≤ mostRows → Has r rows′ l) (sym (ap (λ (c : ℕ). visible body c (call k (map σ xs))) more ∙ candidates-call body false (calls - 1) k (map σ xs)))
+          (X .is q 0 m (params σ xs) (body k) [] ok (omega arith) (slots-call free D args inner depth σ few has s (at + 2) xs rest m given names st e G)
+          (subst (λ (n : ℕ). InScope 0 (q .arities) n (body k)) (sym a) (body-scope question q ok k))
+          (B .is q ok j ∙ ap (λ (n : ℕ). encode n (body k)) (sym a) ∙ sym (append-nil (encode m (body k))))));
+    }

@@ -1,0 +1,266 @@
+// The visible candidates of a term in a table of rows, found on one walk of the term's bytes beneath restriction, choice, parallel, match and call,
+// in the order of specs/Raw. And whether the term's silent candidates have no condition.
+ghost use Prim.Native.Nat.{_+_, _*_, _≤_, _<_};
+ghost use lib.ListN.{length, getD};
+ghost use Rattle.terms.specs.Limits.{nameCount, longestTerm};
+ghost use Rattle.steps.specs.LabelWalk.{Within};
+ghost use Rattle.steps.specs.Rows.{rowBytes, mostRows, PutRowIs, PrefixRowIs, ScanIs, QuietIs};
+ghost use Rattle.steps.specs.Slots.{slotCount};
+ghost use Rattle.steps.specs.Tally.{TallyIs, BodiesTallied};
+use crate::bodies::body_of;
+use crate::bodies::call_at;
+use crate::label::arguments;
+use crate::label::slot;
+use crate::pass::middle_of;
+use crate::tally::body_tally;
+use crate::tally::silent_at;
+use terms::bytes::get;
+
+// What a candidate does (1 input, 2 output, 3 new-name output, 0 not known), its channel and its object; the fourth byte is not used.
+pub const ROW_BYTES: usize = 4;
+
+// No part has more visible candidates.
+pub const MOST_ROWS: usize = 1056;
+
+// Puts one row, while there is room, and answers the number behind it.
+fn put_row(rows: &mut [u8], n: usize, kind: u8, channel: u8, object: u8) -> usize
+    requires { ⌜ (n ≤ mostRows + 1) × (rowBytes * mostRows ≤ length (now rows)) ⌝ }
+    ensures { λ r. ⌜ PutRowIs kind channel object n (now (rows .entry)) r (now (rows .exit)) ⌝ }
+{
+    if MOST_ROWS <= n {
+        return MOST_ROWS + 1;
+    }
+    let at = ROW_BYTES * n;
+    rows[at] = kind;
+    rows[at + 1] = channel;
+    rows[at + 2] = object;
+    n + 1
+}
+
+// The row of the visible prefix at `at`.
+fn scan_prefix(
+    src: &[u8],
+    at: usize,
+    args: &[u8],
+    inner: usize,
+    depth: usize,
+    rows: &mut [u8],
+    n: usize,
+) -> usize
+    requires { ⌜ (at < length (now src)) × (1 < getD (now src) at 0) × (inner ≤ depth) × (nameCount + depth ≤ slotCount) × (n ≤ mostRows + 1) × (rowBytes * mostRows ≤ length (now rows)) ⌝ }
+    ensures { λ r. ⌜ PrefixRowIs (now (src .entry)) at (now (args .entry)) inner depth n (now (rows .entry)) r (now (rows .exit)) ⌝ }
+{
+    let t = get(src, at);
+    let channel = slot(get(src, at + 1), args, inner, depth);
+    if t == 3 {
+        let object = slot(get(src, at + 2), args, inner, depth);
+        return put_row(rows, n, t - 1, channel, object);
+    }
+    put_row(rows, n, t - 1, channel, 0)
+}
+
+// The call at `at`: the rows of the body, while calls are left to open.
+fn scan_call(
+    question: &[u8],
+    bodies: &[u32],
+    src: &[u8],
+    at: usize,
+    asked: bool,
+    args: &[u8],
+    inner: usize,
+    depth: usize,
+    calls: usize,
+    rows: &mut [u8],
+    n: usize,
+) -> usize
+    requires { ⌜ (at < length (now src)) × (8 < getD (now src) at 0) × Within (now src) at inner depth calls × BodiesTallied (now question) (now bodies) × (n ≤ mostRows + 1) × (rowBytes * mostRows ≤ length (now rows)) ⌝ }
+    ensures { λ r. ⌜ ScanIs (now (question .entry)) (now (src .entry)) at asked (now (args .entry)) inner depth calls n (now (rows .entry)) r (now (rows .exit)) ⌝ }
+{
+    let o = call_at(question, src, at, calls);
+    if !o.allowed {
+        return n;
+    }
+    if src.len() < o.end {
+        return n;
+    }
+    let given = arguments(src, at + 2, o.arity, args, inner, depth);
+    let body = body_of(question, o.definition);
+    let within = body_tally(bodies, o.definition);
+    scan(
+        question,
+        bodies,
+        body,
+        within,
+        0,
+        asked,
+        &given,
+        0,
+        depth,
+        calls - 1,
+        rows,
+        n,
+    )
+}
+
+// Puts the visible candidates of the term at `at` into the rows from number `n` on, and answers the number behind the last. The term stands beneath
+// `inner` restrictions of these bytes and `depth` in all; `args` has the slots of the parameters. Beneath a match, where `asked`, the rows say
+// nothing.
+pub fn scan(
+    question: &[u8],
+    bodies: &[u32],
+    src: &[u8],
+    tally: &[u32],
+    at: usize,
+    asked: bool,
+    args: &[u8],
+    inner: usize,
+    depth: usize,
+    calls: usize,
+    rows: &mut [u8],
+    n: usize,
+) -> usize
+    requires { ⌜ Within (now src) at inner depth calls × TallyIs (now question) (now src) calls (now tally) × BodiesTallied (now question) (now bodies) × (n ≤ mostRows + 1) × (rowBytes * mostRows ≤ length (now rows)) ⌝ }
+    ensures { λ r. ⌜ ScanIs (now (question .entry)) (now (src .entry)) at asked (now (args .entry)) inner depth calls n (now (rows .entry)) r (now (rows .exit)) ⌝ }
+{
+    if src.len() <= at {
+        return n;
+    }
+    let t = src[at];
+    if t < 2 {
+        return n;
+    }
+    if t < 5 {
+        if asked {
+            return put_row(rows, n, 0, 0, 0);
+        }
+        return scan_prefix(src, at, args, inner, depth, rows, n);
+    }
+    if t == 5 {
+        return scan(
+            question,
+            bodies,
+            src,
+            tally,
+            at + 3,
+            true,
+            args,
+            inner,
+            depth,
+            calls,
+            rows,
+            n,
+        );
+    }
+    if t == 8 {
+        return scan(
+            question,
+            bodies,
+            src,
+            tally,
+            at + 1,
+            asked,
+            args,
+            inner + 1,
+            depth + 1,
+            calls,
+            rows,
+            n,
+        );
+    }
+    if 8 < t {
+        return scan_call(
+            question,
+            bodies,
+            src,
+            at,
+            asked,
+            args,
+            inner,
+            depth,
+            calls,
+            rows,
+            n,
+        );
+    }
+    let middle = middle_of(src, tally, at);
+    let m = scan(
+        question,
+        bodies,
+        src,
+        tally,
+        at + 1,
+        asked,
+        args,
+        inner,
+        depth,
+        calls,
+        rows,
+        n,
+    );
+    scan(
+        question,
+        bodies,
+        src,
+        tally,
+        middle,
+        asked,
+        args,
+        inner,
+        depth,
+        calls,
+        rows,
+        m,
+    )
+}
+
+// The call at `at`: the body, while calls are left to open.
+fn quiet_call(question: &[u8], bodies: &[u32], src: &[u8], at: usize, calls: usize) -> bool
+    requires { ⌜ (at < length (now src)) × (8 < getD (now src) at 0) × (calls ≤ 1) × BodiesTallied (now question) (now bodies) ⌝ }
+    ensures { λ r. ⌜ QuietIs (now (question .entry)) (now (src .entry)) at calls r ⌝ }
+{
+    let o = call_at(question, src, at, calls);
+    if !o.allowed {
+        return true;
+    }
+    let body = body_of(question, o.definition);
+    let within = body_tally(bodies, o.definition);
+    quiet(question, bodies, body, within, 0, calls - 1)
+}
+
+// Whether the silent candidates of the term at `at` have no condition: neither a match nor a parallel stands above a silent prefix.
+pub fn quiet(
+    question: &[u8],
+    bodies: &[u32],
+    src: &[u8],
+    tally: &[u32],
+    at: usize,
+    calls: usize,
+) -> bool
+    requires { ⌜ (length (now src) ≤ longestTerm) × (calls ≤ 1) × TallyIs (now question) (now src) calls (now tally) × BodiesTallied (now question) (now bodies) ⌝ }
+    ensures { λ r. ⌜ QuietIs (now (question .entry)) (now (src .entry)) at calls r ⌝ }
+{
+    if src.len() <= at {
+        return true;
+    }
+    if silent_at(tally, at) == 0 {
+        return true;
+    }
+    let t = src[at];
+    if t < 5 {
+        return true;
+    }
+    if t == 8 {
+        return quiet(question, bodies, src, tally, at + 1, calls);
+    }
+    if 8 < t {
+        return quiet_call(question, bodies, src, at, calls);
+    }
+    if t != 6 {
+        return false;
+    }
+    let middle = middle_of(src, tally, at);
+    if !quiet(question, bodies, src, tally, at + 1, calls) {
+        return false;
+    }
+    quiet(question, bodies, src, tally, middle, calls)
+}
