@@ -10,6 +10,7 @@ pub mod CanonSteps
 pub mod ClassLists
 pub mod CollectLaws
 pub mod ConditionArrays
+pub mod ContextLaws
 pub mod DerivedLaws
 pub mod EntryLaws
 pub mod EntryOrder
