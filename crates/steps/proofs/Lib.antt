@@ -31,6 +31,7 @@ pub mod NameSlots
 pub mod Numbering
 pub mod OperationLaws
 pub mod PassLaws
+pub mod PlacedResults
 pub mod PlanLaws
 pub mod Premises
 pub mod QuestionDefinitions

@@ -34,7 +34,7 @@ use Rattle.steps.proofs.Premises.{never, Meets, Meeting, left-of, right
 use Rattle.steps.proofs.TwoSides.{sides-par, number-is, middle-on, middle-is, behind, right-number}
 
 -- What stands beside a step is written as it is.
-weak-received : (x : ℕ) (ρ : ℕ → ℕ) (α : Act) (Q : Term) → ren (receiving x ρ α) (weak α Q) ≡ ren ρ Q
+pub weak-received : (x : ℕ) (ρ : ℕ → ℕ) (α : Act) (Q : Term) → ren (receiving x ρ α) (weak α Q) ≡ ren ρ Q
 unfolding receiving
 weak-received x ρ tauA Q = refl
 weak-received x ρ (inpA a) Q = ren-triangle (x • ρ) suc ρ Q (λ n. refl)
