@@ -16,7 +16,7 @@ use Rattle.terms.specs.Encoding.{nameByte}
 use Rattle.terms.specs.NameTable.{slot, Represents}
 use Rattle.terms.proofs.NameTables.{byte-bound, byte-free}
 use Rattle.steps.specs.Slots.{slotOf}
-use Rattle.steps.specs.Names.{HasNames, HasNew, Kept, turn, CalledIs, TableIs}
+use Rattle.steps.specs.Names.{HasNames, HasNew, Kept, OwnNames, turn, CalledIs, TableIs}
 
 pub turn-free : (from to D w : ℕ) → w < from → turn from to D w ≡ w
 unfolding turn
@@ -105,6 +105,13 @@ slot-of-place D m h = go (ltb m D) refl
         let l = ltb-false m D t in
         rw (slot-free tableNames D m l, t) (turn-free tableNames tableNames D (m - D) (omega arith))
 
+slot-within : (D m : ℕ) → m < D + tableNames → slotOf tableNames D m < tableNames + D
+slot-within D m h = go (ltb m D) refl
+  where
+    go : (t : Bool) → ltb m D ≡ t → slotOf tableNames D m < tableNames + D
+    go true t = omega (arith, ltb-true m D t, slot-bound tableNames D m (ltb-true m D t))
+    go false t = omega (arith, slot-free tableNames D m (ltb-false m D t), ltb-false m D t)
+
 place-within : (D m : ℕ) → m < D + tableNames → slot D m < tableNames + D
 unfolding slot
 place-within D m h = go (ltb m D) refl
@@ -147,11 +154,17 @@ module _ (free D D′ : ℕ) (names : List ℕ) (τ : ℕ → ℕ) (has : HasNam
   -- What is kept of the table is enough.
   pub names-kept : (names′ : List ℕ) → free ≤ tableNames → Kept D names names′ → HasNames free D D′ names′ τ
   unfolding HasNames Kept
-  names-kept names′ few kept m h = let (e, r) = has m h in (kept (slotOf tableNames D m) (slot-within (ltb m D) refl) ∙ e, r)
-    where
-      slot-within : (t : Bool) → ltb m D ≡ t → slotOf tableNames D m < tableNames + D
-      slot-within true t = omega (arith, ltb-true m D t, slot-bound tableNames D m (ltb-true m D t))
-      slot-within false t = omega (arith, slot-free tableNames D m (ltb-false m D t), ltb-false m D t)
+  names-kept names′ few kept m h = let (e, r) = has m h in (kept (slotOf tableNames D m) (slot-within D m (omega arith)) ∙ e, r)
+
+-- Each name stands for itself.
+pub names-own : (free D : ℕ) (names : List ℕ) → free ≤ tableNames → OwnNames D names → HasNames free D D names (λ n. n)
+unfolding HasNames OwnNames
+names-own free D names few own m h = (own (slotOf tableNames D m) (slot-within D m (omega arith)), omega arith)
+
+-- A free name under D restrictions.
+pub new-own : (D x : ℕ) → x < tableNames → HasNew D x (D + x)
+unfolding HasNew
+new-own D x h = (sym (slot-free tableNames D (D + x) (omega arith) ∙ omega arith), omega arith)
 
 pub new-beneath : (D′ new x : ℕ) → HasNew D′ new x → HasNew (1 + D′) new (suc x)
 unfolding HasNew

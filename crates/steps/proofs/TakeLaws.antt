@@ -63,7 +63,7 @@ unfolding HasNew
 has-new x h = (sym (slot-name tableNames x), omega arith)
 
 -- The result that the writer writes by this table is that in canonical form.
-receiving-canonical : (x : ℕ) (M : Cond) (α : Act) (A : Term)
+pub receiving-canonical : (x : ℕ) (M : Cond) (α : Act) (A : Term)
     → resultBytes (canonStep nameCount x M α A) ≡ encode 0 (ren (receiving x (cls M) α) A)
 unfolding resultBytes canonStep listedAs receiving
 receiving-canonical x M tauA A = refl

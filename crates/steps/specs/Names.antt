@@ -29,6 +29,10 @@ HasNew D′ new x = (new ≡ slotOf tableNames D′ x) × (x < D′ + tableNames
 unfoldable pub Kept : ℕ → List ℕ → List ℕ → Type 0
 Kept D names names′ = (k : ℕ) → k < tableNames + D → getD names′ k 0 ≡ getD names k 0
 
+-- Each name stands for itself: the free ones and those of D binders.
+unfoldable pub OwnNames : ℕ → List ℕ → Type 0
+OwnNames D names = (k : ℕ) → k < tableNames + D → getD names k 0 ≡ k
+
 -- D binders numbered from `from` on, inward or outward, are numbered from `to` on the other way round. What is below `from` is a free name.
 unfoldable pub turn : ℕ → ℕ → ℕ → ℕ → ℕ
 turn from to D w = cond (ltb w from) w (cond (ltb (w - from) D) (to + (D - 1 - (w - from))) 0)

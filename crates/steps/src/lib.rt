@@ -13,4 +13,5 @@ pub mod pass;
 pub mod result;
 pub mod rows;
 pub mod rules;
+pub mod splice;
 pub mod tally;

@@ -1,0 +1,79 @@
+// The result of a step that one component of a part makes: the bytes around the component stay, and only its own result is written.
+ghost use mathlib.Core.Path.{_≡_};
+ghost use Prim.Native.Nat.{_≤_, _<_};
+ghost use lib.ListN.{length};
+ghost use Rattle.terms.specs.Limits.{longestTerm};
+ghost use Rattle.steps.specs.Names.{mostBinders, OwnNames};
+ghost use Rattle.steps.specs.Tally.{TallyIs, BodiesTallied};
+ghost use Rattle.steps.specs.Walking.{PlacedResultIs};
+use crate::names::NAME_SLOTS;
+use crate::result::Task;
+use crate::result::write;
+use crate::tally::end_at;
+use terms::bytes::copy;
+use terms::bytes::room;
+use terms::limits::LONGEST_TERM;
+use terms::limits::TABLE_NAMES;
+
+// The table where each name stands for itself.
+fn own_names(binders: usize) -> [u8; NAME_SLOTS]
+    requires { ⌜ binders ≤ mostBinders ⌝ }
+    ensures { λ r. ⌜ OwnNames binders r ⌝ }
+{
+    let n = TABLE_NAMES + binders;
+    let mut names = [0u8; NAME_SLOTS];
+    let mut i = 0;
+    while i < n {
+        names[i] = i as u8;
+        i += 1;
+    }
+    names
+}
+
+// The part with the result of the candidate number `j` of the term at `at` in the term's place. The answer is where the bytes end, or past the end
+// of `out` where there is no room.
+pub fn write_placed(
+    question: &[u8],
+    bodies: &[u32],
+    part: &[u8],
+    tally: &[u32],
+    at: usize,
+    depth: usize,
+    silently: bool,
+    j: usize,
+    x: u8,
+    out: &mut [u8],
+) -> usize
+    requires { ⌜ (depth ≤ at) × (at < length (now part)) × (length (now part) ≤ longestTerm) × (length (now out) ≡ longestTerm) × TallyIs (now question) (now part) 1 (now tally) × BodiesTallied (now question) (now bodies) ⌝ }
+    ensures { λ r. ⌜ PlacedResultIs (now (question .entry)) (now (part .entry)) at depth silently j x (now (out .entry)) r (now (out .exit)) ⌝ }
+{
+    let task = Task {
+        new: x,
+        levels: depth,
+        calls: 1,
+        still: false,
+        silently,
+        number: j,
+    };
+    let mut names = own_names(depth);
+    copy(part, 0, at, out, 0);
+    let put = write(
+        question,
+        bodies,
+        part,
+        tally,
+        at,
+        depth,
+        task,
+        &mut names,
+        out,
+        at,
+    );
+    let end = end_at(tally, at);
+    let n = part.len() - end;
+    if room(LONGEST_TERM, put, n) {
+        copy(part, end, n, out, put);
+        return put + n;
+    }
+    LONGEST_TERM + 1
+}
