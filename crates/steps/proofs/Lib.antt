@@ -34,6 +34,7 @@ pub mod PassLaws
 pub mod PlacedResults
 pub mod PlanLaws
 pub mod Premises
+pub mod PutLaws
 pub mod QuestionDefinitions
 pub mod QuietWalks
 pub mod RawComplete

@@ -22,7 +22,7 @@ use Rattle.steps.specs.Listing.{bodyOf}
 use Rattle.steps.specs.Names.{OwnNames}
 use Rattle.steps.specs.PartLister.{Lists}
 use Rattle.steps.specs.Passing.{candidates}
-use Rattle.steps.specs.Raw.{Candidate, step, blocked, leftSteps, rightSteps, sparesRestricted, outside, restrictedAction, restricted}
+use Rattle.steps.specs.Raw.{step, blocked, leftSteps, rightSteps, sparesRestricted, outside, restrictedAction, restricted}
 use Rattle.steps.specs.Results.{receiving, chosen, Written, WriteIs}
 use Rattle.steps.specs.Tally.{endAt, TallyIs}
 use Rattle.steps.specs.Walking.{Unopened, Trivial, Raises, PlacedResultIs}

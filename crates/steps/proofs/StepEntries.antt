@@ -1,20 +1,18 @@
--- The entry that is made from a step's header and its result is that of the step in canonical form. Assumes nothing.
+-- The classes and the action of a step's header outside every restriction, as they are listed. Assumes nothing.
 use mathlib.Core.List.{List, [], _∷_}
 use mathlib.Core.Path.{_≡_, refl, _∙_, ap, ap₂}
 use native.Mathlib.Nat.{sub-zero}
 use native.Mathlib.Omega.{arith}
-use Prim.Native.Nat.{ℕ, _+_, _<_, _≤_}
-use lib.ListN.{length, getD}
+use Prim.Native.Nat.{ℕ, _+_, _<_}
+use lib.ListN.{getD}
 use Rattle.calculus.specs.Abstraction.{Act, tauA, inpA, outA, boutA}
 use Rattle.calculus.specs.Cond.{Cond, mapP, cls}
 use Rattle.terms.specs.Limits.{nameCount}
-use Rattle.steps.specs.EntryBytes.{actionBytes, entryBytes, StepEntryIs}
+use Rattle.steps.specs.EntryBytes.{actionBytes}
 use Rattle.steps.specs.Labels.{actionOf, ActionBelow}
-use Rattle.steps.specs.Listed.{kindOf, channelOf, objectOf}
 use Rattle.steps.specs.Slots.{slotOf, HasClasses}
-use Rattle.steps.specs.declared.action.Label.{Label}
+use Rattle.steps.specs.Walking.{stepAction}
 use Rattle.steps.specs.declared.listed.ActionBytes.{ActionBytes}
-use Rattle.steps.proofs.CanonBytes.{actionOfStep, coded, entry-canonical}
 use Rattle.steps.proofs.NameSlots.{slot-free}
 
 -- Outside every restriction slots are names.
@@ -38,19 +36,9 @@ module _ (class : List ℕ) (M : Cond) (classes : (n : ℕ) → n < nameCount �
   channel-is : (a : ℕ) → a < 0 + nameCount → getD class (slotOf nameCount 0 a) 0 ≡ cls M a
   channel-is a h = ap (λ n. getD class n 0) (slot-name nameCount a) ∙ classes a (omega arith)
 
-  action-is : (α : Act) → ActionBelow (0 + nameCount) α → actionBytes class x (actionOf 0 α) ≡ coded (actionOfStep M x α)
-  unfolding actionBytes actionOf ActionBelow kindOf channelOf objectOf
+  pub action-is : (α : Act) → ActionBelow (0 + nameCount) α → actionBytes class x (actionOf 0 α) ≡ stepAction x M α
+  unfolding actionBytes actionOf ActionBelow stepAction
   action-is tauA b = refl
   action-is (inpA a) b = same-action 1 (channel-is a b) refl
   action-is (outA a c) b = same-action 2 (channel-is a (b .0)) (channel-is c (b .1))
   action-is (boutA a) b = same-action 3 (channel-is a b) refl
-
-pub entry-of-step : (h : Label) (x : ℕ) (result entry : List ℕ) → nameCount ≤ length (h .condition .class)
-    → entry ≡ entryBytes (h .condition .class) (actionBytes (h .condition .class) x (h .action)) result → StepEntryIs h x result entry
-unfolding StepEntryIs
-entry-of-step h x result entry many made M α A hd e =
-    let class : List ℕ = h .condition .class in
-    let classes : (m : ℕ) → m < nameCount → getD class m 0 ≡ cls M m = class-names class M (hd .classes) in
-    made
-    ∙ ap₂ (entryBytes class) (ap (actionBytes class x) (hd .action) ∙ action-is class M classes x α (hd .names)) e
-    ∙ entry-canonical class M many classes x α A

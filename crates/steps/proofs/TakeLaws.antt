@@ -1,11 +1,9 @@
 -- A candidate by its number, from its label and the bytes of its result: what is put into the list. Assumes nothing.
-use borrow.Author.Tests.{leb-true, leb-false}
-use mathlib.Core.Bool.{Bool, true, false}
+use mathlib.Core.Bool.{Bool, false}
 use mathlib.Core.List.{List, [], _++_, append-nil}
 use mathlib.Core.Path.{_≡_, refl, sym, _∙_, ap, subst}
 use native.Mathlib.Omega.{arith}
 use Prim.Native.Nat.{ℕ, _+_, _*_, _<_, _≤_}
-use lib.Dec.{leb}
 use lib.ListN.{length, getD, set, take, drop, replicate, length-replicate, List·getD-append}
 use lib.Seq.{sets, sets-eq, getD-take, getD-set-other, length-take-le}
 use Rattle.calculus.specs.Abstraction.{Act, tauA, inpA, outA, boutA}
@@ -14,11 +12,10 @@ use Rattle.calculus.specs.Term.{Term, ren}
 use Rattle.calculus.proofs.Conditions.{cls-le}
 use Rattle.calculus.proofs.Renaming.{ren-id}
 use Rattle.terms.specs.Encoding.{encode}
-use Rattle.terms.specs.Limits.{nameCount, tableNames, longestTerm}
+use Rattle.terms.specs.Limits.{nameCount, tableNames}
 use Rattle.terms.specs.Question.{Question}
 use Rattle.steps.specs.Collecting.{PutIs}
-use Rattle.steps.specs.Entries.{InsertIs}
-use Rattle.steps.specs.EntryBytes.{StepEntryIs}
+use Rattle.steps.specs.EntryBytes.{actionBytes}
 use Rattle.steps.specs.LabelWalk.{NthIs}
 use Rattle.steps.specs.Labels.{Labels}
 use Rattle.steps.specs.Limits.{mostSteps, stepBytes}
@@ -29,11 +26,13 @@ use Rattle.steps.specs.PartLister.{Lists, candidatesOf, NamesAre, Result
 use Rattle.steps.specs.Passing.{candidates}
 use Rattle.steps.specs.Raw.{Candidate, step, blocked}
 use Rattle.steps.specs.Results.{receiving, chosen, WriteIs}
+use Rattle.steps.specs.Walking.{PutClassedIs}
 use Rattle.steps.specs.declared.action.Label.{Label}
 use Rattle.steps.specs.declared.action.Status.the-variants.{Blocked, Found}
+use Rattle.steps.specs.declared.listed.ActionBytes.{ActionBytes}
 use Rattle.steps.proofs.ArgumentSlots.{slots-part}
-use Rattle.steps.proofs.CollectLaws.{put-blocked, put-step, put-long, take-sets}
-use Rattle.steps.proofs.StepEntries.{slot-name, class-names}
+use Rattle.steps.proofs.CollectLaws.{put-blocked}
+use Rattle.steps.proofs.StepEntries.{slot-name, class-names, action-is}
 
 -- The table of a result: the classes are stored in it.
 pub names-stored : (class : List ℕ) (names : List ℕ) (v : ℕ) → nameCount ≤ length class
@@ -91,41 +90,15 @@ result-written question part silently i class x names has out r out′ w q P l M
       bytes = receiving-canonical x M α A;
     })
 
--- A step is put into the list from its header and the bytes written for its result; a result too long passes a limit.
-module _ (question part : List ℕ) (silently : Bool) (i : ℕ) (h : Label) (x : ℕ) (area : List ℕ) (count : ℕ)
-    (room : mostSteps * stepBytes ≤ length area) (out out′ : List ℕ) (size : length out ≡ longestTerm) (n : ℕ)
-    (written : ResultIs question part silently i (h .condition .class) x out n out′) where
-  pub put-step-long : longestTerm < n → (area′ : List ℕ) → PutStepIs question part silently i h x area count (mostSteps + 1) area′
-  unfolding PutStepIs ResultIs PutIs
-  put-step-long long area′ q P l M α A e hd found s =
-      let w = written q P l M α A e (class-names (h .condition .class) M (hd .classes)) in
-      let bs : List ℕ = resultBytes (canonStep nameCount x M α A) in
-      put-long area room x count found s M α A (over (length bs) (λ k. w .fits (omega arith) .0)) area′
-    where
-      over : (b : ℕ) → (b ≤ longestTerm → n ≡ 0 + b) → longestTerm < b
-      over b f = go (leb b longestTerm) refl
-        where
-          go : (t : Bool) → leb b longestTerm ≡ t → longestTerm < b
-          go true d = let k = leb-true b longestTerm d in absurd (omega (arith, f k))
-          go false d = leb-false b longestTerm d
-
-  pub put-step-inserted : n ≤ longestTerm → (entry : List ℕ) → StepEntryIs h x (take n out′) entry
-      → (r : ℕ) (area′ : List ℕ) → InsertIs area count entry r area′ → PutStepIs question part silently i h x area count r area′
-  unfolding PutStepIs ResultIs PutIs StepEntryIs
-  put-step-inserted short entry made r area′ inserted q P l M α A e hd found s =
-      let w = written q P l M α A e (class-names (h .condition .class) M (hd .classes)) in
-      let bs : List ℕ = resultBytes (canonStep nameCount x M α A) in
-      let fit : length bs ≤ longestTerm = within (length bs) (λ k. omega (arith, w .over (omega arith))) in
-      let f = w .fits (omega arith) in
-      let t : take n out′ ≡ bs = ap (take n) (f .1) ∙ take-sets out bs n (omega (arith, f .0)) (omega arith) in
-      put-step area room x count found s M α A fit entry (made M α A hd t) r area′ inserted
-    where
-      within : (b : ℕ) → (longestTerm < b → longestTerm < n) → b ≤ longestTerm
-      within b f = go (leb b longestTerm) refl
-        where
-          go : (t : Bool) → leb b longestTerm ≡ t → b ≤ longestTerm
-          go true d = leb-true b longestTerm d
-          go false d = absurd (omega (arith, f (leb-false b longestTerm d)))
+-- A step is put into the list by its header.
+pub step-put : (question part : List ℕ) (silently : Bool) (i : ℕ) (h : Label) (x : ℕ) (area : List ℕ) (count : ℕ) (action : ActionBytes)
+    → action ≡ actionBytes (h .condition .class) x (h .action) → (r : ℕ) (area′ : List ℕ)
+    → PutClassedIs question part silently i (h .condition .class) action x area count r area′ → PutStepIs question part silently i h x area count r area′
+unfolding PutStepIs
+step-put question part silently i h x area count action made r area′ p q P l M α A e hd =
+    let class : List ℕ = h .condition .class in
+    let classes = class-names class M (hd .classes) in
+    p .is q P l M α A e classes (made ∙ ap (actionBytes class x) (hd .action) ∙ action-is class M classes x α (hd .names))
 
 -- The candidate of a number over the bytes of a part, by its label.
 module _ (question part : List ℕ) (silently : Bool) (i : ℕ) (args : List ℕ) (h : Label) (label : NthIs question part 0 i silently args 0 0 1 h) (x : ℕ)

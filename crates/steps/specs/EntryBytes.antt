@@ -1,17 +1,10 @@
 -- The bytes of one entry of the list, from a condition's array, an action and the bytes of a result.
 use mathlib.Core.List.{List, _∷_, _++_}
-use mathlib.Core.Path.{_≡_}
 use Prim.Native.Nat.{ℕ, _-_}
 use lib.ListN.{length, getD, take, replicate}
-use Rattle.calculus.specs.Abstraction.{Act}
-use Rattle.calculus.specs.Cond.{Cond}
-use Rattle.calculus.specs.Term.{Term}
 use Rattle.terms.specs.Limits.{nameCount, longestTerm}
-use Rattle.steps.specs.Labels.{HeaderIs}
-use Rattle.steps.specs.Listed.{canonStep, resultBytes, bytes}
 use Rattle.steps.specs.declared.action.Action.{Action}
 use Rattle.steps.specs.declared.action.Action.the-variants.{Silent, Input, Output, NewOutput}
-use Rattle.steps.specs.declared.action.Label.{Label}
 use Rattle.steps.specs.declared.listed.ActionBytes.{ActionBytes}
 
 -- An action outside every restriction, where slots are names, rewritten by the condition.
@@ -26,9 +19,3 @@ unfoldable pub entryBytes : List ℕ → ActionBytes → List ℕ → List ℕ
 entryBytes class action result =
     take nameCount class
     ++ (action .kind ∷ action .channel ∷ action .object ∷ length result ∷ (result ++ replicate (longestTerm - length result) 0))
-
--- The entry of a step with the header h, from the bytes of its result in canonical form: its bytes in canonical form.
-unfoldable pub StepEntryIs : Label → ℕ → List ℕ → List ℕ → Type 0
-StepEntryIs h x result entry =
-    (M : Cond) (α : Act) (A : Term) → HeaderIs 0 M α h → result ≡ resultBytes (canonStep nameCount x M α A)
-    → entry ≡ bytes longestTerm (canonStep nameCount x M α A)

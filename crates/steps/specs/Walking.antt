@@ -7,7 +7,7 @@ use lib.ListN.{length, getD}
 use Rattle.calculus.specs.Abstraction.{Act, tauA, inpA, outA, boutA}
 use Rattle.calculus.specs.Cond.{Cond, cls}
 use Rattle.calculus.specs.Term.{Term, nil, tau, inp, out, bout, mat, sum, par, res, call}
-use Rattle.terms.specs.Limits.{nameCount}
+use Rattle.terms.specs.Limits.{nameCount, longestTerm}
 use Rattle.terms.specs.Question.{Question}
 use Rattle.steps.specs.Collecting.{PutIs, CollectIs}
 use Rattle.steps.specs.Contexts.{Frame, raised, Placed}
@@ -76,6 +76,13 @@ stepAction x M tauA = record { kind = 0; channel = 0; object = 0 }
 stepAction x M (inpA a) = record { kind = 1; channel = cls M a; object = x }
 stepAction x M (outA a b) = record { kind = 2; channel = cls M a; object = cls M b }
 stepAction x M (boutA a) = record { kind = 3; channel = cls M a; object = x }
+
+-- A step put into the list, from the classes of its condition, the bytes of its action and those that were written for its result.
+pub record PutResultIs (class : List ℕ) (action : ActionBytes) (result : List ℕ) (n : ℕ) (area : List ℕ) (count r : ℕ) (area′ : List ℕ) : Type 0 where
+  pub is : (out : List ℕ) (x : ℕ) (M : Cond) (α : Act) (A : Term) → length out ≡ longestTerm
+      → Written out 0 (resultBytes (canonStep nameCount x M α A)) n result
+      → ((n : ℕ) → n < nameCount → getD class n 0 ≡ cls M n) → action ≡ stepAction x M α
+      → PutIs (step M α A) x area count r area′
 
 -- A step whose result stands around it as it was, put into the list.
 pub record PutPlacedIs (question part : List ℕ) (at depth : ℕ) (silently : Bool) (j : ℕ) (action : ActionBytes) (x : ℕ) (area : List ℕ) (count r : ℕ) (area′ : List ℕ) : Type 0 where

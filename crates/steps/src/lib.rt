@@ -10,6 +10,7 @@ pub mod listed;
 pub mod names;
 pub mod operation;
 pub mod pass;
+pub mod put;
 pub mod result;
 pub mod rows;
 pub mod rules;

@@ -1,78 +1,22 @@
 // The steps of a part, listed.
 ghost use Prim.Native.Nat.{_*_, _≤_};
 ghost use lib.ListN.{length};
-ghost use Rattle.terms.specs.Limits.{nameCount, longestTerm};
+ghost use Rattle.terms.specs.Limits.{longestTerm};
 ghost use Rattle.steps.specs.Limits.{stepBytes, mostSteps};
-ghost use Rattle.steps.specs.PartLister.{NamesAre, ResultIs, PutStepIs, TakeIs, GatherIs, ListPartIs};
+ghost use Rattle.steps.specs.PartLister.{PutStepIs, TakeIs, GatherIs, ListPartIs};
 ghost use Rattle.steps.specs.Tally.{TallyIs, BodiesTallied};
 use crate::action::Label;
 use crate::action::Status;
 use crate::label::nth;
 use crate::limits::MOST_STEPS;
-use crate::listed::insert;
-use crate::listed::step_entry;
-use crate::names::NAME_SLOTS;
-use crate::result::Task;
-use crate::result::write;
+use crate::listed::action_bytes;
+use crate::put::put_classed;
 use crate::tally::body_tallies;
 use crate::tally::number_at;
 use crate::tally::tally;
-use terms::bytes::copy;
 use terms::limits::GREATEST_ARITY;
-use terms::limits::LONGEST_TERM;
-use terms::limits::NAME_COUNT;
 
-// What the names are written as in a result: each as its class. The new name's slot has itself.
-fn result_names(class: &[u8]) -> [u8; NAME_SLOTS]
-    requires { ⌜ nameCount ≤ length (now class) ⌝ }
-    ensures { λ r. ⌜ NamesAre (now (class .entry)) r ⌝ }
-{
-    let mut names = [0u8; NAME_SLOTS];
-    copy(class, 0, NAME_COUNT, &mut names, 0);
-    names[NAME_COUNT] = NAME_COUNT as u8;
-    names
-}
-
-// The result of the candidate number `i`, rewritten by the classes of its condition. The answer is where its bytes end, or past the end of `out`
-// where there is no room.
-fn write_result(
-    question: &[u8],
-    bodies: &[u32],
-    part: &[u8],
-    tally: &[u32],
-    silently: bool,
-    i: usize,
-    class: &[u8],
-    x: u8,
-    out: &mut [u8],
-) -> usize
-    requires { ⌜ (length (now part) ≤ longestTerm) × (nameCount ≤ length (now class)) × (length (now out) ≤ longestTerm) × TallyIs (now question) (now part) 1 (now tally) × BodiesTallied (now question) (now bodies) ⌝ }
-    ensures { λ r. ⌜ ResultIs (now (question .entry)) (now (part .entry)) silently i (now (class .entry)) x (now (out .entry)) r (now (out .exit)) ⌝ }
-{
-    let task = Task {
-        new: x,
-        levels: 0,
-        calls: 1,
-        still: false,
-        silently,
-        number: i,
-    };
-    let mut names = result_names(class);
-    write(
-        question,
-        bodies,
-        part,
-        tally,
-        0,
-        0,
-        task,
-        &mut names,
-        out,
-        0,
-    )
-}
-
-// Puts the step with this header, the candidate number `i`, into the list. A result that is too long passes a limit.
+// Puts the step with this header, the candidate number `i`, into the list.
 fn put_step(
     question: &[u8],
     bodies: &[u32],
@@ -90,8 +34,9 @@ fn put_step(
 {
     let condition = header.condition;
     let class = condition.class;
-    let mut result = [0u8; LONGEST_TERM];
-    let n = write_result(
+    let action = header.action;
+    let bytes = action_bytes(&class, action, x);
+    put_classed(
         question,
         bodies,
         part,
@@ -99,14 +44,11 @@ fn put_step(
         silently,
         i,
         &class,
+        bytes,
         x,
-        &mut result,
-    );
-    if LONGEST_TERM < n {
-        return MOST_STEPS + 1;
-    }
-    let entry = step_entry(header, x, &result, n);
-    insert(area, count, &entry)
+        area,
+        count,
+    )
 }
 
 // Puts the candidate number `i` into the list. Answers how many steps there are then.

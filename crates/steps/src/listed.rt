@@ -5,10 +5,9 @@ ghost use lib.ListN.{length, take, drop};
 ghost use lib.Seq.{sets};
 ghost use Rattle.terms.specs.Limits.{nameCount, longestTerm};
 ghost use Rattle.steps.specs.Entries.{entryFrom, comesBefore, PlaceIs, InsertIs};
-ghost use Rattle.steps.specs.EntryBytes.{actionBytes, entryBytes, StepEntryIs};
+ghost use Rattle.steps.specs.EntryBytes.{actionBytes, entryBytes};
 ghost use Rattle.steps.specs.Limits.{stepBytes, mostSteps};
 use crate::action::Action;
-use crate::action::Label;
 use crate::limits::MOST_STEPS;
 use crate::limits::STEP_BYTES;
 use terms::bytes::copy;
@@ -23,7 +22,7 @@ pub struct ActionBytes {
 }
 
 // The entry of a step with the condition's classes, the action's bytes and the first `n` bytes of a result.
-fn entry_of(class: &[u8], action: ActionBytes, result: &[u8], n: usize) -> [u8; STEP_BYTES]
+pub fn entry_of(class: &[u8], action: ActionBytes, result: &[u8], n: usize) -> [u8; STEP_BYTES]
     requires { ⌜ (nameCount ≤ length (now class)) × (n ≤ length (now result)) × (n ≤ longestTerm) ⌝ }
     ensures { λ r. ⌜ r ≡ entryBytes (now (class .entry)) action (take n (now (result .entry))) ⌝ }
 {
@@ -38,7 +37,7 @@ fn entry_of(class: &[u8], action: ActionBytes, result: &[u8], n: usize) -> [u8; 
 }
 
 // The bytes of an action outside every restriction: channel and object are rewritten by the condition, and the new name is `x`.
-fn action_bytes(class: &[u8], action: Action, x: u8) -> ActionBytes
+pub fn action_bytes(class: &[u8], action: Action, x: u8) -> ActionBytes
     ensures { λ r. ⌜ r ≡ actionBytes (now (class .entry)) x action ⌝ }
 {
     match action {
@@ -63,17 +62,6 @@ fn action_bytes(class: &[u8], action: Action, x: u8) -> ActionBytes
             object: x,
         },
     }
-}
-
-// The entry of a step from its header and the first `n` bytes of its result.
-pub fn step_entry(header: Label, x: u8, result: &[u8], n: usize) -> [u8; STEP_BYTES]
-    requires { ⌜ (n ≤ length (now result)) × (n ≤ longestTerm) ⌝ }
-    ensures { λ r. ⌜ StepEntryIs header x (take n (now (result .entry))) r ⌝ }
-{
-    let condition = header.condition;
-    let class = condition.class;
-    let action = header.action;
-    entry_of(&class, action_bytes(&class, action, x), result, n)
 }
 
 // Whether the entry at `i` comes before the entry at `j`: the first byte that differs decides.

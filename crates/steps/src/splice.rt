@@ -16,7 +16,7 @@ use terms::limits::LONGEST_TERM;
 use terms::limits::TABLE_NAMES;
 
 // The table where each name stands for itself.
-fn own_names(binders: usize) -> [u8; NAME_SLOTS]
+pub fn own_names(binders: usize) -> [u8; NAME_SLOTS]
     requires { ⌜ binders ≤ mostBinders ⌝ }
     ensures { λ r. ⌜ OwnNames binders r ⌝ }
 {

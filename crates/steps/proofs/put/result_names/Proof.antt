@@ -1,8 +1,8 @@
--- `steps::list::result_names` meets its contract. Assumes nothing.
+-- `steps::put::result_names` meets its contract. Assumes nothing.
 use borrow.Author.Needs.{needs}
 use Rattle.steps.proofs.TakeLaws.{names-stored}
-use Rattle.steps.proofs.list.result_names.Statement.{statement}
-use Rattle.steps.proofs.list.result_names.Tie as tie
+use Rattle.steps.proofs.put.result_names.Statement.{statement}
+use Rattle.steps.proofs.put.result_names.Tie as tie
 
 slice-aggregate-copy : tie.Need-slice-aggregate-copy
 slice-aggregate-copy c = search needs

@@ -1,8 +1,8 @@
--- `steps::list::write_result` meets its contract. Assumes nothing.
+-- `steps::put::write_result` meets its contract. Assumes nothing.
 use borrow.Author.Needs.{needs}
 use Rattle.steps.proofs.TakeLaws.{result-written}
-use Rattle.steps.proofs.list.write_result.Statement.{statement}
-use Rattle.steps.proofs.list.write_result.Tie as tie
+use Rattle.steps.proofs.put.write_result.Statement.{statement}
+use Rattle.steps.proofs.put.write_result.Tie as tie
 
 result-names-requires : tie.Need-result-names-requires
 result-names-requires c κs = search needs

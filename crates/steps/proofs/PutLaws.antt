@@ -1,0 +1,86 @@
+-- A step put into the list: from its classes, its action's bytes and the bytes written for its result. Assumes nothing.
+use borrow.Author.Tests.{leb-true, leb-false}
+use mathlib.Core.Bool.{Bool, true, false}
+use mathlib.Core.List.{List}
+use mathlib.Core.Path.{_≡_, refl, sym, _∙_, ap, ap₂}
+use native.Mathlib.Omega.{arith}
+use Prim.Native.Nat.{ℕ, _+_, _*_, _<_, _≤_}
+use lib.Dec.{leb}
+use lib.ListN.{length, take}
+use Rattle.calculus.specs.Abstraction.{Act, tauA, inpA, outA, boutA}
+use Rattle.calculus.specs.Cond.{Cond}
+use Rattle.terms.specs.Limits.{nameCount, longestTerm}
+use Rattle.steps.specs.Collecting.{PutIs}
+use Rattle.steps.specs.Entries.{InsertIs}
+use Rattle.steps.specs.EntryBytes.{entryBytes}
+use Rattle.steps.specs.Limits.{mostSteps, stepBytes}
+use Rattle.steps.specs.Listed.{kindOf, channelOf, objectOf, canonStep, resultBytes}
+use Rattle.steps.specs.Names.{OwnNames}
+use Rattle.steps.specs.PartLister.{ResultIs}
+use Rattle.steps.specs.Walking.{Trivial, PlacedResultIs, stepAction, PutResultIs, PutPlacedIs, PutClassedIs}
+use Rattle.steps.specs.declared.listed.ActionBytes.{ActionBytes}
+use Rattle.steps.proofs.CanonBytes.{actionOfStep, coded, entry-canonical}
+use Rattle.steps.proofs.CollectLaws.{put-step, put-long, take-sets}
+
+-- The action's bytes are those of the step in canonical form.
+pub step-coded : (x : ℕ) (M : Cond) (α : Act) → stepAction x M α ≡ coded (actionOfStep M x α)
+unfolding stepAction kindOf channelOf objectOf
+step-coded x M tauA = refl
+step-coded x M (inpA a) = refl
+step-coded x M (outA a b) = refl
+step-coded x M (boutA a) = refl
+
+module _ (class : List ℕ) (action : ActionBytes) (result : List ℕ) (n : ℕ) (area : List ℕ) (count : ℕ) (room : mostSteps * stepBytes ≤ length area) where
+  -- A result that is too long passes a limit.
+  pub put-result-long : longestTerm < n → (area′ : List ℕ) → PutResultIs class action result n area count (mostSteps + 1) area′
+  unfolding PutIs
+  put-result-long long area′ = record {
+    is = λ out x M α A size w classes acts found s.
+        put-long area room x count found s M α A
+        (over (length (resultBytes (canonStep nameCount x M α A))) (λ k. w .fits (omega arith) .0)) area′;
+  }
+    where
+      over : (b : ℕ) → (b ≤ longestTerm → n ≡ 0 + b) → longestTerm < b
+      over b f = go (leb b longestTerm) refl
+        where
+          go : (t : Bool) → leb b longestTerm ≡ t → longestTerm < b
+          go true d = let k = leb-true b longestTerm d in absurd (omega (arith, f k))
+          go false d = leb-false b longestTerm d
+
+  pub put-result-inserted : n ≤ longestTerm → nameCount ≤ length class → (entry : List ℕ) → entry ≡ entryBytes class action (take n result)
+      → (r : ℕ) (area′ : List ℕ) → InsertIs area count entry r area′ → PutResultIs class action result n area count r area′
+  unfolding PutIs
+  put-result-inserted short many entry made r area′ inserted = record {
+    is = λ out x M α A size w classes acts found s.
+        let bs : List ℕ = resultBytes (canonStep nameCount x M α A) in
+        let fit : length bs ≤ longestTerm = within (length bs) (λ k. omega (arith, w .over (omega arith))) in
+        let f = w .fits (omega arith) in
+        let t : take n result ≡ bs = ap (take n) (f .1) ∙ take-sets out bs n (omega (arith, f .0)) (omega arith) in
+        put-step area room x count found s M α A fit entry
+        (made ∙ ap₂ (entryBytes class) (acts ∙ step-coded x M α) t ∙ entry-canonical class M many classes x α A) r area′ inserted;
+  }
+    where
+      within : (b : ℕ) → (longestTerm < b → longestTerm < n) → b ≤ longestTerm
+      within b f = go (leb b longestTerm) refl
+        where
+          go : (t : Bool) → leb b longestTerm ≡ t → b ≤ longestTerm
+          go true d = leb-true b longestTerm d
+          go false d = absurd (omega (arith, f (leb-false b longestTerm d)))
+
+-- By the way in which the result was written.
+pub classed-put : (question part : List ℕ) (silently : Bool) (i : ℕ) (class : List ℕ) (action : ActionBytes) (x : ℕ) (area : List ℕ) (count r : ℕ)
+    (area′ out result : List ℕ) (n : ℕ) → length out ≡ longestTerm → ResultIs question part silently i class x out n result
+    → PutResultIs class action result n area count r area′ → PutClassedIs question part silently i class action x area count r area′
+unfolding ResultIs
+classed-put question part silently i class action x area count r area′ out result n size w p = record {
+  is = λ q P l M α A e classes acts. p .is out x M α A size (w q P l M α A e classes) classes acts;
+}
+
+pub placed-put : (question part : List ℕ) (at depth : ℕ) (silently : Bool) (j : ℕ) (action : ActionBytes) (x : ℕ) (area : List ℕ) (count r : ℕ)
+    (area′ out result class : List ℕ) (n : ℕ) → length out ≡ longestTerm → OwnNames 0 class → PlacedResultIs question part at depth silently j x out n result
+    → PutResultIs class action result n area count r area′ → PutPlacedIs question part at depth silently j action x area count r area′
+unfolding OwnNames Trivial
+placed-put question part at depth silently j action x area count r area′ out result class n size own w p = record {
+  is = λ q P l K C first number M α A raises t acts.
+      p .is out x M α A size (w .is q P l K C first number M α A raises t) (λ k h. own k (omega arith) ∙ sym (t k)) acts;
+}

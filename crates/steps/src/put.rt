@@ -1,0 +1,157 @@
+// Steps put into the list: from the classes of the condition, the bytes of the action and those written for the result.
+ghost use mathlib.Core.Path.{_≡_};
+ghost use Prim.Native.Nat.{_*_, _≤_, _<_};
+ghost use lib.ListN.{length};
+ghost use Rattle.terms.specs.Limits.{nameCount, longestTerm};
+ghost use Rattle.steps.specs.Limits.{stepBytes, mostSteps};
+ghost use Rattle.steps.specs.PartLister.{NamesAre, ResultIs};
+ghost use Rattle.steps.specs.Tally.{TallyIs, BodiesTallied};
+ghost use Rattle.steps.specs.Walking.{PutResultIs, PutPlacedIs, PutClassedIs};
+use crate::limits::MOST_STEPS;
+use crate::listed::ActionBytes;
+use crate::listed::entry_of;
+use crate::listed::insert;
+use crate::names::NAME_SLOTS;
+use crate::result::Task;
+use crate::result::write;
+use crate::splice::own_names;
+use crate::splice::write_placed;
+use terms::bytes::copy;
+use terms::limits::LONGEST_TERM;
+use terms::limits::NAME_COUNT;
+
+// What the names are written as in a result: each as its class. The new name's slot has itself.
+fn result_names(class: &[u8]) -> [u8; NAME_SLOTS]
+    requires { ⌜ nameCount ≤ length (now class) ⌝ }
+    ensures { λ r. ⌜ NamesAre (now (class .entry)) r ⌝ }
+{
+    let mut names = [0u8; NAME_SLOTS];
+    copy(class, 0, NAME_COUNT, &mut names, 0);
+    names[NAME_COUNT] = NAME_COUNT as u8;
+    names
+}
+
+// The result of the candidate number `i`, rewritten by the classes of its condition. The answer is where its bytes end, or past the end of `out`
+// where there is no room.
+fn write_result(
+    question: &[u8],
+    bodies: &[u32],
+    part: &[u8],
+    tally: &[u32],
+    silently: bool,
+    i: usize,
+    class: &[u8],
+    x: u8,
+    out: &mut [u8],
+) -> usize
+    requires { ⌜ (length (now part) ≤ longestTerm) × (nameCount ≤ length (now class)) × (length (now out) ≤ longestTerm) × TallyIs (now question) (now part) 1 (now tally) × BodiesTallied (now question) (now bodies) ⌝ }
+    ensures { λ r. ⌜ ResultIs (now (question .entry)) (now (part .entry)) silently i (now (class .entry)) x (now (out .entry)) r (now (out .exit)) ⌝ }
+{
+    let task = Task {
+        new: x,
+        levels: 0,
+        calls: 1,
+        still: false,
+        silently,
+        number: i,
+    };
+    let mut names = result_names(class);
+    write(
+        question,
+        bodies,
+        part,
+        tally,
+        0,
+        0,
+        task,
+        &mut names,
+        out,
+        0,
+    )
+}
+
+// Puts a step into the list whose result was written up to `n`. A result that is too long passes a limit.
+fn put_result(
+    class: &[u8],
+    action: ActionBytes,
+    result: &[u8],
+    n: usize,
+    area: &mut [u8],
+    count: usize,
+) -> usize
+    requires { ⌜ (count ≤ mostSteps) × (mostSteps * stepBytes ≤ length (now area)) × (nameCount ≤ length (now class)) × (length (now result) ≡ longestTerm) ⌝ }
+    ensures { λ r. ⌜ PutResultIs (now (class .entry)) action (now (result .entry)) n (now (area .entry)) count r (now (area .exit)) ⌝ }
+{
+    if LONGEST_TERM < n {
+        return MOST_STEPS + 1;
+    }
+    let entry = entry_of(class, action, result, n);
+    insert(area, count, &entry)
+}
+
+// Puts the part's candidate number `i` into the list.
+pub fn put_classed(
+    question: &[u8],
+    bodies: &[u32],
+    part: &[u8],
+    tally: &[u32],
+    silently: bool,
+    i: usize,
+    class: &[u8],
+    action: ActionBytes,
+    x: u8,
+    area: &mut [u8],
+    count: usize,
+) -> usize
+    requires { ⌜ (count ≤ mostSteps) × (mostSteps * stepBytes ≤ length (now area)) × (length (now part) ≤ longestTerm) × (nameCount ≤ length (now class)) × TallyIs (now question) (now part) 1 (now tally) × BodiesTallied (now question) (now bodies) ⌝ }
+    ensures { λ r. ⌜ PutClassedIs (now (question .entry)) (now (part .entry)) silently i (now (class .entry)) action x (now (area .entry)) count r (now (area .exit)) ⌝ }
+{
+    let mut result = [0u8; LONGEST_TERM];
+    let n = write_result(
+        question,
+        bodies,
+        part,
+        tally,
+        silently,
+        i,
+        class,
+        x,
+        &mut result,
+    );
+    put_result(class, action, &result, n, area, count)
+}
+
+// Puts the step that the candidate number `j` of the term at `at` is in the part into the list. Its condition merges nothing.
+pub fn put_placed(
+    question: &[u8],
+    bodies: &[u32],
+    part: &[u8],
+    tally: &[u32],
+    at: usize,
+    depth: usize,
+    silently: bool,
+    j: usize,
+    action: ActionBytes,
+    x: u8,
+    area: &mut [u8],
+    count: usize,
+) -> usize
+    requires { ⌜ (count ≤ mostSteps) × (mostSteps * stepBytes ≤ length (now area)) × (length (now part) ≤ longestTerm) × (depth ≤ at) × (at < length (now part)) × TallyIs (now question) (now part) 1 (now tally) × BodiesTallied (now question) (now bodies) ⌝ }
+    ensures { λ r. ⌜ PutPlacedIs (now (question .entry)) (now (part .entry)) at depth silently j action x (now (area .entry)) count r (now (area .exit)) ⌝ }
+{
+    let mut result = [0u8; LONGEST_TERM];
+    let n = write_placed(
+        question,
+        bodies,
+        part,
+        tally,
+        at,
+        depth,
+        silently,
+        j,
+        x,
+        &mut result,
+    );
+    let class = own_names(0);
+    put_result(&class, action, &result, n, area, count)
+}
