@@ -54,3 +54,4 @@ pub mod TallyLaws
 pub mod TallyLoops
 pub mod TwoSides
 pub mod VisibleBound
+pub mod WalkOrder
