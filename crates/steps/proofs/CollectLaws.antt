@@ -59,7 +59,7 @@ module _ (names longest x : ℕ) where
   collect-++ (step M α P ∷ cs) ds found = collect-++ cs ds (insert longest (canonStep names x M α P) found)
   collect-++ (blocked ∷ cs) ds found = collect-++ cs ds found
 
-  canon-classes : (M : Cond) (α : Act) (A : Term) → length (canonStep names x M α A .classes) ≡ names
+  pub canon-classes : (M : Cond) (α : Act) (A : Term) → length (canonStep names x M α A .classes) ≡ names
   unfolding canonStep listedAs
   canon-classes M tauA A = length-classes names M
   canon-classes M (inpA a) A = length-classes names M
@@ -244,3 +244,33 @@ module _ (cs : List Candidate) (x : ℕ) (area₀ : List ℕ) (count₀ : ℕ) w
         stored = λ l. absurd (omega arith);
         passed = λ _. subst (λ l. limited longestTerm mostSteps l ≡ unsettled) e (u (after i found) (now .stands) .passed k (drop (suc i) cs));
       }
+
+-- One list of candidates after another.
+pub collect-none : (x : ℕ) (area : List ℕ) (count : ℕ) → count ≤ mostSteps → CollectIs [] x area count count area
+unfolding CollectIs collect
+collect-none x area count h found s = record { stands = λ _. s; stored = λ _. stands-again area count found s; passed = λ l. absurd (omega arith) }
+
+module _ (cs ds : List Candidate) (x : ℕ) (area : List ℕ) (count m : ℕ) (area₁ : List ℕ) (first : CollectIs cs x area count m area₁) where
+  pub collect-then : m ≤ mostSteps → (r : ℕ) (area₂ : List ℕ) → CollectIs ds x area₁ m r area₂ → CollectIs (cs ++ ds) x area count r area₂
+  unfolding CollectIs
+  collect-then h r area₂ second found s =
+      let f : List ListedStep = collect nameCount longestTerm x cs found in
+      let a = first found s in
+      let b = second f (a .stands h) in
+      subst (λ l. Found l area r area₂) (sym (collect-++ nameCount longestTerm x cs ds found))
+      (record {
+        stands = b .stands;
+        stored = λ k. stored-twice area ds x f m (a .stands h) (a .stored h) r area₂ (b .stands k) (b .stored k);
+        passed = b .passed;
+      })
+
+  pub collect-over : mostSteps < m → CollectIs (cs ++ ds) x area count m area₁
+  unfolding CollectIs
+  collect-over h found s =
+      let f : List ListedStep = collect nameCount longestTerm x cs found in
+      subst (λ l. Found l area m area₁) (sym (collect-++ nameCount longestTerm x cs ds found))
+      (record {
+        stands = λ l. absurd (omega arith);
+        stored = λ l. absurd (omega arith);
+        passed = λ l. limited-grows nameCount longestTerm x mostSteps ds f (first found s .passed l);
+      })

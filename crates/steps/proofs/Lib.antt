@@ -54,4 +54,5 @@ pub mod TallyLaws
 pub mod TallyLoops
 pub mod TwoSides
 pub mod VisibleBound
+pub mod WalkedList
 pub mod WalkOrder

@@ -40,7 +40,7 @@ module _ {A : Type 0} where
       go (inl n) = h x n
       go (inr n) = k x n
 
-∈-mapped : {A B : Type 0} (f : A → B) (y : B) (xs : List A) → y ∈ map f xs → (x : A) × (x ∈ xs) × (y ≡ f x)
+pub ∈-mapped : {A B : Type 0} (f : A → B) (y : B) (xs : List A) → y ∈ map f xs → (x : A) × (x ∈ xs) × (y ≡ f x)
 ∈-mapped f y (x ∷ xs) (inl e) = (x, inl refl, e)
 ∈-mapped f y (x ∷ xs) (inr m) = let (z, n, e) = ∈-mapped f y xs m in (z, inr n, e)
 
