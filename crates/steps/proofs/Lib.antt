@@ -25,6 +25,8 @@ pub mod Limited
 pub mod ListedBytes
 pub mod ListedIffDerived
 pub mod ListingLaws
+pub mod MeetLaws
+pub mod MeetPairs
 pub mod Membership
 pub mod Moves
 pub mod NameSlots
@@ -39,6 +41,7 @@ pub mod QuestionDefinitions
 pub mod QuietWalks
 pub mod RawComplete
 pub mod RawSound
+pub mod RaisedMeetings
 pub mod Restriction
 pub mod RestrictionRuns
 pub mod ResultLaws

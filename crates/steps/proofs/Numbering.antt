@@ -16,7 +16,7 @@ use Rattle.steps.specs.Raw.{Candidate, step, blocked, matching, leftStep
 use Rattle.steps.proofs.Premises.{never, Meeting, meeting-of}
 
 -- A rule with one premise keeps the number.
-nth-by : (f : Candidate → Candidate) → f blocked ≡ blocked → (cs : List Candidate) (i : ℕ) → getD (map f cs) i blocked ≡ f (getD cs i blocked)
+pub nth-by : (f : Candidate → Candidate) → f blocked ≡ blocked → (cs : List Candidate) (i : ℕ) → getD (map f cs) i blocked ≡ f (getD cs i blocked)
 nth-by f e cs i = ap (getD (map f cs) i) (sym e) ∙ List·getD-map f cs i blocked
 
 pub nth-matching : (a b : ℕ) (cs : List Candidate) (i : ℕ) → getD (map (matching a b) cs) i blocked ≡ matching a b (getD cs i blocked)
@@ -43,7 +43,7 @@ length-communications (s ∷ ss) ts =
     let r = length-communications ss ts in
     omega (arith, length-append (map (communication s) ts) (communications ss ts), length-map ts (communication s), suc-mul (length ss) (length ts))
 
-not-met : (s : Candidate) → communication s blocked ≡ blocked
+pub not-met : (s : Candidate) → communication s blocked ≡ blocked
 unfolding communication
 not-met (step M α P) = refl
 not-met blocked = refl

@@ -13,6 +13,7 @@ pub mod Limits
 pub mod Listed
 pub mod Listing
 pub mod Lists
+pub mod Meeting
 pub mod Names
 pub mod Operations
 pub mod PartLister

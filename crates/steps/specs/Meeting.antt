@@ -1,0 +1,80 @@
+-- The communications of a parallel from the rows of its two sides: what the functions that put them into the list promise.
+use mathlib.Core.Path.{_≡_}
+use mathlib.Core.Bool.{Bool, true, false, cond}
+use mathlib.Core.List.{List, map}
+use Prim.Native.Nat.{ℕ, _+_, _<_, _≤_}
+use lib.Dec.{eqb, ltb, leb}
+use lib.ListN.{length, getD}
+use Rattle.calculus.specs.Term.{Term, par}
+use Rattle.terms.specs.Limits.{nameCount}
+use Rattle.terms.specs.Question.{Question}
+use Rattle.steps.specs.Collecting.{PutIs, CollectIs}
+use Rattle.steps.specs.Contexts.{Frame, raised, Placed}
+use Rattle.steps.specs.Listing.{bodyOf}
+use Rattle.steps.specs.PartLister.{Lists}
+use Rattle.steps.specs.Raw.{Candidate, blocked, communication, visible, silent}
+use Rattle.steps.specs.Rows.{kindAt, channelAt, Outlined, Row, Rows}
+
+-- No number of a candidate comes near it: 2 to the power of 40.
+abbrev pub mostNumbers : ℕ
+mostNumbers = 1099511627776
+
+-- The channels that may be merged with c, from the first to the last: with a free name every free name, with another slot itself alone.
+unfoldable pub firstMerged : ℕ → ℕ
+firstMerged c = cond (leb c 15) 0 c
+
+unfoldable pub lastMerged : ℕ → ℕ
+lastMerged c = cond (leb c 15) 15 c
+
+unfoldable pub isBetween : (c low high : ℕ) → Bool
+isBetween c low high = cond (ltb c low) false (leb c high)
+
+-- Two rows, the second by kind and channel, the first by kind and those channels: one says nothing, or one receives, the other sends, and the
+-- channels may be merged.
+unfoldable pub meetsBetween : (k₁ low high k₂ c₂ : ℕ) → Bool
+meetsBetween k₁ low high k₂ c₂ =
+    cond (eqb k₁ 0) true
+    (cond (eqb k₂ 0) true
+    (cond (eqb k₁ 1) (cond (eqb k₂ 1) false (isBetween c₂ low high)) (cond (eqb k₂ 1) (isBetween c₂ low high) false)))
+
+unfoldable pub mayMeet : (k₁ c₁ k₂ c₂ : ℕ) → Bool
+mayMeet k₁ c₁ k₂ c₂ = meetsBetween k₁ (firstMerged c₁) (lastMerged c₁) k₂ c₂
+
+-- The first of the rows from `from` up to `last` that may meet one of this kind and channel; `last` where there is none.
+pub record NextMetIs (rows : List ℕ) (kind channel from last r : ℕ) : Type 0 where
+  pub on : from ≤ r
+  pub inside : r ≤ last
+  pub apart : (w : ℕ) → from ≤ w → w < r → mayMeet kind channel (kindAt rows w) (channelAt rows w) ≡ false
+  pub meets : r < last → mayMeet kind channel (kindAt rows r) (channelAt rows r) ≡ true
+
+-- A row whose candidate is not known to be blocked.
+unfoldable pub Unblocked : (d : ℕ) (c : Candidate) (kind channel object : ℕ) → Type 0
+Unblocked d c kind channel object = (kind ≡ 0 → ⊥) → Outlined d c kind channel object × (channel < nameCount + d)
+
+-- One communication, that of s and t, by the kinds and channels of their rows; j is its number among the silent candidates of the parallel at `at`.
+pub record PairIs (question part : List ℕ) (at depth number k₁ c₁ k₂ c₂ j x : ℕ) (area : List ℕ) (count r : ℕ) (area′ : List ℕ) : Type 0 where
+  pub is : (q : Question) (P : Term) → Lists question part x q P
+      → (K : List Frame) (L R : Term) (first : ℕ)
+      → Placed (q .arities) (bodyOf (q .bodies)) P K (par L R) at depth first number
+      → (s t : Candidate) (o₁ o₂ : ℕ)
+      → Unblocked depth s k₁ c₁ o₁
+      → ((k₂ ≡ 0 → ⊥) → Outlined depth t k₂ c₂ o₂)
+      → mayMeet k₁ c₁ k₂ c₂ ≡ true
+      → j < length (silent (bodyOf (q .bodies)) 1 (par L R))
+      → getD (silent (bodyOf (q .bodies)) 1 (par L R)) j blocked ≡ communication s t
+      → PutIs (raised K (communication s t)) x area count r area′
+
+-- The communications of s, whose row has this number, with the right side's visible candidates, whose rows are those from `middle` up to `last`; j is
+-- the number of the first.
+pub record MeetRowIs (question part : List ℕ) (at depth number x : ℕ) (rows : List ℕ) (row middle last j : ℕ) (area : List ℕ) (count r : ℕ) (area′ : List ℕ) : Type 0 where
+  pub is : (q : Question) (P : Term) → Lists question part x q P
+      → (K : List Frame) (L R : Term) (first : ℕ)
+      → Placed (q .arities) (bodyOf (q .bodies)) P K (par L R) at depth first number
+      → (s : Candidate)
+      → Row depth s rows row
+      → Rows depth (visible (bodyOf (q .bodies)) 1 R) rows middle
+      → last ≡ middle + length (visible (bodyOf (q .bodies)) 1 R)
+      → j + length (visible (bodyOf (q .bodies)) 1 R) ≤ length (silent (bodyOf (q .bodies)) 1 (par L R))
+      → ((w : ℕ) → w < length (visible (bodyOf (q .bodies)) 1 R)
+      → getD (silent (bodyOf (q .bodies)) 1 (par L R)) (j + w) blocked ≡ communication s (getD (visible (bodyOf (q .bodies)) 1 R) w blocked))
+      → CollectIs (map (raised K) (map (communication s) (visible (bodyOf (q .bodies)) 1 R))) x area count r area′
