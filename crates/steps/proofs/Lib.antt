@@ -27,6 +27,7 @@ pub mod ListedIffDerived
 pub mod ListingLaws
 pub mod MeetLaws
 pub mod MeetPairs
+pub mod MeetRows
 pub mod Membership
 pub mod Moves
 pub mod NameSlots

@@ -52,7 +52,7 @@ fn put_step(
 }
 
 // Puts the candidate number `i` into the list. Answers how many steps there are then.
-fn take_candidate(
+pub fn take_candidate(
     question: &[u8],
     bodies: &[u32],
     part: &[u8],

@@ -1,0 +1,280 @@
+// The communications of a parallel, from the rows of its two sides (specs/Rows).
+ghost use mathlib.Core.Path.{_≡_};
+ghost use Prim.Native.Nat.{_+_, _*_, _≤_, _<_};
+ghost use lib.ListN.{length};
+ghost use Rattle.terms.specs.Limits.{longestTerm};
+ghost use Rattle.steps.specs.Limits.{stepBytes, mostSteps};
+ghost use Rattle.steps.specs.Meeting.{mostNumbers, firstMerged, lastMerged, isBetween, meetsBetween, NextMetIs, PairIs, MeetRowIs};
+ghost use Rattle.steps.specs.Rows.{rowBytes, mostRows};
+ghost use Rattle.steps.specs.Tally.{TallyIs, BodiesTallied};
+ghost use Rattle.steps.specs.Walking.{MeetsIs};
+use crate::limits::MOST_STEPS;
+use crate::list::take_candidate;
+use crate::listed::ActionBytes;
+use crate::put::put_classed;
+use crate::put::put_placed;
+use crate::rows::ROW_BYTES;
+use terms::limits::NAME_COUNT;
+use terms::tables::merging;
+
+// The kinds of a row that says nothing, and of an input; the others are outputs.
+const UNKNOWN: u8 = 0;
+
+const INPUT: u8 = 1;
+
+// The slot of the last free name.
+const LAST_NAME: u8 = 15;
+
+// The channels that may be merged with `c`, from the first to the last: with a free name every free name, with another itself alone.
+fn first_merged(c: u8) -> u8
+    ensures { λ r. ⌜ r ≡ firstMerged c ⌝ }
+{
+    if c <= LAST_NAME {
+        return 0;
+    }
+    c
+}
+
+fn last_merged(c: u8) -> u8
+    ensures { λ r. ⌜ r ≡ lastMerged c ⌝ }
+{
+    if c <= LAST_NAME {
+        return LAST_NAME;
+    }
+    c
+}
+
+fn is_between(c: u8, low: u8, high: u8) -> bool
+    ensures { λ r. ⌜ r ≡ isBetween c low high ⌝ }
+{
+    if c < low {
+        return false;
+    }
+    c <= high
+}
+
+// Whether the candidates of two rows may communicate: by their kinds, and by the channel of one and those that may be merged with the other's.
+fn may_meet(k1: u8, low: u8, high: u8, k2: u8, c2: u8) -> bool
+    ensures { λ r. ⌜ r ≡ meetsBetween k1 low high k2 c2 ⌝ }
+{
+    if k1 == UNKNOWN {
+        return true;
+    }
+    if k2 == UNKNOWN {
+        return true;
+    }
+    if k1 == INPUT {
+        if k2 == INPUT {
+            return false;
+        }
+        return is_between(c2, low, high);
+    }
+    if k2 == INPUT {
+        return is_between(c2, low, high);
+    }
+    false
+}
+
+// The first of the right rows from `from` up to `last` that may meet a left row of this kind and channel, or `last`. Most do not.
+fn next_met(rows: &[u8], kind: u8, channel: u8, from: usize, last: usize) -> usize
+    requires { ⌜ (from ≤ last) × (last ≤ mostRows) × (rowBytes * mostRows ≤ length (now rows)) ⌝ }
+    ensures { λ r. ⌜ NextMetIs (now (rows .entry)) kind channel from last r ⌝ }
+{
+    let low = first_merged(channel);
+    let high = last_merged(channel);
+    let mut w = from;
+    while w < last {
+        if may_meet(
+            kind,
+            low,
+            high,
+            rows[ROW_BYTES * w],
+            rows[ROW_BYTES * w + 1],
+        ) {
+            return w;
+        }
+        w += 1;
+    }
+    w
+}
+
+// Puts the communication of two candidates whose rows may meet into the list; `j` is its number among the silent candidates of the parallel. Where a
+// row says nothing it is found by its number in the part.
+fn take_pair(
+    question: &[u8],
+    bodies: &[u32],
+    part: &[u8],
+    tally: &[u32],
+    at: usize,
+    depth: usize,
+    number: usize,
+    k1: u8,
+    c1: u8,
+    k2: u8,
+    c2: u8,
+    j: usize,
+    x: u8,
+    area: &mut [u8],
+    count: usize,
+) -> usize
+    requires { ⌜ (count ≤ mostSteps) × (mostSteps * stepBytes ≤ length (now area)) × (length (now part) ≤ longestTerm) × TallyIs (now question) (now part) 1 (now tally) × BodiesTallied (now question) (now bodies) × (depth ≤ at) × (at < length (now part)) × (number + j ≤ mostNumbers + mostNumbers) ⌝ }
+    ensures { λ r. ⌜ PairIs (now (question .entry)) (now (part .entry)) at depth number k1 c1 k2 c2 j x (now (area .entry)) count r (now (area .exit)) ⌝ }
+{
+    let i = number + j;
+    if k1 == UNKNOWN {
+        return take_candidate(question, bodies, part, tally, true, i, x, area, count);
+    }
+    if k2 == UNKNOWN {
+        return take_candidate(question, bodies, part, tally, true, i, x, area, count);
+    }
+    let action = ActionBytes {
+        kind: 0,
+        channel: 0,
+        object: 0,
+    };
+    if c1 == c2 {
+        return put_placed(
+            question,
+            bodies,
+            part,
+            tally,
+            at,
+            depth,
+            true,
+            j,
+            action,
+            x,
+            area,
+            count,
+        );
+    }
+    let class = merging(c1, c2);
+    put_classed(
+        question,
+        bodies,
+        part,
+        tally,
+        true,
+        i,
+        &class,
+        action,
+        x,
+        area,
+        count,
+    )
+}
+
+// Puts the communications of one row of the left side into the list, until a limit is passed; `j` is the number of the first. A candidate on a
+// channel that is restricted further in is blocked, and so are its communications.
+fn meet_row(
+    question: &[u8],
+    bodies: &[u32],
+    part: &[u8],
+    tally: &[u32],
+    at: usize,
+    depth: usize,
+    number: usize,
+    x: u8,
+    rows: &[u8],
+    row: usize,
+    middle: usize,
+    last: usize,
+    j: usize,
+    area: &mut [u8],
+    count: usize,
+) -> usize
+    requires { ⌜ (count ≤ mostSteps) × (mostSteps * stepBytes ≤ length (now area)) × (length (now part) ≤ longestTerm) × TallyIs (now question) (now part) 1 (now tally) × BodiesTallied (now question) (now bodies) × (depth ≤ at) × (at < length (now part)) × (row < middle) × (middle ≤ last) × (last ≤ mostRows) × (rowBytes * mostRows ≤ length (now rows)) × (number + j + mostRows ≤ mostNumbers + mostNumbers) ⌝ }
+    ensures { λ r. ⌜ MeetRowIs (now (question .entry)) (now (part .entry)) at depth number x (now (rows .entry)) row middle last j (now (area .entry)) count r (now (area .exit)) ⌝ }
+{
+    let kind = rows[ROW_BYTES * row];
+    let channel = rows[ROW_BYTES * row + 1];
+    if kind != UNKNOWN {
+        if NAME_COUNT + depth <= channel as usize {
+            return count;
+        }
+    }
+    let mut n = count;
+    let mut w = next_met(rows, kind, channel, middle, last);
+    while w < last {
+        let kind2 = rows[ROW_BYTES * w];
+        let channel2 = rows[ROW_BYTES * w + 1];
+        let i = j + (w - middle);
+        let m = take_pair(
+            question,
+            bodies,
+            part,
+            tally,
+            at,
+            depth,
+            number,
+            kind,
+            channel,
+            kind2,
+            channel2,
+            i,
+            x,
+            area,
+            n,
+        );
+        if MOST_STEPS < m {
+            return m;
+        }
+        n = m;
+        w = next_met(rows, kind, channel, w + 1, last);
+    }
+    n
+}
+
+// Puts the communications of the parallel at `at` into the list, until a limit is passed. The rows of its left side are those from `first` up to
+// `middle`, and those of its right side go on up to `last`. Answers how many steps there are then.
+pub fn meet(
+    question: &[u8],
+    bodies: &[u32],
+    part: &[u8],
+    tally: &[u32],
+    at: usize,
+    depth: usize,
+    number: usize,
+    before: usize,
+    x: u8,
+    rows: &[u8],
+    first: usize,
+    middle: usize,
+    last: usize,
+    area: &mut [u8],
+    count: usize,
+) -> usize
+    requires { ⌜ (count ≤ mostSteps) × (mostSteps * stepBytes ≤ length (now area)) × (length (now part) ≤ longestTerm) × TallyIs (now question) (now part) 1 (now tally) × BodiesTallied (now question) (now bodies) × (depth ≤ at) × (at < length (now part)) × (first ≤ middle) × (middle ≤ last) × (last ≤ mostRows) × (rowBytes * mostRows ≤ length (now rows)) × (number + before ≤ mostNumbers) ⌝ }
+    ensures { λ r. ⌜ MeetsIs (now (question .entry)) (now (part .entry)) at depth number before x (now (rows .entry)) first middle last (now (area .entry)) count r (now (area .exit)) ⌝ }
+{
+    let width = last - middle;
+    let mut n = count;
+    let mut row = first;
+    let mut j = before;
+    while row < middle {
+        let m = meet_row(
+            question,
+            bodies,
+            part,
+            tally,
+            at,
+            depth,
+            number,
+            x,
+            rows,
+            row,
+            middle,
+            last,
+            j,
+            area,
+            n,
+        );
+        if MOST_STEPS < m {
+            return m;
+        }
+        n = m;
+        row += 1;
+        j += width;
+    }
+    n
+}
