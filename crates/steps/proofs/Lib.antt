@@ -9,6 +9,7 @@ pub mod CanonBytes
 pub mod CanonSteps
 pub mod ClassLists
 pub mod CollectLaws
+pub mod ComponentLaws
 pub mod ConditionArrays
 pub mod ContextLaws
 pub mod DerivedLaws
@@ -16,7 +17,6 @@ pub mod EntryLaws
 pub mod EntryOrder
 pub mod Examples
 pub mod FrontLaws
-pub mod GatherLaws
 pub mod InsertLaws
 pub mod LabelNumbers
 pub mod LabelRules
@@ -40,9 +40,9 @@ pub mod Premises
 pub mod PutLaws
 pub mod QuestionDefinitions
 pub mod QuietWalks
+pub mod RaisedMeetings
 pub mod RawComplete
 pub mod RawSound
-pub mod RaisedMeetings
 pub mod Restriction
 pub mod RestrictionRuns
 pub mod ResultLaws
@@ -58,5 +58,6 @@ pub mod TallyLaws
 pub mod TallyLoops
 pub mod TwoSides
 pub mod VisibleBound
-pub mod WalkedList
+pub mod WalkLaws
 pub mod WalkOrder
+pub mod WalkedList

@@ -2,20 +2,16 @@
 -- Assumes nothing.
 use mathlib.Core.List.{List, [], _∷_, _++_, map}
 use mathlib.Core.Logic.{_⊎_, inl, inr}
-use mathlib.Core.Path.{_≡_, refl, sym, _∙_, ap, ap₂, subst}
-use native.Mathlib.Omega.{arith}
-use Prim.Native.Nat.{ℕ, suc, _<_, _≤_}
-use lib.ListN.{length}
-use Rattle.calculus.specs.Abstraction.{Act}
-use Rattle.calculus.specs.Cond.{Cond}
+use mathlib.Core.Path.{_≡_, refl, sym, _∙_, ap₂, subst}
+use Prim.Native.Nat.{ℕ}
 use Rattle.calculus.specs.Term.{Term, nil, tau, inp, out, bout, mat, sum, par, res, call}
-use Rattle.steps.specs.Listed.{ListedStep, canonStep, bytes}
+use Rattle.steps.specs.Listed.{ListedStep, bytes}
 use Rattle.steps.specs.Listing.{collect}
 use Rattle.steps.specs.Lists.{_∈_, All}
 use Rattle.steps.specs.Raw.{Candidate, step, blocked, leftSteps, rightSteps, restricted, communications, visibleOf, silentOf, visible, silent}
 use Rattle.steps.specs.Walking.{ownOf, walked}
 use Rattle.steps.proofs.ByteOrder.{Before, before-irreflexive, before-trans}
-use Rattle.steps.proofs.Membership.{∈-left, ∈-right, ∈-map, all-imp, all-map, all-∈, ∈-all}
+use Rattle.steps.proofs.Membership.{∈-left, ∈-right, ∈-map, all-map, all-∈, ∈-all}
 use Rattle.steps.proofs.Sorted.{Sorted, Precedes, OfCandidate, collect-sorted, collect-all, collect-new}
 
 -- Members of lists that are joined or mapped.

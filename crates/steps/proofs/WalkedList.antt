@@ -11,7 +11,7 @@ use Rattle.terms.specs.Limits.{nameCount, longestTerm}
 use Rattle.terms.specs.Question.{Question}
 use Rattle.steps.specs.Collecting.{Stands, Found, CollectIs}
 use Rattle.steps.specs.Limits.{mostSteps}
-use Rattle.steps.specs.Listed.{ListedStep, canonStep, bytes, resultBytes}
+use Rattle.steps.specs.Listed.{ListedStep, bytes}
 use Rattle.steps.specs.Listing.{Listing, collect, unsettled, listed, limited, listing, bodyOf, stepsOf}
 use Rattle.steps.specs.Lists.{_∈_, All}
 use Rattle.steps.specs.Operations.{listBytes}

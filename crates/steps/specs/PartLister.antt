@@ -13,7 +13,7 @@ use Rattle.terms.specs.Answer.{result}
 use Rattle.terms.specs.Encoding.{encode, InScope}
 use Rattle.terms.specs.Limits.{nameCount, longestTerm}
 use Rattle.terms.specs.Question.{Question, checkOf}
-use Rattle.steps.specs.Collecting.{PutIs, CollectIs}
+use Rattle.steps.specs.Collecting.{PutIs}
 use Rattle.steps.specs.Labels.{HeaderIs}
 use Rattle.steps.specs.Limits.{mostSteps}
 use Rattle.steps.specs.Listed.{canonStep, resultBytes}
@@ -63,11 +63,6 @@ unfoldable pub TakeIs : List ℕ → List ℕ → Bool → ℕ → ℕ → List 
 TakeIs question part silently i x area count r area′ =
     (q : Question) (P : Term) → Lists question part x q P → i < length (candidatesOf silently q P)
     → PutIs (getD (candidatesOf silently q P) i blocked) x area count r area′
-
--- All of one kind.
-unfoldable pub GatherIs : List ℕ → List ℕ → Bool → ℕ → List ℕ → ℕ → ℕ → List ℕ → Type 0
-GatherIs question part silently x area count r area′ =
-    (q : Question) (P : Term) → Lists question part x q P → CollectIs (candidatesOf silently q P) x area count r area′
 
 -- The answer: after "unsettled" the area is not determined, and the operation restores it.
 unfoldable pub AnswersListing : Listing → List ℕ → ListAnswer → List ℕ → Type 0

@@ -1,8 +1,9 @@
 -- The steps of a part put into an area on one walk of its parallels and restrictions: what the functions that do so promise.
 use mathlib.Core.Path.{_≡_}
-use mathlib.Core.Bool.{Bool}
+use mathlib.Core.Bool.{Bool, cond, _&&_}
 use mathlib.Core.List.{List, _++_, map}
-use Prim.Native.Nat.{ℕ, _+_, _<_, _≤_}
+use Prim.Native.Nat.{ℕ, _+_, _*_, _<_, _≤_}
+use lib.Dec.{eqb, leb}
 use lib.ListN.{length, getD}
 use Rattle.calculus.specs.Abstraction.{Act, tauA, inpA, outA, boutA}
 use Rattle.calculus.specs.Cond.{Cond, cls}
@@ -12,14 +13,16 @@ use Rattle.terms.specs.Question.{Question}
 use Rattle.steps.specs.Collecting.{PutIs, CollectIs}
 use Rattle.steps.specs.Contexts.{Frame, raised, Placed}
 use Rattle.steps.specs.declared.listed.ActionBytes.{ActionBytes}
-use Rattle.steps.specs.Limits.{mostSteps}
+use Rattle.steps.specs.Limits.{mostSteps, stepBytes}
 use Rattle.steps.specs.Listed.{canonStep, resultBytes}
 use Rattle.steps.specs.Listing.{bodyOf}
 use Rattle.steps.specs.PartLister.{Lists, candidatesOf}
 use Rattle.steps.specs.Passing.{candidates}
 use Rattle.steps.specs.Raw.{Candidate, step, blocked, leftSteps, rightSteps, restricted, communications, visible, silent}
 use Rattle.steps.specs.Results.{Written}
-use Rattle.steps.specs.Rows.{mostRows, Rows, RowsKept}
+use Rattle.steps.specs.Rows.{mostRows, Row, Rows, RowsKept}
+use Rattle.steps.specs.Tally.{TallyIs, BodiesTallied}
+use Rattle.steps.specs.declared.walk.Walked.{Walked}
 
 -- The candidates in the order of the walk: those of each component, visible and silent, and the communications at each parallel once both sides are
 -- done. They are those of Raw, in another order, and the list of steps does not depend on it.
@@ -110,3 +113,61 @@ pub record MeetsIs (question part : List ℕ) (at depth number before x : ℕ) (
       → Rows depth (visible (bodyOf (q .bodies)) 1 L) rows first
       → Rows depth (visible (bodyOf (q .bodies)) 1 R) rows middle
       → CollectIs (map (raised K) (communications (visible (bodyOf (q .bodies)) 1 L) (visible (bodyOf (q .bodies)) 1 R))) x area count r area′
+
+-- What putting candidates into the list needs: the tally of the part, and room.
+abbrev pub CanPut : List ℕ → List ℕ → List ℕ → List ℕ → List ℕ → ℕ → Type 0
+CanPut question bodies part tally area count =
+    (count ≤ mostSteps) × (mostSteps * stepBytes ≤ length area) × (length part ≤ longestTerm) × TallyIs question part 1 tally
+    × BodiesTallied question bodies
+
+-- The term at `at` is one of the part, under so many restrictions.
+abbrev pub Inside : List ℕ → ℕ → ℕ → Type 0
+Inside part at depth = (depth ≤ at) × (at < length part)
+
+-- A number of candidates in the tally, and a sum of so many of them.
+abbrev pub mostNumber : ℕ
+mostNumber = 4294967296
+
+-- A row outside every restriction, by its kind and its object's slot: whether the object is extruded, and the action's object byte if it is not.
+unfoldable pub rowOpens : ℕ → ℕ → Bool
+rowOpens kind object = eqb kind 2 && leb nameCount object
+
+unfoldable pub rowObject : ℕ → ℕ → ℕ → ℕ
+rowObject kind object x = cond (eqb kind 2) object x
+
+-- The visible candidate number j of the term at `at`, put into the list by its row; the term's rows are those from `first` on.
+pub record TakeRowIs (question part : List ℕ) (at depth : ℕ) (rows : List ℕ) (first j x : ℕ) (area : List ℕ) (count r : ℕ) (area′ : List ℕ) : Type 0 where
+  pub is : (q : Question) (P : Term) → Lists question part x q P
+      → (K : List Frame) (C : Term) (number : ℕ)
+      → Placed (q .arities) (bodyOf (q .bodies)) P K C at depth first number
+      → j < length (visible (bodyOf (q .bodies)) 1 C)
+      → Row depth (getD (visible (bodyOf (q .bodies)) 1 C) j blocked) rows (first + j)
+      → PutIs (raised K (getD (visible (bodyOf (q .bodies)) 1 C) j blocked)) x area count r area′
+
+-- All of its visible candidates.
+pub record TakeRowsIs (question part : List ℕ) (at depth : ℕ) (rows : List ℕ) (first last x : ℕ) (area : List ℕ) (count r : ℕ) (area′ : List ℕ) : Type 0 where
+  pub is : (q : Question) (P : Term) → Lists question part x q P
+      → (K : List Frame) (C : Term) (number : ℕ)
+      → Placed (q .arities) (bodyOf (q .bodies)) P K C at depth first number
+      → last ≡ first + length (visible (bodyOf (q .bodies)) 1 C)
+      → Rows depth (visible (bodyOf (q .bodies)) 1 C) rows first
+      → CollectIs (map (raised K) (visible (bodyOf (q .bodies)) 1 C)) x area count r area′
+
+-- All of its silent candidates, which are the part's from `number` on.
+pub record TakeSilentIs (question part : List ℕ) (at depth number x : ℕ) (area : List ℕ) (count r : ℕ) (area′ : List ℕ) : Type 0 where
+  pub is : (q : Question) (P : Term) → Lists question part x q P
+      → (K : List Frame) (C : Term) (first : ℕ)
+      → Placed (q .arities) (bodyOf (q .bodies)) P K C at depth first number
+      → CollectIs (map (raised K) (silent (bodyOf (q .bodies)) 1 C)) x area count r area′
+
+-- All of its candidates; where no limit is passed its visible ones are in the rows from n on, and the rows behind them begin at the answer.
+pub record WalkIs (question part : List ℕ) (at depth number x : ℕ) (rows : List ℕ) (n : ℕ) (rows′ area : List ℕ) (count : ℕ) (r : Walked) (area′ : List ℕ) : Type 0 where
+  pub inside : r .rows ≤ mostRows + 1
+  pub on : n ≤ r .rows
+  pub kept : RowsKept n rows rows′
+  pub is : (q : Question) (P : Term) → Lists question part x q P
+      → (K : List Frame) (C : Term)
+      → Placed (q .arities) (bodyOf (q .bodies)) P K C at depth n number
+      → CollectIs (map (raised K) (walked (bodyOf (q .bodies)) C)) x area count (r .count) area′
+      × (r .count ≤ mostSteps
+      → (r .rows ≡ n + length (visible (bodyOf (q .bodies)) 1 C)) × Rows depth (visible (bodyOf (q .bodies)) 1 C) rows′ n)

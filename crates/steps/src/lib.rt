@@ -17,3 +17,4 @@ pub mod rows;
 pub mod rules;
 pub mod splice;
 pub mod tally;
+pub mod walk;

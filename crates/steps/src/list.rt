@@ -3,7 +3,7 @@ ghost use Prim.Native.Nat.{_*_, _≤_};
 ghost use lib.ListN.{length};
 ghost use Rattle.terms.specs.Limits.{longestTerm};
 ghost use Rattle.steps.specs.Limits.{stepBytes, mostSteps};
-ghost use Rattle.steps.specs.PartLister.{PutStepIs, TakeIs, GatherIs, ListPartIs};
+ghost use Rattle.steps.specs.PartLister.{PutStepIs, TakeIs, ListPartIs};
 ghost use Rattle.steps.specs.Tally.{TallyIs, BodiesTallied};
 use crate::action::Label;
 use crate::action::Status;
@@ -11,9 +11,10 @@ use crate::label::nth;
 use crate::limits::MOST_STEPS;
 use crate::listed::action_bytes;
 use crate::put::put_classed;
+use crate::rows::TABLE_OF_ROWS;
 use crate::tally::body_tallies;
-use crate::tally::number_at;
 use crate::tally::tally;
+use crate::walk::walk;
 use terms::limits::GREATEST_ARITY;
 
 // Puts the step with this header, the candidate number `i`, into the list.
@@ -99,34 +100,6 @@ pub fn take_candidate(
     }
 }
 
-// Puts all candidates of one kind into the list, until a limit is passed. Answers how many steps there are then.
-fn gather(
-    question: &[u8],
-    bodies: &[u32],
-    part: &[u8],
-    tally: &[u32],
-    silently: bool,
-    x: u8,
-    area: &mut [u8],
-    count: usize,
-) -> usize
-    requires { ⌜ (count ≤ mostSteps) × (mostSteps * stepBytes ≤ length (now area)) × (length (now part) ≤ longestTerm) × TallyIs (now question) (now part) 1 (now tally) × BodiesTallied (now question) (now bodies) ⌝ }
-    ensures { λ r. ⌜ GatherIs (now (question .entry)) (now (part .entry)) silently x (now (area .entry)) count r (now (area .exit)) ⌝ }
-{
-    let number = number_at(tally, 0, silently);
-    let mut n = count;
-    let mut i = 0;
-    while i < number {
-        let m = take_candidate(question, bodies, part, tally, silently, i, x, area, n);
-        if MOST_STEPS < m {
-            return m;
-        }
-        n = m;
-        i += 1;
-    }
-    n
-}
-
 pub enum ListAnswer {
     Unsettled,
     Count(usize),
@@ -145,15 +118,26 @@ pub fn list_tallied(
     ensures { λ r. ⌜ ListPartIs (now (question .entry)) (now (part .entry)) x (now (area .entry)) r (now (area .exit)) ⌝ }
 {
     let numbers = tally(question, bodies, part);
-    let visible = gather(question, bodies, part, &numbers, false, x, area, 0);
-    if MOST_STEPS < visible {
+    let mut rows = [0u8; TABLE_OF_ROWS];
+    let walked = walk(
+        question,
+        bodies,
+        part,
+        &numbers,
+        0,
+        0,
+        0,
+        x,
+        &mut rows,
+        0,
+        area,
+        0,
+    );
+    let n = walked.count;
+    if MOST_STEPS < n {
         return ListAnswer::Unsettled;
     }
-    let all = gather(question, bodies, part, &numbers, true, x, area, visible);
-    if MOST_STEPS < all {
-        return ListAnswer::Unsettled;
-    }
-    ListAnswer::Count(all)
+    ListAnswer::Count(n)
 }
 
 // The same for bodies that are not tallied yet.

@@ -22,6 +22,9 @@ pub const ROW_BYTES: usize = 4;
 // No part has more visible candidates.
 pub const MOST_ROWS: usize = 1056;
 
+// The bytes of so many rows.
+pub const TABLE_OF_ROWS: usize = 4224;
+
 // Puts one row, while there is room, and answers the number behind it.
 fn put_row(rows: &mut [u8], n: usize, kind: u8, channel: u8, object: u8) -> usize
     requires { ⌜ (n ≤ mostRows + 1) × (rowBytes * mostRows ≤ length (now rows)) ⌝ }

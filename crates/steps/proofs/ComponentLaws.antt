@@ -1,0 +1,303 @@
+-- The candidates of a component that stands in a part, put into the list by their rows and their numbers. Assumes nothing.
+use borrow.Author.Tests.{eqb-true, eqb-false, leb-true, leb-false}
+use mathlib.Core.Bool.{Bool, true, false, cond, _&&_}
+use mathlib.Core.List.{List, [], _∷_, map}
+use mathlib.Core.Path.{_≡_, refl, sym, _∙_, ap, subst}
+use native.Mathlib.Omega.{arith}
+use Prim.Native.Nat.{ℕ, suc, _+_, _-_, _*_, _<_, _≤_}
+use lib.Dec.{eqb, leb}
+use lib.ListN.{length, getD, length-map}
+use Rattle.calculus.specs.Abstraction.{Act, tauA, outA}
+use Rattle.calculus.specs.Cond.{cls}
+use Rattle.calculus.specs.Term.{Term, res}
+use Rattle.calculus.proofs.Renaming.{ren-id}
+use Rattle.terms.specs.Limits.{nameCount}
+use Rattle.terms.specs.Question.{Question}
+use Rattle.terms.proofs.Answers.{both-true}
+use Rattle.steps.specs.Collecting.{PutIs, CollectIs}
+use Rattle.steps.specs.Contexts.{Frame, leftOf, rightOf, beneath, raised, restrictions, Placed}
+use Rattle.steps.specs.Labels.{actionOf}
+use Rattle.steps.specs.Limits.{mostSteps, stepBytes}
+use Rattle.steps.specs.Listing.{bodyOf}
+use Rattle.steps.specs.Names.{OwnNames}
+use Rattle.steps.specs.PartLister.{Lists, candidatesOf, TakeIs}
+use Rattle.steps.specs.Passing.{candidates}
+use Rattle.steps.specs.Raw.{Candidate, step, blocked, leftSteps, rightSteps, sparesRestricted, restrictedAction, restricted, visible, silent}
+use Rattle.steps.specs.Rows.{kindAt, channelAt, objectAt, rowAction, Outlined, Row, Rows, Unconditional, QuietIs}
+use Rattle.steps.specs.Tally.{silentAt, TallyIs}
+use Rattle.steps.specs.Walking.{rowOpens, rowObject, Unopened, Trivial, stepAction, PutPlacedIs, PutClassedIs, TakeRowIs, TakeRowsIs, TakeSilentIs}
+use Rattle.steps.specs.declared.listed.ActionBytes.{ActionBytes}
+use Rattle.steps.proofs.CollectLaws.{put-blocked, Progresses, progress-start, progress-step, progress-done, progress-passed}
+use Rattle.steps.proofs.ContextLaws.{raised-blocked, placed-bytes}
+use Rattle.steps.proofs.Numbering.{nth-by}
+use Rattle.steps.proofs.RowLaws.{row-act, outlined-left, outlined-right, outlined-restricted}
+use Rattle.steps.proofs.StepEntries.{slot-name, same-action}
+
+-- A row serves outside all restrictions.
+outlined-raised : (K : List Frame) (c : Candidate) (kind channel object : ℕ) → Outlined (restrictions K) c kind channel object
+    → Outlined 0 (raised K c) kind channel object
+unfolding raised restrictions
+outlined-raised [] c k a o h = h
+outlined-raised (leftOf Q ∷ K) c k a o h = outlined-raised K (leftSteps Q c) k a o (outlined-left (restrictions K) k a o Q c h)
+outlined-raised (rightOf P ∷ K) c k a o h = outlined-raised K (rightSteps P c) k a o (outlined-right (restrictions K) k a o P c h)
+outlined-raised (beneath ∷ K) c k a o h =
+    let e : suc (restrictions K) ≡ 1 + restrictions K = omega arith in
+    outlined-raised K (restricted c) k a o (outlined-restricted (restrictions K) k a o c (subst (λ (d : ℕ). Outlined d c k a o) e h))
+
+-- A silent step without a condition stays one.
+raised-silent : (K : List Frame) (A : Term) → (B : Term) × (raised K (step [] tauA A) ≡ step [] tauA B)
+unfolding raised leftSteps rightSteps restricted sparesRestricted restrictedAction
+raised-silent [] A = (A, refl)
+raised-silent (leftOf Q ∷ K) A = raised-silent K _
+raised-silent (rightOf P ∷ K) A = raised-silent K _
+raised-silent (beneath ∷ K) A = raised-silent K (res A)
+
+trivial : Trivial []
+unfolding Trivial cls
+trivial n = refl
+
+-- The bytes of an action by its row.
+module _ (x kind channel object : ℕ) (α : Act) (e : actionOf 0 α ≡ rowAction 0 kind channel object) where
+  abbrev bytesOf : ℕ → ℕ → ℕ → ActionBytes
+  bytesOf k a o = record { kind = k; channel = a; object = o }
+
+  bytes-bound : kind ≤ 3 → (kind ≡ 0 → ⊥) → (kind ≡ 2 → ⊥) → bytesOf kind channel x ≡ stepAction x [] α
+  unfolding stepAction cls
+  bytes-bound k n m =
+      row-act 0 kind channel object (λ β. bytesOf kind channel x ≡ stepAction x [] β)
+      (λ a h s. let t = slot-name nameCount a in cc) (λ a b h l s t. absurd (m h))
+      (λ a h l s. let t = slot-name nameCount a in let three : kind ≡ 3 = omega arith in cc) α e
+
+  bytes-free : kind ≡ 2 → object < nameCount → bytesOf kind channel object ≡ stepAction x [] α
+  unfolding stepAction cls
+  bytes-free k n =
+      row-act 0 kind channel object (λ β. bytesOf kind channel object ≡ stepAction x [] β)
+      (λ a h s. absurd (omega arith)) (λ a b h l s t. let u = slot-name nameCount a in let v = slot-name nameCount b in cc)
+      (λ a h l s. let z = l k in absurd (omega arith)) α e
+
+  bytes-new : kind ≡ 2 → nameCount ≤ object → bytesOf 3 channel x ≡ stepAction x [] α
+  unfolding stepAction cls
+  bytes-new k n =
+      row-act 0 kind channel object (λ β. bytesOf 3 channel x ≡ stepAction x [] β)
+      (λ a h s. absurd (omega arith)) (λ a b h l s t. absurd (omega arith))
+      (λ a h l s. let u = slot-name nameCount a in cc) α e
+
+  -- [Open] has not applied to an action that has this row further in.
+  unopened : (kind ≡ 2 → object < nameCount) → (d : ℕ) (β : Act) → actionOf d β ≡ rowAction d kind channel object → Unopened β α
+  unfolding Unopened
+  unopened n d =
+      row-act d kind channel object (λ β. Unopened β α) (λ a h s. tt)
+      (λ a b h l s t. row-act 0 kind channel object (λ γ. Unopened (outA a b) γ) (λ c k u. absurd (omega arith)) (λ c f k m u v. tt)
+      (λ c k m u. let z = n h in let y = m h in absurd (omega arith)) α e)
+      (λ a h l s. tt)
+
+-- A visible candidate by its row.
+module _ (question part : List ℕ) (at depth : ℕ) (rows : List ℕ) (first j x : ℕ) (area : List ℕ) (count : ℕ) where
+  abbrev Takes : ℕ → List ℕ → Type 0
+  Takes r area′ = TakeRowIs question part at depth rows first j x area count r area′
+
+  pub row-taken : (r : ℕ) (area′ : List ℕ) → TakeIs question part false (first + j) x area count r area′ → Takes r area′
+  unfolding TakeIs candidatesOf candidates
+  row-taken r area′ take = record {
+    is = λ q P l K C number p h row.
+        subst (λ c. PutIs c x area count r area′) (p .visibly .is j h) (take q P l (omega (arith, p .visibly .inside)));
+  }
+
+  module _ (kind channel object : ℕ) (at-kind : kind ≡ kindAt rows (first + j)) (at-channel : channel ≡ channelAt rows (first + j))
+      (at-object : object ≡ objectAt rows (first + j)) (known : kind ≡ 0 → ⊥) where
+    inside : (c : Candidate) → Row depth c rows (first + j) → Outlined depth c kind channel object
+    unfolding Row
+    inside c row =
+        subst (λ k. Outlined depth c k channel object) (sym at-kind)
+        (subst (λ a. Outlined depth c (kindAt rows (first + j)) a object) (sym at-channel)
+        (subst (λ o. Outlined depth c (kindAt rows (first + j)) (channelAt rows (first + j)) o) (sym at-object) (row (λ e. known (at-kind ∙ e)))))
+
+    outside : (K : List Frame) (c : Candidate) → restrictions K ≡ depth → Row depth c rows (first + j) → Outlined 0 (raised K c) kind channel object
+    outside K c e row = outlined-raised K c kind channel object (subst (λ (d : ℕ). Outlined d c kind channel object) (sym e) (inside c row))
+
+    pub row-blocked : nameCount ≤ channel → mostSteps * stepBytes ≤ length area → count ≤ mostSteps → Takes count area
+    unfolding PutIs
+    row-blocked h room few = record {
+      is = λ q P l K C number p _ row.
+          let c = getD (visible (bodyOf (q .bodies)) 1 C) j blocked in
+          let e : raised K c ≡ blocked = outside K c (p .level) row .inner (omega arith) in
+          subst (λ d. PutIs d x area count count area) (sym e) (λ found s. put-blocked area room x count found s few);
+    }
+
+    module _ (free : channel < nameCount) (r : ℕ) (area′ : List ℕ) where
+      placed : (kind ≡ 2 → object < nameCount) → (action : ActionBytes)
+          → (kind ≤ 3 → (α : Act) → actionOf 0 α ≡ rowAction 0 kind channel object → action ≡ stepAction x [] α)
+          → PutPlacedIs question part at depth false j action x area count r area′ → Takes r area′
+      unfolding candidates
+      placed m action same put = record {
+        is = λ q P l K C number p h row.
+            let c = getD (visible (bodyOf (q .bodies)) 1 C) j blocked in
+            let o = outside K c (p .level) row in
+            let (α, A, e, a, b) = o .acts (omega arith) in
+            let (β, B, d, f, g) = inside c row .acts (omega arith) in
+            let z : raised K (step [] β B) ≡ step [] α A = ap (raised K) (sym d) ∙ e in
+            subst (λ t. PutIs t x area count r area′) (sym e)
+            (put .is q P l K C first number [] α A
+            (record {
+              placed = p;
+              condition = [];
+              action = β;
+              result = B;
+              own = d;
+              is = z;
+              unopened = unopened x kind channel object α a m depth β f;
+            }) trivial (same (o .known) α a));
+      }
+
+      pub row-placed : rowOpens kind object ≡ false → (o : ℕ) → o ≡ rowObject kind object x
+          → PutPlacedIs question part at depth false j (record { kind = kind; channel = channel; object = o }) x area count r area′
+          → Takes r area′
+      unfolding rowOpens rowObject
+      row-placed = go (eqb kind 2) refl
+        where
+          go : (b : Bool) → eqb kind 2 ≡ b → b && leb nameCount object ≡ false → (o : ℕ) → o ≡ cond b object x
+              → PutPlacedIs question part at depth false j (record { kind = kind; channel = channel; object = o }) x area count r area′ → Takes r area′
+          go true e n o d put =
+              let m = leb-false nameCount object n in
+              placed (λ _. m) _ (λ few α a. same-action kind refl d ∙ bytes-free x kind channel object α a (eqb-true kind 2 e) m) put
+          go false e n o d put =
+              let m = eqb-false kind 2 e in
+              placed (λ z. absurd (m z)) _ (λ few α a. same-action kind refl d ∙ bytes-bound x kind channel object α a few known m) put
+
+      pub row-opened : rowOpens kind object ≡ true → (class : List ℕ) → OwnNames 0 class
+          → PutClassedIs question part false (first + j) class (record { kind = 3; channel = channel; object = x }) x area count r area′ → Takes r area′
+      unfolding candidatesOf candidates cls rowOpens OwnNames
+      row-opened n class apart put =
+          let (m, k) = both-true (eqb kind 2) (leb nameCount object) n in
+          record {
+            is = λ q P l K C number p h row.
+                let c = getD (visible (bodyOf (q .bodies)) 1 C) j blocked in
+                let o = outside K c (p .level) row in
+                let (α, A, e, a, b) = o .acts (omega arith) in
+                subst (λ t. PutIs t x area count r area′) (sym e)
+                (put .is q P l [] α A (p .visibly .is j h ∙ e) (λ n h. apart n (omega arith))
+                (bytes-new x kind channel object α a (eqb-true kind 2 m) (leb-true nameCount object k)));
+          }
+
+nth-raised : (K : List Frame) (cs : List Candidate) (j : ℕ) → getD (map (raised K) cs) j blocked ≡ raised K (getD cs j blocked)
+nth-raised K cs j = nth-by (raised K) (raised-blocked K) cs j
+
+-- The candidates cs, raised, of which the first j have been put into the list.
+module _ (K : List Frame) (cs : List Candidate) (x : ℕ) (area₀ : List ℕ) (count₀ j n m : ℕ) (area area′ : List ℕ) (inside : j < length cs)
+    (going : Progresses (map (raised K) cs) x area₀ count₀ j n area) (put : PutIs (raised K (getD cs j blocked)) x area n m area′) where
+  in-raised : j < length (map (raised K) cs)
+  in-raised = omega (arith, length-map cs (raised K))
+
+  put-raised : PutIs (getD (map (raised K) cs) j blocked) x area n m area′
+  put-raised = subst (λ c. PutIs c x area n m area′) (sym (nth-raised K cs j)) put
+
+  raised-step : m ≤ mostSteps → Progresses (map (raised K) cs) x area₀ count₀ (j + 1) m area′
+  raised-step h = progress-step (map (raised K) cs) x area₀ count₀ j n m area area′ in-raised going put-raised h
+
+  raised-passed : mostSteps < m → CollectIs (map (raised K) cs) x area₀ count₀ m area′
+  raised-passed h = progress-passed (map (raised K) cs) x area₀ count₀ j n m area area′ in-raised going put-raised h
+
+-- The visible candidates one by one.
+module _ (question part : List ℕ) (at depth : ℕ) (rows : List ℕ) (first last x : ℕ) (area₀ : List ℕ) (count₀ : ℕ) where
+  abbrev pub RowsGo : ℕ → ℕ → List ℕ → Type 0
+  RowsGo j n area =
+      (q : Question) (P : Term) → Lists question part x q P → (K : List Frame) (C : Term) (number : ℕ)
+      → Placed (q .arities) (bodyOf (q .bodies)) P K C at depth first number
+      → last ≡ first + length (visible (bodyOf (q .bodies)) 1 C) → Rows depth (visible (bodyOf (q .bodies)) 1 C) rows first
+      → Progresses (map (raised K) (visible (bodyOf (q .bodies)) 1 C)) x area₀ count₀ j n area
+
+  pub rows-start : RowsGo 0 count₀ area₀
+  rows-start q P l K C number p e R = progress-start (map (raised K) (visible (bodyOf (q .bodies)) 1 C)) x area₀ count₀
+
+  module _ (j n : ℕ) (area : List ℕ) (go : RowsGo j n area) where
+    pub rows-done : last - first ≤ j → n ≤ mostSteps → TakeRowsIs question part at depth rows first last x area₀ count₀ n area
+    rows-done h few = record {
+      is = λ q P l K C number p e R.
+          let vs = visible (bodyOf (q .bodies)) 1 C in
+          progress-done (map (raised K) vs) x area₀ count₀ j n area (omega (arith, length-map vs (raised K))) few (go q P l K C number p e R);
+    }
+
+    module _ (inside : j < last - first) (m : ℕ) (area′ : List ℕ) (put : TakeRowIs question part at depth rows first j x area n m area′) where
+      pub rows-next : m ≤ mostSteps → RowsGo (j + 1) m area′
+      unfolding Rows
+      rows-next h q P l K C number p e R =
+          raised-step K (visible (bodyOf (q .bodies)) 1 C) x area₀ count₀ j n m area area′ (omega arith) (go q P l K C number p e R)
+          (put .is q P l K C number p (omega arith) (R j (omega arith))) h
+
+      pub rows-passed : mostSteps < m → TakeRowsIs question part at depth rows first last x area₀ count₀ m area′
+      unfolding Rows
+      rows-passed h = record {
+        is = λ q P l K C number p e R.
+            raised-passed K (visible (bodyOf (q .bodies)) 1 C) x area₀ count₀ j n m area area′ (omega arith) (go q P l K C number p e R)
+            (put .is q P l K C number p (omega arith) (R j (omega arith))) h;
+      }
+
+-- The silent candidates: how many they are,
+pub silent-count : (question part tally : List ℕ) → TallyIs question part 1 tally → (x : ℕ) (q : Question) (P : Term) → Lists question part x q P
+    → (K : List Frame) (C : Term) (at depth first number : ℕ) → Placed (q .arities) (bodyOf (q .bodies)) P K C at depth first number
+    → silentAt tally at ≡ length (silent (bodyOf (q .bodies)) 1 C)
+silent-count question part tally T x q P l K C at depth first number p =
+    T .is q at nameCount depth (λ n. n) C _ (l .accepted) (p .scope) (placed-bytes l p) .1
+    ∙ ap (λ (Q : Term). length (silent (bodyOf (q .bodies)) 1 Q)) (ren-id C)
+
+-- and one of them, without a condition or by its number.
+module _ (question part : List ℕ) (at depth number j x : ℕ) (area : List ℕ) (n m : ℕ) (area′ : List ℕ) where
+  abbrev pub OneSilent : Type 0
+  OneSilent =
+      (q : Question) (P : Term) → Lists question part x q P → (K : List Frame) (C : Term) (first : ℕ)
+      → Placed (q .arities) (bodyOf (q .bodies)) P K C at depth first number → j < length (silent (bodyOf (q .bodies)) 1 C)
+      → PutIs (raised K (getD (silent (bodyOf (q .bodies)) 1 C) j blocked)) x area n m area′
+
+  pub silent-placed : QuietIs question part at 1 true
+      → PutPlacedIs question part at depth true j (record { kind = 0; channel = 0; object = 0 }) x area n m area′ → OneSilent
+  unfolding Unconditional candidates stepAction Unopened
+  silent-placed quiet put q P l K C first p h =
+      let cs : List Candidate = silent (bodyOf (q .bodies)) 1 C in
+      let plain : Unconditional cs =
+      subst (λ (Q : Term). Unconditional (silent (bodyOf (q .bodies)) 1 Q)) (ren-id C)
+      (quiet .is q nameCount depth (λ n. n) C _ refl (l .accepted) (p .scope) (placed-bytes l p)) in
+      let (A, e) = plain j h in
+      let (B, d) = raised-silent K A in
+      subst (λ c. PutIs c x area n m area′) (sym (ap (raised K) e ∙ d))
+      (put .is q P l K C first number [] tauA B
+      (record { placed = p; condition = []; action = tauA; result = A; own = e; is = d; unopened = tt }) trivial refl)
+
+  pub silent-taken : TakeIs question part true (number + j) x area n m area′ → OneSilent
+  unfolding TakeIs candidatesOf candidates
+  silent-taken take q P l K C first p h =
+      subst (λ c. PutIs c x area n m area′) (p .silently .is j h) (take q P l (omega (arith, p .silently .inside)))
+
+-- All of them, one by one.
+module _ (question part : List ℕ) (at depth number x : ℕ) (area₀ : List ℕ) (count₀ : ℕ) where
+  abbrev pub SilentGo : ℕ → ℕ → List ℕ → Type 0
+  SilentGo j n area =
+      (q : Question) (P : Term) → Lists question part x q P → (K : List Frame) (C : Term) (first : ℕ)
+      → Placed (q .arities) (bodyOf (q .bodies)) P K C at depth first number
+      → Progresses (map (raised K) (silent (bodyOf (q .bodies)) 1 C)) x area₀ count₀ j n area
+
+  pub silent-start : SilentGo 0 count₀ area₀
+  silent-start q P l K C first p = progress-start (map (raised K) (silent (bodyOf (q .bodies)) 1 C)) x area₀ count₀
+
+  module _ (tally : List ℕ) (T : TallyIs question part 1 tally) (j n : ℕ) (area : List ℕ) (go : SilentGo j n area) where
+    pub silent-done : silentAt tally at ≤ j → n ≤ mostSteps → TakeSilentIs question part at depth number x area₀ count₀ n area
+    silent-done h few = record {
+      is = λ q P l K C first p.
+          let cs = silent (bodyOf (q .bodies)) 1 C in
+          progress-done (map (raised K) cs) x area₀ count₀ j n area
+          (omega (arith, length-map cs (raised K), silent-count question part tally T x q P l K C at depth first number p)) few (go q P l K C first p);
+    }
+
+    module _ (inside : j < silentAt tally at) (m : ℕ) (area′ : List ℕ) (put : OneSilent question part at depth number j x area n m area′) where
+      pub silent-next : m ≤ mostSteps → SilentGo (j + 1) m area′
+      silent-next h q P l K C first p =
+          let k = silent-count question part tally T x q P l K C at depth first number p in
+          raised-step K (silent (bodyOf (q .bodies)) 1 C) x area₀ count₀ j n m area area′ (omega arith) (go q P l K C first p)
+          (put q P l K C first p (omega arith)) h
+
+      pub silent-passed : mostSteps < m → TakeSilentIs question part at depth number x area₀ count₀ m area′
+      silent-passed h = record {
+        is = λ q P l K C first p.
+            let k = silent-count question part tally T x q P l K C at depth first number p in
+            raised-passed K (silent (bodyOf (q .bodies)) 1 C) x area₀ count₀ j n m area area′ (omega arith) (go q P l K C first p)
+            (put q P l K C first p (omega arith)) h;
+      }

@@ -1,0 +1,226 @@
+-- `steps::walk::walk` and `walk_parallel` meet their contracts. The measure: the bytes left. Assumes nothing.
+use native.Mathlib.Omega.{arith}
+use lib.ListN.{length}
+use borrow.Author.Needs.{needs}
+use Rattle.terms.specs.Limits.{longestTerm}
+use Rattle.steps.specs.Tally.{silentAt}
+use Rattle.steps.proofs.TwoSides.{middle-on}
+use Rattle.steps.proofs.WalkLaws.{walk-none, walk-beneath, left-passed, right-passed, right-full, sides-met}
+use Prim.Native.Nat.{ℕ, _+_, _-_, _*_, _<_}
+use borrow.Fn.Kinds.{In}
+use borrow.Fn.PlainCycle.{Measures, is, falls, and}
+use Rattle.steps.proofs.walk.walk.Reads as walk
+use Rattle.steps.proofs.walk.walk.Kinds as walk-kinds
+use Rattle.steps.proofs.walk.+walk+walk_parallel.Lts-walk as walk-lts
+use Rattle.steps.proofs.walk.walk_parallel.Reads as walk-parallel
+use Rattle.steps.proofs.walk.walk_parallel.Kinds as walk-parallel-kinds
+use Rattle.steps.proofs.walk.+walk+walk_parallel.Lts-walk_parallel as walk-parallel-lts
+use Rattle.steps.proofs.meet.meet.Reads as meet-reads
+use Rattle.steps.proofs.pass.middle_of.Reads as middle-of-reads
+use Rattle.steps.proofs.tally.silent_at.Reads as silent-at-reads
+use Rattle.steps.proofs.walk.component.Reads as component-reads
+use Rattle.steps.proofs.walk.+walk+walk_parallel.{statement}
+use Rattle.steps.proofs.walk.+walk+walk_parallel.Tie.{close}
+
+abbrev μ-walk : Measures 6 walk-kinds.ps ℕ
+μ-walk κs a = 2 * (length (a .1 .1 .0 .now) - a .1 .1 .1 .1 .0) + 1
+
+abbrev μ-walk-parallel : Measures 6 walk-parallel-kinds.ps ℕ
+μ-walk-parallel κs a = 2 * (length (a .1 .1 .0 .now) - a .1 .1 .1 .1 .0)
+
+abbrev walk-at : ℕ → In 6 walk-kinds.ps
+walk-at t = and 6 walk-kinds.ps (is 6 walk-kinds.ps μ-walk t) walk.Pre
+
+abbrev walk-below : ℕ → In 6 walk-kinds.ps
+walk-below t = and 6 walk-kinds.ps (falls 6 walk-kinds.ps _<_ μ-walk t) walk.Pre
+
+abbrev walk-parallel-at : ℕ → In 6 walk-parallel-kinds.ps
+walk-parallel-at t =
+    and 6 walk-parallel-kinds.ps (is 6 walk-parallel-kinds.ps μ-walk-parallel t) walk-parallel.Pre
+
+abbrev walk-parallel-below : ℕ → In 6 walk-parallel-kinds.ps
+walk-parallel-below t =
+    and
+    6
+    walk-parallel-kinds.ps
+    (falls 6 walk-parallel-kinds.ps _<_ μ-walk-parallel t)
+    walk-parallel.Pre
+
+abbrev walk-claims : ℕ → walk-lts.Claims
+walk-claims t = (walk-below t, walk.Post, walk-parallel-below t, walk-parallel.Post, component-reads.Asked, component-reads.Learnt)
+
+abbrev walk-parallel-claims : ℕ → walk-parallel-lts.Claims
+walk-parallel-claims t = (middle-of-reads.Asked, middle-of-reads.Learnt, walk-below t, walk.Post, silent-at-reads.Asked, silent-at-reads.Learnt, meet-reads.Asked, meet-reads.Learnt)
+
+walk-returns : (t : ℕ) → walk-lts.Need-returns (walk-claims t) (walk-at t) walk.Post
+walk-returns t c = walk-none (c .before .before .before .before .before .before .before .args .question .now) (c .before .before .before .before .before .before .before .args .part .now) (c .before .before .before .before .before .before .before .args .at) (c .before .before .before .before .before .before .before .args .depth) (c .before .before .before .before .before .before .before .args .number) (c .before .before .before .before .before .before .before .args .x) (c .before .before .before .before .before .before .before .args .rows .now) (c .before .before .before .before .before .before .before .args .n) (c .before .before .before .before .before .before .before .args .area .now) (c .before .before .before .before .before .before .before .args .count) (c .if1 .taken) (c .before .before .before .before .before .before .before .pre .1 .3)
+
+walk-shared-slice-read-t : (t : ℕ) → walk-lts.Need-shared-slice-read-t (walk-claims t) (walk-at t) walk.Post
+walk-shared-slice-read-t t c = search needs
+
+walk-add-walk : (t : ℕ) → walk-lts.Need-add-walk (walk-claims t) (walk-at t) walk.Post
+walk-add-walk t c = let s = c .before .before .before .before .before .before .before .before .before .pre .1 .0 .2 in let l = c .before .before .if1 .left in omega arith
+
+walk-add-walk-2 : (t : ℕ) → walk-lts.Need-add-walk-2 (walk-claims t) (walk-at t) walk.Post
+walk-add-walk-2 t c = let s = c .before .before .before .before .before .before .before .before .before .pre .1 .0 .2 in let l = c .before .before .if1 .left in let d = c .before .before .before .before .before .before .before .before .before .pre .1 .1 in omega arith
+
+walk-walk-requires : (t : ℕ) → walk-lts.Need-walk-requires (walk-claims t) (walk-at t) walk.Post
+walk-walk-requires t c κs = let l = c .before .before .before .before .if1 .left in let t = c .before .before .before .before .before .before .before .before .before .before .before .pre .0 in let d = c .before .before .before .before .before .before .before .before .before .before .before .pre .1 .1 in let k = c .before .before .before .before .before .before .before .before .before .before .before .pre .1 .2 in (omega arith, (c .before .before .before .before .before .before .before .before .before .before .before .pre .1 .0, omega arith, omega arith, c .before .before .before .before .before .before .before .before .before .before .before .pre .1 .3, c .before .before .before .before .before .before .before .before .before .before .before .pre .1 .4))
+
+walk-same-length : (t : ℕ) → walk-lts.Need-same-length (walk-claims t) (walk-at t) walk.Post
+walk-same-length t c = search needs
+
+walk-same-length-2 : (t : ℕ) → walk-lts.Need-same-length-2 (walk-claims t) (walk-at t) walk.Post
+walk-same-length-2 t c = search needs
+
+walk-returns-2 : (t : ℕ) → walk-lts.Need-returns-2 (walk-claims t) (walk-at t) walk.Post
+walk-returns-2 t c = walk-beneath (c .before .before .before .before .before .before .before .before .before .before .before .before .before .before .before .before .args .question .now) (c .before .before .before .before .before .before .before .before .before .before .before .before .before .before .before .before .args .part .now) (c .before .before .before .before .before .before .before .before .before .before .before .before .before .before .before .before .args .at) (c .before .before .before .before .before .before .before .before .before .before .before .before .before .before .before .before .args .depth) (c .before .before .before .before .before .before .before .before .before .before .before .before .before .before .before .before .args .number) (c .before .before .before .before .before .before .before .before .before .before .before .before .before .before .before .before .args .x) (c .before .before .before .before .before .before .before .before .before .before .before .before .before .before .before .before .args .rows .now) (c .before .before .before .before .before .before .before .before .before .before .before .before .before .before .before .before .args .n) (c .before .before .before .before .before .before .before .before .before .before .before .before .before .before .before .before .args .area .now) (c .before .before .before .before .before .before .before .before .before .before .before .before .before .before .before .before .args .count) _ (c .before .before .before .before .walk .result) _ (c .before .before .before .before .walk .ensures) (c .before .before .before .before .before .before .before .if2 .taken)
+
+walk-walk-parallel-requires : (t : ℕ) → walk-lts.Need-walk-parallel-requires (walk-claims t) (walk-at t) walk.Post
+walk-walk-parallel-requires t c κs = let t = c .before .before .before .before .before .before .before .before .before .before .before .before .pre .0 in (omega arith, (c .before .before .before .before .before .before .before .before .before .before .before .before .pre .1 .0, (c .before .before .before .before .before .before .before .before .before .before .before .before .pre .1 .1, c .before .before .before .before .before .if1 .left), c .before .before .before .before .before .before .before .before .before .before .before .before .pre .1 .2, c .before .before .before .before .before .before .before .before .before .before .before .before .pre .1 .3, c .before .before .before .before .before .before .before .before .before .before .before .before .pre .1 .4, c .before .before .if3 .taken))
+
+walk-same-length-3 : (t : ℕ) → walk-lts.Need-same-length-3 (walk-claims t) (walk-at t) walk.Post
+walk-same-length-3 t c = search needs
+
+walk-same-length-4 : (t : ℕ) → walk-lts.Need-same-length-4 (walk-claims t) (walk-at t) walk.Post
+walk-same-length-4 t c = search needs
+
+walk-returns-3 : (t : ℕ) → walk-lts.Need-returns-3 (walk-claims t) (walk-at t) walk.Post
+walk-returns-3 t c = c .before .before .before .before .walk-parallel .ensures
+
+walk-component-requires : (t : ℕ) → walk-lts.Need-component-requires (walk-claims t) (walk-at t) walk.Post
+walk-component-requires t c κs = (c .before .before .before .before .before .before .before .before .before .before .before .before .pre .1 .0, (c .before .before .before .before .before .before .before .before .before .before .before .before .pre .1 .1, c .before .before .before .before .before .if1 .left), c .before .before .before .before .before .before .before .before .before .before .before .before .pre .1 .2, c .before .before .before .before .before .before .before .before .before .before .before .before .pre .1 .3, c .before .before .before .before .before .before .before .before .before .before .before .before .pre .1 .4, c .before .before .if3 .left, c .before .before .before .if2 .left)
+
+walk-same-length-5 : (t : ℕ) → walk-lts.Need-same-length-5 (walk-claims t) (walk-at t) walk.Post
+walk-same-length-5 t c = search needs
+
+walk-same-length-6 : (t : ℕ) → walk-lts.Need-same-length-6 (walk-claims t) (walk-at t) walk.Post
+walk-same-length-6 t c = search needs
+
+walk-returns-4 : (t : ℕ) → walk-lts.Need-returns-4 (walk-claims t) (walk-at t) walk.Post
+walk-returns-4 t c = c .before .before .before .before .component .ensures
+
+walk-parallel-middle-of-requires : (t : ℕ) → walk-parallel-lts.Need-middle-of-requires (walk-parallel-claims t) (walk-parallel-at t) walk-parallel.Post
+walk-parallel-middle-of-requires t c κs = search needs
+
+walk-parallel-add-walk : (t : ℕ) → walk-parallel-lts.Need-add-walk (walk-parallel-claims t) (walk-parallel-at t) walk-parallel.Post
+walk-parallel-add-walk t c = let s = c .before .before .before .before .before .before .before .pre .1 .0 .2 in let i = c .before .before .before .before .before .before .before .pre .1 .1 .1 in omega arith
+
+walk-parallel-walk-requires : (t : ℕ) → walk-parallel-lts.Need-walk-requires (walk-parallel-claims t) (walk-parallel-at t) walk-parallel.Post
+walk-parallel-walk-requires t c κs = let l = c .before .before .before .before .before .before .before .before .before .pre .1 .1 .1 in let t = c .before .before .before .before .before .before .before .before .before .pre .0 in let d = c .before .before .before .before .before .before .before .before .before .pre .1 .1 .0 in let k = c .before .before .before .before .before .before .before .before .before .pre .1 .2 in (omega arith, (c .before .before .before .before .before .before .before .before .before .pre .1 .0, omega arith, omega arith, c .before .before .before .before .before .before .before .before .before .pre .1 .3, c .before .before .before .before .before .before .before .before .before .pre .1 .4))
+
+walk-parallel-same-length : (t : ℕ) → walk-parallel-lts.Need-same-length (walk-parallel-claims t) (walk-parallel-at t) walk-parallel.Post
+walk-parallel-same-length t c = search needs
+
+walk-parallel-same-length-2 : (t : ℕ) → walk-parallel-lts.Need-same-length-2 (walk-parallel-claims t) (walk-parallel-at t) walk-parallel.Post
+walk-parallel-same-length-2 t c = search needs
+
+walk-parallel-returns : (t : ℕ) → walk-parallel-lts.Need-returns (walk-parallel-claims t) (walk-parallel-at t) walk-parallel.Post
+walk-parallel-returns t c = left-passed (c .before .before .before .before .before .before .before .before .before .before .before .before .before .before .before .before .args .question .now) (c .before .before .before .before .before .before .before .before .before .before .before .before .before .before .before .before .args .part .now) (c .before .before .before .before .before .before .before .before .before .before .before .before .before .before .before .before .args .at) (c .before .before .before .before .before .before .before .before .before .before .before .before .before .before .before .before .args .depth) (c .before .before .before .before .before .before .before .before .before .before .before .before .before .before .before .before .args .number) (c .before .before .before .before .before .before .before .before .before .before .before .before .before .before .before .before .args .x) (c .before .before .before .before .before .before .before .before .before .before .before .before .before .before .before .before .args .rows .now) (c .before .before .before .before .before .before .before .before .before .before .before .before .before .before .before .before .args .n) (c .before .before .before .before .before .before .before .before .before .before .before .before .before .before .before .before .args .area .now) (c .before .before .before .before .before .before .before .before .before .before .before .before .before .before .before .before .args .count) (c .before .before .before .before .before .before .before .before .before .before .before .before .before .before .before .before .pre .1 .5) _ (c .before .before .before .before .before .before .walk .result) _ (c .before .before .before .before .before .before .walk .ensures) (c .if1 .taken)
+
+walk-parallel-add-silent-at : (t : ℕ) → walk-parallel-lts.Need-add-silent-at (walk-parallel-claims t) (walk-parallel-at t) walk-parallel.Post
+walk-parallel-add-silent-at t c = let s = c .before .before .before .before .before .before .before .before .before .before .before .before .before .before .before .before .pre .1 .0 .2 in let i = c .before .before .before .before .before .before .before .before .before .before .before .before .before .before .before .before .pre .1 .1 .1 in omega arith
+
+walk-parallel-silent-at-requires : (t : ℕ) → walk-parallel-lts.Need-silent-at-requires (walk-parallel-claims t) (walk-parallel-at t) walk-parallel.Post
+walk-parallel-silent-at-requires t c κs = search needs
+
+walk-parallel-add-walk-2 : (t : ℕ) → walk-parallel-lts.Need-add-walk-2 (walk-parallel-claims t) (walk-parallel-at t) walk-parallel.Post
+unfolding silentAt
+walk-parallel-add-walk-2 t c = let b = c .before .before .before .before .before .before .before .before .before .before .before .before .before .shared-slice-known4 .given (longestTerm + (c .before .before .before .before .before .before .before .before .before .before .before .before .before .before .before .before .before .args .at + 1)) in let e = c .silent-at .ensures in let h = c .before .before .before .before .before .before .before .before .before .before .before .before .before .before .before .before .before .pre .1 .2 in let s = c .before .before .before .before .before .before .before .before .before .before .before .before .before .before .before .before .before .pre .1 .0 .2 in let i = c .before .before .before .before .before .before .before .before .before .before .before .before .before .before .before .before .before .pre .1 .1 .1 in omega arith
+
+walk-parallel-walk-requires-2 : (t : ℕ) → walk-parallel-lts.Need-walk-requires-2 (walk-parallel-claims t) (walk-parallel-at t) walk-parallel.Post
+unfolding silentAt
+walk-parallel-walk-requires-2 t c κs = let m = middle-on (c .before .before .before .before .before .before .before .before .before .before .before .before .before .before .before .before .before .before .before .args .question .now) (c .before .before .before .before .before .before .before .before .before .before .before .before .before .before .before .before .before .before .before .args .part .now) 1 (c .before .before .before .before .before .before .before .before .before .before .before .before .before .before .before .before .before .before .before .args .tally .now) (c .before .before .before .before .before .before .before .before .before .before .before .before .before .before .before .before .before .before .before .pre .1 .0 .3) (c .before .before .before .before .before .before .before .before .before .before .before .before .before .before .before .before .before .before .before .args .at) (c .before .before .before .before .before .before .before .before .before .before .before .before .middle-of .result) (c .before .before .before .before .before .before .before .before .before .before .before .before .middle-of .ensures) (c .before .before .before .before .before .before .before .before .before .before .before .before .before .before .before .before .before .before .before .pre .1 .1 .1) in let b = c .before .before .before .before .before .before .before .before .before .before .before .before .before .before .before .shared-slice-known4 .given (longestTerm + (c .before .before .before .before .before .before .before .before .before .before .before .before .before .before .before .before .before .before .before .args .at + 1)) in let e = c .before .before .silent-at .ensures in let h = c .before .before .before .before .before .before .before .before .before .before .before .before .before .before .before .before .before .before .before .pre .1 .2 in let s = c .before .before .before .before .before .before .before .before .before .before .before .before .before .before .before .before .before .before .before .pre .1 .0 .2 in let i = c .before .before .before .before .before .before .before .before .before .before .before .before .before .before .before .before .before .before .before .pre .1 .1 .1 in let t = c .before .before .before .before .before .before .before .before .before .before .before .before .before .before .before .before .before .before .before .pre .0 in let d = c .before .before .before .before .before .before .before .before .before .before .before .before .before .before .before .before .before .before .before .pre .1 .1 .0 in (omega arith, ((search needs, omega (arith, c .before .before .before .before .before .before .area .given, c .before .before .before .before .before .before .before .before .before .before .before .before .before .before .before .before .before .before .before .pre .1 .0 .1), c .before .before .before .before .before .before .before .before .before .before .before .before .before .before .before .before .before .before .before .pre .1 .0 .2, c .before .before .before .before .before .before .before .before .before .before .before .before .before .before .before .before .before .before .before .pre .1 .0 .3, c .before .before .before .before .before .before .before .before .before .before .before .before .before .before .before .before .before .before .before .pre .1 .0 .4), omega arith, omega arith, c .before .before .before .before .before .before .before .before .before .walk .ensures .inside, omega (arith, c .before .before .before .before .before .before .before .before .rows .given, c .before .before .before .before .before .before .before .before .before .before .before .before .before .before .before .before .before .before .before .pre .1 .4)))
+
+walk-parallel-same-length-3 : (t : ℕ) → walk-parallel-lts.Need-same-length-3 (walk-parallel-claims t) (walk-parallel-at t) walk-parallel.Post
+walk-parallel-same-length-3 t c = search needs
+
+walk-parallel-same-length-4 : (t : ℕ) → walk-parallel-lts.Need-same-length-4 (walk-parallel-claims t) (walk-parallel-at t) walk-parallel.Post
+walk-parallel-same-length-4 t c = search needs
+
+walk-parallel-returns-2 : (t : ℕ) → walk-parallel-lts.Need-returns-2 (walk-parallel-claims t) (walk-parallel-at t) walk-parallel.Post
+walk-parallel-returns-2 t c = right-passed (c .before .before .before .before .before .before .before .before .before .before .before .before .before .before .before .before .before .before .before .before .before .before .before .before .before .before .args .question .now) (c .before .before .before .before .before .before .before .before .before .before .before .before .before .before .before .before .before .before .before .before .before .before .before .before .before .before .args .part .now) (c .before .before .before .before .before .before .before .before .before .before .before .before .before .before .before .before .before .before .before .before .before .before .before .before .before .before .args .at) (c .before .before .before .before .before .before .before .before .before .before .before .before .before .before .before .before .before .before .before .before .before .before .before .before .before .before .args .depth) (c .before .before .before .before .before .before .before .before .before .before .before .before .before .before .before .before .before .before .before .before .before .before .before .before .before .before .args .number) (c .before .before .before .before .before .before .before .before .before .before .before .before .before .before .before .before .before .before .before .before .before .before .before .before .before .before .args .x) (c .before .before .before .before .before .before .before .before .before .before .before .before .before .before .before .before .before .before .before .before .before .before .before .before .before .before .args .rows .now) (c .before .before .before .before .before .before .before .before .before .before .before .before .before .before .before .before .before .before .before .before .before .before .before .before .before .before .args .n) (c .before .before .before .before .before .before .before .before .before .before .before .before .before .before .before .before .before .before .before .before .before .before .before .before .before .before .args .area .now) (c .before .before .before .before .before .before .before .before .before .before .before .before .before .before .before .before .before .before .before .before .before .before .before .before .before .before .args .count) (c .before .before .before .before .before .before .before .before .before .before .before .before .before .before .before .before .before .before .before .before .before .before .before .before .before .before .pre .1 .5) _ (c .before .before .before .before .before .before .before .before .before .before .before .before .before .before .before .before .walk .result) _ (c .before .before .before .before .before .before .before .before .before .before .before .before .before .before .before .before .walk .ensures) (search needs) (c .before .before .before .before .before .before .before .before .before .before .before .before .before .before .before .before .before .before .before .before .before .before .before .before .before .before .args .tally .now) (c .before .before .before .before .before .before .before .before .before .before .before .before .before .before .before .before .before .before .before .before .before .before .before .before .before .before .pre .1 .0 .3) (c .before .before .before .before .before .before .before .before .before .before .before .before .before .before .before .before .before .before .before .middle-of .result) (c .before .before .before .before .before .before .before .before .before .before .before .before .before .before .before .before .before .before .before .middle-of .ensures) (c .before .before .before .before .before .before .before .before .before .silent-at .result) (c .before .before .before .before .before .before .before .before .before .silent-at .ensures) _ (c .before .before .before .before .before .before .walk2 .result) _ (c .before .before .before .before .before .before .walk2 .ensures) (c .if2 .taken)
+
+walk-parallel-same-length-5 : (t : ℕ) → walk-parallel-lts.Need-same-length-5 (walk-parallel-claims t) (walk-parallel-at t) walk-parallel.Post
+walk-parallel-same-length-5 t c = search needs
+
+walk-parallel-same-length-6 : (t : ℕ) → walk-parallel-lts.Need-same-length-6 (walk-parallel-claims t) (walk-parallel-at t) walk-parallel.Post
+walk-parallel-same-length-6 t c = search needs
+
+walk-parallel-returns-3 : (t : ℕ) → walk-parallel-lts.Need-returns-3 (walk-parallel-claims t) (walk-parallel-at t) walk-parallel.Post
+walk-parallel-returns-3 t c = right-full (c .before .before .before .before .before .before .before .before .before .before .before .before .before .before .before .before .before .before .before .before .before .before .before .before .before .before .before .before .args .question .now) (c .before .before .before .before .before .before .before .before .before .before .before .before .before .before .before .before .before .before .before .before .before .before .before .before .before .before .before .before .args .part .now) (c .before .before .before .before .before .before .before .before .before .before .before .before .before .before .before .before .before .before .before .before .before .before .before .before .before .before .before .before .args .at) (c .before .before .before .before .before .before .before .before .before .before .before .before .before .before .before .before .before .before .before .before .before .before .before .before .before .before .before .before .args .depth) (c .before .before .before .before .before .before .before .before .before .before .before .before .before .before .before .before .before .before .before .before .before .before .before .before .before .before .before .before .args .number) (c .before .before .before .before .before .before .before .before .before .before .before .before .before .before .before .before .before .before .before .before .before .before .before .before .before .before .before .before .args .x) (c .before .before .before .before .before .before .before .before .before .before .before .before .before .before .before .before .before .before .before .before .before .before .before .before .before .before .before .before .args .rows .now) (c .before .before .before .before .before .before .before .before .before .before .before .before .before .before .before .before .before .before .before .before .before .before .before .before .before .before .before .before .args .n) (c .before .before .before .before .before .before .before .before .before .before .before .before .before .before .before .before .before .before .before .before .before .before .before .before .before .before .before .before .args .area .now) (c .before .before .before .before .before .before .before .before .before .before .before .before .before .before .before .before .before .before .before .before .before .before .before .before .before .before .before .before .args .count) (c .before .before .before .before .before .before .before .before .before .before .before .before .before .before .before .before .before .before .before .before .before .before .before .before .before .before .before .before .pre .1 .5) _ (c .before .before .before .before .before .before .before .before .before .before .before .before .before .before .before .before .before .before .walk .result) _ (c .before .before .before .before .before .before .before .before .before .before .before .before .before .before .before .before .before .before .walk .ensures) (search needs) (c .before .before .before .before .before .before .before .before .before .before .before .before .before .before .before .before .before .before .before .before .before .before .before .before .before .before .before .before .args .tally .now) (c .before .before .before .before .before .before .before .before .before .before .before .before .before .before .before .before .before .before .before .before .before .before .before .before .before .before .before .before .pre .1 .0 .3) (c .before .before .before .before .before .before .before .before .before .before .before .before .before .before .before .before .before .before .before .before .before .middle-of .result) (c .before .before .before .before .before .before .before .before .before .before .before .before .before .before .before .before .before .before .before .before .before .middle-of .ensures) (c .before .before .before .before .before .before .before .before .before .before .before .silent-at .result) (c .before .before .before .before .before .before .before .before .before .before .before .silent-at .ensures) _ (c .before .before .before .before .before .before .before .before .walk2 .result) _ (c .before .before .before .before .before .before .before .before .walk2 .ensures) (search needs) (c .if3 .taken)
+
+walk-parallel-silent-at-requires-2 : (t : ℕ) → walk-parallel-lts.Need-silent-at-requires-2 (walk-parallel-claims t) (walk-parallel-at t) walk-parallel.Post
+walk-parallel-silent-at-requires-2 t c κs = search needs
+
+walk-parallel-add-meet : (t : ℕ) → walk-parallel-lts.Need-add-meet (walk-parallel-claims t) (walk-parallel-at t) walk-parallel.Post
+unfolding silentAt
+walk-parallel-add-meet t c = let b = c .before .before .before .before .before .before .before .before .before .before .before .before .before .before .before .before .before .before .before .before .before .before .before .before .before .shared-slice-known4 .given (longestTerm + (c .before .before .before .before .before .before .before .before .before .before .before .before .before .before .before .before .before .before .before .before .before .before .before .before .before .before .before .before .before .args .at + 1)) in let e = c .before .before .before .before .before .before .before .before .before .before .before .before .silent-at .ensures in let h = c .before .before .before .before .before .before .before .before .before .before .before .before .before .before .before .before .before .before .before .before .before .before .before .before .before .before .before .before .before .pre .1 .2 in let s = c .before .before .before .before .before .before .before .before .before .before .before .before .before .before .before .before .before .before .before .before .before .before .before .before .before .before .before .before .before .pre .1 .0 .2 in let i = c .before .before .before .before .before .before .before .before .before .before .before .before .before .before .before .before .before .before .before .before .before .before .before .before .before .before .before .before .before .pre .1 .1 .1 in let b2 = c .before .before .before .before .before .before .before .before .before .before .before .before .before .before .before .before .before .before .before .before .before .before .before .before .before .shared-slice-known4 .given (longestTerm + c .before .before .before .before .before .before .before .before .before .before .before .before .before .before .before .before .before .before .before .before .before .before .middle-of .result) in let e2 = c .silent-at2 .ensures in omega arith
+
+walk-parallel-meet-requires : (t : ℕ) → walk-parallel-lts.Need-meet-requires (walk-parallel-claims t) (walk-parallel-at t) walk-parallel.Post
+unfolding silentAt
+walk-parallel-meet-requires t c κs = let b = c .before .before .before .before .before .before .before .before .before .before .before .before .before .before .before .before .before .before .before .before .before .before .before .before .before .before .before .shared-slice-known4 .given (longestTerm + (c .before .before .before .before .before .before .before .before .before .before .before .before .before .before .before .before .before .before .before .before .before .before .before .before .before .before .before .before .before .before .before .args .at + 1)) in let e = c .before .before .before .before .before .before .before .before .before .before .before .before .before .before .silent-at .ensures in let h = c .before .before .before .before .before .before .before .before .before .before .before .before .before .before .before .before .before .before .before .before .before .before .before .before .before .before .before .before .before .before .before .pre .1 .2 in let s = c .before .before .before .before .before .before .before .before .before .before .before .before .before .before .before .before .before .before .before .before .before .before .before .before .before .before .before .before .before .before .before .pre .1 .0 .2 in let i = c .before .before .before .before .before .before .before .before .before .before .before .before .before .before .before .before .before .before .before .before .before .before .before .before .before .before .before .before .before .before .before .pre .1 .1 .1 in let b2 = c .before .before .before .before .before .before .before .before .before .before .before .before .before .before .before .before .before .before .before .before .before .before .before .before .before .before .before .shared-slice-known4 .given (longestTerm + c .before .before .before .before .before .before .before .before .before .before .before .before .before .before .before .before .before .before .before .before .before .before .before .before .middle-of .result) in let e2 = c .before .before .silent-at2 .ensures in (search needs, omega (arith, c .before .before .before .before .before .before .before .before .before .before .before .before .before .before .before .before .before .before .area .given, c .before .before .before .before .before .before .before .before .area2 .given, c .before .before .before .before .before .before .before .before .before .before .before .before .before .before .before .before .before .before .before .before .before .before .before .before .before .before .before .before .before .before .before .pre .1 .0 .1), c .before .before .before .before .before .before .before .before .before .before .before .before .before .before .before .before .before .before .before .before .before .before .before .before .before .before .before .before .before .before .before .pre .1 .0 .2, c .before .before .before .before .before .before .before .before .before .before .before .before .before .before .before .before .before .before .before .before .before .before .before .before .before .before .before .before .before .before .before .pre .1 .0 .3, c .before .before .before .before .before .before .before .before .before .before .before .before .before .before .before .before .before .before .before .before .before .before .before .before .before .before .before .before .before .before .before .pre .1 .0 .4, c .before .before .before .before .before .before .before .before .before .before .before .before .before .before .before .before .before .before .before .before .before .before .before .before .before .before .before .before .before .before .before .pre .1 .1 .0, c .before .before .before .before .before .before .before .before .before .before .before .before .before .before .before .before .before .before .before .before .before .before .before .before .before .before .before .before .before .before .before .pre .1 .1 .1, c .before .before .before .before .before .before .before .before .before .before .before .before .before .before .before .before .before .before .before .before .before .walk .ensures .on, c .before .before .before .before .before .before .before .before .before .before .before .walk2 .ensures .on, search needs, omega (arith, c .before .before .before .before .before .before .before .before .before .before .before .before .before .before .before .before .before .before .before .before .rows .given, c .before .before .before .before .before .before .before .before .before .before .rows2 .given, c .before .before .before .before .before .before .before .before .before .before .before .before .before .before .before .before .before .before .before .before .before .before .before .before .before .before .before .before .before .before .before .pre .1 .4), omega arith)
+
+walk-parallel-same-length-7 : (t : ℕ) → walk-parallel-lts.Need-same-length-7 (walk-parallel-claims t) (walk-parallel-at t) walk-parallel.Post
+walk-parallel-same-length-7 t c = omega (arith, c .before .before .before .before .before .before .before .before .before .before .before .before .before .before .before .before .before .before .before .before .before .before .before .rows .given, c .before .before .before .before .before .before .before .before .before .before .before .before .before .rows2 .given)
+
+walk-parallel-same-length-8 : (t : ℕ) → walk-parallel-lts.Need-same-length-8 (walk-parallel-claims t) (walk-parallel-at t) walk-parallel.Post
+walk-parallel-same-length-8 t c = omega (arith, c .before .before .before .before .before .before .before .before .before .before .before .before .before .before .before .before .before .before .before .before .before .area .given, c .before .before .before .before .before .before .before .before .before .before .before .area2 .given, c .before .area3 .given)
+
+walk-parallel-returns-4 : (t : ℕ) → walk-parallel-lts.Need-returns-4 (walk-parallel-claims t) (walk-parallel-at t) walk-parallel.Post
+walk-parallel-returns-4 t c = sides-met (c .before .before .before .before .before .before .before .before .before .before .before .before .before .before .before .before .before .before .before .before .before .before .before .before .before .before .before .before .before .before .before .before .before .before .args .question .now) (c .before .before .before .before .before .before .before .before .before .before .before .before .before .before .before .before .before .before .before .before .before .before .before .before .before .before .before .before .before .before .before .before .before .before .args .part .now) (c .before .before .before .before .before .before .before .before .before .before .before .before .before .before .before .before .before .before .before .before .before .before .before .before .before .before .before .before .before .before .before .before .before .before .args .at) (c .before .before .before .before .before .before .before .before .before .before .before .before .before .before .before .before .before .before .before .before .before .before .before .before .before .before .before .before .before .before .before .before .before .before .args .depth) (c .before .before .before .before .before .before .before .before .before .before .before .before .before .before .before .before .before .before .before .before .before .before .before .before .before .before .before .before .before .before .before .before .before .before .args .number) (c .before .before .before .before .before .before .before .before .before .before .before .before .before .before .before .before .before .before .before .before .before .before .before .before .before .before .before .before .before .before .before .before .before .before .args .x) (c .before .before .before .before .before .before .before .before .before .before .before .before .before .before .before .before .before .before .before .before .before .before .before .before .before .before .before .before .before .before .before .before .before .before .args .rows .now) (c .before .before .before .before .before .before .before .before .before .before .before .before .before .before .before .before .before .before .before .before .before .before .before .before .before .before .before .before .before .before .before .before .before .before .args .n) (c .before .before .before .before .before .before .before .before .before .before .before .before .before .before .before .before .before .before .before .before .before .before .before .before .before .before .before .before .before .before .before .before .before .before .args .area .now) (c .before .before .before .before .before .before .before .before .before .before .before .before .before .before .before .before .before .before .before .before .before .before .before .before .before .before .before .before .before .before .before .before .before .before .args .count) (c .before .before .before .before .before .before .before .before .before .before .before .before .before .before .before .before .before .before .before .before .before .before .before .before .before .before .before .before .before .before .before .before .before .before .pre .1 .5) _ (c .before .before .before .before .before .before .before .before .before .before .before .before .before .before .before .before .before .before .before .before .before .before .before .before .walk .result) _ (c .before .before .before .before .before .before .before .before .before .before .before .before .before .before .before .before .before .before .before .before .before .before .before .before .walk .ensures) (search needs) (c .before .before .before .before .before .before .before .before .before .before .before .before .before .before .before .before .before .before .before .before .before .before .before .before .before .before .before .before .before .before .before .before .before .before .args .tally .now) (c .before .before .before .before .before .before .before .before .before .before .before .before .before .before .before .before .before .before .before .before .before .before .before .before .before .before .before .before .before .before .before .before .before .before .pre .1 .0 .3) (c .before .before .before .before .before .before .before .before .before .before .before .before .before .before .before .before .before .before .before .before .before .before .before .before .before .before .before .middle-of .result) (c .before .before .before .before .before .before .before .before .before .before .before .before .before .before .before .before .before .before .before .before .before .before .before .before .before .before .before .middle-of .ensures) (c .before .before .before .before .before .before .before .before .before .before .before .before .before .before .before .before .before .silent-at .result) (c .before .before .before .before .before .before .before .before .before .before .before .before .before .before .before .before .before .silent-at .ensures) _ (c .before .before .before .before .before .before .before .before .before .before .before .before .before .before .walk2 .result) _ (c .before .before .before .before .before .before .before .before .before .before .before .before .before .before .walk2 .ensures) (search needs) (c .before .before .before .before .before .silent-at2 .result) (c .before .before .before .before .before .silent-at2 .ensures) (c .before .before .meet .result) _ (c .before .before .meet .ensures)
+
+pub +walk+walk-parallel-spec : {M : Type 1} → statement M
++walk+walk-parallel-spec = close μ-walk μ-walk-parallel (λ t. walk-lts.spec (walk-claims t)
+    (walk-at t)
+    walk.Post
+    (walk-returns t)
+    (walk-shared-slice-read-t t)
+    (walk-add-walk t)
+    (walk-add-walk-2 t)
+    (walk-walk-requires t)
+    (walk-same-length t)
+    (walk-same-length-2 t)
+    (walk-returns-2 t)
+    (walk-walk-parallel-requires t)
+    (walk-same-length-3 t)
+    (walk-same-length-4 t)
+    (walk-returns-3 t)
+    (walk-component-requires t)
+    (walk-same-length-5 t)
+    (walk-same-length-6 t)
+    (walk-returns-4 t))
+    λ t. walk-parallel-lts.spec (
+      middle-of-reads.Asked,
+      middle-of-reads.Learnt,
+      walk-below t,
+      walk.Post,
+      silent-at-reads.Asked,
+      silent-at-reads.Learnt,
+      meet-reads.Asked,
+      meet-reads.Learnt,
+    )
+    (walk-parallel-at t)
+    walk-parallel.Post
+    (walk-parallel-middle-of-requires t)
+    (walk-parallel-add-walk t)
+    (walk-parallel-walk-requires t)
+    (walk-parallel-same-length t)
+    (walk-parallel-same-length-2 t)
+    (walk-parallel-returns t)
+    (walk-parallel-add-silent-at t)
+    (walk-parallel-silent-at-requires t)
+    (walk-parallel-add-walk-2 t)
+    (walk-parallel-walk-requires-2 t)
+    (walk-parallel-same-length-3 t)
+    (walk-parallel-same-length-4 t)
+    (walk-parallel-returns-2 t)
+    (walk-parallel-same-length-5 t)
+    (walk-parallel-same-length-6 t)
+    (walk-parallel-returns-3 t)
+    (walk-parallel-silent-at-requires-2 t)
+    (walk-parallel-add-meet t)
+    (walk-parallel-meet-requires t)
+    (walk-parallel-same-length-7 t)
+    (walk-parallel-same-length-8 t)
+    (walk-parallel-returns-4 t)
