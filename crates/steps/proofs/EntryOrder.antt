@@ -1,20 +1,20 @@
 -- Byte order as the test that the code makes, and the search for an entry's place by halving. Assumes nothing.
-use borrow.Author.Tests.{eq-eqb}
-use mathlib.Core.Bool.{Bool, true, false}
+use borrow.Author.Tests.{eq-eqb, eqb-true, leb-true, leb-false}
+use mathlib.Core.Bool.{Bool, true, false, _&&_}
 use mathlib.Core.List.{List, _∷_}
 use mathlib.Core.Logic.{_⊎_, inl, inr}
 use mathlib.Core.Path.{_≡_, refl, sym, _∙_, subst}
 use native.Mathlib.Nat.{eq-or-lt-of-le}
 use native.Mathlib.Numerals.{add-one}
 use native.Mathlib.Omega.{arith}
-use Prim.Native.Nat.{ℕ, suc, _+_, _<_, _≤_, compare, Ordering, Ordering·lt, Ordering·eq, Ordering·gt}
-use lib.Dec.{isEq}
+use Prim.Native.Nat.{ℕ, zero, suc, _+_, _-_, _<_, _≤_, compare, Ordering, Ordering·lt, Ordering·eq, Ordering·gt}
+use lib.Dec.{isEq, eqb, leb}
 use lib.ListN.{length, getD, drop, drop-of-length-le}
 use lib.Seq.{drop-cons}
 use Rattle.terms.proofs.Stores.{length-span, getD-span}
 use Rattle.steps.specs.Limits.{stepBytes}
 use Rattle.steps.specs.Listing.{order}
-use Rattle.steps.specs.Entries.{entryFrom, entryAt, isBefore, comesBefore, EntriesAscend}
+use Rattle.steps.specs.Entries.{entryFrom, entryAt, isBefore, comesBefore, Alike, AlikeIs, EntriesAscend}
 use Rattle.steps.proofs.ByteOrder.{Before, Says, ordered, before-irreflexive, before-trans, before-order}
 
 pub comes-before : (xs ys : List ℕ) → comesBefore xs ys ≡ true → Before xs ys
@@ -132,6 +132,42 @@ module _ (a : List ℕ) (i : ℕ) (b : List ℕ) (j : ℕ) (m : i + stepBytes �
     pub entry-next : getD b (j + k) 0 ≤ getD a (i + k) 0 → getD a (i + k) 0 ≤ getD b (j + k) 0 → Passed (entryFrom a i) (entryFrom b j) (k + 1)
     entry-next l g =
         passed-same (entryFrom a i) (entryFrom b j) k passed (inside a i m) (inside b j n) (omega (arith, byte a i, byte b j))
+
+-- Bytes that are alike are passed.
+pub alike-passed : (a : List ℕ) (i : ℕ) (b : List ℕ) (j : ℕ) → i + stepBytes ≤ length a → j + stepBytes ≤ length b → (k : ℕ) → k ≤ stepBytes
+    → Alike a i b j k → Passed (entryFrom a i) (entryFrom b j) k
+alike-passed a i b j m n zero h s = refl
+alike-passed a i b j m n (suc k) h s =
+    let e = s k (omega arith) in
+    let p = alike-passed a i b j m n k (omega arith) (λ l g. s l (omega arith)) in
+    rw (← add-one k) (entry-next a i b j m n k p (omega arith) (omega arith) (omega arith))
+
+-- One more byte, and one more piece.
+module _ (a : List ℕ) (i : ℕ) (b : List ℕ) (j k : ℕ) where
+  alike-more : Alike a i b j k → getD a (i + k) 0 ≡ getD b (j + k) 0 → Alike a i b j (k + 1)
+  alike-more s e l h = go (eq-or-lt-of-le {n = l} {m = k} (omega arith))
+    where
+      go : (l ≡ k) ⊎ (l < k) → getD a (i + l) 0 ≡ getD b (j + l) 0
+      go (inl q) = rw q e
+      go (inr q) = s l q
+
+  pub alike-next : (same : Bool) → AlikeIs a i b j k same → AlikeIs a i b j (k + 1) (same && eqb (getD a (i + k) 0) (getD b (j + k) 0))
+  alike-next true s = (
+    λ e. alike-more (s .0 refl) (eqb-true (getD a (i + k) 0) (getD b (j + k) 0) e),
+    λ t. eq-eqb (getD a (i + k) 0) (getD b (j + k) 0) (t k (omega arith)),
+  )
+  alike-next false s = (λ e. let z : _≡_ {A = ℕ} 0 1 = cc in absurd (omega arith), λ t. s .1 (λ l h. t l (omega arith)))
+
+  pub alike-join : (n : ℕ) → Alike a i b j k → Alike a (i + k) b (j + k) n → Alike a i b j (k + n)
+  alike-join n s t l h = go (leb k l) refl
+    where
+      go : (o : Bool) → leb k l ≡ o → getD a (i + l) 0 ≡ getD b (j + l) 0
+      go false q = s l (leb-false k l q)
+      go true q =
+          let m : k ≤ l = leb-true k l q in
+          let e : i + k + (l - k) ≡ i + l = omega arith in
+          let f : j + k + (l - k) ≡ j + l = omega arith in
+          rw (← e, ← f) (t (l - k) (omega arith))
 
 -- What is known of the place of an entry when `low` entries are known to come before it, and those from `high` on not to.
 module _ (area : List ℕ) (count : ℕ) (e : List ℕ) where

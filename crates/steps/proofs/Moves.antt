@@ -1,10 +1,11 @@
--- Runs of stores that do not touch each other, and bytes moved up by a run from the last to the first. Assumes nothing.
+-- Runs of stores that do not touch each other, and bytes moved up by a run from the last to the first, in a part that was lent. Assumes nothing.
+use borrow.Rule.Slice.PartMut.{midOf, postOf, putMid, post-is}
 use mathlib.Core.Path.{_≡_, refl, sym, _∙_, ap, ap₂}
-use mathlib.Core.List.{List, [], _∷_}
+use mathlib.Core.List.{List, [], _∷_, _++_, append-nil}
 use native.Mathlib.Omega.{arith}
 use Prim.Native.Nat.{ℕ, zero, suc, _+_, _-_, _<_, _≤_}
-use lib.ListN.{length, getD, set}
-use lib.Seq.{sets, set-comm, getD-set-other, drop-cons}
+use lib.ListN.{length, getD, set, take, drop, length-drop, drop-of-length-le}
+use lib.Seq.{sets, set-comm, getD-set-other, drop-cons, take-all}
 use Rattle.terms.proofs.Stores.{span}
 
 -- a store before a run
@@ -49,8 +50,34 @@ moved-none l n end =
     let e : end - end ≡ 0 = omega arith in
     rw e refl
 
-pub moved-all : (l : List ℕ) (n from i end : ℕ) → from ≤ i → i ≤ from → (l′ : List ℕ) → l′ ≡ sets l (i + n) (span l i (end - i))
-    → l′ ≡ sets l (from + n) (span l from (end - from))
-moved-all l n from i end h k l′ e =
-    let q : i ≡ from = omega arith in
-    e ∙ ap (λ j. sets l (j + n) (span l j (end - j))) q
+pub moved-all : (l : List ℕ) (n i end : ℕ) → i ≤ 0 → (l′ : List ℕ) → l′ ≡ sets l (i + n) (span l i (end - i)) → l′ ≡ sets l n (take end l)
+moved-all l n i end h l′ e =
+    let q : i ≡ 0 = omega arith in
+    let z : 0 + n ≡ n = omega arith in
+    let w : end - 0 ≡ end = omega arith in
+    e ∙ ap (λ j. sets l (j + n) (span l j (end - j))) q ∙ ap₂ (λ p k. sets l p (take k l)) z w
+
+-- a run in the part of a list from p on
+sets-cons : (x : ℕ) (l : List ℕ) (q : ℕ) (xs : List ℕ) → sets (x ∷ l) (suc q) xs ≡ x ∷ sets l q xs
+sets-cons x l q [] = refl
+sets-cons x l q (y ∷ ys) = sets-cons x (set l q y) (suc q) ys
+
+sets-part : (l : List ℕ) (p q : ℕ) (xs : List ℕ) → p ≤ length l → take p l ++ sets (drop p l) q xs ≡ sets l (p + q) xs
+sets-part l zero q xs h = let e : 0 + q ≡ q = omega arith in rw e refl
+sets-part [] (suc p) q xs h = absurd (omega arith)
+sets-part (x ∷ l) (suc p) q xs h =
+    let e : suc p + q ≡ suc (p + q) = omega arith in
+    rw e (ap (λ r. x ∷ r) (sets-part l p q xs (omega arith)) ∙ sym (sets-cons x l (p + q) xs))
+
+-- The bytes moved up in the part from p on that was lent: the same in the whole.
+pub moved-part : (l : List ℕ) (p n m : ℕ) → p ≤ length l → (part : List ℕ)
+    → part ≡ sets (midOf p (length l - p) l) n (take m (midOf p (length l - p) l))
+    → putMid p (length l - p) l part ≡ sets l (p + n) (take m (drop p l))
+moved-part l p n m h part e =
+    let w : midOf p (length l - p) l ≡ drop p l = take-all (length l - p) (drop p l) (omega (arith, length-drop p l)) in
+    let all : length l ≤ length l = omega arith in
+    let z : postOf p (length l - p) l ≡ [] = post-is p (length l) l h ∙ drop-of-length-le l all in
+    let q : part ≡ sets (drop p l) n (take m (drop p l)) = e ∙ ap (λ d. sets d n (take m d)) w in
+    ap₂ (λ y r. take p l ++ (y ++ r)) q z
+    ∙ ap (λ y. take p l ++ y) (append-nil (sets (drop p l) n (take m (drop p l))))
+    ∙ sets-part l p n (take m (drop p l)) h

@@ -2,9 +2,9 @@
 use mathlib.Core.Bool.{Bool, true, false, cond}
 use mathlib.Core.List.{List}
 use mathlib.Core.Path.{_≡_}
-use Prim.Native.Nat.{ℕ, _*_, _<_, _≤_, Ordering, Ordering·lt, Ordering·eq, Ordering·gt}
+use Prim.Native.Nat.{ℕ, _+_, _*_, _<_, _≤_, Ordering, Ordering·lt, Ordering·eq, Ordering·gt}
 use lib.Dec.{leb}
-use lib.ListN.{length, take, drop}
+use lib.ListN.{length, getD, take, drop}
 use lib.Seq.{sets}
 use Rattle.terms.specs.Limits.{longestTerm}
 use Rattle.steps.specs.Derived.{Ascending}
@@ -29,6 +29,13 @@ isBefore Ordering·gt = false
 -- byte order as a test
 unfoldable pub comesBefore : List ℕ → List ℕ → Bool
 comesBefore xs ys = isBefore (order xs ys)
+
+-- the n bytes at two places are alike, and that as a test
+abbrev pub Alike : List ℕ → ℕ → List ℕ → ℕ → ℕ → Type 0
+Alike a i b j n = (k : ℕ) → k < n → getD a (i + k) 0 ≡ getD b (j + k) 0
+
+abbrev pub AlikeIs : List ℕ → ℕ → List ℕ → ℕ → ℕ → Bool → Type 0
+AlikeIs a i b j n r = (r ≡ true → Alike a i b j n) × (Alike a i b j n → r ≡ true)
 
 -- the first `count` entries ascend
 unfoldable pub EntriesAscend : List ℕ → ℕ → Type 0

@@ -1,10 +1,10 @@
 // The listed steps: the bytes of one, and the sorted list of them, entries of 132 bytes each in ascending byte order without duplicates.
 ghost use mathlib.Core.Path.{_≡_};
-ghost use Prim.Native.Nat.{_+_, _*_, _-_, _≤_};
-ghost use lib.ListN.{length, take, drop};
+ghost use Prim.Native.Nat.{_+_, _*_, _<_, _≤_};
+ghost use lib.ListN.{length, take};
 ghost use lib.Seq.{sets};
 ghost use Rattle.terms.specs.Limits.{nameCount, longestTerm};
-ghost use Rattle.steps.specs.Entries.{entryFrom, comesBefore, PlaceIs, InsertIs};
+ghost use Rattle.steps.specs.Entries.{entryFrom, comesBefore, Alike, AlikeIs, PlaceIs, InsertIs};
 ghost use Rattle.steps.specs.EntryBytes.{actionBytes, entryBytes};
 ghost use Rattle.steps.specs.Limits.{stepBytes, mostSteps};
 use crate::action::Action;
@@ -13,6 +13,12 @@ use crate::limits::STEP_BYTES;
 use terms::bytes::copy;
 use terms::bytes::get;
 use terms::limits::NAME_COUNT;
+
+// How many bytes of two entries are compared at once: by long pieces first,
+const LONG_PIECE: usize = 16;
+
+// and by short ones inside the long piece that differs.
+const SHORT_PIECE: usize = 4;
 
 // The bytes of an action.
 pub struct ActionBytes {
@@ -64,12 +70,42 @@ pub fn action_bytes(class: &[u8], action: Action, x: u8) -> ActionBytes
     }
 }
 
+// Whether the `n` bytes at `i` and at `j` are alike. All are looked at, so that the processor can take many at once.
+fn alike(a: &[u8], i: usize, b: &[u8], j: usize, n: usize) -> bool
+    requires { ⌜ (i + n ≤ length (now a)) × (j + n ≤ length (now b)) ⌝ }
+    ensures { λ r. ⌜ AlikeIs (now (a .entry)) i (now (b .entry)) j n r ⌝ }
+{
+    let mut same = true;
+    let mut k = 0;
+    while k < n {
+        same = same & (a[i + k] == b[j + k]);
+        k += 1;
+    }
+    same
+}
+
+// How far the entries at `i` and at `j` are alike, by pieces of `n` bytes: a place in them, `from` or behind it, before which they do not differ.
+fn alike_to(a: &[u8], i: usize, b: &[u8], j: usize, from: usize, n: usize) -> usize
+    requires { ⌜ (i + stepBytes ≤ length (now a)) × (j + stepBytes ≤ length (now b)) × (from ≤ stepBytes) × (0 < n) × (n ≤ stepBytes) × Alike (now a) i (now b) j from ⌝ }
+    ensures { λ r. ⌜ (r ≤ stepBytes) × Alike (now (a .entry)) i (now (b .entry)) j r ⌝ }
+{
+    let mut k = from;
+    while k + n <= STEP_BYTES {
+        if !alike(a, i + k, b, j + k, n) {
+            return k;
+        }
+        k += n;
+    }
+    k
+}
+
 // Whether the entry at `i` comes before the entry at `j`: the first byte that differs decides.
 fn precedes(a: &[u8], i: usize, b: &[u8], j: usize) -> bool
     requires { ⌜ (i + stepBytes ≤ length (now a)) × (j + stepBytes ≤ length (now b)) ⌝ }
     ensures { λ r. ⌜ r ≡ comesBefore (entryFrom (now (a .entry)) i) (entryFrom (now (b .entry)) j) ⌝ }
 {
-    let mut k = 0;
+    let far = alike_to(a, i, b, j, 0, LONG_PIECE);
+    let mut k = alike_to(a, i, b, j, far, SHORT_PIECE);
     while k < STEP_BYTES {
         let x = a[i + k];
         let y = b[j + k];
@@ -102,13 +138,13 @@ fn place(list: &[u8], count: usize, entry: &[u8]) -> usize
     low
 }
 
-// Moves the bytes from `from` up to `end` by one entry, the last first.
-fn move_up(list: &mut [u8], from: usize, end: usize)
-    requires { ⌜ (from ≤ end) × (end + stepBytes ≤ length (now list)) ⌝ }
-    ensures { λ _. ⌜ now (list .exit) ≡ sets (now (list .entry)) (from + stepBytes) (take (end - from) (drop from (now (list .entry)))) ⌝ }
+// Moves the first `n` bytes up by one entry, the last first. They begin the slice, so that the compiler makes this one move of memory.
+fn move_up(list: &mut [u8], n: usize)
+    requires { ⌜ n + stepBytes ≤ length (now list) ⌝ }
+    ensures { λ _. ⌜ now (list .exit) ≡ sets (now (list .entry)) stepBytes (take n (now (list .entry))) ⌝ }
 {
-    let mut i = end;
-    while from < i {
+    let mut i = n;
+    while 0 < i {
         i -= 1;
         list[i + STEP_BYTES] = list[i];
     }
@@ -130,7 +166,7 @@ pub fn insert(list: &mut [u8], count: usize, entry: &[u8]) -> usize
     if count == MOST_STEPS {
         return count + 1;
     }
-    move_up(list, at, count * STEP_BYTES);
+    move_up(&mut list[at..], count * STEP_BYTES - at);
     copy(entry, 0, STEP_BYTES, list, at);
     count + 1
 }

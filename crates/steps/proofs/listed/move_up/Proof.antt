@@ -12,37 +12,37 @@ use Rattle.steps.proofs.listed.move_up.Statement.{statement}
 use Rattle.steps.proofs.listed.move_up.Tie as tie
 
 abbrev Inv-loop : tie.InvT-loop
-Inv-loop list₀ from end i₀ list i = (from ≤ i) × (i ≤ end) × (list ≡ sets list₀ (i + stepBytes) (span list₀ i (end - i)))
+Inv-loop list₀ n i₀ list i = (i ≤ n) × (list ≡ sets list₀ (i + stepBytes) (span list₀ i (n - i)))
 
 abbrev μ-loop : tie.MeasureT-loop
-μ-loop list₀ from end i₀ list i = i
+μ-loop list₀ n i₀ list i = i
 
 loop-holds : tie.Need-loop-holds Inv-loop μ-loop
-loop-holds c = (search needs, search needs, moved-none (c .args .list .now) stepBytes (c .args .end))
+loop-holds c = (search needs, moved-none (c .args .list .now) stepBytes (c .args .n))
 
 sub-i : tie.Need-sub-i Inv-loop μ-loop
 sub-i c = search needs
 
 slice-read-list : tie.Need-slice-read-list Inv-loop μ-loop
-slice-read-list c = let l : length (c .before .before .loop .list) ≡ length (c .before .before .before .args .list .now) = ap length (c .before .before .loop .inv .2) ∙ simp length-sets in omega arith
+slice-read-list c = let l : length (c .before .before .loop .list) ≡ length (c .before .before .before .args .list .now) = ap length (c .before .before .loop .inv .1) ∙ simp length-sets in omega arith
 
 add-list : tie.Need-add-list Inv-loop μ-loop
 add-list c = search needs
 
 slice-write-list : tie.Need-slice-write-list Inv-loop μ-loop
-slice-write-list c = let l : length (c .before .before .loop .list) ≡ length (c .before .before .before .args .list .now) = ap length (c .before .before .loop .inv .2) ∙ simp length-sets in omega arith
+slice-write-list c = let l : length (c .before .before .loop .list) ≡ length (c .before .before .before .args .list .now) = ap length (c .before .before .loop .inv .1) ∙ simp length-sets in omega arith
 
 loop-less : tie.Need-loop-less Inv-loop μ-loop
 loop-less c = search needs
 
 loop-again : tie.Need-loop-again Inv-loop μ-loop
-loop-again c = (search needs, search needs, moved-more (c .before .before .before .args .list .now) stepBytes (c .before .before .loop .i) (c .before .before .before .args .end) (search needs) (search needs) (search needs) (c .before .before .loop .list) (c .before .before .loop .inv .2))
+loop-again c = (search needs, moved-more (c .before .before .before .args .list .now) stepBytes (c .before .before .loop .i) (c .before .before .before .args .n) (search needs) (search needs) (search needs) (c .before .before .loop .list) (c .before .before .loop .inv .1))
 
 same-length : tie.Need-same-length Inv-loop μ-loop
-same-length c = ap length (c .before .loop .inv .2) ∙ simp length-sets
+same-length c = ap length (c .before .loop .inv .1) ∙ simp length-sets
 
 returns : tie.Need-returns Inv-loop μ-loop
-returns c = moved-all (c .before .before .args .list .now) stepBytes (c .before .before .args .from) (c .before .loop .i) (c .before .before .args .end) (search needs) (search needs) (c .before .loop .list) (c .before .loop .inv .2)
+returns c = moved-all (c .before .before .args .list .now) stepBytes (c .before .loop .i) (c .before .before .args .n) (search needs) (c .before .loop .list) (c .before .loop .inv .1)
 
 pub move-up-spec : {M : Type 1} → statement M
 move-up-spec =
