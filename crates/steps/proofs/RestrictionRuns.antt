@@ -32,15 +32,15 @@ module _ (s : List ℕ) (at k : ℕ) (l : at ≤ k) (m : k ≤ max at (length s)
   run-ended z = record {
     inside = omega arith;
     are = E .are;
-    some = λ h g. go h g (eqb k at) refl;
+    ended = λ h g. let m : k ≡ at + (k - at) = omega arith in z (ap (λ (m : ℕ). getD s m 0) m ∙ g);
   }
-    where
-      go : at < length s → getD s at 0 ≡ 8 → (b : Bool) → eqb k at ≡ b → 1 ≤ k - at
-      go h g true e = absurd (z (ap (λ (m : ℕ). getD s m 0) (eqb-true k at e) ∙ g))
-      go h g false e = omega (arith, eqb-false k at e)
 
   pub run-whole : length s ≤ k → RestrictionsIs s at (k - at)
-  run-whole z = record { inside = omega arith; are = E .are; some = λ h g. omega arith }
+  run-whole z = record { inside = omega arith; are = E .are; ended = λ h g. absurd (omega arith) }
+
+-- where none is found the byte is not 8
+pub run-none : (s : List ℕ) (at k : ℕ) → RestrictionsIs s at k → k ≡ 0 → at < length s → getD s at 0 ≡ 8 → ⊥
+run-none s at k R z h g = let m : at + k ≡ at = omega arith in R .ended (omega arith) (ap (λ (m : ℕ). getD s m 0) m ∙ g)
 
 -- Of `count` restrictions from `depth` on all but `left` are left.
 pub record Leaving (label : Label) (depth count left : ℕ) (r : Label) : Type 0 where

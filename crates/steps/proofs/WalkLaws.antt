@@ -4,7 +4,7 @@ use mathlib.Core.Bool.{false}
 use mathlib.Core.List.{List, [], _∷_, _++_, map, map-map}
 use mathlib.Core.Path.{_≡_, refl, sym, _∙_, ap, ap₂, subst}
 use native.Mathlib.Omega.{arith}
-use Prim.Native.Nat.{ℕ, _+_, _<_, _≤_}
+use Prim.Native.Nat.{ℕ, zero, suc, _+_, _<_, _≤_}
 use lib.ListN.{length, getD, length-append, length-map}
 use Rattle.calculus.specs.Term.{Term, nil, tau, inp, out, bout, mat, sum, par, res, call, ren}
 use Rattle.calculus.proofs.Renaming.{ren-id, map-++}
@@ -166,7 +166,7 @@ module _ (question part : List ℕ) (at depth number x : ℕ) (rows : List ℕ) 
               (e ∙ ap (λ k. n + k) (sym (length-beneath body C)), rows-res body 1 rows′ n depth C (subst (λ k. Rows k (visible body 1 C) rows′ n) d R)),
         )
 
-    pub walk-beneath : getD part at 0 ≡ 8 → WalkIs question part at depth number x rows n rows′ area count r area′
+    walk-beneath : getD part at 0 ≡ 8 → WalkIs question part at depth number x rows n rows′ area count r area′
     walk-beneath b = record {
       inside = w .inside;
       on = w .on;
@@ -307,6 +307,23 @@ module _ (question part : List ℕ) (at depth number x : ℕ) (rows : List ℕ) 
                 λ few. (e, rows-par body 1 rows₂ n depth S T f (subst (λ j. Rows depth (visible body 1 T) rows₂ j) d g)),
               ));
         }
+
+-- Beneath restrictions that stand one within the other.
+module _ (question part : List ℕ) (at depth number x : ℕ) (rows : List ℕ) (n : ℕ) (area : List ℕ) (count : ℕ) (rows′ : List ℕ) (r : Walked) (area′ : List ℕ) where
+  abbrev Walks : ℕ → ℕ → Type 0
+  Walks at depth = WalkIs question part at depth number x rows n rows′ area count r area′
+
+  pub walk-run : (k : ℕ) → ((j : ℕ) → j < k → getD part (at + j) 0 ≡ 8) → Walks (at + k) (depth + k) → Walks at depth
+  walk-run zero are w =
+      let a : at + 0 ≡ at = omega arith in
+      let d : depth + 0 ≡ depth = omega arith in
+      subst (λ a. Walks a depth) a (subst (λ d. Walks (at + 0) d) d w)
+  walk-run (suc k) are w =
+      let a : at + suc k ≡ at + k + 1 = omega arith in
+      let d : depth + suc k ≡ depth + k + 1 = omega arith in
+      let inner : Walks (at + k + 1) (depth + k + 1) = subst (λ a. Walks a (depth + k + 1)) a (subst (λ d. Walks (at + suc k) d) d w) in
+      walk-run k (λ j h. are j (omega arith))
+      (walk-beneath question part (at + k) (depth + k) number x rows n area count rows′ r area′ inner (are k (omega arith)))
 
 -- The whole part.
 none-around : (cs : List Candidate) → map (raised []) cs ≡ cs

@@ -76,11 +76,11 @@ pub record MeetingIs (question s : List ℕ) (at middle i : ℕ) (args : List �
       → i < length (communications (visible (bodyOf (q .bodies)) calls (ren σ P)) (visible (bodyOf (q .bodies)) calls (ren σ Q)))
       → Labels depth (getD (communications (visible (bodyOf (q .bodies)) calls (ren σ P)) (visible (bodyOf (q .bodies)) calls (ren σ Q))) i blocked) r
 
--- So many restrictions stand at `at` one within the other, and all that stand there if one does.
+-- So many restrictions stand at `at` one within the other, and no other beneath them.
 pub record RestrictionsIs (s : List ℕ) (at r : ℕ) : Type 0 where
   pub inside : at + r ≤ max at (length s)
   pub are : (j : ℕ) → j < r → getD s (at + j) 0 ≡ 8
-  pub some : at < length s → getD s at 0 ≡ 8 → 1 ≤ r
+  pub ended : at + r < length s → getD s (at + r) 0 ≡ 8 → ⊥
 
 -- [Res] and [Open], once for each of `count` restrictions from `depth` on: from a label beneath them to one outside them.
 pub record LeavesIs (label : Label) (depth count : ℕ) (r : Label) : Type 0 where

@@ -87,7 +87,7 @@ fn nth_prefix(src: &[u8], at: usize, args: &[u8], inner: usize, depth: usize) ->
 }
 
 // How many restrictions stand at `at`, one within the other.
-fn restrictions_at(src: &[u8], at: usize) -> usize
+pub fn restrictions_at(src: &[u8], at: usize) -> usize
     ensures { λ r. ⌜ RestrictionsIs (now (src .entry)) at r ⌝ }
 {
     let mut k = at;

@@ -6,6 +6,7 @@ ghost use Prim.Native.Nat.{ℕ, _+_, _*_, _≤_, _<_};
 ghost use lib.ListN.{length, getD};
 ghost use Rattle.steps.specs.Rows.{rowBytes, mostRows, QuietIs};
 ghost use Rattle.steps.specs.Walking.{CanPut, Inside, mostNumber, rowOpens, rowObject, TakeRowIs, TakeRowsIs, TakeSilentIs, WalkIs};
+use crate::label::restrictions_at;
 use crate::limits::MOST_STEPS;
 use crate::list::take_candidate;
 use crate::listed::ActionBytes;
@@ -444,34 +445,21 @@ pub fn walk(
     requires { ⌜ CanPut (now question) (now bodies) (now part) (now tally) (now area) count × (depth ≤ at) × (number ≤ at * mostNumber) × (n ≤ mostRows + 1) × (rowBytes * mostRows ≤ length (now rows)) ⌝ }
     ensures { λ r. ⌜ WalkIs (now (question .entry)) (now (part .entry)) at depth number x (now (rows .entry)) n (now (rows .exit)) (now (area .entry)) count r (now (area .exit)) ⌝ }
 {
-    if part.len() <= at {
+    // Restrictions that stand one within the other are passed at once: only the sides of parallels are walked by recursion.
+    let k = restrictions_at(part, at);
+    let place = at + k;
+    let under = depth + k;
+    if part.len() <= place {
         return Walked { rows: n, count };
     }
-    let t = part[at];
-    if t == 8 {
-        return walk(
-            question,
-            bodies,
-            part,
-            tally,
-            at + 1,
-            depth + 1,
-            number,
-            x,
-            rows,
-            n,
-            area,
-            count,
-        );
-    }
-    if t == 7 {
+    if part[place] == 7 {
         return walk_parallel(
             question,
             bodies,
             part,
             tally,
-            at,
-            depth,
+            place,
+            under,
             number,
             x,
             rows,
@@ -485,8 +473,8 @@ pub fn walk(
         bodies,
         part,
         tally,
-        at,
-        depth,
+        place,
+        under,
         number,
         x,
         rows,

@@ -9,7 +9,7 @@ use borrow.Author.Needs.{needs}
 use borrow.Author.Tests.{not-true, not-false}
 use Rattle.terms.specs.Limits.{longestTerm}
 use Rattle.steps.proofs.LabelWalks.{weight-on, weight-part, weight-body, room-on, room-under, room-body, nth-none, nth-prefix, nth-left, nth-right, nth-met, nth-closed, nth-cut, nth-called, meet-none, meet-both}
-use Rattle.steps.proofs.RestrictionRuns.{past-none, past-most, past-over}
+use Rattle.steps.proofs.RestrictionRuns.{run-none, past-none, past-most, past-over}
 use Rattle.steps.proofs.TwoSides.{middle-on}
 use borrow.Fn.Kinds.{In}
 use borrow.Fn.PlainCycle.{Measures, is, falls, and}
@@ -126,7 +126,7 @@ nth-nth-either-requires t c κs =
     let a = c .before .before .before .before .before .before .before .before .before .before .before .before .args in
     let h = c .before .before .before .before .before .before .if1 .left in
     let z = past-none (getD (a .src .now) (a .at) 0) (c .before .before .restrictions-at .result) (sym (c .before .past .ensures) ∙ c .if4 .taken) in
-    let n : getD (a .src .now) (a .at) 0 ≡ 8 → ⊥ = λ e. omega (arith, c .before .before .restrictions-at .ensures .some h e, z .1) in
+    let n : getD (a .src .now) (a .at) 0 ≡ 8 → ⊥ = run-none (a .src .now) (a .at) (c .before .before .restrictions-at .result) (c .before .before .restrictions-at .ensures) (z .1) h in
     (weight-part (a .calls * 113) (length (a .src .now)) (a .at) t 2 (c .before .before .before .before .before .before .before .before .before .before .before .before .pre .0), (h, omega (arith, c .before .before .before .before .if2 .left, z .0), omega (arith, c .before .before .before .if3 .left, n), c .before .before .before .before .before .before .before .before .before .before .before .before .pre .1 .0, c .before .before .before .before .before .before .before .before .before .before .before .before .pre .1 .1, c .before .before .before .before .before .before .before .before .before .before .before .before .pre .1 .2))
 
 nth-returns-4 : (t : ℕ) → nth-lts.Need-returns-4 (nth-claims t) (nth-at t) nth.Post

@@ -5,7 +5,7 @@ use borrow.Author.Needs.{needs}
 use Rattle.terms.specs.Limits.{longestTerm}
 use Rattle.steps.specs.Tally.{silentAt}
 use Rattle.steps.proofs.TwoSides.{middle-on}
-use Rattle.steps.proofs.WalkLaws.{walk-none, walk-beneath, left-passed, right-passed, right-full, sides-met}
+use Rattle.steps.proofs.WalkLaws.{walk-none, walk-run, left-passed, right-passed, right-full, sides-met}
 use Prim.Native.Nat.{ℕ, _+_, _-_, _*_, _<_}
 use borrow.Fn.Kinds.{In}
 use borrow.Fn.PlainCycle.{Measures, is, falls, and}
@@ -15,6 +15,7 @@ use Rattle.steps.proofs.walk.+walk+walk_parallel.Lts-walk as walk-lts
 use Rattle.steps.proofs.walk.walk_parallel.Reads as walk-parallel
 use Rattle.steps.proofs.walk.walk_parallel.Kinds as walk-parallel-kinds
 use Rattle.steps.proofs.walk.+walk+walk_parallel.Lts-walk_parallel as walk-parallel-lts
+use Rattle.steps.proofs.label.restrictions_at.Reads as restrictions-at-reads
 use Rattle.steps.proofs.meet.meet.Reads as meet-reads
 use Rattle.steps.proofs.pass.middle_of.Reads as middle-of-reads
 use Rattle.steps.proofs.tally.silent_at.Reads as silent-at-reads
@@ -47,25 +48,28 @@ walk-parallel-below t =
     walk-parallel.Pre
 
 abbrev walk-claims : ℕ → walk-lts.Claims
-walk-claims t = (walk-below t, walk.Post, walk-parallel-below t, walk-parallel.Post, component-reads.Asked, component-reads.Learnt)
+walk-claims t = (restrictions-at-reads.Asked, restrictions-at-reads.Learnt, walk-parallel-below t, walk-parallel.Post, component-reads.Asked, component-reads.Learnt)
 
 abbrev walk-parallel-claims : ℕ → walk-parallel-lts.Claims
 walk-parallel-claims t = (middle-of-reads.Asked, middle-of-reads.Learnt, walk-below t, walk.Post, silent-at-reads.Asked, silent-at-reads.Learnt, meet-reads.Asked, meet-reads.Learnt)
 
+walk-restrictions-at-requires : (t : ℕ) → walk-lts.Need-restrictions-at-requires (walk-claims t) (walk-at t) walk.Post
+walk-restrictions-at-requires t c κs = search needs
+
+walk-add-place : (t : ℕ) → walk-lts.Need-add-place (walk-claims t) (walk-at t) walk.Post
+walk-add-place t c = let i = c .restrictions-at .ensures .inside in let s = c .before .before .before .before .before .before .before .pre .1 .0 .2 in omega arith
+
+walk-add-under : (t : ℕ) → walk-lts.Need-add-under (walk-claims t) (walk-at t) walk.Post
+walk-add-under t c = let i = c .restrictions-at .ensures .inside in let s = c .before .before .before .before .before .before .before .pre .1 .0 .2 in let d = c .before .before .before .before .before .before .before .pre .1 .1 in omega arith
+
 walk-returns : (t : ℕ) → walk-lts.Need-returns (walk-claims t) (walk-at t) walk.Post
-walk-returns t c = walk-none (c .before .before .before .before .before .before .before .args .question .now) (c .before .before .before .before .before .before .before .args .part .now) (c .before .before .before .before .before .before .before .args .at) (c .before .before .before .before .before .before .before .args .depth) (c .before .before .before .before .before .before .before .args .number) (c .before .before .before .before .before .before .before .args .x) (c .before .before .before .before .before .before .before .args .rows .now) (c .before .before .before .before .before .before .before .args .n) (c .before .before .before .before .before .before .before .args .area .now) (c .before .before .before .before .before .before .before .args .count) (c .if1 .taken) (c .before .before .before .before .before .before .before .pre .1 .3)
+walk-returns t c = let a = c .before .before .before .before .before .before .before .before .args in let k = c .before .restrictions-at .result in let R = c .before .restrictions-at .ensures in walk-run (a .question .now) (a .part .now) (a .at) (a .depth) (a .number) (a .x) (a .rows .now) (a .n) (a .area .now) (a .count) _ _ _ k (R .are) (walk-none (a .question .now) (a .part .now) (a .at + k) (a .depth + k) (a .number) (a .x) (a .rows .now) (a .n) (a .area .now) (a .count) (c .if1 .taken) (c .before .before .before .before .before .before .before .before .pre .1 .3))
 
-walk-shared-slice-read-t : (t : ℕ) → walk-lts.Need-shared-slice-read-t (walk-claims t) (walk-at t) walk.Post
-walk-shared-slice-read-t t c = search needs
+walk-shared-slice-read-if2 : (t : ℕ) → walk-lts.Need-shared-slice-read-if2 (walk-claims t) (walk-at t) walk.Post
+walk-shared-slice-read-if2 t c = search needs
 
-walk-add-walk : (t : ℕ) → walk-lts.Need-add-walk (walk-claims t) (walk-at t) walk.Post
-walk-add-walk t c = let s = c .before .before .before .before .before .before .before .before .before .pre .1 .0 .2 in let l = c .before .before .if1 .left in omega arith
-
-walk-add-walk-2 : (t : ℕ) → walk-lts.Need-add-walk-2 (walk-claims t) (walk-at t) walk.Post
-walk-add-walk-2 t c = let s = c .before .before .before .before .before .before .before .before .before .pre .1 .0 .2 in let l = c .before .before .if1 .left in let d = c .before .before .before .before .before .before .before .before .before .pre .1 .1 in omega arith
-
-walk-walk-requires : (t : ℕ) → walk-lts.Need-walk-requires (walk-claims t) (walk-at t) walk.Post
-walk-walk-requires t c κs = let l = c .before .before .before .before .if1 .left in let t = c .before .before .before .before .before .before .before .before .before .before .before .pre .0 in let d = c .before .before .before .before .before .before .before .before .before .before .before .pre .1 .1 in let k = c .before .before .before .before .before .before .before .before .before .before .before .pre .1 .2 in (omega arith, (c .before .before .before .before .before .before .before .before .before .before .before .pre .1 .0, omega arith, omega arith, c .before .before .before .before .before .before .before .before .before .before .before .pre .1 .3, c .before .before .before .before .before .before .before .before .before .before .before .pre .1 .4))
+walk-walk-parallel-requires : (t : ℕ) → walk-lts.Need-walk-parallel-requires (walk-claims t) (walk-at t) walk.Post
+walk-walk-parallel-requires t c κs = let i = c .before .before .before .before .before .restrictions-at .ensures .inside in let l = c .before .before .before .before .if1 .left in let d = c .before .before .before .before .before .before .before .before .before .before .before .before .pre .1 .1 in let n = c .before .before .before .before .before .before .before .before .before .before .before .before .pre .1 .2 in let e = c .before .before .before .before .before .before .before .before .before .before .before .before .pre .0 in (omega arith, (c .before .before .before .before .before .before .before .before .before .before .before .before .pre .1 .0, (omega arith, omega arith), omega arith, c .before .before .before .before .before .before .before .before .before .before .before .before .pre .1 .3, c .before .before .before .before .before .before .before .before .before .before .before .before .pre .1 .4, c .before .before .if2 .taken))
 
 walk-same-length : (t : ℕ) → walk-lts.Need-same-length (walk-claims t) (walk-at t) walk.Post
 walk-same-length t c = search needs
@@ -74,10 +78,10 @@ walk-same-length-2 : (t : ℕ) → walk-lts.Need-same-length-2 (walk-claims t) (
 walk-same-length-2 t c = search needs
 
 walk-returns-2 : (t : ℕ) → walk-lts.Need-returns-2 (walk-claims t) (walk-at t) walk.Post
-walk-returns-2 t c = walk-beneath (c .before .before .before .before .before .before .before .before .before .before .before .before .before .before .before .before .args .question .now) (c .before .before .before .before .before .before .before .before .before .before .before .before .before .before .before .before .args .part .now) (c .before .before .before .before .before .before .before .before .before .before .before .before .before .before .before .before .args .at) (c .before .before .before .before .before .before .before .before .before .before .before .before .before .before .before .before .args .depth) (c .before .before .before .before .before .before .before .before .before .before .before .before .before .before .before .before .args .number) (c .before .before .before .before .before .before .before .before .before .before .before .before .before .before .before .before .args .x) (c .before .before .before .before .before .before .before .before .before .before .before .before .before .before .before .before .args .rows .now) (c .before .before .before .before .before .before .before .before .before .before .before .before .before .before .before .before .args .n) (c .before .before .before .before .before .before .before .before .before .before .before .before .before .before .before .before .args .area .now) (c .before .before .before .before .before .before .before .before .before .before .before .before .before .before .before .before .args .count) _ (c .before .before .before .before .walk .result) _ (c .before .before .before .before .walk .ensures) (c .before .before .before .before .before .before .before .if2 .taken)
+walk-returns-2 t c = let a = c .before .before .before .before .before .before .before .before .before .before .before .before .before .before .before .before .before .args in let k = c .before .before .before .before .before .before .before .before .before .before .restrictions-at .result in let R = c .before .before .before .before .before .before .before .before .before .before .restrictions-at .ensures in walk-run (a .question .now) (a .part .now) (a .at) (a .depth) (a .number) (a .x) (a .rows .now) (a .n) (a .area .now) (a .count) _ (c .before .before .before .before .walk-parallel .result) _ k (R .are) (c .before .before .before .before .walk-parallel .ensures)
 
-walk-walk-parallel-requires : (t : ℕ) → walk-lts.Need-walk-parallel-requires (walk-claims t) (walk-at t) walk.Post
-walk-walk-parallel-requires t c κs = let t = c .before .before .before .before .before .before .before .before .before .before .before .before .pre .0 in (omega arith, (c .before .before .before .before .before .before .before .before .before .before .before .before .pre .1 .0, (c .before .before .before .before .before .before .before .before .before .before .before .before .pre .1 .1, c .before .before .before .before .before .if1 .left), c .before .before .before .before .before .before .before .before .before .before .before .before .pre .1 .2, c .before .before .before .before .before .before .before .before .before .before .before .before .pre .1 .3, c .before .before .before .before .before .before .before .before .before .before .before .before .pre .1 .4, c .before .before .if3 .taken))
+walk-component-requires : (t : ℕ) → walk-lts.Need-component-requires (walk-claims t) (walk-at t) walk.Post
+walk-component-requires t c κs = let i = c .before .before .before .before .before .restrictions-at .ensures .inside in let l = c .before .before .before .before .if1 .left in let d = c .before .before .before .before .before .before .before .before .before .before .before .before .pre .1 .1 in let n = c .before .before .before .before .before .before .before .before .before .before .before .before .pre .1 .2 in (c .before .before .before .before .before .before .before .before .before .before .before .before .pre .1 .0, (omega arith, omega arith), omega arith, c .before .before .before .before .before .before .before .before .before .before .before .before .pre .1 .3, c .before .before .before .before .before .before .before .before .before .before .before .before .pre .1 .4, c .before .before .if2 .left, c .before .before .before .before .before .restrictions-at .ensures .ended (c .before .before .before .before .if1 .left))
 
 walk-same-length-3 : (t : ℕ) → walk-lts.Need-same-length-3 (walk-claims t) (walk-at t) walk.Post
 walk-same-length-3 t c = search needs
@@ -86,19 +90,7 @@ walk-same-length-4 : (t : ℕ) → walk-lts.Need-same-length-4 (walk-claims t) (
 walk-same-length-4 t c = search needs
 
 walk-returns-3 : (t : ℕ) → walk-lts.Need-returns-3 (walk-claims t) (walk-at t) walk.Post
-walk-returns-3 t c = c .before .before .before .before .walk-parallel .ensures
-
-walk-component-requires : (t : ℕ) → walk-lts.Need-component-requires (walk-claims t) (walk-at t) walk.Post
-walk-component-requires t c κs = (c .before .before .before .before .before .before .before .before .before .before .before .before .pre .1 .0, (c .before .before .before .before .before .before .before .before .before .before .before .before .pre .1 .1, c .before .before .before .before .before .if1 .left), c .before .before .before .before .before .before .before .before .before .before .before .before .pre .1 .2, c .before .before .before .before .before .before .before .before .before .before .before .before .pre .1 .3, c .before .before .before .before .before .before .before .before .before .before .before .before .pre .1 .4, c .before .before .if3 .left, c .before .before .before .if2 .left)
-
-walk-same-length-5 : (t : ℕ) → walk-lts.Need-same-length-5 (walk-claims t) (walk-at t) walk.Post
-walk-same-length-5 t c = search needs
-
-walk-same-length-6 : (t : ℕ) → walk-lts.Need-same-length-6 (walk-claims t) (walk-at t) walk.Post
-walk-same-length-6 t c = search needs
-
-walk-returns-4 : (t : ℕ) → walk-lts.Need-returns-4 (walk-claims t) (walk-at t) walk.Post
-walk-returns-4 t c = c .before .before .before .before .component .ensures
+walk-returns-3 t c = let a = c .before .before .before .before .before .before .before .before .before .before .before .before .before .before .before .before .before .args in let k = c .before .before .before .before .before .before .before .before .before .before .restrictions-at .result in let R = c .before .before .before .before .before .before .before .before .before .before .restrictions-at .ensures in walk-run (a .question .now) (a .part .now) (a .at) (a .depth) (a .number) (a .x) (a .rows .now) (a .n) (a .area .now) (a .count) _ (c .before .before .before .before .component .result) _ k (R .are) (c .before .before .before .before .component .ensures)
 
 walk-parallel-middle-of-requires : (t : ℕ) → walk-parallel-lts.Need-middle-of-requires (walk-parallel-claims t) (walk-parallel-at t) walk-parallel.Post
 walk-parallel-middle-of-requires t c κs = search needs
@@ -174,22 +166,19 @@ pub +walk+walk-parallel-spec : {M : Type 1} → statement M
 +walk+walk-parallel-spec = close μ-walk μ-walk-parallel (λ t. walk-lts.spec (walk-claims t)
     (walk-at t)
     walk.Post
+    (walk-restrictions-at-requires t)
+    (walk-add-place t)
+    (walk-add-under t)
     (walk-returns t)
-    (walk-shared-slice-read-t t)
-    (walk-add-walk t)
-    (walk-add-walk-2 t)
-    (walk-walk-requires t)
+    (walk-shared-slice-read-if2 t)
+    (walk-walk-parallel-requires t)
     (walk-same-length t)
     (walk-same-length-2 t)
     (walk-returns-2 t)
-    (walk-walk-parallel-requires t)
+    (walk-component-requires t)
     (walk-same-length-3 t)
     (walk-same-length-4 t)
-    (walk-returns-3 t)
-    (walk-component-requires t)
-    (walk-same-length-5 t)
-    (walk-same-length-6 t)
-    (walk-returns-4 t))
+    (walk-returns-3 t))
     λ t. walk-parallel-lts.spec (
       middle-of-reads.Asked,
       middle-of-reads.Learnt,
