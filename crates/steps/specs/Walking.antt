@@ -124,7 +124,7 @@ CanPut question bodies part tally area count =
 abbrev pub Inside : List ℕ → ℕ → ℕ → Type 0
 Inside part at depth = (depth ≤ at) × (at < length part)
 
--- A number of candidates in the tally, and a sum of so many of them.
+-- Every number in a tally is below 2 to the power of 32, so that sums of a few hundred of them do not overflow.
 abbrev pub mostNumber : ℕ
 mostNumber = 4294967296
 
