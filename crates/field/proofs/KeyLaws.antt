@@ -4,10 +4,11 @@ use mathlib.Core.Bool.{Bool, true, false}
 use mathlib.Core.List.{List, [], _∷_, _++_, map, append-assoc}
 use Prim.Native.Nat.{ℕ, zero, suc, _+_, _-_, _*_, _/_, _%_, _^_, _<_, _≤_}
 use native.Mathlib.Decide.{decLt}
+use native.Mathlib.Nat.{zero-div}
 use native.Mathlib.Omega.{arith}
 use borrow.Author.Tests.{eqb-true, eqb-false}
 use lib.Dec.{eqb}
-use lib.ListN.{length, getD, take, drop, set, replicate, length-append, length-drop, length-replicate, List·getD-map, List·getD-eq-default}
+use lib.ListN.{length, getD, take, drop, set, replicate, length-append, length-drop, length-replicate, getD-replicate, List·getD-eq-default}
 use lib.Seq.{sets, drop-drop, drop-at, take-at, getD-take, getD-drop, length-take-le, ext-getD}
 use Rattle.calculus.specs.Cond.{Pairs}
 use Rattle.calculus.specs.Term.{Term}
@@ -17,14 +18,15 @@ use Rattle.terms.specs.Operations.{holdsApart}
 use Rattle.terms.proofs.Filling.{Filling}
 use Rattle.terms.proofs.Stores.{getD-front, length-span, sets-more, run-whole}
 use Rattle.steps.specs.Listed.{namesFrom}
-use Rattle.field.specs.Key.{SituationAt, PartIs, FirstPartIs, SecondPartIs, ApartFlagsIs, bitAt, BitIs, OctetIs, Packs, Unpacks, keyAt, SameKeyIs, FoundIs}
+use Rattle.field.specs.Chains.{wordAt, WordIs}
+use Rattle.field.specs.Key.{SituationAt, PartIs, FirstPartIs, SecondPartIs, ApartFlagsIs, bitAt, bitsOf, BitIs, OctetIs, Packs, Unpacks, keyAt, SameKeyIs, FoundIs}
 use Rattle.field.specs.PairFlags.{pairCount, pairAt}
 use Rattle.field.specs.Situation.{Situation}
 use Rattle.field.specs.Slot.{partBytes, flag, flagsOf, octet, octets, packed, keyOf, keyBytes, slotBytes}
 use Rattle.field.specs.declared.find.Found.the-variants.{At}
 use Rattle.field.proofs.Counting.{Failing}
-use Rattle.field.proofs.EntryLaws.{inside}
 use Rattle.field.proofs.PairLaws.{length-flags, flag-at}
+use Rattle.field.proofs.Runs.{length-mapped, mapped-at, fill-run, fill-past}
 
 -- A part.
 pub length-part : (P : Term) → length (encode 0 P) ≤ longestTerm → length (partBytes P) ≡ 1 + longestTerm
@@ -74,16 +76,6 @@ flag-small D i = go (decLt i pairCount)
     go : Dec (i < pairCount) → getD (flagsOf D) i 0 ≤ 1
     go (yes h) = rw (flag-at D i h) (bit (holdsApart D (pairAt i .0) (pairAt i .1)))
     go (no h) = omega (arith, List·getD-eq-default (flagsOf D) 0 {n = i} (omega (arith, length-flags D)))
-
--- One bit by its number.
-pub bit-is : (b j k : ℕ) → j ≡ k → b / 2 ^ k % 2 ≡ bitAt b j
-unfolding bitAt
-bit-is b j k e = ap (λ i. b / 2 ^ i % 2) (sym e)
-
-pub bit-lowest : (b j : ℕ) → j ≡ 0 → b % 2 ≡ bitAt b j
-bit-lowest b j e =
-    let z : b % 2 ≡ b / 2 ^ 0 % 2 = omega arith in
-    z ∙ bit-is b j 0 e
 
 -- Eight bits and their byte.
 module _ (a b c d e f g h : ℕ) (la : a ≤ 1) (lb : b ≤ 1) (lc : c ≤ 1) (ld : d ≤ 1) (le : e ≤ 1) (lf : f ≤ 1) (lg : g ≤ 1) (lh : h ≤ 1) where
@@ -144,22 +136,31 @@ octet-is fs k a b c d e f g h ia ib ic id ie jf ig ih D q =
       ih .is (small (8 * k + 7)),
     ))
 
--- Fifteen octets.
-names-at : (n k i d : ℕ) → i < k → getD (namesFrom n k) i d ≡ n + i
-unfolding namesFrom
-names-at n zero i d h = absurd (omega arith)
-names-at n (suc k) zero d h = omega arith
-names-at n (suc k) (suc i) d h = names-at (suc n) k i d (omega arith) ∙ omega arith
+-- the byte of eight flags that are not set
+word-none : (fs : List ℕ) (at w : ℕ) → w ≡ wordAt fs at → w ≡ 0
+    → (getD fs at 0 ≡ 0) × (getD fs (at + 1) 0 ≡ 0) × (getD fs (at + 2) 0 ≡ 0) × (getD fs (at + 3) 0 ≡ 0)
+unfolding wordAt
+word-none fs at w e z = (omega arith, omega arith, omega arith, omega arith)
 
+pub octet-none : (fs : List ℕ) (k low high : ℕ) → WordIs fs (8 * k) low → WordIs fs (8 * k + 4) high → low + high ≡ 0 → OctetIs fs k 0
+unfolding OctetIs octet
+octet-none fs k low high l h z D q =
+    let (a, b, c, d) = word-none fs (8 * k) low (l .is) (omega arith) in
+    let (e, f, g, i) = word-none fs (8 * k + 4) high (h .is) (omega arith) in
+    let n : 8 * k + 0 ≡ 8 * k = omega arith in
+    let r : 8 * k + 5 ≡ 8 * k + 4 + 1 = omega arith in
+    let s : 8 * k + 6 ≡ 8 * k + 4 + 2 = omega arith in
+    let t : 8 * k + 7 ≡ 8 * k + 4 + 3 = omega arith in
+    rw (n, r, s, t, a, b, c, d, e, f, g, i)
+
+-- Fifteen octets.
 pub length-packed : (fs : List ℕ) → length (packed fs) ≡ octets
-unfolding packed namesFrom
-length-packed fs = refl
+unfolding packed
+length-packed fs = length-mapped (octet fs) octets
 
 pub packed-at : (fs : List ℕ) (k : ℕ) → k < octets → getD (packed fs) k 0 ≡ octet fs k
 unfolding packed
-packed-at fs k h =
-    inside (packed fs) k 0 (octet fs 0) (omega (arith, length-packed fs)) ∙ List·getD-map (octet fs) (namesFrom 0 octets) k 0
-    ∙ ap (octet fs) (names-at 0 octets k 0 h ∙ omega arith)
+packed-at fs k h = mapped-at (octet fs) octets k h
 
 -- a flag, read back from the octets
 pub packed-bit : (D : Pairs) (k : ℕ) → k < pairCount → bitAt (getD (packed (flagsOf D)) (k / 8) 0) (k % 8) ≡ getD (flagsOf D) k 0
@@ -181,9 +182,54 @@ pub packing-whole : (flags out : List ℕ) (put : ℕ) (out′ : List ℕ) (k : 
 unfolding Packs
 packing-whole flags out put out′ k h so D e = run-whole out (packed (flagsOf D)) put k out′ (omega (arith, length-packed (flagsOf D))) (so D e)
 
--- Read back, bit by bit.
+-- The bits of a byte, stored one by one.
+pub bits-stored : (l : List ℕ) (at b : ℕ)
+    → set (set (set (set (set (set (set (set l at (b % 2)) (at + 1) (b / 2 % 2)) (at + 2) (b / 4 % 2)) (at + 3) (b / 8 % 2)) (at + 4) (b / 16 % 2)) (at + 5) (b / 32 % 2)) (at + 6) (b / 64 % 2)) (at + 7) (b / 128 % 2)
+    ≡ sets l at (bitsOf b)
+unfolding bitsOf bitAt namesFrom
+bits-stored l at b =
+    let z : bitAt b 0 ≡ b % 2 = omega arith in
+    let e1 : suc at ≡ at + 1 = omega arith in
+    let e2 : suc (suc at) ≡ at + 2 = omega arith in
+    let e3 : suc (suc (suc at)) ≡ at + 3 = omega arith in
+    let e4 : suc (suc (suc (suc at))) ≡ at + 4 = omega arith in
+    let e5 : suc (suc (suc (suc (suc at)))) ≡ at + 5 = omega arith in
+    let e6 : suc (suc (suc (suc (suc (suc at))))) ≡ at + 6 = omega arith in
+    let e7 : suc (suc (suc (suc (suc (suc (suc at)))))) ≡ at + 7 = omega arith in
+    rw (z, e7, e6, e5, e4, e3, e2, e1)
+
+-- Read back, octet by octet.
 abbrev pub bitFrom : List ℕ → ℕ → ℕ → ℕ
 bitFrom area at i = bitAt (getD area (at + i / 8) 0) (i % 8)
+
+module _ (area : List ℕ) (at : ℕ) (flags₀ flags : List ℕ) (k : ℕ) (n : flags₀ ≡ replicate pairCount 0) (l : k < octets) (F : Filling (bitFrom area at) flags₀ flags (8 * k)) where
+  next : 8 * k + 8 ≡ 8 * (k + 1)
+  next = omega arith
+
+  -- the bits of octet k
+  own-octet : (j : ℕ) → j < 8 → bitFrom area at (8 * k + j) ≡ bitAt (getD area (at + k) 0) j
+  own-octet j h =
+      let q : (8 * k + j) / 8 ≡ k = omega arith in
+      let r : (8 * k + j) % 8 ≡ j = omega arith in
+      rw (q, r)
+
+  pub unpack-zero : getD area (at + k) 0 ≡ 0 → Filling (bitFrom area at) flags₀ flags (8 * (k + 1))
+  unfolding bitAt
+  unpack-zero z = rw (← next) (fill-past (bitFrom area at) flags₀ flags (8 * k) 8 none F)
+    where
+      none : (j : ℕ) → j < 8 → getD flags₀ (8 * k + j) 0 ≡ bitFrom area at (8 * k + j)
+      none j h =
+          rw n (getD-replicate pairCount (8 * k + j) 0 0 (omega arith))
+          ∙ sym (own-octet j h ∙ ap (λ b. bitAt b j) z ∙ ap (λ b. b % 2) (zero-div (2 ^ j)))
+
+  pub unpack-next : (b : ℕ) → b ≡ getD area (at + k) 0 → Filling (bitFrom area at) flags₀ (sets flags (8 * k) (bitsOf b)) (8 * (k + 1))
+  unfolding bitsOf
+  unpack-next b q =
+      let m = length-mapped (bitAt b) 8 in
+      let e : 8 * k + length (bitsOf b) ≡ 8 * (k + 1) = omega (arith, m) in
+      rw (← e)
+      (fill-run (bitFrom area at) flags₀ flags (8 * k) (bitsOf b) (omega (arith, ap length n, length-replicate {A = ℕ} pairCount 0, m))
+      (λ j h. mapped-at (bitAt b) 8 j (omega (arith, m)) ∙ ap (λ c. bitAt c j) q ∙ sym (own-octet j (omega (arith, m)))) F)
 
 pub unpacked : (area : List ℕ) (at : ℕ) (flags flags′ : List ℕ) (i : ℕ) → length flags ≡ pairCount → pairCount ≤ i → Filling (bitFrom area at) flags flags′ i
     → Unpacks area at flags′

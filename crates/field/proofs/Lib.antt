@@ -27,6 +27,7 @@ pub mod QuestionField
 pub mod Reached
 pub mod ResultLaws
 pub mod Run
+pub mod Runs
 pub mod Selections
 pub mod SlotWriting
 pub mod StartLaws

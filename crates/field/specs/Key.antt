@@ -1,7 +1,7 @@
 -- A situation as it stands in the work area, and what reading, writing and finding one promise.
 use mathlib.Core.Path.{_≡_}
 use mathlib.Core.Bool.{Bool, true, false}
-use mathlib.Core.List.{List, _++_}
+use mathlib.Core.List.{List, _++_, map}
 use Prim.Native.Nat.{ℕ, _+_, _*_, _/_, _%_, _^_, _<_, _≤_}
 use lib.ListN.{length, getD, take, drop}
 use lib.Seq.{sets}
@@ -9,6 +9,7 @@ use Rattle.calculus.specs.Cond.{Pairs}
 use Rattle.calculus.specs.Term.{Term}
 use Rattle.terms.specs.Encoding.{encode}
 use Rattle.terms.specs.Limits.{longestTerm}
+use Rattle.steps.specs.Listed.{namesFrom}
 use Rattle.field.specs.Situation.{Situation}
 use Rattle.field.specs.Slot.{partBytes, flagsOf, octet, packed, keyOf, keyBytes, slotBytes}
 use Rattle.field.specs.declared.find.Found.{Found}
@@ -34,9 +35,12 @@ SecondPartIs area at r = (s : Situation) → SituationAt area at s → r ≡ enc
 unfoldable pub ApartFlagsIs : List ℕ → ℕ → List ℕ → Type 0
 ApartFlagsIs area at r = (s : Situation) → SituationAt area at s → r ≡ flagsOf (s .apart)
 
--- bit j of a byte
+-- bit j of a byte, and the eight of them
 unfoldable pub bitAt : ℕ → ℕ → ℕ
 bitAt b j = b / 2 ^ j % 2
+
+unfoldable pub bitsOf : ℕ → List ℕ
+bitsOf b = map (bitAt b) (namesFrom 0 8)
 
 -- a flag as a bit, whatever stands there
 pub record BitIs (flags : List ℕ) (i r : ℕ) : Type 0 where

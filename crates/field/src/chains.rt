@@ -19,7 +19,7 @@ const LINK: usize = 244;
 const ROUNDS: usize = 15;
 
 // Four bytes as a number.
-fn word(key: &[u8], at: usize) -> usize
+pub fn word(key: &[u8], at: usize) -> usize
     requires { ⌜ at + 4 ≤ length (now key) ⌝ }
     ensures { λ r. ⌜ WordIs (now (key .entry)) at r ⌝ }
 {

@@ -1,10 +1,12 @@
 // A situation in the work area: its two parts, and its apart pairs as bits.
 ghost use mathlib.Core.Path.{_≡_};
 ghost use Prim.Native.Nat.{_+_, _<_, _≤_};
-ghost use lib.ListN.{length};
-ghost use Rattle.field.specs.Key.{PartIs, FirstPartIs, SecondPartIs, ApartFlagsIs, bitAt, BitIs, OctetIs, Packs, Unpacks};
+ghost use lib.ListN.{length, replicate};
+ghost use lib.Seq.{sets};
+ghost use Rattle.field.specs.Key.{PartIs, FirstPartIs, SecondPartIs, ApartFlagsIs, BitIs, OctetIs, Packs, bitsOf, Unpacks};
 ghost use Rattle.field.specs.PairFlags.{pairCount};
 ghost use Rattle.field.specs.Slot.{octets, keyBytes};
+use crate::chains::word;
 use crate::pairs::PAIR_COUNT;
 use terms::bytes::get;
 
@@ -44,48 +46,23 @@ pub fn second_part(area: &[u8], at: usize) -> &[u8]
     part_at(area, at + PART_BYTES)
 }
 
-// Bit `j` of a byte.
-fn bit_of(b: u8, j: usize) -> u8
-    requires { ⌜ j < 8 ⌝ }
-    ensures { λ r. ⌜ r ≡ bitAt b j ⌝ }
-{
-    if j < 1 {
-        return b % 2;
-    }
-    if j < 2 {
-        return b / 2 % 2;
-    }
-    if j < 3 {
-        return b / 4 % 2;
-    }
-    if j < 4 {
-        return b / 8 % 2;
-    }
-    if j < 5 {
-        return b / 16 % 2;
-    }
-    if j < 6 {
-        return b / 32 % 2;
-    }
-    if j < 7 {
-        return b / 64 % 2;
-    }
-    b / 128 % 2
-}
-
 // Flag `i` as a bit.
 fn flag_bit(flags: &[u8], i: usize) -> u8
+    requires { ⌜ i < length (now flags) ⌝ }
     ensures { λ r. ⌜ BitIs (now (flags .entry)) i r ⌝ }
 {
-    if get(flags, i) == 0 { 0 } else { 1 }
+    if flags[i] == 0 { 0 } else { 1 }
 }
 
-// Eight flags in a byte, the lowest bit first.
+// Eight flags in a byte, the lowest bit first. Most often none of them is set.
 fn octet(flags: &[u8], k: usize) -> u8
-    requires { ⌜ k < octets ⌝ }
+    requires { ⌜ (k < octets) × (length (now flags) ≡ pairCount) ⌝ }
     ensures { λ r. ⌜ OctetIs (now (flags .entry)) k r ⌝ }
 {
     let i = 8 * k;
+    if word(flags, i) + word(flags, i + 4) == 0 {
+        return 0;
+    }
     let low = flag_bit(flags, i)
         + 2 * flag_bit(flags, i + 1)
         + 4 * flag_bit(flags, i + 2)
@@ -99,7 +76,7 @@ fn octet(flags: &[u8], k: usize) -> u8
 
 // Writes the flags as bits from `put` on.
 pub fn pack(flags: &[u8], out: &mut [u8], put: usize)
-    requires { ⌜ put + octets ≤ length (now out) ⌝ }
+    requires { ⌜ (length (now flags) ≡ pairCount) × (put + octets ≤ length (now out)) ⌝ }
     ensures { λ _. ⌜ Packs (now (flags .entry)) (now (out .entry)) put (now (out .exit)) ⌝ }
 {
     let mut k = 0;
@@ -110,16 +87,33 @@ pub fn pack(flags: &[u8], out: &mut [u8], put: usize)
     }
 }
 
-// Reads the flags from the bits at `at`.
+// Writes the bits of a byte as flags from `at` on.
+fn unpack_octet(b: u8, at: usize, flags: &mut [u8])
+    requires { ⌜ at + 8 ≤ length (now flags) ⌝ }
+    ensures { λ _. ⌜ now (flags .exit) ≡ sets (now (flags .entry)) at (bitsOf b) ⌝ }
+{
+    flags[at] = b % 2;
+    flags[at + 1] = b / 2 % 2;
+    flags[at + 2] = b / 4 % 2;
+    flags[at + 3] = b / 8 % 2;
+    flags[at + 4] = b / 16 % 2;
+    flags[at + 5] = b / 32 % 2;
+    flags[at + 6] = b / 64 % 2;
+    flags[at + 7] = b / 128 % 2;
+}
+
+// Reads the flags, none of which is set, from the bits at `at`.
 fn unpack(area: &[u8], at: usize, flags: &mut [u8])
-    requires { ⌜ (at ≤ length (now area)) × (length (now flags) ≡ pairCount) ⌝ }
+    requires { ⌜ (at + octets ≤ length (now area)) × (now flags ≡ replicate pairCount 0) ⌝ }
     ensures { λ _. ⌜ Unpacks (now (area .entry)) at (now (flags .exit)) ⌝ }
 {
-    let mut i = 0;
-    while i < PAIR_COUNT {
-        let b = bit_of(get(area, at + i / 8), i % 8);
-        flags[i] = b;
-        i += 1;
+    let mut k = 0;
+    while k < OCTETS {
+        let b = area[at + k];
+        if b != 0 {
+            unpack_octet(b, 8 * k, flags);
+        }
+        k += 1;
     }
 }
 

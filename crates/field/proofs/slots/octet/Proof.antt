@@ -1,12 +1,27 @@
 -- `field::slots::octet` meets its contract. Assumes nothing.
+use Rattle.field.proofs.KeyLaws.{octet-none, octet-is}
 use Prim.Native.Nat.{_-_}
-use Rattle.field.proofs.KeyLaws.{octet-is}
 use borrow.Author.Needs.{needs}
 use Rattle.field.proofs.slots.octet.Statement.{statement}
 use Rattle.field.proofs.slots.octet.Tie as tie
 
 mul-i : tie.Need-mul-i
 mul-i c = search needs
+
+word-requires : tie.Need-word-requires
+word-requires c κs = search needs
+
+add-word : tie.Need-add-word
+add-word c = search needs
+
+word-requires-2 : tie.Need-word-requires-2
+word-requires-2 c κs = search needs
+
+add-if1 : tie.Need-add-if1
+add-if1 c = search needs
+
+returns : tie.Need-returns
+returns c = octet-none _ _ _ _ (c .before .before .word .ensures) (c .before .word2 .ensures) (c .if1 .taken)
 
 flag-bit-requires : tie.Need-flag-bit-requires
 flag-bit-requires c κs = search needs
@@ -95,14 +110,19 @@ mul-result c = search needs
 add-result : tie.Need-add-result
 add-result c = search needs
 
-returns : tie.Need-returns
-returns c = octet-is _ _ _ _ _ _ _ _ _ _ (c .before .before .before .before .before .before .before .flag-bit .ensures) (c .before .before .before .before .before .before .flag-bit2 .ensures) (c .before .before .before .before .before .flag-bit3 .ensures) (c .before .before .before .before .flag-bit4 .ensures) (c .before .before .before .flag-bit5 .ensures) (c .before .before .flag-bit6 .ensures) (c .before .flag-bit7 .ensures) (c .flag-bit8 .ensures)
+returns-2 : tie.Need-returns-2
+returns-2 c = octet-is _ _ _ _ _ _ _ _ _ _ (c .before .before .before .before .before .before .before .flag-bit .ensures) (c .before .before .before .before .before .before .flag-bit2 .ensures) (c .before .before .before .before .before .flag-bit3 .ensures) (c .before .before .before .before .flag-bit4 .ensures) (c .before .before .before .flag-bit5 .ensures) (c .before .before .flag-bit6 .ensures) (c .before .flag-bit7 .ensures) (c .flag-bit8 .ensures)
 
 pub octet-spec : {M : Type 1} → statement M
 octet-spec =
     tie.close
     (tie.spec
     mul-i
+    word-requires
+    add-word
+    word-requires-2
+    add-if1
+    returns
     flag-bit-requires
     add-flag-bit
     flag-bit-requires-2
@@ -132,4 +152,4 @@ octet-spec =
     add-high-3
     mul-result
     add-result
-    returns)
+    returns-2)

@@ -1,51 +1,52 @@
 -- `field::slots::unpack` meets its contract. Assumes nothing.
-use native.Mathlib.Omega.{arith}
-use borrow.Author.Needs.{needs}
-use mathlib.Core.Path.{_≡_, ap, _∙_}
-use Prim.Native.Nat.{ℕ, _-_, _%_, _≤_}
-use lib.ListN.{length}
+use Rattle.field.proofs.KeyLaws.{bitFrom, unpack-zero, unpack-next, unpacked}
+use Rattle.terms.proofs.Filling.{Filling, fill-start}
+use Rattle.field.specs.Slot.{octets}
 use Rattle.field.specs.PairFlags.{pairCount}
-use Rattle.field.specs.Key.{bitAt}
-use Rattle.terms.proofs.Filling.{Filling, fill-start, fill-step}
-use Rattle.field.proofs.KeyLaws.{bitFrom, unpacked}
+use lib.ListN.{length}
+use Prim.Native.Nat.{_-_, _*_, _≤_}
+use mathlib.Core.Logic.{⊎-elim}
+use mathlib.Core.Path.{_≡_, refl, ap}
+use borrow.Author.Needs.{needs}
+use native.Mathlib.Omega.{arith}
 use Rattle.field.proofs.slots.unpack.Statement.{statement}
 use Rattle.field.proofs.slots.unpack.Tie as tie
 
 abbrev Inv-loop : tie.InvT-loop
-Inv-loop area at flags₀ i₀ flags i = Filling (bitFrom area at) flags₀ flags i × (i ≤ pairCount) × (length flags₀ ≡ pairCount)
+Inv-loop area at flags₀ k₀ flags k = (k ≤ octets) × (length flags₀ ≡ pairCount) × Filling (bitFrom area at) flags₀ flags (8 * k)
 
 abbrev μ-loop : tie.MeasureT-loop
-μ-loop area at flags₀ i₀ flags i = pairCount - i
+μ-loop area at flags₀ k₀ flags k = octets - k
 
 loop-holds : tie.Need-loop-holds Inv-loop μ-loop
-loop-holds c = (fill-start _ _, search needs, search needs)
+loop-holds c = (search needs, ap length (c .before .before .pre .1), fill-start _ _)
 
-add-get : tie.Need-add-get Inv-loop μ-loop
-add-get c = search needs
+add-b : tie.Need-add-b Inv-loop μ-loop
+add-b c = search needs
 
-get-requires : tie.Need-get-requires Inv-loop μ-loop
-get-requires c κs = search needs
+shared-slice-read-b : tie.Need-shared-slice-read-b Inv-loop μ-loop
+shared-slice-read-b c = search needs
 
-bit-of-requires : tie.Need-bit-of-requires Inv-loop μ-loop
-bit-of-requires c κs = search needs
+mul-unpack-octet : tie.Need-mul-unpack-octet Inv-loop μ-loop
+mul-unpack-octet c = search needs
 
-slice-write-flags : tie.Need-slice-write-flags Inv-loop μ-loop
-slice-write-flags c = search needs
+unpack-octet-requires : tie.Need-unpack-octet-requires Inv-loop μ-loop
+unpack-octet-requires c κs = search needs
 
-add-i : tie.Need-add-i Inv-loop μ-loop
-add-i c = search needs
+add-k : tie.Need-add-k Inv-loop μ-loop
+add-k c = search needs
 
 loop-less : tie.Need-loop-less Inv-loop μ-loop
 loop-less c = search needs
 
 loop-again : tie.Need-loop-again Inv-loop μ-loop
-loop-again c = (fill-step _ _ _ (c .before .before .before .loop .i) _ (omega arith) (c .bit-of .ensures ∙ ap (λ (b : ℕ). bitAt b (c .before .before .before .loop .i % 8)) (c .before .get .ensures)) (c .before .before .before .loop .inv .0), search needs, search needs)
+loop-again c = (search needs, search needs, ⊎-elim (λ w. rw (w .5, w .2 .ensures) (unpack-next (c .before .before .before .before .before .before .args .area .now) (c .before .before .before .before .before .before .args .at) _ _ (c .before .before .before .loop .k) (c .before .before .before .before .before .before .pre .1) (omega arith) (c .before .before .before .loop .inv .2) _ refl)) (λ w. rw (w .1) (unpack-zero (c .before .before .before .before .before .before .args .area .now) (c .before .before .before .before .before .before .args .at) _ _ (c .before .before .before .loop .k) (c .before .before .before .before .before .before .pre .1) (omega arith) (c .before .before .before .loop .inv .2) (w .0 .left))) (c .if1 .came))
 
 same-length : tie.Need-same-length Inv-loop μ-loop
 same-length c = search needs
 
 returns : tie.Need-returns Inv-loop μ-loop
-returns c = unpacked _ _ _ _ (c .before .loop .i) (omega arith) (omega arith) (c .before .loop .inv .0)
+returns c = unpacked _ _ (c .before .before .before .before .args .flags .now) _ (8 * c .before .loop .k) (omega arith) (omega arith) (c .before .loop .inv .2)
 
 pub unpack-spec : {M : Type 1} → statement M
 unpack-spec =
@@ -54,11 +55,11 @@ unpack-spec =
     Inv-loop
     μ-loop
     loop-holds
-    add-get
-    get-requires
-    bit-of-requires
-    slice-write-flags
-    add-i
+    add-b
+    shared-slice-read-b
+    mul-unpack-octet
+    unpack-octet-requires
+    add-k
     loop-less
     loop-again
     same-length
