@@ -126,16 +126,51 @@ kept-apart E (p ∷ L) a b d = go (holdsApart E (p .0) (p .1)) refl d (λ h. kep
     go true e (inr (inr h)) r = r h
     go false e h r = r h
 
-apart-kept : (E L : Pairs) (n : ℕ) (p : ℕ × ℕ) → n < length L → getD L n (0, 0) ≡ p → holdsApart E (p .0) (p .1) ≡ true
-    → Apart (keep (holdsApart E) L) (p .0) (p .1)
+apart-kept : (f : ℕ → ℕ → Bool) (L : Pairs) (n : ℕ) (p : ℕ × ℕ) → n < length L → getD L n (0, 0) ≡ p → f (p .0) (p .1) ≡ true
+    → Apart (keep f L) (p .0) (p .1)
 unfolding keep
-apart-kept E [] n p h q e = absurd (omega arith)
-apart-kept E (r ∷ L) zero p h q e = rw (q, e) (inl (refl, refl))
-apart-kept E (r ∷ L) (suc n) p h q e = go (holdsApart E (r .0) (r .1)) (apart-kept E L n p (omega arith) q e)
+apart-kept f [] n p h q e = absurd (omega arith)
+apart-kept f (r ∷ L) zero p h q e = rw (q, e) (inl (refl, refl))
+apart-kept f (r ∷ L) (suc n) p h q e = go (f (r .0) (r .1)) (apart-kept f L n p (omega arith) q e)
   where
-    go : (t : Bool) → Apart (keep (holdsApart E) L) (p .0) (p .1) → Apart (cond t (r ∷ keep (holdsApart E) L) (keep (holdsApart E) L)) (p .0) (p .1)
+    go : (t : Bool) → Apart (keep f L) (p .0) (p .1) → Apart (cond t (r ∷ keep f L) (keep f L)) (p .0) (p .1)
     go true a = inr (inr a)
     go false a = a
+
+-- what is kept of pairs whose smaller name stands first passed the test
+kept-passed : (f : ℕ → ℕ → Bool) (L : Pairs) → ((k : ℕ) → k < length L → getD L k (0, 0) .0 < getD L k (0, 0) .1) → (a b : ℕ) → a < b
+    → Apart (keep f L) a b → f a b ≡ true
+unfolding keep
+kept-passed f (p ∷ L) o a b l d = go (f (p .0) (p .1)) refl d (λ h. kept-passed f L (λ k m. o (suc k) (omega arith)) a b l h)
+  where
+    go : (t : Bool) → f (p .0) (p .1) ≡ t → Apart (cond t (p ∷ keep f L) (keep f L)) a b → (Apart (keep f L) a b → f a b ≡ true) → f a b ≡ true
+    go true e (inl (h, k)) r = ap₂ f (sym h) (sym k) ∙ e
+    go true e (inr (inl (h, k))) r = absurd (omega (arith, o 0 (omega arith), h, k))
+    go true e (inr (inr h)) r = r h
+    go false e h r = r h
+
+-- of all pairs of names those are kept that pass
+pub kept-holds : (f : ℕ → ℕ → Bool) (k : ℕ) → k < pairCount → holdsApart (keep f allPairs) (pairAt k .0) (pairAt k .1) ≡ f (pairAt k .0) (pairAt k .1)
+unfolding pairAt
+kept-holds f k h = go (f a b) refl (holdsApart K a b) refl
+  where
+    a : ℕ
+    a = pairAt k .0
+
+    b : ℕ
+    b = pairAt k .1
+
+    K : Pairs
+    K = keep f allPairs
+
+    go : (s : Bool) → f a b ≡ s → (t : Bool) → holdsApart K a b ≡ t → holdsApart K a b ≡ f a b
+    go true p t q = apart-holds K a b (apart-kept f allPairs k (pairAt k) (omega (arith, length-pairs)) refl p) ∙ sym p
+    go false p true q =
+        holds-alike (holds-apart K a b q)
+      where
+        holds-alike : Apart K a b → holdsApart K a b ≡ f a b
+        holds-alike d = q ∙ sym (kept-passed f allPairs (λ j l. pair-ordered j (omega (arith, length-pairs))) a b (pair-ordered k h) d)
+    go false p false q = q ∙ sym p
 
 -- Distinctions that hold the same pairs of names apart have the same flags.
 same-flags : (D E : Pairs) → ((a b : ℕ) → a < b → b < nameCount → Apart D a b → Apart E a b)
@@ -170,7 +205,7 @@ module _ (area : List ℕ) (at : ℕ) (s : ListedStep) (f : EntryAt area at s) (
   names-apart a b l h d =
       let n = number-right a b l h in
       let m : ℕ = getD rows a 0 + (b - a - 1) in
-      apart-kept E allPairs m (a, b) (omega (arith, n .below, length-pairs)) (λ i. (n .first i, n .second i)) (apart-holds E a b d)
+      apart-kept (holdsApart E) allPairs m (a, b) (omega (arith, n .below, length-pairs)) (λ i. (n .first i, n .second i)) (apart-holds E a b d)
 
   -- whose class is a name is a name
   from-name : (x : ℕ) → c x < nameCount → x < nameCount

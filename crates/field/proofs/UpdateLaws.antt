@@ -4,8 +4,8 @@ use mathlib.Core.Bool.{Bool, true, false, cond, _&&_}
 use mathlib.Core.List.{List, [], _∷_, _++_, map, append-nil}
 use Prim.Native.Nat.{ℕ, suc, _+_, _-_, _<_, _≤_}
 use native.Mathlib.Omega.{arith}
-use lib.ListN.{length, getD, drop, replicate}
-use lib.Seq.{drop-length}
+use lib.ListN.{length, getD, take, drop, set, replicate, length-replicate, getD-replicate}
+use lib.Seq.{sets, drop-length}
 use lib.Dec.{eqb}
 use borrow.Author.Tests.{eq-eqb, ne-eqb}
 use Rattle.calculus.specs.Cond.{Pairs, mapP}
@@ -15,6 +15,8 @@ use Rattle.calculus.specs.OpenBisimulation.{times}
 use Rattle.calculus.specs.Term.{Term}
 use Rattle.terms.specs.Limits.{nameCount}
 use Rattle.terms.specs.Operations.{holdsApart}
+use Rattle.terms.proofs.Filling.{Filling}
+use Rattle.terms.proofs.Stores.{sets-more, run-whole}
 use Rattle.steps.specs.Listed.{ListedStep, namesFrom, classIn}
 use Rattle.field.specs.Entry.{EntryAt, ClassOfIs, TrivialIs}
 use Rattle.field.specs.NameFlags.{HasNames}
@@ -22,11 +24,12 @@ use Rattle.field.specs.PairFlags.{pairCount, pairAt, AddsPair}
 use Rattle.field.specs.Situation.{freeFrom, pairsOf, situation}
 use Rattle.field.specs.Slot.{allPairs, flag, flagsOf}
 use Rattle.field.specs.Successors.{extrudedBy, updatedBy}
-use Rattle.field.specs.Update.{AddsIfFree, AddsRow, AddsExtruded, AddsRewritten, RewritesPairs, UpdatedIs, AddsKept, CutsPairs, KeptIs}
+use Rattle.field.specs.Update.{AddsIfFree, AddsRow, AddsExtruded, AddsRewritten, RewritesPairs, UpdatedIs, rowCount, ifFree, keptRow, KeptIs}
 use Rattle.field.proofs.EntryLaws.{entry-kind, entry-object}
-use Rattle.field.proofs.KeptPairs.{keep-drop, situation-kept, flags-rewritten}
-use Rattle.field.proofs.PairLaws.{flag-at}
-use Rattle.field.proofs.PairTables.{pair-ordered, pair-below, length-pairs}
+use Rattle.field.proofs.KeptPairs.{keep-drop, situation-kept, kept-holds, flags-rewritten}
+use Rattle.field.proofs.PairLaws.{flag-at, flags-are}
+use Rattle.field.proofs.PairTables.{rows, pair-ordered, pair-below, row-inside, in-row, length-pairs}
+use Rattle.field.proofs.Runs.{length-mapped, mapped-at, fill-run, fill-past}
 
 -- no flag is set at first
 pub no-pairs : replicate pairCount 0 ≡ flagsOf []
@@ -178,69 +181,82 @@ unfolding AddsExtruded TrivialIs UpdatedIs updatedBy
 updated-trivial flags free area at more a r t q G D s h e f =
     a G D s h e f ∙ ap flagsOf (sym (own-pairs (classIn (s .classes)) (t q s f) (times (extrudedBy s) (freeFrom G 0 nameCount) ++ D)))
 
--- One pair kept if both names are free.
-module _ (flags : List ℕ) (k : ℕ) (l : k < pairCount) (free new : List ℕ) where
-  pub kept-not : getD flags k 0 ≡ 0 → AddsKept flags k free new new
-  unfolding AddsKept
-  kept-not z G E D h e f = rw (pair-off flags k l E e z) f
+pub free-not : (free v : ℕ) → free ≡ 0 → ifFree free v ≡ 0
+unfolding ifFree
+free-not free v z = rw (eq-eqb free 0 z)
 
-  pub kept-not-first : getD free (pairAt k .0) 0 ≡ 0 → AddsKept flags k free new new
-  unfolding AddsKept
-  kept-not-first z G E D h e f =
-      rw (name-off free (pairAt k .0) (omega (arith, pair-ordered k l, pair-below k l)) G h z) (go (holdsApart E (pairAt k .0) (pairAt k .1)))
+pub free-so : (free v : ℕ) → (free ≡ 0 → ⊥) → ifFree free v ≡ v
+unfolding ifFree
+free-so free v z = rw (ne-eqb free 0 z)
+
+-- A row of pairs, as the code makes it.
+kept-row-at : (flags free : List ℕ) (a k i : ℕ) → i < rowCount - a
+    → getD (keptRow flags free a k) i 0 ≡ ifFree (getD free (a + 1 + i) 0) (getD flags (k + i) 0)
+unfolding keptRow
+kept-row-at flags free a k i h = mapped-at (λ j. ifFree (getD free (a + 1 + j) 0) (getD flags (k + j) 0)) (rowCount - a) i h
+
+length-kept-row : (flags free : List ℕ) (a k : ℕ) → length (keptRow flags free a k) ≡ rowCount - a
+unfolding keptRow
+length-kept-row flags free a k = length-mapped (λ j. ifFree (getD free (a + 1 + j) 0) (getD flags (k + j) 0)) (rowCount - a)
+
+pub kept-row-next : (flags free new₀ : List ℕ) (a k : ℕ) (new : List ℕ) (i b : ℕ) → i < rowCount - a → new ≡ sets new₀ k (take i (keptRow flags free a k))
+    → b ≡ ifFree (getD free (a + 1 + i) 0) (getD flags (k + i) 0) → set new (k + i) b ≡ sets new₀ k (take (i + 1) (keptRow flags free a k))
+kept-row-next flags free new₀ a k new i b h so e =
+    let v : b ≡ getD (keptRow flags free a k) i 0 = e ∙ sym (kept-row-at flags free a k i h) in
+    rw (so, v) (sets-more new₀ (keptRow flags free a k) k i (omega (arith, length-kept-row flags free a k)))
+
+pub kept-row-whole : (flags free new₀ : List ℕ) (a k : ℕ) (new : List ℕ) (i : ℕ) → rowCount - a ≤ i → new ≡ sets new₀ k (take i (keptRow flags free a k))
+    → new ≡ sets new₀ k (keptRow flags free a k)
+kept-row-whole flags free new₀ a k new i h so = run-whole new₀ (keptRow flags free a k) k i new (omega (arith, length-kept-row flags free a k)) so
+
+-- The flag of pair k, if both names are free.
+unfoldable pub keptFlag : List ℕ → List ℕ → ℕ → ℕ
+keptFlag flags free k = ifFree (getD free (pairAt k .0) 0) (ifFree (getD free (pairAt k .1) 0) (getD flags k 0))
+
+module _ (flags free new₀ new : List ℕ) (a k : ℕ) (l : a < rowCount) (q : k ≡ getD rows a 0) (n : new₀ ≡ replicate pairCount 0)
+    (F : Filling (keptFlag flags free) new₀ new k) where
+  pub row-none : getD free a 0 ≡ 0 → Filling (keptFlag flags free) new₀ new (k + (rowCount - a))
+  unfolding keptFlag ifFree
+  row-none z = fill-past (keptFlag flags free) new₀ new k (rowCount - a) same F
     where
-      go : (t : Bool) → new ≡ flagsOf (cond (t && false) (pairAt k ∷ D) D)
-      go true = f
-      go false = f
+      same : (i : ℕ) → i < rowCount - a → getD new₀ (k + i) 0 ≡ keptFlag flags free (k + i)
+      same i h =
+          rw (n, in-row a k l q i h .first, z) (getD-replicate pairCount (k + i) 0 0 (omega (arith, row-inside a k l q)))
 
-  pub kept-not-second : getD free (pairAt k .1) 0 ≡ 0 → AddsKept flags k free new new
-  unfolding AddsKept
-  kept-not-second z G E D h e f =
-      rw (name-off free (pairAt k .1) (pair-below k l) G h z) (go (holdsApart E (pairAt k .0) (pairAt k .1)) (among G (pairAt k .0)))
+  pub row-kept : (getD free a 0 ≡ 0 → ⊥) → Filling (keptFlag flags free) new₀ (sets new k (keptRow flags free a k)) (k + (rowCount - a))
+  unfolding keptFlag ifFree
+  row-kept z =
+      let m = length-kept-row flags free a k in
+      rw (← m)
+      (fill-run (keptFlag flags free) new₀ new k (keptRow flags free a k) (omega (arith, ap length n, length-replicate {A = ℕ} pairCount 0, row-inside a k l q, m))
+      (λ i h. kept-row-at flags free a k i (omega (arith, m)) ∙ own i (omega (arith, m))) F)
     where
-      go : (t u : Bool) → new ≡ flagsOf (cond (t && (u && false)) (pairAt k ∷ D) D)
-      go true true = f
-      go true false = f
-      go false u = f
+      own : (i : ℕ) → i < rowCount - a → ifFree (getD free (a + 1 + i) 0) (getD flags (k + i) 0) ≡ keptFlag flags free (k + i)
+      own i h =
+          let b = in-row a k l q i h in
+          rw (b .first, b .second, ne-eqb (getD free a 0) 0 z)
 
-  pub kept-pair : (getD flags k 0 ≡ 0 → ⊥) → (getD free (pairAt k .0) 0 ≡ 0 → ⊥) → (getD free (pairAt k .1) 0 ≡ 0 → ⊥)
-      → (new′ : List ℕ) → AddsPair new (pairAt k .0) (pairAt k .1) new′ → AddsKept flags k free new new′
-  unfolding AddsKept AddsPair
-  kept-pair z a b new′ add G E D h e f =
-      rw (
-        pair-on flags k l E e z,
-        name-on free (pairAt k .0) (omega (arith, pair-ordered k l, pair-below k l)) G h a,
-        name-on free (pairAt k .1) (pair-below k l) G h b,
-      )
-      (add D f)
+-- All of them.
+pub kept-is : (flags free new₀ new : List ℕ) (k : ℕ) → length new₀ ≡ pairCount → k ≡ pairCount → Filling (keptFlag flags free) new₀ new k → KeptIs flags free new
+unfolding KeptIs keptFlag ifFree HasNames flag
+kept-is flags free new₀ new k n e F P Q E h f =
+    flags-are (keep test allPairs) new (F .len ∙ n) (λ i l. F .done i (omega arith) ∙ at i l) ∙ ap flagsOf (situation-kept P Q E)
+  where
+    G : List ℕ
+    G = fn P ++ fn Q
 
--- Those from k on.
-abbrev test : Pairs → List ℕ → ℕ → ℕ → Bool
-test E G a b = holdsApart E a b && (among G a && among G b)
+    test : ℕ → ℕ → Bool
+    test a b = holdsApart E a b && (among G a && among G b)
 
-abbrev pub Cut : List ℕ → List ℕ → List ℕ → List ℕ → ℕ → Type 0
-Cut flags free new₀ new k =
-    (G : List ℕ) (E : Pairs) → HasNames free G → flags ≡ flagsOf E → new₀ ≡ flagsOf []
-    → new ≡ flagsOf (keep (λ a b. holdsApart E a b && (among G a && among G b)) (drop k allPairs))
+    both : (s t u : Bool) → ifFree (flag s) (ifFree (flag t) (flag u)) ≡ flag (u && (s && t))
+    both true true true = refl
+    both true true false = refl
+    both true false true = refl
+    both true false false = refl
+    both false t true = refl
+    both false t false = refl
 
-pub cut-start : (flags free new : List ℕ) → Cut flags free new new pairCount
-unfolding keep
-cut-start flags free new G E h e f = rw none-left f
-
-pub cut-next : (flags free new₀ new : List ℕ) (k : ℕ) (new′ : List ℕ) → 0 < k → k ≤ pairCount → Cut flags free new₀ new k
-    → AddsKept flags (k - 1) free new new′ → Cut flags free new₀ new′ (k - 1)
-unfolding AddsKept
-cut-next flags free new₀ new k new′ l m so a G E h e f =
-    let j : k - 1 + 1 ≡ k = omega arith in
-    let p : ℕ × ℕ = pairAt (k - 1) in
-    a G E (keep (test E G) (drop k allPairs)) h e (so G E h e f)
-    ∙ ap flagsOf (ap (λ i. cond (test E G (p .0) (p .1)) (p ∷ keep (test E G) (drop i allPairs)) (keep (test E G) (drop i allPairs))) (sym j) ∙ sym (keep-drop (test E G) (k - 1) (omega arith)))
-
-pub cut-whole : (flags free new new′ : List ℕ) (k : ℕ) → k ≡ 0 → Cut flags free new new′ k → CutsPairs flags free new new′
-unfolding CutsPairs
-cut-whole flags free new new′ k q so P Q E h e f =
-    so (fn P ++ fn Q) E h e f ∙ ap (λ i. flagsOf (keep (test E (fn P ++ fn Q)) (drop i allPairs))) q ∙ ap flagsOf (situation-kept P Q E)
-
-pub kept-is : (flags free new : List ℕ) → CutsPairs flags free (replicate pairCount 0) new → KeptIs flags free new
-unfolding CutsPairs KeptIs
-kept-is flags free new c P Q E h e = c P Q E h e no-pairs
+    at : (i : ℕ) → i < pairCount → keptFlag flags free i ≡ flag (holdsApart (keep test allPairs) (pairAt i .0) (pairAt i .1))
+    at i l =
+        rw (f, flag-at E i l, h (pairAt i .0) (omega (arith, pair-ordered i l, pair-below i l)), h (pairAt i .1) (pair-below i l), kept-holds test i l)
+        (both (among G (pairAt i .0)) (among G (pairAt i .1)) (holdsApart E (pairAt i .0) (pairAt i .1)))

@@ -1,8 +1,10 @@
 -- What the code that updates the apart pairs promises: document 000, Definition 15, and document 01, "The field and the verdict".
 use mathlib.Core.Path.{_≡_}
-use mathlib.Core.Bool.{cond, _&&_}
+use mathlib.Core.Bool.{cond}
 use mathlib.Core.List.{List, [], _∷_, _++_, map}
-use Prim.Native.Nat.{ℕ}
+use Prim.Native.Nat.{ℕ, _+_, _-_}
+use lib.Dec.{eqb}
+use lib.ListN.{getD}
 use Rattle.calculus.specs.Cond.{Pairs, mapP}
 use Rattle.calculus.specs.Distinction.{among}
 use Rattle.calculus.specs.Free.{fn}
@@ -10,7 +12,7 @@ use Rattle.calculus.specs.OpenBisimulation.{times}
 use Rattle.calculus.specs.Term.{Term}
 use Rattle.terms.specs.Limits.{nameCount}
 use Rattle.terms.specs.Operations.{holdsApart}
-use Rattle.steps.specs.Listed.{ListedStep, classIn}
+use Rattle.steps.specs.Listed.{ListedStep, namesFrom, classIn}
 use Rattle.field.specs.Entry.{EntryAt}
 use Rattle.field.specs.NameFlags.{HasNames}
 use Rattle.field.specs.PairFlags.{pairAt}
@@ -51,18 +53,19 @@ UpdatedIs flags free area at r =
     (G : List ℕ) (D : Pairs) (s : ListedStep) → HasNames free G → flags ≡ flagsOf D → EntryAt area at s
     → r ≡ flagsOf (updatedBy (freeFrom G 0 nameCount) D s)
 
--- Pair k of E is added to D if both names are among G.
-unfoldable pub AddsKept : List ℕ → ℕ → List ℕ → List ℕ → List ℕ → Type 0
-AddsKept flags k free new new′ =
-    (G : List ℕ) (E D : Pairs) → HasNames free G → flags ≡ flagsOf E → new ≡ flagsOf D
-    → new′ ≡ flagsOf (cond (holdsApart E (pairAt k .0) (pairAt k .1) && (among G (pairAt k .0) && among G (pairAt k .1))) (pairAt k ∷ D) D)
+-- how many names are the smaller one of a pair
+abbrev pub rowCount : ℕ
+rowCount = 15
+
+-- a flag if the name is free, else 0
+unfoldable pub ifFree : ℕ → ℕ → ℕ
+ifFree free v = cond (eqb free 0) 0 v
+
+-- the flags from k on, of the pairs of which a is the smaller name, without those of which the larger one is not free
+unfoldable pub keptRow : List ℕ → List ℕ → ℕ → ℕ → List ℕ
+keptRow flags free a k = map (λ i. ifFree (getD free (a + 1 + i) 0) (getD flags (k + i) 0)) (namesFrom 0 (rowCount - a))
 
 -- Those of E are kept of which each name is free in at least one part.
-unfoldable pub CutsPairs : List ℕ → List ℕ → List ℕ → List ℕ → Type 0
-CutsPairs flags free new new′ =
-    (P Q : Term) (E : Pairs) → HasNames free (fn P ++ fn Q) → flags ≡ flagsOf E → new ≡ flagsOf []
-    → new′ ≡ flagsOf (situation nameCount P Q E .apart)
-
 unfoldable pub KeptIs : List ℕ → List ℕ → List ℕ → Type 0
 KeptIs flags free r =
     (P Q : Term) (E : Pairs) → HasNames free (fn P ++ fn Q) → flags ≡ flagsOf E → r ≡ flagsOf (situation nameCount P Q E .apart)
