@@ -16,7 +16,7 @@ use lib.Seq.{sets, length-sets, take-take, getD-set-same, getD-set-other, drop-s
 use Rattle.terms.specs.FieldPlaces.{sizeAt}
 use Rattle.terms.proofs.Stores.{span, getD-span}
 use Rattle.steps.proofs.Moves.{getD-before}
-use Rattle.field.specs.Chains.{wordAt, folded, mixed, spread, bucketOf, bucketAt, BucketIs, headPlace, linkPlace, headAt, nextAt, putNumber, lastWith, lastIn, Chained, KeepsKeys, Clears, LinkIs, FindsIn}
+use Rattle.field.specs.Chains.{wordAt, folded, mixed, rounds, roundsTo, spread, bucketOf, bucketAt, BucketIs, headPlace, linkPlace, headAt, nextAt, putNumber, lastWith, lastIn, Chained, KeepsKeys, Clears, LinkIs, FindsIn}
 use Rattle.field.specs.Key.{keyAt, SameKeyIs, FoundIs}
 use Rattle.field.specs.Slot.{keyBytes, slotBytes}
 use Rattle.field.specs.declared.find.Found.the-variants.{At, Nothing}
@@ -28,12 +28,17 @@ pub mixed-is : (h : ℕ) (key : List ℕ) (at a b c d : ℕ) → a ≡ wordAt ke
 unfolding mixed
 mixed-is h key at a b c d p q r s = rw (p, q, r, s)
 
-pub spread-next : (key : List ℕ) (i h r : ℕ) → h ≡ spread key i → r ≡ mixed h key (16 * i) → r ≡ spread key (i + 1)
-unfolding spread
-spread-next key i h r e f = f ∙ rw (add-one, e)
+pub rounds-next : (h : ℕ) (key : List ℕ) (i n x r : ℕ) → x ≡ rounds h key i n → r ≡ mixed x key (16 * (i + n)) → r ≡ rounds h key i (n + 1)
+unfolding rounds
+rounds-next h key i n x r e f = f ∙ rw (add-one, e)
 
-pub spread-whole : (key : List ℕ) (i h : ℕ) → i ≡ 15 → h ≡ spread key i → h ≡ spread key 15
-spread-whole key i h q e = e ∙ ap (spread key) q
+pub rounds-whole : (h : ℕ) (key : List ℕ) (i n k x : ℕ) → k ≡ n → x ≡ rounds h key i k → x ≡ rounds h key i n
+rounds-whole h key i n k x q e = e ∙ ap (rounds h key i) q
+
+pub spread-is : (key : List ℕ) (n first m both r : ℕ) → n ≡ roundsTo (getD key 0 0) → first ≡ rounds (getD key 240 0) key 0 n
+    → m ≡ roundsTo (getD key 113 0 + 1) → both ≡ rounds first key 7 m → r ≡ mixed both key 224 → r ≡ spread key
+unfolding spread
+spread-is key n first m both r p e q f g = rw (← p, ← e, ← q, ← f) g
 
 -- Only the bytes of the key are taken in.
 word-front : (key : List ℕ) (at : ℕ) → at + 4 ≤ keyBytes → wordAt (take keyBytes key) at ≡ wordAt key at
@@ -56,17 +61,30 @@ mixed-front h key at l =
       word-front key (at + 12) (omega arith),
     )
 
-spread-front : (key : List ℕ) (n : ℕ) → n ≤ 15 → spread (take keyBytes key) n ≡ spread key n
+rounds-front : (h : ℕ) (key : List ℕ) (i n : ℕ) → i + n ≤ 15 → rounds h (take keyBytes key) i n ≡ rounds h key i n
+unfolding rounds
+rounds-front h key i zero l = refl
+rounds-front h key i (suc n) l =
+    mixed-front (rounds h (take keyBytes key) i n) key (16 * (i + n)) (omega arith) ∙ ap (λ x. mixed x key (16 * (i + n))) (rounds-front h key i n (omega arith))
+
+spread-front : (key : List ℕ) → spread (take keyBytes key) ≡ spread key
 unfolding spread
-spread-front key zero h = getD-take keyBytes key 240 0 (omega arith)
-spread-front key (suc n) h =
-    mixed-front (spread (take keyBytes key) n) key (16 * n) (omega arith) ∙ ap (λ k. mixed k key (16 * n)) (spread-front key n (omega arith))
+spread-front key =
+    let first : ℕ = rounds (getD key 240 0) key 0 (roundsTo (getD key 0 0)) in
+    rw (
+      getD-take keyBytes key 240 0 (omega arith),
+      getD-take keyBytes key 0 0 (omega arith),
+      getD-take keyBytes key 113 0 (omega arith),
+      rounds-front (getD key 240 0) key 0 (roundsTo (getD key 0 0)) (omega arith),
+      rounds-front first key 7 (roundsTo (getD key 113 0 + 1)) (omega arith),
+    )
+    (mixed-front (rounds first key 7 (roundsTo (getD key 113 0 + 1))) key 224 (omega arith))
 
 -- The bucket of the key that bytes begin with, as the code makes it.
-pub bucket-is : (capacity : ℕ) (key : List ℕ) → 1 ≤ capacity → (h : ℕ) → h ≡ spread key 15 → BucketIs capacity (take keyBytes key) (h % capacity)
+pub bucket-is : (capacity : ℕ) (key : List ℕ) → 1 ≤ capacity → (h : ℕ) → h ≡ spread key → BucketIs capacity (take keyBytes key) (h % capacity)
 unfolding bucketOf
 bucket-is capacity key pos h e = record {
-  is = ap (λ n. n % capacity) (e ∙ sym (spread-front key 15 (omega arith)));
+  is = ap (λ n. n % capacity) (e ∙ sym (spread-front key));
   within = mod-lt h pos;
 }
 

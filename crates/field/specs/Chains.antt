@@ -26,10 +26,21 @@ unfoldable pub mixed : ℕ → List ℕ → ℕ → ℕ
 mixed h key at =
     folded (h * 252097829 + wordAt key at * 261828187 + wordAt key (at + 4) * 141421387 + wordAt key (at + 8) * 173205089 + wordAt key (at + 12) * 223606807)
 
--- n times sixteen bytes of a key, after its last byte
-unfoldable pub spread : List ℕ → ℕ → ℕ
-spread key zero = getD key 240 0
-spread key (suc n) = mixed (spread key n) key (16 * n)
+-- n times sixteen bytes of a key taken into h, from those of number i on
+unfoldable pub rounds : ℕ → List ℕ → ℕ → ℕ → ℕ
+rounds h key i zero = h
+rounds h key i (suc n) = mixed (rounds h key i n) key (16 * (i + n))
+
+-- how many times sixteen bytes reach byte n of a part: at most 8, for no part is longer than 112
+abbrev pub roundsTo : ℕ → ℕ
+roundsTo n = n % 128 / 16 + 1
+
+-- A key in a number: its last byte, of each part the bytes up to its end, for what follows is filling, and the pairs. The length of the first part
+-- is byte 0, that of the second byte 113, in the sixteen bytes of number 7; the pairs begin in those of number 14.
+unfoldable pub spread : List ℕ → ℕ
+spread key =
+    let first = rounds (getD key 240 0) key 0 (roundsTo (getD key 0 0)) in
+    mixed (rounds first key 7 (roundsTo (getD key 113 0 + 1))) key 224
 
 pub record WordIs (key : List ℕ) (at r : ℕ) : Type 0 where
   pub is : r ≡ wordAt key at
@@ -39,9 +50,13 @@ pub record MixIs (h : ℕ) (key : List ℕ) (at r : ℕ) : Type 0 where
   pub is : r ≡ mixed h key at
   pub below : r < 25769803776
 
+pub record RoundsIs (h : ℕ) (key : List ℕ) (i n r : ℕ) : Type 0 where
+  pub is : r ≡ rounds h key i n
+  pub below : r < 25769803776
+
 -- the bucket of a key
 unfoldable pub bucketOf : ℕ → List ℕ → ℕ
-bucketOf capacity key = spread key 15 % capacity
+bucketOf capacity key = spread key % capacity
 
 unfoldable pub bucketAt : ℕ → List ℕ → ℕ → ℕ
 bucketAt capacity work i = bucketOf capacity (keyAt work i)

@@ -2,12 +2,13 @@
 ghost use mathlib.Core.Path.{_≡_};
 ghost use Prim.Native.Nat.{_+_, _*_, _<_, _≤_};
 ghost use lib.ListN.{length, take};
-ghost use Rattle.field.specs.Chains.{spread, WordIs, MixIs, putNumber, BucketIs, Clears, LinkIs, FindsIn};
+ghost use Rattle.field.specs.Chains.{roundsTo, spread, WordIs, MixIs, RoundsIs, putNumber, BucketIs, Clears, LinkIs, FindsIn};
 ghost use Rattle.field.specs.Slot.{keyBytes, slotBytes};
 use crate::find::Found;
 use crate::find::KEY_BYTES;
 use crate::find::SLOT_BYTES;
 use crate::find::same_key;
+use crate::slots::PART_BYTES;
 use terms::frame::size_at;
 
 // Where a bucket's head and a slot's link stand in a slot.
@@ -15,8 +16,10 @@ const HEAD: usize = 242;
 
 const LINK: usize = 244;
 
-// A key is 15 times sixteen bytes and one more.
-const ROUNDS: usize = 15;
+// The sixteen bytes in which the second part begins, and those in which the pairs do.
+const SECOND_ROUND: usize = 7;
+
+const PAIRS_ROUND: usize = 14;
 
 // Four bytes as a number.
 pub fn word(key: &[u8], at: usize) -> usize
@@ -42,18 +45,41 @@ fn mix(h: usize, key: &[u8], at: usize) -> usize
     x % 4294967296 + 5 * (x / 4294967296)
 }
 
-// Takes the bytes of a key into a number.
-fn spread(key: &[u8]) -> usize
-    requires { ⌜ keyBytes ≤ length (now key) ⌝ }
-    ensures { λ r. ⌜ r ≡ spread (now (key .entry)) 15 ⌝ }
+// Takes `count` times sixteen bytes into the number, from those of number `from` on.
+fn mix_rounds(h: usize, key: &[u8], from: usize, count: usize) -> usize
+    requires { ⌜ (h < 25769803776) × (from + count ≤ 15) × (keyBytes ≤ length (now key)) ⌝ }
+    ensures { λ r. ⌜ RoundsIs h (now (key .entry)) from count r ⌝ }
 {
-    let mut h = key[KEY_BYTES - 1] as usize;
+    let mut x = h;
     let mut i = 0;
-    while i < ROUNDS {
-        h = mix(h, key, 16 * i);
+    while i < count {
+        x = mix(x, key, 16 * (from + i));
         i += 1;
     }
-    h
+    x
+}
+
+// How many times sixteen bytes reach byte `n` of a part: at most 8, for no part is longer than 112.
+fn rounds_to(n: usize) -> usize
+    ensures { λ r. ⌜ r ≡ roundsTo n ⌝ }
+{
+    n % 128 / 16 + 1
+}
+
+// Takes a key into a number: of each part the bytes up to its end, for what follows is filling, and the pairs.
+fn spread(key: &[u8]) -> usize
+    requires { ⌜ keyBytes ≤ length (now key) ⌝ }
+    ensures { λ r. ⌜ r ≡ spread (now (key .entry)) ⌝ }
+{
+    let last = key[KEY_BYTES - 1] as usize;
+    let first = mix_rounds(last, key, 0, rounds_to(key[0] as usize));
+    let both = mix_rounds(
+        first,
+        key,
+        SECOND_ROUND,
+        rounds_to(key[PART_BYTES] as usize + 1),
+    );
+    mix(both, key, 16 * PAIRS_ROUND)
 }
 
 // The bucket of the key that the bytes begin with.

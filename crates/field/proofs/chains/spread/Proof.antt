@@ -1,63 +1,71 @@
 -- `field::chains::spread` meets its contract. Assumes nothing.
+use Rattle.field.proofs.ChainLaws.{spread-is}
 use native.Mathlib.Omega.{arith}
 use borrow.Author.Needs.{needs}
-use mathlib.Core.Path.{_≡_, refl}
-use Prim.Native.Nat.{_-_, _<_, _≤_}
-use Rattle.field.specs.Chains.{spread}
-use Rattle.field.proofs.ChainLaws.{spread-next, spread-whole}
 use Rattle.field.proofs.chains.spread.Statement.{statement}
 use Rattle.field.proofs.chains.spread.Tie as tie
 
-abbrev Inv-loop : tie.InvT-loop
-Inv-loop key h₀ i₀ h i = (i ≤ 15) × (h < 25769803776) × (h ≡ spread key i)
+sub-last : tie.Need-sub-last
+sub-last c = search needs
 
-abbrev μ-loop : tie.MeasureT-loop
-μ-loop key h₀ i₀ h i = 15 - i
+shared-slice-read-last : tie.Need-shared-slice-read-last
+shared-slice-read-last c = search needs
 
-sub-h : tie.Need-sub-h Inv-loop μ-loop
-sub-h c = search needs
+cast-last : tie.Need-cast-last
+cast-last c = omega (arith, c .shared-slice-known2 .given 240)
 
-shared-slice-read-h : tie.Need-shared-slice-read-h Inv-loop μ-loop
-shared-slice-read-h c = search needs
+shared-slice-read-rounds-to : tie.Need-shared-slice-read-rounds-to
+shared-slice-read-rounds-to c = search needs
 
-cast-h : tie.Need-cast-h Inv-loop μ-loop
-cast-h c = omega (arith, c .shared-slice-known2 .given 240)
+cast-rounds-to : tie.Need-cast-rounds-to
+cast-rounds-to c = omega (arith, c .shared-slice-known3 .given 0)
 
-loop-holds : tie.Need-loop-holds Inv-loop μ-loop
-unfolding spread
-loop-holds c = (search needs, omega (arith, c .shared-slice-known2 .given 240), refl)
+rounds-to-requires : tie.Need-rounds-to-requires
+rounds-to-requires c κs = search needs
 
-mul-mix : tie.Need-mul-mix Inv-loop μ-loop
+mix-rounds-requires : tie.Need-mix-rounds-requires
+mix-rounds-requires c κs = let l = c .before .before .shared-slice-known2 .given 240 in search needs
+
+shared-slice-read-rounds-to-2 : tie.Need-shared-slice-read-rounds-to-2
+shared-slice-read-rounds-to-2 c = search needs
+
+cast-rounds-to-2 : tie.Need-cast-rounds-to-2
+cast-rounds-to-2 c = omega (arith, c .shared-slice-known4 .given 113)
+
+add-rounds-to : tie.Need-add-rounds-to
+add-rounds-to c = let l = c .shared-slice-known4 .given 113 in search needs
+
+rounds-to-requires-2 : tie.Need-rounds-to-requires-2
+rounds-to-requires-2 c κs = search needs
+
+mix-rounds-requires-2 : tie.Need-mix-rounds-requires-2
+mix-rounds-requires-2 c κs = search needs
+
+mul-mix : tie.Need-mul-mix
 mul-mix c = search needs
 
-mix-requires : tie.Need-mix-requires Inv-loop μ-loop
+mix-requires : tie.Need-mix-requires
 mix-requires c κs = search needs
 
-add-i : tie.Need-add-i Inv-loop μ-loop
-add-i c = search needs
-
-loop-less : tie.Need-loop-less Inv-loop μ-loop
-loop-less c = search needs
-
-loop-again : tie.Need-loop-again Inv-loop μ-loop
-loop-again c = (search needs, c .mix .ensures .below, spread-next _ _ _ _ (c .before .before .loop .inv .2) (c .mix .ensures .is))
-
-returns : tie.Need-returns Inv-loop μ-loop
-returns c = spread-whole _ (c .before .loop .i) _ (omega arith) (c .before .loop .inv .2)
+returns : tie.Need-returns
+returns c = spread-is _ _ _ _ _ _ (c .before .before .before .before .before .rounds-to .ensures) (c .before .before .before .before .mix-rounds .ensures .is) (c .before .before .rounds-to2 .ensures) (c .before .mix-rounds2 .ensures .is) (c .mix .ensures .is)
 
 pub spread-spec : {M : Type 1} → statement M
 spread-spec =
     tie.close
     (tie.spec
-    Inv-loop
-    μ-loop
-    sub-h
-    shared-slice-read-h
-    cast-h
-    loop-holds
+    sub-last
+    shared-slice-read-last
+    cast-last
+    shared-slice-read-rounds-to
+    cast-rounds-to
+    rounds-to-requires
+    mix-rounds-requires
+    shared-slice-read-rounds-to-2
+    cast-rounds-to-2
+    add-rounds-to
+    rounds-to-requires-2
+    mix-rounds-requires-2
     mul-mix
     mix-requires
-    add-i
-    loop-less
-    loop-again
     returns)
