@@ -240,3 +240,9 @@ module _ (area : List ℕ) (at : ℕ) (s : ListedStep) (f : EntryAt area at s) (
           let n : y < nameCount = from-name y (omega (arith, q)) in
           let z : x ≡ y → ⊥ = λ e. omega (arith, p, q, ap c e) in
           apart-at (mapP c K) p q (apart-map c K x y (either x y m n z k (decLt x y)))
+
+  -- where no two names are apart, no two classes are
+  pub none-rewritten : ((k : ℕ) → k < pairCount → holdsApart E (pairAt k .0) (pairAt k .1) ≡ false) → flagsOf [] ≡ flagsOf (mapP (classIn (s .classes)) E)
+  unfolding pairAt
+  none-rewritten h =
+      ap (λ K. flagsOf (mapP (classIn (s .classes)) K)) (sym (keep-none (holdsApart E) allPairs (λ k l. h k (omega (arith, length-pairs))))) ∙ flags-rewritten

@@ -20,14 +20,14 @@ use Rattle.terms.proofs.Stores.{sets-more, run-whole}
 use Rattle.steps.specs.Listed.{ListedStep, namesFrom, classIn}
 use Rattle.field.specs.Entry.{EntryAt, ClassOfIs, TrivialIs}
 use Rattle.field.specs.NameFlags.{HasNames}
-use Rattle.field.specs.PairFlags.{pairCount, pairAt, AddsPair}
+use Rattle.field.specs.PairFlags.{pairCount, pairAt, AddsPair, NoneApartIs}
 use Rattle.field.specs.Situation.{freeFrom, pairsOf, situation}
 use Rattle.field.specs.Slot.{allPairs, flag, flagsOf}
 use Rattle.field.specs.Successors.{extrudedBy, updatedBy}
 use Rattle.field.specs.Update.{AddsIfFree, AddsRow, AddsExtruded, AddsRewritten, RewritesPairs, UpdatedIs, rowCount, ifFree, keptRow, KeptIs}
 use Rattle.field.proofs.EntryLaws.{entry-kind, entry-object}
-use Rattle.field.proofs.KeptPairs.{keep-drop, situation-kept, kept-holds, flags-rewritten}
-use Rattle.field.proofs.PairLaws.{flag-at, flags-are}
+use Rattle.field.proofs.KeptPairs.{keep-drop, situation-kept, kept-holds, flags-rewritten, none-rewritten}
+use Rattle.field.proofs.PairLaws.{length-flags, flag-at, flags-are}
 use Rattle.field.proofs.PairTables.{rows, pair-ordered, pair-below, row-inside, in-row, length-pairs}
 use Rattle.field.proofs.Runs.{length-mapped, mapped-at, fill-run, fill-past}
 
@@ -181,6 +181,16 @@ unfolding AddsExtruded TrivialIs UpdatedIs updatedBy
 updated-trivial flags free area at more a r t q G D s h e f =
     a G D s h e f ∙ ap flagsOf (sym (own-pairs (classIn (s .classes)) (t q s f) (times (extrudedBy s) (freeFrom G 0 nameCount) ++ D)))
 
+-- Where no pair is apart, there is nothing to rewrite.
+pub updated-none : (flags free area : List ℕ) (at : ℕ) (more : List ℕ) → AddsExtruded flags free area at more
+    → (r : Bool) → NoneApartIs more r → r ≡ true → UpdatedIs flags free area at more
+unfolding AddsExtruded NoneApartIs UpdatedIs updatedBy holdsApart flag
+updated-none flags free area at more a r n q G D s h e f =
+    let E : Pairs = times (extrudedBy s) (freeFrom G 0 nameCount) ++ D in
+    let m : more ≡ flagsOf E = a G D s h e f in
+    flags-are [] more (ap length m ∙ length-flags E) (n q) ∙ none-rewritten area at s f E (λ k l. pair-off more k l E m (n q k l))
+
+-- A flag of a name that is free, or not.
 pub free-not : (free v : ℕ) → free ≡ 0 → ifFree free v ≡ 0
 unfolding ifFree
 free-not free v z = rw (eq-eqb free 0 z)

@@ -13,6 +13,7 @@ use crate::entries::trivial;
 use crate::pairs::PAIR_COUNT;
 use crate::pairs::first_of;
 use crate::pairs::mark_pair;
+use crate::pairs::none_apart;
 use crate::pairs::second_of;
 use terms::bytes::get;
 use terms::limits::NAME_COUNT;
@@ -88,6 +89,9 @@ pub fn updated(apart: [u8; PAIR_COUNT], free: &[u8], area: &[u8], at: usize) -> 
     let mut more = apart;
     mark_extruded(&mut more, free, area, at);
     if trivial(area, at) {
+        return more;
+    }
+    if none_apart(&more) {
         return more;
     }
     let mut new = [0u8; PAIR_COUNT];

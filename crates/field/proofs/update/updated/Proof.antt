@@ -1,5 +1,5 @@
 -- `field::update::updated` meets its contract. Assumes nothing.
-use Rattle.field.proofs.UpdateLaws.{updated-is, updated-trivial}
+use Rattle.field.proofs.UpdateLaws.{updated-is, updated-none, updated-trivial}
 use borrow.Author.Needs.{needs}
 use Rattle.field.proofs.update.updated.Statement.{statement}
 use Rattle.field.proofs.update.updated.Tie as tie
@@ -16,6 +16,15 @@ trivial-requires c κs = search needs
 returns : tie.Need-returns
 returns c = updated-trivial _ _ _ _ _ (c .before .before .before .mark-extruded .ensures) _ (c .before .trivial .ensures) (c .if1 .taken)
 
+slice-aggregate-none-apart : tie.Need-slice-aggregate-none-apart
+slice-aggregate-none-apart c = search needs
+
+none-apart-requires : tie.Need-none-apart-requires
+none-apart-requires c κs = search needs
+
+returns-2 : tie.Need-returns-2
+returns-2 c = updated-none _ _ _ _ _ (c .before .before .before .before .before .before .mark-extruded .ensures) _ (c .before .none-apart .ensures) (c .if2 .taken)
+
 slice-aggregate-rewrite : tie.Need-slice-aggregate-rewrite
 slice-aggregate-rewrite c = search needs
 
@@ -25,8 +34,8 @@ slice-aggregate-rewrite-2 c = search needs
 rewrite-requires : tie.Need-rewrite-requires
 rewrite-requires c κs = search needs
 
-returns-2 : tie.Need-returns-2
-returns-2 c = updated-is _ _ _ _ _ _ (c .before .before .before .before .before .before .before .mark-extruded .ensures) (c .before .rewrite .ensures)
+returns-3 : tie.Need-returns-3
+returns-3 c = updated-is _ _ _ _ _ _ (c .before .before .before .before .before .before .before .before .before .before .mark-extruded .ensures) (c .before .rewrite .ensures)
 
 pub updated-spec : {M : Type 1} → statement M
 updated-spec =
@@ -36,7 +45,10 @@ updated-spec =
     mark-extruded-requires
     trivial-requires
     returns
+    slice-aggregate-none-apart
+    none-apart-requires
+    returns-2
     slice-aggregate-rewrite
     slice-aggregate-rewrite-2
     rewrite-requires
-    returns-2)
+    returns-3)
