@@ -2,8 +2,8 @@
 use mathlib.Core.Path.{_≡_, refl, sym, ap, ap₂, _∙_}
 use mathlib.Core.Bool.{Bool, true, false, cond, _&&_}
 use mathlib.Core.List.{List, [], _∷_, _++_, map}
-use mathlib.Core.Logic.{_⊎_, inl, inr}
-use Prim.Native.Nat.{ℕ, zero, suc, _+_, _-_, _<_, _≤_}
+use mathlib.Core.Logic.{inl, inr}
+use Prim.Native.Nat.{ℕ, zero, suc, _+_, _-_, _<_}
 use native.Mathlib.Decide.{decLt}
 use native.Mathlib.Omega.{arith}
 use lib.ListN.{length, getD, drop}
@@ -18,7 +18,7 @@ use Rattle.terms.specs.Operations.{holdsApart}
 use Rattle.terms.proofs.ApartLaws.{holds-apart, apart-holds}
 use Rattle.steps.specs.Listed.{ListedStep, namesFrom, classIn}
 use Rattle.field.specs.Entry.{EntryAt}
-use Rattle.field.specs.PairFlags.{pairCount, pairAt, NumberIs}
+use Rattle.field.specs.PairFlags.{pairCount, pairAt}
 use Rattle.field.specs.Situation.{freeFrom, freeIn, pairsOf, situation}
 use Rattle.field.specs.Slot.{allPairs, flag, flagsOf}
 use Rattle.field.proofs.EntryLaws.{entry-alone}
@@ -166,10 +166,7 @@ kept-holds f k h = go (f a b) refl (holdsApart K a b) refl
     go : (s : Bool) → f a b ≡ s → (t : Bool) → holdsApart K a b ≡ t → holdsApart K a b ≡ f a b
     go true p t q = apart-holds K a b (apart-kept f allPairs k (pairAt k) (omega (arith, length-pairs)) refl p) ∙ sym p
     go false p true q =
-        holds-alike (holds-apart K a b q)
-      where
-        holds-alike : Apart K a b → holdsApart K a b ≡ f a b
-        holds-alike d = q ∙ sym (kept-passed f allPairs (λ j l. pair-ordered j (omega (arith, length-pairs))) a b (pair-ordered k h) d)
+        q ∙ sym (kept-passed f allPairs (λ j l. pair-ordered j (omega (arith, length-pairs))) a b (pair-ordered k h) (holds-apart K a b q))
     go false p false q = q ∙ sym p
 
 -- Distinctions that hold the same pairs of names apart have the same flags.

@@ -12,7 +12,6 @@ use Rattle.calculus.specs.Cond.{Pairs, mapP}
 use Rattle.calculus.specs.Distinction.{among, keep}
 use Rattle.calculus.specs.Free.{fn}
 use Rattle.calculus.specs.OpenBisimulation.{times}
-use Rattle.calculus.specs.Term.{Term}
 use Rattle.terms.specs.Limits.{nameCount}
 use Rattle.terms.specs.Operations.{holdsApart}
 use Rattle.terms.proofs.Filling.{Filling}

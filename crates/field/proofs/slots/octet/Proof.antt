@@ -1,6 +1,5 @@
 -- `field::slots::octet` meets its contract. Assumes nothing.
 use Rattle.field.proofs.KeyLaws.{octet-none, octet-is}
-use Prim.Native.Nat.{_-_}
 use borrow.Author.Needs.{needs}
 use Rattle.field.proofs.slots.octet.Statement.{statement}
 use Rattle.field.proofs.slots.octet.Tie as tie

@@ -6,7 +6,7 @@ use Rattle.field.specs.PairFlags.{pairCount}
 use Rattle.terms.proofs.Filling.{Filling, fill-start}
 use lib.ListN.{length, getD}
 use Prim.Native.Nat.{_-_, _≤_}
-use mathlib.Core.Path.{_≡_, refl, sym, ap, _∙_}
+use mathlib.Core.Path.{_≡_, ap}
 use mathlib.Core.Logic.{⊎-elim}
 use borrow.Author.Needs.{needs}
 use native.Mathlib.Omega.{arith}
