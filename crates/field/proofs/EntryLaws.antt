@@ -6,12 +6,13 @@ use Prim.Native.Nat.{ℕ, zero, suc, _+_, _-_, _<_, _≤_}
 use native.Mathlib.Decide.{decLt}
 use native.Mathlib.Omega.{arith}
 use lib.ListN.{length, getD, drop, replicate, length-append, length-drop, List·getD-append, List·getD-eq-default}
-use lib.Seq.{drop-drop, drop-append-add, getD-drop, getD-append-add}
+use lib.Seq.{drop-drop, drop-append-add, getD-drop, getD-append-add, ext-getD}
 use lib.Dec.{eqb}
 use borrow.Author.Tests.{eq-eqb, ne-eqb}
 use Rattle.terms.specs.Limits.{nameCount, longestTerm}
+use Rattle.steps.specs.Entries.{Alike}
 use Rattle.steps.specs.Listed.{ListedStep, namesFrom, classIn, resultBytes, bytes}
-use Rattle.field.specs.Entry.{EntryAt, ClassOfIs, TrivialIs, BindsIs, ImpliesIs, AnswersIs}
+use Rattle.field.specs.Entry.{EntryAt, ClassOfIs, TrivialIs, SameClassesIs, BindsIs, ImpliesIs, AnswersIs}
 use Rattle.field.specs.Slot.{partBytes}
 use Rattle.field.specs.Successors.{answers, bindsName, implies}
 use Rattle.field.proofs.ClassTests.{in-implies}
@@ -86,6 +87,19 @@ trivial-is area at i t past so q s e m = go (decLt m nameCount)
 pub not-trivial : (area : List ℕ) (at : ℕ) → TrivialIs area at false
 unfolding TrivialIs
 not-trivial area at q = let z : _≡_ {A = ℕ} 0 1 = cc in absurd (omega arith)
+
+-- Two entries with the same bytes at their front have the same classes.
+pub classes-agree : (c d : List ℕ) → length c ≡ nameCount → length d ≡ nameCount → ((n : ℕ) → n < nameCount → classIn c n ≡ classIn d n) → c ≡ d
+unfolding classIn
+classes-agree c d lc ld h =
+    ext-getD 0 c d (lc ∙ sym ld)
+    (λ n l. inside c n 0 n l ∙ h n (omega arith) ∙ inside d n n 0 (omega arith))
+
+pub same-classes : (area : List ℕ) (at : ℕ) (others : List ℕ) (place n : ℕ) → nameCount ≤ n → Alike area at others place n
+    → (s t : ListedStep) → EntryAt area at s → EntryAt others place t → s .classes ≡ t .classes
+same-classes area at others place n long a s t e f =
+    classes-agree (s .classes) (t .classes) (e .count) (f .count)
+    (λ k l. sym (entry-class area at s e k l) ∙ a k (omega arith) ∙ entry-class others place t f k l)
 
 -- What merges no names is implied.
 pub implied-trivial : (area : List ℕ) (at : ℕ) (others : List ℕ) (place : ℕ) (r : Bool) → TrivialIs others place r → r ≡ true

@@ -301,7 +301,7 @@ module _ (arities free apart : List ℕ) (second : Bool) (area : List ℕ) (at :
     answer-none few A = record {
       grows = grows-none capacity work known few;
       keeps = keeps-none work known;
-      is = λ G D s t flags e i f j p.
+      is = λ G D s t flags e i f j own p.
           rw (answered-none second G D s t (sym (A s t e f))) (puts-none arities capacity work known);
     }
 
@@ -312,12 +312,12 @@ module _ (arities free apart : List ℕ) (second : Bool) (area : List ℕ) (at :
     answer-added A key K r work′ a = record {
       grows = a .grows;
       keeps = a .keeps;
-      is = λ G D s t flags e i f j p.
+      is = λ G D s t flags e i f j own p.
           let F : List ℕ = freeFrom G 0 nameCount in
           let o = answered-one second G D s t (sym (A s t e f)) in
           let q : All (Proper nameCount arities) (leading second F D s t ∷ []) = subst (All (Proper nameCount arities)) o p in
           let fit = leading-fits arities second F D s t (fits-first s area at e) (fits-second s t area others at place e f) (q .0) in
-          rw o (a .is arities (leading second F D s t) fit (K G D s t (flags .names) (flags .pairs) e f i j));
+          rw o (a .is arities (leading second F D s t) fit (K G D s t (flags .names) (flags .pairs) e f i j own));
     }
 
   -- The loop over the answers from number `first` on, once the first j are looked at.
@@ -354,7 +354,7 @@ module _ (arities free apart : List ℕ) (second : Bool) (area : List ℕ) (at :
           let t : ListedStep = getD ts j s in
           rw (part-next f (answered-++ second G D s) ts j s h)
           (puts-more arities capacity work₀ known (f (take j ts)) (f (t ∷ [])) now work r work′ (x .is G D s ts flags e i l o p)
-          (g .is G D s t flags e i (l .entry j s more) (l .scope j s more) (all-one (Proper nameCount arities) f (answered-++ second G D s) ts j s h p)))
+          (g .is G D s t flags e i (l .entry j s more) (l .scope j s more) (l .rewritten j s more) (all-one (Proper nameCount arities) f (answered-++ second G D s) ts j s h p)))
 
       next-keeps : (n : ℕ) → r ≡ Known n → KeepsStruck work₀ known n work′
       next-keeps n e = keeps-more work₀ known now n work work′ (x .grows .within now refl .0) (x .keeps) (g .keeps n e)

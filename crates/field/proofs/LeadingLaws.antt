@@ -93,16 +93,16 @@ module _ (arities : List ℕ) (second : Bool) (area : List ℕ) (at : ℕ) (othe
     pub places-first : second ≡ false → (key₁ key₂ : List ℕ) → CopiesResult area at key 0 key₁ → RewritesResult area at others place arities key₁ 113 key₂
         → PlacesResults arities second area at others place key key₂
     unfolding CopiesResult RewritesResult PlacesResults leading placed situation
-    places-first q key₁ key₂ c r s t e f g =
+    places-first q key₁ key₂ c r s t e f g own =
         let R : Term = ren (classIn (s .classes)) (t .result) in
-        rw q (r s t e f g ∙ rw (c s e) (sets-join key 0 113 (partBytes (s .result)) (partBytes R) (omega (arith, length-part (s .result) (own-fits s e)))))
+        rw q (r s t e f g own ∙ rw (c s e) (sets-join key 0 113 (partBytes (s .result)) (partBytes R) (omega (arith, length-part (s .result) (own-fits s e)))))
 
     pub places-second : second ≡ true → (key₁ key₂ : List ℕ) → RewritesResult area at others place arities key 0 key₁ → CopiesResult area at key₁ 113 key₂
         → PlacesResults arities second area at others place key key₂
     unfolding CopiesResult RewritesResult PlacesResults leading placed situation
-    places-second q key₁ key₂ r c s t e f g =
+    places-second q key₁ key₂ r c s t e f g own =
         let R : Term = ren (classIn (s .classes)) (t .result) in
-        rw q (c s e ∙ rw (r s t e f g) (sets-join key 0 113 (partBytes R) (partBytes (s .result)) (omega (arith, length-part R (other-fits s t f)))))
+        rw q (c s e ∙ rw (r s t e f g own) (sets-join key 0 113 (partBytes R) (partBytes (s .result)) (omega (arith, length-part R (other-fits s t f)))))
 
   -- The two parts stand in a key that had room for them.
   parts-stand : (key : List ℕ) (P Q : Term) → InScope nameCount arities 0 P → InScope nameCount arities 0 Q → length (encode 0 P) ≤ longestTerm
@@ -125,7 +125,7 @@ module _ (arities : List ℕ) (second : Bool) (area : List ℕ) (at : ℕ) (othe
       → UpdatedIs apart free area at new → CompletesKey arities new key key′
       → SuccessorIs arities free apart second area at others place key′
   unfolding PlacesResults UpdatedIs CompletesKey SuccessorIs leading placed situation
-  successor-is free apart new key₀ key key′ n p u k G D s t hn ha e f g h = go second refl
+  successor-is free apart new key₀ key key′ n p u k G D s t hn ha e f g h own = go second refl
     where
       R : Term
       R = ren (classIn (s .classes)) (t .result)
@@ -138,8 +138,8 @@ module _ (arities : List ℕ) (second : Bool) (area : List ℕ) (at : ℕ) (othe
 
       go : (b : Bool) → second ≡ b → key′ ≡ keyOf (placed second (s .result) R E)
       go false q = rw q (k (s .result) R E
-          (parts-stand key (s .result) R g scope (own-fits s e) (other-fits s t f) key₀ n (rw q at (p s t e f h)))
+          (parts-stand key (s .result) R g scope (own-fits s e) (other-fits s t f) key₀ n (rw q at (p s t e f h own)))
           (u G D s hn ha e))
       go true q = rw q (k R (s .result) E
-          (parts-stand key R (s .result) scope g (other-fits s t f) (own-fits s e) key₀ n (rw q at (p s t e f h)))
+          (parts-stand key R (s .result) scope g (other-fits s t f) (own-fits s e) key₀ n (rw q at (p s t e f h own)))
           (u G D s hn ha e))

@@ -10,7 +10,7 @@ use native.Mathlib.Omega.{arith}
 use Prim.Native.Nat.{ℕ, zero, suc, _+_, _*_, _<_, _≤_}
 use lib.ListN.{length, getD, drop}
 use lib.Seq.{sets, sets-eq, drop-append-add}
-use Rattle.calculus.specs.Term.{Term}
+use Rattle.calculus.specs.Term.{Term, ren}
 use Rattle.calculus.specs.Free.{In, Free}
 use Rattle.calculus.specs.Definitions.{Defs}
 use Rattle.calculus.specs.Published.{boundNames}
@@ -34,12 +34,13 @@ use Rattle.steps.proofs.ListingLaws.{listing-exact}
 use Rattle.steps.proofs.Membership.{∈-all}
 use Rattle.steps.proofs.QuestionDefinitions.{definitions, bodies-in-scope, opens-one}
 use Rattle.steps.proofs.Scope.{CallsInScope, scope-calls}
-use Rattle.field.specs.Entry.{EntryAt}
+use Rattle.field.specs.Entry.{EntryAt, Rewritten}
 use Rattle.field.specs.Field.{Move}
 use Rattle.field.specs.Setting.{Setting, settingOf}
 use Rattle.field.specs.Successors.{someBinds}
 use Rattle.field.specs.TakingUp.{ListAt, EntriesAt}
-use Rattle.field.proofs.MoveLaws.{listedMove, move-scope, derived-move}
+use Rattle.field.proofs.ClassTests.{listed-class}
+use Rattle.field.proofs.MoveLaws.{listedMove, move-within, move-scope, move-rewritten, derived-move}
 use Rattle.field.proofs.NameLimit.{move-binds}
 
 nth-∈ : {A : Type 0} (xs : List A) (i : ℕ) (d : A) → i < length xs → getD xs i d ∈ xs
@@ -133,6 +134,14 @@ module _ (question part : List ℕ) (x : ℕ) (q : Question) (P : Term) (l : Lis
             subst (λ t. InScope nameCount (q .arities) 0 (t .result)) (sym e)
             (move-scope Δ S m (q .arities) (l .scope) closed (below m))
 
+    step-rewritten : (s : ListedStep) → s ∈ ss → Rewritten s
+    unfolding settingOf listedAs
+    step-rewritten s k =
+        let (m, e) = derived-move Δ S (step-derived s k) in
+        subst Rewritten (sym e)
+        (ap (λ c. ren c (m .result)) (listed-class nameCount (m .condition) (m .action) (m .result) (move-within Δ S m (q .arities) (l .scope)))
+        ∙ move-rewritten Δ S m)
+
     module _ (area area′ : List ℕ) (room : mostSteps * stepBytes ≤ length area) (few : length ss ≤ mostSteps)
         (stored : area′ ≡ sets area 0 (listBytes ss)) where
       begins : area′ ≡ listBytes ss ++ drop (0 + length (listBytes ss)) area
@@ -161,4 +170,5 @@ module _ (question part : List ℕ) (x : ℕ) (q : Question) (P : Term) (l : Lis
         number = refl;
         entry = entry-at;
         scope = λ i d h. step-scope within (getD ss i d) (nth-∈ ss i d h);
+        rewritten = λ i d h. step-rewritten (getD ss i d) (nth-∈ ss i d h);
       }

@@ -10,9 +10,10 @@ use Rattle.calculus.specs.Free.{In, Free}
 use Rattle.calculus.specs.Cond.{Cond, cls, canonical}
 use Rattle.calculus.specs.Definitions.{Defs}
 use Rattle.calculus.specs.Published.{Action, silent, input, output, newOutput, boundNames, renAction, Transition, Canon}
-use Rattle.calculus.proofs.Conditions.{cls-le}
+use Rattle.calculus.proofs.Conditions.{E1, cls-le}
 use Rattle.calculus.proofs.FreeNames.{From, of-free-ren}
 use Rattle.calculus.proofs.PublishedSteps.{act, fill, unname}
+use Rattle.calculus.proofs.Renaming.{ren-triangle}
 use Rattle.calculus.proofs.Working.{Trans}
 use Rattle.calculus.proofs.WorkingNames.{resid-free}
 use Rattle.terms.specs.Encoding.{InScope}
@@ -75,6 +76,11 @@ module _ (Δ : Defs) where
         calls-ren arities P′ (cls (canonical N))
         (subst (CallsInScope arities) (sym (u .filled)) (calls-fill arities α (u .abs) (calls-residual arities Δ bodies (u .step) c)))
 
+  -- rule Canon rewrites the result, and to do it again changes nothing
+  result-rewritten : {P : Term} {M : Cond} {α : Action} {P′ : Term} → Transition Δ P M α P′ → ren (cls M) P′ ≡ P′
+  result-rewritten (Canon {N = N} {α = α} {P′ = P′} s av) =
+      let σ : ℕ → ℕ = cls (canonical N) in ren-triangle σ σ σ P′ (E1 (canonical N))
+
   module _ (S : Setting) {x : ℕ} {P : Term} (m : Move Δ S x P) where
     -- a move as it is listed
     abbrev pub listedMove : ListedStep
@@ -89,6 +95,9 @@ module _ (Δ : Defs) where
       binds = m .binds;
       listed = refl;
     }
+
+    pub move-rewritten : ren (cls (m .condition)) (m .result) ≡ m .result
+    move-rewritten = result-rewritten (m .transition)
 
     -- the new name is its own class
     pub move-fixes : ¬ Free x P → cls (m .condition) x ≡ x

@@ -1,5 +1,5 @@
 -- A result copied as a part, and one rewritten by a condition. Assumes nothing.
-use mathlib.Core.Path.{_≡_, refl, sym, ap, fun-ext, _∙_}
+use mathlib.Core.Path.{_≡_, refl, sym, ap, _∙_}
 use mathlib.Core.Bool.{Bool, true}
 use mathlib.Core.List.{List, [], _∷_, _++_}
 use Prim.Native.Nat.{ℕ, suc, _+_, _-_, _<_, _≤_}
@@ -7,7 +7,6 @@ use native.Mathlib.Omega.{arith}
 use lib.ListN.{length, getD, take, drop, set, replicate}
 use lib.Seq.{sets, set-set, set-comm, take-at, getD-take, getD-drop, length-sets}
 use Rattle.calculus.specs.Term.{ren}
-use Rattle.calculus.proofs.Renaming.{ren-id}
 use Rattle.terms.specs.Encoding.{encode, InScope}
 use Rattle.terms.specs.Limits.{nameCount, longestTerm}
 use Rattle.terms.specs.Renaming.{RenameIs}
@@ -15,7 +14,7 @@ use Rattle.terms.proofs.NameTables.{represents-free}
 use Rattle.terms.proofs.Shapes.{length-ren}
 use Rattle.steps.specs.Limits.{stepBytes}
 use Rattle.steps.specs.Listed.{ListedStep, classIn, resultBytes}
-use Rattle.field.specs.Entry.{EntryAt, TrivialIs}
+use Rattle.field.specs.Entry.{EntryAt, SameClassesIs}
 use Rattle.field.specs.Resulting.{CopiesResult, RewritesResult}
 use Rattle.field.specs.Slot.{partBytes}
 use Rattle.field.proofs.EntryLaws.{entry-class, entry-result}
@@ -29,14 +28,14 @@ copies-result area at slot put slot′ w s e =
     w ∙ ap (sets slot put) (ap (λ k. take 113 (drop k area)) n ∙ ap (take 113) (entry-result area at s e)
     ∙ take-at (partBytes (s .result)) (e .rest) 113 (length-part (s .result) (e .fits)))
 
--- What merges no names rewrites nothing.
-pub copied-trivial : (area : List ℕ) (at : ℕ) (others : List ℕ) (place : ℕ) (arities slot : List ℕ) (put : ℕ) (slot₁ : List ℕ)
-    → CopiesResult others place slot put slot₁ → (r : Bool) → TrivialIs area at r → r ≡ true
+-- What is rewritten by a condition already is not rewritten by the same one.
+pub copied-same : (area : List ℕ) (at : ℕ) (others : List ℕ) (place : ℕ) (arities slot : List ℕ) (put : ℕ) (slot₁ : List ℕ)
+    → CopiesResult others place slot put slot₁ → (r : Bool) → SameClassesIs area at others place r → r ≡ true
     → RewritesResult area at others place arities slot put slot₁
-unfolding CopiesResult TrivialIs RewritesResult
-copied-trivial area at others place arities slot put slot₁ w r h q s t e f scope =
+unfolding CopiesResult SameClassesIs RewritesResult
+copied-same area at others place arities slot put slot₁ w r h q s t e f scope own =
     let P = t .result in
-    w t f ∙ ap (λ Q. sets slot put (partBytes Q)) (sym (ap (λ c. ren c P) (fun-ext (h q s e)) ∙ ren-id P))
+    w t f ∙ ap (λ Q. sets slot put (partBytes Q)) (sym (ap (λ c. ren (classIn c) P) (h q s t e f) ∙ own))
 
 -- A store before a run of stores may come after it.
 set-first : (l zs : List ℕ) (p q y : ℕ) → p < q → set (sets l q zs) p y ≡ sets (set l p y) q zs
@@ -59,7 +58,7 @@ module _ (area : List ℕ) (at : ℕ) (others : List ℕ) (place : ℕ) (arities
       → RenameIs others (place + 18 + 2) arities (take (length area - at) (drop at area)) slot₁ (put + 1) r slot₂
       → RewritesResult area at others place arities slot put slot₂
   unfolding CopiesResult RenameIs RewritesResult partBytes resultBytes
-  rewrites-result slot₁ r slot₂ w R s t e f scope =
+  rewrites-result slot₁ r slot₂ w R s t e f scope own =
       let c : ℕ → ℕ = classIn (s .classes) in
       let P = t .result in
       let fill : List ℕ = replicate (longestTerm - length (encode 0 P)) 0 in

@@ -4,6 +4,7 @@ use mathlib.Core.Bool.{Bool, true}
 use mathlib.Core.List.{List, _++_}
 use Prim.Native.Nat.{ℕ, _<_, _≤_}
 use lib.ListN.{length, drop}
+use Rattle.calculus.specs.Term.{ren}
 use Rattle.terms.specs.Limits.{nameCount, longestTerm}
 use Rattle.steps.specs.Listed.{ListedStep, namesFrom, classIn, resultBytes, bytes}
 use Rattle.field.specs.Successors.{answers, bindsName, implies}
@@ -16,12 +17,21 @@ pub record EntryAt (area : List ℕ) (at : ℕ) (s : ListedStep) : Type 0 where
   pub within : (n : ℕ) → n < nameCount → classIn (s .classes) n < nameCount
   pub fits : length (resultBytes s) ≤ longestTerm
 
+-- Its result is rewritten by its condition, as document 01 says.
+abbrev pub Rewritten : ListedStep → Type 0
+Rewritten s = ren (classIn (s .classes)) (s .result) ≡ s .result
+
 unfoldable pub ClassOfIs : List ℕ → ℕ → ℕ → ℕ → Type 0
 ClassOfIs area at n r = (s : ListedStep) → EntryAt area at s → r ≡ classIn (s .classes) n
 
 -- A test that is met says that each name is its own class.
 unfoldable pub TrivialIs : List ℕ → ℕ → Bool → Type 0
 TrivialIs area at r = r ≡ true → (s : ListedStep) → EntryAt area at s → (n : ℕ) → classIn (s .classes) n ≡ n
+
+-- A test that is met says that the conditions are the same.
+unfoldable pub SameClassesIs : List ℕ → ℕ → List ℕ → ℕ → Bool → Type 0
+SameClassesIs area at others place r =
+    r ≡ true → (s t : ListedStep) → EntryAt area at s → EntryAt others place t → s .classes ≡ t .classes
 
 unfoldable pub BindsIs : List ℕ → ℕ → Bool → Type 0
 BindsIs area at r = (s : ListedStep) → EntryAt area at s → r ≡ bindsName s

@@ -15,7 +15,7 @@ use Rattle.terms.specs.Question.{Question, checkOf}
 use Rattle.steps.specs.Listed.{ListedStep}
 use Rattle.steps.specs.Lists.{All}
 use Rattle.field.specs.Chains.{Chained}
-use Rattle.field.specs.Entry.{EntryAt}
+use Rattle.field.specs.Entry.{EntryAt, Rewritten}
 use Rattle.field.specs.Exploration.{found, together, unanswered}
 use Rattle.field.specs.Holding.{SlotsHold}
 use Rattle.field.specs.Leading.{placed, leading}
@@ -107,7 +107,7 @@ pub record GrowsAnswer (arities free apart : List ℕ) (second : Bool) (area : L
   pub keeps : (n : ℕ) → r ≡ Known n → KeepsStruck work known n work′
   pub is : (G : List ℕ) (D : Pairs) (s t : ListedStep) → Flagged free apart G D
       → EntryAt area at s → InScope nameCount arities 0 (s .result)
-      → EntryAt others place t → InScope nameCount arities 0 (t .result)
+      → EntryAt others place t → InScope nameCount arities 0 (t .result) → Rewritten t
       → All (Proper nameCount arities) (answered second G D s (t ∷ []))
       → Puts arities capacity work known (answered second G D s (t ∷ [])) r work′
 

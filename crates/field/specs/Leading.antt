@@ -13,7 +13,7 @@ use Rattle.terms.specs.Encoding.{encode, InScope}
 use Rattle.terms.specs.Limits.{nameCount, longestTerm}
 use Rattle.terms.specs.Question.{Question, checkOf}
 use Rattle.steps.specs.Listed.{ListedStep, classIn}
-use Rattle.field.specs.Entry.{EntryAt}
+use Rattle.field.specs.Entry.{EntryAt, Rewritten}
 use Rattle.field.specs.NameFlags.{HasNames}
 use Rattle.field.specs.Situation.{Situation, freeFrom, situation, startOf}
 use Rattle.field.specs.Slot.{partBytes, flagsOf, octets, keyOf}
@@ -41,7 +41,7 @@ pub record PartsStand (arities key : List ℕ) (P Q : Term) : Type 0 where
 -- The results of the step and of its answer are put on their sides.
 unfoldable pub PlacesResults : List ℕ → Bool → List ℕ → ℕ → List ℕ → ℕ → List ℕ → List ℕ → Type 0
 PlacesResults arities second area at others place key key′ =
-    (s t : ListedStep) → EntryAt area at s → EntryAt others place t → InScope nameCount arities 0 (t .result)
+    (s t : ListedStep) → EntryAt area at s → EntryAt others place t → InScope nameCount arities 0 (t .result) → Rewritten t
     → (let u = leading second [] [] s t in key′ ≡ sets key 0 (partBytes (u .first) ++ partBytes (u .second)))
 
 -- The names free in the parts of a key.
@@ -56,7 +56,7 @@ CompletesKey arities apart key key′ =
 unfoldable pub SuccessorIs : List ℕ → List ℕ → List ℕ → Bool → List ℕ → ℕ → List ℕ → ℕ → List ℕ → Type 0
 SuccessorIs arities free apart second area at others place key =
     (G : List ℕ) (D : Pairs) (s t : ListedStep) → HasNames free G → apart ≡ flagsOf D → EntryAt area at s → EntryAt others place t
-    → InScope nameCount arities 0 (s .result) → InScope nameCount arities 0 (t .result)
+    → InScope nameCount arities 0 (s .result) → InScope nameCount arities 0 (t .result) → Rewritten t
     → key ≡ keyOf (leading second (freeFrom G 0 nameCount) D s t)
 
 unfoldable pub StartIs : List ℕ → List ℕ → Type 0

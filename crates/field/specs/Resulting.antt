@@ -8,7 +8,7 @@ use Rattle.calculus.specs.Term.{ren}
 use Rattle.terms.specs.Encoding.{InScope}
 use Rattle.terms.specs.Limits.{nameCount}
 use Rattle.steps.specs.Listed.{ListedStep, classIn}
-use Rattle.field.specs.Entry.{EntryAt}
+use Rattle.field.specs.Entry.{EntryAt, Rewritten}
 use Rattle.field.specs.Slot.{partBytes}
 
 -- The result of the step at `at`, as a part.
@@ -18,5 +18,5 @@ CopiesResult area at slot put slot′ = (s : ListedStep) → EntryAt area at s �
 -- The other side's result, rewritten by the condition of the step.
 unfoldable pub RewritesResult : List ℕ → ℕ → List ℕ → ℕ → List ℕ → List ℕ → ℕ → List ℕ → Type 0
 RewritesResult area at others place arities slot put slot′ =
-    (s t : ListedStep) → EntryAt area at s → EntryAt others place t → InScope nameCount arities 0 (t .result)
+    (s t : ListedStep) → EntryAt area at s → EntryAt others place t → InScope nameCount arities 0 (t .result) → Rewritten t
     → slot′ ≡ sets slot put (partBytes (ren (classIn (s .classes)) (t .result)))

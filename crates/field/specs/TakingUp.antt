@@ -13,7 +13,7 @@ use Rattle.terms.specs.Question.{Question, checkOf}
 use Rattle.steps.specs.Limits.{stepBytes, mostSteps}
 use Rattle.steps.specs.Listed.{ListedStep}
 use Rattle.steps.specs.PartLister as lister
-use Rattle.field.specs.Entry.{EntryAt}
+use Rattle.field.specs.Entry.{EntryAt, Rewritten}
 use Rattle.field.specs.Key.{SituationAt}
 use Rattle.field.specs.Leading.{placed}
 use Rattle.field.specs.NameFlags.{HasNames}
@@ -25,11 +25,12 @@ use Rattle.field.specs.declared.taking.Lists.{Lists}
 use Rattle.field.specs.declared.taking.Lists.the-variants.{Past, Listed}
 use Rattle.field.specs.declared.taking.TakenUp.{TakenUp}
 
--- A list of steps in an area, each at its place, with results of the question's definitions.
+-- A list of steps in an area, each at its place, with results of the question's definitions, rewritten by the conditions.
 pub record ListAt (arities area : List ℕ) (count : ℕ) (ss : List ListedStep) : Type 0 where
   pub number : length ss ≡ count
   pub entry : (i : ℕ) (d : ListedStep) → i < count → EntryAt area (stepBytes * i) (getD ss i d)
   pub scope : (i : ℕ) (d : ListedStep) → i < count → InScope nameCount arities 0 (getD ss i d .result)
+  pub rewritten : (i : ℕ) (d : ListedStep) → i < count → Rewritten (getD ss i d)
 
 -- The steps of a list at their places, whatever names their results have; and whether one of them binds a name.
 unfoldable pub EntriesAt : List ℕ → ℕ → List ListedStep → Type 0

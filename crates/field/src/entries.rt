@@ -1,7 +1,9 @@
 // Tests over listed steps, each an entry of a list: the list, and where the entry begins.
-ghost use Prim.Native.Nat.{_≤_};
+ghost use Prim.Native.Nat.{_+_, _≤_};
 ghost use lib.ListN.{length};
-ghost use Rattle.field.specs.Entry.{ClassOfIs, TrivialIs, BindsIs, ImpliesIs, AnswersIs};
+ghost use Rattle.steps.specs.Limits.{stepBytes};
+ghost use Rattle.field.specs.Entry.{ClassOfIs, TrivialIs, SameClassesIs, BindsIs, ImpliesIs, AnswersIs};
+use steps::listed::alike;
 use terms::bytes::get;
 use terms::limits::NAME_COUNT;
 
@@ -42,6 +44,14 @@ pub fn trivial(area: &[u8], at: usize) -> bool
         n += 1;
     }
     own
+}
+
+// Whether the conditions of two steps are the same.
+pub fn same_classes(area: &[u8], at: usize, others: &[u8], place: usize) -> bool
+    requires { ⌜ (at + stepBytes ≤ length (now area)) × (place + stepBytes ≤ length (now others)) ⌝ }
+    ensures { λ r. ⌜ SameClassesIs (now (area .entry)) at (now (others .entry)) place r ⌝ }
+{
+    alike(area, at, others, place, NAME_COUNT)
 }
 
 // Whether the step receives or extrudes a name.

@@ -7,7 +7,7 @@ ghost use Rattle.field.specs.Resulting.{CopiesResult, RewritesResult};
 ghost use Rattle.field.specs.Slot.{keyBytes};
 ghost use Rattle.steps.specs.Limits.{stepBytes};
 use crate::entries::OBJECT;
-use crate::entries::trivial;
+use crate::entries::same_classes;
 use crate::find::KEY_BYTES;
 use crate::names::free_in_either;
 use crate::pairs::PAIR_COUNT;
@@ -31,7 +31,7 @@ fn copy_result(area: &[u8], at: usize, slot: &mut [u8], put: usize)
     copy(area, at + OBJECT + 1, PART_BYTES, slot, put);
 }
 
-// Writes the other side's result, rewritten by the condition of the step at `at`.
+// Writes the other side's result, rewritten by the condition of the step at `at`. By its own condition it is rewritten already.
 fn rewrite_result(
     area: &[u8],
     at: usize,
@@ -45,7 +45,7 @@ fn rewrite_result(
     ensures { λ _. ⌜ RewritesResult (now (area .entry)) at (now (others .entry)) place (now (arities .entry)) (now (slot .entry)) put (now (slot .exit)) ⌝ }
 {
     copy_result(others, place, slot, put);
-    if trivial(area, at) {
+    if same_classes(area, at, others, place) {
         return;
     }
     rename(

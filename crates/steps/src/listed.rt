@@ -71,7 +71,7 @@ pub fn action_bytes(class: &[u8], action: Action, x: u8) -> ActionBytes
 }
 
 // Whether the `n` bytes at `i` and at `j` are alike. All are looked at, so that the processor can take many at once.
-fn alike(a: &[u8], i: usize, b: &[u8], j: usize, n: usize) -> bool
+pub fn alike(a: &[u8], i: usize, b: &[u8], j: usize, n: usize) -> bool
     requires { ⌜ (i + n ≤ length (now a)) × (j + n ≤ length (now b)) ⌝ }
     ensures { λ r. ⌜ AlikeIs (now (a .entry)) i (now (b .entry)) j n r ⌝ }
 {

@@ -80,20 +80,20 @@ nothing-left capacity work count key f C i m q only = absurd (f .is C i m q)
 module _ (arities : List ℕ) (capacity : ℕ) (work : List ℕ) (count : ℕ) (free apart : List ℕ) (second : Bool) (area : List ℕ) (at : ℕ) (others : List ℕ) (place : ℕ) where
   pub no-answer : (b : Bool) → AnswersIs area at others place b → b ≡ false → AnswerLeftIs arities capacity work count free apart second area at others place false
   unfolding AnswersIs AnswerLeftIs
-  no-answer b h q known G D s t n st names pairs e f scope scope′ closed =
+  no-answer b h q known G D s t n st names pairs e f scope scope′ own closed =
       ap (λ b. b && found (leftOf work known) (leading second (freeFrom G 0 nameCount) D s t)) (sym q ∙ h s t e f)
 
   pub answer-left-is : (key : List ℕ) (b r : Bool) → AnswersIs area at others place b → b ≡ true → SuccessorIs arities free apart second area at others place key
       → LeftIs capacity work count key r → AnswerLeftIs arities capacity work count free apart second area at others place r
   unfolding AnswersIs SuccessorIs LeftIs LeftAtIs AnswerLeftIs
-  answer-left-is key b r h q k l known G D s t n st names pairs e f scope scope′ closed =
+  answer-left-is key b r h q k l known G D s t n st names pairs e f scope scope′ own closed =
       let u : Situation = leading second (freeFrom G 0 nameCount) D s t in
       let may = sym q ∙ h s t e f in
       let m = ∈-number u known (closed (sym may)) in
       let held : SituationAt work (slotBytes * m .0) u = subst (SituationAt work (slotBytes * m .0)) (sym (m .2 u)) (st .held (m .0) u (m .1)) in
       let there : keyAt work (m .0) ≡ take keyBytes key =
       slot-key work (m .0) u held
-      ∙ sym (whole-key key u (record { first = held .first; second = held .second }) (k G D s t names pairs e f scope scope′)) in
+      ∙ sym (whole-key key u (record { first = held .first; second = held .second }) (k G D s t names pairs e f scope scope′ own)) in
       l (subst (Chained capacity work) n (st .chained)) (m .0) (omega (arith, m .1)) there
       (λ j b q. st .once j (m .0) (omega arith) (m .1) (q ∙ sym there))
       ∙ sym (left-found work known st (m .0) u u (m .1) (sym (m .2 u)))

@@ -105,6 +105,7 @@ module _ (arities : List ℕ) (capacity : ℕ) (work : List ℕ) (count : ℕ) (
     reply-is l r g a =
         a (p .known) (p .names) (p .pairs) (step p k) (reply p l) (p .number) (p .standing) (p .free-names) (p .apart-pairs)
         (p .mine .entry k noStep h) (p .theirs .entry l noStep g) (p .mine .scope k noStep h) (p .theirs .scope l noStep g)
+        (p .theirs .rewritten l noStep g)
         (λ e. p .closed (reachedAll p k) step-in (reached p k l) (reply-in l g e))
 
     -- none of the replies

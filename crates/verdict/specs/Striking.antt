@@ -14,7 +14,7 @@ use Rattle.terms.specs.Question.{Question, checkOf}
 use Rattle.steps.specs.Listed.{ListedStep}
 use Rattle.steps.specs.Lists.{_∈_}
 use Rattle.field.specs.Chains.{Chained}
-use Rattle.field.specs.Entry.{EntryAt}
+use Rattle.field.specs.Entry.{EntryAt, Rewritten}
 use Rattle.field.specs.Exploration.{found, unanswered}
 use Rattle.field.specs.Key.{SituationAt, keyAt}
 use Rattle.field.specs.Leading.{placed, leading}
@@ -69,6 +69,7 @@ unfoldable pub AnswerLeftIs : List ℕ → ℕ → List ℕ → ℕ → List ℕ
 AnswerLeftIs arities capacity work count free apart second area at others place r =
     (known : List Situation) (G : List ℕ) (D : Pairs) (s t : ListedStep) → length known ≡ count → Standing capacity work known → HasNames free G
     → apart ≡ flagsOf D → EntryAt area at s → EntryAt others place t → InScope nameCount arities 0 (s .result) → InScope nameCount arities 0 (t .result)
+    → Rewritten t
     → (answers nameCount s t ≡ true → leading second (freeFrom G 0 nameCount) D s t ∈ known)
     → r ≡ (answers nameCount s t && found (leftOf work known) (leading second (freeFrom G 0 nameCount) D s t))
 

@@ -1,6 +1,6 @@
 -- `field::results::rewrite_result` meets its contract. Assumes nothing.
 use Prim.Native.Nat.{_-_}
-use Rattle.field.proofs.ResultLaws.{rewrites-result, copied-trivial}
+use Rattle.field.proofs.ResultLaws.{rewrites-result, copied-same}
 use borrow.Author.Needs.{needs}
 use Rattle.field.proofs.results.rewrite_result.Statement.{statement}
 use Rattle.field.proofs.results.rewrite_result.Tie as tie
@@ -8,14 +8,14 @@ use Rattle.field.proofs.results.rewrite_result.Tie as tie
 copy-result-requires : tie.Need-copy-result-requires
 copy-result-requires c κs = search needs
 
-trivial-requires : tie.Need-trivial-requires
-trivial-requires c κs = search needs
+same-classes-requires : tie.Need-same-classes-requires
+same-classes-requires c κs = search needs
 
 same-length : tie.Need-same-length
 same-length c = search needs
 
 returns : tie.Need-returns
-returns c = copied-trivial _ _ _ _ _ _ _ _ (c .before .before .before .before .copy-result .ensures) _ (c .before .trivial .ensures) (c .if1 .taken)
+returns c = copied-same _ _ _ _ _ _ _ _ (c .before .before .before .before .copy-result .ensures) _ (c .before .same-classes .ensures) (c .if1 .taken)
 
 add-rename : tie.Need-add-rename
 add-rename c = search needs
@@ -49,7 +49,7 @@ rewrite-result-spec =
     tie.close
     (tie.spec
     copy-result-requires
-    trivial-requires
+    same-classes-requires
     same-length
     returns
     add-rename
