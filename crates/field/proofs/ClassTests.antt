@@ -92,6 +92,20 @@ in-names n (suc k) m h l = go (ℕ-discrete m n) (λ h′. in-names (suc n) k m 
     go (yes e) r = inl e
     go (no d) r = inr (r (omega arith))
 
+-- What answers a step without a condition has none either, and the same action.
+pub answers-trivial : (names : ℕ) (s t : ListedStep) → ((n : ℕ) → classIn (s .classes) n ≡ n) → answers names s t ≡ true
+    → (s .kind ≡ t .kind) × (s .channel ≡ t .channel) × (s .object ≡ t .object) × ((n : ℕ) → n < names → classIn (s .classes) n ≡ classIn (t .classes) n)
+unfolding answers
+answers-trivial names s t own e =
+    let c = s .classes in
+    let (k, h, o, i) = all-four (eqb (s .kind) (t .kind)) (eqb (s .channel) (classIn c (t .channel))) (eqb (s .object) (classIn c (t .object)))
+    (implies c (t .classes) (namesFrom 0 names)) e in (
+      eqb-true (s .kind) (t .kind) k,
+      eqb-true (s .channel) (classIn c (t .channel)) h ∙ own (t .channel),
+      eqb-true (s .object) (classIn c (t .object)) o ∙ own (t .object),
+      λ n l. sym (implies-in c (t .classes) (namesFrom 0 names) i n (in-names 0 names n (omega arith) (omega arith))) ∙ own (classIn (t .classes) n),
+    )
+
 -- Equal actions, from their bytes: a bound name is its own class.
 abbrev OwnClass : (ℕ → ℕ) → Action → Type 0
 OwnClass σ β = (y : ℕ) → In y (boundNames β) → σ y ≡ y

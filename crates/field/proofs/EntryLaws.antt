@@ -12,10 +12,10 @@ use borrow.Author.Tests.{eq-eqb, ne-eqb}
 use Rattle.terms.specs.Limits.{nameCount, longestTerm}
 use Rattle.steps.specs.Entries.{Alike}
 use Rattle.steps.specs.Listed.{ListedStep, namesFrom, classIn, resultBytes, bytes}
-use Rattle.field.specs.Entry.{EntryAt, ClassOfIs, TrivialIs, SameClassesIs, BindsIs, ImpliesIs, AnswersIs}
+use Rattle.field.specs.Entry.{EntryAt, ClassOfIs, TrivialIs, SameHeader, BindsIs, ImpliesIs, AnswersIs}
 use Rattle.field.specs.Slot.{partBytes}
 use Rattle.field.specs.Successors.{answers, bindsName, implies}
-use Rattle.field.proofs.ClassTests.{in-implies}
+use Rattle.field.proofs.ClassTests.{in-implies, answers-trivial}
 use Rattle.field.proofs.Counting.{Passing}
 
 -- what stands behind the end matters not within
@@ -100,6 +100,23 @@ pub same-classes : (area : List ℕ) (at : ℕ) (others : List ℕ) (place n : �
 same-classes area at others place n long a s t e f =
     classes-agree (s .classes) (t .classes) (e .count) (f .count)
     (λ k l. sym (entry-class area at s e k l) ∙ a k (omega arith) ∙ entry-class others place t f k l)
+
+pub same-header : (area : List ℕ) (at : ℕ) (others : List ℕ) (place n : ℕ) → n ≡ 19 → Alike area at others place n
+    → (s t : ListedStep) → EntryAt area at s → EntryAt others place t → SameHeader s t
+same-header area at others place n q a s t e f = record {
+  classes = same-classes area at others place n (omega arith) a s t e f;
+  kind = sym (entry-kind area at s e) ∙ a 16 (omega arith) ∙ entry-kind others place t f;
+  channel = sym (entry-channel area at s e) ∙ a 17 (omega arith) ∙ entry-channel others place t f;
+  object = sym (entry-object area at s e) ∙ a 18 (omega arith) ∙ entry-object others place t f;
+}
+
+-- What answers a step without a condition has its header.
+pub trivial-header : (area : List ℕ) (at : ℕ) (r : Bool) → TrivialIs area at r → r ≡ true → (others : List ℕ) (place : ℕ) (s t : ListedStep)
+    → EntryAt area at s → EntryAt others place t → answers nameCount s t ≡ true → SameHeader s t
+unfolding TrivialIs
+trivial-header area at r h q others place s t e f a =
+    let (k, c, o, same) = answers-trivial nameCount s t (h q s e) a in
+    record { classes = classes-agree (s .classes) (t .classes) (e .count) (f .count) same; kind = k; channel = c; object = o }
 
 -- What merges no names is implied.
 pub implied-trivial : (area : List ℕ) (at : ℕ) (others : List ℕ) (place : ℕ) (r : Bool) → TrivialIs others place r → r ≡ true

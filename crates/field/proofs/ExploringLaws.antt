@@ -155,7 +155,7 @@ module _ (q : Question) (capacity : ℕ) (work : List ℕ) (known taken : ℕ) (
 
   knows-all : Knows (q .arities) capacity work′ n all
   unfolding Puts GrowsTo
-  knows-all = f .puts (y .ks) (y .knows)
+  knows-all = f .puts (y .ks) (y .knows) tt
 
   struck-now : (i : ℕ) (ns : List (List Situation)) → i < taken + 1 → successors (settingOf (q .bodies)) (getD all i (startOf q)) ≡ leads ns
       → getD work′ (struckAt i) 0 ≡ flag (unanswered ns)
@@ -239,7 +239,7 @@ module _ (question : List ℕ) (capacity : ℕ) (work₀ : List ℕ) where
             → Follows (q .arities) capacity taken o work known Full work′ → fieldOf (settingOf (q .bodies)) capacity (startOf q) ≡ incomplete
         none q y pastLimit e f = exploring-past (settingOf (q .bodies)) capacity (startOf q) (y .ks) taken (y .exploring) (omega (arith, y .knows .count)) e
         none q y (leads ms) e f =
-            exploring-full (settingOf (q .bodies)) capacity (startOf q) (y .ks) taken (y .exploring) (omega (arith, y .knows .count)) ms e (f .puts (y .ks) (y .knows))
+            exploring-full (settingOf (q .bodies)) capacity (startOf q) (y .ks) taken (y .exploring) (omega (arith, y .knows .count)) ms e (f .puts (y .ks) (y .knows) tt)
 
   pub explorers-end : (work : List ℕ) (known taken : ℕ) → Explorers work known taken → taken ≡ known → 1 ≤ known → known ≤ capacity
       → ExploreIs question capacity work₀ (Field known) work

@@ -1,6 +1,7 @@
 -- The known situations grow: by one, by what the answers to a step lead to, by what the steps of a side lead to. Assumes nothing.
 use mathlib.Core.Bool.{Bool, true, false, cond, _||_}
 use mathlib.Core.List.{List, [], _∷_, _++_, map, append-nil}
+use mathlib.Core.Logic.{inl}
 use mathlib.Core.Path.{_≡_, refl, sym, _∙_, ap, ap₂, subst}
 use native.Mathlib.Decide.{decLt}
 use native.Mathlib.Omega.{arith}
@@ -15,12 +16,12 @@ use Rattle.terms.specs.Limits.{nameCount, longestTerm}
 use Rattle.terms.proofs.Shapes.{length-ren}
 use Rattle.steps.specs.Limits.{stepBytes}
 use Rattle.steps.specs.Listed.{ListedStep, classIn, resultBytes}
-use Rattle.steps.specs.Lists.{All}
-use Rattle.steps.proofs.Membership.{all-imp}
+use Rattle.steps.specs.Lists.{_∈_, All}
+use Rattle.steps.proofs.Membership.{all-imp, all-∈, ∈-all}
 use Rattle.field.specs.Chains.{LinkIs, FindsIn}
-use Rattle.field.specs.Entry.{EntryAt, AnswersIs}
-use Rattle.field.specs.Exploration.{together, unanswered}
-use Rattle.field.specs.Growing.{Proper, Fits, Fitting, grownBy, grown, GrowsTo, Puts, Grows, slotWith, KeepsStruck, AddIs, Flagged, answered, GrowsAnswer, GrowsAnswers, FirstAnswerIs, moved, Strikes, Leads, GrowsStep, GrowsSide, GrowsSides}
+use Rattle.field.specs.Entry.{EntryAt, TrivialIs, SameHeaderIs, AnswersIs}
+use Rattle.field.specs.Exploration.{found, together, unanswered}
+use Rattle.field.specs.Growing.{Proper, Fits, Fitting, grownBy, grown, GrowsTo, AllFound, Puts, Grows, slotWith, KeepsStruck, AddIs, Flagged, answered, Mirrored, GrowsAnswer, GrowsAnswers, FirstAnswerIs, moved, Strikes, LeadsAfter, GrowsStep, GrowsSide, GrowsSides}
 use Rattle.field.specs.Leading.{placed, leading, SuccessorIs}
 use Rattle.field.specs.PairFlags.{PermittedIs}
 use Rattle.field.specs.Situation.{Situation, freeFrom, situation}
@@ -30,9 +31,13 @@ use Rattle.field.specs.TakingUp.{ListAt, EntriesAt}
 use Rattle.field.specs.declared.explore.Growth.{Growth}
 use Rattle.field.specs.declared.explore.Growth.the-variants.{Full, Known}
 use Rattle.field.specs.declared.find.Found.the-variants.{At, Nothing}
-use Rattle.field.proofs.Growth.{grown-longer}
+use Rattle.field.proofs.EntryLaws.{trivial-header}
+use Rattle.field.proofs.Growth.{grown-longer, all-kept, all-grown, grown-found}
 use Rattle.field.proofs.KeysDiffer.{length-key, found-slot, found-no-slot}
 use Rattle.field.proofs.Loops.{select-++, grown-++, together-++, answersTo, moves-are}
+use Rattle.field.proofs.Members.{map-∈, getD-∈, ∈-number}
+use Rattle.field.proofs.MirroredLaws.{mirrored, all-rewritten, first-mirrored, one-of, one-answer-mirrored, one-step-mirrored}
+use Rattle.field.proofs.Selections.{select-∈}
 use Rattle.field.proofs.SlotWriting.{slot-rest, slot-struck, knows-struck, knows-more}
 
 -- What holds of any growth.
@@ -119,40 +124,49 @@ module _ (taken : ℕ) (work : List ℕ) (known : ℕ) where
 
 -- One list of situations after another.
 module _ (arities : List ℕ) (capacity : ℕ) (work : List ℕ) (known : ℕ) where
-  pub puts-none : Puts arities capacity work known [] (Known known) work
-  unfolding Puts GrowsTo grown
-  puts-none ks K = K
-
-  pub puts-more : (xs ys : List Situation) (n : ℕ) (work′ : List ℕ) (r : Growth) (work″ : List ℕ) → Puts arities capacity work known xs (Known n) work′
-      → Puts arities capacity work′ n ys r work″ → Puts arities capacity work known (xs ++ ys) r work″
+  pub puts-known : (before xs : List Situation) → ((u : Situation) → u ∈ xs → u ∈ before) → Puts arities capacity work known before xs (Known known) work
   unfolding Puts GrowsTo
-  puts-more xs ys n work′ r work″ p q ks K = rw (grown-++ ks xs ys) (q (grown ks xs) (p ks K))
+  puts-known before xs h ks K b =
+      rw (grown-found ks xs (∈-all (λ u. found ks u ≡ true) xs (λ u i. all-∈ (λ u. found ks u ≡ true) before b u (h u i)))) K
 
-  pub puts-full : (xs ys : List Situation) (work′ : List ℕ) → Puts arities capacity work known xs Full work′
-      → Puts arities capacity work known (xs ++ ys) Full work′
-  unfolding Puts GrowsTo
-  puts-full xs ys work′ p ks K = let h = p ks K in rw (grown-++ ks xs ys) (omega (arith, h, grown-longer (grown ks xs) ys))
+  module _ (before : List Situation) where
+    pub puts-none : Puts arities capacity work known before [] (Known known) work
+    puts-none = puts-known before [] (λ u i. absurd i)
 
-  -- One list of moves after another.
-  module _ (taken : ℕ) where
-    leads-none : Leads arities capacity taken [] work known (Known known) work
-    unfolding together
-    leads-none = record { puts = puts-none; strikes = strikes-none taken work known }
+    -- `after` is known then
+    pub puts-more : (xs ys after : List Situation) → ((ks : List Situation) → AllFound ks before → AllFound (grown ks xs) after)
+        → (n : ℕ) (work′ : List ℕ) (r : Growth) (work″ : List ℕ) → Puts arities capacity work known before xs (Known n) work′
+        → Puts arities capacity work′ n after ys r work″ → Puts arities capacity work known before (xs ++ ys) r work″
+    unfolding Puts GrowsTo
+    puts-more xs ys after f n work′ r work″ p q ks K b = rw (grown-++ ks xs ys) (q (grown ks xs) (p ks K b) (f ks b))
 
-    module _ (ms ns : List (List Situation)) where
-      leads-more : taken < known → (n : ℕ) → known ≤ n → (work′ : List ℕ) (r : Growth) (work″ : List ℕ)
-          → Leads arities capacity taken ms work known (Known n) work′ → Leads arities capacity taken ns work′ n r work″
-          → Leads arities capacity taken (ms ++ ns) work known r work″
-      leads-more waits n h work′ r work″ x y = record {
-        puts = rw (together-++ ms ns) (puts-more (together ms) (together ns) n work′ r work″ (x .puts) (y .puts));
-        strikes = λ m e. strikes-more taken work known waits ms ns n m work′ work″ h (x .strikes n refl) (y .strikes m e);
-      }
+    pub puts-full : (xs ys : List Situation) (work′ : List ℕ) → Puts arities capacity work known before xs Full work′
+        → Puts arities capacity work known before (xs ++ ys) Full work′
+    unfolding Puts GrowsTo
+    puts-full xs ys work′ p ks K b = let h = p ks K b in rw (grown-++ ks xs ys) (omega (arith, h, grown-longer (grown ks xs) ys))
 
-      leads-full : (work′ : List ℕ) → Leads arities capacity taken ms work known Full work′ → Leads arities capacity taken (ms ++ ns) work known Full work′
-      leads-full work′ x = record {
-        puts = rw (together-++ ms ns) (puts-full (together ms) (together ns) work′ (x .puts));
-        strikes = λ m e. let z : _≡_ {A = ℕ} 0 1 = cc in absurd (omega arith);
-      }
+    -- One list of moves after another.
+    module _ (taken : ℕ) where
+      leads-none : LeadsAfter arities capacity taken before [] work known (Known known) work
+      unfolding together
+      leads-none = record { puts = puts-none; strikes = strikes-none taken work known }
+
+      module _ (ms ns : List (List Situation)) where
+        leads-more : (after : List Situation) → ((ks : List Situation) → AllFound ks before → AllFound (grown ks (together ms)) after)
+            → taken < known → (n : ℕ) → known ≤ n → (work′ : List ℕ) (r : Growth) (work″ : List ℕ)
+            → LeadsAfter arities capacity taken before ms work known (Known n) work′ → LeadsAfter arities capacity taken after ns work′ n r work″
+            → LeadsAfter arities capacity taken before (ms ++ ns) work known r work″
+        leads-more after f waits n h work′ r work″ x y = record {
+          puts = rw (together-++ ms ns) (puts-more (together ms) (together ns) after f n work′ r work″ (x .puts) (y .puts));
+          strikes = λ m e. strikes-more taken work known waits ms ns n m work′ work″ h (x .strikes n refl) (y .strikes m e);
+        }
+
+        leads-full : (work′ : List ℕ) → LeadsAfter arities capacity taken before ms work known Full work′
+            → LeadsAfter arities capacity taken before (ms ++ ns) work known Full work′
+        leads-full work′ x = record {
+          puts = rw (together-++ ms ns) (puts-full (together ms) (together ns) work′ (x .puts));
+          strikes = λ m e. let z : _≡_ {A = ℕ} 0 1 = cc in absurd (omega arith);
+        }
 
 all-proper : (arities : List ℕ) (ks : List Situation) → All (Fitting arities) ks → All (Proper nameCount arities) ks
 all-proper arities ks = all-imp (Fitting arities) (Proper nameCount arities) ks (λ s f. f .proper)
@@ -168,7 +182,7 @@ module _ (capacity : ℕ) (work : List ℕ) (known : ℕ) (key : List ℕ) where
     add-found i f = record {
       grows = grows-none capacity work known few;
       keeps = keeps-none work known;
-      is = λ arities s h e ks K.
+      is = λ arities s h e ks K b.
           rw (found-slot arities work known ks (K .count) (K .slots) (all-proper arities ks (K .fitting)) s (h .proper) (h .fits) key e i (f .is (K .chained))) K;
     }
 
@@ -178,7 +192,7 @@ module _ (capacity : ℕ) (work : List ℕ) (known : ℕ) (key : List ℕ) where
     add-full q = record {
       grows = grows-full capacity work known;
       keeps = λ n. keeps-full work known n work;
-      is = λ arities s h e ks K.
+      is = λ arities s h e ks K b.
           rw (found-no-slot arities work known ks (K .count) (K .slots) (all-proper arities ks (K .fitting)) s (h .proper) (h .fits) key e (f .is (K .chained)))
           (omega (arith, K .count, length-append ks (s ∷ [])));
     }
@@ -195,7 +209,7 @@ module _ (capacity : ℕ) (work : List ℕ) (known : ℕ) (key : List ℕ) where
             within = λ n e. let z : known + 1 ≡ n = cc in (omega arith, omega arith);
           };
           keeps = λ n e. let z : known + 1 ≡ n = cc in rw (← z) (slot-struck work key known l long capacity work′ L);
-          is = λ arities s g e ks K.
+          is = λ arities s g e ks K b.
               rw (found-no-slot arities work known ks (K .count) (K .slots) (all-proper arities ks (K .fitting)) s (g .proper) (g .fits) key e (f .is (K .chained)))
               (knows-more work key known l long arities capacity ks K s g (whole-key key s (g .fits) e) work′ L);
         }
@@ -301,23 +315,37 @@ module _ (arities free apart : List ℕ) (second : Bool) (area : List ℕ) (at :
     answer-none few A = record {
       grows = grows-none capacity work known few;
       keeps = keeps-none work known;
-      is = λ G D s t flags e i f j own p.
-          rw (answered-none second G D s t (sym (A s t e f))) (puts-none arities capacity work known);
+      is = λ G D s t before flags e i f j own may m p.
+          rw (answered-none second G D s t (sym (A s t e f))) (puts-none arities capacity work known before);
+    }
+
+    -- the first side's step led there
+    pub answer-mirrored : known ≤ capacity → AnswersIs area at others place true → second ≡ true → (b : Bool) → SameHeaderIs area at others place b → b ≡ true
+        → GrowsAnswer arities free apart second area at others place capacity work known (Known known) work
+    unfolding AnswersIs SameHeaderIs
+    answer-mirrored few A z b H q = record {
+      grows = grows-none capacity work known few;
+      keeps = keeps-none work known;
+      is = λ G D s t before flags e i f j own may m p.
+          let a = sym (A s t e f) in
+          rw (answered-one second G D s t a)
+          (puts-known arities capacity work known before (leading second (freeFrom G 0 nameCount) D s t ∷ [])
+          (one-of before (leading second (freeFrom G 0 nameCount) D s t) (m z s t (inl refl) (inl refl) may a (H q s t e f))));
     }
 
     pub answer-added : AnswersIs area at others place true → (key : List ℕ) → SuccessorIs arities free apart second area at others place key
         → (r : Growth) (work′ : List ℕ) → AddIs capacity work known key r work′
         → GrowsAnswer arities free apart second area at others place capacity work known r work′
-    unfolding AnswersIs SuccessorIs
+    unfolding AnswersIs SuccessorIs Puts
     answer-added A key K r work′ a = record {
       grows = a .grows;
       keeps = a .keeps;
-      is = λ G D s t flags e i f j own p.
+      is = λ G D s t before flags e i f j own may m p.
           let F : List ℕ = freeFrom G 0 nameCount in
           let o = answered-one second G D s t (sym (A s t e f)) in
           let q : All (Proper nameCount arities) (leading second F D s t ∷ []) = subst (All (Proper nameCount arities)) o p in
           let fit = leading-fits arities second F D s t (fits-first s area at e) (fits-second s t area others at place e f) (q .0) in
-          rw o (a .is arities (leading second F D s t) fit (K G D s t (flags .names) (flags .pairs) e f i j own));
+          rw o (λ ks L b. a .is arities (leading second F D s t) fit (K G D s t (flags .names) (flags .pairs) e f i j own) ks L tt);
     }
 
   -- The loop over the answers from number `first` on, once the first j are looked at.
@@ -325,36 +353,40 @@ module _ (arities free apart : List ℕ) (second : Bool) (area : List ℕ) (at :
     pub record Answers (work : List ℕ) (now j : ℕ) : Type 0 where
       pub grows : Grows capacity work₀ known (Known now) work
       pub keeps : KeepsStruck work₀ known now work
-      pub is : (G : List ℕ) (D : Pairs) (s : ListedStep) (ts : List ListedStep) → Flagged free apart G D
+      pub is : (G : List ℕ) (D : Pairs) (s : ListedStep) (ts : List ListedStep) (before : List Situation) → Flagged free apart G D
           → EntryAt area at s → InScope nameCount arities 0 (s .result)
           → ListAt arities others count ts
           → select (answers nameCount s) (take first ts) ≡ []
+          → permitted D s ≡ true → Mirrored second G D (s ∷ []) ts before
           → All (Proper nameCount arities) (answered second G D s ts)
-          → Puts arities capacity work₀ known (answered second G D s (take j ts)) (Known now) work
+          → Puts arities capacity work₀ known before (answered second G D s (take j ts)) (Known now) work
 
     pub answers-start : known ≤ capacity → Answers work₀ known first
     unfolding answered
     answers-start few = record {
       grows = grows-none capacity work₀ known few;
       keeps = keeps-none work₀ known known refl;
-      is = λ G D s ts flags e i l o p. rw o (puts-none arities capacity work₀ known);
+      is = λ G D s ts before flags e i l o may m p. rw o (puts-none arities capacity work₀ known before);
     }
 
     module _ (work : List ℕ) (now j : ℕ) (x : Answers work now j) (more : j < count) (r : Growth) (work′ : List ℕ)
         (g : GrowsAnswer arities free apart second area at others (stepBytes * j) capacity work now r work′) where
-      next-answer : (G : List ℕ) (D : Pairs) (s : ListedStep) (ts : List ListedStep) → Flagged free apart G D
+      next-answer : (G : List ℕ) (D : Pairs) (s : ListedStep) (ts : List ListedStep) (before : List Situation) → Flagged free apart G D
           → EntryAt area at s → InScope nameCount arities 0 (s .result)
           → ListAt arities others count ts
           → select (answers nameCount s) (take first ts) ≡ []
+          → permitted D s ≡ true → Mirrored second G D (s ∷ []) ts before
           → All (Proper nameCount arities) (answered second G D s ts)
-          → Puts arities capacity work₀ known (answered second G D s (take (j + 1) ts)) r work′
-      next-answer G D s ts flags e i l o p =
+          → Puts arities capacity work₀ known before (answered second G D s (take (j + 1) ts)) r work′
+      next-answer G D s ts before flags e i l o may m p =
           let f : List ListedStep → List Situation = answered second G D s in
           let h : j < length ts = omega (arith, l .number) in
           let t : ListedStep = getD ts j s in
           rw (part-next f (answered-++ second G D s) ts j s h)
-          (puts-more arities capacity work₀ known (f (take j ts)) (f (t ∷ [])) now work r work′ (x .is G D s ts flags e i l o p)
-          (g .is G D s t flags e i (l .entry j s more) (l .scope j s more) (l .rewritten j s more) (all-one (Proper nameCount arities) f (answered-++ second G D s) ts j s h p)))
+          (puts-more arities capacity work₀ known before (f (take j ts)) (f (t ∷ [])) before (λ ks. all-kept ks (f (take j ts)) before) now work r work′
+          (x .is G D s ts before flags e i l o may m p)
+          (g .is G D s t before flags e i (l .entry j s more) (l .scope j s more) (l .rewritten j s more) may
+          (one-answer-mirrored second G D before (s ∷ []) ts t (getD-∈ ts j s h) m) (all-one (Proper nameCount arities) f (answered-++ second G D s) ts j s h p)))
 
       next-keeps : (n : ℕ) → r ≡ Known n → KeepsStruck work₀ known n work′
       next-keeps n e = keeps-more work₀ known now n work work′ (x .grows .within now refl .0) (x .keeps) (g .keeps n e)
@@ -373,10 +405,11 @@ module _ (arities free apart : List ℕ) (second : Bool) (area : List ℕ) (at :
     answers-full work now j work′ x more g = record {
       grows = grows-more capacity work₀ known now work Full work′ (x .grows) (g .grows);
       keeps = next-keeps work now j x more Full work′ g;
-      is = λ G D s ts flags e i l o p.
+      is = λ G D s ts before flags e i l o may m p.
           let f : List ListedStep → List Situation = answered second G D s in
           rw (part-rest f (answered-++ second G D s) ts (j + 1))
-          (puts-full arities capacity work₀ known (f (take (j + 1) ts)) (f (drop (j + 1) ts)) work′ (next-answer work now j x more Full work′ g G D s ts flags e i l o p));
+          (puts-full arities capacity work₀ known before (f (take (j + 1) ts)) (f (drop (j + 1) ts)) work′
+          (next-answer work now j x more Full work′ g G D s ts before flags e i l o may m p));
     }
 
     pub answers-end : (work : List ℕ) (now j : ℕ) → Answers work now j → count ≤ j
@@ -384,8 +417,8 @@ module _ (arities free apart : List ℕ) (second : Bool) (area : List ℕ) (at :
     answers-end work now j x h = record {
       grows = x .grows;
       keeps = λ n e. let z : now ≡ n = cc in rw (← z) (x .keeps);
-      is = λ G D s ts flags e i l o p.
-          rw (part-whole (answered second G D s) (answered-++ second G D s) ts j (omega (arith, l .number))) (x .is G D s ts flags e i l o p);
+      is = λ G D s ts before flags e i l o may m p.
+          rw (part-whole (answered second G D s) (answered-++ second G D s) ts j (omega (arith, l .number))) (x .is G D s ts before flags e i l o may m p);
     }
 
 -- The first answer.
@@ -432,8 +465,8 @@ module _ (arities free apart : List ℕ) (second : Bool) (taken : ℕ) (area : L
   unfolding PermittedIs
   step-none few P = record {
     grows = grows-none capacity work known few;
-    is = λ G D s ts flags e i l p.
-        rw (moved-none second G D s ts (sym (P D s (flags .distinction) (flags .pairs) e))) (leads-none arities capacity work known taken);
+    is = λ G D s ts before flags e i l m p.
+        rw (moved-none second G D s ts (sym (P D s (flags .distinction) (flags .pairs) e))) (leads-none arities capacity work known before taken);
   }
 
   module _ (P : PermittedIs apart area at true) (first : ℕ) (F : FirstAnswerIs area at others count first) (waits : taken < known) where
@@ -445,62 +478,97 @@ module _ (arities free apart : List ℕ) (second : Bool) (taken : ℕ) (area : L
         rest = drop-set-lt (slotBytes * capacity) work (struckAt taken) 1 (omega arith);
         within = grows-none capacity work known few .within;
       };
-      is = λ G D s ts flags e i l p.
+      is = λ G D s ts before flags e i l m p.
           let n : take first ts ≡ ts = take-all first ts (omega (arith, l .number)) in
           let o : select (answers nameCount s) ts ≡ [] = ap (select (answers nameCount s)) (sym n) ∙ F .none s ts e (list-entries arities others count ts l) in
           rw (moved-one second G D s ts (sym (P D s (flags .distinction) (flags .pairs) e)), o)
           (record {
-            puts = λ ks K. knows-struck arities capacity work known ks taken 1 K;
+            puts = λ ks K b. knows-struck arities capacity work known ks taken 1 K;
             strikes = strikes-here taken work known (omega arith);
           });
     }
 
-    pub step-answered : (first ≡ count → ⊥) → (r : Growth) (work′ : List ℕ)
-        → GrowsAnswers arities free apart second area at others first count capacity work known r work′
-        → GrowsStep arities free apart second taken area at others count capacity work known r work′
-    unfolding PermittedIs
-    step-answered q r work′ g = record {
-      grows = g .grows;
-      is = λ G D s ts flags e i l p.
-          let o = moved-one second G D s ts (sym (P D s (flags .distinction) (flags .pairs) e)) in
-          let t = ap together o ∙ together-one second G D (answered second G D s ts) in
-          let k = list-entries arities others count ts l in
+    module _ (some : first ≡ count → ⊥) where
+      -- a permitted step that has an answer
+      answered-step : (G : List ℕ) (D : Pairs) (s : ListedStep) (ts : List ListedStep) (before : List Situation) → permitted D s ≡ true
+          → EntryAt area at s → ListAt arities others count ts → (r : Growth) (work′ : List ℕ) → ((n : ℕ) → r ≡ Known n → KeepsStruck work known n work′)
+          → Puts arities capacity work known before (answered second G D s ts) r work′
+          → LeadsAfter arities capacity taken before (moved second G D (s ∷ []) ts) work known r work′
+      answered-step G D s ts before may e l r work′ keeps puts =
+          let o = moved-one second G D s ts may in
           let h : first < count = omega (arith, F .within) in
           record {
-            puts = rw t (g .is G D s ts flags e i l (F .none s ts e k) (subst (All (Proper nameCount arities)) t p));
+            puts = rw (ap together o ∙ together-one second G D (answered second G D s ts)) puts;
             strikes = λ n z. strikes-kept taken work known waits (moved second G D (s ∷ []) ts) n work′
-                (ap unanswered o ∙ answered-some second G D s ts first s (omega (arith, l .number)) (F .answer s ts s e k h)) (g .keeps n z);
-          };
-    }
+                (ap unanswered o ∙ answered-some second G D s ts first s (omega (arith, l .number)) (F .answer s ts s e (list-entries arities others count ts l) h))
+                (keeps n z);
+          }
+
+      pub step-answered : (r : Growth) (work′ : List ℕ) → GrowsAnswers arities free apart second area at others first count capacity work known r work′
+          → GrowsStep arities free apart second taken area at others count capacity work known r work′
+      unfolding PermittedIs
+      step-answered r work′ g = record {
+        grows = g .grows;
+        is = λ G D s ts before flags e i l m p.
+            let may = sym (P D s (flags .distinction) (flags .pairs) e) in
+            let t = ap together (moved-one second G D s ts may) ∙ together-one second G D (answered second G D s ts) in
+            answered-step G D s ts before may e l r work′ (g .keeps)
+            (g .is G D s ts before flags e i l (F .none s ts e (list-entries arities others count ts l)) may m (subst (All (Proper nameCount arities)) t p));
+      }
+
+      -- without a condition, made by the second side: its answers have its header
+      pub step-mirrored : known ≤ capacity → second ≡ true → (b : Bool) → TrivialIs area at b → b ≡ true
+          → GrowsStep arities free apart second taken area at others count capacity work known (Known known) work
+      unfolding PermittedIs answered
+      step-mirrored few z b T q = record {
+        grows = grows-none capacity work known few;
+        is = λ G D s ts before flags e i l m p.
+            let may = sym (P D s (flags .distinction) (flags .pairs) e) in
+            answered-step G D s ts before may e l (Known known) work (keeps-none work known)
+            (puts-known arities capacity work known before (answered second G D s ts) (all-before G D s ts before may e l m));
+      }
+        where
+          all-before : (G : List ℕ) (D : Pairs) (s : ListedStep) (ts : List ListedStep) (before : List Situation) → permitted D s ≡ true
+              → EntryAt area at s → ListAt arities others count ts → Mirrored second G D (s ∷ []) ts before
+              → (u : Situation) → u ∈ answered second G D s ts → u ∈ before
+          all-before G D s ts before may e l m u i =
+              let (t, w, k) = map-∈ (leading second (freeFrom G 0 nameCount) D s) u (select (answers nameCount s) ts) i in
+              let (v, a) = select-∈ (answers nameCount s) t ts w in
+              let (j, c, y) = ∈-number t ts v in
+              let f : EntryAt others (stepBytes * j) t = subst (EntryAt others (stepBytes * j)) (sym (y s)) (l .entry j s (omega (arith, l .number))) in
+              subst (λ v. v ∈ before) (sym k) (m z s t (inl refl) v may a (trivial-header area at b T q others (stepBytes * j) s t e f a))
 
 -- The steps of one side.
 module _ (arities free apart : List ℕ) (second : Bool) (taken : ℕ) (area : List ℕ) (steps : ℕ) (others : List ℕ) (count capacity : ℕ) (work₀ : List ℕ) (known : ℕ) where
   -- The loop over them, once the first i are looked at.
   pub record Steps (work : List ℕ) (now i : ℕ) : Type 0 where
     pub grows : Grows capacity work₀ known (Known now) work
-    pub is : (G : List ℕ) (D : Pairs) (ss ts : List ListedStep) → Flagged free apart G D
+    pub is : (G : List ℕ) (D : Pairs) (ss ts : List ListedStep) (before : List Situation) → Flagged free apart G D
         → ListAt arities area steps ss → ListAt arities others count ts
+        → Mirrored second G D ss ts before
         → All (Proper nameCount arities) (together (moved second G D ss ts))
-        → Leads arities capacity taken (moved second G D (take i ss) ts) work₀ known (Known now) work
+        → LeadsAfter arities capacity taken before (moved second G D (take i ss) ts) work₀ known (Known now) work
 
   pub steps-start : known ≤ capacity → Steps work₀ known 0
   unfolding moved moves select
-  steps-start few = record { grows = grows-none capacity work₀ known few; is = λ G D ss ts flags k l p. leads-none arities capacity work₀ known taken }
+  steps-start few = record { grows = grows-none capacity work₀ known few; is = λ G D ss ts before flags k l m p. leads-none arities capacity work₀ known before taken }
 
   module _ (waits : taken < known) (work : List ℕ) (now i : ℕ) (x : Steps work now i) (more : i < steps) (r : Growth) (work′ : List ℕ)
       (g : GrowsStep arities free apart second taken area (stepBytes * i) others count capacity work now r work′) where
-    next-step : (G : List ℕ) (D : Pairs) (ss ts : List ListedStep) → Flagged free apart G D
+    next-step : (G : List ℕ) (D : Pairs) (ss ts : List ListedStep) (before : List Situation) → Flagged free apart G D
         → ListAt arities area steps ss → ListAt arities others count ts
+        → Mirrored second G D ss ts before
         → All (Proper nameCount arities) (together (moved second G D ss ts))
-        → Leads arities capacity taken (moved second G D (take (i + 1) ss) ts) work₀ known r work′
-    next-step G D ss ts flags k l p =
+        → LeadsAfter arities capacity taken before (moved second G D (take (i + 1) ss) ts) work₀ known r work′
+    next-step G D ss ts before flags k l m p =
         let f : List ListedStep → List (List Situation) = λ xs. moved second G D xs ts in
         let h : i < length ss = omega (arith, k .number) in
         let d : ListedStep = some ss (omega arith) in
         let s : ListedStep = getD ss i d in
         rw (part-next f (moved-++ second G D ts) ss i d h)
-        (leads-more arities capacity work₀ known taken (f (take i ss)) (f (s ∷ [])) waits now (x .grows .within now refl .0) work r work′ (x .is G D ss ts flags k l p)
-        (g .is G D s ts flags (k .entry i d more) (k .scope i d more) l
+        (leads-more arities capacity work₀ known before taken (f (take i ss)) (f (s ∷ [])) before (λ ks. all-kept ks (together (f (take i ss))) before)
+        waits now (x .grows .within now refl .0) work r work′ (x .is G D ss ts before flags k l m p)
+        (g .is G D s ts before flags (k .entry i d more) (k .scope i d more) l (one-step-mirrored second G D before ss ts s (getD-∈ ss i d h) m)
         (all-one (Proper nameCount arities) (λ xs. together (moved second G D xs ts)) (together-moved second G D ts) ss i d h p)))
       where
         some : (xs : List ListedStep) → 0 < length xs → ListedStep
@@ -520,19 +588,19 @@ module _ (arities free apart : List ℕ) (second : Bool) (taken : ℕ) (area : L
         → GrowsSide arities free apart second taken area steps others count capacity work₀ known Full work′
     steps-full work′ x more g = record {
       grows = grows-more capacity work₀ known now work Full work′ (x .grows) (g .grows);
-      is = λ G D ss ts flags k l p.
+      is = λ G D ss ts before flags k l m p.
           let f : List ListedStep → List (List Situation) = λ xs. moved second G D xs ts in
           rw (part-rest f (moved-++ second G D ts) ss (i + 1))
-          (leads-full arities capacity work₀ known taken (f (take (i + 1) ss)) (f (drop (i + 1) ss)) work′
-          (next-step waits work now i x more Full work′ g G D ss ts flags k l p));
+          (leads-full arities capacity work₀ known before taken (f (take (i + 1) ss)) (f (drop (i + 1) ss)) work′
+          (next-step waits work now i x more Full work′ g G D ss ts before flags k l m p));
     }
 
   pub steps-end : (work : List ℕ) (now i : ℕ) → Steps work now i → steps ≤ i
       → GrowsSide arities free apart second taken area steps others count capacity work₀ known (Known now) work
   steps-end work now i x h = record {
     grows = x .grows;
-    is = λ G D ss ts flags k l p.
-        rw (part-whole (λ xs. moved second G D xs ts) (moved-++ second G D ts) ss i (omega (arith, k .number))) (x .is G D ss ts flags k l p);
+    is = λ G D ss ts before flags k l m p.
+        rw (part-whole (λ xs. moved second G D xs ts) (moved-++ second G D ts) ss i (omega (arith, k .number))) (x .is G D ss ts before flags k l m p);
   }
 
 -- Both sides.
@@ -555,7 +623,7 @@ module _ (arities free apart : List ℕ) (taken : ℕ) (firsts : List ℕ) (n : 
     is = λ G D ps qs flags k l p.
         let ms = moved false G D ps qs in
         let ns = moved true G D qs ps in
-        leads-full arities capacity work known taken ms ns work′ (g .is G D ps qs flags k l (of-first ms ns p));
+        leads-full arities capacity work known [] taken ms ns work′ (g .is G D ps qs [] flags k l (first-mirrored G D ps qs []) (of-first ms ns p));
   }
 
   pub sides-both : taken < known → (now : ℕ) (work′ : List ℕ) → GrowsSide arities free apart false taken firsts n seconds m capacity work known (Known now) work′
@@ -566,6 +634,7 @@ module _ (arities free apart : List ℕ) (taken : ℕ) (firsts : List ℕ) (n : 
     is = λ G D ps qs flags k l p.
         let ms = moved false G D ps qs in
         let ns = moved true G D qs ps in
-        leads-more arities capacity work known taken ms ns waits now (g .grows .within now refl .0) work′ r work″
-        (g .is G D ps qs flags k l (of-first ms ns p)) (h .is G D qs ps flags l k (of-second ms ns p));
+        leads-more arities capacity work known [] taken ms ns (together ms) (λ ks b. all-grown ks (together ms)) waits now (g .grows .within now refl .0) work′ r work″
+        (g .is G D ps qs [] flags k l (first-mirrored G D ps qs []) (of-first ms ns p))
+        (h .is G D qs ps (together ms) flags l k (mirrored G D ps qs (all-rewritten arities seconds m qs l) (all-rewritten arities firsts n ps k)) (of-second ms ns p));
   }

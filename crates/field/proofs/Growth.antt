@@ -2,19 +2,22 @@
 -- where a limit is passed or the known ones outgrow the capacity. Assumes nothing.
 use mathlib.Core.Bool.{Bool, true, false, cond, _||_}
 use mathlib.Core.List.{List, [], _∷_, _++_, map, append-assoc, append-nil}
+use mathlib.Core.Logic.{inl}
 use mathlib.Core.Path.{_≡_, refl, sym, _∙_, ap}
 use native.Mathlib.Omega.{arith}
 use Prim.Native.Nat.{ℕ, zero, suc, _+_, _-_, _<_, _≤_}
 use lib.ListN.{length, getD, take, drop, length-append, length-drop}
 use lib.Seq.{take-suc, drop-cons, drop-length, take-append-le, drop-append-le}
 use Rattle.calculus.proofs.Renaming.{map-++}
+use Rattle.steps.proofs.Membership.{∈-right, all-imp}
 use native.Mathlib.Nat.{sub-zero}
 use Rattle.field.specs.Setting.{Setting}
 use Rattle.field.specs.Situation.{Situation, sameSituation}
 use Rattle.field.specs.Successors.{Outcome, pastLimit, leads, successors}
-use Rattle.field.specs.Growing.{grownBy, grown}
+use Rattle.field.specs.Growing.{grownBy, grown, AllFound}
 use Rattle.field.specs.Exploration.{found, unseen, together, Row, Exploration, incomplete, explored, withRow, explore, fieldOf}
 use Rattle.field.proofs.Run.{explore-past, explore-leads, freshIn}
+use Rattle.field.proofs.Unseen.{∈-found}
 
 -- Which situations are unseen depends on what is found among the known ones alone.
 unseen-alike : (k l ss : List Situation) → ((t : Situation) → found k t ≡ found l t) → unseen k ss ≡ unseen l ss
@@ -49,6 +52,37 @@ grown-unseen known (s ∷ ss) = go (found known s) refl (grown-unseen known ss) 
 
 pub grown-longer : (known ss : List Situation) → length known ≤ length (grown known ss)
 grown-longer known ss = omega (arith, ap length (grown-unseen known ss), length-append known (unseen known ss))
+
+-- What is found among the known ones stays found as they grow, and what they grow by is found.
+found-before : (known ss : List Situation) (t : Situation) → found known t ≡ true → found (known ++ ss) t ≡ true
+unfolding found
+found-before [] ss t e = let z : _≡_ {A = ℕ} 0 1 = cc in absurd (omega arith)
+found-before (k ∷ known) ss t e = go (sameSituation t k) e (found-before known ss t)
+  where
+    go : (b : Bool) → b || found known t ≡ true → (found known t ≡ true → found (known ++ ss) t ≡ true) → b || found (known ++ ss) t ≡ true
+    go true e h = refl
+    go false e h = h e
+
+found-kept : (known ss : List Situation) (t : Situation) → found known t ≡ true → found (grown known ss) t ≡ true
+found-kept known ss t e = rw (grown-unseen known ss) (found-before known (unseen known ss) t e)
+
+pub all-kept : (known ss ts : List Situation) → AllFound known ts → AllFound (grown known ss) ts
+all-kept known ss ts = all-imp (λ t. found known t ≡ true) (λ t. found (grown known ss) t ≡ true) ts (found-kept known ss)
+
+pub all-grown : (known ss : List Situation) → AllFound (grown known ss) ss
+unfolding grown grownBy
+all-grown known [] = tt
+all-grown known (s ∷ ss) = (found-kept (grownBy known s) ss s (put (found known s) refl), all-grown (grownBy known s) ss)
+  where
+    put : (b : Bool) → found known s ≡ b → found (grownBy known s) s ≡ true
+    put true e = rw e e
+    put false e = rw e (∈-found (known ++ (s ∷ [])) s (∈-right s known (s ∷ []) (inl refl)))
+
+-- They grow by nothing that is found among them.
+pub grown-found : (known ss : List Situation) → AllFound known ss → grown known ss ≡ known
+unfolding grown grownBy
+grown-found known [] a = refl
+grown-found known (s ∷ ss) a = rw (a .0) (grown-found known ss (a .1))
 
 module _ (S : Setting) where
   -- more waiting than may still be taken up

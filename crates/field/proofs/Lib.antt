@@ -15,6 +15,7 @@ pub mod Link
 pub mod ListedParts
 pub mod Loops
 pub mod Members
+pub mod MirroredLaws
 pub mod MoveLaws
 pub mod NameFlagLaws
 pub mod NameLimit

@@ -28,10 +28,21 @@ ClassOfIs area at n r = (s : ListedStep) → EntryAt area at s → r ≡ classIn
 unfoldable pub TrivialIs : List ℕ → ℕ → Bool → Type 0
 TrivialIs area at r = r ≡ true → (s : ListedStep) → EntryAt area at s → (n : ℕ) → classIn (s .classes) n ≡ n
 
+-- Condition and action of two steps are the same.
+pub record SameHeader (s t : ListedStep) : Type 0 where
+  pub classes : s .classes ≡ t .classes
+  pub kind : s .kind ≡ t .kind
+  pub channel : s .channel ≡ t .channel
+  pub object : s .object ≡ t .object
+
 -- A test that is met says that the conditions are the same.
 unfoldable pub SameClassesIs : List ℕ → ℕ → List ℕ → ℕ → Bool → Type 0
 SameClassesIs area at others place r =
     r ≡ true → (s t : ListedStep) → EntryAt area at s → EntryAt others place t → s .classes ≡ t .classes
+
+unfoldable pub SameHeaderIs : List ℕ → ℕ → List ℕ → ℕ → Bool → Type 0
+SameHeaderIs area at others place r =
+    r ≡ true → (s t : ListedStep) → EntryAt area at s → EntryAt others place t → SameHeader s t
 
 unfoldable pub BindsIs : List ℕ → ℕ → Bool → Type 0
 BindsIs area at r = (s : ListedStep) → EntryAt area at s → r ≡ bindsName s

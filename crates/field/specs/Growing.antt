@@ -13,9 +13,9 @@ use Rattle.terms.specs.Encoding.{encode, InScope}
 use Rattle.terms.specs.Limits.{nameCount, longestTerm}
 use Rattle.terms.specs.Question.{Question, checkOf}
 use Rattle.steps.specs.Listed.{ListedStep}
-use Rattle.steps.specs.Lists.{All}
+use Rattle.steps.specs.Lists.{_∈_, All}
 use Rattle.field.specs.Chains.{Chained}
-use Rattle.field.specs.Entry.{EntryAt, Rewritten}
+use Rattle.field.specs.Entry.{EntryAt, Rewritten, SameHeader}
 use Rattle.field.specs.Exploration.{found, together, unanswered}
 use Rattle.field.specs.Holding.{SlotsHold}
 use Rattle.field.specs.Leading.{placed, leading}
@@ -23,7 +23,7 @@ use Rattle.field.specs.NameFlags.{HasNames}
 use Rattle.field.specs.Setting.{settingOf}
 use Rattle.field.specs.Situation.{Situation, freeFrom, situation}
 use Rattle.field.specs.Slot.{flagsOf, keyOf, keyBytes, slotBytes, struckAt}
-use Rattle.field.specs.Successors.{Outcome, pastLimit, leads, select, answers, moves, successors}
+use Rattle.field.specs.Successors.{Outcome, pastLimit, leads, select, permitted, answers, moves, successors}
 use Rattle.field.specs.TakingUp.{ListAt, EntriesAt}
 use Rattle.field.specs.declared.explore.Growth.{Growth}
 use Rattle.field.specs.declared.explore.Growth.the-variants.{Full, Known}
@@ -66,9 +66,13 @@ unfoldable pub GrowsTo : List ℕ → ℕ → List Situation → Growth → List
 GrowsTo arities capacity ks Full work′ = capacity < length ks
 GrowsTo arities capacity ks (Known n) work′ = Knows arities capacity work′ n ks
 
--- Those of `news` that are new are put behind the known ones.
-unfoldable pub Puts : List ℕ → ℕ → List ℕ → ℕ → List Situation → Growth → List ℕ → Type 0
-Puts arities capacity work known news r work′ = (ks : List Situation) → Knows arities capacity work known ks → GrowsTo arities capacity (grown ks news) r work′
+abbrev pub AllFound : List Situation → List Situation → Type 0
+AllFound ks us = All (λ u. found ks u ≡ true) us
+
+-- Those of `news` that are new are put behind the known ones, if those of `before` are known.
+unfoldable pub Puts : List ℕ → ℕ → List ℕ → ℕ → List Situation → List Situation → Growth → List ℕ → Type 0
+Puts arities capacity work known before news r work′ =
+    (ks : List Situation) → Knows arities capacity work known ks → AllFound ks before → GrowsTo arities capacity (grown ks news) r work′
 
 -- In any case: what is behind the capacity stays, and the situations do not become fewer.
 pub record Grows (capacity : ℕ) (work : List ℕ) (known : ℕ) (r : Growth) (work′ : List ℕ) : Type 0 where
@@ -88,7 +92,7 @@ pub record KeepsStruck (work : List ℕ) (known n : ℕ) (work′ : List ℕ) : 
 pub record AddIs (capacity : ℕ) (work : List ℕ) (known : ℕ) (key : List ℕ) (r : Growth) (work′ : List ℕ) : Type 0 where
   pub grows : Grows capacity work known r work′
   pub keeps : (n : ℕ) → r ≡ Known n → KeepsStruck work known n work′
-  pub is : (arities : List ℕ) (s : Situation) → Fitting arities s → key ≡ keyOf s → Puts arities capacity work known (s ∷ []) r work′
+  pub is : (arities : List ℕ) (s : Situation) → Fitting arities s → key ≡ keyOf s → Puts arities capacity work known [] (s ∷ []) r work′
 
 -- The names G and the apart pairs D of the situation taken up, as flags.
 pub record Flagged (free apart G : List ℕ) (D : Pairs) : Type 0 where
@@ -100,28 +104,36 @@ pub record Flagged (free apart G : List ℕ) (D : Pairs) : Type 0 where
 unfoldable pub answered : Bool → List ℕ → Pairs → ListedStep → List ListedStep → List Situation
 answered second G D s ts = map (leading second (freeFrom G 0 nameCount) D s) (select (answers nameCount s) ts)
 
+-- Where a step of the second side is answered by one with the same header, the first side's step led to the same situation before.
+abbrev pub Mirrored : Bool → List ℕ → Pairs → List ListedStep → List ListedStep → List Situation → Type 0
+Mirrored second G D ss ts before =
+    second ≡ true → (s t : ListedStep) → s ∈ ss → t ∈ ts → permitted D s ≡ true → answers nameCount s t ≡ true → SameHeader s t
+    → leading second (freeFrom G 0 nameCount) D s t ∈ before
+
 -- One answer to the step at `at`.
 pub record GrowsAnswer (arities free apart : List ℕ) (second : Bool) (area : List ℕ) (at : ℕ) (others : List ℕ) (place capacity : ℕ) (work : List ℕ)
     (known : ℕ) (r : Growth) (work′ : List ℕ) : Type 0 where
   pub grows : Grows capacity work known r work′
   pub keeps : (n : ℕ) → r ≡ Known n → KeepsStruck work known n work′
-  pub is : (G : List ℕ) (D : Pairs) (s t : ListedStep) → Flagged free apart G D
+  pub is : (G : List ℕ) (D : Pairs) (s t : ListedStep) (before : List Situation) → Flagged free apart G D
       → EntryAt area at s → InScope nameCount arities 0 (s .result)
       → EntryAt others place t → InScope nameCount arities 0 (t .result) → Rewritten t
+      → permitted D s ≡ true → Mirrored second G D (s ∷ []) (t ∷ []) before
       → All (Proper nameCount arities) (answered second G D s (t ∷ []))
-      → Puts arities capacity work known (answered second G D s (t ∷ [])) r work′
+      → Puts arities capacity work known before (answered second G D s (t ∷ [])) r work′
 
 -- Every answer to it, where none before `first` answers.
 pub record GrowsAnswers (arities free apart : List ℕ) (second : Bool) (area : List ℕ) (at : ℕ) (others : List ℕ) (first count capacity : ℕ) (work : List ℕ)
     (known : ℕ) (r : Growth) (work′ : List ℕ) : Type 0 where
   pub grows : Grows capacity work known r work′
   pub keeps : (n : ℕ) → r ≡ Known n → KeepsStruck work known n work′
-  pub is : (G : List ℕ) (D : Pairs) (s : ListedStep) (ts : List ListedStep) → Flagged free apart G D
+  pub is : (G : List ℕ) (D : Pairs) (s : ListedStep) (ts : List ListedStep) (before : List Situation) → Flagged free apart G D
       → EntryAt area at s → InScope nameCount arities 0 (s .result)
       → ListAt arities others count ts
       → select (answers nameCount s) (take first ts) ≡ []
+      → permitted D s ≡ true → Mirrored second G D (s ∷ []) ts before
       → All (Proper nameCount arities) (answered second G D s ts)
-      → Puts arities capacity work known (answered second G D s ts) r work′
+      → Puts arities capacity work known before (answered second G D s ts) r work′
 
 -- The first of `count` steps that answers the one at `at`, or `count`.
 pub record FirstAnswerIs (area : List ℕ) (at : ℕ) (others : List ℕ) (count r : ℕ) : Type 0 where
@@ -140,29 +152,36 @@ pub record Strikes (taken : ℕ) (ms : List (List Situation)) (work : List ℕ) 
   pub others : (i : ℕ) → i < known → (i ≡ taken → ⊥) → getD work′ (struckAt i) 0 ≡ getD work (struckAt i) 0
   pub fresh : (i : ℕ) → known ≤ i → i < n → getD work′ (struckAt i) 0 ≡ 0
 
--- What they lead to is put behind the known ones.
-pub record Leads (arities : List ℕ) (capacity taken : ℕ) (ms : List (List Situation)) (work : List ℕ) (known : ℕ) (r : Growth) (work′ : List ℕ) : Type 0 where
-  pub puts : Puts arities capacity work known (together ms) r work′
+-- What they lead to is put behind the known ones, if those of `before` are known.
+pub record LeadsAfter (arities : List ℕ) (capacity taken : ℕ) (before : List Situation) (ms : List (List Situation)) (work : List ℕ) (known : ℕ) (r : Growth)
+    (work′ : List ℕ) : Type 0 where
+  pub puts : Puts arities capacity work known before (together ms) r work′
   pub strikes : (n : ℕ) → r ≡ Known n → Strikes taken ms work known n work′
+
+-- the same, whatever is known
+abbrev pub Leads : List ℕ → ℕ → ℕ → List (List Situation) → List ℕ → ℕ → Growth → List ℕ → Type 0
+Leads arities capacity taken ms work known r work′ = LeadsAfter arities capacity taken [] ms work known r work′
 
 -- One step.
 pub record GrowsStep (arities free apart : List ℕ) (second : Bool) (taken : ℕ) (area : List ℕ) (at : ℕ) (others : List ℕ) (count capacity : ℕ) (work : List ℕ)
     (known : ℕ) (r : Growth) (work′ : List ℕ) : Type 0 where
   pub grows : Grows capacity work known r work′
-  pub is : (G : List ℕ) (D : Pairs) (s : ListedStep) (ts : List ListedStep) → Flagged free apart G D
+  pub is : (G : List ℕ) (D : Pairs) (s : ListedStep) (ts : List ListedStep) (before : List Situation) → Flagged free apart G D
       → EntryAt area at s → InScope nameCount arities 0 (s .result)
       → ListAt arities others count ts
+      → Mirrored second G D (s ∷ []) ts before
       → All (Proper nameCount arities) (together (moved second G D (s ∷ []) ts))
-      → Leads arities capacity taken (moved second G D (s ∷ []) ts) work known r work′
+      → LeadsAfter arities capacity taken before (moved second G D (s ∷ []) ts) work known r work′
 
 -- Every step of one side.
 pub record GrowsSide (arities free apart : List ℕ) (second : Bool) (taken : ℕ) (area : List ℕ) (steps : ℕ) (others : List ℕ) (count capacity : ℕ)
     (work : List ℕ) (known : ℕ) (r : Growth) (work′ : List ℕ) : Type 0 where
   pub grows : Grows capacity work known r work′
-  pub is : (G : List ℕ) (D : Pairs) (ss ts : List ListedStep) → Flagged free apart G D
+  pub is : (G : List ℕ) (D : Pairs) (ss ts : List ListedStep) (before : List Situation) → Flagged free apart G D
       → ListAt arities area steps ss → ListAt arities others count ts
+      → Mirrored second G D ss ts before
       → All (Proper nameCount arities) (together (moved second G D ss ts))
-      → Leads arities capacity taken (moved second G D ss ts) work known r work′
+      → LeadsAfter arities capacity taken before (moved second G D ss ts) work known r work′
 
 -- Both sides.
 pub record GrowsSides (arities free apart : List ℕ) (taken : ℕ) (firsts : List ℕ) (n : ℕ) (seconds : List ℕ) (m capacity : ℕ) (work : List ℕ)

@@ -2,7 +2,7 @@
 ghost use Prim.Native.Nat.{_+_, _≤_};
 ghost use lib.ListN.{length};
 ghost use Rattle.steps.specs.Limits.{stepBytes};
-ghost use Rattle.field.specs.Entry.{ClassOfIs, TrivialIs, SameClassesIs, BindsIs, ImpliesIs, AnswersIs};
+ghost use Rattle.field.specs.Entry.{ClassOfIs, TrivialIs, SameClassesIs, SameHeaderIs, BindsIs, ImpliesIs, AnswersIs};
 use steps::listed::alike;
 use terms::bytes::get;
 use terms::limits::NAME_COUNT;
@@ -52,6 +52,14 @@ pub fn same_classes(area: &[u8], at: usize, others: &[u8], place: usize) -> bool
     ensures { λ r. ⌜ SameClassesIs (now (area .entry)) at (now (others .entry)) place r ⌝ }
 {
     alike(area, at, others, place, NAME_COUNT)
+}
+
+// Whether condition and action of two steps are the same.
+pub fn same_header(area: &[u8], at: usize, others: &[u8], place: usize) -> bool
+    requires { ⌜ (at + stepBytes ≤ length (now area)) × (place + stepBytes ≤ length (now others)) ⌝ }
+    ensures { λ r. ⌜ SameHeaderIs (now (area .entry)) at (now (others .entry)) place r ⌝ }
+{
+    alike(area, at, others, place, ACTION_END)
 }
 
 // Whether the step receives or extrudes a name.

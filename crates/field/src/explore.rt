@@ -11,6 +11,8 @@ use crate::chains::clear_heads;
 use crate::chains::find_chained;
 use crate::chains::link;
 use crate::entries::answers;
+use crate::entries::same_header;
+use crate::entries::trivial;
 use crate::find::Found;
 use crate::find::KEY_BYTES;
 use crate::find::SLOT_BYTES;
@@ -67,7 +69,8 @@ fn add(work: &mut [u8], capacity: usize, known: usize, key: &[u8]) -> Growth
     }
 }
 
-// What the step at `place` of the other side leads to, if it answers the one at `at`.
+// What the step at `place` of the other side leads to, if it answers the one at `at`. A step of the second side and an answer with the same header
+// lead where the first side's step led, with the two exchanged.
 fn grow_answer(
     arities: &[u8],
     free: &[u8],
@@ -86,6 +89,11 @@ fn grow_answer(
 {
     if !answers(area, at, others, place) {
         return Growth::Known(known);
+    }
+    if second {
+        if same_header(area, at, others, place) {
+            return Growth::Known(known);
+        }
     }
     let key = successor(arities, free, apart, second, area, at, others, place);
     add(work, capacity, known, &key)
@@ -150,7 +158,7 @@ fn first_answer(area: &[u8], at: usize, others: &[u8], count: usize) -> usize
 }
 
 // What the step at `at` of the situation in slot `taken` leads to, if it is permitted. Where no answer is there, none is ever left: the situation
-// is struck out.
+// is struck out. All answers to a step without a condition have its header.
 fn grow_step(
     arities: &[u8],
     free: &[u8],
@@ -175,6 +183,11 @@ fn grow_step(
     if first == count {
         work[SLOT_BYTES * taken + KEY_BYTES] = 1;
         return Growth::Known(known);
+    }
+    if second {
+        if trivial(area, at) {
+            return Growth::Known(known);
+        }
     }
     grow_answers(
         arities,

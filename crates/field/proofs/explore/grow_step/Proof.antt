@@ -1,7 +1,7 @@
 -- `field::explore::grow_step` meets its contract. Assumes nothing.
 use native.Mathlib.Omega.{arith}
 use borrow.Author.Tests.{not-true, not-false}
-use Rattle.field.proofs.GrowingLaws.{step-none, step-struck, step-answered}
+use Rattle.field.proofs.GrowingLaws.{step-none, step-struck, step-mirrored, step-answered}
 use borrow.Author.Needs.{needs}
 use Rattle.field.proofs.explore.grow_step.Statement.{statement}
 use Rattle.field.proofs.explore.grow_step.Tie as tie
@@ -33,14 +33,20 @@ same-length c = search needs
 returns-2 : tie.Need-returns-2
 returns-2 c = step-struck _ _ _ _ _ _ _ _ _ _ _ _ (rw (not-false (c .before .before .before .permitted .result) (c .before .before .if1 .left)) at (c .before .before .before .permitted .ensures)) _ (c .before .first-answer .ensures) (omega arith) (c .if2 .taken) (omega arith) (omega arith)
 
+trivial-requires : tie.Need-trivial-requires
+trivial-requires c κs = search needs
+
+returns-3 : tie.Need-returns-3
+returns-3 c = step-mirrored _ _ _ _ _ _ _ _ _ _ _ _ (rw (not-false (c .before .before .before .before .before .before .permitted .result) (c .before .before .before .before .before .if1 .left)) at (c .before .before .before .before .before .before .permitted .ensures)) _ (c .before .before .before .before .first-answer .ensures) (c .before .before .before .before .before .before .before .before .before .before .before .before .before .pre .0) (c .before .before .before .if2 .left) (omega arith) (c .before .before .if3 .taken) _ (c .before .trivial .ensures) (c .if4 .taken)
+
 grow-answers-requires : tie.Need-grow-answers-requires
 grow-answers-requires c κs = search needs
 
 same-length-2 : tie.Need-same-length-2
 same-length-2 c = search needs
 
-returns-3 : tie.Need-returns-3
-returns-3 c = step-answered _ _ _ _ _ _ _ _ _ _ _ _ (rw (not-false (c .before .before .before .before .before .before .before .permitted .result) (c .before .before .before .before .before .before .if1 .left)) at (c .before .before .before .before .before .before .before .permitted .ensures)) _ (c .before .before .before .before .before .first-answer .ensures) (c .before .before .before .before .before .before .before .before .before .before .before .before .before .before .pre .0) (c .before .before .before .before .if2 .left) _ _ (c .before .before .grow-answers .ensures)
+returns-4 : tie.Need-returns-4
+returns-4 c = step-answered _ _ _ _ _ _ _ _ _ _ _ _ (rw (not-false (c .before .before .before .before .before .before .before .before .permitted .result) (c .before .before .before .before .before .before .before .if1 .left)) at (c .before .before .before .before .before .before .before .before .permitted .ensures)) _ (c .before .before .before .before .before .before .first-answer .ensures) (c .before .before .before .before .before .before .before .before .before .before .before .before .before .before .before .pre .0) (c .before .before .before .before .before .if2 .left) _ _ (c .before .before .grow-answers .ensures)
 
 pub grow-step-spec : {M : Type 1} → statement M
 grow-step-spec =
@@ -55,6 +61,8 @@ grow-step-spec =
     slice-write-work
     same-length
     returns-2
+    trivial-requires
+    returns-3
     grow-answers-requires
     same-length-2
-    returns-3)
+    returns-4)
