@@ -21,7 +21,7 @@ use Rattle.steps.specs.Entries.{Sized, InsertIs}
 use Rattle.steps.specs.Limits.{mostSteps, stepBytes}
 use Rattle.steps.specs.Listed.{ListedStep, listedAs, canonStep, resultBytes, bytes}
 use Rattle.steps.specs.Listing.{order, insert, collect, unsettled, limited}
-use Rattle.steps.specs.Lists.{_∈_, All}
+use Rattle.steps.specs.Lists.{_∈_, Among, All}
 use Rattle.steps.specs.Operations.{listBytes}
 use Rattle.steps.specs.Raw.{Candidate, step, blocked}
 use Rattle.steps.proofs.ClassLists.{length-classes}
@@ -30,7 +30,7 @@ use Rattle.steps.proofs.Limited.{Long, limited-passed, limited-many, li
 use Rattle.steps.proofs.ListedBytes.{step-length, step-size}
 use Rattle.steps.proofs.Membership.{all-∈, all-imp}
 use Rattle.steps.proofs.Moves.{set-before}
-use Rattle.steps.proofs.Sorted.{placed, insert-all, insert-sorted, insert-new, sorted-ascending, ascending-sorted, collect-old}
+use Rattle.steps.proofs.Sorted.{placed, insert-all, insert-sorted, insert-new, sorted-ascending, ascending-sorted, collect-old, collect-there}
 
 -- `collect` only grows.
 insert-length : (longest : ℕ) (s : ListedStep) (ts : List ListedStep) → length ts ≤ length (insert longest s ts)
@@ -223,6 +223,20 @@ module _ (cs : List Candidate) (x : ℕ) (area₀ : List ℕ) (count₀ : ℕ) w
             ∙ ap (λ l. sets area₀ 0 (listBytes l)) e;
       }
 
+  -- A candidate that comes earlier too is there.
+  pub progress-again : (i n : ℕ) (area : List ℕ) → i < length cs → getD cs i blocked ∈ take i cs → Progresses i n area → Progresses (i + 1) n area
+  progress-again i n area h m p found s =
+      let e : after i found ≡ after (i + 1) found =
+      sym (collect-there nameCount longestTerm x (take i cs) (getD cs i blocked ∷ []) found (ascending-sorted longestTerm found (s .ascending)) (only m))
+      ∙ next i h found in
+      record {
+        stands = subst (Stands area n) e (p found s .stands);
+        stored = p found s .stored ∙ ap (λ l. sets area₀ 0 (listBytes l)) e;
+      }
+    where
+      only : getD cs i blocked ∈ take i cs → Among (getD cs i blocked ∷ []) (take i cs)
+      only m c (inl e) = subst (λ d. d ∈ take i cs) (sym e) m
+
   pub progress-done : (i n : ℕ) (area : List ℕ) → length cs ≤ i → n ≤ mostSteps → Progresses i n area → CollectIs cs x area₀ count₀ n area
   unfolding CollectIs
   progress-done i n area h k p found s =
@@ -274,3 +288,11 @@ module _ (cs ds : List Candidate) (x : ℕ) (area : List ℕ) (count m : ℕ) (a
         stored = λ l. absurd (omega arith);
         passed = λ l. limited-grows nameCount longestTerm x mostSteps ds f (first found s .passed l);
       })
+
+  -- Candidates that come earlier too are there.
+  pub collect-again : Among ds cs → CollectIs (cs ++ ds) x area count m area₁
+  unfolding CollectIs
+  collect-again h found s =
+      subst (λ l. Found l area m area₁)
+      (sym (collect-++ nameCount longestTerm x cs ds found ∙ collect-there nameCount longestTerm x cs ds found (ascending-sorted longestTerm found (s .ascending)) h))
+      (first found s)

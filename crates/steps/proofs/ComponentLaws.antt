@@ -6,7 +6,7 @@ use mathlib.Core.Path.{_≡_, refl, sym, _∙_, ap, subst}
 use native.Mathlib.Omega.{arith}
 use Prim.Native.Nat.{ℕ, suc, _+_, _-_, _*_, _<_, _≤_}
 use lib.Dec.{eqb, leb}
-use lib.ListN.{length, getD, length-map}
+use lib.ListN.{length, getD, take, length-map}
 use Rattle.calculus.specs.Abstraction.{Act, tauA, outA}
 use Rattle.calculus.specs.Cond.{cls}
 use Rattle.calculus.specs.Term.{Term, res}
@@ -19,16 +19,18 @@ use Rattle.steps.specs.Contexts.{Frame, leftOf, rightOf, beneath, raised
 use Rattle.steps.specs.Labels.{actionOf}
 use Rattle.steps.specs.Limits.{mostSteps, stepBytes}
 use Rattle.steps.specs.Listing.{bodyOf}
+use Rattle.steps.specs.Lists.{_∈_}
 use Rattle.steps.specs.Names.{OwnNames}
 use Rattle.steps.specs.PartLister.{Lists, candidatesOf, TakeIs}
 use Rattle.steps.specs.Passing.{candidates}
 use Rattle.steps.specs.Raw.{Candidate, step, blocked, leftSteps, rightSteps, sparesRestricted, restrictedAction, restricted, visible, silent}
-use Rattle.steps.specs.Rows.{kindAt, channelAt, objectAt, rowAction, Outlined, Row, Rows, Unconditional, QuietIs}
+use Rattle.steps.specs.Rows.{kindAt, channelAt, objectAt, rowAction, Outlined, Row, RowsBehind, Rows, Unconditional, QuietIs}
 use Rattle.steps.specs.Tally.{silentAt, TallyIs}
 use Rattle.steps.specs.Walking.{rowOpens, rowObject, Unopened, Trivial, stepAction, PutPlacedIs, PutClassedIs, TakeRowIs, TakeRowsIs, TakeSilentIs}
 use Rattle.steps.specs.declared.listed.ActionBytes.{ActionBytes}
-use Rattle.steps.proofs.CollectLaws.{put-blocked, Progresses, progress-start, progress-step, progress-done, progress-passed}
+use Rattle.steps.proofs.CollectLaws.{put-blocked, Progresses, progress-start, progress-step, progress-again, progress-done, progress-passed}
 use Rattle.steps.proofs.ContextLaws.{raised-blocked, placed-bytes}
+use Rattle.steps.proofs.Membership.{∈-map, take-map}
 use Rattle.steps.proofs.Numbering.{nth-by}
 use Rattle.steps.proofs.RowLaws.{row-act, outlined-left, outlined-right, outlined-restricted}
 use Rattle.steps.proofs.StepEntries.{slot-name, same-action}
@@ -96,21 +98,26 @@ module _ (question part : List ℕ) (at depth : ℕ) (rows : List ℕ) (first j 
   abbrev Takes : ℕ → List ℕ → Type 0
   Takes r area′ = TakeRowIs question part at depth rows first j x area count r area′
 
-  pub row-taken : (r : ℕ) (area′ : List ℕ) → TakeIs question part false (first + j) x area count r area′ → Takes r area′
+  pub row-taken : (kindAt rows (first + j) ≡ 4 → ⊥) → (r : ℕ) (area′ : List ℕ) → TakeIs question part false (first + j) x area count r area′ → Takes r area′
   unfolding TakeIs candidatesOf candidates
-  row-taken r area′ take = record {
-    is = λ q P l K C number p h row.
+  row-taken new r area′ take = record {
+    is = λ q P l K C number p h _ row.
         subst (λ c. PutIs c x area count r area′) (p .visibly .is j h) (take q P l (omega (arith, p .visibly .inside)));
+    over = λ e. absurd (new e);
   }
 
+  -- one that comes earlier too
+  pub row-again : kindAt rows (first + j) ≡ 4 → Takes count area
+  row-again e = record { is = λ q P l K C number p h new row. absurd (new e); over = λ _. (refl, refl) }
+
   module _ (kind channel object : ℕ) (at-kind : kind ≡ kindAt rows (first + j)) (at-channel : channel ≡ channelAt rows (first + j))
-      (at-object : object ≡ objectAt rows (first + j)) (known : kind ≡ 0 → ⊥) where
+      (at-object : object ≡ objectAt rows (first + j)) (new : kind ≡ 4 → ⊥) (known : kind ≡ 0 → ⊥) where
     inside : (c : Candidate) → Row depth c rows (first + j) → Outlined depth c kind channel object
     unfolding Row
     inside c row =
         subst (λ k. Outlined depth c k channel object) (sym at-kind)
         (subst (λ a. Outlined depth c (kindAt rows (first + j)) a object) (sym at-channel)
-        (subst (λ o. Outlined depth c (kindAt rows (first + j)) (channelAt rows (first + j)) o) (sym at-object) (row (λ e. known (at-kind ∙ e)))))
+        (subst (λ o. Outlined depth c (kindAt rows (first + j)) (channelAt rows (first + j)) o) (sym at-object) (row (λ e. known (at-kind ∙ e)) (λ e. new (at-kind ∙ e)))))
 
     outside : (K : List Frame) (c : Candidate) → restrictions K ≡ depth → Row depth c rows (first + j) → Outlined 0 (raised K c) kind channel object
     outside K c e row = outlined-raised K c kind channel object (subst (λ (d : ℕ). Outlined d c kind channel object) (sym e) (inside c row))
@@ -118,7 +125,8 @@ module _ (question part : List ℕ) (at depth : ℕ) (rows : List ℕ) (first j 
     pub row-blocked : nameCount ≤ channel → mostSteps * stepBytes ≤ length area → count ≤ mostSteps → Takes count area
     unfolding PutIs
     row-blocked h room few = record {
-      is = λ q P l K C number p _ row.
+      over = λ e. absurd (new (at-kind ∙ e));
+      is = λ q P l K C number p _ _ row.
           let c = getD (visible (bodyOf (q .bodies)) 1 C) j blocked in
           let e : raised K c ≡ blocked = outside K c (p .level) row .inner (omega arith) in
           subst (λ d. PutIs d x area count count area) (sym e) (λ found s. put-blocked area room x count found s few);
@@ -130,7 +138,8 @@ module _ (question part : List ℕ) (at depth : ℕ) (rows : List ℕ) (first j 
           → PutPlacedIs question part at depth false j action x area count r area′ → Takes r area′
       unfolding candidates
       placed m action same put = record {
-        is = λ q P l K C number p h row.
+        over = λ e. absurd (new (at-kind ∙ e));
+        is = λ q P l K C number p h _ row.
             let c = getD (visible (bodyOf (q .bodies)) 1 C) j blocked in
             let o = outside K c (p .level) row in
             let (α, A, e, a, b) = o .acts (omega arith) in
@@ -170,7 +179,8 @@ module _ (question part : List ℕ) (at depth : ℕ) (rows : List ℕ) (first j 
       row-opened n class apart put =
           let (m, k) = both-true (eqb kind 2) (leb nameCount object) n in
           record {
-            is = λ q P l K C number p h row.
+            over = λ e. absurd (new (at-kind ∙ e));
+            is = λ q P l K C number p h _ row.
                 let c = getD (visible (bodyOf (q .bodies)) 1 C) j blocked in
                 let o = outside K c (p .level) row in
                 let (α, A, e, a, b) = o .acts (omega arith) in
@@ -218,18 +228,42 @@ module _ (question part : List ℕ) (at depth : ℕ) (rows : List ℕ) (first la
     }
 
     module _ (inside : j < last - first) (m : ℕ) (area′ : List ℕ) (put : TakeRowIs question part at depth rows first j x area n m area′) where
-      pub rows-next : m ≤ mostSteps → RowsGo (j + 1) m area′
-      unfolding Rows
-      rows-next h q P l K C number p e R =
-          raised-step K (visible (bodyOf (q .bodies)) 1 C) x area₀ count₀ j n m area area′ (omega arith) (go q P l K C number p e R)
-          (put .is q P l K C number p (omega arith) (R j (omega arith))) h
+      module _ (q : Question) (P : Term) (l : Lists question part x q P) (K : List Frame) (C : Term) (number : ℕ)
+          (p : Placed (q .arities) (bodyOf (q .bodies)) P K C at depth first number) (e : last ≡ first + length (visible (bodyOf (q .bodies)) 1 C))
+          (R : Rows depth (visible (bodyOf (q .bodies)) 1 C) rows first) where
+        abbrev vs : List Candidate
+        vs = visible (bodyOf (q .bodies)) 1 C
 
-      pub rows-passed : mostSteps < m → TakeRowsIs question part at depth rows first last x area₀ count₀ m area′
-      unfolding Rows
-      rows-passed h = record {
+        one : (kindAt rows (first + j) ≡ 4 → ⊥) → PutIs (raised K (getD vs j blocked)) x area n m area′
+        unfolding RowsBehind
+        one new = put .is q P l K C number p (omega arith) new (R j (omega arith) .0)
+
+        earlier : kindAt rows (first + j) ≡ 4 → getD (map (raised K) vs) j blocked ∈ take j (map (raised K) vs)
+        unfolding RowsBehind
+        earlier f =
+            subst (λ c. c ∈ take j (map (raised K) vs)) (sym (nth-raised K vs j))
+            (subst (λ cs. raised K (getD vs j blocked) ∈ cs) (sym (take-map (raised K) j vs)) (∈-map (raised K) (getD vs j blocked) (take j vs) (R j (omega arith) .1 f)))
+
+      pub rows-next : m ≤ mostSteps → RowsGo (j + 1) m area′
+      rows-next h q P l K C number p e R = test (eqb (kindAt rows (first + j)) 4) refl
+        where
+          test : (b : Bool) → eqb (kindAt rows (first + j)) 4 ≡ b → Progresses (map (raised K) (visible (bodyOf (q .bodies)) 1 C)) x area₀ count₀ (j + 1) m area′
+          test true b =
+              let f = eqb-true (kindAt rows (first + j)) 4 b in
+              let (d, a) = put .over f in
+              let cs = map (raised K) (visible (bodyOf (q .bodies)) 1 C) in
+              subst (λ k. Progresses cs x area₀ count₀ (j + 1) k area′) (sym d)
+              (subst (Progresses cs x area₀ count₀ (j + 1) n) (sym a)
+              (progress-again cs x area₀ count₀ j n area (omega (arith, length-map (visible (bodyOf (q .bodies)) 1 C) (raised K))) (earlier q P l K C number p e R f) (go q P l K C number p e R)))
+          test false b =
+              raised-step K (visible (bodyOf (q .bodies)) 1 C) x area₀ count₀ j n m area area′ (omega arith) (go q P l K C number p e R)
+              (one q P l K C number p e R (eqb-false (kindAt rows (first + j)) 4 b)) h
+
+      pub rows-passed : n ≤ mostSteps → mostSteps < m → TakeRowsIs question part at depth rows first last x area₀ count₀ m area′
+      rows-passed few h = record {
         is = λ q P l K C number p e R.
             raised-passed K (visible (bodyOf (q .bodies)) 1 C) x area₀ count₀ j n m area area′ (omega arith) (go q P l K C number p e R)
-            (put .is q P l K C number p (omega arith) (R j (omega arith))) h;
+            (one q P l K C number p e R (λ f. let (d, a) = put .over f in omega arith)) h;
       }
 
 -- The silent candidates: how many they are,

@@ -7,6 +7,7 @@ pub mod Calls
 pub mod CandidateForms
 pub mod CanonBytes
 pub mod CanonSteps
+pub mod ChoiceLaws
 pub mod ClassLists
 pub mod CollectLaws
 pub mod ComponentLaws

@@ -25,16 +25,17 @@ pub record WellListed (names wide : ℕ) (arities : List ℕ) (s : ListedStep) :
   pub count : length (s .classes) ≡ names
   pub scope : InScope wide arities 0 (s .result)
 
-module _ (names wide : ℕ) (few : wide ≤ 128) (arities : List ℕ) where
+module _ (wide : ℕ) (few : wide ≤ 128) (arities : List ℕ) where
   -- a term in scope is read back from bytes that begin with its own
-  reads-once : (P Q : Term) (us vs : List ℕ) → InScope wide arities 0 P → InScope wide arities 0 Q → encode 0 P ++ us ≡ encode 0 Q ++ vs → P ≡ Q
-  reads-once P Q us vs g h e =
-      let n : ℕ = length (encode 0 P) + length (encode 0 Q) in
-      let p : readTerm wide arities n 0 (encode 0 P ++ us) ≡ result (P, us) = read-encoded wide few arities 0 P g n (omega arith) us in
-      let q : readTerm wide arities n 0 (encode 0 Q ++ vs) ≡ result (Q, vs) = read-encoded wide few arities 0 Q h n (omega arith) vs in
-      let r : _≡_ {A = Term × List ℕ} (P, us) (Q, vs) = result-injective (sym p ∙ ap (readTerm wide arities n 0) e ∙ q) in
+  pub reads-once : (D : ℕ) (P Q : Term) (us vs : List ℕ) → InScope wide arities D P → InScope wide arities D Q → encode D P ++ us ≡ encode D Q ++ vs → P ≡ Q
+  reads-once D P Q us vs g h e =
+      let n : ℕ = length (encode D P) + length (encode D Q) in
+      let p : readTerm wide arities n D (encode D P ++ us) ≡ result (P, us) = read-encoded wide few arities D P g n (omega arith) us in
+      let q : readTerm wide arities n D (encode D Q ++ vs) ≡ result (Q, vs) = read-encoded wide few arities D Q h n (omega arith) vs in
+      let r : _≡_ {A = Term × List ℕ} (P, us) (Q, vs) = result-injective (sym p ∙ ap (readTerm wide arities n D) e ∙ q) in
       ap (λ t. t .0) r
 
+module _ (names wide : ℕ) (few : wide ≤ 128) (arities : List ℕ) where
   pub bytes-determine : (longest : ℕ) (s t : ListedStep) → WellListed names wide arities s → WellListed names wide arities t
       → bytes longest s ≡ bytes longest t → s ≡ t
   unfolding bytes resultBytes
@@ -50,7 +51,7 @@ module _ (names wide : ℕ) (few : wide ≤ 128) (arities : List ℕ) where
       let n : s .channel ≡ t .channel = cc in
       let o : s .object ≡ t .object = cc in
       let w : r ++ replicate (longest - length r) 0 ≡ q ++ replicate (longest - length q) 0 = cc in
-      let p : s .result ≡ t .result = reads-once (s .result) (t .result) _ _ (g .scope) (h .scope) w in
+      let p : s .result ≡ t .result = reads-once wide few arities 0 (s .result) (t .result) _ _ (g .scope) (h .scope) w in
       λ i. record { classes = c i; kind = k i; channel = n i; object = o i; result = p i }
 
 -- The bytes of a step: its classes, four bytes, the result filled up. So a step whose result fits takes as many as every other.

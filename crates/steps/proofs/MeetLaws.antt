@@ -116,6 +116,15 @@ test-true false false true false m f g e = (refl, e)
 test-true false false false true m f g e = (refl, e)
 test-true false false false false m f g e = let z : _≡_ {A = ℕ} 0 1 = cc in absurd (omega arith)
 
+-- The second row is no repeated one.
+not-repeated : (b m : Bool) → cond b false m ≡ true → (b ≡ false) × (m ≡ true)
+not-repeated true m e = let z : _≡_ {A = ℕ} 0 1 = cc in absurd (omega arith)
+not-repeated false m e = (refl, e)
+
+pub meets-new : (k₁ c₁ k₂ c₂ : ℕ) → mayMeet k₁ c₁ k₂ c₂ ≡ true → k₂ ≡ 4 → ⊥
+unfolding mayMeet meetsBetween
+meets-new k₁ c₁ k₂ c₂ e = eqb-false k₂ 4 (not-repeated (eqb k₂ 4) _ e .0)
+
 -- The second channel is among those that may be merged with the first.
 abbrev mergeable : ℕ → ℕ → Bool
 mergeable a b = isBetween b (firstMerged a) (lastMerged a)
@@ -175,10 +184,10 @@ module _ (K : List Frame) (d : ℕ) (level : restrictions K ≡ d) (s t : Candid
       (subst (λ c. c < nameCount) (v .slot) (bound-slot nameCount d (v .name) (v .below) (omega arith))))
 
   pub pair-apart : ((k₁ ≡ 0 → ⊥) → Outlined d s k₁ c₁ o₁ × (c₁ < nameCount + d)) → ((k₂ ≡ 0 → ⊥) → Outlined d t k₂ c₂ o₂)
-      → mayMeet k₁ c₁ k₂ c₂ ≡ false → raised K (communication s t) ≡ blocked
+      → (k₂ ≡ 4 → ⊥) → mayMeet k₁ c₁ k₂ c₂ ≡ false → raised K (communication s t) ≡ blocked
   unfolding mayMeet meetsBetween
-  pair-apart left right e =
-      let (f, g, h) = test-false (eqb k₁ 0) (eqb k₂ 0) (eqb k₁ 1) (eqb k₂ 1) (mergeable c₁ c₂) e in
+  pair-apart left right new e =
+      let (f, g, h) = test-false (eqb k₁ 0) (eqb k₂ 0) (eqb k₁ 1) (eqb k₂ 1) (mergeable c₁ c₂) (rw (ne-eqb k₂ 4 new) at e) in
       let (l, w) = left (eqb-false k₁ 0 f) in
       let r = right (eqb-false k₂ 0 g) in
       go (visible-of d s k₁ c₁ o₁ l w) r h (ltb c₂ (nameCount + d)) refl
@@ -201,7 +210,7 @@ module _ (K : List Frame) (d : ℕ) (level : restrictions K ≡ d) (s t : Candid
   module _ (left : Outlined d s k₁ c₁ o₁) (inside : c₁ < nameCount + d) (right : Outlined d t k₂ c₂ o₂) (k : k₁ ≡ 0 → ⊥) (l : k₂ ≡ 0 → ⊥) (m : mayMeet k₁ c₁ k₂ c₂ ≡ true) where
     opposite : (eqb k₂ 1 ≡ not (eqb k₁ 1)) × (mergeable c₁ c₂ ≡ true)
     unfolding mayMeet meetsBetween
-    opposite = test-true (eqb k₁ 0) (eqb k₂ 0) (eqb k₁ 1) (eqb k₂ 1) (mergeable c₁ c₂) (ne-eqb k₁ 0 k) (ne-eqb k₂ 0 l) m
+    opposite = test-true (eqb k₁ 0) (eqb k₂ 0) (eqb k₁ 1) (eqb k₂ 1) (mergeable c₁ c₂) (ne-eqb k₁ 0 k) (ne-eqb k₂ 0 l) (not-repeated (eqb k₂ 4) _ m .1)
 
     module _ (inside₂ : c₂ < nameCount + d) where
       first-of : Visible d s (eqb k₁ 1) c₁

@@ -1,11 +1,14 @@
 -- The communications of a parallel put into the list, row by row of the left side and pair by pair. Assumes nothing.
-use mathlib.Core.Bool.{true, false}
+use borrow.Author.Tests.{eqb-true, eqb-false}
+use mathlib.Core.Bool.{Bool, true, false}
 use mathlib.Core.List.{List, [], _∷_, _++_, map, append-nil, append-assoc}
+use mathlib.Core.Logic.{inl, inr}
 use mathlib.Core.Path.{_≡_, refl, sym, _∙_, ap, subst}
 use native.Mathlib.Nat.{suc-mul, zero-mul, mul-le-mul-right}
 use native.Mathlib.Numerals.{add-one}
 use native.Mathlib.Omega.{arith}
 use Prim.Native.Nat.{ℕ, zero, suc, _+_, _*_, _-_, _<_, _≤_}
+use lib.Dec.{eqb}
 use lib.ListN.{length, getD, take, drop, length-map, take-append-drop}
 use lib.Seq.{take-suc, take-all}
 use Rattle.calculus.specs.Term.{Term, par}
@@ -17,15 +20,17 @@ use Rattle.steps.specs.Contexts.{Frame, raised, Placed}
 use Rattle.steps.specs.Limits.{mostSteps, stepBytes}
 use Rattle.steps.specs.Listing.{bodyOf, collect}
 use Rattle.steps.specs.Listed.{ListedStep}
+use Rattle.steps.specs.Lists.{_∈_, Among}
 use Rattle.steps.specs.Meeting.{mayMeet, NextMetIs, Unblocked, PairIs, MeetRowIs}
 use Rattle.steps.specs.Passing.{candidates}
 use Rattle.steps.specs.PartLister.{Lists}
 use Rattle.steps.specs.Raw.{Candidate, blocked, communication, communications, visible, silent}
-use Rattle.steps.specs.Rows.{kindAt, channelAt, objectAt, Row, Rows}
+use Rattle.steps.specs.Rows.{kindAt, channelAt, objectAt, Row, RowsBehind, Rows}
 use Rattle.steps.specs.Walking.{MeetsIs}
-use Rattle.steps.proofs.CollectLaws.{put-blocked, collect-none, collect-then, collect-over, Progresses, progress-start, progress-step, progress-done, progress-passed}
+use Rattle.steps.proofs.CollectLaws.{put-blocked, collect-none, collect-then, collect-over, collect-again, Progresses, progress-start, progress-step, progress-again, progress-done, progress-passed}
 use Rattle.steps.proofs.ContextLaws.{raised-blocked}
-use Rattle.steps.proofs.MeetLaws.{pair-apart}
+use Rattle.steps.proofs.MeetLaws.{meets-new, pair-apart}
+use Rattle.steps.proofs.Membership.{∈-left, ∈-right, ∈-map, take-map, within-map}
 use Rattle.steps.proofs.Numbering.{nth-by, not-met, length-communications, nth-communication}
 use Rattle.steps.proofs.TwoSides.{sides-par}
 
@@ -75,22 +80,27 @@ module _ (question part : List ℕ) (at depth number x : ℕ) (rows : List ℕ) 
       subst (λ i. Progresses (met K s (visible (bodyOf (q .bodies)) 1 R)) x area₀ count i count area₀) e
       (progress-start (met K s (visible (bodyOf (q .bodies)) 1 R)) x area₀ count)
 
-  row-is : (r : ℕ) (area : List ℕ)
+  row-is : (r : ℕ) (area : List ℕ) → (kindAt rows row ≡ 4 → ⊥)
       → ((q : Question) (P : Term) (K : List Frame) (L R : Term) (first : ℕ) (s : Candidate) → RowCase q P K L R first s → CollectIs (met K s (visible (bodyOf (q .bodies)) 1 R)) x area₀ count r area)
       → MeetRowIs question part at depth number x rows row middle last j area₀ count r area
-  row-is r area f = record {
-    is = λ q P l K L R first p s u v e h n. f q P K L R first s (record { lists = l; placed = p; left = u; right = v; ends = e; inside = h; numbers = n });
+  row-is r area new f = record {
+    is = λ q P l K L R first p s _ u v e h n. f q P K L R first s (record { lists = l; placed = p; left = u; right = v; ends = e; inside = h; numbers = n });
+    over = λ e. absurd (new e);
   }
 
+  -- A candidate that comes earlier too.
+  pub row-again : kindAt rows row ≡ 4 → MeetRowIs question part at depth number x rows row middle last j area₀ count count area₀
+  row-again e = record { is = λ q P l K L R first p s new u v f h n. absurd (new e); over = λ _. (refl, refl) }
+
   -- A candidate on a channel that is restricted further in.
-  pub row-inner : count ≤ mostSteps → (kindAt rows row ≡ 0 → ⊥) → nameCount + depth ≤ channelAt rows row
+  pub row-inner : count ≤ mostSteps → (kindAt rows row ≡ 4 → ⊥) → (kindAt rows row ≡ 0 → ⊥) → nameCount + depth ≤ channelAt rows row
       → MeetRowIs question part at depth number x rows row middle last j area₀ count count area₀
   unfolding Row
-  row-inner few k h = row-is count area₀ (λ q P K L R first s c.
-      subst (λ t. CollectIs (met K t (visible (bodyOf (q .bodies)) 1 R)) x area₀ count count area₀) (sym (c .left k .inner h))
+  row-inner few new k h = row-is count area₀ new (λ q P K L R first s c.
+      subst (λ t. CollectIs (met K t (visible (bodyOf (q .bodies)) 1 R)) x area₀ count count area₀) (sym (c .left k new .inner h))
       (met-blocked x K (visible (bodyOf (q .bodies)) 1 R) area₀ count few))
 
-  module _ (known : (kindAt rows row ≡ 0 → ⊥) → channelAt rows row < nameCount + depth) (w n : ℕ) (area : List ℕ) (paired : Paired w n area) (on : middle ≤ w) where
+  module _ (new : kindAt rows row ≡ 4 → ⊥) (known : (kindAt rows row ≡ 0 → ⊥) → channelAt rows row < nameCount + depth) (w n : ℕ) (area : List ℕ) (paired : Paired w n area) (on : middle ≤ w) where
     module _ (q : Question) (P : Term) (K : List Frame) (L R : Term) (first : ℕ) (s : Candidate) (c : RowCase q P K L R first s) (h : w < last) where
       abbrev ts : List Candidate
       ts = visible (bodyOf (q .bodies)) 1 R
@@ -106,25 +116,43 @@ module _ (question part : List ℕ) (at depth number x : ℕ) (rows : List ℕ) 
 
       unblocked : Unblocked depth s (kindAt rows row) (channelAt rows row) (objectAt rows row)
       unfolding Unblocked Row
-      unblocked k = (c .left k, known k)
+      unblocked k = (c .left k new, known k)
 
       other : Row depth t rows w
-      unfolding Rows
-      other = let e : middle + (w - middle) ≡ w = omega arith in subst (λ i. Row depth t rows i) e (c .right (w - middle) within)
+      unfolding RowsBehind
+      other = let e : middle + (w - middle) ≡ w = omega arith in subst (λ i. Row depth t rows i) e (c .right (w - middle) within .0)
+
+      -- if it comes earlier too, so does the communication with it
+      earlier : kindAt rows w ≡ 4 → getD (met K s ts) (w - middle) blocked ∈ take (w - middle) (met K s ts)
+      unfolding RowsBehind
+      earlier f =
+          let i : ℕ = w - middle in
+          let e : middle + (w - middle) ≡ w = omega arith in
+          let m : t ∈ take (w - middle) ts = c .right (w - middle) within .1 (ap (kindAt rows) e ∙ f) in
+          let l : take i (met K s ts) ≡ met K s (take i ts) = take-map (raised K) i (map (communication s) ts) ∙ ap (map (raised K)) (take-map (communication s) i ts) in
+          subst (λ d. d ∈ take i (met K s ts)) (sym (nth-met K s ts i))
+          (subst (λ cs. raised K (communication s t) ∈ cs) (sym l) (∈-map (raised K) (communication s t) (map (communication s) (take i ts)) (∈-map (communication s) t (take i ts) m)))
 
     pair-next : mostSteps * stepBytes ≤ length area → n ≤ mostSteps → w < last → mayMeet (kindAt rows row) (channelAt rows row) (kindAt rows w) (channelAt rows w) ≡ false
         → Paired (w + 1) n area
     unfolding Row PutIs Unblocked
     pair-next room few h m q P K L R first s c =
-        let ts : List Candidate = visible (bodyOf (q .bodies)) 1 R in
-        let e : raised K (communication s (getD ts (w - middle) blocked)) ≡ blocked =
-        pair-apart K depth (c .placed .level) s (getD ts (w - middle) blocked) (kindAt rows row) (channelAt rows row) (objectAt rows row) (kindAt rows w) (channelAt rows w) (objectAt rows w)
-        (unblocked q P K L R first s c h) (other q P K L R first s c h) m in
-        let put : PutIs (getD (met K s ts) (w - middle) blocked) x area n n area =
-        subst (λ d. PutIs d x area n n area) (sym (nth-met K s ts (w - middle) ∙ e)) (λ found stood. put-blocked area room x n found stood few) in
         let i : w - middle + 1 ≡ w + 1 - middle = omega arith in
-        subst (λ i. Progresses (met K s ts) x area₀ count i n area) i
-        (progress-step (met K s ts) x area₀ count (w - middle) n n area area (within-met q P K L R first s c h) (paired q P K L R first s c) put few)
+        subst (λ i. Progresses (met K s (visible (bodyOf (q .bodies)) 1 R)) x area₀ count i n area) i (go (eqb (kindAt rows w) 4) refl)
+      where
+        go : (b : Bool) → eqb (kindAt rows w) 4 ≡ b → Progresses (met K s (visible (bodyOf (q .bodies)) 1 R)) x area₀ count (w - middle + 1) n area
+        go true b =
+            progress-again (met K s (visible (bodyOf (q .bodies)) 1 R)) x area₀ count (w - middle) n area (within-met q P K L R first s c h)
+            (earlier q P K L R first s c h (eqb-true (kindAt rows w) 4 b)) (paired q P K L R first s c)
+        go false b =
+            let ts : List Candidate = visible (bodyOf (q .bodies)) 1 R in
+            let f = eqb-false (kindAt rows w) 4 b in
+            let e : raised K (communication s (getD ts (w - middle) blocked)) ≡ blocked =
+            pair-apart K depth (c .placed .level) s (getD ts (w - middle) blocked) (kindAt rows row) (channelAt rows row) (objectAt rows row) (kindAt rows w) (channelAt rows w) (objectAt rows w)
+            (unblocked q P K L R first s c h) (λ k. other q P K L R first s c h k f) f m in
+            let put : PutIs (getD (met K s ts) (w - middle) blocked) x area n n area =
+            subst (λ d. PutIs d x area n n area) (sym (nth-met K s ts (w - middle) ∙ e)) (λ found stood. put-blocked area room x n found stood few) in
+            progress-step (met K s ts) x area₀ count (w - middle) n n area area (within-met q P K L R first s c h) (paired q P K L R first s c) put few
 
     module _ (h : w < last) (m : mayMeet (kindAt rows row) (channelAt rows row) (kindAt rows w) (channelAt rows w) ≡ true) (r : ℕ) (area′ : List ℕ)
         (pair : PairIs question part at depth number (kindAt rows row) (channelAt rows row) (kindAt rows w) (channelAt rows w) (j + (w - middle)) x area n r area′) where
@@ -135,7 +163,8 @@ module _ (question part : List ℕ) (at depth number x : ℕ) (rows : List ℕ) 
           let ts : List Candidate = visible (bodyOf (q .bodies)) 1 R in
           subst (λ d. PutIs d x area n r area′) (sym (nth-met K s ts (w - middle)))
           (pair .is q P (c .lists) K L R first (c .placed) s (getD ts (w - middle) blocked) (objectAt rows row) (objectAt rows w)
-          (unblocked q P K L R first s c h) (other q P K L R first s c h) m (omega (arith, c .inside, within q P K L R first s c h))
+          (unblocked q P K L R first s c h)
+          (λ k. other q P K L R first s c h k (meets-new (kindAt rows row) (channelAt rows row) (kindAt rows w) (channelAt rows w) m)) m (omega (arith, c .inside, within q P K L R first s c h))
           (c .numbers (w - middle) (within q P K L R first s c h)))
 
       pub pair-put : r ≤ mostSteps → Paired (w + 1) r area′
@@ -146,21 +175,21 @@ module _ (question part : List ℕ) (at depth number x : ℕ) (rows : List ℕ) 
           (progress-step (met K s ts) x area₀ count (w - middle) n r area area′ (within-met q P K L R first s c h) (paired q P K L R first s c) (put-pair q P K L R first s c) few)
 
       pub pair-passed : mostSteps < r → MeetRowIs question part at depth number x rows row middle last j area₀ count r area′
-      pair-passed many = row-is r area′ (λ q P K L R first s c.
+      pair-passed many = row-is r area′ new (λ q P K L R first s c.
           progress-passed (met K s (visible (bodyOf (q .bodies)) 1 R)) x area₀ count (w - middle) n r area area′ (within-met q P K L R first s c h) (paired q P K L R first s c) (put-pair q P K L R first s c) many)
 
     pub row-done : last ≤ w → n ≤ mostSteps → MeetRowIs question part at depth number x rows row middle last j area₀ count n area
-    row-done h few = row-is n area (λ q P K L R first s c.
+    row-done h few = row-is n area new (λ q P K L R first s c.
         progress-done (met K s (visible (bodyOf (q .bodies)) 1 R)) x area₀ count (w - middle) n area
         (omega (arith, length-met K s (visible (bodyOf (q .bodies)) 1 R), c .ends)) few (paired q P K L R first s c))
 
   -- The rows that are passed over do not meet.
-  module _ (known : (kindAt rows row ≡ 0 → ⊥) → channelAt rows row < nameCount + depth) (n : ℕ) (area : List ℕ) (room : mostSteps * stepBytes ≤ length area) (few : n ≤ mostSteps) where
+  module _ (new : kindAt rows row ≡ 4 → ⊥) (known : (kindAt rows row ≡ 0 → ⊥) → channelAt rows row < nameCount + depth) (n : ℕ) (area : List ℕ) (room : mostSteps * stepBytes ≤ length area) (few : n ≤ mostSteps) where
     skip : (k w : ℕ) → Paired w n area → middle ≤ w → (r : ℕ) → r ≡ w + k → r ≤ last
         → ((v : ℕ) → w ≤ v → v < r → mayMeet (kindAt rows row) (channelAt rows row) (kindAt rows v) (channelAt rows v) ≡ false) → Paired r n area
     skip zero w p on r e h m = let f : w ≡ r = omega arith in subst (λ v. Paired v n area) f p
     skip (suc k) w p on r e h m =
-        skip k (w + 1) (pair-next known w n area p on room few (omega arith) (m w (omega arith) (omega arith))) (omega arith) r (omega arith) h
+        skip k (w + 1) (pair-next new known w n area p on room few (omega arith) (m w (omega arith) (omega arith))) (omega arith) r (omega arith) h
         (λ v a b. m v (omega arith) b)
 
     pub pairs-skipped : (from r : ℕ) → middle ≤ from → NextMetIs rows (kindAt rows row) (channelAt rows row) from last r → Paired from n area → Paired r n area
@@ -173,6 +202,14 @@ unfolding communications
 communications-++ [] us ts = refl
 communications-++ (s ∷ ss) us ts =
     ap (λ cs. map (communication s) ts ++ cs) (communications-++ ss us ts) ∙ sym (append-assoc (map (communication s) ts) (communications ss ts) (communications us ts))
+
+-- Those of a candidate that is one of us are among those of us.
+communications-among : (ts us : List Candidate) (s : Candidate) → s ∈ us → Among (map (communication s) ts) (communications us ts)
+unfolding communications
+communications-among ts (u ∷ us) s (inl e) c i =
+    ∈-left c (map (communication u) ts) (communications us ts) (subst (λ v. c ∈ map (communication v) ts) e i)
+communications-among ts (u ∷ us) s (inr m) c i =
+    ∈-right c (map (communication u) ts) (communications us ts) (communications-among ts us s m c i)
 
 module _ (K : List Frame) (ts : List Candidate) where
   abbrev pub all : List Candidate → List Candidate
@@ -244,9 +281,16 @@ module _ (question part : List ℕ) (at depth number before x : ℕ) (rows : Lis
         within-left : row - first < length lefts
         within-left = omega (arith, c .ends₁)
 
+        same-row : first + (row - first) ≡ row
+        same-row = omega arith
+
         own-row : Row depth (getD lefts (row - first) blocked) rows row
-        unfolding Rows
-        own-row = let e : first + (row - first) ≡ row = omega arith in subst (λ i. Row depth (getD lefts (row - first) blocked) rows i) e (c .left (row - first) within-left)
+        unfolding RowsBehind
+        own-row = subst (λ i. Row depth (getD lefts (row - first) blocked) rows i) same-row (c .left (row - first) within-left .0)
+
+        earlier-row : kindAt rows row ≡ 4 → getD lefts (row - first) blocked ∈ take (row - first) lefts
+        unfolding RowsBehind
+        earlier-row f = c .left (row - first) within-left .1 (ap (kindAt rows) same-row ∙ f)
 
         inside-silent : j + length rights ≤ length (silent (bodyOf (q .bodies)) 1 (par L R))
         unfolding candidates
@@ -272,9 +316,27 @@ module _ (question part : List ℕ) (at depth number before x : ℕ) (rows : Lis
             ∙ sides-par (bodyOf (q .bodies)) true 1 L R .third ((row - first) * length rights + w)
             ∙ nth-communication lefts rights (row - first) w within-left k
 
-        row-put : CollectIs (met K (getD lefts (row - first) blocked) rights) x area n r area′
-        row-put =
-            met-row .is q P (c .lists) K L R first (c .placed) (getD lefts (row - first) blocked) own-row (c .right) (c .ends₂) inside-silent numbered
+        row-put : (kindAt rows row ≡ 4 → ⊥) → CollectIs (met K (getD lefts (row - first) blocked) rights) x area n r area′
+        row-put new =
+            met-row .is q P (c .lists) K L R first (c .placed) (getD lefts (row - first) blocked) new own-row (c .right) (c .ends₂) inside-silent numbered
+
+        row-all : CollectIs (all K rights (take (row - first + 1) lefts)) x area₀ count r area′
+        row-all =
+            subst (λ cs. CollectIs cs x area₀ count r area′) (all-more K rights lefts (row - first) within-left) (go (eqb (kindAt rows row) 4) refl)
+          where
+            go : (b : Bool) → eqb (kindAt rows row) 4 ≡ b
+                → CollectIs (all K rights (take (row - first) lefts) ++ met K (getD lefts (row - first) blocked) rights) x area₀ count r area′
+            go true b =
+                let f = eqb-true (kindAt rows row) 4 b in
+                let (e, d) = met-row .over f in
+                subst (λ m. CollectIs (all K rights (take (row - first) lefts) ++ met K (getD lefts (row - first) blocked) rights) x area₀ count m area′) (sym e)
+                (subst (λ a. CollectIs (all K rights (take (row - first) lefts) ++ met K (getD lefts (row - first) blocked) rights) x area₀ count n a) (sym d)
+                (collect-again (all K rights (take (row - first) lefts)) (met K (getD lefts (row - first) blocked) rights) x area₀ count n area (so-far q P K L R c .1)
+                (within-map (raised K) (map (communication (getD lefts (row - first) blocked)) rights) (communications (take (row - first) lefts) rights)
+                (communications-among rights (take (row - first) lefts) (getD lefts (row - first) blocked) (earlier-row f)))))
+            go false b =
+                collect-then (all K rights (take (row - first) lefts)) (met K (getD lefts (row - first) blocked) rights) x area₀ count n area (so-far q P K L R c .1) few r area′
+                (row-put (eqb-false (kindAt rows row) 4 b))
 
       pub met-more : r ≤ mostSteps → Met (row + 1) r (j + (last - middle)) area′
       met-more more q P K L R c =
@@ -283,17 +345,12 @@ module _ (question part : List ℕ) (at depth number before x : ℕ) (rows : Lis
           let e : row - first + 1 ≡ row + 1 - first = omega arith in
           let g : suc (row - first) ≡ row + 1 - first = omega arith in (
             omega (arith, so-far q P K L R c .0, c .ends₂, suc-mul (row - first) (length ts), ap (λ k. k * length ts) g),
-            subst (λ cs. CollectIs cs x area₀ count r area′) (all-more K ts ss (row - first) (within-left q P K L R c) ∙ ap (λ k. all K ts (take k ss)) e)
-                (collect-then (all K ts (take (row - first) ss)) (met K (getD ss (row - first) blocked) ts) x area₀ count n area (so-far q P K L R c .1) few r area′
-                (row-put q P K L R c)),
+            subst (λ k. CollectIs (all K ts (take k ss)) x area₀ count r area′) e (row-all q P K L R c),
           )
 
       pub met-passed : mostSteps < r → MeetsIs question part at depth number before x rows first middle last area₀ count r area′
       met-passed many = meets-is r area′ (λ q P K L R c.
           let ss : List Candidate = visible (bodyOf (q .bodies)) 1 L in
           let ts : List Candidate = visible (bodyOf (q .bodies)) 1 R in
-          let all-so-far = subst (λ cs. CollectIs cs x area₀ count r area′) (all-more K ts ss (row - first) (within-left q P K L R c))
-          (collect-then (all K ts (take (row - first) ss)) (met K (getD ss (row - first) blocked) ts) x area₀ count n area (so-far q P K L R c .1) few r area′
-          (row-put q P K L R c)) in
           subst (λ cs. CollectIs cs x area₀ count r area′) (all-rest K ts ss (row - first + 1))
-          (collect-over (all K ts (take (row - first + 1) ss)) (all K ts (drop (row - first + 1) ss)) x area₀ count r area′ all-so-far many))
+          (collect-over (all K ts (take (row - first + 1) ss)) (all K ts (drop (row - first + 1) ss)) x area₀ count r area′ (row-all q P K L R c) many))

@@ -1,11 +1,11 @@
 -- Membership in a list, and what holds of every member. Assumes nothing.
 use mathlib.Core.List.{List, [], _∷_, _++_, map}
-use mathlib.Core.Logic.{inl, inr}
+use mathlib.Core.Logic.{_⊎_, inl, inr}
 use mathlib.Core.Path.{_≡_, refl, sym, _∙_, ap, subst}
 use native.Mathlib.Omega.{arith}
-use Prim.Native.Nat.{suc, _≤_}
-use lib.ListN.{length}
-use Rattle.steps.specs.Lists.{_∈_, All, Distinct}
+use Prim.Native.Nat.{ℕ, zero, suc, _≤_}
+use lib.ListN.{length, take}
+use Rattle.steps.specs.Lists.{_∈_, Among, All, Distinct}
 
 module _ {A : Type 0} where
   pub ∈-left : (x : A) (xs ys : List A) → x ∈ xs → x ∈ (xs ++ ys)
@@ -15,6 +15,22 @@ module _ {A : Type 0} where
   pub ∈-right : (x : A) (xs ys : List A) → x ∈ ys → x ∈ (xs ++ ys)
   ∈-right x [] ys m = m
   ∈-right x (y ∷ xs) ys m = inr (∈-right x xs ys m)
+
+  pub ∈-either : (x : A) (xs ys : List A) → x ∈ (xs ++ ys) → (x ∈ xs) ⊎ (x ∈ ys)
+  ∈-either x [] ys m = inr m
+  ∈-either x (y ∷ xs) ys (inl e) = inl (inl e)
+  ∈-either x (y ∷ xs) ys (inr m) = go (∈-either x xs ys m)
+    where
+      go : (x ∈ xs) ⊎ (x ∈ ys) → (x ∈ (y ∷ xs)) ⊎ (x ∈ ys)
+      go (inl n) = inl (inr n)
+      go (inr n) = inr n
+
+  pub within-either : (xs ys zs : List A) → Among xs zs → Among ys zs → Among (xs ++ ys) zs
+  within-either xs ys zs h k x m = go (∈-either x xs ys m)
+    where
+      go : (x ∈ xs) ⊎ (x ∈ ys) → x ∈ zs
+      go (inl n) = h x n
+      go (inr n) = k x n
 
   pub all-++ : (S : A → Type 0) (xs ys : List A) → All S xs → All S ys → All S (xs ++ ys)
   all-++ S [] ys a b = b
@@ -64,6 +80,19 @@ module _ {A B : Type 0} (f : A → B) where
   pub ∈-map : (x : A) (xs : List A) → x ∈ xs → f x ∈ map f xs
   ∈-map x (y ∷ xs) (inl e) = inl (ap f e)
   ∈-map x (y ∷ xs) (inr m) = inr (∈-map x xs m)
+
+  pub ∈-mapped : (y : B) (xs : List A) → y ∈ map f xs → (x : A) × (x ∈ xs) × (y ≡ f x)
+  ∈-mapped y (x ∷ xs) (inl e) = (x, inl refl, e)
+  ∈-mapped y (x ∷ xs) (inr m) = let (z, n, e) = ∈-mapped y xs m in (z, inr n, e)
+
+  pub take-map : (n : ℕ) (xs : List A) → take n (map f xs) ≡ map f (take n xs)
+  take-map zero xs = refl
+  take-map (suc n) [] = refl
+  take-map (suc n) (x ∷ xs) = ap (λ l. f x ∷ l) (take-map n xs)
+
+  pub within-map : (xs ys : List A) → Among xs ys → Among (map f xs) (map f ys)
+  within-map xs ys h y m =
+      let (x, n, e) = ∈-mapped y xs m in subst (λ z. z ∈ map f ys) (sym e) (∈-map x ys (h x n))
 
   pub all-map : (S : A → Type 0) (R : B → Type 0) (xs : List A) → ((x : A) → S x → R (f x)) → All S xs → All R (map f xs)
   all-map S R [] h a = tt

@@ -1,11 +1,11 @@
 -- What the row of a candidate says: of its action, outside a restriction, beside another term; and rows that are kept. Assumes nothing.
 use mathlib.Core.Path.{_≡_, refl, sym, ap, ap₂, subst, _∙_}
 use mathlib.Core.Bool.{Bool, true, false, cond, _&&_}
-use mathlib.Core.List.{List, [], _++_, map}
+use mathlib.Core.List.{List, [], _++_, map, append-assoc}
 use Prim.Native.Nat.{ℕ, zero, suc, _+_, _-_, _*_, _<_, _≤_}
 use native.Mathlib.Omega.{arith}
-use lib.ListN.{length, getD, length-append, length-map, List·getD-append}
-use lib.Seq.{getD-append-add}
+use lib.ListN.{length, getD, take, length-append, length-map, List·getD-append}
+use lib.Seq.{getD-append-add, take-append-le, take-append-add}
 use lib.Dec.{eqb, ltb}
 use borrow.Author.Tests.{eqb-true, eqb-false, ltb-true, ltb-false, lt-ltb}
 use Rattle.calculus.specs.Abstraction.{Act, tauA, inpA, outA, boutA, swap, weak}
@@ -13,10 +13,12 @@ use Rattle.calculus.specs.Term.{Term, par, res, ren}
 use Rattle.terms.specs.Limits.{nameCount}
 use Rattle.steps.specs.Labels.{actionOf, ActionBelow}
 use Rattle.steps.specs.Raw.{Candidate, step, blocked, leftSteps, rightSteps, sparesRestricted, restrictedAction, restricted, visible, visibleOf}
-use Rattle.steps.specs.Rows.{rowBytes, kindAt, channelAt, objectAt, rowAction, Outlined, Row, Rows, Unknown, RowsKept}
+use Rattle.steps.specs.Lists.{_∈_, Among}
+use Rattle.steps.specs.Rows.{rowBytes, kindAt, channelAt, objectAt, rowAction, Outlined, Row, RowsBehind, Rows, Unknown, RowsKept}
 use Rattle.steps.specs.Slots.{slotOf}
 use Rattle.steps.specs.declared.action.Action.{Action}
 use Rattle.steps.specs.declared.action.Action.the-variants.{Silent, Input, Output, NewOutput}
+use Rattle.steps.proofs.Membership.{∈-left, ∈-right, ∈-map, take-map, within-either}
 use Rattle.steps.proofs.NameSlots.{slot-inner}
 use Rattle.steps.proofs.Numbering.{nth-leftSteps, nth-rightSteps, nth-restricted}
 use Rattle.steps.proofs.SlotLaws.{slot-restricted, slot-outside}
@@ -149,32 +151,60 @@ module _ (d kind channel object : ℕ) where
     acts = λ h. let (α, A, e, act, b) = O .acts h in (α, par (weak α P) A, ap (rightSteps P) e, act, b);
   }
 
--- The rows of a list of candidates.
+-- The rows of a list of candidates, behind others.
 module _ (rows : List ℕ) (n d : ℕ) where
-  pub rows-unknown : (cs : List Candidate) → Unknown (length cs) rows n → Rows d cs rows n
-  unfolding Rows Row Unknown
-  rows-unknown cs u j h known = absurd (known (u j h))
+  pub rows-unknown : (before cs : List Candidate) → Unknown (length cs) rows n → RowsBehind before d cs rows n
+  unfolding RowsBehind Row Unknown
+  rows-unknown before cs u j h = (λ known new. absurd (known (u j h)), λ e. absurd (omega (arith, u j h)))
 
-  pub rows-append : (ps qs : List Candidate) → Rows d ps rows n → Rows d qs rows (n + length ps) → Rows d (ps ++ qs) rows n
-  unfolding Rows
-  rows-append ps qs f g j h = go (ltb j (length ps)) refl
+  -- behind more of them
+  pub rows-more : (before before′ cs : List Candidate) → Among before before′ → RowsBehind before d cs rows n → RowsBehind before′ d cs rows n
+  unfolding RowsBehind
+  rows-more before before′ cs m r j h = (
+    r j h .0,
+    λ e.
+        within-either before (take j cs) (before′ ++ take j cs)
+        (λ c i. ∈-left c before′ (take j cs) (m c i)) (λ c i. ∈-right c before′ (take j cs) i)
+        (getD cs j blocked) (r j h .1 e),
+  )
+
+  abbrev One : Candidate → List Candidate → ℕ → Type 0
+  One c cs i = Row d c rows i × (kindAt rows i ≡ 4 → c ∈ cs)
+
+  pub rows-append : (before ps qs : List Candidate) → RowsBehind before d ps rows n → RowsBehind (before ++ ps) d qs rows (n + length ps) → RowsBehind before d (ps ++ qs) rows n
+  unfolding RowsBehind
+  rows-append before ps qs f g j h = go (ltb j (length ps)) refl
     where
-      go : (t : Bool) → ltb j (length ps) ≡ t → Row d (getD (ps ++ qs) j blocked) rows (n + j)
-      go true t = let l = ltb-true j (length ps) t in rw (List·getD-append ps qs blocked j l) (f j l)
+      go : (t : Bool) → ltb j (length ps) ≡ t → One (getD (ps ++ qs) j blocked) (before ++ take j (ps ++ qs)) (n + j)
+      go true t =
+          let l = ltb-true j (length ps) t in
+          let e : take j (ps ++ qs) ≡ take j ps = take-append-le j ps qs (omega arith) in
+          rw (List·getD-append ps qs blocked j l, e) (f j l)
       go false t =
           let l = ltb-false j (length ps) t in
+          let k : ℕ = j - length ps in
           let e : length ps + (j - length ps) ≡ j = omega arith in
           let p : n + length ps + (j - length ps) ≡ n + j = omega arith in
           let c : getD (ps ++ qs) j blocked ≡ getD qs (j - length ps) blocked = ap (λ (k : ℕ). getD (ps ++ qs) k blocked) (sym e) ∙ getD-append-add ps qs (j - length ps) blocked in
-          subst (λ (c : Candidate). Row d c rows (n + j)) (sym c) (subst (λ (i : ℕ). Row d (getD qs (j - length ps) blocked) rows i) p (g (j - length ps) (omega (arith, length-append ps qs))))
+          let b : before ++ take j (ps ++ qs) ≡ (before ++ ps) ++ take (j - length ps) qs =
+          ap (λ (k : ℕ). before ++ take k (ps ++ qs)) (sym e) ∙ ap (λ cs. before ++ cs) (take-append-add ps qs (j - length ps)) ∙ sym (append-assoc before ps (take (j - length ps) qs)) in
+          subst (λ (c : Candidate). One c (before ++ take j (ps ++ qs)) (n + j)) (sym c)
+          (subst (λ (cs : List Candidate). One (getD qs (j - length ps) blocked) cs (n + j)) (sym b)
+          (subst (λ (i : ℕ). One (getD qs (j - length ps) blocked) ((before ++ ps) ++ take (j - length ps) qs) i) p (g (j - length ps) (omega (arith, length-append ps qs)))))
 
   -- A rule with one premise, from rows under d₁ restrictions.
   by-rule : (d₁ : ℕ) (f : Candidate → Candidate) → ((kind channel object : ℕ) (c : Candidate) → Outlined d₁ c kind channel object → Outlined d (f c) kind channel object)
       → (cs : List Candidate) → ((i : ℕ) → getD (map f cs) i blocked ≡ f (getD cs i blocked)) → Rows d₁ cs rows n → Rows d (map f cs) rows n
-  unfolding Rows Row
-  by-rule d₁ f keeps cs nth r j h known =
-      subst (λ (c : Candidate). Outlined d c (kindAt rows (n + j)) (channelAt rows (n + j)) (objectAt rows (n + j))) (sym (nth j))
-      (keeps _ _ _ (getD cs j blocked) (r j (omega (arith, length-map cs f)) known))
+  unfolding RowsBehind Row
+  by-rule d₁ f keeps cs nth r j h =
+      let l : j < length cs = omega (arith, length-map cs f) in (
+        λ known new.
+            subst (λ (c : Candidate). Outlined d c (kindAt rows (n + j)) (channelAt rows (n + j)) (objectAt rows (n + j))) (sym (nth j))
+            (keeps _ _ _ (getD cs j blocked) (r j l .0 known new)),
+        λ e.
+            subst (λ (c : Candidate). c ∈ take j (map f cs)) (sym (nth j))
+            (subst (λ (l : List Candidate). f (getD cs j blocked) ∈ l) (sym (take-map f j cs)) (∈-map f (getD cs j blocked) (take j cs) (r j l .1 e))),
+      )
 
   pub rows-left : (Q : Term) (cs : List Candidate) → Rows d cs rows n → Rows d (map (leftSteps Q) cs) rows n
   rows-left Q cs = by-rule d (leftSteps Q) (λ k a o. outlined-left d k a o Q) cs (nth-leftSteps Q cs)
@@ -194,8 +224,9 @@ module _ (body : ℕ → Term) (calls : ℕ) (rows : List ℕ) (n d : ℕ) where
       let qs = visible body calls Q in
       let ls = map (leftSteps Q) ps in
       let rs = map (rightSteps P) qs in
-      rows-append rows n d ls rs (rows-left rows n d Q ps f)
-      (subst (λ (k : ℕ). Rows d rs rows (n + k)) (sym (length-map ps (leftSteps Q))) (rows-right rows (n + length ps) d P qs g))
+      rows-append rows n d [] ls rs (rows-left rows n d Q ps f)
+      (subst (λ (k : ℕ). RowsBehind ls d rs rows (n + k)) (sym (length-map ps (leftSteps Q)))
+      (rows-more rows (n + length ps) d [] ls rs (λ c m. absurd m) (rows-right rows (n + length ps) d P qs g)))
 
   pub rows-res : (P : Term) → Rows (1 + d) (visible body calls P) rows n → Rows d (visible body calls (res P)) rows n
   unfolding visible visibleOf
@@ -219,12 +250,15 @@ module _ (m : ℕ) (rows rows′ : List ℕ) (kept : RowsKept m rows rows′) wh
   unfolding Unknown
   unknown-kept count n h u j l = kind-kept (n + j) (omega arith) ∙ u j l
 
-  pub rows-kept : (d n : ℕ) (cs : List Candidate) → n + length cs ≤ m → Rows d cs rows n → Rows d cs rows′ n
-  unfolding Rows Row RowsKept channelAt objectAt
-  rows-kept d n cs h r j l known =
+  pub rows-kept : (before : List Candidate) (d n : ℕ) (cs : List Candidate) → n + length cs ≤ m → RowsBehind before d cs rows n → RowsBehind before d cs rows′ n
+  unfolding RowsBehind Row RowsKept channelAt objectAt
+  rows-kept before d n cs h r j l =
       let k = kind-kept (n + j) (omega arith) in
       let a : channelAt rows′ (n + j) ≡ channelAt rows (n + j) = kept (rowBytes * (n + j) + 1) (omega arith) in
-      let o : objectAt rows′ (n + j) ≡ objectAt rows (n + j) = kept (rowBytes * (n + j) + 2) (omega arith) in
-      subst (λ (k : ℕ). Outlined d (getD cs j blocked) k (channelAt rows′ (n + j)) (objectAt rows′ (n + j))) (sym k)
-      (subst (λ (a : ℕ). Outlined d (getD cs j blocked) (kindAt rows (n + j)) a (objectAt rows′ (n + j))) (sym a)
-      (subst (λ (o : ℕ). Outlined d (getD cs j blocked) (kindAt rows (n + j)) (channelAt rows (n + j)) o) (sym o) (r j l (λ z. known (k ∙ z)))))
+      let o : objectAt rows′ (n + j) ≡ objectAt rows (n + j) = kept (rowBytes * (n + j) + 2) (omega arith) in (
+        λ known new.
+            subst (λ (k : ℕ). Outlined d (getD cs j blocked) k (channelAt rows′ (n + j)) (objectAt rows′ (n + j))) (sym k)
+            (subst (λ (a : ℕ). Outlined d (getD cs j blocked) (kindAt rows (n + j)) a (objectAt rows′ (n + j))) (sym a)
+            (subst (λ (o : ℕ). Outlined d (getD cs j blocked) (kindAt rows (n + j)) (channelAt rows (n + j)) o) (sym o) (r j l .0 (λ z. known (k ∙ z)) (λ z. new (k ∙ z))))),
+        λ e. r j l .1 (sym k ∙ e),
+      )

@@ -2,12 +2,13 @@
 use mathlib.Core.Path.{_≡_, refl, sym, ap, ap₂, subst, _∙_}
 use mathlib.Core.Bool.{Bool, true, false}
 use mathlib.Core.List.{List, [], _∷_, _++_, map, append-nil}
+use mathlib.Core.Logic.{inl}
 use Prim.Native.Nat.{ℕ, suc, _+_, _-_, _*_, _<_, _≤_}
 use native.Mathlib.Omega.{arith}
-use lib.ListN.{length, getD, set, drop, length-append, length-map, length-set}
+use lib.ListN.{length, getD, set, take, drop, length-append, length-map, length-set}
 use lib.Seq.{getD-set-same, getD-set-other}
 use lib.Dec.{ltb}
-use borrow.Author.Tests.{ltb-true, ltb-false, ne-eqb}
+use borrow.Author.Tests.{ltb-true, ltb-false, eq-eqb, ne-eqb}
 use Rattle.calculus.specs.Abstraction.{Act, inpA, outA, boutA}
 use Rattle.calculus.specs.Term.{Term, inp, out, bout, sum, par, res, call, lift, ren}
 use Rattle.terms.specs.Answer.{result}
@@ -19,9 +20,10 @@ use Rattle.steps.specs.Bodies.{BodyIs, OpeningIs}
 use Rattle.steps.specs.Labels.{actionOf, ActionBelow}
 use Rattle.steps.specs.LabelWalk.{slotAt, HasSlots, ArgumentsIs}
 use Rattle.steps.specs.Listing.{bodyOf}
+use Rattle.steps.specs.Lists.{_∈_, Among}
 use Rattle.steps.specs.Passing.{candidates, MiddleIs}
 use Rattle.steps.specs.Raw.{Candidate, step, blocked, matching, leftSteps, rightSteps, restricted, visible, visibleOf, visibleCalls}
-use Rattle.steps.specs.Rows.{rowBytes, mostRows, kindAt, channelAt, objectAt, rowAction, Outlined, Row, Rows, Unknown, RowsKept, PutRowIs, sentSlot, PrefixRowIs, ScanIs}
+use Rattle.steps.specs.Rows.{rowBytes, mostRows, kindAt, channelAt, objectAt, rowAction, Outlined, Row, RowsBehind, Rows, Unknown, RowsKept, PutRowIs, sentSlot, PrefixRowIs, Offers, rootOf, RepeatedIs, ScanIs}
 use Rattle.steps.specs.Slots.{slotOf}
 use Rattle.steps.specs.Tally.{TallyIs}
 use Rattle.steps.specs.declared.action.Action.the-variants.{Input, Output, NewOutput}
@@ -29,8 +31,10 @@ use Rattle.steps.specs.declared.bodies.Opening.{Opening}
 use Rattle.steps.proofs.ArgumentSlots.{slots-lift, slot-read, slots-call}
 use Rattle.steps.proofs.CallLaws.{params, at-call, body-scope}
 use Rattle.steps.proofs.CandidateForms.{candidates-call, tag, tag-at, only-mat, only-res, only-two, only-prefix}
+use Rattle.steps.proofs.ChoiceLaws.{offers-alone, offers-left, offers-right}
 use Rattle.steps.proofs.FrontLaws.{stands, behind}
-use Rattle.steps.proofs.RowLaws.{row-input, row-output, row-new, rows-unknown, rows-append, rows-par, rows-res, rows-kept, unknown-kept, kept-all, kept-then}
+use Rattle.steps.proofs.Membership.{∈-left}
+use Rattle.steps.proofs.RowLaws.{row-input, row-output, row-new, rows-unknown, rows-more, rows-append, rows-par, rows-res, rows-kept, unknown-kept, kept-all, kept-then}
 use Rattle.steps.proofs.SlotLaws.{slot-below}
 use Rattle.steps.proofs.TwoSides.{at-left}
 use Rattle.steps.proofs.TwoSides as two
@@ -67,10 +71,11 @@ module _ (body : ℕ → Term) (calls : ℕ) where
       let qs = visible body calls Q in
       omega (arith, length-append (map (leftSteps Q) ps) (map (rightSteps P) qs), length-map ps (leftSteps Q), length-map qs (rightSteps P))
 
-  rows-sum : (rows : List ℕ) (n d : ℕ) (P Q : Term) → Rows d (visible body calls P) rows n → Rows d (visible body calls Q) rows (n + length (visible body calls P))
-      → Rows d (visible body calls (sum P Q)) rows n
+  rows-sum : (rows : List ℕ) (n d : ℕ) (before : List Candidate) (P Q : Term) → RowsBehind before d (visible body calls P) rows n
+      → RowsBehind (before ++ visible body calls P) d (visible body calls Q) rows (n + length (visible body calls P))
+      → RowsBehind before d (visible body calls (sum P Q)) rows n
   unfolding visible visibleOf
-  rows-sum rows n d P Q = rows-append rows n d (visible body calls P) (visible body calls Q)
+  rows-sum rows n d before P Q = rows-append rows n d before (visible body calls P) (visible body calls Q)
 
 -- A row is put, or there is no room for it.
 module _ (kind channel object n : ℕ) (rows : List ℕ) where
@@ -118,20 +123,45 @@ module _ (s : List ℕ) (at : ℕ) (args : List ℕ) (inner depth t channel obje
       let o : object ≡ sentSlot s at args inner depth = rw (ne-eqb (getD s at 0) 3 (λ k. z (a ∙ k))) e in
       prefix-row o
 
+-- Where the choice of a side begins.
+module _ (t root at : ℕ) where
+  root-choice : t ≡ 6 → rootOf t root at ≡ root
+  unfolding rootOf
+  root-choice e = simp (eq-eqb t 6 e)
+
+  root-other : (t ≡ 6 → ⊥) → rootOf t root at ≡ at
+  unfolding rootOf
+  root-other n = simp (ne-eqb t 6 n)
+
 -- One row.
 module _ (d kind channel object : ℕ) (rows : List ℕ) (n : ℕ) (k : kindAt rows n ≡ kind) where
   one-unknown : kind ≡ 0 → Unknown 1 rows n
   unfolding Unknown
   one-unknown z j h = let e : n + j ≡ n = omega arith in ap (kindAt rows) e ∙ k ∙ z
 
-  one-row : channelAt rows n ≡ channel → objectAt rows n ≡ object → (c : Candidate) → Outlined d c kind channel object → Rows d (c ∷ []) rows n
-  unfolding Rows Row
-  one-row a o c O j h known =
+  one-row : channelAt rows n ≡ channel → objectAt rows n ≡ object → (before : List Candidate) (c : Candidate) → Outlined d c kind channel object
+      → RowsBehind before d (c ∷ []) rows n
+  unfolding RowsBehind Row
+  one-row a o before c O j h =
       let z : j ≡ 0 = omega arith in
       let e : n ≡ n + j = omega arith in
-      subst (λ (i : ℕ). Outlined d (getD (c ∷ []) j blocked) (kindAt rows i) (channelAt rows i) (objectAt rows i)) e
-      (subst (λ (i : ℕ). Outlined d (getD (c ∷ []) i blocked) (kindAt rows n) (channelAt rows n) (objectAt rows n)) (sym z)
-      (rw (k, a, o) O))
+      let w = O .known in (
+        λ known new.
+            subst (λ (i : ℕ). Outlined d (getD (c ∷ []) j blocked) (kindAt rows i) (channelAt rows i) (objectAt rows i)) e
+            (subst (λ (i : ℕ). Outlined d (getD (c ∷ []) i blocked) (kindAt rows n) (channelAt rows n) (objectAt rows n)) (sym z)
+            (rw (k, a, o) O)),
+        λ f. absurd (omega (arith, ap (kindAt rows) e ∙ f)),
+      )
+
+  -- of a candidate that comes earlier too
+  one-again : kind ≡ 4 → (before : List Candidate) (c : Candidate) → c ∈ before → RowsBehind before d (c ∷ []) rows n
+  unfolding RowsBehind Row
+  one-again f before c m j h =
+      let z : j ≡ 0 = omega arith in
+      let e : n + j ≡ n = omega arith in (
+        λ known new. absurd (new (ap (kindAt rows) e ∙ k ∙ f)),
+        λ _. ∈-left (getD (c ∷ []) j blocked) before (take j (c ∷ [])) (subst (λ (i : ℕ). getD (c ∷ []) i blocked ∈ before) (sym z) m),
+      )
 
 -- The candidate of a visible prefix.
 module _ (d kind channel object : ℕ) (α : Act) (A : Term) (few : kind ≤ 3) (below : channel < nameCount + d) (e : actionOf d α ≡ rowAction d kind channel object) (b : ActionBelow (d + nameCount) α) where
@@ -142,82 +172,86 @@ module _ (d kind channel object : ℕ) (α : Act) (A : Term) (few : kind ≤ 3) 
     acts = λ h. (α, A, refl, e, b);
   }
 
-module _ (question s : List ℕ) (at : ℕ) (asked : Bool) (args : List ℕ) (inner depth calls n : ℕ) (rows : List ℕ) where
+module _ (question s : List ℕ) (root at : ℕ) (asked : Bool) (args : List ℕ) (inner depth calls n : ℕ) (rows : List ℕ) where
   abbrev seen : Question → (ℕ → ℕ) → Term → List Candidate
   seen q σ P = visible (bodyOf (q .bodies)) calls (ren σ P)
 
   -- what is to be shown of the candidates of each form
-  abbrev Has : ℕ → List ℕ → List Candidate → Type 0
-  Has r rows′ cs = (r ≡ n + length cs) × Rows depth cs rows′ n × (asked ≡ true → Unknown (length cs) rows′ n)
+  abbrev Has : List Candidate → ℕ → List ℕ → List Candidate → Type 0
+  Has before r rows′ cs = (r ≡ n + length cs) × RowsBehind before depth cs rows′ n × (asked ≡ true → Unknown (length cs) rows′ n)
 
-  abbrev Shows : Question → (ℕ → ℕ) → ℕ → List ℕ → Term → Type 0
-  Shows q σ r rows′ P = n + length (seen q σ P) ≤ mostRows → Has r rows′ (seen q σ P)
+  abbrev Shows : List Candidate → Question → (ℕ → ℕ) → ℕ → List ℕ → Term → Type 0
+  Shows before q σ r rows′ P = n + length (seen q σ P) ≤ mostRows → Has before r rows′ (seen q σ P)
 
-  abbrev Stands : Question → ℕ → ℕ → (ℕ → ℕ) → List ℕ → ℕ → List ℕ → Term → Type 0
-  Stands q free D σ rest r rows′ P = InScope free (q .arities) D P → drop at s ≡ encode D P ++ rest → Shows q σ r rows′ P
+  abbrev Stands : List Candidate → Question → ℕ → ℕ → (ℕ → ℕ) → List ℕ → ℕ → List ℕ → Term → Type 0
+  Stands before q free D σ rest r rows′ P = InScope free (q .arities) D P → drop at s ≡ encode D P ++ rest → Shows before q σ r rows′ P
 
-  has-none : Has n rows []
-  has-none = (omega arith, rows-unknown rows n depth [] (unknown-none rows n), λ e. unknown-none rows n)
+  has-none : (before : List Candidate) → Has before n rows []
+  has-none before = (omega arith, rows-unknown rows n depth before [] (unknown-none rows n), λ e. unknown-none rows n)
+
+  -- behind nothing, and so behind anything
+  behind-all : (before : List Candidate) (rows′ : List ℕ) (cs : List Candidate) → Rows depth cs rows′ n → RowsBehind before depth cs rows′ n
+  behind-all before rows′ cs = rows-more rows′ n depth [] before cs (λ c m. absurd m)
 
   -- no term stands past the end
-  pub scan-none : n ≤ mostRows + 1 → length s ≤ at → ScanIs question s at asked args inner depth calls n rows n rows
+  pub scan-none : n ≤ mostRows + 1 → length s ≤ at → ScanIs question s root at asked args inner depth calls n rows n rows
   scan-none m h = record {
     on = omega arith;
     inside = m;
     kept = kept-all n rows;
-    is = λ q free D σ P rest ok few has scope st. let z = stands s at D P rest st in absurd (omega arith);
+    is = λ q free D σ P rest before ok few has scope st o. let z = stands s at D P rest st in absurd (omega arith);
   }
 
   -- inaction and the silent prefix
-  pub scan-idle : n ≤ mostRows + 1 → getD s at 0 < 2 → ScanIs question s at asked args inner depth calls n rows n rows
+  pub scan-idle : n ≤ mostRows + 1 → getD s at 0 < 2 → ScanIs question s root at asked args inner depth calls n rows n rows
   unfolding visible visibleOf
   scan-idle m g = record {
     on = omega arith;
     inside = m;
     kept = kept-all n rows;
-    is = λ q free D σ P rest ok few has scope st.
+    is = λ q free D σ P rest before ok few has scope st o.
         let k = tag-at s at D P rest st in
-        only-prefix (λ (P : Term). tag P < 2 → Shows q σ n rows P)
-        (λ h l. has-none) (λ P h l. has-none) (λ a P h l. absurd (omega arith)) (λ a b P h l. absurd (omega arith)) (λ a P h l. absurd (omega arith))
+        only-prefix (λ (P : Term). tag P < 2 → Shows before q σ n rows P)
+        (λ h l. has-none before) (λ P h l. has-none before) (λ a P h l. absurd (omega arith)) (λ a b P h l. absurd (omega arith)) (λ a P h l. absurd (omega arith))
         P (omega arith) (omega arith);
   }
 
   module _ (l : 1 < getD s at 0) (g : getD s at 0 < 5) (r : ℕ) (rows′ : List ℕ) where
     -- beneath a match
-    pub scan-asked : PutRowIs 0 0 0 n rows r rows′ → ScanIs question s at asked args inner depth calls n rows r rows′
+    pub scan-asked : PutRowIs 0 0 0 n rows r rows′ → ScanIs question s root at asked args inner depth calls n rows r rows′
     unfolding visible visibleOf
     scan-asked R = record {
       on = R .on;
       inside = R .inside;
       kept = R .kept;
-      is = λ q free D σ P rest ok few has scope st.
+      is = λ q free D σ P rest before ok few has scope st o.
           let k = tag-at s at D P rest st in
-          let one : (c : Candidate) → n + 1 ≤ mostRows → Has r rows′ (c ∷ []) =
+          let one : (c : Candidate) → n + 1 ≤ mostRows → Has before r rows′ (c ∷ []) =
           λ c h.
           let w = R .is (omega arith) in
           let u = one-unknown depth 0 0 0 rows′ n (w .1) refl in
-          (w .0, rows-unknown rows′ n depth (c ∷ []) u, λ e. u) in
-          only-prefix (λ (P : Term). 1 < tag P → Shows q σ r rows′ P)
+          (w .0, rows-unknown rows′ n depth before (c ∷ []) u, λ e. u) in
+          only-prefix (λ (P : Term). 1 < tag P → Shows before q σ r rows′ P)
           (λ h. absurd (omega arith)) (λ P h. absurd (omega arith)) (λ a P h. one _) (λ a b P h. one _) (λ a P h. one _)
           P (omega arith) (omega arith);
     }
 
-    pub scan-prefix : asked ≡ false → PrefixRowIs s at args inner depth n rows r rows′ → ScanIs question s at asked args inner depth calls n rows r rows′
+    pub scan-prefix : asked ≡ false → PrefixRowIs s at args inner depth n rows r rows′ → ScanIs question s root at asked args inner depth calls n rows r rows′
     unfolding visible visibleOf InScope encode sentSlot actionOf ActionBelow
     scan-prefix f R = record {
       on = R .on;
       inside = R .inside;
       kept = R .kept;
-      is = λ q free D σ P rest ok few has scope st.
+      is = λ q free D σ P rest before ok few has scope st o.
           let read = slot-read free D args inner depth σ few has s at in
           let t = tag-at s at D P rest st in
           let channel = slotAt args inner depth (getD s (at + 1) 0) in
           let object = sentSlot s at args inner depth in
-          let one : (c : Candidate) → Outlined depth c (getD s at 0 - 1) channel object → n + 1 ≤ mostRows → Has r rows′ (c ∷ []) =
+          let one : (c : Candidate) → Outlined depth c (getD s at 0 - 1) channel object → n + 1 ≤ mostRows → Has before r rows′ (c ∷ []) =
           λ c O h.
           let w = R .is (omega arith) in
-          (w .0, one-row depth (getD s at 0 - 1) channel object rows′ n (w .1) (w .2) (w .3) c O, λ e. absurd (clash e)) in
-          only-prefix (λ (P : Term). 1 < tag P → getD s at 0 ≡ tag P → Stands q free D σ rest r rows′ P)
+          (w .0, one-row depth (getD s at 0 - 1) channel object rows′ n (w .1) (w .2) (w .3) before c O, λ e. absurd (clash e)) in
+          only-prefix (λ (P : Term). 1 < tag P → getD s at 0 ≡ tag P → Stands before q free D σ rest r rows′ P)
           (λ h k. absurd (omega arith)) (λ P h k. absurd (omega arith))
           (λ a P h k scope st.
           let u = read 1 a (scope .0) (getD-front s at (encode D (inp a P)) rest 1 st (omega arith)) channel refl in
@@ -239,117 +273,160 @@ module _ (question s : List ℕ) (at : ℕ) (asked : Bool) (args : List ℕ) (in
         clash : asked ≡ true → ⊥
         clash e = let z : _≡_ {A = ℕ} 0 1 = cc in omega arith
 
+    -- a branch that the choice has before
+    pub scan-again : asked ≡ false → RepeatedIs question s root at true → PutRowIs 4 0 0 n rows r rows′ → ScanIs question s root at asked args inner depth calls n rows r rows′
+    unfolding visible visibleOf
+    scan-again f again R = record {
+      on = R .on;
+      inside = R .inside;
+      kept = R .kept;
+      is = λ q free D σ P rest before ok few has scope st o.
+          let k = tag-at s at D P rest st in
+          let there = again .is q calls free D σ P rest before refl ok few scope st (λ e. omega arith) o in
+          let one : (c : Candidate) → c ∈ before → n + 1 ≤ mostRows → Has before r rows′ (c ∷ []) =
+          λ c m h.
+          let w = R .is (omega arith) in
+          (w .0, one-again depth 4 0 0 rows′ n (w .1) refl before c m, λ e. absurd (clash e)) in
+          only-prefix (λ (P : Term). 1 < tag P → Among (seen q σ P) before → Shows before q σ r rows′ P)
+          (λ h m. absurd (omega arith)) (λ P h m. absurd (omega arith))
+          (λ a P h m. one _ (m _ (inl refl))) (λ a b P h m. one _ (m _ (inl refl))) (λ a P h m. one _ (m _ (inl refl)))
+          P (omega arith) (omega arith) there;
+    }
+      where
+        clash : asked ≡ true → ⊥
+        clash e = let z : _≡_ {A = ℕ} 0 1 = cc in omega arith
+
   -- [Match]
-  pub scan-mat : getD s at 0 ≡ 5 → (r : ℕ) (rows′ : List ℕ) → ScanIs question s (at + 3) true args inner depth calls n rows r rows′ → ScanIs question s at asked args inner depth calls n rows r rows′
+  pub scan-mat : getD s at 0 ≡ 5 → (r : ℕ) (rows′ : List ℕ) → ScanIs question s (at + 3) (at + 3) true args inner depth calls n rows r rows′ → ScanIs question s root at asked args inner depth calls n rows r rows′
   unfolding visible visibleOf InScope encode
   scan-mat g r rows′ X = record {
     on = X .on;
     inside = X .inside;
     kept = X .kept;
-    is = λ q free D σ P rest ok few has scope st. only-mat (Stands q free D σ rest r rows′)
+    is = λ q free D σ P rest before ok few has scope st o. only-mat (Stands before q free D σ rest r rows′)
         (λ a b P scope st h.
         let cs = seen q σ P in
         let m : length (map (matching (σ a) (σ b)) cs) ≡ length cs = length-map cs (matching (σ a) (σ b)) in
-        let w = X .is q free D σ P rest ok few has (scope .2) (behind s at 3 (5 ∷ nameByte D a ∷ nameByte D b ∷ []) (encode D P ++ rest) st refl) (omega arith) in
+        let w = X .is q free D σ P rest [] ok few has (scope .2) (behind s at 3 (5 ∷ nameByte D a ∷ nameByte D b ∷ []) (encode D P ++ rest) st refl) (offers-alone (bodyOf (q .bodies)) calls (q .arities) free D σ s [] (at + 3)) (omega arith) in
         let u : Unknown (length (map (matching (σ a) (σ b)) cs)) rows′ n = rw m (w .2 refl) in
-        (w .0 ∙ omega arith, rows-unknown rows′ n depth (map (matching (σ a) (σ b)) cs) u, λ e. u))
+        (w .0 ∙ omega arith, rows-unknown rows′ n depth before (map (matching (σ a) (σ b)) cs) u, λ e. u))
         P (sym (tag-at s at D P rest st) ∙ g) scope st;
   }
 
   -- [Res] and [Open]
-  pub scan-res : getD s at 0 ≡ 8 → (r : ℕ) (rows′ : List ℕ) → ScanIs question s (at + 1) asked args (inner + 1) (depth + 1) calls n rows r rows′
-      → ScanIs question s at asked args inner depth calls n rows r rows′
+  pub scan-res : getD s at 0 ≡ 8 → (r : ℕ) (rows′ : List ℕ) → ScanIs question s (at + 1) (at + 1) asked args (inner + 1) (depth + 1) calls n rows r rows′
+      → ScanIs question s root at asked args inner depth calls n rows r rows′
   unfolding InScope encode
   scan-res g r rows′ X = record {
     on = X .on;
     inside = X .inside;
     kept = X .kept;
-    is = λ q free D σ P rest ok few has scope st. only-res (Stands q free D σ rest r rows′)
+    is = λ q free D σ P rest before ok few has scope st o. only-res (Stands before q free D σ rest r rows′)
         (λ P scope st h.
         let cs = seen q (lift σ) P in
         let d : depth + 1 ≡ 1 + depth = omega arith in
         let m = many-res (bodyOf (q .bodies)) calls (ren (lift σ) P) in
-        let w = X .is q free (1 + D) (lift σ) P rest ok few (slots-lift free D args inner depth σ few has) scope (behind s at 1 (8 ∷ []) (encode (1 + D) P ++ rest) st refl) (omega arith) in
-        (w .0 ∙ omega arith, rows-res (bodyOf (q .bodies)) calls rows′ n depth (ren (lift σ) P) (subst (λ (d : ℕ). Rows d cs rows′ n) d (w .1)), λ e. rw m (w .2 e)))
+        let w = X .is q free (1 + D) (lift σ) P rest [] ok few (slots-lift free D args inner depth σ few has) scope (behind s at 1 (8 ∷ []) (encode (1 + D) P ++ rest) st refl) (offers-alone (bodyOf (q .bodies)) calls (q .arities) free (1 + D) (lift σ) s [] (at + 1)) (omega arith) in
+        (w .0 ∙ omega arith, behind-all before rows′ _ (rows-res (bodyOf (q .bodies)) calls rows′ n depth (ren (lift σ) P) (subst (λ (d : ℕ). Rows d cs rows′ n) d (w .1))), λ e. rw m (w .2 e)))
         P (sym (tag-at s at D P rest st) ∙ g) scope st;
   }
 
   -- A choice or a parallel: the left side's rows, then the right side's.
-  module _ (l : 5 < getD s at 0) (g : getD s at 0 < 8) (numbers : List ℕ) (T : TallyIs question s calls numbers) (middle : ℕ) (N : MiddleIs s numbers at middle) (r₁ : ℕ) (rows₁ : List ℕ)
-      (X : ScanIs question s (at + 1) asked args inner depth calls n rows r₁ rows₁) (r : ℕ) (rows′ : List ℕ)
-      (Y : ScanIs question s middle asked args inner depth calls r₁ rows₁ r rows′) where
-    sides : (q : Question) (free D : ℕ) (σ : ℕ → ℕ) (P Q : Term) (rest : List ℕ) → checkOf question ≡ result q → free ≤ nameCount → HasSlots free D args inner depth σ
-        → InScope free (q .arities) D P → InScope free (q .arities) D Q → drop (at + 1) s ≡ encode D P ++ (encode D Q ++ rest)
+  module _ (l : 5 < getD s at 0) (g : getD s at 0 < 8) (numbers : List ℕ) (T : TallyIs question s calls numbers) (middle : ℕ) (N : MiddleIs s numbers at middle)
+      (left : ℕ) (begins : left ≡ rootOf (getD s at 0) root (at + 1)) (right : ℕ) (begins₂ : right ≡ rootOf (getD s at 0) root middle) (r₁ : ℕ) (rows₁ : List ℕ)
+      (X : ScanIs question s left (at + 1) asked args inner depth calls n rows r₁ rows₁) (r : ℕ) (rows′ : List ℕ)
+      (Y : ScanIs question s right middle asked args inner depth calls r₁ rows₁ r rows′) where
+    sides : (q : Question) (free D : ℕ) (σ : ℕ → ℕ) (P Q : Term) (rest : List ℕ) (before before₁ before₂ : List Candidate) → checkOf question ≡ result q → free ≤ nameCount
+        → HasSlots free D args inner depth σ → InScope free (q .arities) D P → InScope free (q .arities) D Q → drop (at + 1) s ≡ encode D P ++ (encode D Q ++ rest)
+        → Offers (bodyOf (q .bodies)) calls (q .arities) free D σ s before₁ left (at + 1)
+        → Offers (bodyOf (q .bodies)) calls (q .arities) free D σ s before₂ right middle
         → (cs : List Candidate) → length cs ≡ length (seen q σ P) + length (seen q σ Q)
-        → (Rows depth (seen q σ P) rows′ n → Rows depth (seen q σ Q) rows′ (n + length (seen q σ P)) → Rows depth cs rows′ n)
-        → n + length cs ≤ mostRows → Has r rows′ cs
-    sides q free D σ P Q rest ok few has sp sq st cs m join h =
+        → (RowsBehind before₁ depth (seen q σ P) rows′ n → RowsBehind before₂ depth (seen q σ Q) rows′ (n + length (seen q σ P)) → RowsBehind before depth cs rows′ n)
+        → n + length cs ≤ mostRows → Has before r rows′ cs
+    sides q free D σ P Q rest before before₁ before₂ ok few has sp sq st o₁ o₂ cs m join h =
         let ps = seen q σ P in
         let qs = seen q σ Q in
-        let (e, f, u) = X .is q free D σ P (encode D Q ++ rest) ok few has sp st (omega arith) in
-        let (e₂, f₂, u₂) = Y .is q free D σ Q rest ok few has sq (two.behind question s calls numbers T at middle N q free D σ P Q rest ok sp sq st) (omega arith) in (
+        let (e, f, u) = X .is q free D σ P (encode D Q ++ rest) before₁ ok few has sp st o₁ (omega arith) in
+        let (e₂, f₂, u₂) = Y .is q free D σ Q rest before₂ ok few has sq (two.behind question s calls numbers T at middle N q free D σ P Q rest ok sp sq st) o₂ (omega arith) in (
           omega arith,
-          join (rows-kept r₁ rows₁ rows′ (Y .kept) depth n ps (omega arith) f) (subst (Rows depth qs rows′) e f₂),
+          join (rows-kept r₁ rows₁ rows′ (Y .kept) before₁ depth n ps (omega arith) f) (subst (RowsBehind before₂ depth qs rows′) e f₂),
           λ t. rw m (unknown-both rows′ n (length ps) (length qs) (unknown-kept r₁ rows₁ rows′ (Y .kept) (length ps) n (omega arith) (u t)) (subst (Unknown (length qs) rows′) e (u₂ t))),
         )
 
-    pub scan-two : ScanIs question s at asked args inner depth calls n rows r rows′
+    pub scan-two : ScanIs question s root at asked args inner depth calls n rows r rows′
     unfolding InScope encode
     scan-two = record {
       on = let x = X .on in let y = Y .on in omega arith;
       inside = Y .inside;
       kept = kept-then n r₁ rows rows₁ rows′ (X .on) (X .kept) (Y .kept);
-      is = λ q free D σ P rest ok few has scope st.
+      is = λ q free D σ P rest before ok few has scope st o.
           let k = tag-at s at D P rest st in
           let body = bodyOf (q .bodies) in
-          only-two (Stands q free D σ rest r rows′)
-          (λ P Q scope st. sides q free D σ P Q rest ok few has (scope .0) (scope .1) (at-left D s at P Q rest 6 st) _ (many-sum body calls (ren σ P) (ren σ Q)) (rows-sum body calls rows′ n depth (ren σ P) (ren σ Q)))
-          (λ P Q scope st. sides q free D σ P Q rest ok few has (scope .0) (scope .1) (at-left D s at P Q rest 7 st) _ (many-par body calls (ren σ P) (ren σ Q)) (rows-par body calls rows′ n depth (ren σ P) (ren σ Q)))
-          P (omega arith) (omega arith) scope st;
+          only-two (λ (P : Term). getD s at 0 ≡ tag P → Stands before q free D σ rest r rows′ P)
+          (λ P Q t scope st.
+          let sl = at-left D s at P Q rest 6 st in
+          let m = two.middle-is question s calls numbers T at middle N q free D σ P Q rest ok (scope .0) (scope .1) sl in
+          sides q free D σ P Q rest before before (before ++ seen q σ P) ok few has (scope .0) (scope .1) sl
+          (subst (λ (i : ℕ). Offers body calls (q .arities) free D σ s before i (at + 1)) (sym (begins ∙ root-choice (getD s at 0) root (at + 1) t))
+          (offers-left body calls (q .arities) free D σ s before root at o t))
+          (subst (λ (i : ℕ). Offers body calls (q .arities) free D σ s (before ++ seen q σ P) i middle) (sym (begins₂ ∙ root-choice (getD s at 0) root middle t))
+          (offers-right body calls (q .arities) free D σ s before root at o t P (encode D Q ++ rest) (scope .0) sl middle m))
+          _ (many-sum body calls (ren σ P) (ren σ Q)) (rows-sum body calls rows′ n depth before (ren σ P) (ren σ Q)))
+          (λ P Q t scope st.
+          sides q free D σ P Q rest before [] [] ok few has (scope .0) (scope .1) (at-left D s at P Q rest 7 st)
+          (subst (λ (i : ℕ). Offers body calls (q .arities) free D σ s [] i (at + 1)) (sym (begins ∙ root-other (getD s at 0) root (at + 1) (λ z. omega arith)))
+          (offers-alone body calls (q .arities) free D σ s [] (at + 1)))
+          (subst (λ (i : ℕ). Offers body calls (q .arities) free D σ s [] i middle) (sym (begins₂ ∙ root-other (getD s at 0) root middle (λ z. omega arith)))
+          (offers-alone body calls (q .arities) free D σ s [] middle))
+          _ (many-par body calls (ren σ P) (ren σ Q)) (λ f g. behind-all before rows′ _ (rows-par body calls rows′ n depth (ren σ P) (ren σ Q) f g)))
+          P (omega arith) (omega arith) k scope st;
     }
 
   -- [Con]
   module _ (g : 8 < getD s at 0) (o : Opening) (O : OpeningIs question s at calls o) where
     -- no call is left to open, or the question is not accepted
-    pub scan-closed : n ≤ mostRows + 1 → o .allowed ≡ false → ScanIs question s at asked args inner depth calls n rows n rows
+    pub scan-closed : n ≤ mostRows + 1 → o .allowed ≡ false → ScanIs question s root at asked args inner depth calls n rows n rows
     unfolding visible visibleOf visibleCalls
     scan-closed m z = record {
       on = omega arith;
       inside = m;
       kept = kept-all n rows;
-      is = λ q free D σ P rest ok few has scope st.
-          at-call question s at D calls false 0 g (o .definition) (o .arity) (O .definition) (O .arity) (Shows q σ n rows) q free P rest ok scope st
-          (λ xs e a k names st h. subst (λ (c : ℕ). Has n rows (visible (bodyOf (q .bodies)) c (call (o .definition) (map σ xs)))) (sym (O .not z q ok k)) has-none);
+      is = λ q free D σ P rest before ok few has scope st _.
+          at-call question s at D calls false 0 g (o .definition) (o .arity) (O .definition) (O .arity) (Shows before q σ n rows) q free P rest ok scope st
+          (λ xs e a k names st h. subst (λ (c : ℕ). Has before n rows (visible (bodyOf (q .bodies)) c (call (o .definition) (map σ xs)))) (sym (O .not z q ok k)) (has-none before));
     }
 
     -- the call's names do not all stand there
-    pub scan-cut : n ≤ mostRows + 1 → length s < o .end → ScanIs question s at asked args inner depth calls n rows n rows
+    pub scan-cut : n ≤ mostRows + 1 → length s < o .end → ScanIs question s root at asked args inner depth calls n rows n rows
     unfolding encode
     scan-cut m h = record {
       on = omega arith;
       inside = m;
       kept = kept-all n rows;
-      is = λ q free D σ P rest ok few has scope st.
-          at-call question s at D calls false 0 g (o .definition) (o .arity) (O .definition) (O .arity) (λ (P : Term). at + length (encode D P) ≤ length s → Shows q σ n rows P)
+      is = λ q free D σ P rest before ok few has scope st _.
+          at-call question s at D calls false 0 g (o .definition) (o .arity) (O .definition) (O .arity) (λ (P : Term). at + length (encode D P) ≤ length s → Shows before q σ n rows P)
           q free P rest ok scope st (λ xs m a k names st whole. absurd (omega (arith, O .end, length-map xs (nameByte D)))) (stands s at D P rest st .1);
     }
 
     pub scan-called : 0 < calls → (bytes : List ℕ) → BodyIs question (o .definition) bytes → (given : List ℕ) → ArgumentsIs s (at + 2) (o .arity) args inner depth given
-        → (r : ℕ) (rows′ : List ℕ) → ScanIs question bytes 0 asked given 0 depth (calls - 1) n rows r rows′ → ScanIs question s at asked args inner depth calls n rows r rows′
+        → (r : ℕ) (rows′ : List ℕ) → ScanIs question bytes 0 0 asked given 0 depth (calls - 1) n rows r rows′ → ScanIs question s root at asked args inner depth calls n rows r rows′
     unfolding candidates
     scan-called z bytes B given G r rows′ X = record {
       on = X .on;
       inside = X .inside;
       kept = X .kept;
-      is = λ q free D σ P rest ok few has scope st.
+      is = λ q free D σ P rest before ok few has scope st _.
           let body = bodyOf (q .bodies) in
           let k = o .definition in
           let m = o .arity in
           let more : calls ≡ suc (calls - 1) = omega arith in
-          at-call question s at D calls false 0 g k m (O .definition) (O .arity) (Shows q σ r rows′) q free P rest ok scope st
+          at-call question s at D calls false 0 g k m (O .definition) (O .arity) (Shows before q σ r rows′) q free P rest ok scope st
           (λ xs e a j names st.
-          subst (λ (l : List Candidate). n + length l ≤ mostRows → Has r rows′ l) (sym (ap (λ (c : ℕ). visible body c (call k (map σ xs))) more ∙ candidates-call body false (calls - 1) k (map σ xs)))
-          (X .is q 0 m (params σ xs) (body k) [] ok (omega arith) (slots-call free D args inner depth σ few has s (at + 2) xs rest m given names st e G)
+          subst (λ (l : List Candidate). n + length l ≤ mostRows → Has before r rows′ l) (sym (ap (λ (c : ℕ). visible body c (call k (map σ xs))) more ∙ candidates-call body false (calls - 1) k (map σ xs)))
+          (λ h.
+          let w = X .is q 0 m (params σ xs) (body k) [] [] ok (omega arith) (slots-call free D args inner depth σ few has s (at + 2) xs rest m given names st e G)
           (subst (λ (n : ℕ). InScope 0 (q .arities) n (body k)) (sym a) (body-scope question q ok k))
-          (B .is q ok j ∙ ap (λ (n : ℕ). encode n (body k)) (sym a) ∙ sym (append-nil (encode m (body k))))));
+          (B .is q ok j ∙ ap (λ (n : ℕ). encode n (body k)) (sym a) ∙ sym (append-nil (encode m (body k))))
+          (offers-alone body (calls - 1) (q .arities) 0 m (params σ xs) bytes [] 0) h in
+          (w .0, behind-all before rows′ _ (w .1), w .2)));
     }

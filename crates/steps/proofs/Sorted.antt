@@ -1,7 +1,7 @@
 -- Steps put into a list by their bytes: the list ascends, and holds what was put in and no more. Assumes nothing.
 use mathlib.Core.List.{List, [], _∷_}
 use mathlib.Core.Logic.{inl, inr}
-use mathlib.Core.Path.{_≡_, refl, _∙_, ap}
+use mathlib.Core.Path.{_≡_, refl, sym, _∙_, ap, subst}
 use native.Mathlib.Omega.{arith}
 use Prim.Native.Nat.{ℕ, Ordering, Ordering·lt, Ordering·eq, Ordering·gt}
 use Rattle.calculus.specs.Abstraction.{Act}
@@ -11,9 +11,9 @@ use Rattle.steps.specs.Derived.{Ascending}
 use Rattle.steps.specs.Raw.{Candidate, step, blocked}
 use Rattle.steps.specs.Listed.{ListedStep, canonStep, bytes}
 use Rattle.steps.specs.Listing.{order, insert, collect}
-use Rattle.steps.specs.Lists.{_∈_, All}
-use Rattle.steps.proofs.Membership.{all-imp}
-use Rattle.steps.proofs.ByteOrder.{Before, Says, ordered, before-trans, before-order, order-before}
+use Rattle.steps.specs.Lists.{_∈_, Among, All}
+use Rattle.steps.proofs.Membership.{all-imp, all-∈}
+use Rattle.steps.proofs.ByteOrder.{Before, Says, ordered, before-irreflexive, before-trans, before-order, order-before}
 
 module _ (longest : ℕ) where
   -- the bytes of s come before those of t
@@ -79,6 +79,26 @@ module _ (longest : ℕ) where
       go Ordering·eq h r = (t, inl refl, h)
       go Ordering·gt h r = (r .0, inr (r .1), r .2)
 
+  -- a step whose bytes are there changes nothing
+  pub insert-there : (s : ListedStep) (ts : List ListedStep) → Sorted ts → HasBytes s ts → insert longest s ts ≡ ts
+  unfolding insert
+  insert-there s (t ∷ ts) a (u, m, e) =
+      go (order (bytes longest s) (bytes longest t)) (ordered (bytes longest s) (bytes longest t)) m
+      (λ n. insert-there s ts (a .1) (u, n, e))
+    where
+      behind : u ∈ ts → Precedes t s
+      behind n = subst (λ b. Before (bytes longest t) b) (sym e) (all-∈ (Precedes t) ts (a .0) u n)
+
+      go : (o : Ordering) → Says Before (bytes longest s) (bytes longest t) o → u ∈ (t ∷ ts) → (u ∈ ts → insert longest s ts ≡ ts) → placed s t ts (insert longest s ts) o ≡ t ∷ ts
+      go Ordering·lt h (inl d) f =
+          absurd (before-irreflexive (bytes longest s) (subst (λ b. Before (bytes longest s) b) (sym (e ∙ ap (bytes longest) d)) h))
+      go Ordering·lt h (inr n) f =
+          absurd (before-irreflexive (bytes longest s) (before-trans (bytes longest s) (bytes longest t) (bytes longest s) h (behind n)))
+      go Ordering·eq h n f = refl
+      go Ordering·gt h (inl d) f =
+          absurd (before-irreflexive (bytes longest s) (subst (λ b. Before b (bytes longest s)) (sym (e ∙ ap (bytes longest) d)) h))
+      go Ordering·gt h (inr n) f = ap (λ l. t ∷ l) (f n)
+
 -- The list in ascending order, as the definition says it.
 pub sorted-ascending : (longest : ℕ) (ss : List ListedStep) → Sorted longest ss → Ascending longest ss
 sorted-ascending longest [] a = tt
@@ -138,3 +158,21 @@ module _ (names longest x : ℕ) where
   collect-new (step N β Q ∷ cs) found M α P (inr m) = collect-new cs (insert longest (canonStep names x N β Q) found) M α P m
   collect-new (blocked ∷ cs) found M α P (inl e) = let z : _≡_ {A = ℕ} 0 1 = cc in absurd (omega arith)
   collect-new (blocked ∷ cs) found M α P (inr m) = collect-new cs found M α P m
+
+  -- Candidates that were put in before change nothing.
+  there : (ds : List Candidate) (found : List ListedStep) → Sorted longest found
+      → ((c : Candidate) → c ∈ ds → OfCandidate (λ s. HasBytes longest s found) c) → collect names longest x ds found ≡ found
+  unfolding collect
+  there [] found a h = refl
+  there (step M α P ∷ ds) found a h =
+      ap (collect names longest x ds) (insert-there longest (canonStep names x M α P) found a (h (step M α P) (inl refl)))
+      ∙ there ds found a (λ c m. h c (inr m))
+  there (blocked ∷ ds) found a h = there ds found a (λ c m. h c (inr m))
+
+  pub collect-there : (cs ds : List Candidate) (found : List ListedStep) → Sorted longest found → Among ds cs
+      → collect names longest x ds (collect names longest x cs found) ≡ collect names longest x cs found
+  collect-there cs ds found a h = there ds (collect names longest x cs found) (collect-sorted cs found a) go
+    where
+      go : (c : Candidate) → c ∈ ds → OfCandidate (λ s. HasBytes longest s (collect names longest x cs found)) c
+      go (step M α P) m = collect-new cs found M α P (h (step M α P) m)
+      go blocked m = tt

@@ -25,6 +25,7 @@ use Rattle.steps.specs.Walking.{ownOf, walked, TakeRowsIs, TakeSilentIs,
 use Rattle.steps.specs.declared.walk.Walked.{Walked}
 use Rattle.steps.proofs.ArgumentSlots.{slots-part}
 use Rattle.steps.proofs.CandidateForms.{tag, tag-at, only-par, only-res}
+use Rattle.steps.proofs.ChoiceLaws.{offers-alone}
 use Rattle.steps.proofs.CollectLaws.{collect-then, collect-over}
 use Rattle.steps.proofs.ComponentLaws.{silent-count}
 use Rattle.steps.proofs.ContextLaws.{placed-start, placed-left, placed-right, placed-beneath, placed-bytes, placed-length}
@@ -101,7 +102,7 @@ module _ (question part : List ℕ) (at depth number x : ℕ) (rows : List ℕ) 
   }
 
   module _ (not-par : getD part at 0 ≡ 7 → ⊥) (not-res : getD part at 0 ≡ 8 → ⊥) (args : List ℕ) (last : ℕ) (rows′ : List ℕ)
-      (scan : ScanIs question part at false args depth depth 1 n rows last rows′) (v : ℕ) (area₁ : List ℕ)
+      (scan : ScanIs question part at at false args depth depth 1 n rows last rows′) (v : ℕ) (area₁ : List ℕ)
       (put : TakeRowsIs question part at depth rows′ n last x area count v area₁) where
     module _ (q : Question) (P : Term) (l : Lists question part x q P) (K : List Frame) (C : Term)
         (p : Placed (q .arities) (bodyOf (q .bodies)) P K C at depth n number) where
@@ -112,7 +113,8 @@ module _ (question part : List ℕ) (at depth number x : ℕ) (rows : List ℕ) 
       scanned =
           let s : n + length (visible body 1 (ren (λ n. n) C)) ≤ mostRows
           → (last ≡ n + length (visible body 1 (ren (λ n. n) C))) × Rows depth (visible body 1 (ren (λ n. n) C)) rows′ n =
-          λ h. let r = scan .is q nameCount depth (λ n. n) C _ (l .accepted) (omega arith) (slots-part depth args) (p .scope) (placed-bytes l p) h in
+          λ h. let r = scan .is q nameCount depth (λ n. n) C _ [] (l .accepted) (omega arith) (slots-part depth args) (p .scope) (placed-bytes l p)
+          (offers-alone body 1 (q .arities) nameCount depth (λ n. n) part [] at) h in
           (r .0, r .1) in
           subst (λ (Q : Term). n + length (visible body 1 Q) ≤ mostRows → (last ≡ n + length (visible body 1 Q)) × Rows depth (visible body 1 Q) rows′ n)
           (ren-id C) s (rows-room question part x q P l K C at depth n number p)
@@ -255,7 +257,7 @@ module _ (question part : List ℕ) (at depth number x : ℕ) (rows : List ℕ) 
             let (e, f) = left-rows in
             let (d, g) = right-done .1 h in (
               omega (arith, length-sides sbody S T),
-              rows-kept (L .rows) rows₁ rows₂ (right .kept) depth n (visible sbody 1 S) (omega arith) f,
+              rows-kept (L .rows) rows₁ rows₂ (right .kept) [] depth n (visible sbody 1 S) (omega arith) f,
               g,
             )
 

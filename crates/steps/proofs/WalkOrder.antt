@@ -7,45 +7,16 @@ use Prim.Native.Nat.{ℕ}
 use Rattle.calculus.specs.Term.{Term, nil, tau, inp, out, bout, mat, sum, par, res, call}
 use Rattle.steps.specs.Listed.{ListedStep, bytes}
 use Rattle.steps.specs.Listing.{collect}
-use Rattle.steps.specs.Lists.{_∈_, All}
+use Rattle.steps.specs.Lists.{_∈_, Among, All}
 use Rattle.steps.specs.Raw.{Candidate, step, blocked, leftSteps, rightSteps, restricted, communications, visibleOf, silentOf, visible, silent}
 use Rattle.steps.specs.Walking.{ownOf, walked}
 use Rattle.steps.proofs.ByteOrder.{Before, before-irreflexive, before-trans}
-use Rattle.steps.proofs.Membership.{∈-left, ∈-right, ∈-map, all-map, all-∈, ∈-all}
+use Rattle.steps.proofs.Membership.{∈-left, ∈-right, ∈-either, ∈-map, ∈-mapped, within-either, within-map, all-map, all-∈, ∈-all}
 use Rattle.steps.proofs.Sorted.{Sorted, Precedes, OfCandidate, collect-sorted, collect-all, collect-new}
 
--- Members of lists that are joined or mapped.
-module _ {A : Type 0} where
-  ∈-either : (x : A) (xs ys : List A) → x ∈ (xs ++ ys) → (x ∈ xs) ⊎ (x ∈ ys)
-  ∈-either x [] ys m = inr m
-  ∈-either x (y ∷ xs) ys (inl e) = inl (inl e)
-  ∈-either x (y ∷ xs) ys (inr m) = go (∈-either x xs ys m)
-    where
-      go : (x ∈ xs) ⊎ (x ∈ ys) → (x ∈ (y ∷ xs)) ⊎ (x ∈ ys)
-      go (inl n) = inl (inr n)
-      go (inr n) = inr n
-
-  -- every member of the first is one of the second
-  abbrev pub Within : List A → List A → Type 0
-  Within xs ys = (x : A) → x ∈ xs → x ∈ ys
-
-  within-either : (xs ys zs : List A) → Within xs zs → Within ys zs → Within (xs ++ ys) zs
-  within-either xs ys zs h k x m = go (∈-either x xs ys m)
-    where
-      go : (x ∈ xs) ⊎ (x ∈ ys) → x ∈ zs
-      go (inl n) = h x n
-      go (inr n) = k x n
-
-pub ∈-mapped : {A B : Type 0} (f : A → B) (y : B) (xs : List A) → y ∈ map f xs → (x : A) × (x ∈ xs) × (y ≡ f x)
-∈-mapped f y (x ∷ xs) (inl e) = (x, inl refl, e)
-∈-mapped f y (x ∷ xs) (inr m) = let (z, n, e) = ∈-mapped f y xs m in (z, inr n, e)
-
-within-map : {A B : Type 0} (f : A → B) (xs ys : List A) → Within xs ys → Within (map f xs) (map f ys)
-within-map f xs ys h y m =
-    let (x, n, e) = ∈-mapped f y xs m in subst (λ z. z ∈ map f ys) (sym e) (∈-map f x ys (h x n))
-
-within-map-++ : {A B : Type 0} (f : A → B) (xs ys : List A) (zs : List B) → Within (map f xs) zs → Within (map f ys) zs
-    → Within (map f (xs ++ ys)) zs
+-- Members of lists that are joined and mapped.
+within-map-++ : {A B : Type 0} (f : A → B) (xs ys : List A) (zs : List B) → Among (map f xs) zs → Among (map f ys) zs
+    → Among (map f (xs ++ ys)) zs
 within-map-++ f xs ys zs h k y m =
     let (x, n, e) = ∈-mapped f y (xs ++ ys) m in subst (λ z. z ∈ zs) (sym e) (go x (∈-either x xs ys n))
   where
@@ -61,7 +32,7 @@ module _ (body : ℕ → Term) where
   abbrev sil : Term → List Candidate
   sil P = silent body 1 P
 
-  pub walked-raw : (P : Term) → Within (walked body P) (vis P ++ sil P)
+  pub walked-raw : (P : Term) → Among (walked body P) (vis P ++ sil P)
   unfolding walked ownOf visible silent visibleOf silentOf
   walked-raw (par P Q) =
       let whole = vis (par P Q) ++ sil (par P Q) in
@@ -70,12 +41,12 @@ module _ (body : ℕ → Term) where
       let ls = map (leftSteps Q) (sil P) in
       let rs = map (rightSteps P) (sil Q) in
       let met = communications (vis P) (vis Q) in
-      let left : Within (map (leftSteps Q) (walked body P)) whole =
+      let left : Among (map (leftSteps Q) (walked body P)) whole =
       λ c m. within-map-++ (leftSteps Q) (vis P) (sil P) whole
       (λ d n. ∈-left d (lv ++ rv) (ls ++ (rs ++ met)) (∈-left d lv rv n))
       (λ d n. ∈-right d (lv ++ rv) (ls ++ (rs ++ met)) (∈-left d ls (rs ++ met) n))
       c (within-map (leftSteps Q) (walked body P) (vis P ++ sil P) (walked-raw P) c m) in
-      let right : Within (map (rightSteps P) (walked body Q)) whole =
+      let right : Among (map (rightSteps P) (walked body Q)) whole =
       λ c m. within-map-++ (rightSteps P) (vis Q) (sil Q) whole
       (λ d n. ∈-left d (lv ++ rv) (ls ++ (rs ++ met)) (∈-right d lv rv n))
       (λ d n. ∈-right d (lv ++ rv) (ls ++ (rs ++ met)) (∈-right d ls (rs ++ met) (∈-left d rs met n)))
@@ -96,16 +67,16 @@ module _ (body : ℕ → Term) where
   walked-raw (sum P Q) = λ c m. m
   walked-raw (call k xs) = λ c m. m
 
-  pub raw-walked : (P : Term) → Within (vis P ++ sil P) (walked body P)
+  pub raw-walked : (P : Term) → Among (vis P ++ sil P) (walked body P)
   unfolding walked ownOf visible silent visibleOf silentOf
   raw-walked (par P Q) =
       let whole = walked body (par P Q) in
       let l = map (leftSteps Q) (walked body P) in
       let r = map (rightSteps P) (walked body Q) in
       let met = communications (vis P) (vis Q) in
-      let left : (cs : List Candidate) → Within cs (walked body P) → Within (map (leftSteps Q) cs) whole =
+      let left : (cs : List Candidate) → Among cs (walked body P) → Among (map (leftSteps Q) cs) whole =
       λ cs h c m. ∈-left c l (r ++ met) (within-map (leftSteps Q) cs (walked body P) h c m) in
-      let right : (cs : List Candidate) → Within cs (walked body Q) → Within (map (rightSteps P) cs) whole =
+      let right : (cs : List Candidate) → Among cs (walked body Q) → Among (map (rightSteps P) cs) whole =
       λ cs h c m. ∈-right c l (r ++ met) (∈-left c r met (within-map (rightSteps P) cs (walked body Q) h c m)) in
       within-either (vis (par P Q)) (sil (par P Q)) whole
       (within-either (map (leftSteps Q) (vis P)) (map (rightSteps P) (vis Q)) whole
@@ -134,7 +105,7 @@ abbrev Ascends : List (List ℕ) → Type 0
 Ascends [] = Unit
 Ascends (b ∷ bs) = All (Before b) bs × Ascends bs
 
-ascends-same : (bs cs : List (List ℕ)) → Ascends bs → Ascends cs → Within bs cs → Within cs bs → bs ≡ cs
+ascends-same : (bs cs : List (List ℕ)) → Ascends bs → Ascends cs → Among bs cs → Among cs bs → bs ≡ cs
 ascends-same [] [] a z h k = refl
 ascends-same [] (c ∷ cs) a z h k = absurd (k c (inl refl))
 ascends-same (b ∷ bs) [] a z h k = absurd (h b (inl refl))
@@ -142,7 +113,7 @@ ascends-same (b ∷ bs) (c ∷ cs) a z h k =
     let e : b ≡ c = first (h b (inl refl)) (k c (inl refl)) in
     ap₂ _∷_ e (ascends-same bs cs (a .1) (z .1) (later bs cs (a .0) e h) (later cs bs (z .0) (sym e) k))
   where
-    later : {d : List ℕ} (ds es : List (List ℕ)) {e : List ℕ} → All (Before d) ds → d ≡ e → Within (d ∷ ds) (e ∷ es) → Within ds es
+    later : {d : List ℕ} (ds es : List (List ℕ)) {e : List ℕ} → All (Before d) ds → d ≡ e → Among (d ∷ ds) (e ∷ es) → Among ds es
     later {d} ds es {e} up same w x m = go (w x (inr m))
       where
         go : x ∈ (e ∷ es) → x ∈ es
@@ -164,7 +135,7 @@ module _ (names longest x : ℕ) where
   found-ascends [] a = tt
   found-ascends (s ∷ ss) a = (all-map (bytes longest) (Precedes longest s) (Before (bytes longest s)) ss (λ t h. h) (a .0), found-ascends ss (a .1))
 
-  module _ (cs ds : List Candidate) (h : Within cs ds) where
+  module _ (cs ds : List Candidate) (h : Among cs ds) where
     abbrev There : ListedStep → Type 0
     There s = bytes longest s ∈ found ds
 
@@ -174,14 +145,14 @@ module _ (names longest x : ℕ) where
         subst (λ y. y ∈ found ds) (sym e) (∈-map (bytes longest) u (collect names longest x ds []) l)
     there blocked n = tt
 
-    found-within : Within (found cs) (found ds)
+    found-within : Among (found cs) (found ds)
     found-within b m =
         let (s, n, e) = ∈-mapped (bytes longest) b (collect names longest x cs []) m in
         let all : All There (collect names longest x cs []) =
         collect-all names longest x There cs [] (∈-all (OfCandidate names longest x There) cs there) tt in
         subst (λ y. y ∈ found ds) (sym e) (all-∈ There (collect names longest x cs []) all s n)
 
-  pub same-found : (cs ds : List Candidate) → Within cs ds → Within ds cs
+  pub same-found : (cs ds : List Candidate) → Among cs ds → Among ds cs
       → map (bytes longest) (collect names longest x cs []) ≡ map (bytes longest) (collect names longest x ds [])
   same-found cs ds h k =
       ascends-same (found cs) (found ds)

@@ -22,9 +22,9 @@ use Rattle.steps.specs.declared.list.ListAnswer.the-variants.{Unsettled,
 use Rattle.steps.proofs.CollectLaws.{canon-classes}
 use Rattle.steps.proofs.Limited.{Long, limited-given, limited-passed, limited-within, limited-many, limited-long}
 use Rattle.steps.proofs.ListedBytes.{step-length}
-use Rattle.steps.proofs.Membership.{∈-map, ∈-all, all-∈}
+use Rattle.steps.proofs.Membership.{∈-map, ∈-mapped, ∈-all, all-∈}
 use Rattle.steps.proofs.Sorted.{OfCandidate, collect-all}
-use Rattle.steps.proofs.WalkOrder.{∈-mapped, walked-raw, raw-walked, same-found}
+use Rattle.steps.proofs.WalkOrder.{walked-raw, raw-walked, same-found}
 
 -- Each step found has a class for each name.
 module _ (names longest x : ℕ) where

@@ -9,6 +9,10 @@ module _ {A : Type 0} where
   x ∈ [] = ⊥
   x ∈ (y ∷ ys) = (x ≡ y) ⊎ (x ∈ ys)
 
+  -- every member of the first is one of the second
+  abbrev pub Among : List A → List A → Type 0
+  Among xs ys = (x : A) → x ∈ xs → x ∈ ys
+
   -- S holds of every member
   abbrev pub All : (A → Type 0) → List A → Type 0
   All S [] = Unit

@@ -30,12 +30,13 @@ unfoldable pub isBetween : (c low high : ℕ) → Bool
 isBetween c low high = cond (ltb c low) false (leb c high)
 
 -- Two rows, the second by kind and channel, the first by kind and those channels: one says nothing, or one receives, the other sends, and the
--- channels may be merged.
+-- channels may be merged. A row whose candidate is equal to an earlier one meets no other.
 unfoldable pub meetsBetween : (k₁ low high k₂ c₂ : ℕ) → Bool
 meetsBetween k₁ low high k₂ c₂ =
-    cond (eqb k₁ 0) true
+    cond (eqb k₂ 4) false
+    (cond (eqb k₁ 0) true
     (cond (eqb k₂ 0) true
-    (cond (eqb k₁ 1) (cond (eqb k₂ 1) false (isBetween c₂ low high)) (cond (eqb k₂ 1) (isBetween c₂ low high) false)))
+    (cond (eqb k₁ 1) (cond (eqb k₂ 1) false (isBetween c₂ low high)) (cond (eqb k₂ 1) (isBetween c₂ low high) false))))
 
 unfoldable pub mayMeet : (k₁ c₁ k₂ c₂ : ℕ) → Bool
 mayMeet k₁ c₁ k₂ c₂ = meetsBetween k₁ (firstMerged c₁) (lastMerged c₁) k₂ c₂
@@ -65,12 +66,13 @@ pub record PairIs (question part : List ℕ) (at depth number k₁ c₁ k₂ c�
       → PutIs (raised K (communication s t)) x area count r area′
 
 -- The communications of s, whose row has this number, with the right side's visible candidates, whose rows are those from `middle` up to `last`; j is
--- the number of the first.
+-- the number of the first. An s that is equal to an earlier candidate is passed over.
 pub record MeetRowIs (question part : List ℕ) (at depth number x : ℕ) (rows : List ℕ) (row middle last j : ℕ) (area : List ℕ) (count r : ℕ) (area′ : List ℕ) : Type 0 where
   pub is : (q : Question) (P : Term) → Lists question part x q P
       → (K : List Frame) (L R : Term) (first : ℕ)
       → Placed (q .arities) (bodyOf (q .bodies)) P K (par L R) at depth first number
       → (s : Candidate)
+      → (kindAt rows row ≡ 4 → ⊥)
       → Row depth s rows row
       → Rows depth (visible (bodyOf (q .bodies)) 1 R) rows middle
       → last ≡ middle + length (visible (bodyOf (q .bodies)) 1 R)
@@ -78,3 +80,4 @@ pub record MeetRowIs (question part : List ℕ) (at depth number x : ℕ) (rows 
       → ((w : ℕ) → w < length (visible (bodyOf (q .bodies)) 1 R)
       → getD (silent (bodyOf (q .bodies)) 1 (par L R)) (j + w) blocked ≡ communication s (getD (visible (bodyOf (q .bodies)) 1 R) w blocked))
       → CollectIs (map (raised K) (map (communication s) (visible (bodyOf (q .bodies)) 1 R))) x area count r area′
+  pub over : kindAt rows row ≡ 4 → (r ≡ count) × (area′ ≡ area)

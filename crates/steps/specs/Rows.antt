@@ -2,9 +2,9 @@
 -- stand by their slots (Slots), which do not move when a restriction is left: so a row serves beneath a restriction and outside it.
 use mathlib.Core.Path.{_≡_}
 use mathlib.Core.Bool.{Bool, true, cond, _&&_}
-use mathlib.Core.List.{List, [], _++_}
+use mathlib.Core.List.{List, [], _∷_, _++_}
 use Prim.Native.Nat.{ℕ, _+_, _-_, _*_, _<_, _≤_}
-use lib.ListN.{length, getD, drop}
+use lib.ListN.{length, getD, take, drop}
 use lib.Dec.{eqb, ltb}
 use Rattle.calculus.specs.Abstraction.{Act, tauA}
 use Rattle.calculus.specs.Term.{Term, ren}
@@ -14,8 +14,10 @@ use Rattle.terms.specs.Limits.{nameCount}
 use Rattle.terms.specs.Question.{Question, checkOf}
 use Rattle.steps.specs.LabelWalk.{slotAt, HasSlots}
 use Rattle.steps.specs.Labels.{actionOf, ActionBelow}
+use Rattle.steps.specs.Lists.{_∈_, Among}
 use Rattle.steps.specs.Listing.{bodyOf}
 use Rattle.steps.specs.Raw.{Candidate, step, blocked, visible, silent}
+use Rattle.steps.specs.Tally.{endAt}
 use Rattle.steps.specs.declared.action.Action.{Action}
 use Rattle.steps.specs.declared.action.Action.the-variants.{Input, Output, NewOutput}
 
@@ -26,7 +28,8 @@ rowBytes = 4
 abbrev pub mostRows : ℕ
 mostRows = 1056
 
--- The kind is 1 for an input, 2 for an output, 3 for a new-name output; it is 0 where the row says nothing.
+-- The kind is 1 for an input, 2 for an output, 3 for a new-name output; it is 0 where the row says nothing, and 4 where an equal candidate comes
+-- earlier, which has the row that counts.
 unfoldable pub kindAt : List ℕ → ℕ → ℕ
 kindAt rows i = getD rows (rowBytes * i) 0
 
@@ -49,11 +52,17 @@ pub record Outlined (d : ℕ) (c : Candidate) (kind channel object : ℕ) : Type
       → ((α : Act) × (A : Term) × (c ≡ step [] α A) × (actionOf d α ≡ rowAction d kind channel object) × ActionBelow (d + nameCount) α)
 
 unfoldable pub Row : ℕ → Candidate → List ℕ → ℕ → Type 0
-Row d c rows i = (kindAt rows i ≡ 0 → ⊥) → Outlined d c (kindAt rows i) (channelAt rows i) (objectAt rows i)
+Row d c rows i = (kindAt rows i ≡ 0 → ⊥) → (kindAt rows i ≡ 4 → ⊥) → Outlined d c (kindAt rows i) (channelAt rows i) (objectAt rows i)
 
--- The candidates cs, under d restrictions, are in the rows from number n on.
-unfoldable pub Rows : ℕ → List Candidate → List ℕ → ℕ → Type 0
-Rows d cs rows n = (j : ℕ) → j < length cs → Row d (getD cs j blocked) rows (n + j)
+-- The candidates cs, under d restrictions, are in the rows from number n on; those of `before` come before them. A row of kind 4 has a candidate that
+-- is one of these or of the earlier ones of cs.
+unfoldable pub RowsBehind : List Candidate → ℕ → List Candidate → List ℕ → ℕ → Type 0
+RowsBehind before d cs rows n =
+    (j : ℕ) → j < length cs
+    → Row d (getD cs j blocked) rows (n + j) × (kindAt rows (n + j) ≡ 4 → getD cs j blocked ∈ (before ++ take j cs))
+
+abbrev pub Rows : ℕ → List Candidate → List ℕ → ℕ → Type 0
+Rows = RowsBehind []
 
 -- So many rows from number n on say nothing.
 unfoldable pub Unknown : ℕ → List ℕ → ℕ → Type 0
@@ -78,21 +87,61 @@ sentSlot s at args inner depth = cond (eqb (getD s at 0) 3) (slotAt args inner d
 abbrev pub PrefixRowIs : List ℕ → ℕ → List ℕ → ℕ → ℕ → ℕ → List ℕ → ℕ → List ℕ → Type 0
 PrefixRowIs s at args inner depth = PutRowIs (getD s at 0 - 1) (slotAt args inner depth (getD s (at + 1) 0)) (sentSlot s at args inner depth)
 
+-- What stands in a choice before one of its branches: bytes 06, and branches.
+pub data Piece : Type 0 where
+  plus : Piece
+  branch : Term → Piece
+
+module _ (body : ℕ → Term) (calls : ℕ) (arities : List ℕ) (free D : ℕ) (σ : ℕ → ℕ) (s : List ℕ) (before : List Candidate) where
+  -- The pieces from p up to `at`: the visible candidates of each branch are among those of `before`.
+  unfoldable pub Pieces : (p at : ℕ) → List Piece → Type 0
+  Pieces p at [] = p ≡ at
+  Pieces p at (plus ∷ l) = (getD s p 0 ≡ 6) × Pieces (p + 1) at l
+  Pieces p at (branch B ∷ l) =
+      (getD s p 0 ≡ 6 → ⊥) × InScope free arities D B × ((rest : List ℕ) × (drop p s ≡ encode D B ++ rest))
+      × Among (visible body calls (ren σ B)) before × Pieces (p + length (encode D B)) at l
+
+  -- The choice that begins at `root` has the term at `at` for a branch, and those of `before` come before it.
+  abbrev pub Offers : (root at : ℕ) → Type 0
+  Offers root at = (l : List Piece) × Pieces root at l
+
+-- Where the choice of a side at `at` begins: the sides of a choice belong to its own, and any other side stands alone.
+unfoldable pub rootOf : (t root at : ℕ) → ℕ
+rootOf t root at = cond (eqb t 6) root at
+
+-- The place behind the piece at p, by the tally t.
+unfoldable pub behindPiece : List ℕ → List ℕ → ℕ → ℕ
+behindPiece s t p = cond (eqb (getD s p 0) 6) (p + 1) (endAt t p)
+
+-- Whether the term at `at` is known to stand earlier in its choice: then its visible candidates come before it.
+pub record RepeatedIs (question s : List ℕ) (root at : ℕ) (r : Bool) : Type 0 where
+  pub is : (q : Question) (calls free D : ℕ) (σ : ℕ → ℕ) (P : Term) (rest : List ℕ) (before : List Candidate)
+      → r ≡ true
+      → checkOf question ≡ result q
+      → free ≤ nameCount
+      → InScope free (q .arities) D P
+      → drop at s ≡ encode D P ++ rest
+      → (getD s at 0 ≡ 6 → ⊥)
+      → Offers (bodyOf (q .bodies)) calls (q .arities) free D σ s before root at
+      → Among (visible (bodyOf (q .bodies)) calls (ren σ P)) before
+
 -- The visible candidates of the term at `at` are put into the rows from number n on, while there is room; the answer is the number behind the last,
--- or one past the last row. Beneath a match, where `asked`, the rows say nothing. The term is `ren σ P`, as in LabelWalk.
-pub record ScanIs (question s : List ℕ) (at : ℕ) (asked : Bool) (args : List ℕ) (inner depth calls n : ℕ) (rows : List ℕ) (r : ℕ) (rows′ : List ℕ) : Type 0 where
+-- or one past the last row. Beneath a match, where `asked`, the rows say nothing. The term is `ren σ P`, as in LabelWalk, and stands in the choice that
+-- begins at `root`.
+pub record ScanIs (question s : List ℕ) (root at : ℕ) (asked : Bool) (args : List ℕ) (inner depth calls n : ℕ) (rows : List ℕ) (r : ℕ) (rows′ : List ℕ) : Type 0 where
   pub on : n ≤ r
   pub inside : r ≤ mostRows + 1
   pub kept : RowsKept n rows rows′
-  pub is : (q : Question) (free D : ℕ) (σ : ℕ → ℕ) (P : Term) (rest : List ℕ)
+  pub is : (q : Question) (free D : ℕ) (σ : ℕ → ℕ) (P : Term) (rest : List ℕ) (before : List Candidate)
       → checkOf question ≡ result q
       → free ≤ nameCount
       → HasSlots free D args inner depth σ
       → InScope free (q .arities) D P
       → drop at s ≡ encode D P ++ rest
+      → Offers (bodyOf (q .bodies)) calls (q .arities) free D σ s before root at
       → n + length (visible (bodyOf (q .bodies)) calls (ren σ P)) ≤ mostRows
       → (r ≡ n + length (visible (bodyOf (q .bodies)) calls (ren σ P)))
-      × Rows depth (visible (bodyOf (q .bodies)) calls (ren σ P)) rows′ n
+      × RowsBehind before depth (visible (bodyOf (q .bodies)) calls (ren σ P)) rows′ n
       × (asked ≡ true → Unknown (length (visible (bodyOf (q .bodies)) calls (ren σ P))) rows′ n)
 
 -- Every silent candidate is a step without a condition.

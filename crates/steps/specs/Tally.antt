@@ -28,11 +28,14 @@ silentAt t at = getD t (longestTerm + at) 0
 unfoldable pub endAt : List ℕ → ℕ → ℕ
 endAt t at = getD t (longestTerm + longestTerm + at) 0
 
+-- Every end lies behind its beginning and within the bytes, whatever these are.
+abbrev pub EndsInside : List ℕ → List ℕ → Type 0
+EndsInside s t = (at : ℕ) → at < length s → (at < endAt t at) × (endAt t at ≤ length s)
+
 -- The tally of the bytes s, where so many calls may be opened one within the other. Its numbers are those of ren σ P, whatever σ, where P is what
 -- the bytes code.
 pub record TallyIs (question s : List ℕ) (calls : ℕ) (t : List ℕ) : Type 0 where
-  -- whatever the bytes are, an end lies behind its beginning and within them
-  pub on : (at : ℕ) → at < length s → (at < endAt t at) × (endAt t at ≤ length s)
+  pub on : EndsInside s t
   pub is : (q : Question) (at free D : ℕ) (σ : ℕ → ℕ) (P : Term) (rest : List ℕ)
       → checkOf question ≡ result q
       → InScope free (q .arities) D P
@@ -43,7 +46,7 @@ pub record TallyIs (question s : List ℕ) (calls : ℕ) (t : List ℕ) : Type 0
 
 -- The ends alone, which are the same however many calls may be opened.
 pub record EndsTallied (question s t : List ℕ) : Type 0 where
-  pub on : (at : ℕ) → at < length s → (at < endAt t at) × (endAt t at ≤ length s)
+  pub on : EndsInside s t
   pub is : (q : Question) (at free D : ℕ) (P : Term) (rest : List ℕ)
       → checkOf question ≡ result q
       → InScope free (q .arities) D P

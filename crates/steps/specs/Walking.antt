@@ -20,7 +20,7 @@ use Rattle.steps.specs.PartLister.{Lists, candidatesOf}
 use Rattle.steps.specs.Passing.{candidates}
 use Rattle.steps.specs.Raw.{Candidate, step, blocked, leftSteps, rightSteps, restricted, communications, visible, silent}
 use Rattle.steps.specs.Results.{Written}
-use Rattle.steps.specs.Rows.{mostRows, Row, Rows, RowsKept}
+use Rattle.steps.specs.Rows.{mostRows, kindAt, Row, Rows, RowsKept}
 use Rattle.steps.specs.Tally.{TallyIs, BodiesTallied}
 use Rattle.steps.specs.declared.walk.Walked.{Walked}
 
@@ -135,14 +135,17 @@ rowOpens kind object = eqb kind 2 && leb nameCount object
 unfoldable pub rowObject : ℕ → ℕ → ℕ → ℕ
 rowObject kind object x = cond (eqb kind 2) object x
 
--- The visible candidate number j of the term at `at`, put into the list by its row; the term's rows are those from `first` on.
+-- The visible candidate number j of the term at `at`, put into the list by its row; the term's rows are those from `first` on. One that is equal to
+-- an earlier candidate is passed over.
 pub record TakeRowIs (question part : List ℕ) (at depth : ℕ) (rows : List ℕ) (first j x : ℕ) (area : List ℕ) (count r : ℕ) (area′ : List ℕ) : Type 0 where
   pub is : (q : Question) (P : Term) → Lists question part x q P
       → (K : List Frame) (C : Term) (number : ℕ)
       → Placed (q .arities) (bodyOf (q .bodies)) P K C at depth first number
       → j < length (visible (bodyOf (q .bodies)) 1 C)
+      → (kindAt rows (first + j) ≡ 4 → ⊥)
       → Row depth (getD (visible (bodyOf (q .bodies)) 1 C) j blocked) rows (first + j)
       → PutIs (raised K (getD (visible (bodyOf (q .bodies)) 1 C) j blocked)) x area count r area′
+  pub over : kindAt rows (first + j) ≡ 4 → (r ≡ count) × (area′ ≡ area)
 
 -- All of its visible candidates.
 pub record TakeRowsIs (question part : List ℕ) (at depth : ℕ) (rows : List ℕ) (first last x : ℕ) (area : List ℕ) (count r : ℕ) (area′ : List ℕ) : Type 0 where

@@ -13,6 +13,7 @@ use crate::list::take_candidate;
 use crate::listed::ActionBytes;
 use crate::put::put_classed;
 use crate::put::put_placed;
+use crate::rows::REPEATED;
 use crate::rows::ROW_BYTES;
 use terms::limits::NAME_COUNT;
 use terms::tables::merging;
@@ -53,10 +54,14 @@ fn is_between(c: u8, low: u8, high: u8) -> bool
     c <= high
 }
 
-// Whether the candidates of two rows may communicate: by their kinds, and by the channel of one and those that may be merged with the other's.
+// Whether the candidates of two rows may communicate: by their kinds, and by the channel of one and those that may be merged with the other's. A
+// candidate that is equal to an earlier one adds nothing.
 fn may_meet(k1: u8, low: u8, high: u8, k2: u8, c2: u8) -> bool
     ensures { λ r. ⌜ r ≡ meetsBetween k1 low high k2 c2 ⌝ }
 {
+    if k2 == REPEATED {
+        return false;
+    }
     if k1 == UNKNOWN {
         return true;
     }
@@ -165,7 +170,8 @@ fn take_pair(
 }
 
 // Puts the communications of one row of the left side into the list, until a limit is passed; `j` is the number of the first. A candidate on a
-// channel that is restricted further in is blocked, and so are its communications.
+// channel that is restricted further in is blocked, and so are its communications; those of a candidate that is equal to an earlier one are
+// in the list already.
 fn meet_row(
     question: &[u8],
     bodies: &[u32],
@@ -188,6 +194,9 @@ fn meet_row(
 {
     let kind = rows[ROW_BYTES * row];
     let channel = rows[ROW_BYTES * row + 1];
+    if kind == REPEATED {
+        return count;
+    }
     if kind != UNKNOWN {
         if NAME_COUNT + depth <= channel as usize {
             return count;

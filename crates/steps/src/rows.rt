@@ -1,23 +1,34 @@
 // The visible candidates of a term in a table of rows, found on one walk of the term's bytes beneath restriction, choice, parallel, match and call,
 // in the order of specs/Raw. And whether the term's silent candidates have no condition.
-ghost use Prim.Native.Nat.{_+_, _*_, _≤_, _<_};
+ghost use mathlib.Core.List.{List};
+ghost use mathlib.Core.Path.{_≡_};
+ghost use Prim.Native.Nat.{ℕ, _+_, _*_, _≤_, _<_};
 ghost use lib.ListN.{length, getD};
 ghost use Rattle.terms.specs.Limits.{nameCount, longestTerm};
 ghost use Rattle.steps.specs.LabelWalk.{Within};
-ghost use Rattle.steps.specs.Rows.{rowBytes, mostRows, PutRowIs, PrefixRowIs, ScanIs, QuietIs};
+ghost use Rattle.steps.specs.Rows.{rowBytes, mostRows, PutRowIs, PrefixRowIs, rootOf, behindPiece, RepeatedIs, ScanIs, QuietIs};
 ghost use Rattle.steps.specs.Slots.{slotCount};
-ghost use Rattle.steps.specs.Tally.{TallyIs, BodiesTallied};
+ghost use Rattle.steps.specs.Tally.{EndsInside, TallyIs, EndsTallied, BodiesTallied};
 use crate::bodies::body_of;
 use crate::bodies::call_at;
 use crate::label::arguments;
 use crate::label::slot;
+use crate::listed::alike;
 use crate::pass::middle_of;
 use crate::tally::body_tally;
+use crate::tally::end_at;
 use crate::tally::silent_at;
 use terms::bytes::get;
 
-// What a candidate does (1 input, 2 output, 3 new-name output, 0 not known), its channel and its object; the fourth byte is not used.
+// What a candidate does (1 input, 2 output, 3 new-name output, 0 not known, 4 equal to an earlier one), its channel and its object; the fourth byte
+// is not used.
 pub const ROW_BYTES: usize = 4;
+
+// The kind of a row whose candidate is equal to an earlier one.
+pub const REPEATED: u8 = 4;
+
+// The byte of a choice.
+const CHOICE: u8 = 6;
 
 // No part has more visible candidates.
 pub const MOST_ROWS: usize = 1056;
@@ -62,6 +73,43 @@ fn scan_prefix(
     put_row(rows, n, t - 1, channel, 0)
 }
 
+// Where the choice of a side at `at` begins: the sides of a choice belong to its own, and any other side stands alone.
+fn root_of(t: u8, root: usize, at: usize) -> usize
+    ensures { λ r. ⌜ r ≡ rootOf t root at ⌝ }
+{
+    if t == CHOICE {
+        return root;
+    }
+    at
+}
+
+// The place behind the piece of a choice at `p`: a byte 06 or a branch.
+fn behind_piece(src: &[u8], tally: &[u32], p: usize) -> usize
+    requires { ⌜ p < length (now src) ⌝ }
+    ensures { λ r. ⌜ r ≡ behindPiece (now (src .entry)) (now (tally .entry)) p ⌝ }
+{
+    if src[p] == CHOICE {
+        return p + 1;
+    }
+    end_at(tally, p)
+}
+
+// Whether the term at `at` is equal to an earlier branch of its choice, which begins at `root`: by their bytes.
+fn is_repeated(src: &[u8], tally: &[u32], root: usize, at: usize) -> bool
+    requires { ⌜ (at < length (now src)) × EndsInside (now src) (now tally) ⌝ }
+    ensures { λ r. ⌜ ((question : List ℕ) → EndsTallied question (now (src .entry)) (now (tally .entry)) → RepeatedIs question (now (src .entry)) root at r) ⌝ }
+{
+    let n = end_at(tally, at) - at;
+    let mut p = root;
+    while p < at {
+        if alike(src, p, src, at, n) {
+            return true;
+        }
+        p = behind_piece(src, tally, p);
+    }
+    false
+}
+
 // The call at `at`: the rows of the body, while calls are left to open.
 fn scan_call(
     question: &[u8],
@@ -77,7 +125,7 @@ fn scan_call(
     n: usize,
 ) -> usize
     requires { ⌜ (at < length (now src)) × (8 < getD (now src) at 0) × Within (now src) at inner depth calls × BodiesTallied (now question) (now bodies) × (n ≤ mostRows + 1) × (rowBytes * mostRows ≤ length (now rows)) ⌝ }
-    ensures { λ r. ⌜ ScanIs (now (question .entry)) (now (src .entry)) at asked (now (args .entry)) inner depth calls n (now (rows .entry)) r (now (rows .exit)) ⌝ }
+    ensures { λ r. ⌜ ((root : ℕ) → ScanIs (now (question .entry)) (now (src .entry)) root at asked (now (args .entry)) inner depth calls n (now (rows .entry)) r (now (rows .exit))) ⌝ }
 {
     let o = call_at(question, src, at, calls);
     if !o.allowed {
@@ -95,6 +143,7 @@ fn scan_call(
         body,
         within,
         0,
+        0,
         asked,
         &given,
         0,
@@ -106,13 +155,14 @@ fn scan_call(
 }
 
 // Puts the visible candidates of the term at `at` into the rows from number `n` on, and answers the number behind the last. The term stands beneath
-// `inner` restrictions of these bytes and `depth` in all; `args` has the slots of the parameters. Beneath a match, where `asked`, the rows say
-// nothing.
+// `inner` restrictions of these bytes and `depth` in all, in the choice that begins at `root`; `args` has the slots of the parameters. Beneath a
+// match, where `asked`, the rows say nothing.
 pub fn scan(
     question: &[u8],
     bodies: &[u32],
     src: &[u8],
     tally: &[u32],
+    root: usize,
     at: usize,
     asked: bool,
     args: &[u8],
@@ -123,7 +173,7 @@ pub fn scan(
     n: usize,
 ) -> usize
     requires { ⌜ Within (now src) at inner depth calls × TallyIs (now question) (now src) calls (now tally) × BodiesTallied (now question) (now bodies) × (n ≤ mostRows + 1) × (rowBytes * mostRows ≤ length (now rows)) ⌝ }
-    ensures { λ r. ⌜ ScanIs (now (question .entry)) (now (src .entry)) at asked (now (args .entry)) inner depth calls n (now (rows .entry)) r (now (rows .exit)) ⌝ }
+    ensures { λ r. ⌜ ScanIs (now (question .entry)) (now (src .entry)) root at asked (now (args .entry)) inner depth calls n (now (rows .entry)) r (now (rows .exit)) ⌝ }
 {
     if src.len() <= at {
         return n;
@@ -136,6 +186,9 @@ pub fn scan(
         if asked {
             return put_row(rows, n, 0, 0, 0);
         }
+        if is_repeated(src, tally, root, at) {
+            return put_row(rows, n, REPEATED, 0, 0);
+        }
         return scan_prefix(src, at, args, inner, depth, rows, n);
     }
     if t == 5 {
@@ -144,6 +197,7 @@ pub fn scan(
             bodies,
             src,
             tally,
+            at + 3,
             at + 3,
             true,
             args,
@@ -160,6 +214,7 @@ pub fn scan(
             bodies,
             src,
             tally,
+            at + 1,
             at + 1,
             asked,
             args,
@@ -186,11 +241,13 @@ pub fn scan(
         );
     }
     let middle = middle_of(src, tally, at);
+    let left = root_of(t, root, at + 1);
     let m = scan(
         question,
         bodies,
         src,
         tally,
+        left,
         at + 1,
         asked,
         args,
@@ -200,11 +257,13 @@ pub fn scan(
         rows,
         n,
     );
+    let right = root_of(t, root, middle);
     scan(
         question,
         bodies,
         src,
         tally,
+        right,
         middle,
         asked,
         args,

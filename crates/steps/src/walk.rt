@@ -15,6 +15,7 @@ use crate::pass::middle_of;
 use crate::put::put_classed;
 use crate::put::put_placed;
 use crate::rows::MOST_ROWS;
+use crate::rows::REPEATED;
 use crate::rows::ROW_BYTES;
 use crate::rows::quiet;
 use crate::rows::scan;
@@ -50,7 +51,8 @@ fn row_object(kind: u8, object: u8, x: u8) -> u8
     x
 }
 
-// Puts the visible candidate number `j` of the component at `at`, whose row is the one of that number from `first` on, into the list.
+// Puts the visible candidate number `j` of the component at `at`, whose row is the one of that number from `first` on, into the list. One that is
+// equal to an earlier candidate is in it already.
 fn take_row(
     question: &[u8],
     bodies: &[u32],
@@ -72,6 +74,9 @@ fn take_row(
     let kind = get(rows, row);
     let channel = get(rows, row + 1);
     let object = get(rows, row + 2);
+    if kind == REPEATED {
+        return count;
+    }
     if kind == 0 {
         return take_candidate(
             question,
@@ -298,6 +303,7 @@ fn component(
         bodies,
         part,
         tally,
+        at,
         at,
         false,
         &none,
