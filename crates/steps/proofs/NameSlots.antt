@@ -1,6 +1,6 @@
 -- Tables of names by slots: what they have beneath a binder, in a called body, and as tables for renaming. Assumes nothing.
 use mathlib.Core.Path.{_≡_, refl, sym, ap, _∙_}
-use mathlib.Core.Bool.{Bool, true, false}
+use mathlib.Core.Bool.{Bool, true, false, cond, _&&_}
 use mathlib.Core.List.{List}
 use Prim.Native.Nat.{ℕ, zero, suc, _+_, _-_, _<_, _≤_}
 use native.Mathlib.Nat.{eq-or-lt-of-le}
@@ -8,15 +8,16 @@ use mathlib.Core.Logic.{⊎-elim}
 use native.Mathlib.Omega.{arith}
 use lib.ListN.{length, getD, set}
 use lib.Seq.{getD-set-same, getD-set-other}
-use lib.Dec.{ltb}
-use borrow.Author.Tests.{ltb-true, ltb-false, lt-ltb, le-ltb}
+use lib.Dec.{eqb, ltb}
+use borrow.Author.Tests.{eqb-true, ltb-true, ltb-false, lt-ltb, le-ltb}
 use Rattle.calculus.specs.Term.{_•_}
 use Rattle.terms.specs.Limits.{tableNames}
 use Rattle.terms.specs.Encoding.{nameByte}
 use Rattle.terms.specs.NameTable.{slot, Represents}
 use Rattle.terms.proofs.NameTables.{byte-bound, byte-free}
+use Rattle.terms.proofs.Filling.{Filling}
 use Rattle.steps.specs.Slots.{slotOf}
-use Rattle.steps.specs.Names.{HasNames, HasNew, Kept, OwnNames, turn, CalledIs, TableIs}
+use Rattle.steps.specs.Names.{HasNames, HasNew, Kept, OwnNames, turn, CalledIs, FreeBytes, BoundBytes, TableIs}
 
 pub turn-free : (from to D w : ℕ) → w < from → turn from to D w ≡ w
 unfolding turn
@@ -39,6 +40,51 @@ turn-small from to D w f t = go (ltb w from) refl (ltb (w - from) D) refl
         let l = ltb-true (w - from) D y in
         rw (turn-bound from to D w (ltb-false w from x) l) (omega arith)
     go false x false y = rw (turn-past from to D w (ltb-false w from x) (ltb-false (w - from) D y)) (omega arith)
+
+-- The slots before i hold themselves, where the flag says so.
+unfoldable pub Selves : List ℕ → ℕ → Bool → Type 0
+Selves names i same = same ≡ true → (n : ℕ) → n < i → getD names n 0 ≡ n
+
+pub selves-next : (names : List ℕ) (i : ℕ) (same : Bool) → Selves names i same → Selves names (i + 1) (same && eqb (getD names i 0) i)
+unfolding Selves
+selves-next names i true s = λ e n h.
+    ⊎-elim (λ (q : n ≡ i). ap (λ (k : ℕ). getD names k 0) q ∙ eqb-true (getD names i 0) i e ∙ sym q) (s refl n) (eq-or-lt-of-le {n = n} {m = i} (omega arith))
+selves-next names i false s = λ e. let z : _≡_ {A = ℕ} 0 1 = cc in absurd (omega arith)
+
+-- The table for renaming, once the binders' bytes are put behind those of the free names.
+unfoldable pub boundByte : List ℕ → ℕ → ℕ → List ℕ → ℕ → ℕ
+boundByte names D D′ table n = cond (ltb n tableNames) (getD table n 0) (turn tableNames 128 D′ (getD names (tableNames + (D - 1 - (n - tableNames))) 0))
+
+pub bound-start : (names : List ℕ) (D D′ : ℕ) (table : List ℕ) → Filling (boundByte names D D′ table) table table (tableNames + 0)
+unfolding boundByte
+bound-start names D D′ table = record { done = λ n h. sym (simp (lt-ltb n tableNames (omega arith))); rest = λ n h. refl; len = refl }
+
+pub bound-byte : (names : List ℕ) (D D′ : ℕ) (table : List ℕ) (j : ℕ)
+    → turn tableNames 128 D′ (getD names (tableNames + (D - 1 - j)) 0) ≡ boundByte names D D′ table (tableNames + j)
+unfolding boundByte
+bound-byte names D D′ table j =
+    let e : tableNames + j - tableNames ≡ j = omega arith in
+    rw (le-ltb (tableNames + j) tableNames (omega arith), e) refl
+
+pub bound-done : (names : List ℕ) (D D′ : ℕ) (table table′ : List ℕ) (j : ℕ) → D ≤ j → Filling (boundByte names D D′ table) table table′ (tableNames + j)
+    → BoundBytes names D D′ table table′
+unfolding boundByte
+bound-done names D D′ table table′ j h F = record {
+  is = λ i l. F .done (tableNames + i) (omega arith) ∙ sym (bound-byte names D D′ table i);
+  kept = λ i l. F .done i (omega arith) ∙ simp (lt-ltb i tableNames l);
+}
+
+pub table-done : (names : List ℕ) (D D′ : ℕ) (none free table : List ℕ) → FreeBytes names D′ none free → BoundBytes names D D′ free table → TableIs names D D′ table
+unfolding TableIs
+table-done names D D′ none free table f b = λ i h. go i h (ltb i tableNames) refl
+  where
+    go : (i : ℕ) → i < tableNames + D → (t : Bool) → ltb i tableNames ≡ t
+        → getD table i 0 ≡ turn tableNames 128 D′ (getD names (turn tableNames tableNames D i) 0)
+    go i h true t = let l = ltb-true i tableNames t in rw (turn-free tableNames tableNames D i l) (b .kept i l ∙ f .is i l)
+    go i h false t =
+        let l = ltb-false i tableNames t in
+        let e : tableNames + (i - tableNames) ≡ i = omega arith in
+        rw (turn-bound tableNames tableNames D i l (omega arith)) (rw e at (b .is (i - tableNames) (omega arith)))
 
 -- A binder's slot, and a free name's.
 pub slot-bound : (names d n : ℕ) → n < d → slotOf names d n ≡ names + (d - 1 - n)

@@ -4,7 +4,7 @@ use mathlib.Core.Path.{_≡_}
 use mathlib.Core.Bool.{Bool, true, cond}
 use mathlib.Core.List.{List}
 use Prim.Native.Nat.{ℕ, _+_, _-_, _<_}
-use lib.ListN.{getD}
+use lib.ListN.{length, getD}
 use lib.Dec.{ltb}
 use Rattle.terms.specs.Limits.{tableNames, greatestArity, longestTerm}
 use Rattle.steps.specs.Slots.{slotOf}
@@ -45,6 +45,16 @@ CalledIs s at count D names r =
 -- Each name stays as it is: the slots in use hold themselves.
 unfoldable pub UnchangedIs : List ℕ → ℕ → ℕ → Bool → Type 0
 UnchangedIs names D D′ r = r ≡ true → (D′ ≡ D) × ((i : ℕ) → i < tableNames + D → getD names i 0 ≡ i)
+
+-- The table's bytes of the free names,
+pub record FreeBytes (names : List ℕ) (D′ : ℕ) (table table′ : List ℕ) : Type 0 where
+  pub is : (i : ℕ) → i < tableNames → getD table′ i 0 ≡ turn tableNames 128 D′ (getD names i 0)
+  pub len : length table′ ≡ length table
+
+-- and of the binders, put behind them from the innermost outward.
+pub record BoundBytes (names : List ℕ) (D D′ : ℕ) (table table′ : List ℕ) : Type 0 where
+  pub is : (j : ℕ) → j < D → getD table′ (tableNames + j) 0 ≡ turn tableNames 128 D′ (getD names (tableNames + (D - 1 - j)) 0)
+  pub kept : (i : ℕ) → i < tableNames → getD table′ i 0 ≡ getD table i 0
 
 -- The table for renaming, which has the binders from the innermost outward.
 unfoldable pub TableIs : List ℕ → ℕ → ℕ → List ℕ → Type 0

@@ -180,7 +180,7 @@ fn write_term(
     out: &mut [u8],
     put: usize,
 ) -> usize
-    requires { ⌜ (binders ≤ mostBinders) × Room levels (now out) put × EndsTallied (now question) (now src) (now tally) ⌝ }
+    requires { ⌜ (binders ≤ mostBinders) × Room levels (now out) put × EndsTallied (now question) (now src) (now tally) × (length (now names) ≡ nameSlots) ⌝ }
     ensures { λ r. ⌜ TermIs (now (question .entry)) (now (src .entry)) at binders (now (names .entry)) levels (now (out .entry)) put r (now (out .exit)) ⌝ }
 {
     if src.len() <= at {

@@ -145,7 +145,7 @@ write-returns : (t : ℕ) → write-lts.Need-returns (write-claims t) (write-at 
 write-returns t c = let a = c .before .before .before .before .before .before .before .args in (write-none (a .question .now) (a .src .now) (a .at) (a .binders) (a .names .now) (a .task) (a .out .now) (a .put) _ _ (omega (arith, c .before .before .before .before .before .before .before .pre .1 .4)) (c .if1 .taken), kept-all (a .binders) (a .names .now))
 
 write-write-term-requires : (t : ℕ) → write-lts.Need-write-term-requires (write-claims t) (write-at t) write.Post
-write-write-term-requires t c κs = (omega (arith, c .before .before .before .before .before .before .before .before .before .before .pre .1 .0, c .before .before .before .before .before .before .before .before .before .before .pre .1 .1, c .before .before .before .if1 .left), c .before .before .before .before .before .before .before .before .before .before .pre .1 .4, ends-tallied (c .before .before .before .before .before .before .before .before .before .before .args .question .now) (c .before .before .before .before .before .before .before .before .before .before .args .src .now) (c .before .before .before .before .before .before .before .before .before .before .args .task .calls) (c .before .before .before .before .before .before .before .before .before .before .args .tally .now) (c .before .before .before .before .before .before .before .before .before .before .pre .1 .5))
+write-write-term-requires t c κs = (omega (arith, c .before .before .before .before .before .before .before .before .before .before .pre .1 .0, c .before .before .before .before .before .before .before .before .before .before .pre .1 .1, c .before .before .before .if1 .left), c .before .before .before .before .before .before .before .before .before .before .pre .1 .4, ends-tallied (c .before .before .before .before .before .before .before .before .before .before .args .question .now) (c .before .before .before .before .before .before .before .before .before .before .args .src .now) (c .before .before .before .before .before .before .before .before .before .before .args .task .calls) (c .before .before .before .before .before .before .before .before .before .before .args .tally .now) (c .before .before .before .before .before .before .before .before .before .before .pre .1 .5), c .before .before .before .before .before .before .before .before .before .before .pre .1 .3)
 
 write-same-length : (t : ℕ) → write-lts.Need-same-length (write-claims t) (write-at t) write.Post
 write-same-length t c = search needs

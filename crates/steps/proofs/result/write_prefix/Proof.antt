@@ -16,7 +16,7 @@ add-write-term : tie.Need-add-write-term
 add-write-term c = search needs
 
 write-term-requires : tie.Need-write-term-requires
-write-term-requires c κs = (search needs, c .before .before .before .before .before .before .before .before .before .pre .5, ends-tallied (c .before .before .before .before .before .before .before .before .before .args .question .now) (c .before .before .before .before .before .before .before .before .before .args .src .now) (c .before .before .before .before .before .before .before .before .before .args .task .calls) (c .before .before .before .before .before .before .before .before .before .args .tally .now) (c .before .before .before .before .before .before .before .before .before .pre .6))
+write-term-requires c κs = (search needs, c .before .before .before .before .before .before .before .before .before .pre .5, ends-tallied (c .before .before .before .before .before .before .before .before .before .args .question .now) (c .before .before .before .before .before .before .before .before .before .args .src .now) (c .before .before .before .before .before .before .before .before .before .args .task .calls) (c .before .before .before .before .before .before .before .before .before .args .tally .now) (c .before .before .before .before .before .before .before .before .before .pre .6), c .before .before .before .before .before .before .before .before .before .pre .4)
 
 same-length : tie.Need-same-length
 same-length c = search needs
@@ -31,7 +31,7 @@ add-write-term-2 : tie.Need-add-write-term-2
 add-write-term-2 c = search needs
 
 write-term-requires-2 : tie.Need-write-term-requires-2
-write-term-requires-2 c κs = (search needs, c .before .before .before .before .before .before .before .before .before .before .pre .5, ends-tallied (c .before .before .before .before .before .before .before .before .before .before .args .question .now) (c .before .before .before .before .before .before .before .before .before .before .args .src .now) (c .before .before .before .before .before .before .before .before .before .before .args .task .calls) (c .before .before .before .before .before .before .before .before .before .before .args .tally .now) (c .before .before .before .before .before .before .before .before .before .before .pre .6))
+write-term-requires-2 c κs = (search needs, c .before .before .before .before .before .before .before .before .before .before .pre .5, ends-tallied (c .before .before .before .before .before .before .before .before .before .before .args .question .now) (c .before .before .before .before .before .before .before .before .before .before .args .src .now) (c .before .before .before .before .before .before .before .before .before .before .args .task .calls) (c .before .before .before .before .before .before .before .before .before .before .args .tally .now) (c .before .before .before .before .before .before .before .before .before .before .pre .6), c .before .before .before .before .before .before .before .before .before .before .pre .4)
 
 same-length-3 : tie.Need-same-length-3
 same-length-3 c = search needs
@@ -55,7 +55,7 @@ add-write-term-4 : tie.Need-add-write-term-4
 add-write-term-4 c = search needs
 
 write-term-requires-3 : tie.Need-write-term-requires-3
-write-term-requires-3 c κs = (search needs, c .before .before .before .before .before .before .before .before .before .before .pre .5, ends-tallied (c .before .before .before .before .before .before .before .before .before .before .args .question .now) (c .before .before .before .before .before .before .before .before .before .before .args .src .now) (c .before .before .before .before .before .before .before .before .before .before .args .task .calls) (c .before .before .before .before .before .before .before .before .before .before .args .tally .now) (c .before .before .before .before .before .before .before .before .before .before .pre .6))
+write-term-requires-3 c κs = (search needs, c .before .before .before .before .before .before .before .before .before .before .pre .5, ends-tallied (c .before .before .before .before .before .before .before .before .before .before .args .question .now) (c .before .before .before .before .before .before .before .before .before .before .args .src .now) (c .before .before .before .before .before .before .before .before .before .before .args .task .calls) (c .before .before .before .before .before .before .before .before .before .before .args .tally .now) (c .before .before .before .before .before .before .before .before .before .before .pre .6), search needs)
 
 same-length-5 : tie.Need-same-length-5
 same-length-5 c = search needs
