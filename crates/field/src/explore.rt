@@ -1,8 +1,10 @@
 // Exploration of the field: document 01, "The field and the verdict".
+ghost use mathlib.Core.Path.{_≡_};
 ghost use Prim.Native.Nat.{_+_, _*_, _<_, _≤_};
 ghost use lib.ListN.{length};
 ghost use Rattle.steps.specs.Limits.{stepBytes, mostSteps};
-ghost use Rattle.steps.specs.Tally.{BodiesTallied};
+ghost use Rattle.steps.specs.Rows.{rowBytes, mostRows};
+ghost use Rattle.steps.specs.Tally.{tallySize, BodiesTallied};
 ghost use Rattle.field.specs.Chains.{LinkIs};
 ghost use Rattle.field.specs.Growing.{slotWith, AddIs, GrowsAnswer, GrowsAnswers, FirstAnswerIs, GrowsStep, GrowsSide, GrowsSides, GrowIs};
 ghost use Rattle.field.specs.Holding.{ExploreIs};
@@ -25,6 +27,8 @@ use crate::taking::take_up;
 use steps::bodies::arities_of;
 use steps::limits::MOST_STEPS;
 use steps::limits::STEP_BYTES;
+use steps::rows::TABLE_OF_ROWS;
+use steps::tally::TALLY;
 use steps::tally::body_tallies;
 use terms::bytes::copy;
 
@@ -299,21 +303,32 @@ fn grow_sides(
     }
 }
 
-// Takes up the situation in slot `taken`; the two lists are for the steps of its sides.
+// Takes up the situation in slot `taken`; the two lists are for the steps of its sides, `numbers` and `rows` for the lister.
 fn grow(
     question: &[u8],
     bodies: &[u32],
     taken: usize,
+    numbers: &mut [u32],
+    rows: &mut [u8],
     firsts: &mut [u8],
     seconds: &mut [u8],
     work: &mut [u8],
     capacity: usize,
     known: usize,
 ) -> Growth
-    requires { ⌜ (taken < known) × (known ≤ capacity) × (capacity ≤ 4096) × (slotBytes * capacity ≤ length (now work)) × (mostSteps * stepBytes ≤ length (now firsts)) × (mostSteps * stepBytes ≤ length (now seconds)) × BodiesTallied (now question) (now bodies) ⌝ }
+    requires { ⌜ (taken < known) × (known ≤ capacity) × (capacity ≤ 4096) × (slotBytes * capacity ≤ length (now work)) × (mostSteps * stepBytes ≤ length (now firsts)) × (mostSteps * stepBytes ≤ length (now seconds)) × BodiesTallied (now question) (now bodies) × (length (now numbers) ≡ tallySize) × (rowBytes * mostRows ≤ length (now rows)) ⌝ }
     ensures { λ r. ⌜ GrowIs (now (question .entry)) taken capacity (now (work .entry)) known r (now (work .exit)) ⌝ }
 {
-    let up = take_up(question, bodies, work, SLOT_BYTES * taken, firsts, seconds);
+    let up = take_up(
+        question,
+        bodies,
+        work,
+        SLOT_BYTES * taken,
+        numbers,
+        rows,
+        firsts,
+        seconds,
+    );
     let free = up.free;
     let apart = up.apart;
     let lists = up.lists;
@@ -344,6 +359,8 @@ pub fn explore(question: &[u8], capacity: usize, work: &mut [u8]) -> Explored
     let key = start_key(question);
     put(work, capacity, 0, &key);
     let bodies = body_tallies(question);
+    let mut numbers = [0u32; TALLY];
+    let mut rows = [0u8; TABLE_OF_ROWS];
     let mut firsts = [0u8; MOST_STEPS * STEP_BYTES];
     let mut seconds = [0u8; MOST_STEPS * STEP_BYTES];
     let mut known = 1;
@@ -353,6 +370,8 @@ pub fn explore(question: &[u8], capacity: usize, work: &mut [u8]) -> Explored
             question,
             &bodies,
             taken,
+            &mut numbers,
+            &mut rows,
             &mut firsts,
             &mut seconds,
             work,

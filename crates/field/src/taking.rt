@@ -1,10 +1,12 @@
 // A situation taken up: its free names, its apart pairs and the steps of both sides.
+ghost use mathlib.Core.Path.{_≡_};
 ghost use Prim.Native.Nat.{_+_, _*_, _≤_};
 ghost use lib.ListN.{length};
 ghost use Rattle.terms.specs.Limits.{nameCount};
 ghost use Rattle.steps.specs.Limits.{stepBytes, mostSteps};
 ghost use Rattle.steps.specs.PartLister.{ListPartIs};
-ghost use Rattle.steps.specs.Tally.{BodiesTallied};
+ghost use Rattle.steps.specs.Rows.{rowBytes, mostRows};
+ghost use Rattle.steps.specs.Tally.{tallySize, BodiesTallied};
 ghost use Rattle.field.specs.Slot.{keyBytes};
 ghost use Rattle.field.specs.TakingUp.{SomeBindsIs, PastNamesIs, ListsSides, TakesUp};
 use crate::entries::binds;
@@ -63,14 +65,22 @@ fn past_names(x: usize, firsts: &[u8], n: usize, seconds: &[u8], m: usize) -> bo
 }
 
 // Lists one side. A part above the limit stands in no slot.
-fn list_side(question: &[u8], bodies: &[u32], part: &[u8], x: usize, area: &mut [u8]) -> ListAnswer
-    requires { ⌜ (mostSteps * stepBytes ≤ length (now area)) × (x ≤ nameCount) × BodiesTallied (now question) (now bodies) ⌝ }
+fn list_side(
+    question: &[u8],
+    bodies: &[u32],
+    part: &[u8],
+    x: usize,
+    numbers: &mut [u32],
+    rows: &mut [u8],
+    area: &mut [u8],
+) -> ListAnswer
+    requires { ⌜ (mostSteps * stepBytes ≤ length (now area)) × (x ≤ nameCount) × BodiesTallied (now question) (now bodies) × (length (now numbers) ≡ tallySize) × (rowBytes * mostRows ≤ length (now rows)) ⌝ }
     ensures { λ r. ⌜ ListPartIs (now (question .entry)) (now (part .entry)) x (now (area .entry)) r (now (area .exit)) ⌝ }
 {
     if LONGEST_TERM < part.len() {
         return ListAnswer::Unsettled;
     }
-    list_tallied(question, bodies, part, x as u8, area)
+    list_tallied(question, bodies, part, x as u8, numbers, rows, area)
 }
 
 // Lists both sides, each in its area, for the new name `x`.
@@ -80,17 +90,19 @@ fn list_sides(
     first: &[u8],
     second: &[u8],
     x: usize,
+    numbers: &mut [u32],
+    rows: &mut [u8],
     firsts: &mut [u8],
     seconds: &mut [u8],
 ) -> Lists
-    requires { ⌜ (x ≤ nameCount) × (mostSteps * stepBytes ≤ length (now firsts)) × (mostSteps * stepBytes ≤ length (now seconds)) × BodiesTallied (now question) (now bodies) ⌝ }
+    requires { ⌜ (x ≤ nameCount) × (mostSteps * stepBytes ≤ length (now firsts)) × (mostSteps * stepBytes ≤ length (now seconds)) × BodiesTallied (now question) (now bodies) × (length (now numbers) ≡ tallySize) × (rowBytes * mostRows ≤ length (now rows)) ⌝ }
     ensures { λ r. ⌜ ListsSides (now (question .entry)) (now (first .entry)) (now (second .entry)) x r (now (firsts .exit)) (now (seconds .exit)) ⌝ }
 {
-    let n = match list_side(question, bodies, first, x, firsts) {
+    let n = match list_side(question, bodies, first, x, numbers, rows, firsts) {
         ListAnswer::Unsettled => return Lists::Past,
         ListAnswer::Count(n) => n,
     };
-    let m = match list_side(question, bodies, second, x, seconds) {
+    let m = match list_side(question, bodies, second, x, numbers, rows, seconds) {
         ListAnswer::Unsettled => return Lists::Past,
         ListAnswer::Count(m) => m,
     };
@@ -100,16 +112,18 @@ fn list_sides(
     Lists::Listed(n, m)
 }
 
-// Takes up the situation at `at`; `bodies` are the tallies of the definitions' bodies.
+// Takes up the situation at `at`; `bodies` are the tallies of the definitions' bodies, and `numbers` and `rows` are lent to the lister.
 pub fn take_up(
     question: &[u8],
     bodies: &[u32],
     work: &[u8],
     at: usize,
+    numbers: &mut [u32],
+    rows: &mut [u8],
     firsts: &mut [u8],
     seconds: &mut [u8],
 ) -> TakenUp
-    requires { ⌜ (at + keyBytes ≤ length (now work)) × (mostSteps * stepBytes ≤ length (now firsts)) × (mostSteps * stepBytes ≤ length (now seconds)) × BodiesTallied (now question) (now bodies) ⌝ }
+    requires { ⌜ (at + keyBytes ≤ length (now work)) × (mostSteps * stepBytes ≤ length (now firsts)) × (mostSteps * stepBytes ≤ length (now seconds)) × BodiesTallied (now question) (now bodies) × (length (now numbers) ≡ tallySize) × (rowBytes * mostRows ≤ length (now rows)) ⌝ }
     ensures { λ r. ⌜ TakesUp (now (question .entry)) (now (work .entry)) at r (now (firsts .exit)) (now (seconds .exit)) ⌝ }
 {
     let first = first_part(work, at);
@@ -119,6 +133,16 @@ pub fn take_up(
     TakenUp {
         free: free,
         apart: apart_flags(work, at),
-        lists: list_sides(question, bodies, first, second, x, firsts, seconds),
+        lists: list_sides(
+            question,
+            bodies,
+            first,
+            second,
+            x,
+            numbers,
+            rows,
+            firsts,
+            seconds,
+        ),
     }
 }

@@ -1,10 +1,12 @@
 // The steps of a part, listed.
+ghost use mathlib.Core.Path.{_≡_};
 ghost use Prim.Native.Nat.{_*_, _≤_};
 ghost use lib.ListN.{length};
 ghost use Rattle.terms.specs.Limits.{longestTerm};
 ghost use Rattle.steps.specs.Limits.{stepBytes, mostSteps};
 ghost use Rattle.steps.specs.PartLister.{PutStepIs, TakeIs, ListPartIs};
-ghost use Rattle.steps.specs.Tally.{TallyIs, BodiesTallied};
+ghost use Rattle.steps.specs.Rows.{rowBytes, mostRows};
+ghost use Rattle.steps.specs.Tally.{tallySize, TallyIs, BodiesTallied};
 use crate::action::Label;
 use crate::action::Status;
 use crate::label::nth;
@@ -12,6 +14,7 @@ use crate::limits::MOST_STEPS;
 use crate::listed::action_bytes;
 use crate::put::put_classed;
 use crate::rows::TABLE_OF_ROWS;
+use crate::tally::TALLY;
 use crate::tally::body_tallies;
 use crate::tally::tally;
 use crate::walk::walk;
@@ -106,29 +109,30 @@ pub enum ListAnswer {
 }
 
 // Lists the steps of a part under the definitions of an accepted question whose bodies are tallied, for the new name `x`. The area must hold as
-// many steps as the limit allows.
+// many steps as the limit allows. `numbers` and `rows` are lent for the part's tally and rows; what they have before is not read.
 pub fn list_tallied(
     question: &[u8],
     bodies: &[u32],
     part: &[u8],
     x: u8,
+    numbers: &mut [u32],
+    rows: &mut [u8],
     area: &mut [u8],
 ) -> ListAnswer
-    requires { ⌜ (mostSteps * stepBytes ≤ length (now area)) × (length (now part) ≤ longestTerm) × BodiesTallied (now question) (now bodies) ⌝ }
+    requires { ⌜ (mostSteps * stepBytes ≤ length (now area)) × (length (now part) ≤ longestTerm) × BodiesTallied (now question) (now bodies) × (length (now numbers) ≡ tallySize) × (rowBytes * mostRows ≤ length (now rows)) ⌝ }
     ensures { λ r. ⌜ ListPartIs (now (question .entry)) (now (part .entry)) x (now (area .entry)) r (now (area .exit)) ⌝ }
 {
-    let numbers = tally(question, bodies, part);
-    let mut rows = [0u8; TABLE_OF_ROWS];
+    tally(question, bodies, part, numbers);
     let walked = walk(
         question,
         bodies,
         part,
-        &numbers,
+        numbers,
         0,
         0,
         0,
         x,
-        &mut rows,
+        rows,
         0,
         area,
         0,
@@ -146,5 +150,7 @@ pub fn list_part(question: &[u8], part: &[u8], x: u8, area: &mut [u8]) -> ListAn
     ensures { λ r. ⌜ ListPartIs (now (question .entry)) (now (part .entry)) x (now (area .entry)) r (now (area .exit)) ⌝ }
 {
     let bodies = body_tallies(question);
-    list_tallied(question, &bodies, part, x, area)
+    let mut numbers = [0u32; TALLY];
+    let mut rows = [0u8; TABLE_OF_ROWS];
+    list_tallied(question, &bodies, part, x, &mut numbers, &mut rows, area)
 }

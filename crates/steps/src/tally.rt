@@ -226,12 +226,10 @@ pub fn body_tally(bodies: &[u32], k: usize) -> &[u32]
     &bodies[from..end]
 }
 
-// Tallies the candidates of a part, in which one call may be opened.
-pub fn tally(question: &[u8], bodies: &[u32], src: &[u8]) -> [u32; TALLY]
-    requires { ⌜ (length (now src) ≤ longestTerm) × BodiesTallied (now question) (now bodies) ⌝ }
-    ensures { λ r. ⌜ TallyIs (now (question .entry)) (now (src .entry)) 1 r ⌝ }
+// Tallies the candidates of a part, in which one call may be opened. What `numbers` has before is not read.
+pub fn tally(question: &[u8], bodies: &[u32], src: &[u8], numbers: &mut [u32])
+    requires { ⌜ (length (now src) ≤ longestTerm) × BodiesTallied (now question) (now bodies) × (length (now numbers) ≡ tallySize) ⌝ }
+    ensures { λ _. ⌜ TallyIs (now (question .entry)) (now (src .entry)) 1 (now (numbers .exit)) ⌝ }
 {
-    let mut tally = [0u32; TALLY];
-    fill(src, arities_of(question), bodies, &mut tally);
-    tally
+    fill(src, arities_of(question), bodies, numbers);
 }

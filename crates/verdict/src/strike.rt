@@ -1,9 +1,11 @@
 // Strike-out over the situations of the field, in place: document 01, "The field and the verdict".
+ghost use mathlib.Core.Path.{_≡_};
 ghost use Prim.Native.Nat.{_+_, _*_, _<_, _≤_};
 ghost use lib.ListN.{length};
 ghost use Rattle.field.specs.Slot.{keyBytes, slotBytes, struckAt};
 ghost use Rattle.steps.specs.Limits.{stepBytes, mostSteps};
-ghost use Rattle.steps.specs.Tally.{BodiesTallied};
+ghost use Rattle.steps.specs.Rows.{rowBytes, mostRows};
+ghost use Rattle.steps.specs.Tally.{tallySize, BodiesTallied};
 ghost use Rattle.verdict.specs.Striking.{LeftAtIs, LeftIs, AnswerLeftIs, SideAnsweredIs, SurvivesIs, StrikesOne, PassIs, SomeStruckIs, StartSurvivesIs};
 use field::chains::find_chained;
 use field::entries::answers;
@@ -17,6 +19,8 @@ use field::taking::take_up;
 use steps::bodies::arities_of;
 use steps::limits::MOST_STEPS;
 use steps::limits::STEP_BYTES;
+use steps::rows::TABLE_OF_ROWS;
+use steps::tally::TALLY;
 use steps::tally::body_tallies;
 use terms::bytes::get;
 
@@ -115,7 +119,8 @@ fn side_answered(
     true
 }
 
-// Whether each permitted step of either side of situation `i` is answered by a situation that is left; the two lists are for the steps of its sides.
+// Whether each permitted step of either side of situation `i` is answered by a situation that is left; the two lists are for the steps of its sides,
+// `numbers` and `rows` for the lister.
 fn survives(
     question: &[u8],
     bodies: &[u32],
@@ -123,13 +128,24 @@ fn survives(
     capacity: usize,
     count: usize,
     i: usize,
+    numbers: &mut [u32],
+    rows: &mut [u8],
     firsts: &mut [u8],
     seconds: &mut [u8],
 ) -> bool
-    requires { ⌜ (i < count) × (count ≤ capacity) × (slotBytes * capacity ≤ length (now work)) × (mostSteps * stepBytes ≤ length (now firsts)) × (mostSteps * stepBytes ≤ length (now seconds)) × BodiesTallied (now question) (now bodies) ⌝ }
+    requires { ⌜ (i < count) × (count ≤ capacity) × (slotBytes * capacity ≤ length (now work)) × (mostSteps * stepBytes ≤ length (now firsts)) × (mostSteps * stepBytes ≤ length (now seconds)) × BodiesTallied (now question) (now bodies) × (length (now numbers) ≡ tallySize) × (rowBytes * mostRows ≤ length (now rows)) ⌝ }
     ensures { λ r. ⌜ SurvivesIs (now (question .entry)) capacity (now (work .entry)) count i r ⌝ }
 {
-    let taken = take_up(question, bodies, work, SLOT_BYTES * i, firsts, seconds);
+    let taken = take_up(
+        question,
+        bodies,
+        work,
+        SLOT_BYTES * i,
+        numbers,
+        rows,
+        firsts,
+        seconds,
+    );
     let free = taken.free;
     let apart = taken.apart;
     let lists = taken.lists;
@@ -178,16 +194,29 @@ fn strike_one(
     capacity: usize,
     count: usize,
     i: usize,
+    numbers: &mut [u32],
+    rows: &mut [u8],
     firsts: &mut [u8],
     seconds: &mut [u8],
 ) -> bool
-    requires { ⌜ (i < count) × (count ≤ capacity) × (slotBytes * capacity ≤ length (now work)) × (mostSteps * stepBytes ≤ length (now firsts)) × (mostSteps * stepBytes ≤ length (now seconds)) × BodiesTallied (now question) (now bodies) ⌝ }
+    requires { ⌜ (i < count) × (count ≤ capacity) × (slotBytes * capacity ≤ length (now work)) × (mostSteps * stepBytes ≤ length (now firsts)) × (mostSteps * stepBytes ≤ length (now seconds)) × BodiesTallied (now question) (now bodies) × (length (now numbers) ≡ tallySize) × (rowBytes * mostRows ≤ length (now rows)) ⌝ }
     ensures { λ r. ⌜ StrikesOne (now (question .entry)) capacity (now (work .entry)) count i r (now (work .exit)) ⌝ }
 {
     if !left_at(work, i) {
         return false;
     }
-    if survives(question, bodies, work, capacity, count, i, firsts, seconds) {
+    if survives(
+        question,
+        bodies,
+        work,
+        capacity,
+        count,
+        i,
+        numbers,
+        rows,
+        firsts,
+        seconds,
+    ) {
         return false;
     }
     work[SLOT_BYTES * i + STRUCK] = 1;
@@ -201,17 +230,30 @@ fn strike_pass(
     work: &mut [u8],
     capacity: usize,
     count: usize,
+    numbers: &mut [u32],
+    rows: &mut [u8],
     firsts: &mut [u8],
     seconds: &mut [u8],
 ) -> bool
-    requires { ⌜ (count ≤ capacity) × (slotBytes * capacity ≤ length (now work)) × (mostSteps * stepBytes ≤ length (now firsts)) × (mostSteps * stepBytes ≤ length (now seconds)) × BodiesTallied (now question) (now bodies) ⌝ }
+    requires { ⌜ (count ≤ capacity) × (slotBytes * capacity ≤ length (now work)) × (mostSteps * stepBytes ≤ length (now firsts)) × (mostSteps * stepBytes ≤ length (now seconds)) × BodiesTallied (now question) (now bodies) × (length (now numbers) ≡ tallySize) × (rowBytes * mostRows ≤ length (now rows)) ⌝ }
     ensures { λ r. ⌜ PassIs (now (question .entry)) capacity (now (work .entry)) count r (now (work .exit)) ⌝ }
 {
     let mut struck = false;
     let mut i = count;
     while 0 < i {
         i -= 1;
-        if strike_one(question, bodies, work, capacity, count, i, firsts, seconds) {
+        if strike_one(
+            question,
+            bodies,
+            work,
+            capacity,
+            count,
+            i,
+            numbers,
+            rows,
+            firsts,
+            seconds,
+        ) {
             struck = true;
         }
     }
@@ -224,6 +266,8 @@ fn survives_passes(question: &[u8], work: &mut [u8], capacity: usize, count: usi
     ensures { λ r. ⌜ StartSurvivesIs (now (question .entry)) capacity (now (work .entry)) count r (now (work .exit)) ⌝ }
 {
     let bodies = body_tallies(question);
+    let mut numbers = [0u32; TALLY];
+    let mut rows = [0u8; TABLE_OF_ROWS];
     let mut firsts = [0u8; MOST_STEPS * STEP_BYTES];
     let mut seconds = [0u8; MOST_STEPS * STEP_BYTES];
     let mut again = true;
@@ -234,6 +278,8 @@ fn survives_passes(question: &[u8], work: &mut [u8], capacity: usize, count: usi
             work,
             capacity,
             count,
+            &mut numbers,
+            &mut rows,
             &mut firsts,
             &mut seconds,
         );

@@ -4,18 +4,20 @@ use mathlib.Core.Path.{_≡_, refl}
 use Prim.Native.Nat.{_*_, _-_, _≤_}
 use lib.ListN.{length}
 use Rattle.steps.specs.Limits.{stepBytes, mostSteps}
+use Rattle.steps.specs.Rows.{rowBytes, mostRows}
+use Rattle.steps.specs.Tally.{tallySize}
 use Rattle.field.proofs.ExploringLaws.{Explorers, explorers-start, explorers-next, explorers-full, explorers-end, explored-from}
 use borrow.Author.Needs.{needs}
 use Rattle.field.proofs.explore.explore.Statement.{statement}
 use Rattle.field.proofs.explore.explore.Tie as tie
 
 abbrev Inv-loop : tie.InvT-loop
-Inv-loop question capacity work₀ bodies firsts₀ seconds₀ known₀ taken₀ work firsts seconds known taken =
-    (taken ≤ known) × (1 ≤ known) × (known ≤ capacity) × (length work ≡ length work₀) × (length firsts ≡ mostSteps * stepBytes) × (length seconds ≡ mostSteps * stepBytes)
-    × Explorers question capacity work₀ work known taken
+Inv-loop question capacity work₀ bodies numbers₀ rows₀ firsts₀ seconds₀ known₀ taken₀ work numbers rows firsts seconds known taken =
+    (taken ≤ known) × (1 ≤ known) × (known ≤ capacity) × (length work ≡ length work₀) × (length numbers ≡ tallySize) × (length rows ≡ rowBytes * mostRows)
+    × (length firsts ≡ mostSteps * stepBytes) × (length seconds ≡ mostSteps * stepBytes) × Explorers question capacity work₀ work known taken
 
 abbrev μ-loop : tie.MeasureT-loop
-μ-loop question capacity work₀ bodies firsts₀ seconds₀ known₀ taken₀ work firsts seconds known taken = capacity - taken
+μ-loop question capacity work₀ bodies numbers₀ rows₀ firsts₀ seconds₀ known₀ taken₀ work numbers rows firsts seconds known taken = capacity - taken
 
 clear-heads-requires : tie.Need-clear-heads-requires Inv-loop μ-loop
 clear-heads-requires c κs = search needs
@@ -33,7 +35,7 @@ body-tallies-requires : tie.Need-body-tallies-requires Inv-loop μ-loop
 body-tallies-requires c κs = search needs
 
 loop-holds : tie.Need-loop-holds Inv-loop μ-loop
-loop-holds c = (search needs, search needs, search needs, search needs, search needs, search needs, explorers-start _ _ (omega arith) _ (omega arith) _ (omega arith) _ (c .before .before .before .before .before .before .before .before .before .clear-heads .ensures) _ (c .before .before .before .put .ensures) (c .before .before .before .before .before .before .start-key .ensures))
+loop-holds c = (search needs, search needs, search needs, search needs, search needs, search needs, search needs, search needs, explorers-start _ _ (c .before .before .before .before .before .before .before .before .before .before .before .before .before .pre .0) _ (c .before .before .before .before .before .before .before .before .before .before .before .before .before .pre .2) _ (omega arith) _ (c .before .before .before .before .before .before .before .before .before .clear-heads .ensures) _ (c .before .before .before .put .ensures) (c .before .before .before .before .before .before .start-key .ensures))
 
 slice-aggregate-grow : tie.Need-slice-aggregate-grow Inv-loop μ-loop
 slice-aggregate-grow c = search needs
@@ -44,8 +46,24 @@ slice-aggregate-grow-2 c = search needs
 slice-aggregate-grow-3 : tie.Need-slice-aggregate-grow-3 Inv-loop μ-loop
 slice-aggregate-grow-3 c = search needs
 
+slice-aggregate-grow-4 : tie.Need-slice-aggregate-grow-4 Inv-loop μ-loop
+slice-aggregate-grow-4 c = search needs
+
+slice-aggregate-grow-5 : tie.Need-slice-aggregate-grow-5 Inv-loop μ-loop
+slice-aggregate-grow-5 c = search needs
+
 grow-requires : tie.Need-grow-requires Inv-loop μ-loop
-grow-requires c κs = search needs
+grow-requires c κs = (
+  c .before .before .before .before .before .before .loop-test .taken,
+  c .before .before .before .before .before .before .before .loop .inv .2,
+  c .before .before .before .before .before .before .before .before .before .before .before .before .before .before .before .before .before .before .before .before .before .pre .1,
+  omega (arith, c .before .before .before .before .before .before .before .before .before .before .before .before .before .before .before .before .before .before .before .before .before .pre .2, c .before .before .before .before .before .before .before .loop .inv .3),
+  omega (arith, c .before .before .before .before .before .before .before .loop .inv .6),
+  omega (arith, c .before .before .before .before .before .before .before .loop .inv .7),
+  c .before .before .before .before .before .before .before .before .body-tallies .ensures,
+  c .before .before .before .before .before .before .before .loop .inv .4,
+  omega (arith, c .before .before .before .before .before .before .before .loop .inv .5),
+)
 
 enum-known-growth : tie.Need-enum-known-growth Inv-loop μ-loop
 enum-known-growth c = search needs
@@ -57,25 +75,25 @@ same-length : tie.Need-same-length Inv-loop μ-loop
 same-length c = search needs
 
 returns : tie.Need-returns Inv-loop μ-loop
-returns c = explored-from _ _ (omega arith) _ (omega arith) _ (omega arith) _ (c .before .before .before .before .before .before .before .before .before .before .before .before .before .before .before .before .before .before .before .before .before .before .clear-heads .ensures) _ (c .before .before .before .before .before .before .before .before .before .before .before .before .before .before .before .before .put .ensures) _ _ (explorers-full _ _ _ _ _ _ (c .before .before .before .before .before .before .before .before .before .before .before .before .loop .inv .6) (c .before .before .before .before .before .before .before .before .before .before .before .loop-test .taken) _ (rw (c .enum-told .given .1) at (c .before .before .before .before .before .before .grow .ensures)))
+returns c = explored-from _ _ (c .before .before .before .before .before .before .before .before .before .before .before .before .before .before .before .before .before .before .before .before .before .before .before .before .before .before .before .before .before .before .pre .0) _ (c .before .before .before .before .before .before .before .before .before .before .before .before .before .before .before .before .before .before .before .before .before .before .before .before .before .before .before .before .before .before .pre .2) _ (omega arith) _ (c .before .before .before .before .before .before .before .before .before .before .before .before .before .before .before .before .before .before .before .before .before .before .before .before .before .before .clear-heads .ensures) _ (c .before .before .before .before .before .before .before .before .before .before .before .before .before .before .before .before .before .before .before .before .put .ensures) _ _ (explorers-full _ _ _ _ _ _ (c .before .before .before .before .before .before .before .before .before .before .before .before .before .before .before .before .loop .inv .8) (c .before .before .before .before .before .before .before .before .before .before .before .before .before .before .before .loop-test .taken) _ (rw (c .enum-told .given .1) at (c .before .before .before .before .before .before .before .before .grow .ensures)))
 
 add-taken : tie.Need-add-taken Inv-loop μ-loop
-add-taken c = search needs
+add-taken c = omega (arith, c .before .before .before .before .before .before .before .before .before .before .before .before .before .before .before .before .loop-test .taken, c .before .before .before .before .before .before .before .before .before .before .before .before .before .before .before .before .before .loop .inv .2, c .before .before .before .before .before .before .before .before .before .before .before .before .before .before .before .before .before .before .before .before .before .before .before .before .before .before .before .before .before .before .before .pre .1)
 
 loop-less : tie.Need-loop-less Inv-loop μ-loop
 loop-less c = search needs
 
 loop-again : tie.Need-loop-again Inv-loop μ-loop
 loop-again c =
-    let g = rw (c .before .growth .given .1) at (c .before .before .before .before .before .before .before .grow .ensures) in
+    let g = rw (c .before .growth .given .1) at (c .before .before .before .before .before .before .before .before .before .grow .ensures) in
     let b = g .grows .within _ refl in
-    (omega arith, omega arith, b .1, search needs, search needs, search needs, explorers-next _ _ _ _ _ _ (c .before .before .before .before .before .before .before .before .before .before .before .before .before .loop .inv .6) (c .before .before .before .before .before .before .before .before .before .before .before .before .loop-test .taken) _ _ g)
+    (omega arith, omega arith, b .1, search needs, search needs, search needs, search needs, search needs, explorers-next _ _ _ _ _ _ (c .before .before .before .before .before .before .before .before .before .before .before .before .before .before .before .before .before .loop .inv .8) (c .before .before .before .before .before .before .before .before .before .before .before .before .before .before .before .before .loop-test .taken) _ _ g)
 
 same-length-2 : tie.Need-same-length-2 Inv-loop μ-loop
 same-length-2 c = search needs
 
 returns-2 : tie.Need-returns-2 Inv-loop μ-loop
-returns-2 c = explored-from _ _ (omega arith) _ (omega arith) _ (omega arith) _ (c .before .before .before .before .before .before .before .before .before .before .before .clear-heads .ensures) _ (c .before .before .before .before .before .put .ensures) _ _ (explorers-end _ _ _ _ _ _ (c .before .loop .inv .6) (omega arith) (omega arith) (omega arith))
+returns-2 c = explored-from _ _ (c .before .before .before .before .before .before .before .before .before .before .before .before .before .before .before .pre .0) _ (c .before .before .before .before .before .before .before .before .before .before .before .before .before .before .before .pre .2) _ (omega arith) _ (c .before .before .before .before .before .before .before .before .before .before .before .clear-heads .ensures) _ (c .before .before .before .before .before .put .ensures) _ _ (explorers-end _ _ _ _ _ _ (c .before .loop .inv .8) (omega arith) (omega arith) (omega arith))
 
 pub explore-spec : {M : Type 1} → statement M
 explore-spec =
@@ -92,6 +110,8 @@ explore-spec =
     slice-aggregate-grow
     slice-aggregate-grow-2
     slice-aggregate-grow-3
+    slice-aggregate-grow-4
+    slice-aggregate-grow-5
     grow-requires
     enum-known-growth
     enum-told

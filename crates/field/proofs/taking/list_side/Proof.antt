@@ -16,9 +16,23 @@ list-tallied-requires c κs = search needs
 same-length : tie.Need-same-length
 same-length c = search needs
 
+same-length-2 : tie.Need-same-length-2
+same-length-2 c = search needs
+
+same-length-3 : tie.Need-same-length-3
+same-length-3 c = search needs
+
 returns-2 : tie.Need-returns-2
 returns-2 c = search needs
 
 pub list-side-spec : {M : Type 1} → statement M
 list-side-spec =
-    tie.close (tie.spec returns cast-list-tallied list-tallied-requires same-length returns-2)
+    tie.close
+    (tie.spec
+    returns
+    cast-list-tallied
+    list-tallied-requires
+    same-length
+    same-length-2
+    same-length-3
+    returns-2)

@@ -14,37 +14,25 @@ enum-told c = search needs
 same-length : tie.Need-same-length
 same-length c = search needs
 
-returns : tie.Need-returns
-returns c = sides-first-past _ _ _ _ _ _ _ _ (c .before .before .before .before .list-side .ensures) (c .enum-told .given .1)
-
-enum-known-n : tie.Need-enum-known-n
-enum-known-n c = search needs
-
-list-side-requires-2 : tie.Need-list-side-requires-2
-list-side-requires-2 c κs = search needs
-
-enum-told-2 : tie.Need-enum-told-2
-enum-told-2 c = search needs
-
 same-length-2 : tie.Need-same-length-2
 same-length-2 c = search needs
 
 same-length-3 : tie.Need-same-length-3
 same-length-3 c = search needs
 
-returns-2 : tie.Need-returns-2
-returns-2 c = sides-second-past _ _ _ _ _ _ _ _ (c .before .before .before .before .list-side2 .ensures) (c .enum-told2 .given .1)
+returns : tie.Need-returns
+returns c = sides-first-past _ _ _ _ _ _ _ _ (c .before .before .before .before .before .before .before .before .list-side .ensures) (c .enum-told .given .1)
 
-enum-known-m : tie.Need-enum-known-m
-enum-known-m c = search needs
+enum-known-n : tie.Need-enum-known-n
+enum-known-n c = search needs
 
-past-names-requires : tie.Need-past-names-requires
-past-names-requires c κs =
-    let n = c .before .before .before .before .before .before .before .before .before .before .before .before .before .before .list-side .ensures .few _ (c .before .before .before .before .before .before .before .before .before .before .n .given .1) in
-    let m = c .before .before .before .before .before .before .before .list-side2 .ensures .few _ (c .before .before .before .m .given .1) in
-    let k = c .before .before .before .before .before .before .before .before .before .before .before .before .before .before .list-side .kept in
-    let l = c .before .before .before .before .before .before .before .list-side2 .kept in
-    (omega arith, omega arith)
+list-side-requires-2 : tie.Need-list-side-requires-2
+list-side-requires-2 c κs =
+    let k = c .before .before .before .before .before .before .before .before .before .before .before .before .list-side .kept in
+    (c .before .before .before .before .before .before .before .before .before .before .before .before .before .before .before .before .before .before .before .before .before .before .before .before .pre .2, c .before .before .before .before .before .before .before .before .before .before .before .before .before .before .before .before .before .before .before .before .before .before .before .before .pre .0, c .before .before .before .before .before .before .before .before .before .before .before .before .before .before .before .before .before .before .before .before .before .before .before .before .pre .3, omega (arith, k, c .before .before .before .before .before .before .before .before .before .before .before .before .before .before .before .before .before .before .before .before .before .before .before .before .pre .4), omega (arith, k, c .before .before .before .before .before .before .before .before .before .before .before .before .before .before .before .before .before .before .before .before .before .before .before .before .pre .5))
+
+enum-told-2 : tie.Need-enum-told-2
+enum-told-2 c = search needs
 
 same-length-4 : tie.Need-same-length-4
 same-length-4 c = search needs
@@ -52,23 +40,55 @@ same-length-4 c = search needs
 same-length-5 : tie.Need-same-length-5
 same-length-5 c = search needs
 
-returns-3 : tie.Need-returns-3
-returns-3 c =
-    sides-names-past _ _ _ _ _ _ _ _ (c .before .before .before .before .before .before .before .before .before .before .before .before .before .before .before .before .before .before .before .before .before .before .before .before .pre .1) (c .before .before .before .before .before .before .before .before .before .before .before .before .before .before .before .before .before .before .before .before .before .before .before .before .pre .2) _ _ _ _
-    (c .before .before .before .before .before .before .before .before .before .before .before .before .before .before .before .before .list-side .ensures) (c .before .before .before .before .before .before .before .before .before .list-side2 .ensures)
-    (c .before .before .before .before .before .before .before .before .before .before .before .before .n .given .1) (c .before .before .before .before .before .m .given .1) _ (c .before .past-names .ensures) (c .if1 .taken)
-
 same-length-6 : tie.Need-same-length-6
 same-length-6 c = search needs
 
 same-length-7 : tie.Need-same-length-7
 same-length-7 c = search needs
 
+returns-2 : tie.Need-returns-2
+returns-2 c = sides-second-past _ _ _ _ _ _ _ _ (c .before .before .before .before .before .before .before .before .list-side2 .ensures) (c .enum-told2 .given .1)
+
+enum-known-m : tie.Need-enum-known-m
+enum-known-m c = search needs
+
+past-names-requires : tie.Need-past-names-requires
+past-names-requires c κs =
+    let n = c .before .before .before .before .before .before .before .before .before .before .before .before .before .before .before .before .before .before .before .before .before .before .before .before .list-side .ensures .few _ (c .before .before .before .before .before .before .before .before .before .before .before .before .before .before .before .before .n .given .1) in
+    let m = c .before .before .before .before .before .before .before .before .before .before .before .list-side2 .ensures .few _ (c .before .before .before .m .given .1) in
+    let k = c .before .before .before .before .before .before .before .before .before .before .before .before .before .before .before .before .before .before .before .before .before .before .before .before .list-side .kept in
+    let l = c .before .before .before .before .before .before .before .before .before .before .before .list-side2 .kept in
+    (omega (arith, n, k, c .before .before .before .before .before .before .before .before .before .before .before .before .before .before .before .before .before .before .before .before .before .before .before .before .before .before .before .before .before .before .before .before .before .before .before .before .pre .1), omega (arith, m, l, c .before .before .before .before .before .before .before .before .before .before .before .before .before .before .before .before .before .before .before .before .before .before .before .before .before .before .before .before .before .before .before .before .before .before .before .before .pre .2))
+
+same-length-8 : tie.Need-same-length-8
+same-length-8 c = search needs
+
+same-length-9 : tie.Need-same-length-9
+same-length-9 c = search needs
+
+same-length-10 : tie.Need-same-length-10
+same-length-10 c = search needs
+
+same-length-11 : tie.Need-same-length-11
+same-length-11 c = search needs
+
+returns-3 : tie.Need-returns-3
+returns-3 c = sides-names-past _ _ _ _ _ _ _ _ (c .before .before .before .before .before .before .before .before .before .before .before .before .before .before .before .before .before .before .before .before .before .before .before .before .before .before .before .before .before .before .before .before .before .before .before .before .before .before .pre .1) (c .before .before .before .before .before .before .before .before .before .before .before .before .before .before .before .before .before .before .before .before .before .before .before .before .before .before .before .before .before .before .before .before .before .before .before .before .before .before .pre .2) _ _ _ _ (c .before .before .before .before .before .before .before .before .before .before .before .before .before .before .before .before .before .before .before .before .before .before .before .before .before .before .list-side .ensures) (c .before .before .before .before .before .before .before .before .before .before .before .before .before .list-side2 .ensures) (c .before .before .before .before .before .before .before .before .before .before .before .before .before .before .before .before .before .before .n .given .1) (c .before .before .before .before .before .m .given .1) _ (c .before .past-names .ensures) (c .if1 .taken)
+
+same-length-12 : tie.Need-same-length-12
+same-length-12 c = search needs
+
+same-length-13 : tie.Need-same-length-13
+same-length-13 c = search needs
+
+same-length-14 : tie.Need-same-length-14
+same-length-14 c = search needs
+
+same-length-15 : tie.Need-same-length-15
+same-length-15 c = search needs
+
 returns-4 : tie.Need-returns-4
-returns-4 c =
-    sides-listed _ _ _ _ _ _ _ _ (c .before .before .before .before .before .before .before .before .before .before .before .before .before .before .before .before .before .before .before .before .before .before .before .before .pre .1) (c .before .before .before .before .before .before .before .before .before .before .before .before .before .before .before .before .before .before .before .before .before .before .before .before .pre .2) _ _ _ _
-    (c .before .before .before .before .before .before .before .before .before .before .before .before .before .before .before .before .list-side .ensures) (c .before .before .before .before .before .before .before .before .before .list-side2 .ensures)
-    (c .before .before .before .before .before .before .before .before .before .before .before .before .n .given .1) (c .before .before .before .before .before .m .given .1) _ (c .before .past-names .ensures) (c .if1 .left)
+returns-4 c = sides-listed _ _ _ _ _ _ _ _ (c .before .before .before .before .before .before .before .before .before .before .before .before .before .before .before .before .before .before .before .before .before .before .before .before .before .before .before .before .before .before .before .before .before .before .before .before .before .before .pre .1) (c .before .before .before .before .before .before .before .before .before .before .before .before .before .before .before .before .before .before .before .before .before .before .before .before .before .before .before .before .before .before .before .before .before .before .before .before .before .before .pre .2) _ _ _ _ (c .before .before .before .before .before .before .before .before .before .before .before .before .before .before .before .before .before .before .before .before .before .before .before .before .before .before .list-side .ensures) (c .before .before .before .before .before .before .before .before .before .before .before .before .before .list-side2 .ensures) (c .before .before .before .before .before .before .before .before .before .before .before .before .before .before .before .before .before .before .n .given .1) (c .before .before .before .before .before .m .given .1) _ (c .before .past-names .ensures) (c .if1 .left)
 
 pub list-sides-spec : {M : Type 1} → statement M
 list-sides-spec =
@@ -77,18 +97,26 @@ list-sides-spec =
     list-side-requires
     enum-told
     same-length
+    same-length-2
+    same-length-3
     returns
     enum-known-n
     list-side-requires-2
     enum-told-2
-    same-length-2
-    same-length-3
+    same-length-4
+    same-length-5
+    same-length-6
+    same-length-7
     returns-2
     enum-known-m
     past-names-requires
-    same-length-4
-    same-length-5
+    same-length-8
+    same-length-9
+    same-length-10
+    same-length-11
     returns-3
-    same-length-6
-    same-length-7
+    same-length-12
+    same-length-13
+    same-length-14
+    same-length-15
     returns-4)

@@ -34,10 +34,16 @@ same-length c = search needs
 same-length-2 : tie.Need-same-length-2
 same-length-2 c = search needs
 
+same-length-3 : tie.Need-same-length-3
+same-length-3 c = search needs
+
+same-length-4 : tie.Need-same-length-4
+same-length-4 c = search needs
+
 returns : tie.Need-returns
 returns c =
-    taken-up _ _ _ _ _ _ _ _ _ _ _ _
-    (c .before .before .before .before .before .before .before .before .before .before .before .before .before .first-part .ensures) (c .before .before .before .before .before .before .before .before .before .before .before .before .second-part .ensures) (c .before .before .before .before .before .before .before .before .before .before .before .arities-of .ensures) (c .before .before .before .before .before .before .before .before .before .before .free-in-either .ensures) (c .before .before .before .before .before .before .before .before .new-name .ensures) (c .before .before .before .before .before .before .before .apart-flags .ensures) (c .before .before .before .before .list-sides .ensures)
+    taken-up _ _ _ _ _ _ _ _ _ _ _ _ (c .before .before .before .before .before .before .before .before .before .before .before .before .before .before .before .before .before .before .before .first-part .ensures) (c .before .before .before .before .before .before .before .before .before .before .before .before .before .before .before .before .before .before .second-part .ensures) (c .before .before .before .before .before .before .before .before .before .before .before .before .before .before .before .before .before .arities-of .ensures)
+    (c .before .before .before .before .before .before .before .before .before .before .before .before .before .before .before .before .free-in-either .ensures) (c .before .before .before .before .before .before .before .before .before .before .before .before .before .before .new-name .ensures) (c .before .before .before .before .before .before .before .before .before .before .before .before .before .apart-flags .ensures) (c .before .before .before .before .before .before .before .before .list-sides .ensures)
 
 pub take-up-spec : {M : Type 1} → statement M
 take-up-spec =
@@ -53,4 +59,6 @@ take-up-spec =
     list-sides-requires
     same-length
     same-length-2
+    same-length-3
+    same-length-4
     returns)

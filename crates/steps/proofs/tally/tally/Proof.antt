@@ -1,9 +1,6 @@
 -- `steps::tally::tally` meets its contract. Assumes nothing.
-use Prim.Native.Nat.{ℕ}
 use native.Mathlib.Omega.{arith}
-use lib.ListN.{length-replicate}
 use Rattle.terms.proofs.FramingLaws.{bytes-by-place}
-use Rattle.steps.specs.Tally.{tallySize}
 use Rattle.steps.proofs.TallyLoops.{tally-is, calls-are}
 use borrow.Author.Needs.{needs}
 use Rattle.steps.proofs.tally.tally.Statement.{statement}
@@ -12,14 +9,20 @@ use Rattle.steps.proofs.tally.tally.Tie as tie
 arities-of-requires : tie.Need-arities-of-requires
 arities-of-requires c κs = search needs
 
-slice-aggregate-fill : tie.Need-slice-aggregate-fill
-slice-aggregate-fill c = search needs
-
 fill-requires : tie.Need-fill-requires
-fill-requires c κs = (c .before .before .before .before .before .pre .0, c .before .before .before .before .before .pre .1 .few, length-replicate {A = ℕ} tallySize 0)
+fill-requires c κs = search needs
+
+same-length : tie.Need-same-length
+same-length c = search needs
 
 returns : tie.Need-returns
-returns c = tally-is (c .before .before .before .before .before .before .before .args .question .now) (c .before .before .before .before .before .before .before .args .src .now) (c .before .before .before .arities-of .result .now) (c .before .before .before .before .before .before .before .args .bodies .now) _ 1 (c .before .before .before .arities-of .ensures) (calls-are (c .before .before .before .before .before .before .before .args .question .now) (c .before .before .before .before .before .before .before .args .bodies .now) (bytes-by-place (c .before .before .before .before .before .before .before .args .question .now) (λ i. omega (arith, c .before .before .before .before .before .before .shared-slice-known .given i))) (c .before .before .before .before .before .before .before .pre .1)) (c .before .fill .ensures)
+returns c = tally-is (c .before .before .before .before .before .before .before .before .before .args .question .now) (c .before .before .before .before .before .before .before .before .before .args .src .now) (c .before .before .before .before .arities-of .result .now) (c .before .before .before .before .before .before .before .before .before .args .bodies .now) _ 1 (c .before .before .before .before .arities-of .ensures) (calls-are (c .before .before .before .before .before .before .before .before .before .args .question .now) (c .before .before .before .before .before .before .before .before .before .args .bodies .now) (bytes-by-place (c .before .before .before .before .before .before .before .before .before .args .question .now) (λ i. omega (arith, c .before .before .before .before .before .before .before .before .shared-slice-known .given i))) (c .before .before .before .before .before .before .before .before .before .pre .1)) (c .before .before .fill .ensures)
 
 pub tally-spec : {M : Type 1} → statement M
-tally-spec = tie.close (tie.spec arities-of-requires slice-aggregate-fill fill-requires returns)
+tally-spec =
+    tie.close
+    (tie.spec
+    arities-of-requires
+    fill-requires
+    same-length
+    returns)

@@ -1,4 +1,5 @@
 -- `verdict::strike::strike_one` meets its contract. Assumes nothing.
+use native.Mathlib.Omega.{arith}
 use borrow.Author.Needs.{needs}
 use borrow.Author.Tests.{not-true, not-false}
 use Rattle.verdict.proofs.StrikeLaws.{gone-kept, left-zero, survivor-kept, one-strikes}
@@ -26,29 +27,41 @@ same-length-3 c = search needs
 same-length-4 : tie.Need-same-length-4
 same-length-4 c = search needs
 
-returns-2 : tie.Need-returns-2
-returns-2 c = survivor-kept _ _ _ _ _ _ (c .before .before .before .before .before .survives .ensures) (c .if2 .taken)
-
-mul-work : tie.Need-mul-work
-mul-work c = search needs
-
-add-work : tie.Need-add-work
-add-work c = search needs
-
-slice-write-work : tie.Need-slice-write-work
-slice-write-work c = search needs
-
 same-length-5 : tie.Need-same-length-5
 same-length-5 c = search needs
 
 same-length-6 : tie.Need-same-length-6
 same-length-6 c = search needs
 
+returns-2 : tie.Need-returns-2
+returns-2 c = survivor-kept _ _ _ _ _ _ (c .before .before .before .before .before .before .before .before .before .survives .ensures) (c .if2 .taken)
+
+mul-work : tie.Need-mul-work
+mul-work c = omega (arith, c .before .before .before .before .before .before .before .before .before .before .before .before .before .before .before .before .before .before .before .before .before .before .before .before .before .pre .0, c .before .before .before .before .before .before .before .before .before .before .before .before .before .before .before .before .before .before .before .before .before .before .before .before .before .pre .1, c .before .before .before .before .before .before .before .before .before .before .before .before .before .before .before .before .before .before .before .before .before .before .before .before .before .pre .2)
+
+add-work : tie.Need-add-work
+add-work c = omega (arith, c .before .before .before .before .before .before .before .before .before .before .before .before .before .before .before .before .before .before .before .before .before .before .before .before .before .pre .0, c .before .before .before .before .before .before .before .before .before .before .before .before .before .before .before .before .before .before .before .before .before .before .before .before .before .pre .1, c .before .before .before .before .before .before .before .before .before .before .before .before .before .before .before .before .before .before .before .before .before .before .before .before .before .pre .2)
+
+slice-write-work : tie.Need-slice-write-work
+slice-write-work c = omega (arith, c .before .before .before .before .before .before .before .before .before .before .before .before .before .before .before .before .before .before .before .before .before .before .before .before .before .pre .0, c .before .before .before .before .before .before .before .before .before .before .before .before .before .before .before .before .before .before .before .before .before .before .before .before .before .pre .1, c .before .before .before .before .before .before .before .before .before .before .before .before .before .before .before .before .before .before .before .before .before .before .before .before .before .pre .2)
+
 same-length-7 : tie.Need-same-length-7
 same-length-7 c = search needs
 
+same-length-8 : tie.Need-same-length-8
+same-length-8 c = search needs
+
+same-length-9 : tie.Need-same-length-9
+same-length-9 c = search needs
+
+same-length-10 : tie.Need-same-length-10
+same-length-10 c = search needs
+
+same-length-11 : tie.Need-same-length-11
+same-length-11 c = search needs
+
 returns-3 : tie.Need-returns-3
-returns-3 c = one-strikes _ _ _ _ _ _ (left-zero _ _ _ (c .before .before .before .before .before .before .before .before .before .before .left-at .ensures) (not-false _ (c .before .before .before .before .before .before .before .before .before .if1 .left))) (c .before .before .before .before .before .survives .ensures) (c .if2 .left)
+returns-3 c = one-strikes _ _ _ _ _ _ (left-zero _ _ _ (c .before .before .before .before .before .before .before .before .before .before .before .before .before .before .before .before .left-at .ensures) (not-false _ (c .before .before .before .before .before .before .before .before .before .before .before .before .before .before .before .if1 .left))) (c .before .before .before .before .before .before .before .before .before .survives .ensures) (c .if2 .left)
 
 pub strike-one-spec : {M : Type 1} → statement M
 strike-one-spec =
@@ -61,11 +74,15 @@ strike-one-spec =
     same-length-2
     same-length-3
     same-length-4
+    same-length-5
+    same-length-6
     returns-2
     mul-work
     add-work
     slice-write-work
-    same-length-5
-    same-length-6
     same-length-7
+    same-length-8
+    same-length-9
+    same-length-10
+    same-length-11
     returns-3)

@@ -26,7 +26,10 @@ slice-aggregate-side-answered : tie.Need-slice-aggregate-side-answered
 slice-aggregate-side-answered c = search needs
 
 side-answered-requires : tie.Need-side-answered-requires
-side-answered-requires c κs = let few = c .before .before .before .before .before .before .before .before .before .before .before .before .before .take-up .ensures .few _ _ (c .before .before .before .before .before .lists .given .1) in omega (arith, few .0, few .1)
+side-answered-requires c κs =
+    let few = c .before .before .before .before .before .before .before .before .before .before .before .before .before .before .before .before .before .take-up .ensures .few _ _ (c .before .before .before .before .before .lists .given .1) in
+    let k = c .before .before .before .before .before .before .before .before .before .before .before .before .before .before .before .before .before .take-up .kept in
+    (omega (arith, c .before .before .before .before .before .before .before .before .before .before .before .before .before .before .before .before .before .before .before .before .before .before .before .before .before .before .before .before .before .pre .0, c .before .before .before .before .before .before .before .before .before .before .before .before .before .before .before .before .before .before .before .before .before .before .before .before .before .before .before .before .before .pre .1), c .before .before .before .before .before .before .before .before .before .before .before .before .before .before .before .before .before .before .before .before .before .before .before .before .before .before .before .before .before .pre .1, c .before .before .before .before .before .before .before .before .before .before .before .before .before .before .before .before .before .before .before .before .before .before .before .before .before .before .before .before .before .pre .2, omega (arith, few .0, k, c .before .before .before .before .before .before .before .before .before .before .before .before .before .before .before .before .before .before .before .before .before .before .before .before .before .before .before .before .before .pre .3), omega (arith, few .1, k, c .before .before .before .before .before .before .before .before .before .before .before .before .before .before .before .before .before .before .before .before .before .before .before .before .before .before .before .before .before .pre .4))
 
 same-length : tie.Need-same-length
 same-length c = search needs
@@ -34,23 +37,23 @@ same-length c = search needs
 same-length-2 : tie.Need-same-length-2
 same-length-2 c = search needs
 
-returns : tie.Need-returns
-returns c = first-fails _ _ _ _ _ (c .before .before .before .before .before .before .before .before .before .before .before .before .before .before .before .before .before .before .before .before .before .before .before .pre .0) _ _ _ (c .before .before .before .before .before .before .before .before .before .before .before .before .before .before .before .take-up .ensures) _ _ (c .before .before .before .before .before .before .before .lists .given .1) _ (c .before .before .before .before .before .arities-of .ensures) _ false (c .before .side-answered .ensures) (not-true _ (c .if1 .taken))
-
-slice-aggregate-side-answered-2 : tie.Need-slice-aggregate-side-answered-2
-slice-aggregate-side-answered-2 c = search needs
-
-side-answered-requires-2 : tie.Need-side-answered-requires-2
-side-answered-requires-2 c κs = let few = c .before .before .before .before .before .before .before .before .before .before .before .before .before .before .before .before .before .before .take-up .ensures .few _ _ (c .before .before .before .before .before .before .before .before .before .before .lists .given .1) in omega (arith, few .0, few .1, c .before .before .before .before .before .before .before .before .before .before .before .before .before .before .before .before .before .before .before .before .before .before .before .before .before .before .pre .0, c .before .before .before .before .before .before .before .before .before .before .before .before .before .before .before .before .before .before .before .before .before .before .before .before .before .before .pre .1, c .before .before .before .before .before .before .before .before .before .before .before .before .before .before .before .before .before .before .before .before .before .before .before .before .before .before .pre .2, c .before .before .before .before .before .before .before .before .before .before .before .before .before .before .before .before .before .before .before .before .before .before .before .before .before .before .pre .3, c .before .before .before .before .before .before .before .before .before .before .before .before .before .before .before .before .before .before .before .before .before .before .before .before .before .before .pre .4)
-
 same-length-3 : tie.Need-same-length-3
 same-length-3 c = search needs
 
 same-length-4 : tie.Need-same-length-4
 same-length-4 c = search needs
 
-returns-2 : tie.Need-returns-2
-returns-2 c = past-limit _ _ _ _ _ (c .before .before .before .before .before .before .before .before .before .before .before .before .before .before .before .before .pre .0) _ _ _ (c .before .before .before .before .before .before .before .before .take-up .ensures) (c .enum-told .given .1)
+returns : tie.Need-returns
+returns c = first-fails _ _ _ _ _ (c .before .before .before .before .before .before .before .before .before .before .before .before .before .before .before .before .before .before .before .before .before .before .before .before .before .before .before .before .before .before .before .pre .0) _ _ _ (c .before .before .before .before .before .before .before .before .before .before .before .before .before .before .before .before .before .before .before .take-up .ensures) _ _ (c .before .before .before .before .before .before .before .lists .given .1) _ (c .before .before .before .before .before .arities-of .ensures) _ false (c .before .side-answered .ensures) (not-true _ (c .if1 .taken))
+
+slice-aggregate-side-answered-2 : tie.Need-slice-aggregate-side-answered-2
+slice-aggregate-side-answered-2 c = search needs
+
+side-answered-requires-2 : tie.Need-side-answered-requires-2
+side-answered-requires-2 c κs =
+    let few = c .before .before .before .before .before .before .before .before .before .before .before .before .before .before .before .before .before .before .before .before .before .before .take-up .ensures .few _ _ (c .before .before .before .before .before .before .before .before .before .before .lists .given .1) in
+    let k = c .before .before .before .before .before .before .before .before .before .before .before .before .before .before .before .before .before .before .before .before .before .before .take-up .kept in
+    (omega (arith, c .before .before .before .before .before .before .before .before .before .before .before .before .before .before .before .before .before .before .before .before .before .before .before .before .before .before .before .before .before .before .before .before .before .before .pre .0, c .before .before .before .before .before .before .before .before .before .before .before .before .before .before .before .before .before .before .before .before .before .before .before .before .before .before .before .before .before .before .before .before .before .before .pre .1), c .before .before .before .before .before .before .before .before .before .before .before .before .before .before .before .before .before .before .before .before .before .before .before .before .before .before .before .before .before .before .before .before .before .before .pre .1, c .before .before .before .before .before .before .before .before .before .before .before .before .before .before .before .before .before .before .before .before .before .before .before .before .before .before .before .before .before .before .before .before .before .before .pre .2, omega (arith, few .1, k, c .before .before .before .before .before .before .before .before .before .before .before .before .before .before .before .before .before .before .before .before .before .before .before .before .before .before .before .before .before .before .before .before .before .before .pre .4), omega (arith, few .0, k, c .before .before .before .before .before .before .before .before .before .before .before .before .before .before .before .before .before .before .before .before .before .before .before .before .before .before .before .before .before .before .before .before .before .before .pre .3))
 
 same-length-5 : tie.Need-same-length-5
 same-length-5 c = search needs
@@ -58,8 +61,29 @@ same-length-5 c = search needs
 same-length-6 : tie.Need-same-length-6
 same-length-6 c = search needs
 
+same-length-7 : tie.Need-same-length-7
+same-length-7 c = search needs
+
+same-length-8 : tie.Need-same-length-8
+same-length-8 c = search needs
+
+returns-2 : tie.Need-returns-2
+returns-2 c = past-limit _ _ _ _ _ (c .before .before .before .before .before .before .before .before .before .before .before .before .before .before .before .before .before .before .before .before .before .before .before .before .pre .0) _ _ _ (c .before .before .before .before .before .before .before .before .before .before .before .before .take-up .ensures) (c .enum-told .given .1)
+
+same-length-9 : tie.Need-same-length-9
+same-length-9 c = search needs
+
+same-length-10 : tie.Need-same-length-10
+same-length-10 c = search needs
+
+same-length-11 : tie.Need-same-length-11
+same-length-11 c = search needs
+
+same-length-12 : tie.Need-same-length-12
+same-length-12 c = search needs
+
 returns-3 : tie.Need-returns-3
-returns-3 c = second-decides _ _ _ _ _ (c .before .before .before .before .before .before .before .before .before .before .before .before .before .before .before .before .before .before .before .before .before .before .before .before .before .before .before .pre .0) _ _ _ (c .before .before .before .before .before .before .before .before .before .before .before .before .before .before .before .before .before .before .before .take-up .ensures) _ _ (c .before .before .before .before .before .before .before .before .before .before .before .lists .given .1) _ (c .before .before .before .before .before .before .before .before .before .arities-of .ensures) _ _ (c .before .before .before .before .before .side-answered .ensures) (not-false _ (c .before .before .before .before .if1 .left)) (c .side-answered2 .ensures)
+returns-3 c = second-decides _ _ _ _ _ (c .before .before .before .before .before .before .before .before .before .before .before .before .before .before .before .before .before .before .before .before .before .before .before .before .before .before .before .before .before .before .before .before .before .before .before .pre .0) _ _ _ (c .before .before .before .before .before .before .before .before .before .before .before .before .before .before .before .before .before .before .before .before .before .before .before .take-up .ensures) _ _ (c .before .before .before .before .before .before .before .before .before .before .before .lists .given .1) _ (c .before .before .before .before .before .before .before .before .before .arities-of .ensures) _ _ (c .before .before .before .before .before .side-answered .ensures) (not-false _ (c .before .before .before .before .if1 .left)) (c .side-answered2 .ensures)
 
 pub survives-spec : {M : Type 1} → statement M
 survives-spec =
@@ -74,12 +98,18 @@ survives-spec =
     side-answered-requires
     same-length
     same-length-2
+    same-length-3
+    same-length-4
     returns
     slice-aggregate-side-answered-2
     side-answered-requires-2
-    same-length-3
-    same-length-4
-    returns-2
     same-length-5
     same-length-6
+    same-length-7
+    same-length-8
+    returns-2
+    same-length-9
+    same-length-10
+    same-length-11
+    same-length-12
     returns-3)
