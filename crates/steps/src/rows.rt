@@ -99,11 +99,15 @@ fn is_repeated(src: &[u8], tally: &[u32], root: usize, at: usize) -> bool
     requires { ⌜ (at < length (now src)) × EndsInside (now src) (now tally) ⌝ }
     ensures { λ r. ⌜ ((question : List ℕ) → EndsTallied question (now (src .entry)) (now (tally .entry)) → RepeatedIs question (now (src .entry)) root at r) ⌝ }
 {
+    let t = src[at];
     let n = end_at(tally, at) - at;
     let mut p = root;
     while p < at {
-        if alike(src, p, src, at, n) {
-            return true;
+        // A byte 06 and another form differ at once.
+        if src[p] == t {
+            if alike(src, p, src, at, n) {
+                return true;
+            }
         }
         p = behind_piece(src, tally, p);
     }
