@@ -1,6 +1,7 @@
 pub mod ArgumentSlots
 pub mod AskLaws
 pub mod BodyPlaces
+pub mod BranchLaws
 pub mod ByteOrder
 pub mod CallLaws
 pub mod Calls

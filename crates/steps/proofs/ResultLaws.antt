@@ -9,7 +9,7 @@ use lib.Seq.{sets, take-at, drop-drop}
 use lib.Dec.{leb}
 use borrow.Author.Tests.{leb-true, leb-false}
 use Rattle.calculus.specs.Abstraction.{Act, tauA}
-use Rattle.calculus.specs.Term.{Term, mat, sum, par, res, call, ren, lift}
+use Rattle.calculus.specs.Term.{Term, mat, par, res, call, ren, lift}
 use Rattle.calculus.proofs.FreeNames.{ren-ext}
 use Rattle.calculus.proofs.Renaming.{ren-∘, ren-id}
 use Rattle.terms.specs.Answer.{result}
@@ -22,26 +22,27 @@ use Rattle.terms.proofs.ScopeLaws.{free-below}
 use Rattle.terms.proofs.Shapes.{length-ren}
 use Rattle.terms.proofs.Stores.{sets-join}
 use Rattle.steps.specs.Bodies.{AritiesIs, BodyIs, OpeningIs}
+use Rattle.steps.specs.Branching.{Reaches, BranchIs}
 use Rattle.steps.specs.Listing.{bodyOf}
-use Rattle.steps.specs.Passing.{candidates, Does, PassIs, MiddleIs, opensAt}
+use Rattle.steps.specs.Passing.{candidates, Does, PassIs, opensAt}
 use Rattle.steps.specs.Raw.{Candidate, step, blocked}
 use Rattle.steps.specs.Names.{Kept, CalledIs, UnchangedIs, TableIs}
 use Rattle.steps.specs.Results.{receiving, chosen, Asks, Written, StoreIs, TermIs, WriteIs, numbered, beneath, inside, entering, opening, Parts, PlanIs}
 use Rattle.steps.specs.Tally.{endAt, TallyIs, EndsTallied}
-use Rattle.steps.specs.Tallying.{numberAt}
 use Rattle.steps.specs.declared.bodies.Opening.{Opening}
+use Rattle.steps.specs.declared.pass.Branch.{Branch}
 use Rattle.steps.specs.declared.pass.Passed.{Passed}
 use Rattle.steps.specs.declared.result.Plan.{Plan}
 use Rattle.steps.specs.declared.result.Task.{Task}
 use Rattle.steps.proofs.CallLaws.{params, names-call, body-scope, at-call}
 use Rattle.steps.proofs.AskLaws.{chosen-is, ask-open, res-part, ask-res}
-use Rattle.steps.proofs.CandidateForms.{candidates-mat, candidates-res, candidates-call, candidates-no-call, tag-at, only-mat, only-sum, only-par, only-res}
+use Rattle.steps.proofs.CandidateForms.{candidates-mat, candidates-res, candidates-call, candidates-no-call, tag-at, only-mat, only-par, only-res}
 use Rattle.steps.proofs.FrontLaws.{stands}
 use Rattle.steps.proofs.NameSlots.{names-represent, names-kept}
-use Rattle.steps.proofs.Numbering.{nth-matching, nth-restricted, some-candidate}
+use Rattle.steps.proofs.Numbering.{nth-matching, nth-restricted}
 use Rattle.steps.proofs.Premises.{never, Under, matching-of, under-of}
 use Rattle.steps.proofs.SlotLaws.{names-unchanged}
-use Rattle.steps.proofs.TwoSides.{sides-sum, at-left, at-right, number-is, behind}
+use Rattle.steps.proofs.TwoSides.{at-left, at-right}
 
 -- What fits ends where it should.
 module _ (out : List ℕ) (put : ℕ) (bs : List ℕ) (e : ℕ) (out₁ : List ℕ) (W : Written out put bs e out₁) where
@@ -218,63 +219,28 @@ module _ (question s : List ℕ) (at D : ℕ) (names : List ℕ) (task : Task) (
   }
 
   -- [Sum]
-  module _ (g : getD s at 0 ≡ 6) (tally : List ℕ) (T : TallyIs question s (task .calls) tally) where
-    pub write-sum-left : task .number < numberAt tally (at + 1) (task .silently) → (r : ℕ) (out′ : List ℕ) → WriteIs question s (at + 1) D names task out put r out′
-        → WriteIs question s at D names task out put r out′
-    unfolding encode InScope
-    write-sum-left h r out′ R = record {
-      on = R .on;
-      is = λ q free σ P rest bs ok few scope st K. only-sum (Shows r out′ q free σ rest bs)
-          (λ P Q scope st K.
-          let body = bodyOf (q .bodies) in
-          let S = sides-sum body (task .silently) (task .calls) (ren σ P) (ren σ Q) in
-          let n = number-is question s (task .calls) tally T (task .silently) q (at + 1) free D σ P (encode D Q ++ rest) ok (scope .0) (at-left D s at P Q rest 6 st) in
-          R .is q free σ P (encode D Q ++ rest) bs ok few (scope .0) (at-left D s at P Q rest 6 st) (record {
-            ρ = K .ρ;
-            x = K .x;
-            has = K .has;
-            new = K .new;
-            condition = K .condition;
-            action = K .action;
-            result = K .result;
-            candidate = chosen-is task body (ren σ P) walks ∙ sym (S .first (task .number) (omega arith)) ∙ picked body free σ (sum P Q) bs K _ refl;
-            bytes = K .bytes;
-          }))
-          P (sym (tag-at s at D P rest st) ∙ g) scope st K;
-    }
-
-    pub write-sum-right : (m : ℕ) → MiddleIs s tally at m → numberAt tally (at + 1) (task .silently) ≤ task .number → (j : ℕ) → j ≡ task .number - numberAt tally (at + 1) (task .silently)
-        → (t : Task) → t ≡ numbered j task → (r : ℕ) (out′ : List ℕ) → WriteIs question s m D names t out put r out′ → WriteIs question s at D names task out put r out′
-    unfolding encode InScope
-    write-sum-right m N h j J t e r out′ R₀ = record {
-      on = R₀ .on;
-      is = λ q free σ P rest bs ok few scope st K. only-sum (Shows r out′ q free σ rest bs)
-          (λ P Q scope st K.
-          let body = bodyOf (q .bodies) in
-          let R = subst (λ (t : Task). WriteIs question s m D names t out put r out′) e R₀ in
-          let S = sides-sum body (task .silently) (task .calls) (ren σ P) (ren σ Q) in
-          let st₁ = at-left D s at P Q rest 6 st in
-          let n = number-is question s (task .calls) tally T (task .silently) q (at + 1) free D σ P (encode D Q ++ rest) ok (scope .0) st₁ in
-          let i : task .number ≡ length (candidates (task .silently) body (task .calls) (ren σ P)) + j = omega arith in
-          let c : getD (candidates (task .silently) body (task .calls) (ren σ (sum P Q))) (length (candidates (task .silently) body (task .calls) (ren σ P)) + j) blocked
-          ≡ step (K .condition) (K .action) (K .result) =
-          ap (λ (j : ℕ). getD (candidates (task .silently) body (task .calls) (ren σ (sum P Q))) j blocked) (sym i) ∙ picked body free σ (sum P Q) bs K _ refl in
-          let l = some-candidate (candidates (task .silently) body (task .calls) (ren σ (sum P Q))) (length (candidates (task .silently) body (task .calls) (ren σ P)) + j)
-          (K .condition) (K .action) (K .result) c in
-          let k : j < length (candidates (task .silently) body (task .calls) (ren σ Q)) = omega (arith, S .len) in
-          R .is q free σ Q rest bs ok few (scope .1) (behind question s (task .calls) tally T at m N q free D σ P Q rest ok (scope .0) (scope .1) st₁) (record {
-            ρ = K .ρ;
-            x = K .x;
-            has = K .has;
-            new = K .new;
-            condition = K .condition;
-            action = K .action;
-            result = K .result;
-            candidate = chosen-is (numbered j task) body (ren σ Q) walks ∙ sym (S .second j k) ∙ c;
-            bytes = K .bytes;
-          }))
-          P (sym (tag-at s at D P rest st) ∙ g) scope st K;
-    }
+  pub write-branch : (tally : List ℕ) → TallyIs question s (task .calls) tally → (b : Branch) → BranchIs s tally at (task .silently) (task .number) b
+      → (t : Task) → t ≡ numbered (b .number) task → (r : ℕ) (out′ : List ℕ) → WriteIs question s (b .at) D names t out put r out′
+      → WriteIs question s at D names task out put r out′
+  unfolding Reaches
+  write-branch tally T b B t e r out′ R₀ = record {
+    on = R₀ .on;
+    is = λ q free σ P rest bs ok few scope st K.
+        let body = bodyOf (q .bodies) in
+        let R = subst (λ (t : Task). WriteIs question s (b .at) D names t out put r out′) e R₀ in
+        let A = B .is question (task .calls) T q free D σ P rest ok scope st in
+        R .is q free σ (A .term) (A .rest) bs ok few (A .scope) (A .stands) (record {
+          ρ = K .ρ;
+          x = K .x;
+          has = K .has;
+          new = K .new;
+          condition = K .condition;
+          action = K .action;
+          result = K .result;
+          candidate = chosen-is (numbered (b .number) task) body (ren σ (A .term)) walks ∙ A .candidate ∙ picked body free σ P bs K _ refl;
+          bytes = K .bytes;
+        });
+  }
 
   -- [Res] and [Open]
   module _ (g : getD s at 0 ≡ 8) (p : Passed)

@@ -17,6 +17,7 @@ use Rattle.terms.specs.Answer.{result}
 use Rattle.terms.specs.Encoding.{encode, InScope}
 use Rattle.terms.specs.Question.{Question, checkOf}
 use Rattle.terms.proofs.ReadEncoded.{encode-some}
+use Rattle.steps.specs.Branching.{Ends}
 use Rattle.steps.specs.Listing.{bodyOf}
 use Rattle.steps.specs.Passing.{candidates, Does, PassIs, MiddleIs, nothingSent}
 use Rattle.steps.specs.Raw.{Candidate, step, blocked, leftSteps, rightSteps, communications}
@@ -104,13 +105,17 @@ unfolding numberAt candidates
 number-is question s calls t T true q at free D σ P rest ok scope st = T .is q at free D σ P rest ok scope st .1
 number-is question s calls t T false q at free D σ P rest ok scope st = T .is q at free D σ P rest ok scope st .0
 
+-- The right side stands behind the form's first byte, whatever the bytes are.
+pub middle-past : (s tally : List ℕ) → Ends s tally → (at m : ℕ) → MiddleIs s tally at m → at < length s → at < m
+middle-past s tally E at m N h = go (leb (length s) (at + 1)) refl
+  where
+    go : (b : Bool) → leb (length s) (at + 1) ≡ b → at < m
+    go true b = omega (arith, N .none (leb-true (length s) (at + 1) b))
+    go false b = let l = leb-false (length s) (at + 1) b in omega (arith, N .is l, E (at + 1) l .0)
+
 module _ (question s : List ℕ) (calls : ℕ) (tally : List ℕ) (T : TallyIs question s calls tally) (at m : ℕ) (N : MiddleIs s tally at m) where
   pub middle-on : at < length s → at < m
-  middle-on h = go (leb (length s) (at + 1)) refl
-    where
-      go : (b : Bool) → leb (length s) (at + 1) ≡ b → at < m
-      go true b = omega (arith, N .none (leb-true (length s) (at + 1) b))
-      go false b = let l = leb-false (length s) (at + 1) b in omega (arith, N .is l, T .on (at + 1) l .0)
+  middle-on = middle-past s tally (T .on) at m N
 
   module _ (q : Question) (free D : ℕ) (σ : ℕ → ℕ) (P Q : Term) (rest : List ℕ) (ok : checkOf question ≡ result q) (sp : InScope free (q .arities) D P)
       (sq : InScope free (q .arities) D Q) (st : drop (at + 1) s ≡ encode D P ++ (encode D Q ++ rest)) where

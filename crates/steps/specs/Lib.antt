@@ -1,5 +1,6 @@
 pub mod Answering
 pub mod Bodies
+pub mod Branching
 pub mod Collecting
 pub mod Conditions
 pub mod Contexts

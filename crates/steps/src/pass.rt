@@ -5,6 +5,7 @@ ghost use mathlib.Core.Bool.{false};
 ghost use Prim.Native.Nat.{_+_, _-_, _≤_, _<_};
 ghost use lib.ListN.{length, getD};
 ghost use Rattle.terms.specs.Limits.{tableNames, greatestArity, longestTerm};
+ghost use Rattle.steps.specs.Branching.{Ends, BranchIs};
 ghost use Rattle.steps.specs.Names.{mostBinders};
 ghost use Rattle.steps.specs.Passing.{nothingSent, PrefixIs, opensAt, leavingAt, returnedAt, PassIs, MiddleIs};
 ghost use Rattle.steps.specs.Tally.{TallyIs, BodiesTallied};
@@ -13,6 +14,7 @@ use crate::bodies::call_at;
 use crate::names::slot_of;
 use crate::tally::body_tally;
 use crate::tally::end_at;
+use crate::tally::number_at;
 use crate::tally::visible_at;
 use terms::bytes::get;
 use terms::limits::TABLE_NAMES;
@@ -120,6 +122,34 @@ pub fn middle_of(src: &[u8], tally: &[u32], at: usize) -> usize
     end_at(tally, left)
 }
 
+// A branch of a choice, and the number of a candidate there.
+pub struct Branch {
+    pub at: usize,
+    pub number: usize,
+}
+
+// The branch of the choice at `at` that has the choice's candidate of this number: down from choice to choice.
+pub fn branch_of(src: &[u8], tally: &[u32], at: usize, silently: bool, number: usize) -> Branch
+    requires { ⌜ (length (now src) ≤ longestTerm) × Ends (now src) (now tally) ⌝ }
+    ensures { λ r. ⌜ BranchIs (now (src .entry)) (now (tally .entry)) at silently number r ⌝ }
+{
+    let mut b = at;
+    let mut n = number;
+    while b < src.len() {
+        if src[b] != 6 {
+            return Branch { at: b, number: n };
+        }
+        let left = number_at(tally, b + 1, silently);
+        if n < left {
+            b += 1;
+        } else {
+            n -= left;
+            b = middle_of(src, tally, b);
+        }
+    }
+    Branch { at: b, number: n }
+}
+
 // The call at `at`: a candidate of the body.
 fn pass_call(
     question: &[u8],
@@ -174,6 +204,11 @@ pub fn pass(
     }
     if 8 < t {
         return pass_call(question, bodies, src, at, binders, calls, i);
+    }
+    if t == 6 {
+        let b = branch_of(src, tally, at, false, i);
+        let n = b.number;
+        return pass(question, bodies, src, tally, b.at, binders, calls, n);
     }
     let left = visible_at(tally, at + 1);
     if i < left {

@@ -18,6 +18,7 @@ use crate::names::renaming;
 use crate::names::unchanged;
 use crate::pass::OUTPUT;
 use crate::pass::Passed;
+use crate::pass::branch_of;
 use crate::pass::middle_of;
 use crate::pass::opens;
 use crate::pass::pass;
@@ -373,54 +374,6 @@ fn plan_of(
     meet(task, names, middle, n, x, z)
 }
 
-// The choice at `at`: one side.
-fn write_choice(
-    question: &[u8],
-    bodies: &[u32],
-    src: &[u8],
-    tally: &[u32],
-    at: usize,
-    binders: usize,
-    task: Task,
-    names: &mut [u8],
-    out: &mut [u8],
-    put: usize,
-) -> usize
-    requires { ⌜ (at < length (now src)) × (getD (now src) at 0 ≡ 6) × (task .still ≡ false) × Writing (now question) (now bodies) (now src) (now tally) at binders (now names) task (now out) put ⌝ }
-    ensures { λ r. ⌜ WriteIs (now (question .entry)) (now (src .entry)) at binders (now (names .entry)) task (now (out .entry)) put r (now (out .exit)) × Kept binders (now (names .entry)) (now (names .exit)) ⌝ }
-{
-    let number = task.number;
-    let n = number_at(tally, at + 1, task.silently);
-    if number < n {
-        return write(
-            question,
-            bodies,
-            src,
-            tally,
-            at + 1,
-            binders,
-            task,
-            names,
-            out,
-            put,
-        );
-    }
-    let middle = middle_of(src, tally, at);
-    let right = with_number(task, number - n);
-    write(
-        question,
-        bodies,
-        src,
-        tally,
-        middle,
-        binders,
-        right,
-        names,
-        out,
-        put,
-    )
-}
-
 // The parallel at `at`: both sides.
 fn write_parallel(
     question: &[u8],
@@ -645,14 +598,16 @@ pub fn write(
         );
     }
     if t == 6 {
-        return write_choice(
+        let b = branch_of(src, tally, at, task.silently, task.number);
+        let n = b.number;
+        return write(
             question,
             bodies,
             src,
             tally,
-            at,
+            b.at,
             binders,
-            task,
+            with_number(task, n),
             names,
             out,
             put,

@@ -11,6 +11,7 @@ use borrow.Fn.Kinds.{In}
 use borrow.Fn.PlainCycle.{Measures, is, falls, and}
 use Rattle.terms.proofs.bytes.get.Reads as get-reads
 use Rattle.steps.specs.Tallying.{numberAt}
+use Rattle.steps.proofs.BranchLaws.{pass-branch}
 use Rattle.steps.proofs.TwoSides.{middle-on, pass-left, pass-right, pass-met}
 use Rattle.steps.proofs.PassLaws.{pass-none, pass-prefix, pass-mat, pass-res}
 use Rattle.steps.proofs.CallLaws.{pass-closed, pass-opened}
@@ -23,6 +24,7 @@ use Rattle.steps.proofs.pass.+pass+pass_call.Lts-pass_call as pass-call
 use Rattle.steps.proofs.bodies.body_of.Reads as body-of-reads
 use Rattle.steps.proofs.bodies.call_at.Reads as call-at-reads
 use Rattle.steps.proofs.pass.leaving.Reads as leaving-reads
+use Rattle.steps.proofs.pass.branch_of.Reads as branch-of-reads
 use Rattle.steps.proofs.pass.middle_of.Reads as middle-of-reads
 use Rattle.steps.proofs.pass.pass_prefix.Reads as pass-prefix-reads
 use Rattle.steps.proofs.pass.returned.Reads as returned-reads
@@ -52,7 +54,7 @@ pass-call-below t =
     and 3 pass-call-kinds.ps (falls 3 pass-call-kinds.ps _<_ μ-pass-call t) pass-call.Pre
 
 abbrev pass-claims : ℕ → pass-lts.Claims
-pass-claims t = (silent-reads.Asked, silent-reads.Learnt, get-reads.Asked, get-reads.Learnt, pass-prefix-reads.Asked, pass-prefix-reads.Learnt, pass-below t, pass.Post, leaving-reads.Asked, leaving-reads.Learnt, pass-call-below t, pass-call.Post, visible-at-reads.Asked, visible-at-reads.Learnt, middle-of-reads.Asked, middle-of-reads.Learnt)
+pass-claims t = (silent-reads.Asked, silent-reads.Learnt, get-reads.Asked, get-reads.Learnt, pass-prefix-reads.Asked, pass-prefix-reads.Learnt, pass-below t, pass.Post, leaving-reads.Asked, leaving-reads.Learnt, pass-call-below t, pass-call.Post, branch-of-reads.Asked, branch-of-reads.Learnt, visible-at-reads.Asked, visible-at-reads.Learnt, middle-of-reads.Asked, middle-of-reads.Learnt)
 
 abbrev pass-call-claims : ℕ → pass-call-lts.Claims
 pass-call-claims t = (call-at-reads.Asked, call-at-reads.Learnt, silent-reads.Asked, silent-reads.Learnt, body-of-reads.Asked, body-of-reads.Learnt, body-tally-reads.Asked, body-tally-reads.Learnt, pass-below t, pass.Post, returned-reads.Asked, returned-reads.Learnt)
@@ -102,6 +104,15 @@ pass-pass-call-requires t c κs = (omega (arith, c .before .before .before .befo
 pass-returns-5 : (t : ℕ) → pass-lts.Need-returns-5 (pass-claims t) (pass-at t) pass.Post
 pass-returns-5 t c = c .pass-call .ensures
 
+pass-branch-of-requires : (t : ℕ) → pass-lts.Need-branch-of-requires (pass-claims t) (pass-at t) pass.Post
+pass-branch-of-requires t c κs = (c .before .before .before .before .before .before .before .before .before .before .before .pre .1 .0, c .before .before .before .before .before .before .before .before .before .before .before .pre .1 .3 .on)
+
+pass-pass-requires-3 : (t : ℕ) → pass-lts.Need-pass-requires-3 (pass-claims t) (pass-at t) pass.Post
+pass-pass-requires-3 t c κs = let h = c .branch-of .ensures .past (c .before .before .before .before .before .before .before .if1 .left) (sym (c .before .before .before .before .before .before .get .ensures) ∙ c .before .if6 .taken) in (omega (arith, c .before .before .before .before .before .before .before .before .before .before .before .before .pre .0, c .before .before .before .before .before .before .before .if1 .left, h), (c .before .before .before .before .before .before .before .before .before .before .before .before .pre .1 .0, omega (arith, c .before .before .before .before .before .before .before .before .before .before .before .before .pre .1 .1, h), c .before .before .before .before .before .before .before .before .before .before .before .before .pre .1 .2, c .before .before .before .before .before .before .before .before .before .before .before .before .pre .1 .3, c .before .before .before .before .before .before .before .before .before .before .before .before .pre .1 .4))
+
+pass-returns-6 : (t : ℕ) → pass-lts.Need-returns-6 (pass-claims t) (pass-at t) pass.Post
+pass-returns-6 t c = let a = c .before .before .before .before .before .before .before .before .before .before .before .before .before .args in pass-branch (a .question .now) (a .src .now) (a .at) (a .binders) (a .calls) false (a .i) (a .tally .now) (c .before .before .before .before .before .before .before .before .before .before .before .before .before .pre .1 .3) (c .before .branch-of .result) (c .before .branch-of .ensures) (c .pass3 .result) (c .pass3 .ensures)
+
 pass-add-visible-at : (t : ℕ) → pass-lts.Need-add-visible-at (pass-claims t) (pass-at t) pass.Post
 pass-add-visible-at t c = search needs
 
@@ -111,32 +122,32 @@ pass-visible-at-requires t c κs = search needs
 pass-add-pass-4 : (t : ℕ) → pass-lts.Need-add-pass-4 (pass-claims t) (pass-at t) pass.Post
 pass-add-pass-4 t c = search needs
 
-pass-pass-requires-3 : (t : ℕ) → pass-lts.Need-pass-requires-3 (pass-claims t) (pass-at t) pass.Post
-pass-pass-requires-3 t c κs = (omega (arith, c .before .before .before .before .before .before .before .before .before .before .before .before .pre .0, c .before .before .before .before .before .before .before .if1 .left), (c .before .before .before .before .before .before .before .before .before .before .before .before .pre .1 .0, omega (arith, c .before .before .before .before .before .before .before .before .before .before .before .before .pre .1 .1, c .before .before .before .before .before .before .before .if1 .left), c .before .before .before .before .before .before .before .before .before .before .before .before .pre .1 .2, c .before .before .before .before .before .before .before .before .before .before .before .before .pre .1 .3, c .before .before .before .before .before .before .before .before .before .before .before .before .pre .1 .4))
+pass-pass-requires-4 : (t : ℕ) → pass-lts.Need-pass-requires-4 (pass-claims t) (pass-at t) pass.Post
+pass-pass-requires-4 t c κs = (omega (arith, c .before .before .before .before .before .before .before .before .before .before .before .before .before .pre .0, c .before .before .before .before .before .before .before .before .if1 .left), (c .before .before .before .before .before .before .before .before .before .before .before .before .before .pre .1 .0, omega (arith, c .before .before .before .before .before .before .before .before .before .before .before .before .before .pre .1 .1, c .before .before .before .before .before .before .before .before .if1 .left), c .before .before .before .before .before .before .before .before .before .before .before .before .before .pre .1 .2, c .before .before .before .before .before .before .before .before .before .before .before .before .before .pre .1 .3, c .before .before .before .before .before .before .before .before .before .before .before .before .before .pre .1 .4))
 
-pass-returns-6 : (t : ℕ) → pass-lts.Need-returns-6 (pass-claims t) (pass-at t) pass.Post
+pass-returns-7 : (t : ℕ) → pass-lts.Need-returns-7 (pass-claims t) (pass-at t) pass.Post
 unfolding numberAt
-pass-returns-6 t c = let a = c .before .before .before .before .before .before .before .before .before .before .before .before .before .args in pass-left (a .question .now) (a .src .now) (a .at) (a .binders) (a .calls) false (a .i) (a .tally .now) (c .before .before .before .before .before .before .before .before .before .before .before .before .before .pre .1 .3) (omega (arith, c .before .before .before .before .before .before .before .get .ensures, c .before .before .before .before .before .before .if2 .left, c .before .before .before .before .before .if3 .left, c .before .before .before .before .if4 .left, c .before .before .before .if5 .left), omega (arith, c .before .before .before .before .before .before .before .get .ensures, c .before .before .before .before .before .before .if2 .left, c .before .before .before .before .before .if3 .left, c .before .before .before .before .if4 .left, c .before .before .before .if5 .left)) (subst (λ (n : ℕ). a .i < n) (c .before .before .visible-at .ensures) (c .before .if6 .taken)) (c .pass3 .result) (c .pass3 .ensures)
+pass-returns-7 t c = let a = c .before .before .before .before .before .before .before .before .before .before .before .before .before .before .args in pass-left (a .question .now) (a .src .now) (a .at) (a .binders) (a .calls) false (a .i) (a .tally .now) (c .before .before .before .before .before .before .before .before .before .before .before .before .before .before .pre .1 .3) (omega (arith, c .before .before .before .before .before .before .before .before .get .ensures, c .before .before .before .before .before .before .before .if2 .left, c .before .before .before .before .before .before .if3 .left, c .before .before .before .before .before .if4 .left, c .before .before .before .before .if5 .left), omega (arith, c .before .before .before .before .before .before .before .before .get .ensures, c .before .before .before .before .before .before .before .if2 .left, c .before .before .before .before .before .before .if3 .left, c .before .before .before .before .before .if4 .left, c .before .before .before .before .if5 .left)) (subst (λ (n : ℕ). a .i < n) (c .before .before .visible-at .ensures) (c .before .if7 .taken)) (c .pass4 .result) (c .pass4 .ensures)
 
 pass-middle-of-requires : (t : ℕ) → pass-lts.Need-middle-of-requires (pass-claims t) (pass-at t) pass.Post
-pass-middle-of-requires t c κs = (c .before .before .before .before .before .before .before .if1 .left, c .before .before .before .before .before .before .before .before .before .before .before .before .pre .1 .0)
+pass-middle-of-requires t c κs = (c .before .before .before .before .before .before .before .before .if1 .left, c .before .before .before .before .before .before .before .before .before .before .before .before .before .pre .1 .0)
 
 pass-visible-at-requires-2 : (t : ℕ) → pass-lts.Need-visible-at-requires-2 (pass-claims t) (pass-at t) pass.Post
 pass-visible-at-requires-2 t c κs = search needs
 
-pass-pass-requires-4 : (t : ℕ) → pass-lts.Need-pass-requires-4 (pass-claims t) (pass-at t) pass.Post
-pass-pass-requires-4 t c κs = let a = c .before .before .before .before .before .before .before .before .before .before .before .before .before .before .before .args in let h = middle-on (a .question .now) (a .src .now) (a .calls) (a .tally .now) (c .before .before .before .before .before .before .before .before .before .before .before .before .before .before .before .pre .1 .3) (a .at) (c .before .before .middle-of .result) (c .before .before .middle-of .ensures) (c .before .before .before .before .before .before .before .before .before .before .if1 .left) in (omega (arith, c .before .before .before .before .before .before .before .before .before .before .before .before .before .before .before .pre .0, c .before .before .before .before .before .before .before .before .before .before .if1 .left, h), (c .before .before .before .before .before .before .before .before .before .before .before .before .before .before .before .pre .1 .0, omega (arith, c .before .before .before .before .before .before .before .before .before .before .before .before .before .before .before .pre .1 .1, c .before .before .before .before .before .before .before .before .before .before .if1 .left, h), c .before .before .before .before .before .before .before .before .before .before .before .before .before .before .before .pre .1 .2, c .before .before .before .before .before .before .before .before .before .before .before .before .before .before .before .pre .1 .3, c .before .before .before .before .before .before .before .before .before .before .before .before .before .before .before .pre .1 .4))
+pass-pass-requires-5 : (t : ℕ) → pass-lts.Need-pass-requires-5 (pass-claims t) (pass-at t) pass.Post
+pass-pass-requires-5 t c κs = let a = c .before .before .before .before .before .before .before .before .before .before .before .before .before .before .before .before .args in let h = middle-on (a .question .now) (a .src .now) (a .calls) (a .tally .now) (c .before .before .before .before .before .before .before .before .before .before .before .before .before .before .before .before .pre .1 .3) (a .at) (c .before .before .middle-of .result) (c .before .before .middle-of .ensures) (c .before .before .before .before .before .before .before .before .before .before .before .if1 .left) in (omega (arith, c .before .before .before .before .before .before .before .before .before .before .before .before .before .before .before .before .pre .0, c .before .before .before .before .before .before .before .before .before .before .before .if1 .left, h), (c .before .before .before .before .before .before .before .before .before .before .before .before .before .before .before .before .pre .1 .0, omega (arith, c .before .before .before .before .before .before .before .before .before .before .before .before .before .before .before .before .pre .1 .1, c .before .before .before .before .before .before .before .before .before .before .before .if1 .left, h), c .before .before .before .before .before .before .before .before .before .before .before .before .before .before .before .before .pre .1 .2, c .before .before .before .before .before .before .before .before .before .before .before .before .before .before .before .before .pre .1 .3, c .before .before .before .before .before .before .before .before .before .before .before .before .before .before .before .before .pre .1 .4))
 
-pass-returns-7 : (t : ℕ) → pass-lts.Need-returns-7 (pass-claims t) (pass-at t) pass.Post
+pass-returns-8 : (t : ℕ) → pass-lts.Need-returns-8 (pass-claims t) (pass-at t) pass.Post
 unfolding numberAt
-pass-returns-7 t c = let a = c .before .before .before .before .before .before .before .before .before .before .before .before .before .before .before .before .args in pass-right (a .question .now) (a .src .now) (a .at) (a .binders) (a .calls) false (a .i) (a .tally .now) (c .before .before .before .before .before .before .before .before .before .before .before .before .before .before .before .before .pre .1 .3) (omega (arith, c .before .before .before .before .before .before .before .before .before .before .get .ensures, c .before .before .before .before .before .before .before .before .before .if2 .left, c .before .before .before .before .before .before .before .before .if3 .left, c .before .before .before .before .before .before .before .if4 .left, c .before .before .before .before .before .before .if5 .left), omega (arith, c .before .before .before .before .before .before .before .before .before .before .get .ensures, c .before .before .before .before .before .before .before .before .before .if2 .left, c .before .before .before .before .before .before .before .before .if3 .left, c .before .before .before .before .before .before .before .if4 .left, c .before .before .before .before .before .before .if5 .left)) (c .before .before .before .middle-of .result) (c .before .before .before .middle-of .ensures) (subst (λ (n : ℕ). n ≤ a .i) (c .before .before .before .before .before .visible-at .ensures) (c .before .before .before .before .if6 .left)) _ (ap (λ (n : ℕ). a .i - n) (c .before .before .before .before .before .visible-at .ensures)) (subst (λ (n : ℕ). a .i - c .before .before .before .before .before .visible-at .result < n) (c .before .before .visible-at2 .ensures) (c .before .if7 .taken)) (c .pass4 .result) (c .pass4 .ensures)
+pass-returns-8 t c = let a = c .before .before .before .before .before .before .before .before .before .before .before .before .before .before .before .before .before .args in pass-right (a .question .now) (a .src .now) (a .at) (a .binders) (a .calls) false (a .i) (a .tally .now) (c .before .before .before .before .before .before .before .before .before .before .before .before .before .before .before .before .before .pre .1 .3) (omega (arith, c .before .before .before .before .before .before .before .before .before .before .before .get .ensures, c .before .before .before .before .before .before .before .before .before .before .if2 .left, c .before .before .before .before .before .before .before .before .before .if3 .left, c .before .before .before .before .before .before .before .before .if4 .left, c .before .before .before .before .before .before .before .if5 .left), omega (arith, c .before .before .before .before .before .before .before .before .before .before .before .get .ensures, c .before .before .before .before .before .before .before .before .before .before .if2 .left, c .before .before .before .before .before .before .before .before .before .if3 .left, c .before .before .before .before .before .before .before .before .if4 .left, c .before .before .before .before .before .before .before .if5 .left)) (c .before .before .before .middle-of .result) (c .before .before .before .middle-of .ensures) (subst (λ (n : ℕ). n ≤ a .i) (c .before .before .before .before .before .visible-at .ensures) (c .before .before .before .before .if7 .left)) _ (ap (λ (n : ℕ). a .i - n) (c .before .before .before .before .before .visible-at .ensures)) (subst (λ (n : ℕ). a .i - c .before .before .before .before .before .visible-at .result < n) (c .before .before .visible-at2 .ensures) (c .before .if8 .taken)) (c .pass5 .result) (c .pass5 .ensures)
 
 pass-silent-requires-2 : (t : ℕ) → pass-lts.Need-silent-requires-2 (pass-claims t) (pass-at t) pass.Post
 pass-silent-requires-2 t c κs = search needs
 
-pass-returns-8 : (t : ℕ) → pass-lts.Need-returns-8 (pass-claims t) (pass-at t) pass.Post
+pass-returns-9 : (t : ℕ) → pass-lts.Need-returns-9 (pass-claims t) (pass-at t) pass.Post
 unfolding numberAt
-pass-returns-8 t c = let a = c .before .before .before .before .before .before .before .before .before .before .before .before .before .before .before .before .args in rw (c .silent2 .ensures) (pass-met (a .question .now) (a .src .now) (a .at) (a .binders) (a .calls) false (a .i) (a .tally .now) (c .before .before .before .before .before .before .before .before .before .before .before .before .before .before .before .before .pre .1 .3) (omega (arith, c .before .before .before .before .before .before .before .before .before .before .get .ensures, c .before .before .before .before .before .before .before .before .before .if2 .left, c .before .before .before .before .before .before .before .before .if3 .left, c .before .before .before .before .before .before .before .if4 .left, c .before .before .before .before .before .before .if5 .left), omega (arith, c .before .before .before .before .before .before .before .before .before .before .get .ensures, c .before .before .before .before .before .before .before .before .before .if2 .left, c .before .before .before .before .before .before .before .before .if3 .left, c .before .before .before .before .before .before .before .if4 .left, c .before .before .before .before .before .before .if5 .left)) (c .before .before .before .middle-of .result) (c .before .before .before .middle-of .ensures) (subst (λ (n : ℕ). n ≤ a .i) (c .before .before .before .before .before .visible-at .ensures) (c .before .before .before .before .if6 .left)) _ (ap (λ (n : ℕ). a .i - n) (c .before .before .before .before .before .visible-at .ensures)) (subst (λ (n : ℕ). n ≤ a .i - c .before .before .before .before .before .visible-at .result) (c .before .before .visible-at2 .ensures) (c .before .if7 .left)))
+pass-returns-9 t c = let a = c .before .before .before .before .before .before .before .before .before .before .before .before .before .before .before .before .before .args in rw (c .silent2 .ensures) (pass-met (a .question .now) (a .src .now) (a .at) (a .binders) (a .calls) false (a .i) (a .tally .now) (c .before .before .before .before .before .before .before .before .before .before .before .before .before .before .before .before .before .pre .1 .3) (omega (arith, c .before .before .before .before .before .before .before .before .before .before .before .get .ensures, c .before .before .before .before .before .before .before .before .before .before .if2 .left, c .before .before .before .before .before .before .before .before .before .if3 .left, c .before .before .before .before .before .before .before .before .if4 .left, c .before .before .before .before .before .before .before .if5 .left), omega (arith, c .before .before .before .before .before .before .before .before .before .before .before .get .ensures, c .before .before .before .before .before .before .before .before .before .before .if2 .left, c .before .before .before .before .before .before .before .before .before .if3 .left, c .before .before .before .before .before .before .before .before .if4 .left, c .before .before .before .before .before .before .before .if5 .left)) (c .before .before .before .middle-of .result) (c .before .before .before .middle-of .ensures) (subst (λ (n : ℕ). n ≤ a .i) (c .before .before .before .before .before .visible-at .ensures) (c .before .before .before .before .if7 .left)) _ (ap (λ (n : ℕ). a .i - n) (c .before .before .before .before .before .visible-at .ensures)) (subst (λ (n : ℕ). n ≤ a .i - c .before .before .before .before .before .visible-at .result) (c .before .before .visible-at2 .ensures) (c .before .if8 .left)))
 
 pass-call-call-at-requires : (t : ℕ) → pass-call-lts.Need-call-at-requires (pass-call-claims t) (pass-call-at t) pass-call.Post
 pass-call-call-at-requires t c κs = c .before .before .before .pre .1 .0
@@ -187,17 +198,20 @@ pub +pass+pass-call-spec : {M : Type 1} → statement M
     (pass-returns-4 t)
     (pass-pass-call-requires t)
     (pass-returns-5 t)
+    (pass-branch-of-requires t)
+    (pass-pass-requires-3 t)
+    (pass-returns-6 t)
     (pass-add-visible-at t)
     (pass-visible-at-requires t)
     (pass-add-pass-4 t)
-    (pass-pass-requires-3 t)
-    (pass-returns-6 t)
-    (pass-middle-of-requires t)
-    (pass-visible-at-requires-2 t)
     (pass-pass-requires-4 t)
     (pass-returns-7 t)
+    (pass-middle-of-requires t)
+    (pass-visible-at-requires-2 t)
+    (pass-pass-requires-5 t)
+    (pass-returns-8 t)
     (pass-silent-requires-2 t)
-    (pass-returns-8 t))
+    (pass-returns-9 t))
     λ t. pass-call-lts.spec (pass-call-claims t)
     (pass-call-at t)
     pass-call.Post

@@ -14,28 +14,24 @@ use Rattle.terms.proofs.bytes.get.Reads as get-reads
 use Rattle.steps.specs.Tally.{TallyIs}
 use Rattle.steps.specs.Results.{opening}
 use Rattle.steps.specs.declared.result.Task.{Task}
-use Rattle.steps.proofs.TwoSides.{middle-on}
-use Rattle.steps.proofs.ResultLaws.{ends-tallied, written-to, write-none, write-still, write-mat, write-sum-left, write-sum-right, write-open, write-res, write-res-stop, write-closed, write-opened, write-par-stop, write-left-stop, write-par}
+use Rattle.steps.proofs.ResultLaws.{ends-tallied, written-to, write-none, write-still, write-mat, write-branch, write-open, write-res, write-res-stop, write-closed, write-opened, write-par-stop, write-left-stop, write-par}
 use Rattle.steps.proofs.NameSlots.{kept-all, kept-within, kept-then}
 use Rattle.steps.proofs.result.write.Reads as write
 use Rattle.steps.proofs.result.write.Kinds as write-kinds
-use Rattle.steps.proofs.result.+write+write_call+write_choice+write_parallel+write_restriction.Lts-write as write-lts
+use Rattle.steps.proofs.result.+write+write_call+write_parallel+write_restriction.Lts-write as write-lts
 use Rattle.steps.proofs.result.write_call.Reads as write-call
 use Rattle.steps.proofs.result.write_call.Kinds as write-call-kinds
-use Rattle.steps.proofs.result.+write+write_call+write_choice+write_parallel+write_restriction.Lts-write_call as write-call-lts
-use Rattle.steps.proofs.result.write_choice.Reads as write-choice
-use Rattle.steps.proofs.result.write_choice.Kinds as write-choice-kinds
-use Rattle.steps.proofs.result.+write+write_call+write_choice+write_parallel+write_restriction.Lts-write_choice as write-choice-lts
+use Rattle.steps.proofs.result.+write+write_call+write_parallel+write_restriction.Lts-write_call as write-call-lts
 use Rattle.steps.proofs.result.write_parallel.Reads as write-parallel
 use Rattle.steps.proofs.result.write_parallel.Kinds as write-parallel-kinds
-use Rattle.steps.proofs.result.+write+write_call+write_choice+write_parallel+write_restriction.Lts-write_parallel as write-parallel-lts
+use Rattle.steps.proofs.result.+write+write_call+write_parallel+write_restriction.Lts-write_parallel as write-parallel-lts
 use Rattle.steps.proofs.result.write_restriction.Reads as write-restriction
 use Rattle.steps.proofs.result.write_restriction.Kinds as write-restriction-kinds
-use Rattle.steps.proofs.result.+write+write_call+write_choice+write_parallel+write_restriction.Lts-write_restriction as write-restriction-lts
+use Rattle.steps.proofs.result.+write+write_call+write_parallel+write_restriction.Lts-write_restriction as write-restriction-lts
 use Rattle.steps.proofs.bodies.body_of.Reads as body-of-reads
 use Rattle.steps.proofs.bodies.call_at.Reads as call-at-reads
 use Rattle.steps.proofs.names.called.Reads as called-reads
-use Rattle.steps.proofs.pass.middle_of.Reads as middle-of-reads
+use Rattle.steps.proofs.pass.branch_of.Reads as branch-of-reads
 use Rattle.steps.proofs.result.enter.Reads as enter-reads
 use Rattle.steps.proofs.result.extruded.Reads as extruded-reads
 use Rattle.steps.proofs.result.open_pair.Reads as open-pair-reads
@@ -45,19 +41,15 @@ use Rattle.steps.proofs.result.store.Reads as store-reads
 use Rattle.steps.proofs.result.with_number.Reads as with-number-reads
 use Rattle.steps.proofs.result.write_prefix.Reads as write-prefix-reads
 use Rattle.steps.proofs.result.write_term.Reads as write-term-reads
-use Rattle.steps.proofs.tally.number_at.Reads as number-at-reads
 use Rattle.steps.proofs.tally.body_tally.Reads as body-tally-reads
-use Rattle.steps.proofs.result.+write+write_call+write_choice+write_parallel+write_restriction.{statement}
-use Rattle.steps.proofs.result.+write+write_call+write_choice+write_parallel+write_restriction.Tie.{close}
+use Rattle.steps.proofs.result.+write+write_call+write_parallel+write_restriction.{statement}
+use Rattle.steps.proofs.result.+write+write_call+write_parallel+write_restriction.Tie.{close}
 
 abbrev μ-write : Measures 6 write-kinds.ps ℕ
 μ-write κs a = 2 * (a .1 .1 .1 .1 .1 .1 .0 .calls * 113 + (length (a .1 .1 .0 .now) - a .1 .1 .1 .1 .0)) + 1
 
 abbrev μ-write-call : Measures 5 write-call-kinds.ps ℕ
 μ-write-call κs a = 2 * (a .1 .1 .1 .1 .1 .0 .calls * 113 + (length (a .1 .1 .0 .now) - a .1 .1 .1 .0))
-
-abbrev μ-write-choice : Measures 6 write-choice-kinds.ps ℕ
-μ-write-choice κs a = 2 * (a .1 .1 .1 .1 .1 .1 .0 .calls * 113 + (length (a .1 .1 .0 .now) - a .1 .1 .1 .1 .0))
 
 abbrev μ-write-parallel : Measures 6 write-parallel-kinds.ps ℕ
 μ-write-parallel κs a = 2 * (a .1 .1 .1 .1 .1 .1 .0 .calls * 113 + (length (a .1 .1 .0 .now) - a .1 .1 .1 .1 .0))
@@ -78,18 +70,6 @@ write-call-at t =
 abbrev write-call-below : ℕ → In 5 write-call-kinds.ps
 write-call-below t =
     and 5 write-call-kinds.ps (falls 5 write-call-kinds.ps _<_ μ-write-call t) write-call.Pre
-
-abbrev write-choice-at : ℕ → In 6 write-choice-kinds.ps
-write-choice-at t =
-    and 6 write-choice-kinds.ps (is 6 write-choice-kinds.ps μ-write-choice t) write-choice.Pre
-
-abbrev write-choice-below : ℕ → In 6 write-choice-kinds.ps
-write-choice-below t =
-    and
-    6
-    write-choice-kinds.ps
-    (falls 6 write-choice-kinds.ps _<_ μ-write-choice t)
-    write-choice.Pre
 
 abbrev write-parallel-at : ℕ → In 6 write-parallel-kinds.ps
 write-parallel-at t =
@@ -124,13 +104,10 @@ write-restriction-below t =
     write-restriction.Pre
 
 abbrev write-claims : ℕ → write-lts.Claims
-write-claims t = (write-term-reads.Asked, write-term-reads.Learnt, get-reads.Asked, get-reads.Learnt, write-prefix-reads.Asked, write-prefix-reads.Learnt, write-below t, write.Post, write-choice-below t, write-choice.Post, write-parallel-below t, write-parallel.Post, write-restriction-below t, write-restriction.Post, write-call-below t, write-call.Post)
+write-claims t = (write-term-reads.Asked, write-term-reads.Learnt, get-reads.Asked, get-reads.Learnt, write-prefix-reads.Asked, write-prefix-reads.Learnt, write-below t, write.Post, branch-of-reads.Asked, branch-of-reads.Learnt, with-number-reads.Asked, with-number-reads.Learnt, write-parallel-below t, write-parallel.Post, write-restriction-below t, write-restriction.Post, write-call-below t, write-call.Post)
 
 abbrev write-call-claims : ℕ → write-call-lts.Claims
 write-call-claims t = (call-at-reads.Asked, call-at-reads.Learnt, enter-reads.Asked, enter-reads.Learnt, body-of-reads.Asked, body-of-reads.Learnt, body-tally-reads.Asked, body-tally-reads.Learnt, called-reads.Asked, called-reads.Learnt, write-below t, write.Post)
-
-abbrev write-choice-claims : ℕ → write-choice-lts.Claims
-write-choice-claims t = (number-at-reads.Asked, number-at-reads.Learnt, write-below t, write.Post, middle-of-reads.Asked, middle-of-reads.Learnt, with-number-reads.Asked, with-number-reads.Learnt)
 
 abbrev write-parallel-claims : ℕ → write-parallel-lts.Claims
 write-parallel-claims t = (plan-of-reads.Asked, plan-of-reads.Learnt, open-pair-reads.Asked, open-pair-reads.Learnt, write-below t, write.Post)
@@ -186,8 +163,14 @@ write-same-length-6 t c = search needs
 write-returns-4 : (t : ℕ) → write-lts.Need-returns-4 (write-claims t) (write-at t) write.Post
 write-returns-4 t c = let a = c .before .before .before .before .before .before .before .before .before .before .before .before .before .before .before .before .before .before .args in (write-mat (a .question .now) (a .src .now) (a .at) (a .binders) (a .names .now) (a .task) (c .before .before .before .before .before .before .before .before .before .before .if2 .left) (a .out .now) (a .put) (sym (c .before .before .before .before .before .before .before .before .before .get .ensures) ∙ c .before .before .before .before .before .before .before .if4 .taken) (c .before .before .before .before .write .result) _ (c .before .before .before .before .write .ensures .0), c .before .before .before .before .write .ensures .1)
 
-write-write-choice-requires : (t : ℕ) → write-lts.Need-write-choice-requires (write-claims t) (write-at t) write.Post
-write-write-choice-requires t c κs = (omega (arith, c .before .before .before .before .before .before .before .before .before .before .before .before .before .before .pre .0), (c .before .before .before .before .before .before .before .if1 .left, sym (c .before .before .before .before .before .get .ensures) ∙ c .before .before .if5 .taken, c .before .before .before .before .before .before .if2 .left, c .before .before .before .before .before .before .before .before .before .before .before .before .before .before .pre .1))
+write-branch-of-requires : (t : ℕ) → write-lts.Need-branch-of-requires (write-claims t) (write-at t) write.Post
+write-branch-of-requires t c κs = (c .before .before .before .before .before .before .before .before .before .before .before .before .pre .1 .0, c .before .before .before .before .before .before .before .before .before .before .before .before .pre .1 .5 .on)
+
+write-with-number-requires : (t : ℕ) → write-lts.Need-with-number-requires (write-claims t) (write-at t) write.Post
+write-with-number-requires t c κs = search needs
+
+write-write-requires-2 : (t : ℕ) → write-lts.Need-write-requires-2 (write-claims t) (write-at t) write.Post
+write-write-requires-2 t c κs = let a = c .before .before .before .before .before .before .before .before .before .before .before .before .before .before .before .before .args in let h = c .before .before .before .branch-of .ensures .past (c .before .before .before .before .before .before .before .before .before .if1 .left) (sym (c .before .before .before .before .before .before .before .get .ensures) ∙ c .before .before .before .before .if5 .taken) in let k : c .before .before .with-number .result .calls ≡ a .task .calls = ap (λ (t : Task). t .calls) (c .before .before .with-number .ensures) in let l : c .before .before .with-number .result .levels ≡ a .task .levels = ap (λ (t : Task). t .levels) (c .before .before .with-number .ensures) in (omega (arith, c .before .before .before .before .before .before .before .before .before .before .before .before .before .before .before .before .pre .0, c .before .before .before .before .before .before .before .before .before .if1 .left, h, k), (c .before .before .before .before .before .before .before .before .before .before .before .before .before .before .before .before .pre .1 .0, omega (arith, c .before .before .before .before .before .before .before .before .before .before .before .before .before .before .before .before .pre .1 .1, h), omega (arith, k, c .before .before .before .before .before .before .before .before .before .before .before .before .before .before .before .before .pre .1 .2), c .before .before .before .before .before .before .before .before .before .before .before .before .before .before .before .before .pre .1 .3, (omega (arith, l, c .before .before .before .before .before .before .before .before .before .before .before .before .before .before .before .before .pre .1 .4), c .before .before .before .before .before .before .before .before .before .before .before .before .before .before .before .before .pre .1 .4 .1), subst (λ (n : ℕ). TallyIs (a .question .now) (a .src .now) n (a .tally .now)) (sym k) (c .before .before .before .before .before .before .before .before .before .before .before .before .before .before .before .before .pre .1 .5), c .before .before .before .before .before .before .before .before .before .before .before .before .before .before .before .before .pre .1 .6))
 
 write-same-length-7 : (t : ℕ) → write-lts.Need-same-length-7 (write-claims t) (write-at t) write.Post
 write-same-length-7 t c = search needs
@@ -196,7 +179,7 @@ write-same-length-8 : (t : ℕ) → write-lts.Need-same-length-8 (write-claims t
 write-same-length-8 t c = search needs
 
 write-returns-5 : (t : ℕ) → write-lts.Need-returns-5 (write-claims t) (write-at t) write.Post
-write-returns-5 t c = c .before .before .before .before .write-choice .ensures
+write-returns-5 t c = let a = c .before .before .before .before .before .before .before .before .before .before .before .before .before .before .before .before .before .before .before .before .before .args in (write-branch (a .question .now) (a .src .now) (a .at) (a .binders) (a .names .now) (a .task) (c .before .before .before .before .before .before .before .before .before .before .before .before .before .if2 .left) (a .out .now) (a .put) (a .tally .now) (c .before .before .before .before .before .before .before .before .before .before .before .before .before .before .before .before .before .before .before .before .before .pre .1 .5) (c .before .before .before .before .before .before .before .before .branch-of .result) (c .before .before .before .before .before .before .before .before .branch-of .ensures) (c .before .before .before .before .before .before .before .with-number .result) (c .before .before .before .before .before .before .before .with-number .ensures) (c .before .before .before .before .write2 .result) _ (c .before .before .before .before .write2 .ensures .0), c .before .before .before .before .write2 .ensures .1)
 
 write-write-parallel-requires : (t : ℕ) → write-lts.Need-write-parallel-requires (write-claims t) (write-at t) write.Post
 write-write-parallel-requires t c κs = (omega (arith, c .before .before .before .before .before .before .before .before .before .before .before .before .before .before .before .pre .0), (c .before .before .before .before .before .before .before .before .if1 .left, sym (c .before .before .before .before .before .before .get .ensures) ∙ c .before .before .if6 .taken, c .before .before .before .before .before .before .before .if2 .left, c .before .before .before .before .before .before .before .before .before .before .before .before .before .before .before .pre .1))
@@ -269,45 +252,6 @@ write-call-same-length t c = search needs
 
 write-call-returns-2 : (t : ℕ) → write-call-lts.Need-returns-2 (write-call-claims t) (write-call-at t) write-call.Post
 write-call-returns-2 t c = let a = c .before .before .before .before .before .before .before .before .before .before .before .before .before .before .before .before .before .before .args in let m = c .before .before .before .before .before .before .before .before .before .before .before .before .call-at .ensures .may (not-false _ (c .before .before .before .before .before .before .before .before .before .before .if1 .left)) in write-opened (a .question .now) (a .src .now) (a .at) (a .binders) (a .names .now) (a .task) (c .before .before .before .before .before .before .before .before .before .before .before .before .before .before .before .before .before .before .pre .1 .2) (a .out .now) (a .put) (c .before .before .before .before .before .before .before .before .before .before .before .before .before .before .before .before .before .before .pre .1 .1) (c .before .before .before .before .before .before .before .before .before .before .before .before .call-at .result) (c .before .before .before .before .before .before .before .before .before .before .before .before .call-at .ensures) (c .before .before .before .before .before .before .before .before .body-of .result .now) (c .before .before .before .before .before .before .before .before .body-of .ensures) (a .task .calls - 1) (omega (arith, m)) (c .before .before .before .before .before .before .before .before .before .enter .result) (c .before .before .before .before .before .before .before .before .before .enter .ensures) (c .before .before .before .before .before .before .called .result) (c .before .before .before .before .before .before .called .ensures) (c .before .before .before .write .result) _ (c .before .before .before .write .ensures .0)
-
-write-choice-add-number-at : (t : ℕ) → write-choice-lts.Need-add-number-at (write-choice-claims t) (write-choice-at t) write-choice.Post
-write-choice-add-number-at t c = search needs
-
-write-choice-number-at-requires : (t : ℕ) → write-choice-lts.Need-number-at-requires (write-choice-claims t) (write-choice-at t) write-choice.Post
-write-choice-number-at-requires t c κs = search needs
-
-write-choice-add-write : (t : ℕ) → write-choice-lts.Need-add-write (write-choice-claims t) (write-choice-at t) write-choice.Post
-write-choice-add-write t c = search needs
-
-write-choice-write-requires : (t : ℕ) → write-choice-lts.Need-write-requires (write-choice-claims t) (write-choice-at t) write-choice.Post
-write-choice-write-requires t c κs = (omega (arith, c .before .before .before .before .before .before .before .before .before .before .pre .0, c .before .before .before .before .before .before .before .before .before .before .pre .1 .0), (c .before .before .before .before .before .before .before .before .before .before .pre .1 .3 .0, omega (arith, c .before .before .before .before .before .before .before .before .before .before .pre .1 .3 .1), c .before .before .before .before .before .before .before .before .before .before .pre .1 .3 .2, c .before .before .before .before .before .before .before .before .before .before .pre .1 .3 .3, c .before .before .before .before .before .before .before .before .before .before .pre .1 .3 .4, c .before .before .before .before .before .before .before .before .before .before .pre .1 .3 .5, c .before .before .before .before .before .before .before .before .before .before .pre .1 .3 .6))
-
-write-choice-same-length : (t : ℕ) → write-choice-lts.Need-same-length (write-choice-claims t) (write-choice-at t) write-choice.Post
-write-choice-same-length t c = search needs
-
-write-choice-same-length-2 : (t : ℕ) → write-choice-lts.Need-same-length-2 (write-choice-claims t) (write-choice-at t) write-choice.Post
-write-choice-same-length-2 t c = search needs
-
-write-choice-returns : (t : ℕ) → write-choice-lts.Need-returns (write-choice-claims t) (write-choice-at t) write-choice.Post
-write-choice-returns t c = let a = c .before .before .before .before .before .before .before .before .before .before .before .before .before .before .before .args in (write-sum-left (a .question .now) (a .src .now) (a .at) (a .binders) (a .names .now) (a .task) (c .before .before .before .before .before .before .before .before .before .before .before .before .before .before .before .pre .1 .2) (a .out .now) (a .put) (c .before .before .before .before .before .before .before .before .before .before .before .before .before .before .before .pre .1 .1) (a .tally .now) (c .before .before .before .before .before .before .before .before .before .before .before .before .before .before .before .pre .1 .3 .5) (subst (λ (n : ℕ). a .task .number < n) (c .before .before .before .before .before .before .before .before .number-at .ensures) (c .before .before .before .before .before .before .before .if1 .taken)) (c .before .before .before .before .write .result) _ (c .before .before .before .before .write .ensures .0), c .before .before .before .before .write .ensures .1)
-
-write-choice-middle-of-requires : (t : ℕ) → write-choice-lts.Need-middle-of-requires (write-choice-claims t) (write-choice-at t) write-choice.Post
-write-choice-middle-of-requires t c κs = (c .before .before .before .before .before .before .before .before .pre .1 .0, c .before .before .before .before .before .before .before .before .pre .1 .3 .0)
-
-write-choice-with-number-requires : (t : ℕ) → write-choice-lts.Need-with-number-requires (write-choice-claims t) (write-choice-at t) write-choice.Post
-write-choice-with-number-requires t c κs = search needs
-
-write-choice-write-requires-2 : (t : ℕ) → write-choice-lts.Need-write-requires-2 (write-choice-claims t) (write-choice-at t) write-choice.Post
-write-choice-write-requires-2 t c κs = let a = c .before .before .before .before .before .before .before .before .before .before .before .before .args in let h = middle-on (a .question .now) (a .src .now) (a .task .calls) (a .tally .now) (c .before .before .before .before .before .before .before .before .before .before .before .before .pre .1 .3 .5) (a .at) (c .before .before .before .middle-of .result) (c .before .before .before .middle-of .ensures) (c .before .before .before .before .before .before .before .before .before .before .before .before .pre .1 .0) in let k : c .before .before .with-number .result .calls ≡ a .task .calls = ap (λ (t : Task). t .calls) (c .before .before .with-number .ensures) in let l : c .before .before .with-number .result .levels ≡ a .task .levels = ap (λ (t : Task). t .levels) (c .before .before .with-number .ensures) in (omega (arith, c .before .before .before .before .before .before .before .before .before .before .before .before .pre .0, c .before .before .before .before .before .before .before .before .before .before .before .before .pre .1 .0, k, h), (c .before .before .before .before .before .before .before .before .before .before .before .before .pre .1 .3 .0, omega (arith, c .before .before .before .before .before .before .before .before .before .before .before .before .pre .1 .3 .1, h), omega (arith, k, c .before .before .before .before .before .before .before .before .before .before .before .before .pre .1 .3 .2), c .before .before .before .before .before .before .before .before .before .before .before .before .pre .1 .3 .3, (omega (arith, l, c .before .before .before .before .before .before .before .before .before .before .before .before .pre .1 .3 .4), c .before .before .before .before .before .before .before .before .before .before .before .before .pre .1 .3 .4 .1), subst (λ (n : ℕ). TallyIs (a .question .now) (a .src .now) n (a .tally .now)) (sym k) (c .before .before .before .before .before .before .before .before .before .before .before .before .pre .1 .3 .5), c .before .before .before .before .before .before .before .before .before .before .before .before .pre .1 .3 .6))
-
-write-choice-same-length-3 : (t : ℕ) → write-choice-lts.Need-same-length-3 (write-choice-claims t) (write-choice-at t) write-choice.Post
-write-choice-same-length-3 t c = search needs
-
-write-choice-same-length-4 : (t : ℕ) → write-choice-lts.Need-same-length-4 (write-choice-claims t) (write-choice-at t) write-choice.Post
-write-choice-same-length-4 t c = search needs
-
-write-choice-returns-2 : (t : ℕ) → write-choice-lts.Need-returns-2 (write-choice-claims t) (write-choice-at t) write-choice.Post
-write-choice-returns-2 t c = let a = c .before .before .before .before .before .before .before .before .before .before .before .before .before .before .before .before .before .args in (write-sum-right (a .question .now) (a .src .now) (a .at) (a .binders) (a .names .now) (a .task) (c .before .before .before .before .before .before .before .before .before .before .before .before .before .before .before .before .before .pre .1 .2) (a .out .now) (a .put) (c .before .before .before .before .before .before .before .before .before .before .before .before .before .before .before .before .before .pre .1 .1) (a .tally .now) (c .before .before .before .before .before .before .before .before .before .before .before .before .before .before .before .before .before .pre .1 .3 .5) (c .before .before .before .before .before .before .before .before .middle-of .result) (c .before .before .before .before .before .before .before .before .middle-of .ensures) (subst (λ (n : ℕ). n ≤ a .task .number) (c .before .before .before .before .before .before .before .before .before .before .number-at .ensures) (c .before .before .before .before .before .before .before .before .before .if1 .left)) _ (ap (λ (n : ℕ). a .task .number - n) (c .before .before .before .before .before .before .before .before .before .before .number-at .ensures)) (c .before .before .before .before .before .before .before .with-number .result) (c .before .before .before .before .before .before .before .with-number .ensures) (c .before .before .before .before .write2 .result) _ (c .before .before .before .before .write2 .ensures .0), c .before .before .before .before .write2 .ensures .1)
 
 write-parallel-plan-of-requires : (t : ℕ) → write-parallel-lts.Need-plan-of-requires (write-parallel-claims t) (write-parallel-at t) write-parallel.Post
 write-parallel-plan-of-requires t c κs = (c .before .before .before .before .before .before .before .pre .1 .3 .0, c .before .before .before .before .before .before .before .pre .1 .0, c .before .before .before .before .before .before .before .pre .1 .3 .1, omega (arith, c .before .before .before .before .before .before .before .pre .1 .3 .4), c .before .before .before .before .before .before .before .pre .1 .2, c .before .before .before .before .before .before .before .pre .1 .3 .2, c .before .before .before .before .before .before .before .pre .1 .3 .5, c .before .before .before .before .before .before .before .pre .1 .3 .6)
@@ -414,13 +358,12 @@ write-restriction-same-length-5 t c = search needs
 write-restriction-returns-3 : (t : ℕ) → write-restriction-lts.Need-returns-3 (write-restriction-claims t) (write-restriction-at t) write-restriction.Post
 write-restriction-returns-3 t c = let a = c .before .before .before .before .before .before .before .before .before .before .before .before .before .before .before .before .before .before .before .before .before .before .args in let s = c .before .before .before .before .before .before .before .before .before .before .before .before .store .kept .0 in (write-res (a .question .now) (a .src .now) (a .at) (a .binders) (a .names .now) (a .task) (c .before .before .before .before .before .before .before .before .before .before .before .before .before .before .before .before .before .before .before .before .before .before .pre .1 .2) (a .out .now) (a .put) (c .before .before .before .before .before .before .before .before .before .before .before .before .before .before .before .before .before .before .before .before .before .before .pre .1 .1) (c .before .before .before .before .before .before .before .before .before .before .before .before .before .before .before .extruded .ensures .passed) (c .before .before .before .before .before .before .before .before .before .before .before .before .before .before .before .extruded .ensures .does) (sym (c .before .before .before .before .before .before .before .before .before .before .before .before .before .before .before .extruded .ensures .is) ∙ c .before .before .before .before .before .before .before .before .before .before .before .before .before .before .if1 .left) (c .before .before .before .before .before .before .before .before .before .before .before .before .store .result) _ (c .before .before .before .before .before .before .before .before .before .before .before .before .store .ensures) (omega (arith, c .before .before .before .before .before .before .before .before .before .before .before .before .before .before .before .before .before .before .before .before .before .before .pre .1 .3 .0, c .before .before .before .before .before .before .before .before .before .before .before .before .before .before .before .before .before .before .before .before .before .before .pre .1 .3 .1, c .before .before .before .before .before .before .before .before .before .before .before .before .before .before .before .before .before .before .before .before .before .before .pre .1 .3 .3, c .before .before .before .before .before .before .before .before .before .before .before .before .before .before .before .before .before .before .before .before .before .before .pre .1 .0)) (omega (arith, s, c .before .before .before .before .before .before .before .before .before .if2 .left)) s (c .before .before .before .before .before .before .before .restrict .result) (c .before .before .before .before .before .before .before .restrict .ensures) (c .before .before .before .before .write2 .result) _ (c .before .before .before .before .write2 .ensures .0), kept-within (a .binders) (tableNames + a .task .levels) (a .names .now) _ (c .before .before .before .before .write2 .ensures .1))
 
-pub +write+write-call+write-choice+write-parallel+write-restriction-spec :
+pub +write+write-call+write-parallel+write-restriction-spec :
     {M : Type 1} → statement M
-+write+write-call+write-choice+write-parallel+write-restriction-spec =
++write+write-call+write-parallel+write-restriction-spec =
     close
     μ-write
     μ-write-call
-    μ-write-choice
     μ-write-parallel
     μ-write-restriction
     (λ t. write-lts.spec (write-claims t)
@@ -442,7 +385,9 @@ pub +write+write-call+write-choice+write-parallel+write-restriction-spec :
     (write-same-length-5 t)
     (write-same-length-6 t)
     (write-returns-4 t)
-    (write-write-choice-requires t)
+    (write-branch-of-requires t)
+    (write-with-number-requires t)
+    (write-write-requires-2 t)
     (write-same-length-7 t)
     (write-same-length-8 t)
     (write-returns-5 t)
@@ -473,22 +418,6 @@ pub +write+write-call+write-choice+write-parallel+write-restriction-spec :
     (write-call-write-requires t)
     (write-call-same-length t)
     (write-call-returns-2 t))
-    (λ t. write-choice-lts.spec (write-choice-claims t)
-    (write-choice-at t)
-    write-choice.Post
-    (write-choice-add-number-at t)
-    (write-choice-number-at-requires t)
-    (write-choice-add-write t)
-    (write-choice-write-requires t)
-    (write-choice-same-length t)
-    (write-choice-same-length-2 t)
-    (write-choice-returns t)
-    (write-choice-middle-of-requires t)
-    (write-choice-with-number-requires t)
-    (write-choice-write-requires-2 t)
-    (write-choice-same-length-3 t)
-    (write-choice-same-length-4 t)
-    (write-choice-returns-2 t))
     (λ t. write-parallel-lts.spec (write-parallel-claims t)
     (write-parallel-at t)
     write-parallel.Post
