@@ -15,7 +15,7 @@ use Rattle.terms.specs.Limits.{nameCount}
 use Rattle.terms.specs.Question.{Question}
 use Rattle.terms.proofs.Answers.{both-true}
 use Rattle.steps.specs.Collecting.{PutIs, CollectIs}
-use Rattle.steps.specs.Contexts.{Frame, leftOf, rightOf, beneath, raised, restrictions, Placed}
+use Rattle.steps.specs.Contexts.{Frame, leftOf, rightOf, beneath, raised, restrictions, Placed, levelIn}
 use Rattle.steps.specs.Labels.{actionOf}
 use Rattle.steps.specs.Limits.{mostSteps, stepBytes}
 use Rattle.steps.specs.Listing.{bodyOf}
@@ -38,7 +38,7 @@ use Rattle.steps.proofs.StepEntries.{slot-name, same-action}
 -- A row serves outside all restrictions.
 outlined-raised : (K : List Frame) (c : Candidate) (kind channel object : ℕ) → Outlined (restrictions K) c kind channel object
     → Outlined 0 (raised K c) kind channel object
-unfolding raised restrictions
+unfolding raised levelIn
 outlined-raised [] c k a o h = h
 outlined-raised (leftOf Q ∷ K) c k a o h = outlined-raised K (leftSteps Q c) k a o (outlined-left (restrictions K) k a o Q c h)
 outlined-raised (rightOf P ∷ K) c k a o h = outlined-raised K (rightSteps P c) k a o (outlined-right (restrictions K) k a o P c h)

@@ -11,7 +11,7 @@ use lib.Seq.{drop-at}
 use Rattle.calculus.specs.Term.{Term, par, res}
 use Rattle.terms.specs.Encoding.{encode, InScope}
 use Rattle.terms.specs.Question.{Question}
-use Rattle.steps.specs.Contexts.{Frame, leftOf, rightOf, beneath, fill, raised, restrictions, bytesBefore, bytesBehind, Numbered, Placed}
+use Rattle.steps.specs.Contexts.{Frame, leftOf, rightOf, beneath, fill, raised, restrictions, bytesBefore, bytesBehind, Numbered, Placed, beforeIn, behindIn, levelIn}
 use Rattle.steps.specs.Listing.{bodyOf}
 use Rattle.steps.specs.PartLister.{Lists}
 use Rattle.steps.specs.Passing.{candidates}
@@ -20,24 +20,35 @@ use Rattle.steps.proofs.CandidateForms.{candidates-res}
 use Rattle.steps.proofs.Numbering.{nth-restricted, length-communications, nth-communication}
 use Rattle.steps.proofs.TwoSides.{sides-par}
 
--- The part's bytes are those before the term, its own, and those behind it.
+-- The whole's bytes are those before the term, its own, and those behind it.
+pub fill-bytes-in : (d : ℕ) (K : List Frame) (C : Term) → encode d (fill K C) ≡ beforeIn d K ++ (encode (levelIn d K) C ++ behindIn d K)
+unfolding fill encode beforeIn behindIn levelIn
+fill-bytes-in d [] C = sym (append-nil (encode d C))
+fill-bytes-in d (leftOf Q ∷ K) C = fill-bytes-in d K (par C Q) ∙ simp append-assoc
+fill-bytes-in d (rightOf P ∷ K) C = fill-bytes-in d K (par P C) ∙ simp append-assoc
+fill-bytes-in d (beneath ∷ K) C =
+    let e : 1 + levelIn d K ≡ suc (levelIn d K) = omega arith in
+    fill-bytes-in d K (res C) ∙ ap (λ (n : ℕ). beforeIn d K ++ (8 ∷ (encode n C ++ behindIn d K))) e
+    ∙ sym (append-assoc (beforeIn d K) (8 ∷ []) (encode (suc (levelIn d K)) C ++ behindIn d K))
+
 pub fill-bytes : (K : List Frame) (C : Term) → encode 0 (fill K C) ≡ bytesBefore K ++ (encode (restrictions K) C ++ bytesBehind K)
-unfolding fill encode bytesBefore bytesBehind restrictions
-fill-bytes [] C = sym (append-nil (encode 0 C))
-fill-bytes (leftOf Q ∷ K) C = fill-bytes K (par C Q) ∙ simp append-assoc
-fill-bytes (rightOf P ∷ K) C = fill-bytes K (par P C) ∙ simp append-assoc
-fill-bytes (beneath ∷ K) C =
-    let e : 1 + restrictions K ≡ suc (restrictions K) = omega arith in
-    fill-bytes K (res C) ∙ ap (λ (d : ℕ). bytesBefore K ++ (8 ∷ (encode d C ++ bytesBehind K))) e
-    ∙ sym (append-assoc (bytesBefore K) (8 ∷ []) (encode (suc (restrictions K)) C ++ bytesBehind K))
+fill-bytes = fill-bytes-in 0
 
 -- Each restriction has a byte before the term.
-pub restrictions-before : (K : List Frame) → restrictions K ≤ length (bytesBefore K)
-unfolding bytesBefore restrictions
-restrictions-before [] = omega arith
-restrictions-before (leftOf Q ∷ K) = omega (arith, restrictions-before K, length-append (bytesBefore K) (7 ∷ []))
-restrictions-before (rightOf P ∷ K) = omega (arith, restrictions-before K, length-append (bytesBefore K) (7 ∷ encode (restrictions K) P))
-restrictions-before (beneath ∷ K) = omega (arith, restrictions-before K, length-append (bytesBefore K) (8 ∷ []))
+pub level-before : (d : ℕ) (K : List Frame) → levelIn d K ≤ d + length (beforeIn d K)
+unfolding beforeIn levelIn
+level-before d [] = omega arith
+level-before d (leftOf Q ∷ K) = omega (arith, level-before d K, length-append (beforeIn d K) (7 ∷ []))
+level-before d (rightOf P ∷ K) = omega (arith, level-before d K, length-append (beforeIn d K) (7 ∷ encode (levelIn d K) P))
+level-before d (beneath ∷ K) = omega (arith, level-before d K, length-append (beforeIn d K) (8 ∷ []))
+
+-- The restrictions that stand around the frames are added to those within.
+pub level-from : (d : ℕ) (K : List Frame) → levelIn d K ≡ restrictions K + d
+unfolding levelIn
+level-from d [] = omega arith
+level-from d (leftOf Q ∷ K) = level-from d K
+level-from d (rightOf P ∷ K) = level-from d K
+level-from d (beneath ∷ K) = omega (arith, level-from d K)
 
 -- What is blocked stays so.
 pub raised-blocked : (K : List Frame) → raised K blocked ≡ blocked
@@ -85,7 +96,7 @@ module _ (body : ℕ → Term) (t : Bool) (whole : List Candidate) (K : List Fra
 -- The part itself stands in itself.
 pub placed-start : {question part : List ℕ} {x : ℕ} {q : Question} {P : Term} → Lists question part x q P
     → Placed (q .arities) (bodyOf (q .bodies)) P [] P 0 0 0 0
-unfolding fill raised restrictions bytesBefore
+unfolding fill raised levelIn beforeIn
 placed-start {q = q} {P = P} l = record {
   whole = refl;
   level = refl;
@@ -104,7 +115,7 @@ placed-start {q = q} {P = P} l = record {
 module _ {arities : List ℕ} {body : ℕ → Term} {P : Term} {K : List Frame} {at depth first number : ℕ} where
   pub placed-left : {L R : Term} → Placed arities body P K (par L R) at depth first number
       → Placed arities body P (leftOf R ∷ K) L (at + 1) depth first number
-  unfolding fill restrictions bytesBefore InScope candidates
+  unfolding fill levelIn beforeIn InScope candidates
   placed-left {L} {R} p = record {
     whole = p .whole;
     level = p .level;
@@ -116,7 +127,7 @@ module _ {arities : List ℕ} {body : ℕ → Term} {P : Term} {K : List Frame} 
 
   pub placed-right : {L R : Term} → Placed arities body P K (par L R) at depth first number
       → Placed arities body P (rightOf L ∷ K) R (at + 1 + length (encode depth L)) depth (first + length (visible body 1 L)) (number + length (silent body 1 L))
-  unfolding fill restrictions bytesBefore InScope candidates
+  unfolding fill levelIn beforeIn InScope candidates
   placed-right {L} {R} p =
       let e : length (encode (restrictions K) L) ≡ length (encode depth L) = ap (λ (d : ℕ). length (encode d L)) (p .level) in
       record {
@@ -130,7 +141,7 @@ module _ {arities : List ℕ} {body : ℕ → Term} {P : Term} {K : List Frame} 
 
   pub placed-beneath : {C : Term} → Placed arities body P K (res C) at depth first number
       → Placed arities body P (beneath ∷ K) C (at + 1) (depth + 1) first number
-  unfolding fill restrictions bytesBefore InScope candidates
+  unfolding fill levelIn beforeIn InScope candidates
   placed-beneath {C} p =
       let e : 1 + depth ≡ depth + 1 = omega arith in
       record {
@@ -164,7 +175,7 @@ module _ {arities : List ℕ} {body : ℕ → Term} {P : Term} {K : List Frame} 
 
   -- There are at least as many bytes before the term as restrictions around it.
   pub placed-depth : {C : Term} → Placed arities body P K C at depth first number → depth ≤ at
-  placed-depth p = omega (arith, p .level, p .place, restrictions-before K)
+  placed-depth p = omega (arith, p .level, p .place, level-before 0 K)
 
 -- The bytes from the term on.
 module _ {question part : List ℕ} {x : ℕ} {q : Question} {P : Term} (l : Lists question part x q P) {K : List Frame} {C : Term} {at depth first number : ℕ}

@@ -27,10 +27,13 @@ pub mod Limited
 pub mod ListedBytes
 pub mod ListedIffDerived
 pub mod ListingLaws
+pub mod LocateLaws
 pub mod MeetLaws
 pub mod MeetPairs
 pub mod MeetRows
 pub mod Membership
+pub mod MetLaws
+pub mod MetResults
 pub mod Moves
 pub mod NameSlots
 pub mod Numbering

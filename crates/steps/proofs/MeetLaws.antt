@@ -208,7 +208,7 @@ module _ (K : List Frame) (d : ℕ) (level : restrictions K ≡ d) (s t : Candid
     pub is : raised K (step ((name, name) ∷ []) tauA result) ≡ step ((outer, outer) ∷ []) tauA whole
 
   module _ (left : Outlined d s k₁ c₁ o₁) (inside : c₁ < nameCount + d) (right : Outlined d t k₂ c₂ o₂) (k : k₁ ≡ 0 → ⊥) (l : k₂ ≡ 0 → ⊥) (m : mayMeet k₁ c₁ k₂ c₂ ≡ true) where
-    opposite : (eqb k₂ 1 ≡ not (eqb k₁ 1)) × (mergeable c₁ c₂ ≡ true)
+    pub opposite : (eqb k₂ 1 ≡ not (eqb k₁ 1)) × (mergeable c₁ c₂ ≡ true)
     unfolding mayMeet meetsBetween
     opposite = test-true (eqb k₁ 0) (eqb k₂ 0) (eqb k₁ 1) (eqb k₂ 1) (mergeable c₁ c₂) (ne-eqb k₁ 0 k) (ne-eqb k₂ 0 l) (not-repeated (eqb k₂ 4) _ m .1)
 

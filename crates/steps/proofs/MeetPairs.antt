@@ -1,38 +1,96 @@
 -- One communication put into the list, by whichever way the rows of its two candidates leave. Assumes nothing.
-use mathlib.Core.Bool.{true}
+use borrow.Author.Tests.{eqb-true, ltb-true}
+use mathlib.Core.Bool.{Bool, true, false, cond, not, _&&_}
 use mathlib.Core.List.{List, [], _∷_}
 use mathlib.Core.Path.{_≡_, refl, sym, _∙_, ap, subst}
 use native.Mathlib.Omega.{arith}
 use Prim.Native.Nat.{ℕ, _+_, _<_}
+use lib.Dec.{eqb, ltb}
 use lib.ListN.{getD}
-use Rattle.calculus.specs.Abstraction.{tauA}
-use Rattle.calculus.specs.Cond.{join, cls}
-use Rattle.calculus.specs.Term.{par}
+use Rattle.calculus.specs.Abstraction.{Act, tauA, inpA}
+use Rattle.calculus.specs.Cond.{Cond, join, cls}
+use Rattle.calculus.specs.Term.{Term, par, ren, inst}
+use Rattle.calculus.proofs.Renaming.{ren-id}
 use Rattle.terms.specs.Limits.{nameCount}
+use Rattle.terms.proofs.Answers.{both-true}
 use Rattle.steps.specs.Collecting.{PutIs}
 use Rattle.steps.specs.Contexts.{raised}
-use Rattle.steps.specs.Meeting.{Unblocked, PairIs}
+use Rattle.steps.specs.Labels.{actionOf, ActionBelow}
+use Rattle.steps.specs.Locating.{Unextruded, TakeMetIs}
+use Rattle.steps.specs.Meeting.{senderOf, sendsFree, Unblocked, PairIs}
 use Rattle.steps.specs.PartLister.{candidatesOf, TakeIs}
 use Rattle.steps.specs.Passing.{candidates}
+use Rattle.steps.specs.Raw.{step, meet, communication}
+use Rattle.steps.specs.Results.{receiving}
+use Rattle.steps.specs.Rows.{rowAction}
+use Rattle.steps.specs.Slots.{slotOf}
 use Rattle.steps.specs.Walking.{Unopened, stepAction, PutPlacedIs, PutClassedIs}
-use Rattle.steps.proofs.MeetLaws.{trivial-match, pair-same, pair-merged}
+use Rattle.steps.specs.declared.meet.Side.{Side}
+use Rattle.steps.proofs.MeetLaws.{trivial-match, opposite, pair-same, pair-merged}
+use Rattle.steps.proofs.RowLaws.{row-act}
 
-module _ (question part : List ℕ) (at depth number k₁ c₁ k₂ c₂ j x : ℕ) (area : List ℕ) (count r : ℕ) (area′ : List ℕ) where
-  pub pair-taken : TakeIs question part true (number + j) x area count r area′ → PairIs question part at depth number k₁ c₁ k₂ c₂ j x area count r area′
+-- [Com]: both results, where y is the name that is sent.
+record Com (d : ℕ) (α : Act) (A : Term) (β : Act) (B : Term) (object : ℕ) : Type 0 where
+  y : ℕ
+  sent : slotOf nameCount d y ≡ object
+  below : y < d + nameCount
+  left : Unextruded α
+  right : Unextruded β
+  meets : (N : Cond) (C : Term) → communication (step [] α A) (step [] β B) ≡ step N tauA C
+      → C ≡ par (ren (receiving y (λ n. n) α) A) (ren (receiving y (λ n. n) β) B)
+
+module _ (a b : Side) (d : ℕ) (α : Act) (A : Term) (β : Act) (B : Term) (ea : actionOf d α ≡ rowAction d (a .kind) (a .channel) (a .object))
+    (eb : actionOf d β ≡ rowAction d (b .kind) (b .channel) (b .object)) where
+  com-left : a .kind ≡ 1 → b .kind ≡ 2 → b .object < nameCount + d → ActionBelow (d + nameCount) β → Com d α A β B (b .object)
+  unfolding ActionBelow Unextruded receiving communication meet
+  com-left k l o below =
+      row-act d (a .kind) (a .channel) (a .object) (λ α. Com d α A β B (b .object))
+      (λ c h s. row-act d (b .kind) (b .channel) (b .object) (λ β. ActionBelow (d + nameCount) β → Com d (inpA c) A β B (b .object))
+      (λ e h s w. absurd (omega arith))
+      (λ e y h o s t w. record {
+        y = y;
+        sent = t;
+        below = w .1;
+        left = tt;
+        right = tt;
+        meets = λ N C z. let f : par (ren (inst y) A) B ≡ C = cc in sym f ∙ ap (λ (D : Term). par (ren (inst y) A) D) (sym (ren-id B));
+      })
+      (λ e h n s w. absurd (omega (arith, n l))) β eb below)
+      (λ c e h l s t. absurd (omega arith)) (λ c h n s. absurd (h k)) α ea
+
+  com-right : a .kind ≡ 2 → b .kind ≡ 1 → a .object < nameCount + d → ActionBelow (d + nameCount) α → Com d α A β B (a .object)
+  unfolding ActionBelow Unextruded receiving communication meet
+  com-right k l o below =
+      row-act d (b .kind) (b .channel) (b .object) (λ β. Com d α A β B (a .object))
+      (λ c h s. row-act d (a .kind) (a .channel) (a .object) (λ α. ActionBelow (d + nameCount) α → Com d α A (inpA c) B (a .object))
+      (λ e h s w. absurd (omega arith))
+      (λ e y h o s t w. record {
+        y = y;
+        sent = t;
+        below = w .1;
+        left = tt;
+        right = tt;
+        meets = λ N C z. let f : par A (ren (inst y) B) ≡ C = cc in sym f ∙ ap (λ (D : Term). par D (ren (inst y) B)) (sym (ren-id A));
+      })
+      (λ e h n s w. absurd (omega (arith, n k))) α ea below)
+      (λ c e h n s t. absurd (omega arith)) (λ c h n s. absurd (h l)) β eb
+
+module _ (question part : List ℕ) (at depth number : ℕ) (a b : Side) (j x : ℕ) (area : List ℕ) (count r : ℕ) (area′ : List ℕ) where
+  pub pair-taken : TakeIs question part true (number + j) x area count r area′ → PairIs question part at depth number a b j x area count r area′
   unfolding TakeIs candidatesOf candidates
   pair-taken T = record {
-    is = λ q P l K L R first p s t o₁ o₂ left right m h e.
+    is = λ q P l K L R first p s t _ _ _ _ left right m h e.
         subst (λ c. PutIs c x area count r area′) (p .silently .is j h ∙ ap (raised K) e) (T q P l (omega (arith, p .silently .inside)));
   }
 
-  module _ (k : k₁ ≡ 0 → ⊥) (l : k₂ ≡ 0 → ⊥) where
-    pub pair-placed : c₁ ≡ c₂ → PutPlacedIs question part at depth true j (record { kind = 0; channel = 0; object = 0 }) x area count r area′
-        → PairIs question part at depth number k₁ c₁ k₂ c₂ j x area count r area′
+  module _ (k : a .kind ≡ 0 → ⊥) (l : b .kind ≡ 0 → ⊥) where
+    pub pair-placed : a .channel ≡ b .channel → PutPlacedIs question part at depth true j (record { kind = 0; channel = 0; object = 0 }) x area count r area′
+        → PairIs question part at depth number a b j x area count r area′
     unfolding Unblocked candidates Unopened stepAction
     pair-placed e T = record {
-      is = λ q P lists K L R first p s t o₁ o₂ left right m h f.
+      is = λ q P lists K L R first p s t _ _ _ _ left right m h f.
           let (o, w) = left k in
-          let S = pair-same K depth (p .level) s t k₁ c₁ o₁ k₂ c₂ o₂ o w (right l) k l m e in
+          let S = pair-same K depth (p .level) s t (a .kind) (a .channel) (a .object) (b .kind) (b .channel) (b .object) o w (right l) k l m e in
           subst (λ c. PutIs c x area count r area′) (sym (ap (raised K) (S .own) ∙ S .is))
           (T .is q P lists K (par L R) first number ((S .outer, S .outer) ∷ []) tauA (S .whole)
           (record {
@@ -47,14 +105,46 @@ module _ (question part : List ℕ) (at depth number k₁ c₁ k₂ c₂ j x : �
           (trivial-match (S .outer)) refl);
     }
 
-    pub pair-classed : (c₁ ≡ c₂ → ⊥) → (class : List ℕ) → ((n : ℕ) → n < nameCount → getD class n 0 ≡ join c₁ c₂ n)
+    pub pair-classed : (a .channel ≡ b .channel → ⊥) → (class : List ℕ) → ((n : ℕ) → n < nameCount → getD class n 0 ≡ join (a .channel) (b .channel) n)
         → PutClassedIs question part true (number + j) class (record { kind = 0; channel = 0; object = 0 }) x area count r area′
-        → PairIs question part at depth number k₁ c₁ k₂ c₂ j x area count r area′
+        → PairIs question part at depth number a b j x area count r area′
     unfolding Unblocked candidatesOf candidates stepAction cls
     pair-classed n class is T = record {
-      is = λ q P lists K L R first p s t o₁ o₂ left right m h f.
+      is = λ q P lists K L R first p s t _ _ _ _ left right m h f.
           let (o, w) = left k in
-          let (B, e) = pair-merged K depth (p .level) s t k₁ c₁ o₁ k₂ c₂ o₂ o w (right l) k l m n in
+          let (B, e) = pair-merged K depth (p .level) s t (a .kind) (a .channel) (a .object) (b .kind) (b .channel) (b .object) o w (right l) k l m n in
           subst (λ c. PutIs c x area count r area′) (sym e)
-          (T .is q P lists ((c₁, c₂) ∷ []) tauA B (p .silently .is j h ∙ ap (raised K) f ∙ e) is refl);
+          (T .is q P lists ((a .channel, b .channel) ∷ []) tauA B (p .silently .is j h ∙ ap (raised K) f ∙ e) is refl);
     }
+
+    pub pair-met : a .channel ≡ b .channel → (from : Side) → from ≡ senderOf a b → sendsFree depth from ≡ true
+        → TakeMetIs question part at depth (a .number) (b .number) (from .object) area count r area′ → PairIs question part at depth number a b j x area count r area′
+    unfolding Unblocked senderOf sendsFree
+    pair-met e from is free₀ T₀ = record {
+      is = λ q P lists K L R first p s t hv es hw et left right m h f.
+          let free = subst (λ (d : Side). eqb (d .kind) 2 && ltb (d .object) (nameCount + depth) ≡ true) is free₀ in
+          let T = subst (λ (d : Side). TakeMetIs question part at depth (a .number) (b .number) (d .object) area count r area′) is T₀ in
+          let (o, w) = left k in
+          let S = pair-same K depth (p .level) s t (a .kind) (a .channel) (a .object) (b .kind) (b .channel) (b .object) o w (right l) k l m e in
+          let turned = opposite K depth (p .level) s t (a .kind) (a .channel) (a .object) (b .kind) (b .channel) (b .object) o w (right l) k l m .0 in
+          let (α, A, d, g, n₁) = o .acts w in
+          let (β, B, u, v, n₂) = right l .acts (omega arith) in
+          let C = com-of (eqb (a .kind) 1) refl turned α A β B g v n₁ n₂ free in
+          let N : Cond = (S .name, S .name) ∷ [] in
+          let result : S .result ≡ par (ren (receiving (C .y) (λ n. n) α) A) (ren (receiving (C .y) (λ n. n) β) B) =
+          C .meets N (S .result) ((λ i. communication (sym d i) (sym u i)) ∙ S .own) in
+          subst (λ c. PutIs c x area count r area′) (sym (ap (raised K) (S .own) ∙ S .is))
+          (T .is q P x lists K L R first number p hv hw α A (sym es ∙ d) (C .left) β B (sym et ∙ u) (C .right) (C .y) (C .sent) (C .below)
+          N ((S .outer, S .outer) ∷ []) (S .whole) (ap (λ (D : Term). raised K (step N tauA D)) (sym result) ∙ S .is) (trivial-match (S .outer)));
+    }
+      where
+        com-of : (c : Bool) → eqb (a .kind) 1 ≡ c → eqb (b .kind) 1 ≡ not c → (α : Act) (A : Term) (β : Act) (B : Term)
+            → actionOf depth α ≡ rowAction depth (a .kind) (a .channel) (a .object) → actionOf depth β ≡ rowAction depth (b .kind) (b .channel) (b .object)
+            → ActionBelow (depth + nameCount) α → ActionBelow (depth + nameCount) β
+            → eqb (cond c b a .kind) 2 && ltb (cond c b a .object) (nameCount + depth) ≡ true → Com depth α A β B (cond c b a .object)
+        com-of true i t α A β B g v n₁ n₂ z =
+            let (y, o) = both-true (eqb (b .kind) 2) (ltb (b .object) (nameCount + depth)) z in
+            com-left a b depth α A β B g v (eqb-true (a .kind) 1 i) (eqb-true (b .kind) 2 y) (ltb-true (b .object) (nameCount + depth) o) n₂
+        com-of false i t α A β B g v n₁ n₂ z =
+            let (y, o) = both-true (eqb (a .kind) 2) (ltb (a .object) (nameCount + depth)) z in
+            com-right a b depth α A β B g v (eqb-true (a .kind) 2 y) (eqb-true (b .kind) 1 t) (ltb-true (a .object) (nameCount + depth) o) n₁

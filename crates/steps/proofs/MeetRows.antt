@@ -58,11 +58,13 @@ met-blocked x K ts area count h found s =
     subst (λ l. Found l area count area) (sym (collect-blocked x K ts found)) (collect-none x area count h found s)
 
 -- A row of the left side.
-module _ (question part : List ℕ) (at depth number x : ℕ) (rows : List ℕ) (row middle last j : ℕ) (area₀ : List ℕ) (count : ℕ) where
+module _ (question part : List ℕ) (at depth number x : ℕ) (rows : List ℕ) (row left middle last j : ℕ) (area₀ : List ℕ) (count : ℕ) where
   pub record RowCase (q : Question) (P : Term) (K : List Frame) (L R : Term) (first : ℕ) (s : Candidate) : Type 0 where
     pub lists : Lists question part x q P
     pub placed : Placed (q .arities) (bodyOf (q .bodies)) P K (par L R) at depth first number
-    pub left : Row depth s rows row
+    pub number-left : left < length (visible (bodyOf (q .bodies)) 1 L)
+    pub is-left : s ≡ getD (visible (bodyOf (q .bodies)) 1 L) left blocked
+    pub left-row : Row depth s rows row
     pub right : Rows depth (visible (bodyOf (q .bodies)) 1 R) rows middle
     pub ends : last ≡ middle + length (visible (bodyOf (q .bodies)) 1 R)
     pub inside : j + length (visible (bodyOf (q .bodies)) 1 R) ≤ length (silent (bodyOf (q .bodies)) 1 (par L R))
@@ -82,22 +84,23 @@ module _ (question part : List ℕ) (at depth number x : ℕ) (rows : List ℕ) 
 
   row-is : (r : ℕ) (area : List ℕ) → (kindAt rows row ≡ 4 → ⊥)
       → ((q : Question) (P : Term) (K : List Frame) (L R : Term) (first : ℕ) (s : Candidate) → RowCase q P K L R first s → CollectIs (met K s (visible (bodyOf (q .bodies)) 1 R)) x area₀ count r area)
-      → MeetRowIs question part at depth number x rows row middle last j area₀ count r area
+      → MeetRowIs question part at depth number x rows row left middle last j area₀ count r area
   row-is r area new f = record {
-    is = λ q P l K L R first p s _ u v e h n. f q P K L R first s (record { lists = l; placed = p; left = u; right = v; ends = e; inside = h; numbers = n });
+    is = λ q P l K L R first p s i g _ u v e h n.
+        f q P K L R first s (record { lists = l; placed = p; number-left = i; is-left = g; left-row = u; right = v; ends = e; inside = h; numbers = n });
     over = λ e. absurd (new e);
   }
 
   -- A candidate that comes earlier too.
-  pub row-again : kindAt rows row ≡ 4 → MeetRowIs question part at depth number x rows row middle last j area₀ count count area₀
-  row-again e = record { is = λ q P l K L R first p s new u v f h n. absurd (new e); over = λ _. (refl, refl) }
+  pub row-again : kindAt rows row ≡ 4 → MeetRowIs question part at depth number x rows row left middle last j area₀ count count area₀
+  row-again e = record { is = λ q P l K L R first p s i g new u v f h n. absurd (new e); over = λ _. (refl, refl) }
 
   -- A candidate on a channel that is restricted further in.
   pub row-inner : count ≤ mostSteps → (kindAt rows row ≡ 4 → ⊥) → (kindAt rows row ≡ 0 → ⊥) → nameCount + depth ≤ channelAt rows row
-      → MeetRowIs question part at depth number x rows row middle last j area₀ count count area₀
+      → MeetRowIs question part at depth number x rows row left middle last j area₀ count count area₀
   unfolding Row
   row-inner few new k h = row-is count area₀ new (λ q P K L R first s c.
-      subst (λ t. CollectIs (met K t (visible (bodyOf (q .bodies)) 1 R)) x area₀ count count area₀) (sym (c .left k new .inner h))
+      subst (λ t. CollectIs (met K t (visible (bodyOf (q .bodies)) 1 R)) x area₀ count count area₀) (sym (c .left-row k new .inner h))
       (met-blocked x K (visible (bodyOf (q .bodies)) 1 R) area₀ count few))
 
   module _ (new : kindAt rows row ≡ 4 → ⊥) (known : (kindAt rows row ≡ 0 → ⊥) → channelAt rows row < nameCount + depth) (w n : ℕ) (area : List ℕ) (paired : Paired w n area) (on : middle ≤ w) where
@@ -116,7 +119,7 @@ module _ (question part : List ℕ) (at depth number x : ℕ) (rows : List ℕ) 
 
       unblocked : Unblocked depth s (kindAt rows row) (channelAt rows row) (objectAt rows row)
       unfolding Unblocked Row
-      unblocked k = (c .left k new, known k)
+      unblocked k = (c .left-row k new, known k)
 
       other : Row depth t rows w
       unfolding RowsBehind
@@ -155,15 +158,17 @@ module _ (question part : List ℕ) (at depth number x : ℕ) (rows : List ℕ) 
             progress-step (met K s ts) x area₀ count (w - middle) n n area area (within-met q P K L R first s c h) (paired q P K L R first s c) put few
 
     module _ (h : w < last) (m : mayMeet (kindAt rows row) (channelAt rows row) (kindAt rows w) (channelAt rows w) ≡ true) (r : ℕ) (area′ : List ℕ)
-        (pair : PairIs question part at depth number (kindAt rows row) (channelAt rows row) (kindAt rows w) (channelAt rows w) (j + (w - middle)) x area n r area′) where
+        (pair : PairIs question part at depth number
+        (record { kind = kindAt rows row; channel = channelAt rows row; object = objectAt rows row; number = left })
+        (record { kind = kindAt rows w; channel = channelAt rows w; object = objectAt rows w; number = w - middle }) (j + (w - middle)) x area n r area′) where
       put-pair : (q : Question) (P : Term) (K : List Frame) (L R : Term) (first : ℕ) (s : Candidate) → RowCase q P K L R first s
           → PutIs (getD (met K s (visible (bodyOf (q .bodies)) 1 R)) (w - middle) blocked) x area n r area′
       unfolding Row
       put-pair q P K L R first s c =
           let ts : List Candidate = visible (bodyOf (q .bodies)) 1 R in
           subst (λ d. PutIs d x area n r area′) (sym (nth-met K s ts (w - middle)))
-          (pair .is q P (c .lists) K L R first (c .placed) s (getD ts (w - middle) blocked) (objectAt rows row) (objectAt rows w)
-          (unblocked q P K L R first s c h)
+          (pair .is q P (c .lists) K L R first (c .placed) s (getD ts (w - middle) blocked) (c .number-left) (c .is-left)
+          (within q P K L R first s c h) refl (unblocked q P K L R first s c h)
           (λ k. other q P K L R first s c h k (meets-new (kindAt rows row) (channelAt rows row) (kindAt rows w) (channelAt rows w) m)) m (omega (arith, c .inside, within q P K L R first s c h))
           (c .numbers (w - middle) (within q P K L R first s c h)))
 
@@ -174,11 +179,11 @@ module _ (question part : List ℕ) (at depth number x : ℕ) (rows : List ℕ) 
           subst (λ i. Progresses (met K s ts) x area₀ count i r area′) i
           (progress-step (met K s ts) x area₀ count (w - middle) n r area area′ (within-met q P K L R first s c h) (paired q P K L R first s c) (put-pair q P K L R first s c) few)
 
-      pub pair-passed : mostSteps < r → MeetRowIs question part at depth number x rows row middle last j area₀ count r area′
+      pub pair-passed : mostSteps < r → MeetRowIs question part at depth number x rows row left middle last j area₀ count r area′
       pair-passed many = row-is r area′ new (λ q P K L R first s c.
           progress-passed (met K s (visible (bodyOf (q .bodies)) 1 R)) x area₀ count (w - middle) n r area area′ (within-met q P K L R first s c h) (paired q P K L R first s c) (put-pair q P K L R first s c) many)
 
-    pub row-done : last ≤ w → n ≤ mostSteps → MeetRowIs question part at depth number x rows row middle last j area₀ count n area
+    pub row-done : last ≤ w → n ≤ mostSteps → MeetRowIs question part at depth number x rows row left middle last j area₀ count n area
     row-done h few = row-is n area new (λ q P K L R first s c.
         progress-done (met K s (visible (bodyOf (q .bodies)) 1 R)) x area₀ count (w - middle) n area
         (omega (arith, length-met K s (visible (bodyOf (q .bodies)) 1 R), c .ends)) few (paired q P K L R first s c))
@@ -270,7 +275,7 @@ module _ (question part : List ℕ) (at depth number before x : ℕ) (rows : Lis
         subst (λ ss. CollectIs (all K (visible (bodyOf (q .bodies)) 1 R) ss) x area₀ count n area)
         (take-all (row - first) (visible (bodyOf (q .bodies)) 1 L) (omega (arith, c .ends₁))) (so-far q P K L R c .1))
 
-    module _ (h : row < middle) (r : ℕ) (area′ : List ℕ) (met-row : MeetRowIs question part at depth number x rows row middle last j area n r area′) where
+    module _ (h : row < middle) (r : ℕ) (area′ : List ℕ) (met-row : MeetRowIs question part at depth number x rows row (row - first) middle last j area n r area′) where
       module _ (q : Question) (P : Term) (K : List Frame) (L R : Term) (c : SidesCase q P K L R) where
         abbrev lefts : List Candidate
         lefts = visible (bodyOf (q .bodies)) 1 L
@@ -318,7 +323,7 @@ module _ (question part : List ℕ) (at depth number before x : ℕ) (rows : Lis
 
         row-put : (kindAt rows row ≡ 4 → ⊥) → CollectIs (met K (getD lefts (row - first) blocked) rights) x area n r area′
         row-put new =
-            met-row .is q P (c .lists) K L R first (c .placed) (getD lefts (row - first) blocked) new own-row (c .right) (c .ends₂) inside-silent numbered
+            met-row .is q P (c .lists) K L R first (c .placed) (getD lefts (row - first) blocked) within-left refl new own-row (c .right) (c .ends₂) inside-silent numbered
 
         row-all : CollectIs (all K rights (take (row - first + 1) lefts)) x area₀ count r area′
         row-all =

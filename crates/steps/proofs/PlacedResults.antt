@@ -16,7 +16,7 @@ use Rattle.terms.specs.Encoding.{encode}
 use Rattle.terms.specs.Limits.{nameCount}
 use Rattle.terms.specs.Question.{Question}
 use Rattle.terms.proofs.Stores.{sets-join}
-use Rattle.steps.specs.Contexts.{Frame, leftOf, rightOf, beneath, fill, raised, restrictions, bytesBefore, bytesBehind}
+use Rattle.steps.specs.Contexts.{Frame, leftOf, rightOf, beneath, fill, raised, restrictions, bytesBefore, bytesBehind, levelIn}
 use Rattle.steps.specs.Listed.{canonStep, resultBytes}
 use Rattle.steps.specs.Listing.{bodyOf}
 use Rattle.steps.specs.Names.{OwnNames}
@@ -33,7 +33,7 @@ use Rattle.steps.proofs.Premises.{never}
 use Rattle.steps.proofs.TakeLaws.{receiving-canonical}
 
 -- No step is made of what is blocked.
-raised-never : {T : Type 0} (K : List Frame) (M : Cond) (α : Act) (A : Term) → raised K blocked ≡ step M α A → T
+pub raised-never : {T : Type 0} (K : List Frame) (M : Cond) (α : Act) (A : Term) → raised K blocked ≡ step M α A → T
 raised-never K M α A e = never M α A (sym (raised-blocked K) ∙ e)
 
 -- A new-name output stays one.
@@ -93,7 +93,7 @@ Filled K M′ α′ A′ x =
     → ren (receiving x (λ n. n) α′) A′ ≡ fill K (ren (receiving (restrictions K + x) (λ n. n) α) A)
 
 filled-beneath : (K : List Frame) (M′ : Cond) (α′ : Act) (A′ : Term) (x : ℕ) → Filled K M′ α′ A′ x → Filled (beneath ∷ K) M′ α′ A′ x
-unfolding raised restricted restrictedAction fill restrictions receiving Unopened
+unfolding raised restricted restrictedAction fill levelIn receiving Unopened
 filled-beneath K M′ α′ A′ x f M α A e u = go (sparesRestricted M) α e u
   where
     N : Cond
@@ -121,7 +121,7 @@ filled-beneath K M′ α′ A′ x f M α A e u = go (sparesRestricted M) α e u
     go true (boutA (suc a)) e u = f N (boutA a) (res (ren swap A)) e u ∙ bound
 
 pub filled-result : (K : List Frame) (M′ : Cond) (α′ : Act) (A′ : Term) (x : ℕ) → Filled K M′ α′ A′ x
-unfolding raised leftSteps rightSteps fill restrictions
+unfolding raised leftSteps rightSteps fill levelIn
 filled-result [] M′ α′ A′ x M α A e u =
     let a : α′ ≡ α = cc in
     let r : A′ ≡ A = cc in
@@ -175,7 +175,7 @@ module _ (out before bs behind : List ℕ) (at m n : ℕ) (b : length before ≡
       go false d k = let s = same in omega (arith, w .over (leb-false (at + length bs) (length out₁) d))
 
 -- The result of a step whose condition merges nothing, in canonical form.
-trivial-result : (x : ℕ) (M : Cond) (α : Act) (A : Term) → Trivial M
+pub trivial-result : (x : ℕ) (M : Cond) (α : Act) (A : Term) → Trivial M
     → resultBytes (canonStep nameCount x M α A) ≡ encode 0 (ren (receiving x (λ n. n) α) A)
 unfolding Trivial
 trivial-result x M α A t = receiving-canonical x M α A ∙ ap (λ (f : ℕ → ℕ). encode 0 (ren (receiving x f α) A)) (fun-ext t)

@@ -9,18 +9,24 @@ use lib.Dec.{leb}
 use lib.ListN.{length, take}
 use Rattle.calculus.specs.Abstraction.{Act, tauA, inpA, outA, boutA}
 use Rattle.calculus.specs.Cond.{Cond}
+use Rattle.calculus.proofs.Renaming.{ren-id}
+use Rattle.terms.specs.Encoding.{encode}
 use Rattle.terms.specs.Limits.{nameCount, longestTerm}
 use Rattle.steps.specs.Collecting.{PutIs}
 use Rattle.steps.specs.Entries.{InsertIs}
 use Rattle.steps.specs.EntryBytes.{entryBytes}
 use Rattle.steps.specs.Limits.{mostSteps, stepBytes}
 use Rattle.steps.specs.Listed.{kindOf, channelOf, objectOf, canonStep, resultBytes}
+use Rattle.steps.specs.Locating.{MetResultIs, PutMetIs}
 use Rattle.steps.specs.Names.{OwnNames}
 use Rattle.steps.specs.PartLister.{ResultIs}
+use Rattle.steps.specs.Results.{receiving}
 use Rattle.steps.specs.Walking.{Trivial, PlacedResultIs, stepAction, PutResultIs, PutPlacedIs, PutClassedIs}
 use Rattle.steps.specs.declared.listed.ActionBytes.{ActionBytes}
+use Rattle.steps.specs.declared.locate.Located.{Located}
 use Rattle.steps.proofs.CanonBytes.{actionOfStep, coded, entry-canonical}
 use Rattle.steps.proofs.CollectLaws.{put-step, put-long, take-sets}
+use Rattle.steps.proofs.PlacedResults.{trivial-result}
 
 -- The action's bytes are those of the step in canonical form.
 pub step-coded : (x : ℕ) (M : Cond) (α : Act) → stepAction x M α ≡ coded (actionOfStep M x α)
@@ -83,4 +89,14 @@ unfolding OwnNames Trivial
 placed-put question part at depth silently j action x area count r area′ out result class n size own w p = record {
   is = λ q P l K C first number M α A raises t acts.
       p .is out x M α A size (w .is q P l K C first number M α A raises t) (λ k h. own k (omega arith) ∙ sym (t k)) acts;
+}
+
+pub met-put : (question part : List ℕ) (left right : Located) (new : ℕ) (area : List ℕ) (count r : ℕ) (area′ out result class : List ℕ) (n : ℕ)
+    → length out ≡ longestTerm → OwnNames 0 class → MetResultIs question part left right new out n result
+    → PutResultIs class (record { kind = 0; channel = 0; object = 0 }) result n area count r area′ → PutMetIs question part left right new area count r area′
+unfolding OwnNames Trivial receiving stepAction
+met-put question part left right new area count r area′ out result class n size own w p = record {
+  is = λ q x M A ok t H.
+      let e : resultBytes (canonStep nameCount x M tauA A) ≡ encode 0 A = trivial-result x M tauA A t ∙ ap (encode 0) (ren-id A) in
+      p .is out x M tauA A size (rw e (w .is q (encode 0 A) ok H)) (λ k h. own k (omega arith) ∙ sym (t k)) refl;
 }

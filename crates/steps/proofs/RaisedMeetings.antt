@@ -8,7 +8,7 @@ use Prim.Native.Nat.{ℕ, zero, suc, _+_, _<_, _≤_}
 use lib.Dec.{ltb}
 use Rattle.calculus.specs.Abstraction.{tauA}
 use Rattle.calculus.specs.Term.{Term, par, res}
-use Rattle.steps.specs.Contexts.{Frame, leftOf, rightOf, beneath, raised, restrictions}
+use Rattle.steps.specs.Contexts.{Frame, leftOf, rightOf, beneath, raised, restrictions, levelIn}
 use Rattle.steps.specs.Raw.{step, blocked, leftSteps, rightSteps, restricted, spares, sparesRestricted, outside, restrictedAction}
 use Rattle.steps.specs.Slots.{slotOf}
 use Rattle.steps.proofs.ContextLaws.{raised-blocked}
@@ -27,7 +27,7 @@ raised-same (beneath ∷ K) (suc a) A = raised-same K a (res A)
 -- A match of two free names.
 pub raised-free : (K : List Frame) (m n a b : ℕ) (A : Term) → m ≡ restrictions K + a → n ≡ restrictions K + b
     → (B : Term) × (raised K (step ((m, n) ∷ []) tauA A) ≡ step ((a, b) ∷ []) tauA B)
-unfolding raised leftSteps rightSteps restricted spares sparesRestricted outside restrictedAction restrictions
+unfolding raised leftSteps rightSteps restricted spares sparesRestricted outside restrictedAction levelIn
 raised-free [] m n a b A e f =
     let k : m ≡ a = omega arith in
     let l : n ≡ b = omega arith in
@@ -41,7 +41,7 @@ raised-free (beneath ∷ K) (suc m) (suc n) a b A e f = raised-free K m n a b (r
 -- A match of a restricted name with another.
 pub raised-apart : (K : List Frame) (a b : ℕ) (A : Term) → (a ≡ b → ⊥) → (restrictions K ≤ a → restrictions K ≤ b → ⊥)
     → raised K (step ((a, b) ∷ []) tauA A) ≡ blocked
-unfolding raised leftSteps rightSteps restricted spares sparesRestricted outside restrictedAction restrictions
+unfolding raised leftSteps rightSteps restricted spares sparesRestricted outside restrictedAction levelIn
 raised-apart [] a b A n h = absurd (h (omega arith) (omega arith))
 raised-apart (leftOf Q ∷ K) a b A n h = raised-apart K a b (par A Q) n h
 raised-apart (rightOf P ∷ K) a b A n h = raised-apart K a b (par P A) n h

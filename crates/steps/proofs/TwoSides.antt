@@ -113,6 +113,13 @@ middle-past s tally E at m N h = go (leb (length s) (at + 1)) refl
     go true b = omega (arith, N .none (leb-true (length s) (at + 1) b))
     go false b = let l = leb-false (length s) (at + 1) b in omega (arith, N .is l, E (at + 1) l .0)
 
+pub middle-inside : (s tally : List ℕ) → Ends s tally → (at m : ℕ) → MiddleIs s tally at m → at < length s → m ≤ length s
+middle-inside s tally E at m N h = go (leb (length s) (at + 1)) refl
+  where
+    go : (b : Bool) → leb (length s) (at + 1) ≡ b → m ≤ length s
+    go true b = omega (arith, N .none (leb-true (length s) (at + 1) b))
+    go false b = let l = leb-false (length s) (at + 1) b in omega (arith, N .is l, E (at + 1) l .1)
+
 module _ (question s : List ℕ) (calls : ℕ) (tally : List ℕ) (T : TallyIs question s calls tally) (at m : ℕ) (N : MiddleIs s tally at m) where
   pub middle-on : at < length s → at < m
   middle-on = middle-past s tally (T .on) at m N

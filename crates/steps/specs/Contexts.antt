@@ -1,7 +1,7 @@
 -- Where a term stands in a part beneath parallels and restrictions alone, and which of the part's candidates are its own.
 use mathlib.Core.Path.{_≡_}
 use mathlib.Core.List.{List, [], _∷_, _++_}
-use Prim.Native.Nat.{ℕ, zero, suc, _+_, _<_, _≤_}
+use Prim.Native.Nat.{ℕ, suc, _+_, _<_, _≤_}
 use lib.ListN.{length, getD}
 use Rattle.calculus.specs.Term.{Term, par, res}
 use Rattle.terms.specs.Encoding.{encode, InScope}
@@ -28,24 +28,34 @@ raised (leftOf Q ∷ K) c = raised K (leftSteps Q c)
 raised (rightOf P ∷ K) c = raised K (rightSteps P c)
 raised (beneath ∷ K) c = raised K (restricted c)
 
-unfoldable pub restrictions : List Frame → ℕ
-restrictions [] = zero
-restrictions (leftOf Q ∷ K) = restrictions K
-restrictions (rightOf P ∷ K) = restrictions K
-restrictions (beneath ∷ K) = suc (restrictions K)
+-- The restrictions around the term, where d stand around the frames.
+unfoldable pub levelIn : ℕ → List Frame → ℕ
+levelIn d [] = d
+levelIn d (leftOf Q ∷ K) = levelIn d K
+levelIn d (rightOf P ∷ K) = levelIn d K
+levelIn d (beneath ∷ K) = suc (levelIn d K)
 
--- The whole's bytes before the term, and those behind it.
-unfoldable pub bytesBefore : List Frame → List ℕ
-bytesBefore [] = []
-bytesBefore (leftOf Q ∷ K) = bytesBefore K ++ (7 ∷ [])
-bytesBefore (rightOf P ∷ K) = bytesBefore K ++ (7 ∷ encode (restrictions K) P)
-bytesBefore (beneath ∷ K) = bytesBefore K ++ (8 ∷ [])
+abbrev pub restrictions : List Frame → ℕ
+restrictions K = levelIn 0 K
 
-unfoldable pub bytesBehind : List Frame → List ℕ
-bytesBehind [] = []
-bytesBehind (leftOf Q ∷ K) = encode (restrictions K) Q ++ bytesBehind K
-bytesBehind (rightOf P ∷ K) = bytesBehind K
-bytesBehind (beneath ∷ K) = bytesBehind K
+-- The whole's bytes before the term, and those behind it, where d restrictions stand around the whole.
+unfoldable pub beforeIn : ℕ → List Frame → List ℕ
+beforeIn d [] = []
+beforeIn d (leftOf Q ∷ K) = beforeIn d K ++ (7 ∷ [])
+beforeIn d (rightOf P ∷ K) = beforeIn d K ++ (7 ∷ encode (levelIn d K) P)
+beforeIn d (beneath ∷ K) = beforeIn d K ++ (8 ∷ [])
+
+unfoldable pub behindIn : ℕ → List Frame → List ℕ
+behindIn d [] = []
+behindIn d (leftOf Q ∷ K) = encode (levelIn d K) Q ++ behindIn d K
+behindIn d (rightOf P ∷ K) = behindIn d K
+behindIn d (beneath ∷ K) = behindIn d K
+
+abbrev pub bytesBefore : List Frame → List ℕ
+bytesBefore K = beforeIn 0 K
+
+abbrev pub bytesBehind : List Frame → List ℕ
+bytesBehind K = behindIn 0 K
 
 -- The candidates cs are those of the whole from number n on, each raised.
 pub record Numbered (whole : List Candidate) (K : List Frame) (cs : List Candidate) (n : ℕ) : Type 0 where

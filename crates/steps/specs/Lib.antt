@@ -14,6 +14,7 @@ pub mod Limits
 pub mod Listed
 pub mod Listing
 pub mod Lists
+pub mod Locating
 pub mod Meeting
 pub mod Names
 pub mod Operations

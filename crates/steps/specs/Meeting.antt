@@ -1,6 +1,6 @@
 -- The communications of a parallel from the rows of its two sides: what the functions that put them into the list promise.
 use mathlib.Core.Path.{_≡_}
-use mathlib.Core.Bool.{Bool, true, false, cond}
+use mathlib.Core.Bool.{Bool, true, false, cond, _&&_}
 use mathlib.Core.List.{List, map}
 use Prim.Native.Nat.{ℕ, _+_, _<_, _≤_}
 use lib.Dec.{eqb, ltb, leb}
@@ -14,6 +14,7 @@ use Rattle.steps.specs.Listing.{bodyOf}
 use Rattle.steps.specs.PartLister.{Lists}
 use Rattle.steps.specs.Raw.{Candidate, blocked, communication, visible, silent}
 use Rattle.steps.specs.Rows.{kindAt, channelAt, Outlined, Row, Rows}
+use Rattle.steps.specs.declared.meet.Side.{Side}
 
 -- No number of a candidate comes near it: 2 to the power of 40.
 abbrev pub mostNumbers : ℕ
@@ -52,26 +53,41 @@ pub record NextMetIs (rows : List ℕ) (kind channel from last r : ℕ) : Type 0
 unfoldable pub Unblocked : (d : ℕ) (c : Candidate) (kind channel object : ℕ) → Type 0
 Unblocked d c kind channel object = (kind ≡ 0 → ⊥) → Outlined d c kind channel object × (channel < nameCount + d)
 
--- One communication, that of s and t, by the kinds and channels of their rows; j is its number among the silent candidates of the parallel at `at`.
-pub record PairIs (question part : List ℕ) (at depth number k₁ c₁ k₂ c₂ j x : ℕ) (area : List ℕ) (count r : ℕ) (area′ : List ℕ) : Type 0 where
+-- The row that sends: the right one, where the left one receives.
+unfoldable pub senderOf : Side → Side → Side
+senderOf a b = cond (eqb (a .kind) 1) b a
+
+-- It sends a name that is free under so many restrictions.
+unfoldable pub sendsFree : ℕ → Side → Bool
+sendsFree depth a = eqb (a .kind) 2 && ltb (a .object) (nameCount + depth)
+
+-- One communication, that of s and t, by the rows a and b; j is its number among the silent candidates of the parallel at `at`.
+pub record PairIs (question part : List ℕ) (at depth number : ℕ) (a b : Side) (j x : ℕ) (area : List ℕ) (count r : ℕ) (area′ : List ℕ) : Type 0 where
   pub is : (q : Question) (P : Term) → Lists question part x q P
       → (K : List Frame) (L R : Term) (first : ℕ)
       → Placed (q .arities) (bodyOf (q .bodies)) P K (par L R) at depth first number
-      → (s t : Candidate) (o₁ o₂ : ℕ)
-      → Unblocked depth s k₁ c₁ o₁
-      → ((k₂ ≡ 0 → ⊥) → Outlined depth t k₂ c₂ o₂)
-      → mayMeet k₁ c₁ k₂ c₂ ≡ true
+      → (s t : Candidate)
+      → a .number < length (visible (bodyOf (q .bodies)) 1 L) → s ≡ getD (visible (bodyOf (q .bodies)) 1 L) (a .number) blocked
+      → b .number < length (visible (bodyOf (q .bodies)) 1 R) → t ≡ getD (visible (bodyOf (q .bodies)) 1 R) (b .number) blocked
+      → Unblocked depth s (a .kind) (a .channel) (a .object)
+      → ((b .kind ≡ 0 → ⊥) → Outlined depth t (b .kind) (b .channel) (b .object))
+      → mayMeet (a .kind) (a .channel) (b .kind) (b .channel) ≡ true
       → j < length (silent (bodyOf (q .bodies)) 1 (par L R))
       → getD (silent (bodyOf (q .bodies)) 1 (par L R)) j blocked ≡ communication s t
       → PutIs (raised K (communication s t)) x area count r area′
 
--- The communications of s, whose row has this number, with the right side's visible candidates, whose rows are those from `middle` up to `last`; j is
--- the number of the first. An s that is equal to an earlier candidate is passed over.
-pub record MeetRowIs (question part : List ℕ) (at depth number x : ℕ) (rows : List ℕ) (row middle last j : ℕ) (area : List ℕ) (count r : ℕ) (area′ : List ℕ) : Type 0 where
+-- The same, whatever the number of the parallel's first silent candidate.
+unfoldable pub SamePairIs : (question part : List ℕ) (at depth : ℕ) (a b : Side) (j x : ℕ) (area : List ℕ) (count r : ℕ) (area′ : List ℕ) → Type 0
+SamePairIs question part at depth a b j x area count r area′ = (number : ℕ) → PairIs question part at depth number a b j x area count r area′
+
+-- The communications of s, the left side's visible candidate number `left`, whose row has this number, with the right side's visible candidates,
+-- whose rows are those from `middle` up to `last`; j is the number of the first. An s that is equal to an earlier candidate is passed over.
+pub record MeetRowIs (question part : List ℕ) (at depth number x : ℕ) (rows : List ℕ) (row left middle last j : ℕ) (area : List ℕ) (count r : ℕ) (area′ : List ℕ) : Type 0 where
   pub is : (q : Question) (P : Term) → Lists question part x q P
       → (K : List Frame) (L R : Term) (first : ℕ)
       → Placed (q .arities) (bodyOf (q .bodies)) P K (par L R) at depth first number
       → (s : Candidate)
+      → left < length (visible (bodyOf (q .bodies)) 1 L) → s ≡ getD (visible (bodyOf (q .bodies)) 1 L) left blocked
       → (kindAt rows row ≡ 4 → ⊥)
       → Row depth s rows row
       → Rows depth (visible (bodyOf (q .bodies)) 1 R) rows middle

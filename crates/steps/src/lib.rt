@@ -7,6 +7,7 @@ pub mod label;
 pub mod limits;
 pub mod list;
 pub mod listed;
+pub mod locate;
 pub mod meet;
 pub mod names;
 pub mod operation;

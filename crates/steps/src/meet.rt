@@ -4,14 +4,18 @@ ghost use Prim.Native.Nat.{_+_, _*_, _≤_, _<_};
 ghost use lib.ListN.{length};
 ghost use Rattle.terms.specs.Limits.{longestTerm};
 ghost use Rattle.steps.specs.Limits.{stepBytes, mostSteps};
-ghost use Rattle.steps.specs.Meeting.{mostNumbers, firstMerged, lastMerged, isBetween, meetsBetween, NextMetIs, PairIs, MeetRowIs};
+ghost use Rattle.steps.specs.Locating.{tableSlot, TakeMetIs};
+ghost use Rattle.steps.specs.Meeting.{mostNumbers, firstMerged, lastMerged, isBetween, meetsBetween, senderOf, sendsFree, NextMetIs, PairIs, SamePairIs, MeetRowIs};
 ghost use Rattle.steps.specs.Rows.{rowBytes, mostRows};
 ghost use Rattle.steps.specs.Tally.{TallyIs, BodiesTallied};
 ghost use Rattle.steps.specs.Walking.{MeetsIs};
 use crate::limits::MOST_STEPS;
 use crate::list::take_candidate;
 use crate::listed::ActionBytes;
+use crate::locate::locate;
+use crate::pass::middle_of;
 use crate::put::put_classed;
+use crate::put::put_met;
 use crate::put::put_placed;
 use crate::rows::REPEATED;
 use crate::rows::ROW_BYTES;
@@ -22,6 +26,8 @@ use terms::tables::merging;
 const UNKNOWN: u8 = 0;
 
 const INPUT: u8 = 1;
+
+const FREE_OUTPUT: u8 = 2;
 
 // The slot of the last free name.
 const LAST_NAME: u8 = 15;
@@ -103,6 +109,127 @@ fn next_met(rows: &[u8], kind: u8, channel: u8, from: usize, last: usize) -> usi
     w
 }
 
+// The row of a candidate of one side of a parallel, and the candidate's number among the visible ones of that side.
+pub struct Side {
+    pub kind: u8,
+    pub channel: u8,
+    pub object: u8,
+    pub number: usize,
+}
+
+// The row that sends: the right one, where the left one receives.
+fn sender(a: Side, b: Side) -> Side
+    ensures { λ r. ⌜ r ≡ senderOf a b ⌝ }
+{
+    if a.kind == INPUT {
+        return b;
+    }
+    a
+}
+
+// Whether it sends a name that is free under so many restrictions. Then nothing is extruded in the communication: [Com].
+fn sends_free(a: Side, depth: usize) -> bool
+    requires { ⌜ depth ≤ longestTerm ⌝ }
+    ensures { λ r. ⌜ r ≡ sendsFree depth a ⌝ }
+{
+    if a.kind != FREE_OUTPUT {
+        return false;
+    }
+    (a.object as usize) < NAME_COUNT + depth
+}
+
+// A name's slot in a table of names, from its slot in rows: the table has the new name between the free ones and the restrictions.
+fn table_slot(slot: u8) -> u8
+    requires { ⌜ slot < 255 ⌝ }
+    ensures { λ r. ⌜ r ≡ tableSlot slot ⌝ }
+{
+    if slot <= LAST_NAME {
+        return slot;
+    }
+    slot + 1
+}
+
+// Puts the communication of the visible candidates number `v` and `w` of the sides of the parallel at `at` into the list, where `object` is the slot of
+// the name that is sent and nothing is extruded.
+fn take_met(
+    question: &[u8],
+    bodies: &[u32],
+    part: &[u8],
+    tally: &[u32],
+    at: usize,
+    depth: usize,
+    v: usize,
+    w: usize,
+    object: u8,
+    area: &mut [u8],
+    count: usize,
+) -> usize
+    requires { ⌜ (count ≤ mostSteps) × (mostSteps * stepBytes ≤ length (now area)) × (length (now part) ≤ longestTerm) × TallyIs (now question) (now part) 1 (now tally) × BodiesTallied (now question) (now bodies) × (depth ≤ at) × (at < length (now part)) × (object < 255) ⌝ }
+    ensures { λ r. ⌜ TakeMetIs (now (question .entry)) (now (part .entry)) at depth v w object (now (area .entry)) count r (now (area .exit)) ⌝ }
+{
+    let left = locate(part, tally, at + 1, depth, v);
+    let middle = middle_of(part, tally, at);
+    let right = locate(part, tally, middle, depth, w);
+    let new = table_slot(object);
+    put_met(question, bodies, part, tally, left, right, new, area, count)
+}
+
+// Puts the communication of two candidates on one channel into the list.
+fn take_same(
+    question: &[u8],
+    bodies: &[u32],
+    part: &[u8],
+    tally: &[u32],
+    at: usize,
+    depth: usize,
+    a: Side,
+    b: Side,
+    j: usize,
+    x: u8,
+    area: &mut [u8],
+    count: usize,
+) -> usize
+    requires { ⌜ (count ≤ mostSteps) × (mostSteps * stepBytes ≤ length (now area)) × (length (now part) ≤ longestTerm) × TallyIs (now question) (now part) 1 (now tally) × BodiesTallied (now question) (now bodies) × (depth ≤ at) × (at < length (now part)) × (a .kind ≡ 0 → ⊥) × (b .kind ≡ 0 → ⊥) × (a .channel ≡ b .channel) ⌝ }
+    ensures { λ r. ⌜ SamePairIs (now (question .entry)) (now (part .entry)) at depth a b j x (now (area .entry)) count r (now (area .exit)) ⌝ }
+{
+    let from = sender(a, b);
+    if sends_free(from, depth) {
+        let object = from.object;
+        return take_met(
+            question,
+            bodies,
+            part,
+            tally,
+            at,
+            depth,
+            a.number,
+            b.number,
+            object,
+            area,
+            count,
+        );
+    }
+    let action = ActionBytes {
+        kind: 0,
+        channel: 0,
+        object: 0,
+    };
+    put_placed(
+        question,
+        bodies,
+        part,
+        tally,
+        at,
+        depth,
+        true,
+        j,
+        action,
+        x,
+        area,
+        count,
+    )
+}
+
 // Puts the communication of two candidates whose rows may meet into the list; `j` is its number among the silent candidates of the parallel. Where a
 // row says nothing it is found by its number in the part.
 fn take_pair(
@@ -113,47 +240,45 @@ fn take_pair(
     at: usize,
     depth: usize,
     number: usize,
-    k1: u8,
-    c1: u8,
-    k2: u8,
-    c2: u8,
+    a: Side,
+    b: Side,
     j: usize,
     x: u8,
     area: &mut [u8],
     count: usize,
 ) -> usize
     requires { ⌜ (count ≤ mostSteps) × (mostSteps * stepBytes ≤ length (now area)) × (length (now part) ≤ longestTerm) × TallyIs (now question) (now part) 1 (now tally) × BodiesTallied (now question) (now bodies) × (depth ≤ at) × (at < length (now part)) × (number + j ≤ mostNumbers + mostNumbers) ⌝ }
-    ensures { λ r. ⌜ PairIs (now (question .entry)) (now (part .entry)) at depth number k1 c1 k2 c2 j x (now (area .entry)) count r (now (area .exit)) ⌝ }
+    ensures { λ r. ⌜ PairIs (now (question .entry)) (now (part .entry)) at depth number a b j x (now (area .entry)) count r (now (area .exit)) ⌝ }
 {
     let i = number + j;
-    if k1 == UNKNOWN {
+    if a.kind == UNKNOWN {
         return take_candidate(question, bodies, part, tally, true, i, x, area, count);
     }
-    if k2 == UNKNOWN {
+    if b.kind == UNKNOWN {
         return take_candidate(question, bodies, part, tally, true, i, x, area, count);
     }
-    let action = ActionBytes {
-        kind: 0,
-        channel: 0,
-        object: 0,
-    };
-    if c1 == c2 {
-        return put_placed(
+    if a.channel == b.channel {
+        return take_same(
             question,
             bodies,
             part,
             tally,
             at,
             depth,
-            true,
+            a,
+            b,
             j,
-            action,
             x,
             area,
             count,
         );
     }
-    let class = merging(c1, c2);
+    let class = merging(a.channel, b.channel);
+    let action = ActionBytes {
+        kind: 0,
+        channel: 0,
+        object: 0,
+    };
     put_classed(
         question,
         bodies,
@@ -169,9 +294,9 @@ fn take_pair(
     )
 }
 
-// Puts the communications of one row of the left side into the list, until a limit is passed; `j` is the number of the first. A candidate on a
-// channel that is restricted further in is blocked, and so are its communications; those of a candidate that is equal to an earlier one are
-// in the list already.
+// Puts the communications of one row of the left side into the list, until a limit is passed; `left` is the number of its candidate, and `j` that of
+// the first communication. A candidate on a channel that is restricted further in is blocked, and so are its communications; those of a candidate
+// that is equal to an earlier one are in the list already.
 fn meet_row(
     question: &[u8],
     bodies: &[u32],
@@ -183,6 +308,7 @@ fn meet_row(
     x: u8,
     rows: &[u8],
     row: usize,
+    left: usize,
     middle: usize,
     last: usize,
     j: usize,
@@ -190,7 +316,7 @@ fn meet_row(
     count: usize,
 ) -> usize
     requires { ⌜ (count ≤ mostSteps) × (mostSteps * stepBytes ≤ length (now area)) × (length (now part) ≤ longestTerm) × TallyIs (now question) (now part) 1 (now tally) × BodiesTallied (now question) (now bodies) × (depth ≤ at) × (at < length (now part)) × (row < middle) × (middle ≤ last) × (last ≤ mostRows) × (rowBytes * mostRows ≤ length (now rows)) × (number + j + mostRows ≤ mostNumbers + mostNumbers) ⌝ }
-    ensures { λ r. ⌜ MeetRowIs (now (question .entry)) (now (part .entry)) at depth number x (now (rows .entry)) row middle last j (now (area .entry)) count r (now (area .exit)) ⌝ }
+    ensures { λ r. ⌜ MeetRowIs (now (question .entry)) (now (part .entry)) at depth number x (now (rows .entry)) row left middle last j (now (area .entry)) count r (now (area .exit)) ⌝ }
 {
     let kind = rows[ROW_BYTES * row];
     let channel = rows[ROW_BYTES * row + 1];
@@ -202,12 +328,27 @@ fn meet_row(
             return count;
         }
     }
+    let object = rows[ROW_BYTES * row + 2];
+    let a = Side {
+        kind,
+        channel,
+        object,
+        number: left,
+    };
     let mut n = count;
     let mut w = next_met(rows, kind, channel, middle, last);
     while w < last {
         let kind2 = rows[ROW_BYTES * w];
         let channel2 = rows[ROW_BYTES * w + 1];
-        let i = j + (w - middle);
+        let object2 = rows[ROW_BYTES * w + 2];
+        let right = w - middle;
+        let b = Side {
+            kind: kind2,
+            channel: channel2,
+            object: object2,
+            number: right,
+        };
+        let i = j + right;
         let m = take_pair(
             question,
             bodies,
@@ -216,10 +357,8 @@ fn meet_row(
             at,
             depth,
             number,
-            kind,
-            channel,
-            kind2,
-            channel2,
+            a,
+            b,
             i,
             x,
             area,
@@ -272,6 +411,7 @@ pub fn meet(
             x,
             rows,
             row,
+            row - first,
             middle,
             last,
             j,

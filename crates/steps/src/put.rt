@@ -4,6 +4,7 @@ ghost use Prim.Native.Nat.{_*_, _≤_, _<_};
 ghost use lib.ListN.{length};
 ghost use Rattle.terms.specs.Limits.{nameCount, longestTerm};
 ghost use Rattle.steps.specs.Limits.{stepBytes, mostSteps};
+ghost use Rattle.steps.specs.Locating.{PutMetIs};
 ghost use Rattle.steps.specs.PartLister.{NamesAre, ResultIs};
 ghost use Rattle.steps.specs.Tally.{TallyIs, BodiesTallied};
 ghost use Rattle.steps.specs.Walking.{PutResultIs, PutPlacedIs, PutClassedIs};
@@ -11,10 +12,12 @@ use crate::limits::MOST_STEPS;
 use crate::listed::ActionBytes;
 use crate::listed::entry_of;
 use crate::listed::insert;
+use crate::locate::Located;
 use crate::names::NAME_SLOTS;
 use crate::result::Task;
 use crate::result::write;
 use crate::splice::own_names;
+use crate::splice::write_met;
 use crate::splice::write_placed;
 use terms::bytes::copy;
 use terms::limits::LONGEST_TERM;
@@ -153,5 +156,31 @@ pub fn put_placed(
         &mut result,
     );
     let class = own_names(0);
+    put_result(&class, action, &result, n, area, count)
+}
+
+// Puts the communication of two components into the list, one of which receives the name in the slot `new`: [Com]. Its condition merges nothing.
+pub fn put_met(
+    question: &[u8],
+    bodies: &[u32],
+    part: &[u8],
+    tally: &[u32],
+    left: Located,
+    right: Located,
+    new: u8,
+    area: &mut [u8],
+    count: usize,
+) -> usize
+    requires { ⌜ (count ≤ mostSteps) × (mostSteps * stepBytes ≤ length (now area)) × (length (now part) ≤ longestTerm) × (left .depth ≤ left .at) × (left .at ≤ length (now part)) × (right .depth ≤ right .at) × (right .at ≤ length (now part)) × TallyIs (now question) (now part) 1 (now tally) × BodiesTallied (now question) (now bodies) ⌝ }
+    ensures { λ r. ⌜ PutMetIs (now (question .entry)) (now (part .entry)) left right new (now (area .entry)) count r (now (area .exit)) ⌝ }
+{
+    let mut result = [0u8; LONGEST_TERM];
+    let n = write_met(question, bodies, part, tally, left, right, new, &mut result);
+    let class = own_names(0);
+    let action = ActionBytes {
+        kind: 0,
+        channel: 0,
+        object: 0,
+    };
     put_result(&class, action, &result, n, area, count)
 }

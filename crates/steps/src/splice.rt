@@ -1,11 +1,13 @@
-// The result of a step that one component of a part makes: the bytes around the component stay, and only its own result is written.
+// The result of a step that one component of a part makes, or two that communicate: the bytes around stay, and only their own results are written.
 ghost use mathlib.Core.Path.{_≡_};
 ghost use Prim.Native.Nat.{_≤_, _<_};
 ghost use lib.ListN.{length};
 ghost use Rattle.terms.specs.Limits.{longestTerm};
+ghost use Rattle.steps.specs.Locating.{HoleIs, MetResultIs};
 ghost use Rattle.steps.specs.Names.{mostBinders, OwnNames};
 ghost use Rattle.steps.specs.Tally.{TallyIs, BodiesTallied};
 ghost use Rattle.steps.specs.Walking.{PlacedResultIs};
+use crate::locate::Located;
 use crate::names::NAME_SLOTS;
 use crate::result::Task;
 use crate::result::write;
@@ -74,6 +76,94 @@ pub fn write_placed(
     if room(LONGEST_TERM, put, n) {
         copy(part, end, n, out, put);
         return put + n;
+    }
+    LONGEST_TERM + 1
+}
+
+// The part's bytes from `from` up to a component, and the result of its candidate, where `new` is received. The answer is where the bytes end, or past
+// the end of `out` where there is no room.
+fn write_hole(
+    question: &[u8],
+    bodies: &[u32],
+    part: &[u8],
+    tally: &[u32],
+    from: usize,
+    hole: Located,
+    new: u8,
+    out: &mut [u8],
+    put: usize,
+) -> usize
+    requires { ⌜ (hole .depth ≤ hole .at) × (hole .at ≤ length (now part)) × (length (now part) ≤ longestTerm) × (length (now out) ≡ longestTerm) × (put ≤ longestTerm) × TallyIs (now question) (now part) 1 (now tally) × BodiesTallied (now question) (now bodies) ⌝ }
+    ensures { λ r. ⌜ HoleIs (now (question .entry)) (now (part .entry)) from hole new (now (out .entry)) put r (now (out .exit)) ⌝ }
+{
+    let at = hole.at;
+    let levels = hole.depth;
+    if at < from {
+        return LONGEST_TERM + 1;
+    }
+    let n = at - from;
+    if !room(LONGEST_TERM, put, n) {
+        return LONGEST_TERM + 1;
+    }
+    let e = put + n;
+    if e < levels {
+        return LONGEST_TERM + 1;
+    }
+    copy(part, from, n, out, put);
+    let task = Task {
+        new,
+        levels,
+        calls: 1,
+        still: false,
+        silently: false,
+        number: hole.number,
+    };
+    let mut names = own_names(levels);
+    write(
+        question,
+        bodies,
+        part,
+        tally,
+        at,
+        levels,
+        task,
+        &mut names,
+        out,
+        e,
+    )
+}
+
+// The part with the results of two components that communicate in their places: [Com]. The answer is as above.
+pub fn write_met(
+    question: &[u8],
+    bodies: &[u32],
+    part: &[u8],
+    tally: &[u32],
+    left: Located,
+    right: Located,
+    new: u8,
+    out: &mut [u8],
+) -> usize
+    requires { ⌜ (left .depth ≤ left .at) × (left .at ≤ length (now part)) × (right .depth ≤ right .at) × (right .at ≤ length (now part)) × (length (now part) ≤ longestTerm) × (length (now out) ≡ longestTerm) × TallyIs (now question) (now part) 1 (now tally) × BodiesTallied (now question) (now bodies) ⌝ }
+    ensures { λ r. ⌜ MetResultIs (now (question .entry)) (now (part .entry)) left right new (now (out .entry)) r (now (out .exit)) ⌝ }
+{
+    let m = write_hole(question, bodies, part, tally, 0, left, new, out, 0);
+    if LONGEST_TERM < m {
+        return m;
+    }
+    let from = end_at(tally, left.at);
+    let e = write_hole(question, bodies, part, tally, from, right, new, out, m);
+    if LONGEST_TERM < e {
+        return e;
+    }
+    let end = end_at(tally, right.at);
+    if part.len() < end {
+        return LONGEST_TERM + 1;
+    }
+    let n = part.len() - end;
+    if room(LONGEST_TERM, e, n) {
+        copy(part, end, n, out, e);
+        return e + n;
     }
     LONGEST_TERM + 1
 }

@@ -23,6 +23,9 @@ sub-width c = search needs
 loop-holds : tie.Need-loop-holds Inv-loop μ-loop
 loop-holds c = (c .before .before .before .before .before .before .pre .0, refl, search needs, search needs, search needs, met-start (c .before .before .before .before .before .before .args .question .now) (c .before .before .before .before .before .before .args .part .now) (c .before .before .before .before .before .before .args .at) (c .before .before .before .before .before .before .args .depth) (c .before .before .before .before .before .before .args .number) (c .before .before .before .before .before .before .args .before) (c .before .before .before .before .before .before .args .x) (c .before .before .before .before .before .before .args .rows .now) (c .before .before .before .before .before .before .args .first) (c .before .before .before .before .before .before .args .middle) (c .before .before .before .before .before .before .args .last) (c .before .before .before .before .before .before .args .area .now) (c .before .before .before .before .before .before .args .count) (c .before .before .before .before .before .before .pre .0))
 
+sub-meet-row : tie.Need-sub-meet-row Inv-loop μ-loop
+sub-meet-row c = search needs
+
 meet-row-requires : tie.Need-meet-row-requires Inv-loop μ-loop
 meet-row-requires c κs = (c .before .before .loop .inv .0, search needs, c .before .before .before .before .before .before .before .before .before .pre .2, c .before .before .before .before .before .before .before .before .before .pre .3, c .before .before .before .before .before .before .before .before .before .pre .4, c .before .before .before .before .before .before .before .before .before .pre .5, c .before .before .before .before .before .before .before .before .before .pre .6, search needs, c .before .before .before .before .before .before .before .before .before .pre .8, c .before .before .before .before .before .before .before .before .before .pre .9, c .before .before .before .before .before .before .before .before .before .pre .10, search needs)
 
@@ -58,6 +61,7 @@ meet-spec =
     μ-loop
     sub-width
     loop-holds
+    sub-meet-row
     meet-row-requires
     same-length
     returns
