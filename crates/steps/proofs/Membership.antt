@@ -3,8 +3,8 @@ use mathlib.Core.List.{List, [], _∷_, _++_, map}
 use mathlib.Core.Logic.{_⊎_, inl, inr}
 use mathlib.Core.Path.{_≡_, refl, sym, _∙_, ap, subst}
 use native.Mathlib.Omega.{arith}
-use Prim.Native.Nat.{ℕ, zero, suc, _≤_}
-use lib.ListN.{length, take}
+use Prim.Native.Nat.{ℕ, zero, suc, _<_, _≤_}
+use lib.ListN.{length, getD, take}
 use Rattle.steps.specs.Lists.{_∈_, Among, All, Distinct}
 
 module _ {A : Type 0} where
@@ -24,6 +24,11 @@ module _ {A : Type 0} where
       go : (x ∈ xs) ⊎ (x ∈ ys) → (x ∈ (y ∷ xs)) ⊎ (x ∈ ys)
       go (inl n) = inl (inr n)
       go (inr n) = inr n
+
+  pub ∈-nth : (xs : List A) (i : ℕ) (d : A) → i < length xs → getD xs i d ∈ xs
+  ∈-nth [] i d h = absurd (omega arith)
+  ∈-nth (x ∷ xs) zero d h = inl refl
+  ∈-nth (x ∷ xs) (suc i) d h = inr (∈-nth xs i d (omega arith))
 
   pub within-either : (xs ys zs : List A) → Among xs zs → Among ys zs → Among (xs ++ ys) zs
   within-either xs ys zs h k x m = go (∈-either x xs ys m)

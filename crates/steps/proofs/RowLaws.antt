@@ -2,6 +2,7 @@
 use mathlib.Core.Path.{_≡_, refl, sym, ap, ap₂, subst, _∙_}
 use mathlib.Core.Bool.{Bool, true, false, cond, _&&_}
 use mathlib.Core.List.{List, [], _++_, map, append-assoc}
+use mathlib.Core.Logic.{_⊎_, inl, inr, ⊎-elim}
 use Prim.Native.Nat.{ℕ, zero, suc, _+_, _-_, _*_, _<_, _≤_}
 use native.Mathlib.Omega.{arith}
 use lib.ListN.{length, getD, take, length-append, length-map, List·getD-append}
@@ -12,15 +13,15 @@ use Rattle.calculus.specs.Abstraction.{Act, tauA, inpA, outA, boutA, swap, weak
 use Rattle.calculus.specs.Term.{Term, par, res, ren}
 use Rattle.terms.specs.Limits.{nameCount}
 use Rattle.steps.specs.Labels.{actionOf, ActionBelow}
-use Rattle.steps.specs.Raw.{Candidate, step, blocked, leftSteps, rightSteps, sparesRestricted, restrictedAction, restricted, visible, visibleOf}
+use Rattle.steps.specs.Raw.{Candidate, step, blocked, matching, leftSteps, rightSteps, sparesRestricted, restrictedAction, restricted, visible, visibleOf}
 use Rattle.steps.specs.Lists.{_∈_, Among}
 use Rattle.steps.specs.Rows.{rowBytes, kindAt, channelAt, objectAt, rowAction, Outlined, Row, RowsBehind, Rows, Unknown, RowsKept}
 use Rattle.steps.specs.Slots.{slotOf}
 use Rattle.steps.specs.declared.action.Action.{Action}
 use Rattle.steps.specs.declared.action.Action.the-variants.{Silent, Input, Output, NewOutput}
-use Rattle.steps.proofs.Membership.{∈-left, ∈-right, ∈-map, take-map, within-either}
+use Rattle.steps.proofs.Membership.{∈-left, ∈-right, ∈-nth, ∈-map, take-map, within-either}
 use Rattle.steps.proofs.NameSlots.{slot-inner}
-use Rattle.steps.proofs.Numbering.{nth-leftSteps, nth-rightSteps, nth-restricted}
+use Rattle.steps.proofs.Numbering.{nth-matching, nth-leftSteps, nth-rightSteps, nth-restricted}
 use Rattle.steps.proofs.SlotLaws.{slot-restricted, slot-outside}
 
 -- The action of a row.
@@ -153,9 +154,15 @@ module _ (d kind channel object : ℕ) where
 
 -- The rows of a list of candidates, behind others.
 module _ (rows : List ℕ) (n d : ℕ) where
-  pub rows-unknown : (before cs : List Candidate) → Unknown (length cs) rows n → RowsBehind before d cs rows n
-  unfolding RowsBehind Row Unknown
+  pub rows-unknown : (before cs : List Candidate) → ((j : ℕ) → j < length cs → kindAt rows (n + j) ≡ 0) → RowsBehind before d cs rows n
+  unfolding RowsBehind Row
   rows-unknown before cs u j h = (λ known new. absurd (known (u j h)), λ e. absurd (omega (arith, u j h)))
+
+  -- candidates that all come earlier
+  pub rows-again : (before cs : List Candidate) → Among cs before → ((j : ℕ) → j < length cs → kindAt rows (n + j) ≡ 4) → RowsBehind before d cs rows n
+  unfolding RowsBehind Row
+  rows-again before cs m u j h =
+      (λ known new. absurd (new (u j h)), λ e. ∈-left (getD cs j blocked) before (take j cs) (m (getD cs j blocked) (∈-nth cs j blocked h)))
 
   -- behind more of them
   pub rows-more : (before before′ cs : List Candidate) → Among before before′ → RowsBehind before d cs rows n → RowsBehind before′ d cs rows n
@@ -193,27 +200,36 @@ module _ (rows : List ℕ) (n d : ℕ) where
           (subst (λ (i : ℕ). One (getD qs (j - length ps) blocked) ((before ++ ps) ++ take (j - length ps) qs) i) p (g (j - length ps) (omega (arith, length-append ps qs)))))
 
   -- A rule with one premise, from rows under d₁ restrictions.
-  by-rule : (d₁ : ℕ) (f : Candidate → Candidate) → ((kind channel object : ℕ) (c : Candidate) → Outlined d₁ c kind channel object → Outlined d (f c) kind channel object)
-      → (cs : List Candidate) → ((i : ℕ) → getD (map f cs) i blocked ≡ f (getD cs i blocked)) → Rows d₁ cs rows n → Rows d (map f cs) rows n
+  by-rule : (d₁ : ℕ) (f : Candidate → Candidate) (cs : List Candidate)
+      → ((j : ℕ) → j < length cs → (kindAt rows (n + j) ≡ 0 → ⊥) → (kindAt rows (n + j) ≡ 4 → ⊥)
+      → (c : Candidate) → Outlined d₁ c (kindAt rows (n + j)) (channelAt rows (n + j)) (objectAt rows (n + j))
+      → Outlined d (f c) (kindAt rows (n + j)) (channelAt rows (n + j)) (objectAt rows (n + j)))
+      → ((i : ℕ) → getD (map f cs) i blocked ≡ f (getD cs i blocked)) → Rows d₁ cs rows n → Rows d (map f cs) rows n
   unfolding RowsBehind Row
-  by-rule d₁ f keeps cs nth r j h =
+  by-rule d₁ f cs keeps nth r j h =
       let l : j < length cs = omega (arith, length-map cs f) in (
         λ known new.
             subst (λ (c : Candidate). Outlined d c (kindAt rows (n + j)) (channelAt rows (n + j)) (objectAt rows (n + j))) (sym (nth j))
-            (keeps _ _ _ (getD cs j blocked) (r j l .0 known new)),
+            (keeps j l known new (getD cs j blocked) (r j l .0 known new)),
         λ e.
             subst (λ (c : Candidate). c ∈ take j (map f cs)) (sym (nth j))
             (subst (λ (l : List Candidate). f (getD cs j blocked) ∈ l) (sym (take-map f j cs)) (∈-map f (getD cs j blocked) (take j cs) (r j l .1 e))),
       )
 
   pub rows-left : (Q : Term) (cs : List Candidate) → Rows d cs rows n → Rows d (map (leftSteps Q) cs) rows n
-  rows-left Q cs = by-rule d (leftSteps Q) (λ k a o. outlined-left d k a o Q) cs (nth-leftSteps Q cs)
+  rows-left Q cs = by-rule d (leftSteps Q) cs (λ j h known new. outlined-left d _ _ _ Q) (nth-leftSteps Q cs)
 
   pub rows-right : (P : Term) (cs : List Candidate) → Rows d cs rows n → Rows d (map (rightSteps P) cs) rows n
-  rows-right P cs = by-rule d (rightSteps P) (λ k a o. outlined-right d k a o P) cs (nth-rightSteps P cs)
+  rows-right P cs = by-rule d (rightSteps P) cs (λ j h known new. outlined-right d _ _ _ P) (nth-rightSteps P cs)
 
   pub rows-restricted : (cs : List Candidate) → Rows (1 + d) cs rows n → Rows d (map restricted cs) rows n
-  rows-restricted cs = by-rule (1 + d) restricted (λ k a o. outlined-restricted d k a o) cs (nth-restricted cs)
+  rows-restricted cs = by-rule (1 + d) restricted cs (λ j h known new. outlined-restricted d _ _ _) (nth-restricted cs)
+
+  -- [Match]
+  pub rows-matching : (a b : ℕ) (cs : List Candidate) → Unknown (length cs) rows n → Rows d cs rows n → Rows d (map (matching a b) cs) rows n
+  unfolding Unknown
+  rows-matching a b cs u =
+      by-rule d (matching a b) cs (λ j h known new. absurd (⊎-elim known new (u j h))) (nth-matching a b cs)
 
 -- The rows of a parallel, and those of a restriction.
 module _ (body : ℕ → Term) (calls : ℕ) (rows : List ℕ) (n d : ℕ) where
@@ -242,13 +258,14 @@ unfolding RowsKept
 kept-then n m rows rows₁ rows₂ h f g k l = g k (omega arith) ∙ f k l
 
 module _ (m : ℕ) (rows rows′ : List ℕ) (kept : RowsKept m rows rows′) where
-  kind-kept : (i : ℕ) → i < m → kindAt rows′ i ≡ kindAt rows i
+  pub kind-kept : (i : ℕ) → i < m → kindAt rows′ i ≡ kindAt rows i
   unfolding RowsKept kindAt
   kind-kept i h = kept (rowBytes * i) (omega arith)
 
   pub unknown-kept : (count n : ℕ) → n + count ≤ m → Unknown count rows n → Unknown count rows′ n
   unfolding Unknown
-  unknown-kept count n h u j l = kind-kept (n + j) (omega arith) ∙ u j l
+  unknown-kept count n h u j l =
+      let e = kind-kept (n + j) (omega arith) in ⊎-elim (λ z. inl (e ∙ z)) (λ z. inr (e ∙ z)) (u j l)
 
   pub rows-kept : (before : List Candidate) (d n : ℕ) (cs : List Candidate) → n + length cs ≤ m → RowsBehind before d cs rows n → RowsBehind before d cs rows′ n
   unfolding RowsBehind Row RowsKept channelAt objectAt

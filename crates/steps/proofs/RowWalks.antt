@@ -2,10 +2,11 @@
 use mathlib.Core.Path.{_≡_, refl, sym, ap, ap₂, subst, _∙_}
 use mathlib.Core.Bool.{Bool, true, false}
 use mathlib.Core.List.{List, [], _∷_, _++_, map, append-nil}
-use mathlib.Core.Logic.{inl}
+use mathlib.Core.Logic.{_⊎_, inl, inr, ⊎-elim}
 use Prim.Native.Nat.{ℕ, suc, _+_, _-_, _*_, _<_, _≤_}
+use native.Mathlib.Nat.{eq-or-lt-of-le}
 use native.Mathlib.Omega.{arith}
-use lib.ListN.{length, getD, set, take, drop, length-append, length-map, length-set}
+use lib.ListN.{length, getD, set, drop, length-append, length-map, length-set}
 use lib.Seq.{getD-set-same, getD-set-other}
 use lib.Dec.{ltb}
 use borrow.Author.Tests.{ltb-true, ltb-false, eq-eqb, ne-eqb}
@@ -20,12 +21,12 @@ use Rattle.steps.specs.Bodies.{BodyIs, OpeningIs}
 use Rattle.steps.specs.Labels.{actionOf, ActionBelow}
 use Rattle.steps.specs.LabelWalk.{slotAt, HasSlots, ArgumentsIs}
 use Rattle.steps.specs.Listing.{bodyOf}
-use Rattle.steps.specs.Lists.{_∈_, Among}
+use Rattle.steps.specs.Lists.{Among}
 use Rattle.steps.specs.Passing.{candidates, MiddleIs}
 use Rattle.steps.specs.Raw.{Candidate, step, blocked, matching, leftSteps, rightSteps, restricted, visible, visibleOf, visibleCalls}
-use Rattle.steps.specs.Rows.{rowBytes, mostRows, kindAt, channelAt, objectAt, rowAction, Outlined, Row, RowsBehind, Rows, Unknown, RowsKept, PutRowIs, sentSlot, PrefixRowIs, Offers, rootOf, RepeatedIs, ScanIs}
+use Rattle.steps.specs.Rows.{rowBytes, mostRows, kindAt, channelAt, objectAt, rowAction, Outlined, Row, RowsBehind, Rows, Unknown, RowsKept, PutRowIs, PutRepeatedIs, sentSlot, PrefixRowIs, Offers, rootOf, RepeatedIs, ScanIs}
 use Rattle.steps.specs.Slots.{slotOf}
-use Rattle.steps.specs.Tally.{TallyIs}
+use Rattle.steps.specs.Tally.{visibleAt, TallyIs}
 use Rattle.steps.specs.declared.action.Action.the-variants.{Input, Output, NewOutput}
 use Rattle.steps.specs.declared.bodies.Opening.{Opening}
 use Rattle.steps.proofs.ArgumentSlots.{slots-lift, slot-read, slots-call}
@@ -33,8 +34,7 @@ use Rattle.steps.proofs.CallLaws.{params, at-call, body-scope}
 use Rattle.steps.proofs.CandidateForms.{candidates-call, tag, tag-at, only-mat, only-res, only-two, only-prefix}
 use Rattle.steps.proofs.ChoiceLaws.{offers-alone, offers-left, offers-right}
 use Rattle.steps.proofs.FrontLaws.{stands, behind}
-use Rattle.steps.proofs.Membership.{∈-left}
-use Rattle.steps.proofs.RowLaws.{row-input, row-output, row-new, rows-unknown, rows-more, rows-append, rows-par, rows-res, rows-kept, unknown-kept, kept-all, kept-then}
+use Rattle.steps.proofs.RowLaws.{row-input, row-output, row-new, rows-unknown, rows-again, rows-more, rows-append, rows-matching, rows-par, rows-res, kind-kept, rows-kept, unknown-kept, kept-all, kept-then}
 use Rattle.steps.proofs.SlotLaws.{slot-below}
 use Rattle.steps.proofs.TwoSides.{at-left}
 use Rattle.steps.proofs.TwoSides as two
@@ -47,12 +47,12 @@ unknown-both : (rows : List ℕ) (n a b : ℕ) → Unknown a rows n → Unknown 
 unfolding Unknown
 unknown-both rows n a b f g j h = go (ltb j a) refl
   where
-    go : (t : Bool) → ltb j a ≡ t → kindAt rows (n + j) ≡ 0
+    go : (t : Bool) → ltb j a ≡ t → (kindAt rows (n + j) ≡ 0) ⊎ (kindAt rows (n + j) ≡ 4)
     go true t = f j (ltb-true j a t)
     go false t =
         let l = ltb-false j a t in
-        let e : n + j ≡ n + a + (j - a) = omega arith in
-        ap (kindAt rows) e ∙ g (j - a) (omega arith)
+        let e : n + a + (j - a) ≡ n + j = omega arith in
+        subst (λ (i : ℕ). (kindAt rows i ≡ 0) ⊎ (kindAt rows i ≡ 4)) e (g (j - a) (omega arith))
 
 -- How many candidates a restriction, a choice and a parallel have.
 module _ (body : ℕ → Term) (calls : ℕ) where
@@ -104,6 +104,22 @@ module _ (kind channel object n : ℕ) (rows : List ℕ) where
         );
       }
 
+-- So many rows of kind 4.
+module _ (n : ℕ) (rows₀ : List ℕ) (below : n ≤ mostRows + 1) where
+  pub repeated-start : PutRepeatedIs 0 n rows₀ n rows₀
+  repeated-start = record { on = omega arith; inside = below; kept = kept-all n rows₀; is = λ h. (omega arith, λ j l. absurd (omega arith)) }
+
+  pub repeated-more : (i m : ℕ) (rows₁ : List ℕ) → PutRepeatedIs i n rows₀ m rows₁ → (r : ℕ) (rows′ : List ℕ) → PutRowIs 4 0 0 m rows₁ r rows′ → PutRepeatedIs (i + 1) n rows₀ r rows′
+  repeated-more i m rows₁ S r rows′ R = record {
+    on = let x = S .on in let y = R .on in omega arith;
+    inside = R .inside;
+    kept = kept-then n m rows₀ rows₁ rows′ (S .on) (S .kept) (R .kept);
+    is = λ h.
+        let (e, u) = S .is (omega arith) in
+        let w = R .is (omega arith) in
+        (omega (arith, w .0), λ j l. ⊎-elim (λ z. ap (kindAt rows′) (omega arith) ∙ w .1) (λ z. kind-kept m rows₁ rows′ (R .kept) (n + j) (omega arith) ∙ u j z) (eq-or-lt-of-le {n = j} {m = i} (omega arith)));
+  }
+
 -- The row of a prefix, by its bytes.
 module _ (s : List ℕ) (at : ℕ) (args : List ℕ) (inner depth t channel object : ℕ) (a : t ≡ getD s at 0) (b : channel ≡ slotAt args inner depth (getD s (at + 1) 0)) (n : ℕ) (rows : List ℕ) (r : ℕ)
     (rows′ : List ℕ) (R : PutRowIs (t - 1) channel object n rows r rows′) where
@@ -135,8 +151,7 @@ module _ (t root at : ℕ) where
 
 -- One row.
 module _ (d kind channel object : ℕ) (rows : List ℕ) (n : ℕ) (k : kindAt rows n ≡ kind) where
-  one-unknown : kind ≡ 0 → Unknown 1 rows n
-  unfolding Unknown
+  one-unknown : kind ≡ 0 → (j : ℕ) → j < 1 → kindAt rows (n + j) ≡ 0
   one-unknown z j h = let e : n + j ≡ n = omega arith in ap (kindAt rows) e ∙ k ∙ z
 
   one-row : channelAt rows n ≡ channel → objectAt rows n ≡ object → (before : List Candidate) (c : Candidate) → Outlined d c kind channel object
@@ -151,16 +166,6 @@ module _ (d kind channel object : ℕ) (rows : List ℕ) (n : ℕ) (k : kindAt r
             (subst (λ (i : ℕ). Outlined d (getD (c ∷ []) i blocked) (kindAt rows n) (channelAt rows n) (objectAt rows n)) (sym z)
             (rw (k, a, o) O)),
         λ f. absurd (omega (arith, ap (kindAt rows) e ∙ f)),
-      )
-
-  -- of a candidate that comes earlier too
-  one-again : kind ≡ 4 → (before : List Candidate) (c : Candidate) → c ∈ before → RowsBehind before d (c ∷ []) rows n
-  unfolding RowsBehind Row
-  one-again f before c m j h =
-      let z : j ≡ 0 = omega arith in
-      let e : n + j ≡ n = omega arith in (
-        λ known new. absurd (new (ap (kindAt rows) e ∙ k ∙ f)),
-        λ _. ∈-left (getD (c ∷ []) j blocked) before (take j (c ∷ [])) (subst (λ (i : ℕ). getD (c ∷ []) i blocked ∈ before) (sym z) m),
       )
 
 -- The candidate of a visible prefix.
@@ -187,7 +192,7 @@ module _ (question s : List ℕ) (root at : ℕ) (asked : Bool) (args : List ℕ
   Stands before q free D σ rest r rows′ P = InScope free (q .arities) D P → drop at s ≡ encode D P ++ rest → Shows before q σ r rows′ P
 
   has-none : (before : List Candidate) → Has before n rows []
-  has-none before = (omega arith, rows-unknown rows n depth before [] (unknown-none rows n), λ e. unknown-none rows n)
+  has-none before = (omega arith, rows-unknown rows n depth before [] (λ j h. absurd (omega arith)), λ e. unknown-none rows n)
 
   -- behind nothing, and so behind anything
   behind-all : (before : List Candidate) (rows′ : List ℕ) (cs : List Candidate) → Rows depth cs rows′ n → RowsBehind before depth cs rows′ n
@@ -219,7 +224,7 @@ module _ (question s : List ℕ) (root at : ℕ) (asked : Bool) (args : List ℕ
   module _ (l : 1 < getD s at 0) (g : getD s at 0 < 5) (r : ℕ) (rows′ : List ℕ) where
     -- beneath a match
     pub scan-asked : PutRowIs 0 0 0 n rows r rows′ → ScanIs question s root at asked args inner depth calls n rows r rows′
-    unfolding visible visibleOf
+    unfolding visible visibleOf Unknown
     scan-asked R = record {
       on = R .on;
       inside = R .inside;
@@ -230,7 +235,7 @@ module _ (question s : List ℕ) (root at : ℕ) (asked : Bool) (args : List ℕ
           λ c h.
           let w = R .is (omega arith) in
           let u = one-unknown depth 0 0 0 rows′ n (w .1) refl in
-          (w .0, rows-unknown rows′ n depth before (c ∷ []) u, λ e. u) in
+          (w .0, rows-unknown rows′ n depth before (c ∷ []) u, λ e j h. inl (u j h)) in
           only-prefix (λ (P : Term). 1 < tag P → Shows before q σ r rows′ P)
           (λ h. absurd (omega arith)) (λ P h. absurd (omega arith)) (λ a P h. one _) (λ a b P h. one _) (λ a P h. one _)
           P (omega arith) (omega arith);
@@ -273,28 +278,21 @@ module _ (question s : List ℕ) (root at : ℕ) (asked : Bool) (args : List ℕ
         clash : asked ≡ true → ⊥
         clash e = let z : _≡_ {A = ℕ} 0 1 = cc in omega arith
 
-    -- a branch that the choice has before
-    pub scan-again : asked ≡ false → RepeatedIs question s root at true → PutRowIs 4 0 0 n rows r rows′ → ScanIs question s root at asked args inner depth calls n rows r rows′
-    unfolding visible visibleOf
-    scan-again f again R = record {
-      on = R .on;
-      inside = R .inside;
-      kept = R .kept;
-      is = λ q free D σ P rest before ok few has scope st o.
-          let k = tag-at s at D P rest st in
-          let there = again .is q calls free D σ P rest before refl ok few scope st (λ e. omega arith) o in
-          let one : (c : Candidate) → c ∈ before → n + 1 ≤ mostRows → Has before r rows′ (c ∷ []) =
-          λ c m h.
-          let w = R .is (omega arith) in
-          (w .0, one-again depth 4 0 0 rows′ n (w .1) refl before c m, λ e. absurd (clash e)) in
-          only-prefix (λ (P : Term). 1 < tag P → Among (seen q σ P) before → Shows before q σ r rows′ P)
-          (λ h m. absurd (omega arith)) (λ P h m. absurd (omega arith))
-          (λ a P h m. one _ (m _ (inl refl))) (λ a b P h m. one _ (m _ (inl refl))) (λ a P h m. one _ (m _ (inl refl)))
-          P (omega arith) (omega arith) there;
-    }
-      where
-        clash : asked ≡ true → ⊥
-        clash e = let z : _≡_ {A = ℕ} 0 1 = cc in omega arith
+  -- a branch that the choice has before
+  pub scan-again : (getD s at 0 ≡ 6 → ⊥) → (numbers : List ℕ) → TallyIs question s calls numbers → RepeatedIs question s root at true → (m : ℕ) → m ≡ visibleAt numbers at
+      → (r : ℕ) (rows′ : List ℕ) → PutRepeatedIs m n rows r rows′ → ScanIs question s root at asked args inner depth calls n rows r rows′
+  unfolding Unknown
+  scan-again g numbers T again m c r rows′ R = record {
+    on = R .on;
+    inside = R .inside;
+    kept = R .kept;
+    is = λ q free D σ P rest before ok few has scope st o h.
+        let cs = seen q σ P in
+        let many : m ≡ length (seen q σ P) = c ∙ T .is q at free D σ P rest ok scope st .0 in
+        let (e, u) = R .is (omega arith) in
+        let u′ : (j : ℕ) → j < length (seen q σ P) → kindAt rows′ (n + j) ≡ 4 = λ j l. u j (omega arith) in
+        (e ∙ ap (λ (k : ℕ). n + k) many, rows-again rows′ n depth before cs (again .is q calls free D σ P rest before refl ok few scope st g o) u′, λ _ j l. inr (u′ j l));
+  }
 
   -- [Match]
   pub scan-mat : getD s at 0 ≡ 5 → (r : ℕ) (rows′ : List ℕ) → ScanIs question s (at + 3) (at + 3) true args inner depth calls n rows r rows′ → ScanIs question s root at asked args inner depth calls n rows r rows′
@@ -309,7 +307,7 @@ module _ (question s : List ℕ) (root at : ℕ) (asked : Bool) (args : List ℕ
         let m : length (map (matching (σ a) (σ b)) cs) ≡ length cs = length-map cs (matching (σ a) (σ b)) in
         let w = X .is q free D σ P rest [] ok few has (scope .2) (behind s at 3 (5 ∷ nameByte D a ∷ nameByte D b ∷ []) (encode D P ++ rest) st refl) (offers-alone (bodyOf (q .bodies)) calls (q .arities) free D σ s [] (at + 3)) (omega arith) in
         let u : Unknown (length (map (matching (σ a) (σ b)) cs)) rows′ n = rw m (w .2 refl) in
-        (w .0 ∙ omega arith, rows-unknown rows′ n depth before (map (matching (σ a) (σ b)) cs) u, λ e. u))
+        (w .0 ∙ omega arith, behind-all before rows′ _ (rows-matching rows′ n depth (σ a) (σ b) cs (w .2 refl) (w .1)), λ e. u))
         P (sym (tag-at s at D P rest st) ∙ g) scope st;
   }
 

@@ -3,6 +3,7 @@
 use mathlib.Core.Path.{_≡_}
 use mathlib.Core.Bool.{Bool, true, cond, _&&_}
 use mathlib.Core.List.{List, [], _∷_, _++_}
+use mathlib.Core.Logic.{_⊎_}
 use Prim.Native.Nat.{ℕ, _+_, _-_, _*_, _<_, _≤_}
 use lib.ListN.{length, getD, take, drop}
 use lib.Dec.{eqb, ltb}
@@ -64,9 +65,9 @@ RowsBehind before d cs rows n =
 abbrev pub Rows : ℕ → List Candidate → List ℕ → ℕ → Type 0
 Rows = RowsBehind []
 
--- So many rows from number n on say nothing.
+-- So many rows from number n on say nothing of what their candidates do.
 unfoldable pub Unknown : ℕ → List ℕ → ℕ → Type 0
-Unknown count rows n = (j : ℕ) → j < count → kindAt rows (n + j) ≡ 0
+Unknown count rows n = (j : ℕ) → j < count → (kindAt rows (n + j) ≡ 0) ⊎ (kindAt rows (n + j) ≡ 4)
 
 -- The rows before number n are as they were.
 unfoldable pub RowsKept : ℕ → List ℕ → List ℕ → Type 0
@@ -78,6 +79,13 @@ pub record PutRowIs (kind channel object n : ℕ) (rows : List ℕ) (r : ℕ) (r
   pub inside : r ≤ mostRows + 1
   pub kept : RowsKept n rows rows′
   pub is : n < mostRows → (r ≡ n + 1) × (kindAt rows′ n ≡ kind) × (channelAt rows′ n ≡ channel) × (objectAt rows′ n ≡ object)
+
+-- So many rows of kind 4 put, while there is room.
+pub record PutRepeatedIs (count n : ℕ) (rows : List ℕ) (r : ℕ) (rows′ : List ℕ) : Type 0 where
+  pub on : n ≤ r
+  pub inside : r ≤ mostRows + 1
+  pub kept : RowsKept n rows rows′
+  pub is : n + count ≤ mostRows → (r ≡ n + count) × ((j : ℕ) → j < count → kindAt rows′ (n + j) ≡ 4)
 
 -- The slot of the name that the prefix at `at` sends, if it is a free output.
 unfoldable pub sentSlot : List ℕ → ℕ → List ℕ → ℕ → ℕ → ℕ
@@ -126,7 +134,7 @@ pub record RepeatedIs (question s : List ℕ) (root at : ℕ) (r : Bool) : Type 
       → Among (visible (bodyOf (q .bodies)) calls (ren σ P)) before
 
 -- The visible candidates of the term at `at` are put into the rows from number n on, while there is room; the answer is the number behind the last,
--- or one past the last row. Beneath a match, where `asked`, the rows say nothing. The term is `ren σ P`, as in LabelWalk, and stands in the choice that
+-- or one past the last row. Beneath a match, where `asked`, the rows say nothing of an action. The term is `ren σ P`, as in LabelWalk, and stands in the choice that
 -- begins at `root`.
 pub record ScanIs (question s : List ℕ) (root at : ℕ) (asked : Bool) (args : List ℕ) (inner depth calls n : ℕ) (rows : List ℕ) (r : ℕ) (rows′ : List ℕ) : Type 0 where
   pub on : n ≤ r

@@ -6,7 +6,7 @@ ghost use Prim.Native.Nat.{ℕ, _+_, _*_, _≤_, _<_};
 ghost use lib.ListN.{length, getD};
 ghost use Rattle.terms.specs.Limits.{nameCount, longestTerm};
 ghost use Rattle.steps.specs.LabelWalk.{Within};
-ghost use Rattle.steps.specs.Rows.{rowBytes, mostRows, PutRowIs, PrefixRowIs, rootOf, behindPiece, RepeatedIs, ScanIs, QuietIs};
+ghost use Rattle.steps.specs.Rows.{rowBytes, mostRows, PutRowIs, PrefixRowIs, PutRepeatedIs, rootOf, behindPiece, RepeatedIs, ScanIs, QuietIs};
 ghost use Rattle.steps.specs.Slots.{slotCount};
 ghost use Rattle.steps.specs.Tally.{EndsInside, TallyIs, EndsTallied, BodiesTallied};
 use crate::bodies::body_of;
@@ -18,6 +18,7 @@ use crate::pass::middle_of;
 use crate::tally::body_tally;
 use crate::tally::end_at;
 use crate::tally::silent_at;
+use crate::tally::visible_at;
 use terms::bytes::get;
 
 // What a candidate does (1 input, 2 output, 3 new-name output, 0 not known, 4 equal to an earlier one), its channel and its object; the fourth byte
@@ -49,6 +50,20 @@ fn put_row(rows: &mut [u8], n: usize, kind: u8, channel: u8, object: u8) -> usiz
     rows[at + 1] = channel;
     rows[at + 2] = object;
     n + 1
+}
+
+// Puts so many rows of candidates that are equal to earlier ones.
+fn put_repeated(rows: &mut [u8], n: usize, count: usize) -> usize
+    requires { ⌜ (n ≤ mostRows + 1) × (rowBytes * mostRows ≤ length (now rows)) ⌝ }
+    ensures { λ r. ⌜ PutRepeatedIs count n (now (rows .entry)) r (now (rows .exit)) ⌝ }
+{
+    let mut m = n;
+    let mut i = 0;
+    while i < count {
+        m = put_row(rows, m, REPEATED, 0, 0);
+        i += 1;
+    }
+    m
 }
 
 // The row of the visible prefix at `at`.
@@ -160,7 +175,7 @@ fn scan_call(
 
 // Puts the visible candidates of the term at `at` into the rows from number `n` on, and answers the number behind the last. The term stands beneath
 // `inner` restrictions of these bytes and `depth` in all, in the choice that begins at `root`; `args` has the slots of the parameters. Beneath a
-// match, where `asked`, the rows say nothing.
+// match, where `asked`, the rows say nothing but that a candidate is equal to an earlier one.
 pub fn scan(
     question: &[u8],
     bodies: &[u32],
@@ -186,12 +201,14 @@ pub fn scan(
     if t < 2 {
         return n;
     }
+    if t != CHOICE {
+        if is_repeated(src, tally, root, at) {
+            return put_repeated(rows, n, visible_at(tally, at));
+        }
+    }
     if t < 5 {
         if asked {
             return put_row(rows, n, 0, 0, 0);
-        }
-        if is_repeated(src, tally, root, at) {
-            return put_row(rows, n, REPEATED, 0, 0);
         }
         return scan_prefix(src, at, args, inner, depth, rows, n);
     }
