@@ -32,7 +32,7 @@ use Rattle.steps.proofs.CollectLaws.{put-blocked, Progresses, progress-
 use Rattle.steps.proofs.ContextLaws.{raised-blocked, placed-bytes}
 use Rattle.steps.proofs.Membership.{∈-map, take-map}
 use Rattle.steps.proofs.Numbering.{nth-by}
-use Rattle.steps.proofs.RowLaws.{row-act, outlined-left, outlined-right, outlined-restricted}
+use Rattle.steps.proofs.RowLaws.{row-act, plain-step, outlined-left, outlined-right, outlined-restricted}
 use Rattle.steps.proofs.StepEntries.{slot-name, same-action}
 
 -- A row serves outside all restrictions.
@@ -111,13 +111,13 @@ module _ (question part : List ℕ) (at depth : ℕ) (rows : List ℕ) (first j 
   row-again e = record { is = λ q P l K C number p h new row. absurd (new e); over = λ _. (refl, refl) }
 
   module _ (kind channel object : ℕ) (at-kind : kind ≡ kindAt rows (first + j)) (at-channel : channel ≡ channelAt rows (first + j))
-      (at-object : object ≡ objectAt rows (first + j)) (new : kind ≡ 4 → ⊥) (known : kind ≡ 0 → ⊥) where
+      (at-object : object ≡ objectAt rows (first + j)) (new : kind ≡ 4 → ⊥) where
     inside : (c : Candidate) → Row depth c rows (first + j) → Outlined depth c kind channel object
     unfolding Row
     inside c row =
         subst (λ k. Outlined depth c k channel object) (sym at-kind)
         (subst (λ a. Outlined depth c (kindAt rows (first + j)) a object) (sym at-channel)
-        (subst (λ o. Outlined depth c (kindAt rows (first + j)) (channelAt rows (first + j)) o) (sym at-object) (row (λ e. known (at-kind ∙ e)) (λ e. new (at-kind ∙ e)))))
+        (subst (λ o. Outlined depth c (kindAt rows (first + j)) (channelAt rows (first + j)) o) (sym at-object) (row (λ e. new (at-kind ∙ e)))))
 
     outside : (K : List Frame) (c : Candidate) → restrictions K ≡ depth → Row depth c rows (first + j) → Outlined 0 (raised K c) kind channel object
     outside K c e row = outlined-raised K c kind channel object (subst (λ (d : ℕ). Outlined d c kind channel object) (sym e) (inside c row))
@@ -132,9 +132,9 @@ module _ (question part : List ℕ) (at depth : ℕ) (rows : List ℕ) (first j 
           subst (λ d. PutIs d x area count count area) (sym e) (λ found s. put-blocked area room x count found s few);
     }
 
-    module _ (free : channel < nameCount) (r : ℕ) (area′ : List ℕ) where
+    module _ (free : channel < nameCount) (few : kind ≤ 3) (r : ℕ) (area′ : List ℕ) where
       placed : (kind ≡ 2 → object < nameCount) → (action : ActionBytes)
-          → (kind ≤ 3 → (α : Act) → actionOf 0 α ≡ rowAction 0 kind channel object → action ≡ stepAction x [] α)
+          → (0 < kind → (α : Act) → actionOf 0 α ≡ rowAction 0 kind channel object → action ≡ stepAction x [] α)
           → PutPlacedIs question part at depth false j action x area count r area′ → Takes r area′
       unfolding candidates
       placed m action same put = record {
@@ -142,8 +142,8 @@ module _ (question part : List ℕ) (at depth : ℕ) (rows : List ℕ) (first j 
         is = λ q P l K C number p h _ row.
             let c = getD (visible (bodyOf (q .bodies)) 1 C) j blocked in
             let o = outside K c (p .level) row in
-            let (α, A, e, a, b) = o .acts (omega arith) in
-            let (β, B, d, f, g) = inside c row .acts (omega arith) in
+            let (α, A, e, a, b) = plain-step 0 kind channel object (raised K c) few o (omega arith) in
+            let (β, B, d, f, g) = plain-step depth kind channel object c few (inside c row) (omega arith) in
             let z : raised K (step [] β B) ≡ step [] α A = ap (raised K) (sym d) ∙ e in
             subst (λ t. PutIs t x area count r area′) (sym e)
             (put .is q P l K C first number [] α A
@@ -168,10 +168,10 @@ module _ (question part : List ℕ) (at depth : ℕ) (rows : List ℕ) (first j 
               → PutPlacedIs question part at depth false j (record { kind = kind; channel = channel; object = o }) x area count r area′ → Takes r area′
           go true e n o d put =
               let m = leb-false nameCount object n in
-              placed (λ _. m) _ (λ few α a. same-action kind refl d ∙ bytes-free x kind channel object α a (eqb-true kind 2 e) m) put
+              placed (λ _. m) _ (λ some α a. same-action kind refl d ∙ bytes-free x kind channel object α a (eqb-true kind 2 e) m) put
           go false e n o d put =
               let m = eqb-false kind 2 e in
-              placed (λ z. absurd (m z)) _ (λ few α a. same-action kind refl d ∙ bytes-bound x kind channel object α a few known m) put
+              placed (λ z. absurd (m z)) _ (λ some α a. same-action kind refl d ∙ bytes-bound x kind channel object α a few (λ z. omega arith) m) put
 
       pub row-opened : rowOpens kind object ≡ true → (class : List ℕ) → OwnNames 0 class
           → PutClassedIs question part false (first + j) class (record { kind = 3; channel = channel; object = x }) x area count r area′ → Takes r area′
@@ -183,7 +183,7 @@ module _ (question part : List ℕ) (at depth : ℕ) (rows : List ℕ) (first j 
             is = λ q P l K C number p h _ row.
                 let c = getD (visible (bodyOf (q .bodies)) 1 C) j blocked in
                 let o = outside K c (p .level) row in
-                let (α, A, e, a, b) = o .acts (omega arith) in
+                let (α, A, e, a, b) = plain-step 0 kind channel object (raised K c) few o (omega arith) in
                 subst (λ t. PutIs t x area count r area′) (sym e)
                 (put .is q P l [] α A (p .visibly .is j h ∙ e) (λ n h. apart n (omega arith))
                 (bytes-new x kind channel object α a (eqb-true kind 2 m) (leb-true nameCount object k)));

@@ -1,7 +1,7 @@
 -- The communication of two candidates from the kinds and channels of their rows. Assumes nothing.
 use borrow.Author.Tests.{ltb-true, ltb-false, le-ltb, leb-true, leb-false, eqb-true, eqb-false, ne-eqb}
 use mathlib.Core.Bool.{Bool, true, false, cond, not, _&&_}
-use mathlib.Core.List.{List, [], _∷_}
+use mathlib.Core.List.{List, [], _∷_, _++_}
 use mathlib.Core.Logic.{_⊎_, inl, inr, ⊎-elim}
 use mathlib.Core.Path.{_≡_, refl, sym, _∙_, ap, subst}
 use native.Mathlib.Nat.{eq-or-lt-of-le}
@@ -10,14 +10,14 @@ use Prim.Native.Nat.{ℕ, _+_, _*_, _<_, _≤_, min, max}
 use lib.Dec.{eqb, ltb, leb}
 use lib.ListN.{getD}
 use Rattle.calculus.specs.Abstraction.{Act, tauA, inpA, outA, boutA}
-use Rattle.calculus.specs.Cond.{join, cls}
+use Rattle.calculus.specs.Cond.{Cond, join, cls}
 use Rattle.calculus.specs.Term.{Term}
 use Rattle.terms.specs.Limits.{nameCount}
 use Rattle.steps.specs.Contexts.{Frame, raised, restrictions}
 use Rattle.steps.specs.Labels.{actionOf, ActionBelow}
 use Rattle.steps.specs.Meeting.{firstMerged, lastMerged, isBetween, meetsBetween, mayMeet}
 use Rattle.steps.specs.Raw.{Candidate, step, blocked, meet, communication}
-use Rattle.steps.specs.Rows.{rowBytes, kindAt, channelAt, rowAction, Outlined}
+use Rattle.steps.specs.Rows.{rowBytes, kindAt, channelAt, actionKind, rowAction, Does, Outlined}
 use Rattle.steps.specs.Slots.{slotOf}
 use Rattle.steps.specs.Walking.{Trivial}
 use Rattle.steps.specs.declared.action.Action.the-variants.{Input, Output, NewOutput}
@@ -35,86 +35,80 @@ On false a (inpA b) = ⊥
 On false a (outA b y) = a ≡ b
 On false a (boutA b) = a ≡ b
 
--- An input or output without a condition, by the slot of its channel.
-record Visible (d : ℕ) (c : Candidate) (r : Bool) (channel : ℕ) : Type 0 where
+-- An input or output, by the slot of its channel.
+record Visible (d : ℕ) (c : Candidate) (kind : ℕ) (r : Bool) (channel : ℕ) : Type 0 where
   name : ℕ
   below : name < d + nameCount
   slot : slotOf nameCount d name ≡ channel
+  condition : Cond
+  plain : kind ≤ 3 → condition ≡ []
   action : Act
   result : Term
   on : On r name action
-  is : c ≡ step [] action result
+  is : c ≡ step condition action result
 
-module _ (d : ℕ) (c : Candidate) (A : Term) (channel object : ℕ) where
-  input-of : (α : Act) → c ≡ step [] α A → ActionBelow (d + nameCount) α → actionOf d α ≡ Input channel → Visible d c true channel
+module _ (d : ℕ) (c : Candidate) (kind : ℕ) (M : Cond) (few : kind ≤ 3 → M ≡ []) (A : Term) (channel object : ℕ) where
+  input-of : (α : Act) → c ≡ step M α A → ActionBelow (d + nameCount) α → actionOf d α ≡ Input channel → Visible d c kind true channel
   unfolding actionOf ActionBelow
   input-of tauA e b h = let z : _≡_ {A = ℕ} 0 1 = cc in absurd (omega arith)
-  input-of (inpA a) e b h = record { name = a; below = b; slot = cc; action = inpA a; result = A; on = refl; is = e }
+  input-of (inpA a) e b h = record { name = a; below = b; slot = cc; condition = M; plain = few; action = inpA a; result = A; on = refl; is = e }
   input-of (outA a y) e b h = let z : _≡_ {A = ℕ} 0 1 = cc in absurd (omega arith)
   input-of (boutA a) e b h = let z : _≡_ {A = ℕ} 0 1 = cc in absurd (omega arith)
 
-  output-of : (α : Act) → c ≡ step [] α A → ActionBelow (d + nameCount) α → (actionOf d α ≡ Output channel object) ⊎ (actionOf d α ≡ NewOutput channel)
-      → Visible d c false channel
+  output-of : (α : Act) → c ≡ step M α A → ActionBelow (d + nameCount) α → (actionOf d α ≡ Output channel object) ⊎ (actionOf d α ≡ NewOutput channel)
+      → Visible d c kind false channel
   unfolding actionOf ActionBelow
   output-of tauA e b (inl h) = let z : _≡_ {A = ℕ} 0 1 = cc in absurd (omega arith)
   output-of tauA e b (inr h) = let z : _≡_ {A = ℕ} 0 1 = cc in absurd (omega arith)
   output-of (inpA a) e b (inl h) = let z : _≡_ {A = ℕ} 0 1 = cc in absurd (omega arith)
   output-of (inpA a) e b (inr h) = let z : _≡_ {A = ℕ} 0 1 = cc in absurd (omega arith)
-  output-of (outA a y) e b (inl h) = record { name = a; below = b .0; slot = cc; action = outA a y; result = A; on = refl; is = e }
+  output-of (outA a y) e b (inl h) = record { name = a; below = b .0; slot = cc; condition = M; plain = few; action = outA a y; result = A; on = refl; is = e }
   output-of (outA a y) e b (inr h) = let z : _≡_ {A = ℕ} 0 1 = cc in absurd (omega arith)
   output-of (boutA a) e b (inl h) = let z : _≡_ {A = ℕ} 0 1 = cc in absurd (omega arith)
-  output-of (boutA a) e b (inr h) = record { name = a; below = b; slot = cc; action = boutA a; result = A; on = refl; is = e }
+  output-of (boutA a) e b (inr h) = record { name = a; below = b; slot = cc; condition = M; plain = few; action = boutA a; result = A; on = refl; is = e }
 
-visible-of : (d : ℕ) (c : Candidate) (kind channel object : ℕ) → Outlined d c kind channel object → channel < nameCount + d
-    → Visible d c (eqb kind 1) channel
+visible-of : (d : ℕ) (c : Candidate) (kind channel object : ℕ) → Does d kind channel object c → Visible d c kind (eqb (actionKind kind) 1) channel
 unfolding rowAction
-visible-of d c kind channel object o h =
-    let (α, A, e, a, b) = o .acts h in go α A e b (eqb kind 1) (eqb kind 2 && ltb object (nameCount + d)) a
+visible-of d c kind channel object D = go (eqb (actionKind kind) 1) (eqb (actionKind kind) 2 && ltb object (nameCount + d)) (D .acts)
   where
-    go : (α : Act) (A : Term) → c ≡ step [] α A → ActionBelow (d + nameCount) α → (r t : Bool)
-        → actionOf d α ≡ cond r (Input channel) (cond t (Output channel object) (NewOutput channel)) → Visible d c r channel
-    go α A e b true t a = input-of d c A channel object α e b a
-    go α A e b false true a = output-of d c A channel object α e b (inl a)
-    go α A e b false false a = output-of d c A channel object α e b (inr a)
+    go : (r t : Bool) → actionOf d (D .action) ≡ cond r (Input channel) (cond t (Output channel object) (NewOutput channel)) → Visible d c kind r channel
+    go true t a = input-of d c kind (D .condition) (D .plain) (D .result) channel object (D .action) (D .is) (D .below) a
+    go false true a = output-of d c kind (D .condition) (D .plain) (D .result) channel object (D .action) (D .is) (D .below) (inl a)
+    go false false a = output-of d c kind (D .condition) (D .plain) (D .result) channel object (D .action) (D .is) (D .below) (inr a)
 
 -- An input and an output meet, whatever their channels.
-met : (r : Bool) (a b : ℕ) (α β : Act) (A B : Term) → On r a α → On (not r) b β
-    → (C : Term) × (communication (step [] α A) (step [] β B) ≡ step ((a, b) ∷ []) tauA C)
+met : (r : Bool) (a b : ℕ) (M N : Cond) (α β : Act) (A B : Term) → On r a α → On (not r) b β
+    → (C : Term) × (communication (step M α A) (step N β B) ≡ step ((a, b) ∷ (M ++ N)) tauA C)
 unfolding communication meet
-met true a b (inpA a′) (outA b′ y) A B h k = (_, λ i. communication (step [] (inpA (sym h i)) A) (step [] (outA (sym k i) y) B))
-met true a b (inpA a′) (boutA b′) A B h k = (_, λ i. communication (step [] (inpA (sym h i)) A) (step [] (boutA (sym k i)) B))
-met false a b (outA a′ y) (inpA b′) A B h k = (_, λ i. communication (step [] (outA (sym h i) y) A) (step [] (inpA (sym k i)) B))
-met false a b (boutA a′) (inpA b′) A B h k = (_, λ i. communication (step [] (boutA (sym h i)) A) (step [] (inpA (sym k i)) B))
+met true a b M N (inpA a′) (outA b′ y) A B h k = (_, λ i. communication (step M (inpA (sym h i)) A) (step N (outA (sym k i) y) B))
+met true a b M N (inpA a′) (boutA b′) A B h k = (_, λ i. communication (step M (inpA (sym h i)) A) (step N (boutA (sym k i)) B))
+met false a b M N (outA a′ y) (inpA b′) A B h k = (_, λ i. communication (step M (outA (sym h i) y) A) (step N (inpA (sym k i)) B))
+met false a b M N (boutA a′) (inpA b′) A B h k = (_, λ i. communication (step M (boutA (sym h i)) A) (step N (inpA (sym k i)) B))
 
 -- Two inputs do not, nor do two outputs.
-unmet : (r : Bool) (a b : ℕ) (α β : Act) (A B : Term) → On r a α → On r b β → communication (step [] α A) (step [] β B) ≡ blocked
+unmet : (r : Bool) (a b : ℕ) (M N : Cond) (α β : Act) (A B : Term) → On r a α → On r b β → communication (step M α A) (step N β B) ≡ blocked
 unfolding communication meet
-unmet true a b (inpA a′) (inpA b′) A B h k = refl
-unmet false a b (outA a′ y) (outA b′ z) A B h k = refl
-unmet false a b (outA a′ y) (boutA b′) A B h k = refl
-unmet false a b (boutA a′) (outA b′ z) A B h k = refl
-unmet false a b (boutA a′) (boutA b′) A B h k = refl
+unmet true a b M N (inpA a′) (inpA b′) A B h k = refl
+unmet false a b M N (outA a′ y) (outA b′ z) A B h k = refl
+unmet false a b M N (outA a′ y) (boutA b′) A B h k = refl
+unmet false a b M N (boutA a′) (outA b′ z) A B h k = refl
+unmet false a b M N (boutA a′) (boutA b′) A B h k = refl
 
 -- What the test says.
-abbrev tested : Bool → Bool → Bool → Bool → Bool → Bool
-tested z₁ z₂ r₁ r₂ m = cond z₁ true (cond z₂ true (cond r₁ (cond r₂ false m) (cond r₂ m false)))
+abbrev tested : Bool → Bool → Bool → Bool
+tested r₁ r₂ m = cond r₁ (cond r₂ false m) (cond r₂ m false)
 
-test-false : (z₁ z₂ r₁ r₂ m : Bool) → tested z₁ z₂ r₁ r₂ m ≡ false
-    → (z₁ ≡ false) × (z₂ ≡ false) × ((r₁ ≡ r₂) ⊎ ((r₂ ≡ not r₁) × (m ≡ false)))
-test-false true z₂ r₁ r₂ m e = let z : _≡_ {A = ℕ} 0 1 = cc in absurd (omega arith)
-test-false false true r₁ r₂ m e = let z : _≡_ {A = ℕ} 0 1 = cc in absurd (omega arith)
-test-false false false true true m e = (refl, refl, inl refl)
-test-false false false true false m e = (refl, refl, inr (refl, e))
-test-false false false false true m e = (refl, refl, inr (refl, e))
-test-false false false false false m e = (refl, refl, inl refl)
+test-false : (r₁ r₂ m : Bool) → tested r₁ r₂ m ≡ false → (r₁ ≡ r₂) ⊎ ((r₂ ≡ not r₁) × (m ≡ false))
+test-false true true m e = inl refl
+test-false true false m e = inr (refl, e)
+test-false false true m e = inr (refl, e)
+test-false false false m e = inl refl
 
-test-true : (z₁ z₂ r₁ r₂ m : Bool) → z₁ ≡ false → z₂ ≡ false → tested z₁ z₂ r₁ r₂ m ≡ true → (r₂ ≡ not r₁) × (m ≡ true)
-test-true true z₂ r₁ r₂ m f g e = let z : _≡_ {A = ℕ} 0 1 = cc in absurd (omega arith)
-test-true false true r₁ r₂ m f g e = let z : _≡_ {A = ℕ} 0 1 = cc in absurd (omega arith)
-test-true false false true true m f g e = let z : _≡_ {A = ℕ} 0 1 = cc in absurd (omega arith)
-test-true false false true false m f g e = (refl, e)
-test-true false false false true m f g e = (refl, e)
-test-true false false false false m f g e = let z : _≡_ {A = ℕ} 0 1 = cc in absurd (omega arith)
+test-true : (r₁ r₂ m : Bool) → tested r₁ r₂ m ≡ true → (r₂ ≡ not r₁) × (m ≡ true)
+test-true true true m e = let z : _≡_ {A = ℕ} 0 1 = cc in absurd (omega arith)
+test-true true false m e = (refl, e)
+test-true false true m e = (refl, e)
+test-true false false m e = let z : _≡_ {A = ℕ} 0 1 = cc in absurd (omega arith)
 
 -- The second row is no repeated one.
 not-repeated : (b m : Bool) → cond b false m ≡ true → (b ≡ false) × (m ≡ true)
@@ -168,35 +162,40 @@ trivial-match b n = go (eqb n (max b b)) refl
     go true t = let e = eqb-true n (max b b) t in omega arith
     go false t = refl
 
--- Two candidates with rows that say something; K are the frames around the parallel.
+-- Two candidates by their rows; K are the frames around the parallel.
 module _ (K : List Frame) (d : ℕ) (level : restrictions K ≡ d) (s t : Candidate) (k₁ c₁ o₁ k₂ c₂ o₂ : ℕ) where
-  apart : (r₁ r₂ : Bool) → Visible d s r₁ c₁ → Visible d t r₂ c₂ → (r₁ ≡ r₂) ⊎ ((r₂ ≡ not r₁) × (mergeable c₁ c₂ ≡ false)) → raised K (communication s t) ≡ blocked
+  apart : (r₁ r₂ : Bool) → Visible d s k₁ r₁ c₁ → Visible d t k₂ r₂ c₂ → (r₁ ≡ r₂) ⊎ ((r₂ ≡ not r₁) × (mergeable c₁ c₂ ≡ false)) → raised K (communication s t) ≡ blocked
   apart r₁ r₂ u v (inl e) =
-      ap (raised K) ((λ i. communication (u .is i) (v .is i)) ∙ unmet r₂ (u .name) (v .name) (u .action) (v .action) (u .result) (v .result) (subst (λ r. On r (u .name) (u .action)) e (u .on)) (v .on))
+      ap (raised K) ((λ i. communication (u .is i) (v .is i)) ∙ unmet r₂ (u .name) (v .name) (u .condition) (v .condition) (u .action) (v .action) (u .result) (v .result) (subst (λ r. On r (u .name) (u .action)) e (u .on)) (v .on))
       ∙ raised-blocked K
   apart r₁ r₂ u v (inr (e, m)) =
-      let (C, f) = met r₁ (u .name) (v .name) (u .action) (v .action) (u .result) (v .result) (u .on) (subst (λ r. On r (v .name) (v .action)) e (v .on)) in
+      let (C, f) = met r₁ (u .name) (v .name) (u .condition) (v .condition) (u .action) (v .action) (u .result) (v .result) (u .on) (subst (λ r. On r (v .name) (v .action)) e (v .on)) in
       let (n, g) = not-mergeable c₁ c₂ m in
       ap (raised K) ((λ i. communication (u .is i) (v .is i)) ∙ f)
-      ∙ raised-apart K (u .name) (v .name) C
+      ∙ raised-apart K (u .name) (v .name) (u .condition ++ v .condition) C
       (λ h. n (sym (u .slot) ∙ ap (slotOf nameCount d) h ∙ v .slot))
       (λ h k. g (subst (λ c. c < nameCount) (u .slot) (bound-slot nameCount d (u .name) (u .below) (omega arith)))
       (subst (λ c. c < nameCount) (v .slot) (bound-slot nameCount d (v .name) (v .below) (omega arith))))
 
-  pub pair-apart : ((k₁ ≡ 0 → ⊥) → Outlined d s k₁ c₁ o₁ × (c₁ < nameCount + d)) → ((k₂ ≡ 0 → ⊥) → Outlined d t k₂ c₂ o₂)
-      → (k₂ ≡ 4 → ⊥) → mayMeet k₁ c₁ k₂ c₂ ≡ false → raised K (communication s t) ≡ blocked
-  unfolding mayMeet meetsBetween
-  pair-apart left right new e =
-      let (f, g, h) = test-false (eqb k₁ 0) (eqb k₂ 0) (eqb k₁ 1) (eqb k₂ 1) (mergeable c₁ c₂) (rw (ne-eqb k₂ 4 new) at e) in
-      let (l, w) = left (eqb-false k₁ 0 f) in
-      let r = right (eqb-false k₂ 0 g) in
-      go (visible-of d s k₁ c₁ o₁ l w) r h (ltb c₂ (nameCount + d)) refl
+  pub pair-apart : Outlined d s k₁ c₁ o₁ × (c₁ < nameCount + d) → Outlined d t k₂ c₂ o₂ → (k₂ ≡ 4 → ⊥) → mayMeet k₁ c₁ k₂ c₂ ≡ false
+      → raised K (communication s t) ≡ blocked
+  unfolding mayMeet meetsBetween communication
+  pair-apart (l, w) r new e = go (ltb c₂ (nameCount + d)) refl
     where
-      go : Visible d s (eqb k₁ 1) c₁ → Outlined d t k₂ c₂ o₂ → (eqb k₁ 1 ≡ eqb k₂ 1) ⊎ ((eqb k₂ 1 ≡ not (eqb k₁ 1)) × (mergeable c₁ c₂ ≡ false))
-          → (b : Bool) → ltb c₂ (nameCount + d) ≡ b → raised K (communication s t) ≡ blocked
-      go u r h true b = apart (eqb k₁ 1) (eqb k₂ 1) u (visible-of d t k₂ c₂ o₂ r (ltb-true c₂ (nameCount + d) b)) h
-      go u r h false b =
-          ap (λ c. raised K (communication s c)) (r .inner (ltb-false c₂ (nameCount + d) b)) ∙ ap (raised K) (not-met s) ∙ raised-blocked K
+      fit : (eqb (actionKind k₁) 1 ≡ eqb (actionKind k₂) 1) ⊎ ((eqb (actionKind k₂) 1 ≡ not (eqb (actionKind k₁) 1)) × (mergeable c₁ c₂ ≡ false))
+      fit = test-false (eqb (actionKind k₁) 1) (eqb (actionKind k₂) 1) (mergeable c₁ c₂) (rw (ne-eqb k₂ 4 new) at e)
+
+      stopped : t ≡ blocked → raised K (communication s t) ≡ blocked
+      stopped e = ap (λ c. raised K (communication s c)) e ∙ ap (raised K) (not-met s) ∙ raised-blocked K
+
+      both : ((3 < k₁) × (s ≡ blocked)) ⊎ Does d k₁ c₁ o₁ s → ((3 < k₂) × (t ≡ blocked)) ⊎ Does d k₂ c₂ o₂ t → raised K (communication s t) ≡ blocked
+      both (inl (_, f)) _ = ap (λ c. raised K (communication c t)) f ∙ raised-blocked K
+      both (inr D) (inl (_, f)) = stopped f
+      both (inr D) (inr E) = apart (eqb (actionKind k₁) 1) (eqb (actionKind k₂) 1) (visible-of d s k₁ c₁ o₁ D) (visible-of d t k₂ c₂ o₂ E) fit
+
+      go : (b : Bool) → ltb c₂ (nameCount + d) ≡ b → raised K (communication s t) ≡ blocked
+      go true b = both (l .acts w) (r .acts (ltb-true c₂ (nameCount + d) b))
+      go false b = stopped (r .inner (ltb-false c₂ (nameCount + d) b))
 
   -- The communication at one channel, and what it is raised to.
   pub record Same : Type 0 where
@@ -207,25 +206,25 @@ module _ (K : List Frame) (d : ℕ) (level : restrictions K ≡ d) (s t : Candid
     pub whole : Term
     pub is : raised K (step ((name, name) ∷ []) tauA result) ≡ step ((outer, outer) ∷ []) tauA whole
 
-  module _ (left : Outlined d s k₁ c₁ o₁) (inside : c₁ < nameCount + d) (right : Outlined d t k₂ c₂ o₂) (k : k₁ ≡ 0 → ⊥) (l : k₂ ≡ 0 → ⊥) (m : mayMeet k₁ c₁ k₂ c₂ ≡ true) where
-    pub opposite : (eqb k₂ 1 ≡ not (eqb k₁ 1)) × (mergeable c₁ c₂ ≡ true)
+  module _ (left : Outlined d s k₁ c₁ o₁) (inside : c₁ < nameCount + d) (right : Outlined d t k₂ c₂ o₂) (k : k₁ ≤ 3) (l : k₂ ≤ 3) (m : mayMeet k₁ c₁ k₂ c₂ ≡ true) where
+    pub opposite : (eqb (actionKind k₂) 1 ≡ not (eqb (actionKind k₁) 1)) × (mergeable c₁ c₂ ≡ true)
     unfolding mayMeet meetsBetween
-    opposite = test-true (eqb k₁ 0) (eqb k₂ 0) (eqb k₁ 1) (eqb k₂ 1) (mergeable c₁ c₂) (ne-eqb k₁ 0 k) (ne-eqb k₂ 0 l) (not-repeated (eqb k₂ 4) _ m .1)
+    opposite = test-true (eqb (actionKind k₁) 1) (eqb (actionKind k₂) 1) (mergeable c₁ c₂) (not-repeated (eqb k₂ 4) _ m .1)
 
     module _ (inside₂ : c₂ < nameCount + d) where
-      first-of : Visible d s (eqb k₁ 1) c₁
-      first-of = visible-of d s k₁ c₁ o₁ left inside
+      first-of : Visible d s k₁ (eqb (actionKind k₁) 1) c₁
+      first-of = ⊎-elim (λ p. absurd (omega (arith, p .0))) (visible-of d s k₁ c₁ o₁) (left .acts inside)
 
-      second-of : Visible d t (eqb k₂ 1) c₂
-      second-of = visible-of d t k₂ c₂ o₂ right inside₂
+      second-of : Visible d t k₂ (eqb (actionKind k₂) 1) c₂
+      second-of = ⊎-elim (λ p. absurd (omega (arith, p .0))) (visible-of d t k₂ c₂ o₂) (right .acts inside₂)
 
       meeting : (C : Term) × (communication s t ≡ step ((first-of .name, second-of .name) ∷ []) tauA C)
       meeting =
           let u = first-of in
           let v = second-of in
-          let (C, f) = met (eqb k₁ 1) (u .name) (v .name) (u .action) (v .action) (u .result) (v .result) (u .on)
+          let (C, f) = met (eqb (actionKind k₁) 1) (u .name) (v .name) (u .condition) (v .condition) (u .action) (v .action) (u .result) (v .result) (u .on)
           (subst (λ r. On r (v .name) (v .action)) (opposite .0) (v .on)) in
-          (C, (λ i. communication (u .is i) (v .is i)) ∙ f)
+          (C, (λ i. communication (u .is i) (v .is i)) ∙ f ∙ (λ i. step ((u .name, v .name) ∷ (u .plain k i ++ v .plain l i)) tauA C))
 
     pub pair-same : c₁ ≡ c₂ → Same
     pair-same e =

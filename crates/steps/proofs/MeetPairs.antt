@@ -1,10 +1,10 @@
 -- One communication put into the list, by whichever way the rows of its two candidates leave. Assumes nothing.
-use borrow.Author.Tests.{eqb-true, ltb-true}
+use borrow.Author.Tests.{eqb-true, ltb-true, le-ltb}
 use mathlib.Core.Bool.{Bool, true, false, cond, not, _&&_}
 use mathlib.Core.List.{List, [], _∷_}
 use mathlib.Core.Path.{_≡_, refl, sym, _∙_, ap, subst}
 use native.Mathlib.Omega.{arith}
-use Prim.Native.Nat.{ℕ, _+_, _<_}
+use Prim.Native.Nat.{ℕ, _+_, _<_, _≤_}
 use lib.Dec.{eqb, ltb}
 use lib.ListN.{getD}
 use Rattle.calculus.specs.Abstraction.{Act, tauA, inpA}
@@ -22,12 +22,17 @@ use Rattle.steps.specs.PartLister.{candidatesOf, TakeIs}
 use Rattle.steps.specs.Passing.{candidates}
 use Rattle.steps.specs.Raw.{step, meet, communication}
 use Rattle.steps.specs.Results.{receiving}
-use Rattle.steps.specs.Rows.{rowAction}
+use Rattle.steps.specs.Rows.{actionKind, rowAction}
 use Rattle.steps.specs.Slots.{slotOf}
 use Rattle.steps.specs.Walking.{Unopened, stepAction, PutPlacedIs, PutClassedIs}
 use Rattle.steps.specs.declared.meet.Side.{Side}
 use Rattle.steps.proofs.MeetLaws.{trivial-match, opposite, pair-same, pair-merged}
-use Rattle.steps.proofs.RowLaws.{row-act}
+use Rattle.steps.proofs.RowLaws.{row-act, plain-step}
+
+-- The kind of a row that stands beneath no match.
+plain-kind : (kind : ℕ) → kind ≤ 3 → actionKind kind ≡ kind
+unfolding actionKind
+plain-kind kind h = simp (le-ltb 4 kind (omega arith))
 
 -- [Com]: both results, where y is the name that is sent.
 record Com (d : ℕ) (α : Act) (A : Term) (β : Act) (B : Term) (object : ℕ) : Type 0 where
@@ -83,14 +88,14 @@ module _ (question part : List ℕ) (at depth number : ℕ) (a b : Side) (j x : 
         subst (λ c. PutIs c x area count r area′) (p .silently .is j h ∙ ap (raised K) e) (T q P l (omega (arith, p .silently .inside)));
   }
 
-  module _ (k : a .kind ≡ 0 → ⊥) (l : b .kind ≡ 0 → ⊥) where
+  module _ (k : a .kind ≤ 3) (l : b .kind ≤ 3) where
     pub pair-placed : a .channel ≡ b .channel → PutPlacedIs question part at depth true j (record { kind = 0; channel = 0; object = 0 }) x area count r area′
         → PairIs question part at depth number a b j x area count r area′
     unfolding Unblocked candidates Unopened stepAction
     pair-placed e T = record {
       is = λ q P lists K L R first p s t _ _ _ _ left right m h f.
-          let (o, w) = left k in
-          let S = pair-same K depth (p .level) s t (a .kind) (a .channel) (a .object) (b .kind) (b .channel) (b .object) o w (right l) k l m e in
+          let (o, w) = left in
+          let S = pair-same K depth (p .level) s t (a .kind) (a .channel) (a .object) (b .kind) (b .channel) (b .object) o w right k l m e in
           subst (λ c. PutIs c x area count r area′) (sym (ap (raised K) (S .own) ∙ S .is))
           (T .is q P lists K (par L R) first number ((S .outer, S .outer) ∷ []) tauA (S .whole)
           (record {
@@ -111,8 +116,8 @@ module _ (question part : List ℕ) (at depth number : ℕ) (a b : Side) (j x : 
     unfolding Unblocked candidatesOf candidates stepAction cls
     pair-classed n class is T = record {
       is = λ q P lists K L R first p s t _ _ _ _ left right m h f.
-          let (o, w) = left k in
-          let (B, e) = pair-merged K depth (p .level) s t (a .kind) (a .channel) (a .object) (b .kind) (b .channel) (b .object) o w (right l) k l m n in
+          let (o, w) = left in
+          let (B, e) = pair-merged K depth (p .level) s t (a .kind) (a .channel) (a .object) (b .kind) (b .channel) (b .object) o w right k l m n in
           subst (λ c. PutIs c x area count r area′) (sym e)
           (T .is q P lists ((a .channel, b .channel) ∷ []) tauA B (p .silently .is j h ∙ ap (raised K) f ∙ e) is refl);
     }
@@ -124,11 +129,11 @@ module _ (question part : List ℕ) (at depth number : ℕ) (a b : Side) (j x : 
       is = λ q P lists K L R first p s t hv es hw et left right m h f.
           let free = subst (λ (d : Side). eqb (d .kind) 2 && ltb (d .object) (nameCount + depth) ≡ true) is free₀ in
           let T = subst (λ (d : Side). TakeMetIs question part at depth (a .number) (b .number) (d .object) area count r area′) is T₀ in
-          let (o, w) = left k in
-          let S = pair-same K depth (p .level) s t (a .kind) (a .channel) (a .object) (b .kind) (b .channel) (b .object) o w (right l) k l m e in
-          let turned = opposite K depth (p .level) s t (a .kind) (a .channel) (a .object) (b .kind) (b .channel) (b .object) o w (right l) k l m .0 in
-          let (α, A, d, g, n₁) = o .acts w in
-          let (β, B, u, v, n₂) = right l .acts (omega arith) in
+          let (o, w) = left in
+          let S = pair-same K depth (p .level) s t (a .kind) (a .channel) (a .object) (b .kind) (b .channel) (b .object) o w right k l m e in
+          let turned = rw (plain-kind (a .kind) k, plain-kind (b .kind) l) at (opposite K depth (p .level) s t (a .kind) (a .channel) (a .object) (b .kind) (b .channel) (b .object) o w right k l m .0) in
+          let (α, A, d, g, n₁) = plain-step depth (a .kind) (a .channel) (a .object) s k o w in
+          let (β, B, u, v, n₂) = plain-step depth (b .kind) (b .channel) (b .object) t l right (omega arith) in
           let C = com-of (eqb (a .kind) 1) refl turned α A β B g v n₁ n₂ free in
           let N : Cond = (S .name, S .name) ∷ [] in
           let result : S .result ≡ par (ren (receiving (C .y) (λ n. n) α) A) (ren (receiving (C .y) (λ n. n) β) B) =

@@ -96,14 +96,14 @@ module _ (question part : List ℕ) (at depth number x : ℕ) (rows : List ℕ) 
   row-again e = record { is = λ q P l K L R first p s i g new u v f h n. absurd (new e); over = λ _. (refl, refl) }
 
   -- A candidate on a channel that is restricted further in.
-  pub row-inner : count ≤ mostSteps → (kindAt rows row ≡ 4 → ⊥) → (kindAt rows row ≡ 0 → ⊥) → nameCount + depth ≤ channelAt rows row
+  pub row-inner : count ≤ mostSteps → (kindAt rows row ≡ 4 → ⊥) → nameCount + depth ≤ channelAt rows row
       → MeetRowIs question part at depth number x rows row left middle last j area₀ count count area₀
   unfolding Row
-  row-inner few new k h = row-is count area₀ new (λ q P K L R first s c.
-      subst (λ t. CollectIs (met K t (visible (bodyOf (q .bodies)) 1 R)) x area₀ count count area₀) (sym (c .left-row k new .inner h))
+  row-inner few new h = row-is count area₀ new (λ q P K L R first s c.
+      subst (λ t. CollectIs (met K t (visible (bodyOf (q .bodies)) 1 R)) x area₀ count count area₀) (sym (c .left-row new .inner h))
       (met-blocked x K (visible (bodyOf (q .bodies)) 1 R) area₀ count few))
 
-  module _ (new : kindAt rows row ≡ 4 → ⊥) (known : (kindAt rows row ≡ 0 → ⊥) → channelAt rows row < nameCount + depth) (w n : ℕ) (area : List ℕ) (paired : Paired w n area) (on : middle ≤ w) where
+  module _ (new : kindAt rows row ≡ 4 → ⊥) (known : channelAt rows row < nameCount + depth) (w n : ℕ) (area : List ℕ) (paired : Paired w n area) (on : middle ≤ w) where
     module _ (q : Question) (P : Term) (K : List Frame) (L R : Term) (first : ℕ) (s : Candidate) (c : RowCase q P K L R first s) (h : w < last) where
       abbrev ts : List Candidate
       ts = visible (bodyOf (q .bodies)) 1 R
@@ -119,7 +119,7 @@ module _ (question part : List ℕ) (at depth number x : ℕ) (rows : List ℕ) 
 
       unblocked : Unblocked depth s (kindAt rows row) (channelAt rows row) (objectAt rows row)
       unfolding Unblocked Row
-      unblocked k = (c .left-row k new, known k)
+      unblocked = (c .left-row new, known)
 
       other : Row depth t rows w
       unfolding RowsBehind
@@ -152,7 +152,7 @@ module _ (question part : List ℕ) (at depth number x : ℕ) (rows : List ℕ) 
             let f = eqb-false (kindAt rows w) 4 b in
             let e : raised K (communication s (getD ts (w - middle) blocked)) ≡ blocked =
             pair-apart K depth (c .placed .level) s (getD ts (w - middle) blocked) (kindAt rows row) (channelAt rows row) (objectAt rows row) (kindAt rows w) (channelAt rows w) (objectAt rows w)
-            (unblocked q P K L R first s c h) (λ k. other q P K L R first s c h k f) f m in
+            (unblocked q P K L R first s c h) (other q P K L R first s c h f) f m in
             let put : PutIs (getD (met K s ts) (w - middle) blocked) x area n n area =
             subst (λ d. PutIs d x area n n area) (sym (nth-met K s ts (w - middle) ∙ e)) (λ found stood. put-blocked area room x n found stood few) in
             progress-step (met K s ts) x area₀ count (w - middle) n n area area (within-met q P K L R first s c h) (paired q P K L R first s c) put few
@@ -169,7 +169,7 @@ module _ (question part : List ℕ) (at depth number x : ℕ) (rows : List ℕ) 
           subst (λ d. PutIs d x area n r area′) (sym (nth-met K s ts (w - middle)))
           (pair .is q P (c .lists) K L R first (c .placed) s (getD ts (w - middle) blocked) (c .number-left) (c .is-left)
           (within q P K L R first s c h) refl (unblocked q P K L R first s c h)
-          (λ k. other q P K L R first s c h k (meets-new (kindAt rows row) (channelAt rows row) (kindAt rows w) (channelAt rows w) m)) m (omega (arith, c .inside, within q P K L R first s c h))
+          (other q P K L R first s c h (meets-new (kindAt rows row) (channelAt rows row) (kindAt rows w) (channelAt rows w) m)) m (omega (arith, c .inside, within q P K L R first s c h))
           (c .numbers (w - middle) (within q P K L R first s c h)))
 
       pub pair-put : r ≤ mostSteps → Paired (w + 1) r area′
@@ -189,7 +189,7 @@ module _ (question part : List ℕ) (at depth number x : ℕ) (rows : List ℕ) 
         (omega (arith, length-met K s (visible (bodyOf (q .bodies)) 1 R), c .ends)) few (paired q P K L R first s c))
 
   -- The rows that are passed over do not meet.
-  module _ (new : kindAt rows row ≡ 4 → ⊥) (known : (kindAt rows row ≡ 0 → ⊥) → channelAt rows row < nameCount + depth) (n : ℕ) (area : List ℕ) (room : mostSteps * stepBytes ≤ length area) (few : n ≤ mostSteps) where
+  module _ (new : kindAt rows row ≡ 4 → ⊥) (known : channelAt rows row < nameCount + depth) (n : ℕ) (area : List ℕ) (room : mostSteps * stepBytes ≤ length area) (few : n ≤ mostSteps) where
     skip : (k w : ℕ) → Paired w n area → middle ≤ w → (r : ℕ) → r ≡ w + k → r ≤ last
         → ((v : ℕ) → w ≤ v → v < r → mayMeet (kindAt rows row) (channelAt rows row) (kindAt rows v) (channelAt rows v) ≡ false) → Paired r n area
     skip zero w p on r e h m = let f : w ≡ r = omega arith in subst (λ v. Paired v n area) f p

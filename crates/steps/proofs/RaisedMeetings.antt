@@ -1,12 +1,13 @@
 -- What becomes of a silent step with one match outside the restrictions around it, by the slots of the two names. Assumes nothing.
 use borrow.Author.Tests.{ltb-true, ltb-false}
-use mathlib.Core.Bool.{Bool, true, false}
+use mathlib.Core.Bool.{Bool, true, false, cond}
 use mathlib.Core.List.{List, [], _∷_}
 use mathlib.Core.Path.{_≡_, refl, ap}
 use native.Mathlib.Omega.{arith}
 use Prim.Native.Nat.{ℕ, zero, suc, _+_, _<_, _≤_}
 use lib.Dec.{ltb}
 use Rattle.calculus.specs.Abstraction.{tauA}
+use Rattle.calculus.specs.Cond.{Cond, mapP}
 use Rattle.calculus.specs.Term.{Term, par, res}
 use Rattle.steps.specs.Contexts.{Frame, leftOf, rightOf, beneath, raised, restrictions, levelIn}
 use Rattle.steps.specs.Raw.{step, blocked, leftSteps, rightSteps, restricted, spares, sparesRestricted, outside, restrictedAction}
@@ -38,18 +39,23 @@ raised-free (beneath ∷ K) zero n a b A e f = absurd (omega arith)
 raised-free (beneath ∷ K) (suc m) zero a b A e f = absurd (omega arith)
 raised-free (beneath ∷ K) (suc m) (suc n) a b A e f = raised-free K m n a b (res A) (omega arith) (omega arith)
 
--- A match of a restricted name with another.
-pub raised-apart : (K : List Frame) (a b : ℕ) (A : Term) → (a ≡ b → ⊥) → (restrictions K ≤ a → restrictions K ≤ b → ⊥)
-    → raised K (step ((a, b) ∷ []) tauA A) ≡ blocked
+-- A match of a restricted name with another, whatever else is asked.
+pub raised-apart : (K : List Frame) (a b : ℕ) (M : Cond) (A : Term) → (a ≡ b → ⊥) → (restrictions K ≤ a → restrictions K ≤ b → ⊥)
+    → raised K (step ((a, b) ∷ M) tauA A) ≡ blocked
 unfolding raised leftSteps rightSteps restricted spares sparesRestricted outside restrictedAction levelIn
-raised-apart [] a b A n h = absurd (h (omega arith) (omega arith))
-raised-apart (leftOf Q ∷ K) a b A n h = raised-apart K a b (par A Q) n h
-raised-apart (rightOf P ∷ K) a b A n h = raised-apart K a b (par P A) n h
-raised-apart (beneath ∷ K) zero zero A n h = absurd (n refl)
-raised-apart (beneath ∷ K) zero (suc b) A n h = raised-blocked K
-raised-apart (beneath ∷ K) (suc a) zero A n h = raised-blocked K
-raised-apart (beneath ∷ K) (suc a) (suc b) A n h =
-    raised-apart K a b (res A) (λ e. n (ap suc e)) (λ k l. h (omega arith) (omega arith))
+raised-apart [] a b M A n h = absurd (h (omega arith) (omega arith))
+raised-apart (leftOf Q ∷ K) a b M A n h = raised-apart K a b M (par A Q) n h
+raised-apart (rightOf P ∷ K) a b M A n h = raised-apart K a b M (par P A) n h
+raised-apart (beneath ∷ K) zero zero M A n h = absurd (n refl)
+raised-apart (beneath ∷ K) zero (suc b) M A n h = raised-blocked K
+raised-apart (beneath ∷ K) (suc a) zero M A n h = raised-blocked K
+raised-apart (beneath ∷ K) (suc a) (suc b) M A n h =
+    go (sparesRestricted M) (raised-apart K a b (mapP outside M) (res A) (λ e. n (ap suc e)) (λ k l. h (omega arith) (omega arith)))
+  where
+    go : (t : Bool) → raised K (step ((a, b) ∷ mapP outside M) tauA (res A)) ≡ blocked
+        → raised K (cond t (step ((a, b) ∷ mapP outside M) tauA (res A)) blocked) ≡ blocked
+    go true e = e
+    go false e = raised-blocked K
 
 -- Names by their slots.
 module _ (names d a : ℕ) where

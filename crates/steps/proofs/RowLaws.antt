@@ -1,21 +1,22 @@
 -- What the row of a candidate says: of its action, outside a restriction, beside another term; and rows that are kept. Assumes nothing.
 use mathlib.Core.Path.{_≡_, refl, sym, ap, ap₂, subst, _∙_}
 use mathlib.Core.Bool.{Bool, true, false, cond, _&&_}
-use mathlib.Core.List.{List, [], _++_, map, append-assoc}
+use mathlib.Core.List.{List, [], _∷_, _++_, map, append-assoc}
 use mathlib.Core.Logic.{_⊎_, inl, inr, ⊎-elim}
 use Prim.Native.Nat.{ℕ, zero, suc, _+_, _-_, _*_, _<_, _≤_}
 use native.Mathlib.Omega.{arith}
 use lib.ListN.{length, getD, take, length-append, length-map, List·getD-append}
 use lib.Seq.{getD-append-add, take-append-le, take-append-add}
 use lib.Dec.{eqb, ltb}
-use borrow.Author.Tests.{eqb-true, eqb-false, ltb-true, ltb-false, lt-ltb}
+use borrow.Author.Tests.{eqb-true, eqb-false, ltb-true, ltb-false, lt-ltb, le-ltb}
 use Rattle.calculus.specs.Abstraction.{Act, tauA, inpA, outA, boutA, swap, weak}
+use Rattle.calculus.specs.Cond.{Cond, mapP}
 use Rattle.calculus.specs.Term.{Term, par, res, ren}
 use Rattle.terms.specs.Limits.{nameCount}
 use Rattle.steps.specs.Labels.{actionOf, ActionBelow}
-use Rattle.steps.specs.Raw.{Candidate, step, blocked, matching, leftSteps, rightSteps, sparesRestricted, restrictedAction, restricted, visible, visibleOf}
+use Rattle.steps.specs.Raw.{Candidate, step, blocked, matching, leftSteps, rightSteps, sparesRestricted, outside, restrictedAction, restricted, visible, visibleOf}
 use Rattle.steps.specs.Lists.{_∈_, Among}
-use Rattle.steps.specs.Rows.{rowBytes, kindAt, channelAt, objectAt, rowAction, Outlined, Row, RowsBehind, Rows, Unknown, RowsKept}
+use Rattle.steps.specs.Rows.{rowBytes, kindAt, channelAt, objectAt, actionKind, rowAction, Does, Outlined, Row, RowsBehind, Rows, Matched, RowsKept}
 use Rattle.steps.specs.Slots.{slotOf}
 use Rattle.steps.specs.declared.action.Action.{Action}
 use Rattle.steps.specs.declared.action.Action.the-variants.{Silent, Input, Output, NewOutput}
@@ -68,46 +69,46 @@ module _ (d kind channel object : ℕ) where
 
 -- [Res] and [Open]: the row serves outside the restriction.
 module _ (d kind channel object : ℕ) where
-  -- a step without a condition, and its row
-  abbrev Acts : ℕ → Candidate → Type 0
-  Acts d c = (α : Act) × (A : Term) × (c ≡ step [] α A) × (actionOf d α ≡ rowAction d kind channel object) × ActionBelow (d + nameCount) α
+  -- a step with this condition, and its row
+  abbrev Acts : ℕ → Cond → Candidate → Type 0
+  Acts d M c = (α : Act) × (A : Term) × (c ≡ step M α A) × (actionOf d α ≡ rowAction d kind channel object) × ActionBelow (d + nameCount) α
 
   -- the channel is the restricted name
-  stops : channel ≡ nameCount + d → (α : Act) (A : Term) → actionOf (1 + d) α ≡ rowAction (1 + d) kind channel object → ActionBelow (1 + d + nameCount) α → restricted (step [] α A) ≡ blocked
-  unfolding ActionBelow restricted restrictedAction sparesRestricted
-  stops z α A e b = row-act (1 + d) kind channel object (λ (α : Act). ActionBelow (1 + d + nameCount) α → restricted (step [] α A) ≡ blocked)
+  stops : channel ≡ nameCount + d → (M : Cond) (α : Act) (A : Term) → actionOf (1 + d) α ≡ rowAction (1 + d) kind channel object → ActionBelow (1 + d + nameCount) α → restrictedAction M α A ≡ blocked
+  unfolding ActionBelow restrictedAction
+  stops z M α A e b = row-act (1 + d) kind channel object (λ (α : Act). ActionBelow (1 + d + nameCount) α → restrictedAction M α A ≡ blocked)
       (λ a k s. input a s) (λ a b k l s t h. output a b s (h .0)) (λ a k l s. new a s) α e b
     where
       apart : (a : ℕ) → slotOf nameCount (1 + d) (suc a) ≡ channel → suc a < 1 + d + nameCount → ⊥
       apart a s h = omega (arith, slot-outside nameCount d a (omega arith))
 
-      input : (a : ℕ) → slotOf nameCount (1 + d) a ≡ channel → a < 1 + d + nameCount → restricted (step [] (inpA a) A) ≡ blocked
+      input : (a : ℕ) → slotOf nameCount (1 + d) a ≡ channel → a < 1 + d + nameCount → restrictedAction M (inpA a) A ≡ blocked
       input zero s h = refl
       input (suc a) s h = absurd (apart a s h)
 
-      output : (a b : ℕ) → slotOf nameCount (1 + d) a ≡ channel → a < 1 + d + nameCount → restricted (step [] (outA a b) A) ≡ blocked
+      output : (a b : ℕ) → slotOf nameCount (1 + d) a ≡ channel → a < 1 + d + nameCount → restrictedAction M (outA a b) A ≡ blocked
       output zero b s h = refl
       output (suc a) b s h = absurd (apart a s h)
 
-      new : (a : ℕ) → slotOf nameCount (1 + d) a ≡ channel → a < 1 + d + nameCount → restricted (step [] (boutA a) A) ≡ blocked
+      new : (a : ℕ) → slotOf nameCount (1 + d) a ≡ channel → a < 1 + d + nameCount → restrictedAction M (boutA a) A ≡ blocked
       new zero s h = refl
       new (suc a) s h = absurd (apart a s h)
 
   -- it is not
-  passes : channel < nameCount + d → (α : Act) (A : Term) → actionOf (1 + d) α ≡ rowAction (1 + d) kind channel object → ActionBelow (1 + d + nameCount) α → Acts d (restricted (step [] α A))
-  unfolding ActionBelow restricted restrictedAction sparesRestricted actionOf
-  passes z α A e b = row-act (1 + d) kind channel object (λ (α : Act). ActionBelow (1 + d + nameCount) α → Acts d (restricted (step [] α A)))
+  passes : channel < nameCount + d → (M : Cond) (α : Act) (A : Term) → actionOf (1 + d) α ≡ rowAction (1 + d) kind channel object → ActionBelow (1 + d + nameCount) α → Acts d M (restrictedAction M α A)
+  unfolding ActionBelow restrictedAction actionOf
+  passes z M α A e b = row-act (1 + d) kind channel object (λ (α : Act). ActionBelow (1 + d + nameCount) α → Acts d M (restrictedAction M α A))
       (λ a k s. input a k s) (λ a b k l s t. output a b k s t) (λ a k l s. new a k (λ e. let m = l e in omega arith) s) α e b
     where
       other : slotOf nameCount (1 + d) 0 ≡ channel → ⊥
       other s = omega (arith, slot-restricted nameCount d)
 
-      input : (a : ℕ) → kind ≡ 1 → slotOf nameCount (1 + d) a ≡ channel → a < 1 + d + nameCount → Acts d (restricted (step [] (inpA a) A))
+      input : (a : ℕ) → kind ≡ 1 → slotOf nameCount (1 + d) a ≡ channel → a < 1 + d + nameCount → Acts d M (restrictedAction M (inpA a) A)
       input zero k s h = absurd (other s)
       input (suc a) k s h = (inpA a, res (ren swap A), refl, ap Input (sym (slot-inner nameCount d a) ∙ s) ∙ sym (row-input d kind channel object k), omega arith)
 
       output : (a b : ℕ) → kind ≡ 2 → slotOf nameCount (1 + d) a ≡ channel → slotOf nameCount (1 + d) b ≡ object → (a < 1 + d + nameCount) × (b < 1 + d + nameCount)
-          → Acts d (restricted (step [] (outA a b) A))
+          → Acts d M (restrictedAction M (outA a b) A)
       output zero b k s t h = absurd (other s)
       output (suc a) zero k s t h =
           let o : nameCount + d ≤ object = omega (arith, slot-restricted nameCount d) in
@@ -116,23 +117,71 @@ module _ (d kind channel object : ℕ) where
           let o : object < nameCount + d = omega (arith, slot-outside nameCount d b (omega (arith, h .1))) in
           (outA a b, res A, refl, ap₂ Output (sym (slot-inner nameCount d a) ∙ s) (sym (slot-inner nameCount d b) ∙ t) ∙ sym (row-output d kind channel object k o), (omega (arith, h .0), omega (arith, h .1)))
 
-      new : (a : ℕ) → (kind ≡ 1 → ⊥) → (kind ≡ 2 → nameCount + d ≤ object) → slotOf nameCount (1 + d) a ≡ channel → a < 1 + d + nameCount → Acts d (restricted (step [] (boutA a) A))
+      new : (a : ℕ) → (kind ≡ 1 → ⊥) → (kind ≡ 2 → nameCount + d ≤ object) → slotOf nameCount (1 + d) a ≡ channel → a < 1 + d + nameCount → Acts d M (restrictedAction M (boutA a) A)
       new zero k l s h = absurd (other s)
       new (suc a) k l s h = (boutA a, res (ren swap A), refl, ap NewOutput (sym (slot-inner nameCount d a) ∙ s) ∙ sym (row-new d kind channel object k l), omega arith)
+
+-- A candidate without a match above it.
+pub plain-step : (d kind channel object : ℕ) (c : Candidate) → kind ≤ 3 → Outlined d c kind channel object → channel < nameCount + d → Acts d kind channel object d [] c
+unfolding actionKind
+plain-step d kind channel object c few O h = go (O .acts h)
+  where
+    go : ((3 < kind) × (c ≡ blocked)) ⊎ Does d kind channel object c → Acts d kind channel object d [] c
+    go (inl (m, e)) = absurd (omega arith)
+    go (inr D) =
+        let t : actionOf d (D .action) ≡ rowAction d kind channel object = rw (le-ltb 4 kind (omega arith)) at (D .acts) in
+        (D .action, D .result, D .is ∙ ap (λ (M : Cond). step M (D .action) (D .result)) (D .plain few), t, D .below)
+
+blocked-both : (b : Bool) (c : Candidate) → c ≡ blocked → cond b c blocked ≡ blocked
+blocked-both true c e = e
+blocked-both false c e = refl
+
+module _ (d kind channel object : ℕ) where
+  -- its condition may name the restricted name, and then it is blocked
+  does-restricted : (c : Candidate) → channel < nameCount + d → (D : Does (1 + d) kind channel object c) (b : Bool) → sparesRestricted (D .condition) ≡ b
+      → ((3 < kind) × (restricted c ≡ blocked)) ⊎ Does d kind channel object (restricted c)
+  unfolding restricted sparesRestricted
+  does-restricted c h D true b =
+      let (α, A, e, act, below) = passes d (actionKind kind) channel object h (mapP outside (D .condition)) (D .action) (D .result) (D .acts) (D .below) in
+      inr (record {
+        condition = mapP outside (D .condition);
+        action = α;
+        result = A;
+        is = ap restricted (D .is) ∙ ap (λ (t : Bool). cond t (restrictedAction (mapP outside (D .condition)) (D .action) (D .result)) blocked) b ∙ e;
+        plain = λ few. ap (mapP outside) (D .plain few);
+        acts = act;
+        below = below;
+      })
+  does-restricted c h D false b =
+      inl (
+        more (ltb 3 kind) refl,
+        ap restricted (D .is) ∙ ap (λ (t : Bool). cond t (restrictedAction (mapP outside (D .condition)) (D .action) (D .result)) blocked) b,
+      )
+    where
+      more : (t : Bool) → ltb 3 kind ≡ t → 3 < kind
+      more true t = ltb-true 3 kind t
+      more false t =
+          let e : true ≡ false = sym (ap sparesRestricted (D .plain (ltb-false 3 kind t))) ∙ b in
+          let z : _≡_ {A = ℕ} 0 1 = cc in absurd (omega arith)
 
   pub outlined-restricted : (c : Candidate) → Outlined (1 + d) c kind channel object → Outlined d (restricted c) kind channel object
   unfolding restricted
   outlined-restricted c O = record {
     known = O .known;
     inner = λ h. go h (ltb channel (nameCount + (1 + d))) refl;
-    acts = λ h. let (α, A, e, act, b) = O .acts (omega arith) in subst (λ (c : Candidate). Acts d (restricted c)) (sym e) (passes h α A act b);
+    acts = λ h. ⊎-elim (λ p. inl (p .0, ap restricted (p .1))) (λ D. does-restricted c h D (sparesRestricted (D .condition)) refl) (O .acts (omega arith));
   }
     where
+      stopped : nameCount + d ≤ channel → channel < nameCount + (1 + d) → Does (1 + d) kind channel object c → restricted c ≡ blocked
+      stopped h l D =
+          ap restricted (D .is)
+          ∙ blocked-both (sparesRestricted (D .condition)) (restrictedAction (mapP outside (D .condition)) (D .action) (D .result))
+          (stops d (actionKind kind) channel object (omega arith) (mapP outside (D .condition)) (D .action) (D .result) (D .acts) (D .below))
+
       go : nameCount + d ≤ channel → (t : Bool) → ltb channel (nameCount + (1 + d)) ≡ t → restricted c ≡ blocked
       go h true t =
           let l = ltb-true channel (nameCount + (1 + d)) t in
-          let (α, A, e, act, b) = O .acts l in
-          ap restricted e ∙ stops (omega arith) α A act b
+          ⊎-elim (λ p. ap restricted (p .1)) (stopped h l) (O .acts l)
       go h false t = ap restricted (O .inner (ltb-false channel (nameCount + (1 + d)) t))
 
   -- [Par]
@@ -141,7 +190,9 @@ module _ (d kind channel object : ℕ) where
   outlined-left Q c O = record {
     known = O .known;
     inner = λ h. ap (leftSteps Q) (O .inner h);
-    acts = λ h. let (α, A, e, act, b) = O .acts h in (α, par A (weak α Q), ap (leftSteps Q) e, act, b);
+    acts = λ h. ⊎-elim (λ p. inl (p .0, ap (leftSteps Q) (p .1)))
+        (λ D. inr (record { condition = D .condition; action = D .action; result = par (D .result) (weak (D .action) Q); is = ap (leftSteps Q) (D .is); plain = D .plain; acts = D .acts; below = D .below }))
+        (O .acts h);
   }
 
   pub outlined-right : (P : Term) (c : Candidate) → Outlined d c kind channel object → Outlined d (rightSteps P c) kind channel object
@@ -149,20 +200,29 @@ module _ (d kind channel object : ℕ) where
   outlined-right P c O = record {
     known = O .known;
     inner = λ h. ap (rightSteps P) (O .inner h);
-    acts = λ h. let (α, A, e, act, b) = O .acts h in (α, par (weak α P) A, ap (rightSteps P) e, act, b);
+    acts = λ h. ⊎-elim (λ p. inl (p .0, ap (rightSteps P) (p .1)))
+        (λ D. inr (record { condition = D .condition; action = D .action; result = par (weak (D .action) P) (D .result); is = ap (rightSteps P) (D .is); plain = D .plain; acts = D .acts; below = D .below }))
+        (O .acts h);
+  }
+
+  -- [Match]
+  outlined-matching : 3 < kind → (a b : ℕ) (c : Candidate) → Outlined d c kind channel object → Outlined d (matching a b c) kind channel object
+  unfolding matching
+  outlined-matching m a b c O = record {
+    known = O .known;
+    inner = λ h. ap (matching a b) (O .inner h);
+    acts = λ h. ⊎-elim (λ p. inl (p .0, ap (matching a b) (p .1)))
+        (λ D. inr (record { condition = (a, b) ∷ D .condition; action = D .action; result = D .result; is = ap (matching a b) (D .is); plain = λ few. absurd (omega arith); acts = D .acts; below = D .below }))
+        (O .acts h);
   }
 
 -- The rows of a list of candidates, behind others.
 module _ (rows : List ℕ) (n d : ℕ) where
-  pub rows-unknown : (before cs : List Candidate) → ((j : ℕ) → j < length cs → kindAt rows (n + j) ≡ 0) → RowsBehind before d cs rows n
-  unfolding RowsBehind Row
-  rows-unknown before cs u j h = (λ known new. absurd (known (u j h)), λ e. absurd (omega (arith, u j h)))
-
   -- candidates that all come earlier
   pub rows-again : (before cs : List Candidate) → Among cs before → ((j : ℕ) → j < length cs → kindAt rows (n + j) ≡ 4) → RowsBehind before d cs rows n
   unfolding RowsBehind Row
   rows-again before cs m u j h =
-      (λ known new. absurd (new (u j h)), λ e. ∈-left (getD cs j blocked) before (take j cs) (m (getD cs j blocked) (∈-nth cs j blocked h)))
+      (λ new. absurd (new (u j h)), λ e. ∈-left (getD cs j blocked) before (take j cs) (m (getD cs j blocked) (∈-nth cs j blocked h)))
 
   -- behind more of them
   pub rows-more : (before before′ cs : List Candidate) → Among before before′ → RowsBehind before d cs rows n → RowsBehind before′ d cs rows n
@@ -201,35 +261,33 @@ module _ (rows : List ℕ) (n d : ℕ) where
 
   -- A rule with one premise, from rows under d₁ restrictions.
   by-rule : (d₁ : ℕ) (f : Candidate → Candidate) (cs : List Candidate)
-      → ((j : ℕ) → j < length cs → (kindAt rows (n + j) ≡ 0 → ⊥) → (kindAt rows (n + j) ≡ 4 → ⊥)
-      → (c : Candidate) → Outlined d₁ c (kindAt rows (n + j)) (channelAt rows (n + j)) (objectAt rows (n + j))
+      → ((j : ℕ) → j < length cs → (c : Candidate) → Outlined d₁ c (kindAt rows (n + j)) (channelAt rows (n + j)) (objectAt rows (n + j))
       → Outlined d (f c) (kindAt rows (n + j)) (channelAt rows (n + j)) (objectAt rows (n + j)))
       → ((i : ℕ) → getD (map f cs) i blocked ≡ f (getD cs i blocked)) → Rows d₁ cs rows n → Rows d (map f cs) rows n
   unfolding RowsBehind Row
   by-rule d₁ f cs keeps nth r j h =
       let l : j < length cs = omega (arith, length-map cs f) in (
-        λ known new.
+        λ new.
             subst (λ (c : Candidate). Outlined d c (kindAt rows (n + j)) (channelAt rows (n + j)) (objectAt rows (n + j))) (sym (nth j))
-            (keeps j l known new (getD cs j blocked) (r j l .0 known new)),
+            (keeps j l (getD cs j blocked) (r j l .0 new)),
         λ e.
             subst (λ (c : Candidate). c ∈ take j (map f cs)) (sym (nth j))
             (subst (λ (l : List Candidate). f (getD cs j blocked) ∈ l) (sym (take-map f j cs)) (∈-map f (getD cs j blocked) (take j cs) (r j l .1 e))),
       )
 
   pub rows-left : (Q : Term) (cs : List Candidate) → Rows d cs rows n → Rows d (map (leftSteps Q) cs) rows n
-  rows-left Q cs = by-rule d (leftSteps Q) cs (λ j h known new. outlined-left d _ _ _ Q) (nth-leftSteps Q cs)
+  rows-left Q cs = by-rule d (leftSteps Q) cs (λ j h. outlined-left d _ _ _ Q) (nth-leftSteps Q cs)
 
   pub rows-right : (P : Term) (cs : List Candidate) → Rows d cs rows n → Rows d (map (rightSteps P) cs) rows n
-  rows-right P cs = by-rule d (rightSteps P) cs (λ j h known new. outlined-right d _ _ _ P) (nth-rightSteps P cs)
+  rows-right P cs = by-rule d (rightSteps P) cs (λ j h. outlined-right d _ _ _ P) (nth-rightSteps P cs)
 
   pub rows-restricted : (cs : List Candidate) → Rows (1 + d) cs rows n → Rows d (map restricted cs) rows n
-  rows-restricted cs = by-rule (1 + d) restricted cs (λ j h known new. outlined-restricted d _ _ _) (nth-restricted cs)
+  rows-restricted cs = by-rule (1 + d) restricted cs (λ j h. outlined-restricted d _ _ _) (nth-restricted cs)
 
   -- [Match]
-  pub rows-matching : (a b : ℕ) (cs : List Candidate) → Unknown (length cs) rows n → Rows d cs rows n → Rows d (map (matching a b) cs) rows n
-  unfolding Unknown
-  rows-matching a b cs u =
-      by-rule d (matching a b) cs (λ j h known new. absurd (⊎-elim known new (u j h))) (nth-matching a b cs)
+  pub rows-matching : (a b : ℕ) (cs : List Candidate) → Matched (length cs) rows n → Rows d cs rows n → Rows d (map (matching a b) cs) rows n
+  unfolding Matched
+  rows-matching a b cs u = by-rule d (matching a b) cs (λ j h. outlined-matching d _ _ _ (u j h) a b) (nth-matching a b cs)
 
 -- The rows of a parallel, and those of a restriction.
 module _ (body : ℕ → Term) (calls : ℕ) (rows : List ℕ) (n d : ℕ) where
@@ -262,10 +320,9 @@ module _ (m : ℕ) (rows rows′ : List ℕ) (kept : RowsKept m rows rows′) wh
   unfolding RowsKept kindAt
   kind-kept i h = kept (rowBytes * i) (omega arith)
 
-  pub unknown-kept : (count n : ℕ) → n + count ≤ m → Unknown count rows n → Unknown count rows′ n
-  unfolding Unknown
-  unknown-kept count n h u j l =
-      let e = kind-kept (n + j) (omega arith) in ⊎-elim (λ z. inl (e ∙ z)) (λ z. inr (e ∙ z)) (u j l)
+  pub matched-kept : (count n : ℕ) → n + count ≤ m → Matched count rows n → Matched count rows′ n
+  unfolding Matched
+  matched-kept count n h u j l = omega (arith, kind-kept (n + j) (omega arith), u j l)
 
   pub rows-kept : (before : List Candidate) (d n : ℕ) (cs : List Candidate) → n + length cs ≤ m → RowsBehind before d cs rows n → RowsBehind before d cs rows′ n
   unfolding RowsBehind Row RowsKept channelAt objectAt
@@ -273,9 +330,9 @@ module _ (m : ℕ) (rows rows′ : List ℕ) (kept : RowsKept m rows rows′) wh
       let k = kind-kept (n + j) (omega arith) in
       let a : channelAt rows′ (n + j) ≡ channelAt rows (n + j) = kept (rowBytes * (n + j) + 1) (omega arith) in
       let o : objectAt rows′ (n + j) ≡ objectAt rows (n + j) = kept (rowBytes * (n + j) + 2) (omega arith) in (
-        λ known new.
+        λ new.
             subst (λ (k : ℕ). Outlined d (getD cs j blocked) k (channelAt rows′ (n + j)) (objectAt rows′ (n + j))) (sym k)
             (subst (λ (a : ℕ). Outlined d (getD cs j blocked) (kindAt rows (n + j)) a (objectAt rows′ (n + j))) (sym a)
-            (subst (λ (o : ℕ). Outlined d (getD cs j blocked) (kindAt rows (n + j)) (channelAt rows (n + j)) o) (sym o) (r j l .0 (λ z. known (k ∙ z)) (λ z. new (k ∙ z))))),
+            (subst (λ (o : ℕ). Outlined d (getD cs j blocked) (kindAt rows (n + j)) (channelAt rows (n + j)) o) (sym o) (r j l .0 (λ z. new (k ∙ z))))),
         λ e. r j l .1 (sym k ∙ e),
       )

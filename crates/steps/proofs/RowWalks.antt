@@ -2,14 +2,14 @@
 use mathlib.Core.Path.{_≡_, refl, sym, ap, ap₂, subst, _∙_}
 use mathlib.Core.Bool.{Bool, true, false}
 use mathlib.Core.List.{List, [], _∷_, _++_, map, append-nil}
-use mathlib.Core.Logic.{_⊎_, inl, inr, ⊎-elim}
+use mathlib.Core.Logic.{inr, ⊎-elim}
 use Prim.Native.Nat.{ℕ, suc, _+_, _-_, _*_, _<_, _≤_}
 use native.Mathlib.Nat.{eq-or-lt-of-le}
 use native.Mathlib.Omega.{arith}
 use lib.ListN.{length, getD, set, drop, length-append, length-map, length-set}
 use lib.Seq.{getD-set-same, getD-set-other}
 use lib.Dec.{ltb}
-use borrow.Author.Tests.{ltb-true, ltb-false, eq-eqb, ne-eqb}
+use borrow.Author.Tests.{ltb-true, ltb-false, lt-ltb, le-ltb, eq-eqb, ne-eqb}
 use Rattle.calculus.specs.Abstraction.{Act, inpA, outA, boutA}
 use Rattle.calculus.specs.Term.{Term, inp, out, bout, sum, par, res, call, lift, ren}
 use Rattle.terms.specs.Answer.{result}
@@ -21,10 +21,9 @@ use Rattle.steps.specs.Bodies.{BodyIs, OpeningIs}
 use Rattle.steps.specs.Labels.{actionOf, ActionBelow}
 use Rattle.steps.specs.LabelWalk.{slotAt, HasSlots, ArgumentsIs}
 use Rattle.steps.specs.Listing.{bodyOf}
-use Rattle.steps.specs.Lists.{Among}
 use Rattle.steps.specs.Passing.{candidates, MiddleIs}
 use Rattle.steps.specs.Raw.{Candidate, step, blocked, matching, leftSteps, rightSteps, restricted, visible, visibleOf, visibleCalls}
-use Rattle.steps.specs.Rows.{rowBytes, mostRows, kindAt, channelAt, objectAt, rowAction, Outlined, Row, RowsBehind, Rows, Unknown, RowsKept, PutRowIs, PutRepeatedIs, sentSlot, PrefixRowIs, Offers, rootOf, RepeatedIs, ScanIs}
+use Rattle.steps.specs.Rows.{rowBytes, mostRows, kindAt, channelAt, objectAt, actionKind, rowAction, Outlined, Row, RowsBehind, Rows, Matched, RowsKept, PutRowIs, PutRepeatedIs, sentSlot, prefixKind, PrefixRowIs, Offers, rootOf, RepeatedIs, ScanIs}
 use Rattle.steps.specs.Slots.{slotOf}
 use Rattle.steps.specs.Tally.{visibleAt, TallyIs}
 use Rattle.steps.specs.declared.action.Action.the-variants.{Input, Output, NewOutput}
@@ -34,25 +33,25 @@ use Rattle.steps.proofs.CallLaws.{params, at-call, body-scope}
 use Rattle.steps.proofs.CandidateForms.{candidates-call, tag, tag-at, only-mat, only-res, only-two, only-prefix}
 use Rattle.steps.proofs.ChoiceLaws.{offers-alone, offers-left, offers-right}
 use Rattle.steps.proofs.FrontLaws.{stands, behind}
-use Rattle.steps.proofs.RowLaws.{row-input, row-output, row-new, rows-unknown, rows-again, rows-more, rows-append, rows-matching, rows-par, rows-res, kind-kept, rows-kept, unknown-kept, kept-all, kept-then}
+use Rattle.steps.proofs.RowLaws.{row-input, row-output, row-new, rows-again, rows-more, rows-append, rows-matching, rows-par, rows-res, kind-kept, rows-kept, matched-kept, kept-all, kept-then}
 use Rattle.steps.proofs.SlotLaws.{slot-below}
 use Rattle.steps.proofs.TwoSides.{at-left}
 use Rattle.steps.proofs.TwoSides as two
 
-unknown-none : (rows : List ℕ) (n : ℕ) → Unknown 0 rows n
-unfolding Unknown
-unknown-none rows n j h = absurd (omega arith)
+matched-none : (rows : List ℕ) (n : ℕ) → Matched 0 rows n
+unfolding Matched
+matched-none rows n j h = absurd (omega arith)
 
-unknown-both : (rows : List ℕ) (n a b : ℕ) → Unknown a rows n → Unknown b rows (n + a) → Unknown (a + b) rows n
-unfolding Unknown
-unknown-both rows n a b f g j h = go (ltb j a) refl
+matched-both : (rows : List ℕ) (n a b : ℕ) → Matched a rows n → Matched b rows (n + a) → Matched (a + b) rows n
+unfolding Matched
+matched-both rows n a b f g j h = go (ltb j a) refl
   where
-    go : (t : Bool) → ltb j a ≡ t → (kindAt rows (n + j) ≡ 0) ⊎ (kindAt rows (n + j) ≡ 4)
+    go : (t : Bool) → ltb j a ≡ t → 3 < kindAt rows (n + j)
     go true t = f j (ltb-true j a t)
     go false t =
         let l = ltb-false j a t in
         let e : n + a + (j - a) ≡ n + j = omega arith in
-        subst (λ (i : ℕ). (kindAt rows i ≡ 0) ⊎ (kindAt rows i ≡ 4)) e (g (j - a) (omega arith))
+        subst (λ (i : ℕ). 3 < kindAt rows i) e (g (j - a) (omega arith))
 
 -- How many candidates a restriction, a choice and a parallel have.
 module _ (body : ℕ → Term) (calls : ℕ) where
@@ -120,20 +119,37 @@ module _ (n : ℕ) (rows₀ : List ℕ) (below : n ≤ mostRows + 1) where
         (omega (arith, w .0), λ j l. ⊎-elim (λ z. ap (kindAt rows′) (omega arith) ∙ w .1) (λ z. kind-kept m rows₁ rows′ (R .kept) (n + j) (omega arith) ∙ u j z) (eq-or-lt-of-le {n = j} {m = i} (omega arith)));
   }
 
--- The row of a prefix, by its bytes.
-module _ (s : List ℕ) (at : ℕ) (args : List ℕ) (inner depth t channel object : ℕ) (a : t ≡ getD s at 0) (b : channel ≡ slotAt args inner depth (getD s (at + 1) 0)) (n : ℕ) (rows : List ℕ) (r : ℕ)
-    (rows′ : List ℕ) (R : PutRowIs (t - 1) channel object n rows r rows′) where
-  prefix-row : object ≡ sentSlot s at args inner depth → PrefixRowIs s at args inner depth n rows r rows′
-  prefix-row e = rw (← a, ← b, ← e) R
+-- The kind of the row of a prefix.
+module _ (t : ℕ) (some : 1 < t) (few : t < 5) where
+  prefix-plain : (asked : Bool) → actionKind (prefixKind t asked) ≡ t - 1
+  unfolding actionKind prefixKind
+  prefix-plain true = rw (lt-ltb 4 (t + 3) (omega arith)) (omega arith)
+  prefix-plain false = rw (le-ltb 4 (t - 1) (omega arith)) refl
 
-  pub prefix-sends : t ≡ 3 → object ≡ slotAt args inner depth (getD s (at + 2) 0) → PrefixRowIs s at args inner depth n rows r rows′
+  prefix-new : (asked : Bool) → (0 < prefixKind t asked) × (prefixKind t asked ≡ 4 → ⊥)
+  unfolding prefixKind
+  prefix-new true = (omega arith, λ e. omega arith)
+  prefix-new false = (omega arith, λ e. omega arith)
+
+  prefix-matched : (asked : Bool) → asked ≡ true → 3 < prefixKind t asked
+  unfolding prefixKind
+  prefix-matched true e = omega arith
+  prefix-matched false e = let z : _≡_ {A = ℕ} 0 1 = cc in absurd (omega arith)
+
+-- The row of a prefix, by its bytes.
+module _ (s : List ℕ) (at : ℕ) (asked : Bool) (args : List ℕ) (inner depth t kind channel object : ℕ) (a : t ≡ getD s at 0) (f : kind ≡ prefixKind t asked) (b : channel ≡ slotAt args inner depth (getD s (at + 1) 0)) (n : ℕ) (rows : List ℕ) (r : ℕ)
+    (rows′ : List ℕ) (R : PutRowIs kind channel object n rows r rows′) where
+  prefix-row : object ≡ sentSlot s at args inner depth → PrefixRowIs s at asked args inner depth n rows r rows′
+  prefix-row e = rw (← a, ← f, ← b, ← e) R
+
+  pub prefix-sends : t ≡ 3 → object ≡ slotAt args inner depth (getD s (at + 2) 0) → PrefixRowIs s at asked args inner depth n rows r rows′
   unfolding sentSlot
   prefix-sends z e =
       let k : getD s at 0 ≡ 3 = sym a ∙ z in
       let o : object ≡ sentSlot s at args inner depth = rw k e in
       prefix-row o
 
-  pub prefix-other : (t ≡ 3 → ⊥) → object ≡ 0 → PrefixRowIs s at args inner depth n rows r rows′
+  pub prefix-other : (t ≡ 3 → ⊥) → object ≡ 0 → PrefixRowIs s at asked args inner depth n rows r rows′
   unfolding sentSlot
   prefix-other z e =
       let o : object ≡ sentSlot s at args inner depth = rw (ne-eqb (getD s at 0) 3 (λ k. z (a ∙ k))) e in
@@ -151,30 +167,26 @@ module _ (t root at : ℕ) where
 
 -- One row.
 module _ (d kind channel object : ℕ) (rows : List ℕ) (n : ℕ) (k : kindAt rows n ≡ kind) where
-  one-unknown : kind ≡ 0 → (j : ℕ) → j < 1 → kindAt rows (n + j) ≡ 0
-  one-unknown z j h = let e : n + j ≡ n = omega arith in ap (kindAt rows) e ∙ k ∙ z
-
-  one-row : channelAt rows n ≡ channel → objectAt rows n ≡ object → (before : List Candidate) (c : Candidate) → Outlined d c kind channel object
+  one-row : channelAt rows n ≡ channel → objectAt rows n ≡ object → (kind ≡ 4 → ⊥) → (before : List Candidate) (c : Candidate) → Outlined d c kind channel object
       → RowsBehind before d (c ∷ []) rows n
   unfolding RowsBehind Row
-  one-row a o before c O j h =
+  one-row a o once before c O j h =
       let z : j ≡ 0 = omega arith in
-      let e : n ≡ n + j = omega arith in
-      let w = O .known in (
-        λ known new.
+      let e : n ≡ n + j = omega arith in (
+        λ new.
             subst (λ (i : ℕ). Outlined d (getD (c ∷ []) j blocked) (kindAt rows i) (channelAt rows i) (objectAt rows i)) e
             (subst (λ (i : ℕ). Outlined d (getD (c ∷ []) i blocked) (kindAt rows n) (channelAt rows n) (objectAt rows n)) (sym z)
             (rw (k, a, o) O)),
-        λ f. absurd (omega (arith, ap (kindAt rows) e ∙ f)),
+        λ f. absurd (once (sym k ∙ ap (kindAt rows) e ∙ f)),
       )
 
 -- The candidate of a visible prefix.
-module _ (d kind channel object : ℕ) (α : Act) (A : Term) (few : kind ≤ 3) (below : channel < nameCount + d) (e : actionOf d α ≡ rowAction d kind channel object) (b : ActionBelow (d + nameCount) α) where
+module _ (d kind channel object : ℕ) (α : Act) (A : Term) (some : 0 < kind) (below : channel < nameCount + d) (e : actionOf d α ≡ rowAction d (actionKind kind) channel object) (b : ActionBelow (d + nameCount) α) where
   outlined : Outlined d (step [] α A) kind channel object
   outlined = record {
-    known = few;
+    known = some;
     inner = λ h. absurd (omega arith);
-    acts = λ h. (α, A, refl, e, b);
+    acts = λ h. inr (record { condition = []; action = α; result = A; is = refl; plain = λ _. refl; acts = e; below = b });
   }
 
 module _ (question s : List ℕ) (root at : ℕ) (asked : Bool) (args : List ℕ) (inner depth calls n : ℕ) (rows : List ℕ) where
@@ -183,7 +195,7 @@ module _ (question s : List ℕ) (root at : ℕ) (asked : Bool) (args : List ℕ
 
   -- what is to be shown of the candidates of each form
   abbrev Has : List Candidate → ℕ → List ℕ → List Candidate → Type 0
-  Has before r rows′ cs = (r ≡ n + length cs) × RowsBehind before depth cs rows′ n × (asked ≡ true → Unknown (length cs) rows′ n)
+  Has before r rows′ cs = (r ≡ n + length cs) × RowsBehind before depth cs rows′ n × (asked ≡ true → Matched (length cs) rows′ n)
 
   abbrev Shows : List Candidate → Question → (ℕ → ℕ) → ℕ → List ℕ → Term → Type 0
   Shows before q σ r rows′ P = n + length (seen q σ P) ≤ mostRows → Has before r rows′ (seen q σ P)
@@ -192,7 +204,8 @@ module _ (question s : List ℕ) (root at : ℕ) (asked : Bool) (args : List ℕ
   Stands before q free D σ rest r rows′ P = InScope free (q .arities) D P → drop at s ≡ encode D P ++ rest → Shows before q σ r rows′ P
 
   has-none : (before : List Candidate) → Has before n rows []
-  has-none before = (omega arith, rows-unknown rows n depth before [] (λ j h. absurd (omega arith)), λ e. unknown-none rows n)
+  unfolding RowsBehind
+  has-none before = (omega arith, λ j h. absurd (omega arith), λ e. matched-none rows n)
 
   -- behind nothing, and so behind anything
   behind-all : (before : List Candidate) (rows′ : List ℕ) (cs : List Candidate) → Rows depth cs rows′ n → RowsBehind before depth cs rows′ n
@@ -222,28 +235,9 @@ module _ (question s : List ℕ) (root at : ℕ) (asked : Bool) (args : List ℕ
   }
 
   module _ (l : 1 < getD s at 0) (g : getD s at 0 < 5) (r : ℕ) (rows′ : List ℕ) where
-    -- beneath a match
-    pub scan-asked : PutRowIs 0 0 0 n rows r rows′ → ScanIs question s root at asked args inner depth calls n rows r rows′
-    unfolding visible visibleOf Unknown
-    scan-asked R = record {
-      on = R .on;
-      inside = R .inside;
-      kept = R .kept;
-      is = λ q free D σ P rest before ok few has scope st o.
-          let k = tag-at s at D P rest st in
-          let one : (c : Candidate) → n + 1 ≤ mostRows → Has before r rows′ (c ∷ []) =
-          λ c h.
-          let w = R .is (omega arith) in
-          let u = one-unknown depth 0 0 0 rows′ n (w .1) refl in
-          (w .0, rows-unknown rows′ n depth before (c ∷ []) u, λ e j h. inl (u j h)) in
-          only-prefix (λ (P : Term). 1 < tag P → Shows before q σ r rows′ P)
-          (λ h. absurd (omega arith)) (λ P h. absurd (omega arith)) (λ a P h. one _) (λ a b P h. one _) (λ a P h. one _)
-          P (omega arith) (omega arith);
-    }
-
-    pub scan-prefix : asked ≡ false → PrefixRowIs s at args inner depth n rows r rows′ → ScanIs question s root at asked args inner depth calls n rows r rows′
-    unfolding visible visibleOf InScope encode sentSlot actionOf ActionBelow
-    scan-prefix f R = record {
+    pub scan-prefix : PrefixRowIs s at asked args inner depth n rows r rows′ → ScanIs question s root at asked args inner depth calls n rows r rows′
+    unfolding visible visibleOf InScope encode sentSlot actionOf ActionBelow Matched
+    scan-prefix R = record {
       on = R .on;
       inside = R .inside;
       kept = R .kept;
@@ -252,36 +246,42 @@ module _ (question s : List ℕ) (root at : ℕ) (asked : Bool) (args : List ℕ
           let t = tag-at s at D P rest st in
           let channel = slotAt args inner depth (getD s (at + 1) 0) in
           let object = sentSlot s at args inner depth in
-          let one : (c : Candidate) → Outlined depth c (getD s at 0 - 1) channel object → n + 1 ≤ mostRows → Has before r rows′ (c ∷ []) =
+          let kind = prefixKind (getD s at 0) asked in
+          let is-plain = prefix-plain (getD s at 0) l g asked in
+          let new = prefix-new (getD s at 0) l g asked in
+          let one : (c : Candidate) → Outlined depth c kind channel object → n + 1 ≤ mostRows → Has before r rows′ (c ∷ []) =
           λ c O h.
           let w = R .is (omega arith) in
-          (w .0, one-row depth (getD s at 0 - 1) channel object rows′ n (w .1) (w .2) (w .3) before c O, λ e. absurd (clash e)) in
+          (w .0, one-row depth kind channel object rows′ n (w .1) (w .2) (w .3) (new .1) before c O, λ e j h. first (w .1) e j h) in
           only-prefix (λ (P : Term). 1 < tag P → getD s at 0 ≡ tag P → Stands before q free D σ rest r rows′ P)
           (λ h k. absurd (omega arith)) (λ P h k. absurd (omega arith))
           (λ a P h k scope st.
           let u = read 1 a (scope .0) (getD-front s at (encode D (inp a P)) rest 1 st (omega arith)) channel refl in
-          one _ (outlined depth (getD s at 0 - 1) channel object (inpA (σ a)) (ren (lift σ) P) (omega arith) (omega (arith, u .0, slot-below nameCount depth (σ a) (u .1)))
-          (ap Input (sym (u .0)) ∙ sym (row-input depth (getD s at 0 - 1) channel object (omega arith))) (u .1)))
+          one _ (outlined depth kind channel object (inpA (σ a)) (ren (lift σ) P) (new .0) (omega (arith, u .0, slot-below nameCount depth (σ a) (u .1)))
+          (ap Input (sym (u .0)) ∙ sym (row-input depth (actionKind kind) channel object (omega (arith, is-plain)))) (u .1)))
           (λ a b P h k scope st.
           let u = read 1 a (scope .0) (getD-front s at (encode D (out a b P)) rest 1 st (omega arith)) channel refl in
           let v = read 2 b (scope .1) (getD-front s at (encode D (out a b P)) rest 2 st (omega arith)) (slotAt args inner depth (getD s (at + 2) 0)) refl in
           let o : object ≡ slotOf nameCount depth (σ b) = rw k (v .0) in
-          one _ (outlined depth (getD s at 0 - 1) channel object (outA (σ a) (σ b)) (ren σ P) (omega arith) (omega (arith, u .0, slot-below nameCount depth (σ a) (u .1)))
-          (ap₂ Output (sym (u .0)) (sym o) ∙ sym (row-output depth (getD s at 0 - 1) channel object (omega arith) (omega (arith, slot-below nameCount depth (σ b) (v .1))))) (u .1, v .1)))
+          one _ (outlined depth kind channel object (outA (σ a) (σ b)) (ren σ P) (new .0) (omega (arith, u .0, slot-below nameCount depth (σ a) (u .1)))
+          (ap₂ Output (sym (u .0)) (sym o) ∙ sym (row-output depth (actionKind kind) channel object (omega (arith, is-plain)) (omega (arith, slot-below nameCount depth (σ b) (v .1))))) (u .1, v .1)))
           (λ a P h k scope st.
           let u = read 1 a (scope .0) (getD-front s at (encode D (bout a P)) rest 1 st (omega arith)) channel refl in
-          one _ (outlined depth (getD s at 0 - 1) channel object (boutA (σ a)) (ren (lift σ) P) (omega arith) (omega (arith, u .0, slot-below nameCount depth (σ a) (u .1)))
-          (ap NewOutput (sym (u .0)) ∙ sym (row-new depth (getD s at 0 - 1) channel object (λ e. omega arith) (λ e. absurd (omega arith)))) (u .1)))
+          one _ (outlined depth kind channel object (boutA (σ a)) (ren (lift σ) P) (new .0) (omega (arith, u .0, slot-below nameCount depth (σ a) (u .1)))
+          (ap NewOutput (sym (u .0)) ∙ sym (row-new depth (actionKind kind) channel object (λ e. omega (arith, is-plain)) (λ e. absurd (omega (arith, is-plain))))) (u .1)))
           P (omega arith) (omega arith) t scope st;
     }
       where
-        clash : asked ≡ true → ⊥
-        clash e = let z : _≡_ {A = ℕ} 0 1 = cc in omega arith
+        first : kindAt rows′ n ≡ prefixKind (getD s at 0) asked → asked ≡ true → (j : ℕ) → j < 1 → 3 < kindAt rows′ (n + j)
+        first k e j h =
+            let z : n + j ≡ n = omega arith in
+            let m = prefix-matched (getD s at 0) l g asked e in
+            subst (λ (i : ℕ). 3 < kindAt rows′ i) (sym z) (rw k m)
 
   -- a branch that the choice has before
   pub scan-again : (getD s at 0 ≡ 6 → ⊥) → (numbers : List ℕ) → TallyIs question s calls numbers → RepeatedIs question s root at true → (m : ℕ) → m ≡ visibleAt numbers at
       → (r : ℕ) (rows′ : List ℕ) → PutRepeatedIs m n rows r rows′ → ScanIs question s root at asked args inner depth calls n rows r rows′
-  unfolding Unknown
+  unfolding Matched
   scan-again g numbers T again m c r rows′ R = record {
     on = R .on;
     inside = R .inside;
@@ -291,7 +291,7 @@ module _ (question s : List ℕ) (root at : ℕ) (asked : Bool) (args : List ℕ
         let many : m ≡ length (seen q σ P) = c ∙ T .is q at free D σ P rest ok scope st .0 in
         let (e, u) = R .is (omega arith) in
         let u′ : (j : ℕ) → j < length (seen q σ P) → kindAt rows′ (n + j) ≡ 4 = λ j l. u j (omega arith) in
-        (e ∙ ap (λ (k : ℕ). n + k) many, rows-again rows′ n depth before cs (again .is q calls free D σ P rest before refl ok few scope st g o) u′, λ _ j l. inr (u′ j l));
+        (e ∙ ap (λ (k : ℕ). n + k) many, rows-again rows′ n depth before cs (again .is q calls free D σ P rest before refl ok few scope st g o) u′, λ _ j l. omega (arith, u′ j l));
   }
 
   -- [Match]
@@ -306,7 +306,7 @@ module _ (question s : List ℕ) (root at : ℕ) (asked : Bool) (args : List ℕ
         let cs = seen q σ P in
         let m : length (map (matching (σ a) (σ b)) cs) ≡ length cs = length-map cs (matching (σ a) (σ b)) in
         let w = X .is q free D σ P rest [] ok few has (scope .2) (behind s at 3 (5 ∷ nameByte D a ∷ nameByte D b ∷ []) (encode D P ++ rest) st refl) (offers-alone (bodyOf (q .bodies)) calls (q .arities) free D σ s [] (at + 3)) (omega arith) in
-        let u : Unknown (length (map (matching (σ a) (σ b)) cs)) rows′ n = rw m (w .2 refl) in
+        let u : Matched (length (map (matching (σ a) (σ b)) cs)) rows′ n = rw m (w .2 refl) in
         (w .0 ∙ omega arith, behind-all before rows′ _ (rows-matching rows′ n depth (σ a) (σ b) cs (w .2 refl) (w .1)), λ e. u))
         P (sym (tag-at s at D P rest st) ∙ g) scope st;
   }
@@ -348,7 +348,7 @@ module _ (question s : List ℕ) (root at : ℕ) (asked : Bool) (args : List ℕ
         let (e₂, f₂, u₂) = Y .is q free D σ Q rest before₂ ok few has sq (two.behind question s calls numbers T at middle N q free D σ P Q rest ok sp sq st) o₂ (omega arith) in (
           omega arith,
           join (rows-kept r₁ rows₁ rows′ (Y .kept) before₁ depth n ps (omega arith) f) (subst (RowsBehind before₂ depth qs rows′) e f₂),
-          λ t. rw m (unknown-both rows′ n (length ps) (length qs) (unknown-kept r₁ rows₁ rows′ (Y .kept) (length ps) n (omega arith) (u t)) (subst (Unknown (length qs) rows′) e (u₂ t))),
+          λ t. rw m (matched-both rows′ n (length ps) (length qs) (matched-kept r₁ rows₁ rows′ (Y .kept) (length ps) n (omega arith) (u t)) (subst (Matched (length qs) rows′) e (u₂ t))),
         )
 
     pub scan-two : ScanIs question s root at asked args inner depth calls n rows r rows′

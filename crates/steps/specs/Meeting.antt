@@ -13,7 +13,7 @@ use Rattle.steps.specs.Contexts.{Frame, raised, Placed}
 use Rattle.steps.specs.Listing.{bodyOf}
 use Rattle.steps.specs.PartLister.{Lists}
 use Rattle.steps.specs.Raw.{Candidate, blocked, communication, visible, silent}
-use Rattle.steps.specs.Rows.{kindAt, channelAt, Outlined, Row, Rows}
+use Rattle.steps.specs.Rows.{kindAt, channelAt, actionKind, Outlined, Row, Rows}
 use Rattle.steps.specs.declared.meet.Side.{Side}
 
 -- No number of a candidate comes near it: 2 to the power of 40.
@@ -30,14 +30,11 @@ lastMerged c = cond (leb c 15) 15 c
 unfoldable pub isBetween : (c low high : ℕ) → Bool
 isBetween c low high = cond (ltb c low) false (leb c high)
 
--- Two rows, the second by kind and channel, the first by kind and those channels: one says nothing, or one receives, the other sends, and the
--- channels may be merged. A row whose candidate is equal to an earlier one meets no other.
+-- Two rows, the second by kind and channel, the first by kind and those channels: one receives, the other sends, and the channels may be merged. A row whose candidate is equal to an earlier one meets no other.
 unfoldable pub meetsBetween : (k₁ low high k₂ c₂ : ℕ) → Bool
 meetsBetween k₁ low high k₂ c₂ =
     cond (eqb k₂ 4) false
-    (cond (eqb k₁ 0) true
-    (cond (eqb k₂ 0) true
-    (cond (eqb k₁ 1) (cond (eqb k₂ 1) false (isBetween c₂ low high)) (cond (eqb k₂ 1) (isBetween c₂ low high) false))))
+    (cond (eqb (actionKind k₁) 1) (cond (eqb (actionKind k₂) 1) false (isBetween c₂ low high)) (cond (eqb (actionKind k₂) 1) (isBetween c₂ low high) false))
 
 unfoldable pub mayMeet : (k₁ c₁ k₂ c₂ : ℕ) → Bool
 mayMeet k₁ c₁ k₂ c₂ = meetsBetween k₁ (firstMerged c₁) (lastMerged c₁) k₂ c₂
@@ -51,7 +48,7 @@ pub record NextMetIs (rows : List ℕ) (kind channel from last r : ℕ) : Type 0
 
 -- A row whose candidate is not known to be blocked.
 unfoldable pub Unblocked : (d : ℕ) (c : Candidate) (kind channel object : ℕ) → Type 0
-Unblocked d c kind channel object = (kind ≡ 0 → ⊥) → Outlined d c kind channel object × (channel < nameCount + d)
+Unblocked d c kind channel object = Outlined d c kind channel object × (channel < nameCount + d)
 
 -- The row that sends: the right one, where the left one receives.
 unfoldable pub senderOf : Side → Side → Side
@@ -70,7 +67,7 @@ pub record PairIs (question part : List ℕ) (at depth number : ℕ) (a b : Side
       → a .number < length (visible (bodyOf (q .bodies)) 1 L) → s ≡ getD (visible (bodyOf (q .bodies)) 1 L) (a .number) blocked
       → b .number < length (visible (bodyOf (q .bodies)) 1 R) → t ≡ getD (visible (bodyOf (q .bodies)) 1 R) (b .number) blocked
       → Unblocked depth s (a .kind) (a .channel) (a .object)
-      → ((b .kind ≡ 0 → ⊥) → Outlined depth t (b .kind) (b .channel) (b .object))
+      → Outlined depth t (b .kind) (b .channel) (b .object)
       → mayMeet (a .kind) (a .channel) (b .kind) (b .channel) ≡ true
       → j < length (silent (bodyOf (q .bodies)) 1 (par L R))
       → getD (silent (bodyOf (q .bodies)) 1 (par L R)) j blocked ≡ communication s t

@@ -8,6 +8,7 @@ use Prim.Native.Nat.{ℕ, _+_, _-_, _*_, _<_, _≤_}
 use lib.ListN.{length, getD, take, drop}
 use lib.Dec.{eqb, ltb}
 use Rattle.calculus.specs.Abstraction.{Act, tauA}
+use Rattle.calculus.specs.Cond.{Cond}
 use Rattle.calculus.specs.Term.{Term, ren}
 use Rattle.terms.specs.Answer.{result}
 use Rattle.terms.specs.Encoding.{encode, InScope}
@@ -29,8 +30,8 @@ rowBytes = 4
 abbrev pub mostRows : ℕ
 mostRows = 1056
 
--- The kind is 1 for an input, 2 for an output, 3 for a new-name output; it is 0 where the row says nothing, and 4 where an equal candidate comes
--- earlier, which has the row that counts.
+-- The kind is 1 for an input, 2 for an output, 3 for a new-name output, and 4 more for a candidate beneath a match, whose condition the row does not
+-- say. It is 4 where an equal candidate comes earlier, which has the row that counts.
 unfoldable pub kindAt : List ℕ → ℕ → ℕ
 kindAt rows i = getD rows (rowBytes * i) 0
 
@@ -40,20 +41,33 @@ channelAt rows i = getD rows (rowBytes * i + 1) 0
 unfoldable pub objectAt : List ℕ → ℕ → ℕ
 objectAt rows i = getD rows (rowBytes * i + 2) 0
 
+-- The kind without the match.
+unfoldable pub actionKind : ℕ → ℕ
+actionKind kind = cond (ltb 4 kind) (kind - 4) kind
+
 -- The action under d restrictions: an output of a name that is restricted further in extrudes it.
 unfoldable pub rowAction : (d kind channel object : ℕ) → Action
 rowAction d kind channel object =
     cond (eqb kind 1) (Input channel) (cond (eqb kind 2 && ltb object (nameCount + d)) (Output channel object) (NewOutput channel))
 
--- A candidate under d restrictions and its row: it is blocked if its channel is restricted further in, and else has no condition.
+-- A candidate under d restrictions is a step with the action of its row, which has a condition only beneath a match.
+pub record Does (d kind channel object : ℕ) (c : Candidate) : Type 0 where
+  pub condition : Cond
+  pub action : Act
+  pub result : Term
+  pub is : c ≡ step condition action result
+  pub plain : kind ≤ 3 → condition ≡ []
+  pub acts : actionOf d action ≡ rowAction d (actionKind kind) channel object
+  pub below : ActionBelow (d + nameCount) action
+
+-- A candidate under d restrictions and its row: it is blocked if its channel is restricted further in, and else, beneath a match, it may be.
 pub record Outlined (d : ℕ) (c : Candidate) (kind channel object : ℕ) : Type 0 where
-  pub known : kind ≤ 3
+  pub known : 0 < kind
   pub inner : nameCount + d ≤ channel → c ≡ blocked
-  pub acts : channel < nameCount + d
-      → ((α : Act) × (A : Term) × (c ≡ step [] α A) × (actionOf d α ≡ rowAction d kind channel object) × ActionBelow (d + nameCount) α)
+  pub acts : channel < nameCount + d → ((3 < kind) × (c ≡ blocked)) ⊎ Does d kind channel object c
 
 unfoldable pub Row : ℕ → Candidate → List ℕ → ℕ → Type 0
-Row d c rows i = (kindAt rows i ≡ 0 → ⊥) → (kindAt rows i ≡ 4 → ⊥) → Outlined d c (kindAt rows i) (channelAt rows i) (objectAt rows i)
+Row d c rows i = (kindAt rows i ≡ 4 → ⊥) → Outlined d c (kindAt rows i) (channelAt rows i) (objectAt rows i)
 
 -- The candidates cs, under d restrictions, are in the rows from number n on; those of `before` come before them. A row of kind 4 has a candidate that
 -- is one of these or of the earlier ones of cs.
@@ -65,9 +79,9 @@ RowsBehind before d cs rows n =
 abbrev pub Rows : ℕ → List Candidate → List ℕ → ℕ → Type 0
 Rows = RowsBehind []
 
--- So many rows from number n on say nothing of what their candidates do.
-unfoldable pub Unknown : ℕ → List ℕ → ℕ → Type 0
-Unknown count rows n = (j : ℕ) → j < count → (kindAt rows (n + j) ≡ 0) ⊎ (kindAt rows (n + j) ≡ 4)
+-- So many rows from number n on are of candidates beneath a match, or equal to earlier ones.
+unfoldable pub Matched : ℕ → List ℕ → ℕ → Type 0
+Matched count rows n = (j : ℕ) → j < count → 3 < kindAt rows (n + j)
 
 -- The rows before number n are as they were.
 unfoldable pub RowsKept : ℕ → List ℕ → List ℕ → Type 0
@@ -91,9 +105,13 @@ pub record PutRepeatedIs (count n : ℕ) (rows : List ℕ) (r : ℕ) (rows′ : 
 unfoldable pub sentSlot : List ℕ → ℕ → List ℕ → ℕ → ℕ → ℕ
 sentSlot s at args inner depth = cond (eqb (getD s at 0) 3) (slotAt args inner depth (getD s (at + 2) 0)) 0
 
+-- The kind of the row of a visible prefix, by its first byte.
+unfoldable pub prefixKind : ℕ → Bool → ℕ
+prefixKind t asked = cond asked (t + 3) (t - 1)
+
 -- The row of the prefix at `at`.
-abbrev pub PrefixRowIs : List ℕ → ℕ → List ℕ → ℕ → ℕ → ℕ → List ℕ → ℕ → List ℕ → Type 0
-PrefixRowIs s at args inner depth = PutRowIs (getD s at 0 - 1) (slotAt args inner depth (getD s (at + 1) 0)) (sentSlot s at args inner depth)
+abbrev pub PrefixRowIs : List ℕ → ℕ → Bool → List ℕ → ℕ → ℕ → ℕ → List ℕ → ℕ → List ℕ → Type 0
+PrefixRowIs s at asked args inner depth = PutRowIs (prefixKind (getD s at 0) asked) (slotAt args inner depth (getD s (at + 1) 0)) (sentSlot s at args inner depth)
 
 -- What stands in a choice before one of its branches: bytes 06, and branches.
 pub data Piece : Type 0 where
@@ -134,7 +152,7 @@ pub record RepeatedIs (question s : List ℕ) (root at : ℕ) (r : Bool) : Type 
       → Among (visible (bodyOf (q .bodies)) calls (ren σ P)) before
 
 -- The visible candidates of the term at `at` are put into the rows from number n on, while there is room; the answer is the number behind the last,
--- or one past the last row. Beneath a match, where `asked`, the rows say nothing of an action. The term is `ren σ P`, as in LabelWalk, and stands in the choice that
+-- or one past the last row. Beneath a match, where `asked`, the rows say so. The term is `ren σ P`, as in LabelWalk, and stands in the choice that
 -- begins at `root`.
 pub record ScanIs (question s : List ℕ) (root at : ℕ) (asked : Bool) (args : List ℕ) (inner depth calls n : ℕ) (rows : List ℕ) (r : ℕ) (rows′ : List ℕ) : Type 0 where
   pub on : n ≤ r
@@ -150,7 +168,7 @@ pub record ScanIs (question s : List ℕ) (root at : ℕ) (asked : Bool) (args :
       → n + length (visible (bodyOf (q .bodies)) calls (ren σ P)) ≤ mostRows
       → (r ≡ n + length (visible (bodyOf (q .bodies)) calls (ren σ P)))
       × RowsBehind before depth (visible (bodyOf (q .bodies)) calls (ren σ P)) rows′ n
-      × (asked ≡ true → Unknown (length (visible (bodyOf (q .bodies)) calls (ren σ P))) rows′ n)
+      × (asked ≡ true → Matched (length (visible (bodyOf (q .bodies)) calls (ren σ P))) rows′ n)
 
 -- Every silent candidate is a step without a condition.
 unfoldable pub Unconditional : List Candidate → Type 0

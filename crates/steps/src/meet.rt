@@ -6,7 +6,7 @@ ghost use Rattle.terms.specs.Limits.{longestTerm};
 ghost use Rattle.steps.specs.Limits.{stepBytes, mostSteps};
 ghost use Rattle.steps.specs.Locating.{tableSlot, TakeMetIs};
 ghost use Rattle.steps.specs.Meeting.{mostNumbers, firstMerged, lastMerged, isBetween, meetsBetween, senderOf, sendsFree, NextMetIs, PairIs, SamePairIs, MeetRowIs};
-ghost use Rattle.steps.specs.Rows.{rowBytes, mostRows};
+ghost use Rattle.steps.specs.Rows.{rowBytes, mostRows, actionKind};
 ghost use Rattle.steps.specs.Tally.{TallyIs, BodiesTallied};
 ghost use Rattle.steps.specs.Walking.{MeetsIs};
 use crate::limits::MOST_STEPS;
@@ -17,14 +17,13 @@ use crate::pass::middle_of;
 use crate::put::put_classed;
 use crate::put::put_met;
 use crate::put::put_placed;
+use crate::rows::MATCHED;
 use crate::rows::REPEATED;
 use crate::rows::ROW_BYTES;
 use terms::limits::NAME_COUNT;
 use terms::tables::merging;
 
-// The kinds of a row that says nothing, and of an input; the others are outputs.
-const UNKNOWN: u8 = 0;
-
+// The kind of an input; the others are outputs.
 const INPUT: u8 = 1;
 
 const FREE_OUTPUT: u8 = 2;
@@ -60,6 +59,16 @@ fn is_between(c: u8, low: u8, high: u8) -> bool
     c <= high
 }
 
+// The kind of a row without the match.
+fn action_kind(kind: u8) -> u8
+    ensures { λ r. ⌜ r ≡ actionKind kind ⌝ }
+{
+    if MATCHED < kind {
+        return kind - MATCHED;
+    }
+    kind
+}
+
 // Whether the candidates of two rows may communicate: by their kinds, and by the channel of one and those that may be merged with the other's. A
 // candidate that is equal to an earlier one adds nothing.
 fn may_meet(k1: u8, low: u8, high: u8, k2: u8, c2: u8) -> bool
@@ -68,19 +77,15 @@ fn may_meet(k1: u8, low: u8, high: u8, k2: u8, c2: u8) -> bool
     if k2 == REPEATED {
         return false;
     }
-    if k1 == UNKNOWN {
-        return true;
-    }
-    if k2 == UNKNOWN {
-        return true;
-    }
-    if k1 == INPUT {
-        if k2 == INPUT {
+    let a1 = action_kind(k1);
+    let a2 = action_kind(k2);
+    if a1 == INPUT {
+        if a2 == INPUT {
             return false;
         }
         return is_between(c2, low, high);
     }
-    if k2 == INPUT {
+    if a2 == INPUT {
         return is_between(c2, low, high);
     }
     false
@@ -189,7 +194,7 @@ fn take_same(
     area: &mut [u8],
     count: usize,
 ) -> usize
-    requires { ⌜ (count ≤ mostSteps) × (mostSteps * stepBytes ≤ length (now area)) × (length (now part) ≤ longestTerm) × TallyIs (now question) (now part) 1 (now tally) × BodiesTallied (now question) (now bodies) × (depth ≤ at) × (at < length (now part)) × (a .kind ≡ 0 → ⊥) × (b .kind ≡ 0 → ⊥) × (a .channel ≡ b .channel) ⌝ }
+    requires { ⌜ (count ≤ mostSteps) × (mostSteps * stepBytes ≤ length (now area)) × (length (now part) ≤ longestTerm) × TallyIs (now question) (now part) 1 (now tally) × BodiesTallied (now question) (now bodies) × (depth ≤ at) × (at < length (now part)) × (a .kind ≤ 3) × (b .kind ≤ 3) × (a .channel ≡ b .channel) ⌝ }
     ensures { λ r. ⌜ SamePairIs (now (question .entry)) (now (part .entry)) at depth a b j x (now (area .entry)) count r (now (area .exit)) ⌝ }
 {
     let from = sender(a, b);
@@ -231,7 +236,7 @@ fn take_same(
 }
 
 // Puts the communication of two candidates whose rows may meet into the list; `j` is its number among the silent candidates of the parallel. Where a
-// row says nothing it is found by its number in the part.
+// candidate stands beneath a match it is found by its number in the part.
 fn take_pair(
     question: &[u8],
     bodies: &[u32],
@@ -251,10 +256,10 @@ fn take_pair(
     ensures { λ r. ⌜ PairIs (now (question .entry)) (now (part .entry)) at depth number a b j x (now (area .entry)) count r (now (area .exit)) ⌝ }
 {
     let i = number + j;
-    if a.kind == UNKNOWN {
+    if MATCHED <= a.kind {
         return take_candidate(question, bodies, part, tally, true, i, x, area, count);
     }
-    if b.kind == UNKNOWN {
+    if MATCHED <= b.kind {
         return take_candidate(question, bodies, part, tally, true, i, x, area, count);
     }
     if a.channel == b.channel {
@@ -323,10 +328,8 @@ fn meet_row(
     if kind == REPEATED {
         return count;
     }
-    if kind != UNKNOWN {
-        if NAME_COUNT + depth <= channel as usize {
-            return count;
-        }
+    if NAME_COUNT + depth <= channel as usize {
+        return count;
     }
     let object = rows[ROW_BYTES * row + 2];
     let a = Side {

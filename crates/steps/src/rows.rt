@@ -6,7 +6,7 @@ ghost use Prim.Native.Nat.{ℕ, _+_, _*_, _≤_, _<_};
 ghost use lib.ListN.{length, getD};
 ghost use Rattle.terms.specs.Limits.{nameCount, longestTerm};
 ghost use Rattle.steps.specs.LabelWalk.{Within};
-ghost use Rattle.steps.specs.Rows.{rowBytes, mostRows, PutRowIs, PrefixRowIs, PutRepeatedIs, rootOf, behindPiece, RepeatedIs, ScanIs, QuietIs};
+ghost use Rattle.steps.specs.Rows.{rowBytes, mostRows, PutRowIs, prefixKind, PrefixRowIs, PutRepeatedIs, rootOf, behindPiece, RepeatedIs, ScanIs, QuietIs};
 ghost use Rattle.steps.specs.Slots.{slotCount};
 ghost use Rattle.steps.specs.Tally.{EndsInside, TallyIs, EndsTallied, BodiesTallied};
 use crate::bodies::body_of;
@@ -21,12 +21,15 @@ use crate::tally::silent_at;
 use crate::tally::visible_at;
 use terms::bytes::get;
 
-// What a candidate does (1 input, 2 output, 3 new-name output, 0 not known, 4 equal to an earlier one), its channel and its object; the fourth byte
-// is not used.
+// What a candidate does (1 input, 2 output, 3 new-name output; 4 more beneath a match; 4 equal to an earlier one), its channel and its object; the
+// fourth byte is not used.
 pub const ROW_BYTES: usize = 4;
 
 // The kind of a row whose candidate is equal to an earlier one.
 pub const REPEATED: u8 = 4;
+
+// Added to the kind of a row whose candidate stands beneath a match: the row does not say its condition.
+pub const MATCHED: u8 = 4;
 
 // The byte of a choice.
 const CHOICE: u8 = 6;
@@ -66,26 +69,39 @@ fn put_repeated(rows: &mut [u8], n: usize, count: usize) -> usize
     m
 }
 
+// The kind of the row of a visible prefix, by its first byte.
+fn prefix_kind(t: u8, asked: bool) -> u8
+    requires { ⌜ (1 < t) × (t < 5) ⌝ }
+    ensures { λ r. ⌜ r ≡ prefixKind t asked ⌝ }
+{
+    if asked {
+        return t - 1 + MATCHED;
+    }
+    t - 1
+}
+
 // The row of the visible prefix at `at`.
 fn scan_prefix(
     src: &[u8],
     at: usize,
+    asked: bool,
     args: &[u8],
     inner: usize,
     depth: usize,
     rows: &mut [u8],
     n: usize,
 ) -> usize
-    requires { ⌜ (at < length (now src)) × (1 < getD (now src) at 0) × (inner ≤ depth) × (nameCount + depth ≤ slotCount) × (n ≤ mostRows + 1) × (rowBytes * mostRows ≤ length (now rows)) ⌝ }
-    ensures { λ r. ⌜ PrefixRowIs (now (src .entry)) at (now (args .entry)) inner depth n (now (rows .entry)) r (now (rows .exit)) ⌝ }
+    requires { ⌜ (at < length (now src)) × (1 < getD (now src) at 0) × (getD (now src) at 0 < 5) × (inner ≤ depth) × (nameCount + depth ≤ slotCount) × (n ≤ mostRows + 1) × (rowBytes * mostRows ≤ length (now rows)) ⌝ }
+    ensures { λ r. ⌜ PrefixRowIs (now (src .entry)) at asked (now (args .entry)) inner depth n (now (rows .entry)) r (now (rows .exit)) ⌝ }
 {
     let t = get(src, at);
+    let kind = prefix_kind(t, asked);
     let channel = slot(get(src, at + 1), args, inner, depth);
     if t == 3 {
         let object = slot(get(src, at + 2), args, inner, depth);
-        return put_row(rows, n, t - 1, channel, object);
+        return put_row(rows, n, kind, channel, object);
     }
-    put_row(rows, n, t - 1, channel, 0)
+    put_row(rows, n, kind, channel, 0)
 }
 
 // Where the choice of a side at `at` begins: the sides of a choice belong to its own, and any other side stands alone.
@@ -175,7 +191,7 @@ fn scan_call(
 
 // Puts the visible candidates of the term at `at` into the rows from number `n` on, and answers the number behind the last. The term stands beneath
 // `inner` restrictions of these bytes and `depth` in all, in the choice that begins at `root`; `args` has the slots of the parameters. Beneath a
-// match, where `asked`, the rows say nothing but that a candidate is equal to an earlier one.
+// match, where `asked`, the rows say so.
 pub fn scan(
     question: &[u8],
     bodies: &[u32],
@@ -207,10 +223,7 @@ pub fn scan(
         }
     }
     if t < 5 {
-        if asked {
-            return put_row(rows, n, 0, 0, 0);
-        }
-        return scan_prefix(src, at, args, inner, depth, rows, n);
+        return scan_prefix(src, at, asked, args, inner, depth, rows, n);
     }
     if t == 5 {
         return scan(

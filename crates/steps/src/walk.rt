@@ -14,6 +14,7 @@ use crate::meet::meet;
 use crate::pass::middle_of;
 use crate::put::put_classed;
 use crate::put::put_placed;
+use crate::rows::MATCHED;
 use crate::rows::MOST_ROWS;
 use crate::rows::REPEATED;
 use crate::rows::ROW_BYTES;
@@ -52,7 +53,7 @@ fn row_object(kind: u8, object: u8, x: u8) -> u8
 }
 
 // Puts the visible candidate number `j` of the component at `at`, whose row is the one of that number from `first` on, into the list. One that is
-// equal to an earlier candidate is in it already.
+// equal to an earlier candidate is in it already; one beneath a match is found by its number.
 fn take_row(
     question: &[u8],
     bodies: &[u32],
@@ -77,7 +78,10 @@ fn take_row(
     if kind == REPEATED {
         return count;
     }
-    if kind == 0 {
+    if NAME_COUNT <= channel as usize {
+        return count;
+    }
+    if MATCHED <= kind {
         return take_candidate(
             question,
             bodies,
@@ -89,9 +93,6 @@ fn take_row(
             area,
             count,
         );
-    }
-    if NAME_COUNT <= channel as usize {
-        return count;
     }
     if row_opens(kind, object) {
         // No name is merged with another.

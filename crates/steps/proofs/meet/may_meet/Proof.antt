@@ -1,4 +1,5 @@
 -- `steps::meet::may_meet` meets its contract. Assumes nothing.
+use mathlib.Core.Path.{sym, _∙_}
 use borrow.Author.Tests.{eq-eqb, ne-eqb}
 use Rattle.steps.specs.Meeting.{meetsBetween}
 use borrow.Author.Needs.{needs}
@@ -9,46 +10,44 @@ returns : tie.Need-returns
 unfolding meetsBetween
 returns c = simp (eq-eqb _ _ (c .if1 .taken))
 
+action-kind-requires : tie.Need-action-kind-requires
+action-kind-requires c κs = search needs
+
+action-kind-requires-2 : tie.Need-action-kind-requires-2
+action-kind-requires-2 c κs = search needs
+
 returns-2 : tie.Need-returns-2
 unfolding meetsBetween
-returns-2 c = simp (ne-eqb _ _ (c .before .if1 .left), eq-eqb _ _ (c .if2 .taken))
-
-returns-3 : tie.Need-returns-3
-unfolding meetsBetween
-returns-3 c = simp (ne-eqb _ _ (c .before .before .if1 .left), ne-eqb _ _ (c .before .if2 .left), eq-eqb _ _ (c .if3 .taken))
-
-returns-4 : tie.Need-returns-4
-unfolding meetsBetween
-returns-4 c = simp (ne-eqb _ _ (c .before .before .before .before .if1 .left), ne-eqb _ _ (c .before .before .before .if2 .left), ne-eqb _ _ (c .before .before .if3 .left), eq-eqb _ _ (c .before .if4 .taken), eq-eqb _ _ (c .if5 .taken))
+returns-2 c = simp (ne-eqb _ _ (c .before .before .before .before .if1 .left), eq-eqb _ _ (sym (c .before .before .before .action-kind .ensures) ∙ c .before .if2 .taken), eq-eqb _ _ (sym (c .before .before .action-kind2 .ensures) ∙ c .if3 .taken))
 
 is-between-requires : tie.Need-is-between-requires
 is-between-requires c κs = search needs
 
-returns-5 : tie.Need-returns-5
+returns-3 : tie.Need-returns-3
 unfolding meetsBetween
-returns-5 c = simp (ne-eqb _ _ (c .before .before .before .before .before .if1 .left), ne-eqb _ _ (c .before .before .before .before .if2 .left), ne-eqb _ _ (c .before .before .before .if3 .left), eq-eqb _ _ (c .before .before .if4 .taken), ne-eqb _ _ (c .before .if5 .left)) (c .is-between .ensures)
+returns-3 c = simp (ne-eqb _ _ (c .before .before .before .before .before .if1 .left), eq-eqb _ _ (sym (c .before .before .before .before .action-kind .ensures) ∙ c .before .before .if2 .taken), ne-eqb _ _ (λ e. c .before .if3 .left (c .before .before .before .action-kind2 .ensures ∙ e))) (c .is-between .ensures)
 
 is-between-requires-2 : tie.Need-is-between-requires-2
 is-between-requires-2 c κs = search needs
 
-returns-6 : tie.Need-returns-6
+returns-4 : tie.Need-returns-4
 unfolding meetsBetween
-returns-6 c = simp (ne-eqb _ _ (c .before .before .before .before .before .if1 .left), ne-eqb _ _ (c .before .before .before .before .if2 .left), ne-eqb _ _ (c .before .before .before .if3 .left), ne-eqb _ _ (c .before .before .if4 .left), eq-eqb _ _ (c .before .if6 .taken)) (c .is-between2 .ensures)
+returns-4 c = simp (ne-eqb _ _ (c .before .before .before .before .before .if1 .left), ne-eqb _ _ (λ e. c .before .before .if2 .left (c .before .before .before .before .action-kind .ensures ∙ e)), eq-eqb _ _ (sym (c .before .before .before .action-kind2 .ensures) ∙ c .before .if4 .taken)) (c .is-between2 .ensures)
 
-returns-7 : tie.Need-returns-7
+returns-5 : tie.Need-returns-5
 unfolding meetsBetween
-returns-7 c = simp (ne-eqb _ _ (c .before .before .before .before .if1 .left), ne-eqb _ _ (c .before .before .before .if2 .left), ne-eqb _ _ (c .before .before .if3 .left), ne-eqb _ _ (c .before .if4 .left), ne-eqb _ _ (c .if6 .left))
+returns-5 c = simp (ne-eqb _ _ (c .before .before .before .before .if1 .left), ne-eqb _ _ (λ e. c .before .if2 .left (c .before .before .before .action-kind .ensures ∙ e)), ne-eqb _ _ (λ e. c .if4 .left (c .before .before .action-kind2 .ensures ∙ e)))
 
 pub may-meet-spec : {M : Type 1} → statement M
 may-meet-spec =
     tie.close
     (tie.spec
     returns
+    action-kind-requires
+    action-kind-requires-2
     returns-2
-    returns-3
-    returns-4
     is-between-requires
-    returns-5
+    returns-3
     is-between-requires-2
-    returns-6
-    returns-7)
+    returns-4
+    returns-5)
