@@ -89,22 +89,22 @@ bucket-is capacity key pos h e = record {
 }
 
 -- Two bytes.
-length-put : (work : List ℕ) (at n : ℕ) → length (putNumber work at n) ≡ length work
+pub length-put : (work : List ℕ) (at n : ℕ) → length (putNumber work at n) ≡ length work
 unfolding putNumber
 length-put work at n = simp length-set
 
-byte-put : (work : List ℕ) (at n k : ℕ) → (k ≡ at → ⊥) → (k ≡ at + 1 → ⊥) → getD (putNumber work at n) k 0 ≡ getD work k 0
+pub byte-put : (work : List ℕ) (at n k : ℕ) → (k ≡ at → ⊥) → (k ≡ at + 1 → ⊥) → getD (putNumber work at n) k 0 ≡ getD work k 0
 unfolding putNumber
 byte-put work at n k f g = getD-set-other (set work at (n / 256)) (at + 1) k (n % 256) 0 g ∙ getD-set-other work at k (n / 256) 0 f
 
-size-put : (work : List ℕ) (at n : ℕ) → at + 1 < length work → sizeAt (putNumber work at n) at ≡ n
+pub size-put : (work : List ℕ) (at n : ℕ) → at + 1 < length work → sizeAt (putNumber work at n) at ≡ n
 unfolding putNumber sizeAt
 size-put work at n l =
     let a : getD (set (set work at (n / 256)) (at + 1) (n % 256)) at 0 ≡ n / 256 = getD-set-other (set work at (n / 256)) (at + 1) at (n % 256) 0 (λ z. omega arith) ∙ getD-set-same work at (n / 256) 0 (omega arith) in
     let b : getD (set (set work at (n / 256)) (at + 1) (n % 256)) (at + 1) 0 ≡ n % 256 = getD-set-same (set work at (n / 256)) (at + 1) (n % 256) 0 (omega (arith, length-set work at (n / 256))) in
     rw (a, b) (omega arith)
 
-size-same : (work work′ : List ℕ) (at : ℕ) → getD work′ at 0 ≡ getD work at 0 → getD work′ (at + 1) 0 ≡ getD work (at + 1) 0 → sizeAt work′ at ≡ sizeAt work at
+pub size-same : (work work′ : List ℕ) (at : ℕ) → getD work′ at 0 ≡ getD work at 0 → getD work′ (at + 1) 0 ≡ getD work (at + 1) 0 → sizeAt work′ at ≡ sizeAt work at
 unfolding sizeAt
 size-same work work′ at a b = rw (a, b)
 

@@ -12,6 +12,7 @@ pub mod KeyLaws
 pub mod KeysDiffer
 pub mod LeadingLaws
 pub mod Link
+pub mod ListAreaLaws
 pub mod ListedParts
 pub mod Loops
 pub mod Members

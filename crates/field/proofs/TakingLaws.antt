@@ -9,24 +9,25 @@ use native.Mathlib.Omega.{arith}
 use Prim.Native.Nat.{ℕ, suc, _+_, _*_, _<_, _≤_}
 use lib.Dec.{eqb}
 use lib.ListN.{length, getD, drop, drop-of-length-le}
-use lib.Seq.{drop-cons}
+use lib.Seq.{sets, drop-cons}
 use Rattle.calculus.specs.Free.{fn, Free}
 use Rattle.calculus.specs.Term.{Term, nil}
 use Rattle.calculus.proofs.UpToRenaming.{Either}
 use Rattle.terms.specs.Encoding.{InScope}
-use Rattle.terms.specs.Limits.{nameCount, longestTerm}
+use Rattle.terms.specs.Limits.{nameCount}
 use Rattle.terms.specs.Question.{Question}
 use Rattle.steps.specs.Bodies.{AritiesIs}
 use Rattle.steps.specs.Limits.{mostSteps, stepBytes}
 use Rattle.steps.specs.Listed.{ListedStep}
 use Rattle.steps.specs.Listing.{Listing, unsettled, listed, stepsOf}
-use Rattle.steps.specs.PartLister.{AnswersListing, ListPartIs}
+use Rattle.steps.specs.Operations.{listBytes}
 use Rattle.steps.specs.PartLister as lister
 use Rattle.steps.specs.declared.list.ListAnswer.{ListAnswer}
-use Rattle.steps.specs.declared.list.ListAnswer.the-variants.{Unsettled, Count}
+use Rattle.steps.specs.declared.list.ListAnswer.the-variants.{Unsettled}
 use Rattle.field.specs.Entry.{BindsIs}
 use Rattle.field.specs.Key.{FirstPartIs, SecondPartIs, ApartFlagsIs}
 use Rattle.field.specs.Leading.{placed}
+use Rattle.field.specs.ListArea.{listArea, ListIn, SideIs}
 use Rattle.field.specs.NameFlags.{HasNames, FreeInEitherIs, NewNameIs}
 use Rattle.field.specs.Setting.{settingOf, stepsIn}
 use Rattle.field.specs.Situation.{Situation, freeIn}
@@ -34,6 +35,7 @@ use Rattle.field.specs.Successors.{someBinds, pastLimit, leads, moves, l
 use Rattle.field.specs.TakingUp.{ListAt, EntriesAt, SomeBindsIs, PastNamesIs, SidesListed, ListsAre, Sides, ListsSides, TakesUp}
 use Rattle.field.specs.declared.taking.Lists.{Lists}
 use Rattle.field.specs.declared.taking.Lists.the-variants.{Past, Listed}
+use Rattle.field.proofs.ListAreaLaws.{list-there}
 use Rattle.field.proofs.ListedParts.{listed-entries, listed-at}
 use Rattle.field.proofs.NewNames.{new-free}
 use Rattle.field.proofs.Proper.{either-below}
@@ -80,46 +82,27 @@ module _ (x : ℕ) (firsts : List ℕ) (n : ℕ) (seconds : List ℕ) (m : ℕ) 
     unfolding PastNamesIs SomeBindsIs
     names-second t c second ps qs e f = rw (eq-eqb x nameCount h, ← first ps e, t) (second qs f)
 
--- What the lister's answer says of a part.
-module _ (question part : List ℕ) (x : ℕ) (area : List ℕ) (r : ListAnswer) (area′ : List ℕ) (answer : ListPartIs question part x area r area′)
-    (q : Question) (P : Term) (l : lister.Lists question part x q P) where
-  no-list : r ≡ Unsettled → stepsOf (q .bodies) x P ≡ unsettled
-  unfolding AnswersListing
-  no-list u = go (stepsOf (q .bodies) x P) (answer .is q P l)
-    where
-      go : (k : Listing) → AnswersListing k area r area′ → k ≡ unsettled
-      go unsettled e = refl
-      go (listed ss) e = let d = e .0 in let z : _≡_ {A = ℕ} 0 1 = cc in absurd (omega arith)
-
-  record SideListed (n : ℕ) : Type 0 where
+-- What a list in an area says of a part.
+module _ (question part : List ℕ) (x n : ℕ) (area : List ℕ) (held : ListIn question part x n area) (room : listArea ≤ length area)
+    (q : Question) (P : Term) (l : lister.Lists question part x q P) (new : ¬ Free x P) where
+  record SideListed : Type 0 where
     pub steps : List ListedStep
     pub given : stepsOf (q .bodies) x P ≡ listed steps
-    pub entries : EntriesAt area′ n steps
-    pub list : (x ≡ nameCount → someBinds steps ≡ false) → ListAt (q .arities) area′ n steps
+    pub entries : EntriesAt area n steps
+    pub list : (x ≡ nameCount → someBinds steps ≡ false) → ListAt (q .arities) area n steps
 
-  a-list : ¬ Free x P → mostSteps * stepBytes ≤ length area → (n : ℕ) → r ≡ Count n → SideListed n
-  unfolding AnswersListing
-  a-list new room n c = go (stepsOf (q .bodies) x P) refl (answer .is q P l)
-    where
-      go : (k : Listing) → stepsOf (q .bodies) x P ≡ k → AnswersListing k area r area′ → SideListed n
-      go unsettled d e = let z : _≡_ {A = ℕ} 0 1 = cc in absurd (omega arith)
-      go (listed ss) d e =
-          let f = e .0 in
-          let number : length ss ≡ n = cc in
-          let few : length ss ≤ mostSteps = omega (arith, answer .few n c) in
-          record {
-            steps = ss;
-            given = d;
-            entries = subst (λ k. EntriesAt area′ k ss) number (listed-entries question part x q P l new ss d area area′ room few (e .1));
-            list = λ w. subst (λ k. ListAt (q .arities) area′ k ss) number (listed-at question part x q P l new ss d area area′ room few (e .1) w);
-          }
-
--- A part above the limit is none that is to be listed.
-pub long-part : (question part : List ℕ) (x : ℕ) (area area′ : List ℕ) → longestTerm < length part → ListPartIs question part x area Unsettled area′
-long-part question part x area area′ h = record {
-  few = λ n e. let z : _≡_ {A = ℕ} 0 1 = cc in absurd (omega arith);
-  is = λ q P l. absurd (omega (arith, ap length (l .bytes), l .size));
-}
+  a-list : SideListed
+  a-list =
+      let (ss, given, number, there) = held .is q P l new in
+      let few : length ss ≤ mostSteps = omega (arith, held .few) in
+      let wide : mostSteps * stepBytes ≤ length area = omega arith in
+      let stored : area ≡ sets area 0 (listBytes ss) = list-there area (stepBytes * n) (listBytes ss) (omega (arith, held .few)) there in
+      record {
+        steps = ss;
+        given = given;
+        entries = subst (λ k. EntriesAt area k ss) number (listed-entries question part x q P l new ss given area area wide few stored);
+        list = λ w. subst (λ k. ListAt (q .arities) area k ss) number (listed-at question part x q P l new ss given area area wide few stored w);
+      }
 
 -- What the steps of both sides lead to.
 abbrev led : Situation → List ListedStep → List ListedStep → List (List Situation)
@@ -180,32 +163,33 @@ within-second x false true e d = let f = eq-eqb x nameCount d in let z : _≡_ {
 not-listed : (n m : ℕ) → Past ≡ Listed n m → (n ≤ mostSteps) × (m ≤ mostSteps)
 not-listed n m e = let z : _≡_ {A = ℕ} 0 1 = cc in absurd (omega arith)
 
-module _ (question first second : List ℕ) (x : ℕ) (firsts′ seconds′ : List ℕ) where
-  pub sides-first-past : (firsts : List ℕ) (a : ListAnswer) → ListPartIs question first x firsts a firsts′ → a ≡ Unsettled
-      → ListsSides question first second x Past firsts′ seconds′
-  unfolding ListsAre
-  sides-first-past firsts a left e = record {
-    few = not-listed;
-    is = λ q s h. past-first question first second x q s h (no-list question first x firsts a firsts′ left q (s .first) (h .left) e);
-  }
+module _ (question first second : List ℕ) (x : ℕ) (firsts seconds : List ℕ) where
+  pub sides-first-past : (a : ListAnswer) → SideIs question first x a firsts → a ≡ Unsettled → ListsSides question first second x Past firsts seconds
+  unfolding ListsAre SideIs
+  sides-first-past a left e =
+      let past = subst (λ r. SideIs question first x r firsts) e left in
+      record {
+        few = not-listed;
+        is = λ q s h. past-first question first second x q s h (past q (s .first) (h .left) (new-first question first second x q s h));
+      }
 
-  pub sides-second-past : (seconds : List ℕ) (b : ListAnswer) → ListPartIs question second x seconds b seconds′ → b ≡ Unsettled
-      → ListsSides question first second x Past firsts′ seconds′
-  unfolding ListsAre
-  sides-second-past seconds b right e = record {
-    few = not-listed;
-    is = λ q s h. past-second question first second x q s h (no-list question second x seconds b seconds′ right q (s .second) (h .right) e);
-  }
+  pub sides-second-past : (b : ListAnswer) → SideIs question second x b seconds → b ≡ Unsettled → ListsSides question first second x Past firsts seconds
+  unfolding ListsAre SideIs
+  sides-second-past b right e =
+      let past = subst (λ r. SideIs question second x r seconds) e right in
+      record {
+        few = not-listed;
+        is = λ q s h. past-second question first second x q s h (past q (s .second) (h .right) (new-second question first second x q s h));
+      }
 
-  module _ (firsts seconds : List ℕ) (room : mostSteps * stepBytes ≤ length firsts) (also : mostSteps * stepBytes ≤ length seconds) (n m : ℕ)
-      (a b : ListAnswer) (left : ListPartIs question first x firsts a firsts′) (right : ListPartIs question second x seconds b seconds′)
-      (counts : a ≡ Count n) (also-counts : b ≡ Count m) (p : Bool) (past : PastNamesIs x firsts′ n seconds′ m p) where
+  module _ (room : listArea ≤ length firsts) (also : listArea ≤ length seconds) (n m : ℕ) (left : ListIn question first x n firsts)
+      (right : ListIn question second x m seconds) (p : Bool) (past : PastNamesIs x firsts n seconds m p) where
     module _ (q : Question) (s : Situation) (h : Sides question first second x q s) where
-      abbrev ps : SideListed question first x firsts a firsts′ left q (s .first) (h .left) n
-      ps = a-list question first x firsts a firsts′ left q (s .first) (h .left) (new-first question first second x q s h) room n counts
+      abbrev ps : SideListed question first x n firsts left room q (s .first) (h .left) (new-first question first second x q s h)
+      ps = a-list question first x n firsts left room q (s .first) (h .left) (new-first question first second x q s h)
 
-      abbrev qs : SideListed question second x seconds b seconds′ right q (s .second) (h .right) m
-      qs = a-list question second x seconds b seconds′ right q (s .second) (h .right) (new-second question first second x q s h) also m also-counts
+      abbrev qs : SideListed question second x m seconds right also q (s .second) (h .right) (new-second question first second x q s h)
+      qs = a-list question second x m seconds right also q (s .second) (h .right) (new-second question first second x q s h)
 
       tested : (t : Bool) → p ≡ t → (eqb x nameCount && (someBinds (ps .steps) || someBinds (qs .steps))) ≡ t
       unfolding PastNamesIs
@@ -214,7 +198,7 @@ module _ (question first second : List ℕ) (x : ℕ) (firsts′ seconds′ : Li
       leads-to : (t : Bool) → p ≡ t → successors (settingOf (q .bodies)) s ≡ cond t pastLimit (leads (led s (ps .steps) (qs .steps)))
       leads-to t e = led-by question first second x q s h (ps .steps) (qs .steps) (ps .given) (qs .given) t (tested t e)
 
-      lists : p ≡ false → SidesListed q s n m firsts′ seconds′
+      lists : p ≡ false → SidesListed q s n m firsts seconds
       lists e = record {
         ps = ps .steps;
         qs = qs .steps;
@@ -223,14 +207,14 @@ module _ (question first second : List ℕ) (x : ℕ) (firsts′ seconds′ : Li
         leading = leads-to false e;
       }
 
-    pub sides-names-past : p ≡ true → ListsSides question first second x Past firsts′ seconds′
+    pub sides-names-past : p ≡ true → ListsSides question first second x Past firsts seconds
     unfolding ListsAre
     sides-names-past e = record { few = not-listed; is = λ q s h. leads-to q s h true e }
 
-    pub sides-listed : p ≡ false → ListsSides question first second x (Listed n m) firsts′ seconds′
+    pub sides-listed : p ≡ false → ListsSides question first second x (Listed n m) firsts seconds
     unfolding ListsAre
     sides-listed e = record {
-      few = λ i j d. let f : n ≡ i = cc in let g : m ≡ j = cc in (omega (arith, left .few n counts), omega (arith, right .few m also-counts));
+      few = λ i j d. let f : n ≡ i = cc in let g : m ≡ j = cc in (omega (arith, left .few), omega (arith, right .few));
       is = λ q s h. lists q s h e;
     }
 

@@ -6,6 +6,7 @@ pub mod Growing
 pub mod Holding
 pub mod Key
 pub mod Leading
+pub mod ListArea
 pub mod NameFlags
 pub mod PairFlags
 pub mod Resulting

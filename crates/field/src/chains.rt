@@ -91,7 +91,7 @@ pub fn bucket(capacity: usize, key: &[u8]) -> usize
 }
 
 // Writes a number in two bytes.
-fn put_number(work: &mut [u8], at: usize, n: usize)
+pub fn put_number(work: &mut [u8], at: usize, n: usize)
     requires { ⌜ (at + 1 < length (now work)) × (n < 65536) ⌝ }
     ensures { λ _. ⌜ now (work .exit) ≡ putNumber (now (work .entry)) at n ⌝ }
 {

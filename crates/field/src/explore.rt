@@ -8,6 +8,7 @@ ghost use Rattle.steps.specs.Tally.{tallySize, BodiesTallied};
 ghost use Rattle.field.specs.Chains.{LinkIs};
 ghost use Rattle.field.specs.Growing.{slotWith, AddIs, GrowsAnswer, GrowsAnswers, FirstAnswerIs, GrowsStep, GrowsSide, GrowsSides, GrowIs};
 ghost use Rattle.field.specs.Holding.{ExploreIs};
+ghost use Rattle.field.specs.ListArea.{Labelled};
 ghost use Rattle.field.specs.Slot.{keyBytes, slotBytes};
 use crate::chains::clear_heads;
 use crate::chains::find_chained;
@@ -18,6 +19,7 @@ use crate::entries::trivial;
 use crate::find::Found;
 use crate::find::KEY_BYTES;
 use crate::find::SLOT_BYTES;
+use crate::list_area::LIST_AREA;
 use crate::pairs::PAIR_COUNT;
 use crate::pairs::permitted;
 use crate::results::successor;
@@ -25,7 +27,6 @@ use crate::start::start_key;
 use crate::taking::Lists;
 use crate::taking::take_up;
 use steps::bodies::arities_of;
-use steps::limits::MOST_STEPS;
 use steps::limits::STEP_BYTES;
 use steps::rows::TABLE_OF_ROWS;
 use steps::tally::TALLY;
@@ -303,7 +304,7 @@ fn grow_sides(
     }
 }
 
-// Takes up the situation in slot `taken`; the two lists are for the steps of its sides, `numbers` and `rows` for the lister.
+// Takes up the situation in slot `taken`; the two areas have the lists of the one before, `numbers` and `rows` for the lister.
 fn grow(
     question: &[u8],
     bodies: &[u32],
@@ -316,8 +317,8 @@ fn grow(
     capacity: usize,
     known: usize,
 ) -> Growth
-    requires { ⌜ (taken < known) × (known ≤ capacity) × (capacity ≤ 4096) × (slotBytes * capacity ≤ length (now work)) × (mostSteps * stepBytes ≤ length (now firsts)) × (mostSteps * stepBytes ≤ length (now seconds)) × BodiesTallied (now question) (now bodies) × (length (now numbers) ≡ tallySize) × (rowBytes * mostRows ≤ length (now rows)) ⌝ }
-    ensures { λ r. ⌜ GrowIs (now (question .entry)) taken capacity (now (work .entry)) known r (now (work .exit)) ⌝ }
+    requires { ⌜ (taken < known) × (known ≤ capacity) × (capacity ≤ 4096) × (slotBytes * capacity ≤ length (now work)) × BodiesTallied (now question) (now bodies) × (length (now numbers) ≡ tallySize) × (rowBytes * mostRows ≤ length (now rows)) × Labelled (now question) (now firsts) × Labelled (now question) (now seconds) ⌝ }
+    ensures { λ r. ⌜ GrowIs (now (question .entry)) taken capacity (now (work .entry)) known r (now (work .exit)) × Labelled (now (question .entry)) (now (firsts .exit)) × Labelled (now (question .entry)) (now (seconds .exit)) ⌝ }
 {
     let up = take_up(
         question,
@@ -361,8 +362,8 @@ pub fn explore(question: &[u8], capacity: usize, work: &mut [u8]) -> Explored
     let bodies = body_tallies(question);
     let mut numbers = [0u32; TALLY];
     let mut rows = [0u8; TABLE_OF_ROWS];
-    let mut firsts = [0u8; MOST_STEPS * STEP_BYTES];
-    let mut seconds = [0u8; MOST_STEPS * STEP_BYTES];
+    let mut firsts = [0u8; LIST_AREA];
+    let mut seconds = [0u8; LIST_AREA];
     let mut known = 1;
     let mut taken = 0;
     while taken < known {

@@ -2,14 +2,20 @@
 ghost use mathlib.Core.Path.{_≡_};
 ghost use Prim.Native.Nat.{_+_, _*_, _≤_};
 ghost use lib.ListN.{length};
-ghost use Rattle.terms.specs.Limits.{nameCount};
-ghost use Rattle.steps.specs.Limits.{stepBytes, mostSteps};
-ghost use Rattle.steps.specs.PartLister.{ListPartIs};
+ghost use Rattle.terms.specs.Limits.{nameCount, longestTerm};
+ghost use Rattle.steps.specs.Limits.{stepBytes};
 ghost use Rattle.steps.specs.Rows.{rowBytes, mostRows};
 ghost use Rattle.steps.specs.Tally.{tallySize, BodiesTallied};
+ghost use Rattle.field.specs.ListArea.{listArea, ListIn, Labelled, SideIs};
 ghost use Rattle.field.specs.Slot.{keyBytes};
 ghost use Rattle.field.specs.TakingUp.{SomeBindsIs, PastNamesIs, ListsSides, TakesUp};
 use crate::entries::binds;
+use crate::list_area::LABEL_NAME;
+use crate::list_area::NO_LIST;
+use crate::list_area::has_list;
+use crate::list_area::put_label;
+use crate::list_area::same_part;
+use crate::list_area::steps_in;
 use crate::names::free_in_either;
 use crate::names::new_name;
 use crate::pairs::PAIR_COUNT;
@@ -20,6 +26,7 @@ use steps::bodies::arities_of;
 use steps::limits::STEP_BYTES;
 use steps::list::ListAnswer;
 use steps::list::list_tallied;
+use terms::bytes::copy;
 use terms::limits::LONGEST_TERM;
 use terms::limits::NAME_COUNT;
 
@@ -64,7 +71,7 @@ fn past_names(x: usize, firsts: &[u8], n: usize, seconds: &[u8], m: usize) -> bo
     some_binds(seconds, m)
 }
 
-// Lists one side. A part above the limit stands in no slot.
+// Lists one side, unless its list is at hand. A part above the limit stands in no slot.
 fn list_side(
     question: &[u8],
     bodies: &[u32],
@@ -74,13 +81,50 @@ fn list_side(
     rows: &mut [u8],
     area: &mut [u8],
 ) -> ListAnswer
-    requires { ⌜ (mostSteps * stepBytes ≤ length (now area)) × (x ≤ nameCount) × BodiesTallied (now question) (now bodies) × (length (now numbers) ≡ tallySize) × (rowBytes * mostRows ≤ length (now rows)) ⌝ }
-    ensures { λ r. ⌜ ListPartIs (now (question .entry)) (now (part .entry)) x (now (area .entry)) r (now (area .exit)) ⌝ }
+    requires { ⌜ (x ≤ nameCount) × BodiesTallied (now question) (now bodies) × (length (now numbers) ≡ tallySize) × (rowBytes * mostRows ≤ length (now rows)) × Labelled (now question) (now area) ⌝ }
+    ensures { λ r. ⌜ SideIs (now (question .entry)) (now (part .entry)) x r (now (area .exit)) × Labelled (now (question .entry)) (now (area .exit)) ⌝ }
 {
     if LONGEST_TERM < part.len() {
         return ListAnswer::Unsettled;
     }
-    list_tallied(question, bodies, part, x as u8, numbers, rows, area)
+    if has_list(area, part, x) {
+        return ListAnswer::Count(steps_in(area));
+    }
+    let answer = list_tallied(question, bodies, part, x as u8, numbers, rows, area);
+    match answer {
+        ListAnswer::Unsettled => {
+            area[LABEL_NAME] = NO_LIST;
+            ListAnswer::Unsettled
+        }
+        ListAnswer::Count(n) => {
+            put_label(area, part, x, n);
+            ListAnswer::Count(n)
+        }
+    }
+}
+
+// Lists the second side. Where it is the same part as the first, which has `n` steps, its list is a copy.
+fn list_second(
+    question: &[u8],
+    bodies: &[u32],
+    first: &[u8],
+    second: &[u8],
+    x: usize,
+    numbers: &mut [u32],
+    rows: &mut [u8],
+    firsts: &[u8],
+    n: usize,
+    seconds: &mut [u8],
+) -> ListAnswer
+    requires { ⌜ (x ≤ nameCount) × BodiesTallied (now question) (now bodies) × (length (now numbers) ≡ tallySize) × (rowBytes * mostRows ≤ length (now rows)) × (listArea ≤ length (now firsts)) × (length (now first) ≤ longestTerm) × ListIn (now question) (now first) x n (now firsts) × Labelled (now question) (now seconds) ⌝ }
+    ensures { λ r. ⌜ SideIs (now (question .entry)) (now (second .entry)) x r (now (seconds .exit)) × Labelled (now (question .entry)) (now (seconds .exit)) ⌝ }
+{
+    if same_part(first, second) {
+        copy(firsts, 0, STEP_BYTES * n, seconds, 0);
+        put_label(seconds, second, x, n);
+        return ListAnswer::Count(n);
+    }
+    list_side(question, bodies, second, x, numbers, rows, seconds)
 }
 
 // Lists both sides, each in its area, for the new name `x`.
@@ -95,14 +139,25 @@ fn list_sides(
     firsts: &mut [u8],
     seconds: &mut [u8],
 ) -> Lists
-    requires { ⌜ (x ≤ nameCount) × (mostSteps * stepBytes ≤ length (now firsts)) × (mostSteps * stepBytes ≤ length (now seconds)) × BodiesTallied (now question) (now bodies) × (length (now numbers) ≡ tallySize) × (rowBytes * mostRows ≤ length (now rows)) ⌝ }
-    ensures { λ r. ⌜ ListsSides (now (question .entry)) (now (first .entry)) (now (second .entry)) x r (now (firsts .exit)) (now (seconds .exit)) ⌝ }
+    requires { ⌜ (x ≤ nameCount) × BodiesTallied (now question) (now bodies) × (length (now numbers) ≡ tallySize) × (rowBytes * mostRows ≤ length (now rows)) × Labelled (now question) (now firsts) × Labelled (now question) (now seconds) ⌝ }
+    ensures { λ r. ⌜ ListsSides (now (question .entry)) (now (first .entry)) (now (second .entry)) x r (now (firsts .exit)) (now (seconds .exit)) × Labelled (now (question .entry)) (now (firsts .exit)) × Labelled (now (question .entry)) (now (seconds .exit)) ⌝ }
 {
     let n = match list_side(question, bodies, first, x, numbers, rows, firsts) {
         ListAnswer::Unsettled => return Lists::Past,
         ListAnswer::Count(n) => n,
     };
-    let m = match list_side(question, bodies, second, x, numbers, rows, seconds) {
+    let m = match list_second(
+        question,
+        bodies,
+        first,
+        second,
+        x,
+        numbers,
+        rows,
+        firsts,
+        n,
+        seconds,
+    ) {
         ListAnswer::Unsettled => return Lists::Past,
         ListAnswer::Count(m) => m,
     };
@@ -112,7 +167,8 @@ fn list_sides(
     Lists::Listed(n, m)
 }
 
-// Takes up the situation at `at`; `bodies` are the tallies of the definitions' bodies, and `numbers` and `rows` are lent to the lister.
+// Takes up the situation at `at`; `bodies` are the tallies of the definitions' bodies, and `numbers` and `rows` are lent to the lister. The two
+// areas have the lists of the situation before, where there was one.
 pub fn take_up(
     question: &[u8],
     bodies: &[u32],
@@ -123,8 +179,8 @@ pub fn take_up(
     firsts: &mut [u8],
     seconds: &mut [u8],
 ) -> TakenUp
-    requires { ⌜ (at + keyBytes ≤ length (now work)) × (mostSteps * stepBytes ≤ length (now firsts)) × (mostSteps * stepBytes ≤ length (now seconds)) × BodiesTallied (now question) (now bodies) × (length (now numbers) ≡ tallySize) × (rowBytes * mostRows ≤ length (now rows)) ⌝ }
-    ensures { λ r. ⌜ TakesUp (now (question .entry)) (now (work .entry)) at r (now (firsts .exit)) (now (seconds .exit)) ⌝ }
+    requires { ⌜ (at + keyBytes ≤ length (now work)) × BodiesTallied (now question) (now bodies) × (length (now numbers) ≡ tallySize) × (rowBytes * mostRows ≤ length (now rows)) × Labelled (now question) (now firsts) × Labelled (now question) (now seconds) ⌝ }
+    ensures { λ r. ⌜ TakesUp (now (question .entry)) (now (work .entry)) at r (now (firsts .exit)) (now (seconds .exit)) × Labelled (now (question .entry)) (now (firsts .exit)) × Labelled (now (question .entry)) (now (seconds .exit)) ⌝ }
 {
     let first = first_part(work, at);
     let second = second_part(work, at);

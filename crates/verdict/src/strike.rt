@@ -2,8 +2,9 @@
 ghost use mathlib.Core.Path.{_≡_};
 ghost use Prim.Native.Nat.{_+_, _*_, _<_, _≤_};
 ghost use lib.ListN.{length};
+ghost use Rattle.field.specs.ListArea.{Labelled};
 ghost use Rattle.field.specs.Slot.{keyBytes, slotBytes, struckAt};
-ghost use Rattle.steps.specs.Limits.{stepBytes, mostSteps};
+ghost use Rattle.steps.specs.Limits.{stepBytes};
 ghost use Rattle.steps.specs.Rows.{rowBytes, mostRows};
 ghost use Rattle.steps.specs.Tally.{tallySize, BodiesTallied};
 ghost use Rattle.verdict.specs.Striking.{LeftAtIs, LeftIs, AnswerLeftIs, SideAnsweredIs, SurvivesIs, StrikesOne, PassIs, SomeStruckIs, StartSurvivesIs};
@@ -11,13 +12,13 @@ use field::chains::find_chained;
 use field::entries::answers;
 use field::find::Found;
 use field::find::SLOT_BYTES;
+use field::list_area::LIST_AREA;
 use field::pairs::PAIR_COUNT;
 use field::pairs::permitted;
 use field::results::successor;
 use field::taking::Lists;
 use field::taking::take_up;
 use steps::bodies::arities_of;
-use steps::limits::MOST_STEPS;
 use steps::limits::STEP_BYTES;
 use steps::rows::TABLE_OF_ROWS;
 use steps::tally::TALLY;
@@ -119,8 +120,8 @@ fn side_answered(
     true
 }
 
-// Whether each permitted step of either side of situation `i` is answered by a situation that is left; the two lists are for the steps of its sides,
-// `numbers` and `rows` for the lister.
+// Whether each permitted step of either side of situation `i` is answered by a situation that is left; the two areas have the lists of the one
+// before, `numbers` and `rows` for the lister.
 fn survives(
     question: &[u8],
     bodies: &[u32],
@@ -133,8 +134,8 @@ fn survives(
     firsts: &mut [u8],
     seconds: &mut [u8],
 ) -> bool
-    requires { ⌜ (i < count) × (count ≤ capacity) × (slotBytes * capacity ≤ length (now work)) × (mostSteps * stepBytes ≤ length (now firsts)) × (mostSteps * stepBytes ≤ length (now seconds)) × BodiesTallied (now question) (now bodies) × (length (now numbers) ≡ tallySize) × (rowBytes * mostRows ≤ length (now rows)) ⌝ }
-    ensures { λ r. ⌜ SurvivesIs (now (question .entry)) capacity (now (work .entry)) count i r ⌝ }
+    requires { ⌜ (i < count) × (count ≤ capacity) × (slotBytes * capacity ≤ length (now work)) × BodiesTallied (now question) (now bodies) × (length (now numbers) ≡ tallySize) × (rowBytes * mostRows ≤ length (now rows)) × Labelled (now question) (now firsts) × Labelled (now question) (now seconds) ⌝ }
+    ensures { λ r. ⌜ SurvivesIs (now (question .entry)) capacity (now (work .entry)) count i r × Labelled (now (question .entry)) (now (firsts .exit)) × Labelled (now (question .entry)) (now (seconds .exit)) ⌝ }
 {
     let taken = take_up(
         question,
@@ -199,8 +200,8 @@ fn strike_one(
     firsts: &mut [u8],
     seconds: &mut [u8],
 ) -> bool
-    requires { ⌜ (i < count) × (count ≤ capacity) × (slotBytes * capacity ≤ length (now work)) × (mostSteps * stepBytes ≤ length (now firsts)) × (mostSteps * stepBytes ≤ length (now seconds)) × BodiesTallied (now question) (now bodies) × (length (now numbers) ≡ tallySize) × (rowBytes * mostRows ≤ length (now rows)) ⌝ }
-    ensures { λ r. ⌜ StrikesOne (now (question .entry)) capacity (now (work .entry)) count i r (now (work .exit)) ⌝ }
+    requires { ⌜ (i < count) × (count ≤ capacity) × (slotBytes * capacity ≤ length (now work)) × BodiesTallied (now question) (now bodies) × (length (now numbers) ≡ tallySize) × (rowBytes * mostRows ≤ length (now rows)) × Labelled (now question) (now firsts) × Labelled (now question) (now seconds) ⌝ }
+    ensures { λ r. ⌜ StrikesOne (now (question .entry)) capacity (now (work .entry)) count i r (now (work .exit)) × Labelled (now (question .entry)) (now (firsts .exit)) × Labelled (now (question .entry)) (now (seconds .exit)) ⌝ }
 {
     if !left_at(work, i) {
         return false;
@@ -235,8 +236,8 @@ fn strike_pass(
     firsts: &mut [u8],
     seconds: &mut [u8],
 ) -> bool
-    requires { ⌜ (count ≤ capacity) × (slotBytes * capacity ≤ length (now work)) × (mostSteps * stepBytes ≤ length (now firsts)) × (mostSteps * stepBytes ≤ length (now seconds)) × BodiesTallied (now question) (now bodies) × (length (now numbers) ≡ tallySize) × (rowBytes * mostRows ≤ length (now rows)) ⌝ }
-    ensures { λ r. ⌜ PassIs (now (question .entry)) capacity (now (work .entry)) count r (now (work .exit)) ⌝ }
+    requires { ⌜ (count ≤ capacity) × (slotBytes * capacity ≤ length (now work)) × BodiesTallied (now question) (now bodies) × (length (now numbers) ≡ tallySize) × (rowBytes * mostRows ≤ length (now rows)) × Labelled (now question) (now firsts) × Labelled (now question) (now seconds) ⌝ }
+    ensures { λ r. ⌜ PassIs (now (question .entry)) capacity (now (work .entry)) count r (now (work .exit)) × Labelled (now (question .entry)) (now (firsts .exit)) × Labelled (now (question .entry)) (now (seconds .exit)) ⌝ }
 {
     let mut struck = false;
     let mut i = count;
@@ -268,8 +269,8 @@ fn survives_passes(question: &[u8], work: &mut [u8], capacity: usize, count: usi
     let bodies = body_tallies(question);
     let mut numbers = [0u32; TALLY];
     let mut rows = [0u8; TABLE_OF_ROWS];
-    let mut firsts = [0u8; MOST_STEPS * STEP_BYTES];
-    let mut seconds = [0u8; MOST_STEPS * STEP_BYTES];
+    let mut firsts = [0u8; LIST_AREA];
+    let mut seconds = [0u8; LIST_AREA];
     let mut again = true;
     while again {
         again = strike_pass(

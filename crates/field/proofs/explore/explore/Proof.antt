@@ -3,10 +3,11 @@ use native.Mathlib.Omega.{arith}
 use mathlib.Core.Path.{_≡_, refl}
 use Prim.Native.Nat.{_*_, _-_, _≤_}
 use lib.ListN.{length}
-use Rattle.steps.specs.Limits.{stepBytes, mostSteps}
 use Rattle.steps.specs.Rows.{rowBytes, mostRows}
 use Rattle.steps.specs.Tally.{tallySize}
+use Rattle.field.specs.ListArea.{listArea, Labelled}
 use Rattle.field.proofs.ExploringLaws.{Explorers, explorers-start, explorers-next, explorers-full, explorers-end, explored-from}
+use Rattle.field.proofs.ListAreaLaws.{no-part}
 use borrow.Author.Needs.{needs}
 use Rattle.field.proofs.explore.explore.Statement.{statement}
 use Rattle.field.proofs.explore.explore.Tie as tie
@@ -14,7 +15,8 @@ use Rattle.field.proofs.explore.explore.Tie as tie
 abbrev Inv-loop : tie.InvT-loop
 Inv-loop question capacity work₀ bodies numbers₀ rows₀ firsts₀ seconds₀ known₀ taken₀ work numbers rows firsts seconds known taken =
     (taken ≤ known) × (1 ≤ known) × (known ≤ capacity) × (length work ≡ length work₀) × (length numbers ≡ tallySize) × (length rows ≡ rowBytes * mostRows)
-    × (length firsts ≡ mostSteps * stepBytes) × (length seconds ≡ mostSteps * stepBytes) × Explorers question capacity work₀ work known taken
+    × (length firsts ≡ listArea) × (length seconds ≡ listArea) × Labelled question firsts × Labelled question seconds
+    × Explorers question capacity work₀ work known taken
 
 abbrev μ-loop : tie.MeasureT-loop
 μ-loop question capacity work₀ bodies numbers₀ rows₀ firsts₀ seconds₀ known₀ taken₀ work numbers rows firsts seconds known taken = capacity - taken
@@ -35,7 +37,19 @@ body-tallies-requires : tie.Need-body-tallies-requires Inv-loop μ-loop
 body-tallies-requires c κs = search needs
 
 loop-holds : tie.Need-loop-holds Inv-loop μ-loop
-loop-holds c = (search needs, search needs, search needs, search needs, search needs, search needs, search needs, search needs, explorers-start _ _ (c .before .before .before .before .before .before .before .before .before .before .before .before .before .pre .0) _ (c .before .before .before .before .before .before .before .before .before .before .before .before .before .pre .2) _ (omega arith) _ (c .before .before .before .before .before .before .before .before .before .clear-heads .ensures) _ (c .before .before .before .put .ensures) (c .before .before .before .before .before .before .start-key .ensures))
+loop-holds c = (
+  search needs,
+  search needs,
+  search needs,
+  search needs,
+  search needs,
+  search needs,
+  search needs,
+  search needs,
+  no-part _ listArea (omega arith),
+  no-part _ listArea (omega arith),
+  explorers-start _ _ (c .before .before .before .before .before .before .before .before .before .before .before .before .before .pre .0) _ (c .before .before .before .before .before .before .before .before .before .before .before .before .before .pre .2) _ (omega arith) _ (c .before .before .before .before .before .before .before .before .before .clear-heads .ensures) _ (c .before .before .before .put .ensures) (c .before .before .before .before .before .before .start-key .ensures),
+)
 
 slice-aggregate-grow : tie.Need-slice-aggregate-grow Inv-loop μ-loop
 slice-aggregate-grow c = search needs
@@ -58,11 +72,11 @@ grow-requires c κs = (
   c .before .before .before .before .before .before .before .loop .inv .2,
   c .before .before .before .before .before .before .before .before .before .before .before .before .before .before .before .before .before .before .before .before .before .pre .1,
   omega (arith, c .before .before .before .before .before .before .before .before .before .before .before .before .before .before .before .before .before .before .before .before .before .pre .2, c .before .before .before .before .before .before .before .loop .inv .3),
-  omega (arith, c .before .before .before .before .before .before .before .loop .inv .6),
-  omega (arith, c .before .before .before .before .before .before .before .loop .inv .7),
   c .before .before .before .before .before .before .before .before .body-tallies .ensures,
   c .before .before .before .before .before .before .before .loop .inv .4,
   omega (arith, c .before .before .before .before .before .before .before .loop .inv .5),
+  c .before .before .before .before .before .before .before .loop .inv .8,
+  c .before .before .before .before .before .before .before .loop .inv .9,
 )
 
 enum-known-growth : tie.Need-enum-known-growth Inv-loop μ-loop
@@ -75,7 +89,7 @@ same-length : tie.Need-same-length Inv-loop μ-loop
 same-length c = search needs
 
 returns : tie.Need-returns Inv-loop μ-loop
-returns c = explored-from _ _ (c .before .before .before .before .before .before .before .before .before .before .before .before .before .before .before .before .before .before .before .before .before .before .before .before .before .before .before .before .before .before .pre .0) _ (c .before .before .before .before .before .before .before .before .before .before .before .before .before .before .before .before .before .before .before .before .before .before .before .before .before .before .before .before .before .before .pre .2) _ (omega arith) _ (c .before .before .before .before .before .before .before .before .before .before .before .before .before .before .before .before .before .before .before .before .before .before .before .before .before .before .clear-heads .ensures) _ (c .before .before .before .before .before .before .before .before .before .before .before .before .before .before .before .before .before .before .before .before .put .ensures) _ _ (explorers-full _ _ _ _ _ _ (c .before .before .before .before .before .before .before .before .before .before .before .before .before .before .before .before .loop .inv .8) (c .before .before .before .before .before .before .before .before .before .before .before .before .before .before .before .loop-test .taken) _ (rw (c .enum-told .given .1) at (c .before .before .before .before .before .before .before .before .grow .ensures)))
+returns c = explored-from _ _ (c .before .before .before .before .before .before .before .before .before .before .before .before .before .before .before .before .before .before .before .before .before .before .before .before .before .before .before .before .before .before .pre .0) _ (c .before .before .before .before .before .before .before .before .before .before .before .before .before .before .before .before .before .before .before .before .before .before .before .before .before .before .before .before .before .before .pre .2) _ (omega arith) _ (c .before .before .before .before .before .before .before .before .before .before .before .before .before .before .before .before .before .before .before .before .before .before .before .before .before .before .clear-heads .ensures) _ (c .before .before .before .before .before .before .before .before .before .before .before .before .before .before .before .before .before .before .before .before .put .ensures) _ _ (explorers-full _ _ _ _ _ _ (c .before .before .before .before .before .before .before .before .before .before .before .before .before .before .before .before .loop .inv .10) (c .before .before .before .before .before .before .before .before .before .before .before .before .before .before .before .loop-test .taken) _ (rw (c .enum-told .given .1) at (c .before .before .before .before .before .before .before .before .grow .ensures .0)))
 
 add-taken : tie.Need-add-taken Inv-loop μ-loop
 add-taken c = omega (arith, c .before .before .before .before .before .before .before .before .before .before .before .before .before .before .before .before .loop-test .taken, c .before .before .before .before .before .before .before .before .before .before .before .before .before .before .before .before .before .loop .inv .2, c .before .before .before .before .before .before .before .before .before .before .before .before .before .before .before .before .before .before .before .before .before .before .before .before .before .before .before .before .before .before .before .pre .1)
@@ -85,15 +99,26 @@ loop-less c = search needs
 
 loop-again : tie.Need-loop-again Inv-loop μ-loop
 loop-again c =
-    let g = rw (c .before .growth .given .1) at (c .before .before .before .before .before .before .before .before .before .grow .ensures) in
-    let b = g .grows .within _ refl in
-    (omega arith, omega arith, b .1, search needs, search needs, search needs, search needs, search needs, explorers-next _ _ _ _ _ _ (c .before .before .before .before .before .before .before .before .before .before .before .before .before .before .before .before .before .loop .inv .8) (c .before .before .before .before .before .before .before .before .before .before .before .before .before .before .before .before .loop-test .taken) _ _ g)
+    let g = rw (c .before .growth .given .1) at (c .before .before .before .before .before .before .before .before .before .grow .ensures .0) in
+    let b = g .grows .within _ refl in (
+      omega (arith, b .0, c .before .before .before .before .before .before .before .before .before .before .before .before .before .before .before .before .loop-test .taken),
+      omega (arith, b .0, c .before .before .before .before .before .before .before .before .before .before .before .before .before .before .before .before .before .loop .inv .1),
+      b .1,
+      search needs,
+      search needs,
+      search needs,
+      search needs,
+      search needs,
+      c .before .before .before .before .before .before .before .before .before .grow .ensures .1,
+      c .before .before .before .before .before .before .before .before .before .grow .ensures .2,
+      explorers-next _ _ _ _ _ _ (c .before .before .before .before .before .before .before .before .before .before .before .before .before .before .before .before .before .loop .inv .10) (c .before .before .before .before .before .before .before .before .before .before .before .before .before .before .before .before .loop-test .taken) _ _ g,
+    )
 
 same-length-2 : tie.Need-same-length-2 Inv-loop μ-loop
 same-length-2 c = search needs
 
 returns-2 : tie.Need-returns-2 Inv-loop μ-loop
-returns-2 c = explored-from _ _ (c .before .before .before .before .before .before .before .before .before .before .before .before .before .before .before .pre .0) _ (c .before .before .before .before .before .before .before .before .before .before .before .before .before .before .before .pre .2) _ (omega arith) _ (c .before .before .before .before .before .before .before .before .before .before .before .clear-heads .ensures) _ (c .before .before .before .before .before .put .ensures) _ _ (explorers-end _ _ _ _ _ _ (c .before .loop .inv .8) (omega arith) (omega arith) (omega arith))
+returns-2 c = explored-from _ _ (c .before .before .before .before .before .before .before .before .before .before .before .before .before .before .before .pre .0) _ (c .before .before .before .before .before .before .before .before .before .before .before .before .before .before .before .pre .2) _ (omega arith) _ (c .before .before .before .before .before .before .before .before .before .before .before .clear-heads .ensures) _ (c .before .before .before .before .before .put .ensures) _ _ (explorers-end _ _ _ _ _ _ (c .before .loop .inv .10) (omega arith) (omega arith) (omega arith))
 
 pub explore-spec : {M : Type 1} → statement M
 explore-spec =

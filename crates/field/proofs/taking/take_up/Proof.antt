@@ -26,7 +26,7 @@ apart-flags-requires : tie.Need-apart-flags-requires
 apart-flags-requires c κs = search needs
 
 list-sides-requires : tie.Need-list-sides-requires
-list-sides-requires c κs = search needs
+list-sides-requires c κs = (c .before .before .before .before .before .new-name .ensures .within, c .before .before .before .before .before .before .before .before .before .before .before .before .before .before .before .before .before .before .pre .1, c .before .before .before .before .before .before .before .before .before .before .before .before .before .before .before .before .before .before .pre .2, c .before .before .before .before .before .before .before .before .before .before .before .before .before .before .before .before .before .before .pre .3, c .before .before .before .before .before .before .before .before .before .before .before .before .before .before .before .before .before .before .pre .4, c .before .before .before .before .before .before .before .before .before .before .before .before .before .before .before .before .before .before .pre .5)
 
 same-length : tie.Need-same-length
 same-length c = search needs
@@ -41,9 +41,12 @@ same-length-4 : tie.Need-same-length-4
 same-length-4 c = search needs
 
 returns : tie.Need-returns
-returns c =
-    taken-up _ _ _ _ _ _ _ _ _ _ _ _ (c .before .before .before .before .before .before .before .before .before .before .before .before .before .before .before .before .before .before .before .first-part .ensures) (c .before .before .before .before .before .before .before .before .before .before .before .before .before .before .before .before .before .before .second-part .ensures) (c .before .before .before .before .before .before .before .before .before .before .before .before .before .before .before .before .before .arities-of .ensures)
-    (c .before .before .before .before .before .before .before .before .before .before .before .before .before .before .before .before .free-in-either .ensures) (c .before .before .before .before .before .before .before .before .before .before .before .before .before .before .new-name .ensures) (c .before .before .before .before .before .before .before .before .before .before .before .before .before .apart-flags .ensures) (c .before .before .before .before .before .before .before .before .list-sides .ensures)
+returns c = (
+  taken-up _ _ _ _ _ _ _ _ _ _ _ _ (c .before .before .before .before .before .before .before .before .before .before .before .before .before .before .before .before .before .before .before .first-part .ensures) (c .before .before .before .before .before .before .before .before .before .before .before .before .before .before .before .before .before .before .second-part .ensures) (c .before .before .before .before .before .before .before .before .before .before .before .before .before .before .before .before .before .arities-of .ensures) (c .before .before .before .before .before .before .before .before .before .before .before .before .before .before .before .before .free-in-either .ensures)
+      (c .before .before .before .before .before .before .before .before .before .before .before .before .before .before .new-name .ensures) (c .before .before .before .before .before .before .before .before .before .before .before .before .before .apart-flags .ensures) (c .before .before .before .before .before .before .before .before .list-sides .ensures .0),
+  c .before .before .before .before .before .before .before .before .list-sides .ensures .1,
+  c .before .before .before .before .before .before .before .before .list-sides .ensures .2,
+)
 
 pub take-up-spec : {M : Type 1} → statement M
 take-up-spec =

@@ -13,10 +13,10 @@ same-length : tie.Need-same-length
 same-length c = search needs
 
 returns : tie.Need-returns
-returns c = gone-kept _ _ _ _ _ _ (c .before .left-at .ensures) (not-true _ (c .if1 .taken))
+returns c = (gone-kept _ _ _ _ _ _ (c .before .left-at .ensures) (not-true _ (c .if1 .taken)), c .before .before .before .before .before .before .before .before .before .before .pre .6, c .before .before .before .before .before .before .before .before .before .before .pre .7)
 
 survives-requires : tie.Need-survives-requires
-survives-requires c κs = search needs
+survives-requires c κs = (c .before .before .before .before .before .before .before .before .before .before .before .before .before .before .before .pre .0, c .before .before .before .before .before .before .before .before .before .before .before .before .before .before .before .pre .1, c .before .before .before .before .before .before .before .before .before .before .before .before .before .before .before .pre .2, c .before .before .before .before .before .before .before .before .before .before .before .before .before .before .before .pre .3, c .before .before .before .before .before .before .before .before .before .before .before .before .before .before .before .pre .4, c .before .before .before .before .before .before .before .before .before .before .before .before .before .before .before .pre .5, c .before .before .before .before .before .before .before .before .before .before .before .before .before .before .before .pre .6, c .before .before .before .before .before .before .before .before .before .before .before .before .before .before .before .pre .7)
 
 same-length-2 : tie.Need-same-length-2
 same-length-2 c = search needs
@@ -34,7 +34,7 @@ same-length-6 : tie.Need-same-length-6
 same-length-6 c = search needs
 
 returns-2 : tie.Need-returns-2
-returns-2 c = survivor-kept _ _ _ _ _ _ (c .before .before .before .before .before .before .before .before .before .survives .ensures) (c .if2 .taken)
+returns-2 c = (survivor-kept _ _ _ _ _ _ (c .before .before .before .before .before .before .before .before .before .survives .ensures .0) (c .if2 .taken), c .before .before .before .before .before .before .before .before .before .survives .ensures .1, c .before .before .before .before .before .before .before .before .before .survives .ensures .2)
 
 mul-work : tie.Need-mul-work
 mul-work c = omega (arith, c .before .before .before .before .before .before .before .before .before .before .before .before .before .before .before .before .before .before .before .before .before .before .before .before .before .pre .0, c .before .before .before .before .before .before .before .before .before .before .before .before .before .before .before .before .before .before .before .before .before .before .before .before .before .pre .1, c .before .before .before .before .before .before .before .before .before .before .before .before .before .before .before .before .before .before .before .before .before .before .before .before .before .pre .2)
@@ -61,7 +61,11 @@ same-length-11 : tie.Need-same-length-11
 same-length-11 c = search needs
 
 returns-3 : tie.Need-returns-3
-returns-3 c = one-strikes _ _ _ _ _ _ (left-zero _ _ _ (c .before .before .before .before .before .before .before .before .before .before .before .before .before .before .before .before .left-at .ensures) (not-false _ (c .before .before .before .before .before .before .before .before .before .before .before .before .before .before .before .if1 .left))) (c .before .before .before .before .before .before .before .before .before .survives .ensures) (c .if2 .left)
+returns-3 c = (
+  one-strikes _ _ _ _ _ _ (left-zero _ _ _ (c .before .before .before .before .before .before .before .before .before .before .before .before .before .before .before .before .left-at .ensures) (not-false _ (c .before .before .before .before .before .before .before .before .before .before .before .before .before .before .before .if1 .left))) (c .before .before .before .before .before .before .before .before .before .survives .ensures .0) (c .if2 .left),
+  c .before .before .before .before .before .before .before .before .before .survives .ensures .1,
+  c .before .before .before .before .before .before .before .before .before .survives .ensures .2,
+)
 
 pub strike-one-spec : {M : Type 1} → statement M
 strike-one-spec =

@@ -1,0 +1,53 @@
+-- `field::list_area::put_label` meets its contract. Assumes nothing.
+use native.Mathlib.Omega.{arith}
+use mathlib.Core.Path.{_∙_, ap}
+use Prim.Native.Nat.{_+_}
+use lib.ListN.{length, take, drop, length-set}
+use lib.Seq.{sets}
+use borrow.Author.Needs.{needs}
+use Rattle.field.specs.ListArea.{labelPlace}
+use Rattle.field.proofs.ChainLaws.{length-put}
+use Rattle.field.proofs.ListAreaLaws.{label-put}
+use Rattle.field.proofs.list_area.put_label.Statement.{statement}
+use Rattle.field.proofs.list_area.put_label.Tie as tie
+
+cast-area : tie.Need-cast-area
+cast-area c = search needs
+
+slice-write-area : tie.Need-slice-write-area
+slice-write-area c = search needs
+
+cast-area-2 : tie.Need-cast-area-2
+cast-area-2 c = search needs
+
+slice-write-area-2 : tie.Need-slice-write-area-2
+slice-write-area-2 c = simp length-set (omega (arith, c .before .before .pre .0))
+
+put-number-requires : tie.Need-put-number-requires
+put-number-requires c κs = (simp length-set (omega (arith, c .before .before .before .pre .0)), omega (arith, c .before .before .before .pre .3))
+
+copy-requires : tie.Need-copy-requires
+copy-requires c κs =
+    let e = ap length (c .before .before .before .put-number .ensures) ∙ length-put _ _ _ in
+    (omega arith, omega (arith, simp length-set at e, c .before .before .before .before .before .before .before .pre .0, c .before .before .before .before .before .before .before .pre .1))
+
+same-length : tie.Need-same-length
+same-length c =
+    let e = ap length (c .before .before .before .before .before .before .put-number .ensures) ∙ length-put _ _ _ in
+    omega (arith, simp length-set at e, c .before .before .copy .kept)
+
+returns : tie.Need-returns
+returns c = label-put _ _ _ _ (c .before .before .before .before .before .before .before .before .before .before .pre .0) (c .before .before .before .before .before .before .before .before .before .before .pre .1) _ (c .before .before .copy .ensures ∙ ap (λ w. sets w (labelPlace + 4) (take (length (c .before .before .before .before .before .before .before .before .before .before .args .part .now)) (drop 0 (c .before .before .before .before .before .before .before .before .before .before .args .part .now)))) (c .before .before .before .before .before .before .put-number .ensures))
+
+pub put-label-spec : {M : Type 1} → statement M
+put-label-spec =
+    tie.close
+    (tie.spec
+    cast-area
+    slice-write-area
+    cast-area-2
+    slice-write-area-2
+    put-number-requires
+    copy-requires
+    same-length
+    returns)
