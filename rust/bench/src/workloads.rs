@@ -42,6 +42,9 @@ pub fn all() -> Vec<Workload> {
         listing("list-worst", "a part of the workload worst", worst(0, WORST)),
         listing("list-repeated", "a part of the workload worst-repeated", worst(0, REPEATED)),
         listing("list-surviving", "142,688 raw silent steps, 182 of them distinct", surviving()),
+        listing("list-matched", "132,678 raw silent steps beneath matches", worst(0, MATCHED)),
+        listing("list-matches", "16,384 raw silent steps, 64 distinct", different_matches()),
+        listing("list-alike", "1,452 raw silent steps, 121 distinct", alike()),
     ]
 }
 
@@ -266,7 +269,49 @@ fn worst(with_two_states: usize, body: fn(&[u8]) -> Definition) -> Fields {
     question(with_idle(definitions), first, second)
 }
 
-/// The same on one restricted name: all meetings survive, and many are equal.
+/// The same beneath a match of a name with itself.
+const MATCHED: fn(&[u8]) -> Definition = |prefix| {
+    let branches = choice(&vec![prefixed(prefix, &[0x00]); 27]);
+    definition(1, &prefixed(&[0x05, 0x80, 0x80], &branches))
+};
+
+/// A body that offers the prefix beneath each match of two of its four names.
+fn beneath_matches(prefix: &[u8]) -> Definition {
+    let pairs = (0x80..0x84).flat_map(|a| (0x80..0x84).map(move |b| [0x05, a, b]));
+    let branches: Vec<Vec<u8>> =
+        pairs.map(|pair| [&pair, prefix, &[0x00]].concat()).collect();
+    definition(4, &choice(&branches))
+}
+
+/// Eight calls that offer inputs and eight that offer outputs, all on one restricted name and each
+/// beneath 16 different matches of that name with itself.
+fn different_matches() -> Fields {
+    let definitions = vec![beneath_matches(INPUT), beneath_matches(NEW_OUTPUT)];
+    let calls = |k: u8| vec![call(k, &[0x80; 4]); 8];
+    let part = restricted(1, grouped_left(&[calls(0), calls(1)].concat()));
+    question(definitions, part, vec![0x00])
+}
+
+/// Eleven calls that receive a name in 12 branches and go on with calls that differ in which of
+/// four names is the one received, beside eleven that send the name that stands for the others:
+/// different branches, equal results.
+fn alike() -> Fields {
+    let branch = |number: u8| {
+        let name = |place: u8| 0x80 + (number >> place & 1);
+        prefixed(&[0x02, 0x81], &call(2, &[0, 1, 2, 3].map(name)))
+    };
+    let inputs: Vec<Vec<u8>> = (0..12).map(branch).collect();
+    let definitions = vec![
+        definition(2, &choice(&inputs)),
+        definition(2, &[0x03, 0x81, 0x80, 0x00]),
+        definition(4, &[0x00]),
+    ];
+    let calls = |k: u8| vec![call(k, &[0x80, 0x00]); 11];
+    let part = restricted(1, grouped_left(&[calls(0), calls(1)].concat()));
+    question(definitions, part, vec![0x00])
+}
+
+/// The same as repeated on one restricted name: all meetings survive, and many are equal.
 fn surviving() -> Fields {
     let mut fields = worst(0, REPEATED);
     for part in [&mut fields.first, &mut fields.second] {
