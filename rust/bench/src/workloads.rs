@@ -278,8 +278,7 @@ const MATCHED: fn(&[u8]) -> Definition = |prefix| {
 /// A body that offers the prefix beneath each match of two of its four names.
 fn beneath_matches(prefix: &[u8]) -> Definition {
     let pairs = (0x80..0x84).flat_map(|a| (0x80..0x84).map(move |b| [0x05, a, b]));
-    let branches: Vec<Vec<u8>> =
-        pairs.map(|pair| [&pair, prefix, &[0x00]].concat()).collect();
+    let branches: Vec<Vec<u8>> = pairs.map(|pair| [&pair, prefix, &[0x00]].concat()).collect();
     definition(4, &choice(&branches))
 }
 
