@@ -30,7 +30,8 @@ lastMerged c = cond (leb c 15) 15 c
 unfoldable pub isBetween : (c low high : ℕ) → Bool
 isBetween c low high = cond (ltb c low) false (leb c high)
 
--- Two rows, the second by kind and channel, the first by kind and those channels: one receives, the other sends, and the channels may be merged. A row whose candidate is equal to an earlier one meets no other.
+-- Two rows, the second by kind and channel, the first by kind and those channels: one receives, the other sends, and the channels may be merged.
+-- A row whose candidate is equal to an earlier one meets no other.
 unfoldable pub meetsBetween : (k₁ low high k₂ c₂ : ℕ) → Bool
 meetsBetween k₁ low high k₂ c₂ =
     cond (eqb k₂ 4) false
