@@ -11,7 +11,7 @@ use lib.Dec.{leb, eqb}
 use borrow.Author.Tests.{leb-true}
 use Rattle.calculus.specs.Term.{Term, nil, tau, inp, out, bout, mat, sum, par, res, call, lift, ren}
 use Rattle.terms.specs.Encoding.{nameByte, encode, NamesInScope, InScope}
-use Rattle.terms.specs.Shape.{fixedBytes, ownNames, binders, subterms, frontBytes, fixedAt, namesAt, bindersAt, partsAt, ShapeIs}
+use Rattle.terms.specs.Shape.{fixedBytes, ownNames, binders, subterms, frontBytes, fixedAt, namesBehind, namesAt, bindersAt, partsAt, ShapeIs}
 use Rattle.terms.specs.declared.shape.Shape.{Shape}
 use Rattle.terms.proofs.Stores.{span, getD-front}
 use Rattle.terms.proofs.NameTables.{liftBy}
@@ -34,6 +34,45 @@ pub all-at : (b : ℕ) (l : List ℕ) (i : ℕ) → allLe b l ≡ true → getD 
 all-at b [] i h = zero-le
 all-at b (x ∷ xs) zero h = leb-true x b (and-left (leb x b) (allLe b xs) h)
 all-at b (x ∷ xs) (suc i) h = all-at b xs i (and-right (leb x b) (allLe b xs) h)
+
+-- The tables of shapes where no test of the code holds.
+pub names-else : (t : ℕ) → (t ≡ 2 → ⊥) → (t ≡ 3 → ⊥) → (t ≡ 4 → ⊥) → (t ≡ 5 → ⊥) → 0 ≡ namesBehind t
+names-else zero a b c d = refl
+names-else (suc zero) a b c d = refl
+names-else (suc (suc zero)) a b c d = absurd (a refl)
+names-else (suc (suc (suc zero))) a b c d = absurd (b refl)
+names-else (suc (suc (suc (suc zero)))) a b c d = absurd (c refl)
+names-else (suc (suc (suc (suc (suc zero))))) a b c d = absurd (d refl)
+names-else (suc (suc (suc (suc (suc (suc zero)))))) a b c d = refl
+names-else (suc (suc (suc (suc (suc (suc (suc zero))))))) a b c d = refl
+names-else (suc (suc (suc (suc (suc (suc (suc (suc zero)))))))) a b c d = refl
+names-else (suc (suc (suc (suc (suc (suc (suc (suc (suc t))))))))) a b c d = refl
+
+pub binders-else : (t : ℕ) → (t ≡ 2 → ⊥) → (t ≡ 4 → ⊥) → (t ≡ 8 → ⊥) → 0 ≡ bindersAt t
+unfolding bindersAt
+binders-else zero a b c = refl
+binders-else (suc zero) a b c = refl
+binders-else (suc (suc zero)) a b c = absurd (a refl)
+binders-else (suc (suc (suc zero))) a b c = refl
+binders-else (suc (suc (suc (suc zero)))) a b c = absurd (b refl)
+binders-else (suc (suc (suc (suc (suc zero))))) a b c = refl
+binders-else (suc (suc (suc (suc (suc (suc zero)))))) a b c = refl
+binders-else (suc (suc (suc (suc (suc (suc (suc zero))))))) a b c = refl
+binders-else (suc (suc (suc (suc (suc (suc (suc (suc zero)))))))) a b c = absurd (c refl)
+binders-else (suc (suc (suc (suc (suc (suc (suc (suc (suc t))))))))) a b c = refl
+
+pub parts-one : (t : ℕ) → (t ≡ 0 → ⊥) → (t ≡ 6 → ⊥) → (t ≡ 7 → ⊥) → t < 9 → 1 ≡ partsAt t
+unfolding partsAt
+parts-one zero a b c h = absurd (a refl)
+parts-one (suc zero) a b c h = refl
+parts-one (suc (suc zero)) a b c h = refl
+parts-one (suc (suc (suc zero))) a b c h = refl
+parts-one (suc (suc (suc (suc zero)))) a b c h = refl
+parts-one (suc (suc (suc (suc (suc zero))))) a b c h = refl
+parts-one (suc (suc (suc (suc (suc (suc zero)))))) a b c h = absurd (b refl)
+parts-one (suc (suc (suc (suc (suc (suc (suc zero))))))) a b c h = absurd (c refl)
+parts-one (suc (suc (suc (suc (suc (suc (suc (suc zero)))))))) a b c h = refl
+parts-one (suc (suc (suc (suc (suc (suc (suc (suc (suc t))))))))) a b c h = absurd (omega arith)
 
 -- The bytes of terms that follow one another.
 unfoldable pub encodeAll : ℕ → List Term → List ℕ

@@ -67,8 +67,11 @@ frontBytes d P = fixedBytes P ++ map (nameByte d) (ownNames P)
 unfoldable pub fixedAt : ℕ → ℕ
 fixedAt t = cond (eqb t 9) 2 1
 
+abbrev pub namesBehind : ℕ → ℕ
+namesBehind t = getD (0 ∷ 0 ∷ 1 ∷ 2 ∷ 1 ∷ 2 ∷ 0 ∷ 0 ∷ 0 ∷ []) t 0
+
 unfoldable pub namesAt : List ℕ → ℕ → ℕ → ℕ
-namesAt arities t k = cond (eqb t 9) (getD arities k 0) (getD (0 ∷ 0 ∷ 1 ∷ 2 ∷ 1 ∷ 2 ∷ 0 ∷ 0 ∷ 0 ∷ []) t 0)
+namesAt arities t k = cond (eqb t 9) (getD arities k 0) (namesBehind t)
 
 unfoldable pub bindersAt : ℕ → ℕ
 bindersAt t = getD (0 ∷ 0 ∷ 1 ∷ 0 ∷ 1 ∷ 0 ∷ 0 ∷ 0 ∷ 1 ∷ []) t 0

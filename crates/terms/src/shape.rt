@@ -1,14 +1,9 @@
 // The shape of a term by its first byte: document 01, the table of bytes. What it keeps, how many names and subterms it has.
+ghost use mathlib.Core.Path.{_≡_};
 ghost use Prim.Native.Nat.{_<_};
 ghost use lib.ListN.{length};
-ghost use Rattle.terms.specs.Shape.{ShapeIs};
+ghost use Rattle.terms.specs.Shape.{namesBehind, bindersAt, partsAt, ShapeIs};
 use crate::bytes::get;
-
-const NAMES: [usize; 9] = [0, 0, 1, 2, 1, 2, 0, 0, 0];
-
-const BINDERS: [usize; 9] = [0, 0, 1, 0, 1, 0, 0, 0, 1];
-
-const PARTS: [usize; 9] = [0, 1, 1, 1, 1, 1, 2, 2, 1];
 
 pub struct Shape {
     // the bytes that no renaming changes: the first, and a call's number
@@ -19,6 +14,58 @@ pub struct Shape {
     pub binds: usize,
     // the subterms
     pub parts: usize,
+}
+
+// How many names stand behind the first byte, unless it is a call's. Tests take less than a table, which would be made anew at each call.
+fn names_of(t: usize) -> usize
+    ensures { λ r. ⌜ r ≡ namesBehind t ⌝ }
+{
+    if t == 2 {
+        return 1;
+    }
+    if t == 3 {
+        return 2;
+    }
+    if t == 4 {
+        return 1;
+    }
+    if t == 5 {
+        return 2;
+    }
+    0
+}
+
+fn binders_of(t: usize) -> usize
+    ensures { λ r. ⌜ r ≡ bindersAt t ⌝ }
+{
+    if t == 2 {
+        return 1;
+    }
+    if t == 4 {
+        return 1;
+    }
+    if t == 8 {
+        return 1;
+    }
+    0
+}
+
+fn parts_of(t: usize) -> usize
+    ensures { λ r. ⌜ r ≡ partsAt t ⌝ }
+{
+    if t == 0 {
+        return 0;
+    }
+    if t == 6 {
+        return 2;
+    }
+    if t == 7 {
+        return 2;
+    }
+    if t < 9 {
+        return 1;
+    }
+    0
 }
 
 // The shape of what begins at `at`.
@@ -37,18 +84,10 @@ pub fn shape_at(src: &[u8], at: usize, arities: &[u8]) -> Shape
             parts: 0,
         };
     }
-    if t < 9 {
-        return Shape {
-            fixed: 1,
-            names: NAMES[t],
-            binds: BINDERS[t],
-            parts: PARTS[t],
-        };
-    }
     Shape {
         fixed: 1,
-        names: 0,
-        binds: 0,
-        parts: 0,
+        names: names_of(t),
+        binds: binders_of(t),
+        parts: parts_of(t),
     }
 }

@@ -3,7 +3,7 @@ use mathlib.Core.Path.{refl, sym, ap, _∙_}
 use mathlib.Core.List.{[], _∷_}
 use Prim.Native.Nat.{ℕ}
 use native.Mathlib.Omega.{arith}
-use lib.ListN.{getD, List·getD-eq-default}
+use lib.ListN.{getD}
 use denote.Ref.{now}
 use borrow.Author.Tests.{ne-eqb}
 use borrow.Author.Needs.{needs}
@@ -47,52 +47,28 @@ returns c =
       one = search needs;
     }
 
-mul-t12 : tie.Need-mul-t12
-mul-t12 c = search needs
+names-of-requires : tie.Need-names-of-requires
+names-of-requires c κs = search needs
 
-array-read-t15 : tie.Need-array-read-t15
-array-read-t15 c = search needs
+binders-of-requires : tie.Need-binders-of-requires
+binders-of-requires c κs = search needs
 
-mul-t17 : tie.Need-mul-t17
-mul-t17 c = search needs
-
-array-read-t20 : tie.Need-array-read-t20
-array-read-t20 c = search needs
-
-mul-t22 : tie.Need-mul-t22
-mul-t22 c = search needs
-
-array-read-t25 : tie.Need-array-read-t25
-array-read-t25 c = search needs
+parts-of-requires : tie.Need-parts-of-requires
+parts-of-requires c κs = search needs
 
 returns-2 : tie.Need-returns-2
 unfolding fixedAt namesAt bindersAt partsAt
 returns-2 c =
-    let e = c .before .before .get .ensures in
-    let f = ne-eqb _ 9 (c .before .if1 .left) in
+    let e = c .before .before .before .before .get .ensures in
+    let f = ne-eqb _ 9 (c .before .before .before .if1 .left) in
     record {
       fixed = rw (← e, f);
-      names = rw (← e, f);
-      binds = rw e;
-      parts = rw e;
+      names = rw (← e, f) (c .before .before .names-of .ensures);
+      binds = rw (← e) (c .before .binders-of .ensures);
+      parts = rw (← e) (c .parts-of .ensures);
       some = search needs;
-      few = omega (arith, all-at 2 (0 ∷ 0 ∷ 1 ∷ 2 ∷ 1 ∷ 2 ∷ 0 ∷ 0 ∷ 0 ∷ []) (c .before .before .get .result) refl);
-      one = all-at 1 (0 ∷ 0 ∷ 1 ∷ 0 ∷ 1 ∷ 0 ∷ 0 ∷ 0 ∷ 1 ∷ []) (c .before .before .get .result) refl;
-    }
-
-returns-3 : tie.Need-returns-3
-unfolding fixedAt namesAt bindersAt partsAt
-returns-3 c =
-    let e = c .before .before .get .ensures in
-    let f = ne-eqb _ 9 (c .before .if1 .left) in
-    record {
-      fixed = rw (← e, f);
-      names = rw (← e, f) (sym (List·getD-eq-default (0 ∷ 0 ∷ 1 ∷ 2 ∷ 1 ∷ 2 ∷ 0 ∷ 0 ∷ 0 ∷ []) 0 (c .if2 .left)));
-      binds = rw (← e) (sym (List·getD-eq-default (0 ∷ 0 ∷ 1 ∷ 0 ∷ 1 ∷ 0 ∷ 0 ∷ 0 ∷ 1 ∷ []) 0 (c .if2 .left)));
-      parts = rw (← e) (sym (List·getD-eq-default (0 ∷ 1 ∷ 1 ∷ 1 ∷ 1 ∷ 1 ∷ 2 ∷ 2 ∷ 1 ∷ []) 0 (c .if2 .left)));
-      some = search needs;
-      few = search needs;
-      one = search needs;
+      few = omega (arith, all-at 2 (0 ∷ 0 ∷ 1 ∷ 2 ∷ 1 ∷ 2 ∷ 0 ∷ 0 ∷ 0 ∷ []) (c .before .before .before .before .get .result) refl, c .before .before .names-of .ensures);
+      one = omega (arith, all-at 1 (0 ∷ 0 ∷ 1 ∷ 0 ∷ 1 ∷ 0 ∷ 0 ∷ 0 ∷ 1 ∷ []) (c .before .before .before .before .get .result) refl, c .before .binders-of .ensures);
     }
 
 pub shape-at-spec : {M : Type 1} → statement M
@@ -107,11 +83,7 @@ shape-at-spec =
     get-requires-3
     cast-n
     returns
-    mul-t12
-    array-read-t15
-    mul-t17
-    array-read-t20
-    mul-t22
-    array-read-t25
-    returns-2
-    returns-3)
+    names-of-requires
+    binders-of-requires
+    parts-of-requires
+    returns-2)
