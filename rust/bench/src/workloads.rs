@@ -44,6 +44,7 @@ pub fn all() -> Vec<Workload> {
         listing("list-surviving", "142,688 raw silent steps, 182 of them distinct", surviving()),
         listing("list-matched", "132,678 raw silent steps beneath matches", worst(0, MATCHED)),
         listing("list-matches", "16,384 raw silent steps, 64 distinct", different_matches()),
+        listing("list-unmet", "48,400 raw silent steps beneath a match that fails", unmet()),
         listing("list-alike", "1,452 raw silent steps, 121 distinct", alike()),
     ]
 }
@@ -288,6 +289,20 @@ fn different_matches() -> Fields {
     let definitions = vec![beneath_matches(INPUT), beneath_matches(NEW_OUTPUT)];
     let calls = |k: u8| vec![call(k, &[0x80; 4]); 8];
     let part = restricted(1, grouped_left(&[calls(0), calls(1)].concat()));
+    question(definitions, part, vec![0x00])
+}
+
+/// Eleven calls that offer 20 inputs and eleven that offer 20 outputs, all on one restricted name
+/// and beneath a match of that name with another restricted one.
+fn unmet() -> Fields {
+    let body = |prefix: &[u8]| {
+        let branches: Vec<Vec<u8>> =
+            continuations().take(20).map(|term| prefixed(prefix, &term)).collect();
+        definition(2, &prefixed(&[0x05, 0x80, 0x81], &choice(&branches)))
+    };
+    let definitions = with_idle(vec![body(INPUT), body(NEW_OUTPUT)]);
+    let calls = |k: u8| vec![call(k, &[0x80, 0x81]); 11];
+    let part = restricted(2, grouped_left(&[calls(0), calls(1)].concat()));
     question(definitions, part, vec![0x00])
 }
 
