@@ -17,11 +17,10 @@ use Rattle.terms.specs.Answer.{result}
 use Rattle.terms.specs.Encoding.{encode, InScope}
 use Rattle.terms.specs.Question.{Question, checkOf}
 use Rattle.terms.proofs.ReadEncoded.{encode-some}
-use Rattle.steps.specs.Branching.{Ends}
 use Rattle.steps.specs.Listing.{bodyOf}
 use Rattle.steps.specs.Passing.{candidates, Does, PassIs, MiddleIs, nothingSent}
 use Rattle.steps.specs.Raw.{Candidate, step, blocked, leftSteps, rightSteps, communications}
-use Rattle.steps.specs.Tally.{TallyIs}
+use Rattle.steps.specs.Tally.{EndsInside, TallyIs}
 use Rattle.steps.specs.Tallying.{numberAt}
 use Rattle.steps.specs.declared.pass.Passed.{Passed}
 use Rattle.steps.proofs.CandidateForms.{candidates-sum, candidates-par, meetings, tag-at, only-two}
@@ -106,14 +105,14 @@ number-is question s calls t T true q at free D σ P rest ok scope st = T .is q 
 number-is question s calls t T false q at free D σ P rest ok scope st = T .is q at free D σ P rest ok scope st .0
 
 -- The right side stands behind the form's first byte, whatever the bytes are.
-pub middle-past : (s tally : List ℕ) → Ends s tally → (at m : ℕ) → MiddleIs s tally at m → at < length s → at < m
+pub middle-past : (s tally : List ℕ) → EndsInside s tally → (at m : ℕ) → MiddleIs s tally at m → at < length s → at < m
 middle-past s tally E at m N h = go (leb (length s) (at + 1)) refl
   where
     go : (b : Bool) → leb (length s) (at + 1) ≡ b → at < m
     go true b = omega (arith, N .none (leb-true (length s) (at + 1) b))
     go false b = let l = leb-false (length s) (at + 1) b in omega (arith, N .is l, E (at + 1) l .0)
 
-pub middle-inside : (s tally : List ℕ) → Ends s tally → (at m : ℕ) → MiddleIs s tally at m → at < length s → m ≤ length s
+pub middle-inside : (s tally : List ℕ) → EndsInside s tally → (at m : ℕ) → MiddleIs s tally at m → at < length s → m ≤ length s
 middle-inside s tally E at m N h = go (leb (length s) (at + 1)) refl
   where
     go : (b : Bool) → leb (length s) (at + 1) ≡ b → m ≤ length s

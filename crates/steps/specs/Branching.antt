@@ -11,12 +11,8 @@ use Rattle.terms.specs.Question.{Question, checkOf}
 use Rattle.steps.specs.Listing.{bodyOf}
 use Rattle.steps.specs.Passing.{candidates}
 use Rattle.steps.specs.Raw.{Candidate, blocked}
-use Rattle.steps.specs.Tally.{endAt, TallyIs}
+use Rattle.steps.specs.Tally.{TallyIs}
 use Rattle.steps.specs.declared.pass.Branch.{Branch}
-
--- Whatever the bytes are, an end lies behind its beginning and within them.
-abbrev pub Ends : List ℕ → List ℕ → Type 0
-Ends s t = (at : ℕ) → at < length s → (at < endAt t at) × (endAt t at ≤ length s)
 
 -- A term stands at `at` whose candidate of this number is c, if σ puts names for those of the bytes.
 pub record HasAt (q : Question) (s : List ℕ) (silently : Bool) (calls free D : ℕ) (σ : ℕ → ℕ) (c : Candidate) (at number : ℕ) : Type 0 where

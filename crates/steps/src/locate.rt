@@ -2,8 +2,8 @@
 ghost use Prim.Native.Nat.{_≤_};
 ghost use lib.ListN.{length};
 ghost use Rattle.terms.specs.Limits.{longestTerm};
-ghost use Rattle.steps.specs.Branching.{Ends};
 ghost use Rattle.steps.specs.Locating.{LocateIs};
+ghost use Rattle.steps.specs.Tally.{EndsInside};
 use crate::pass::middle_of;
 use crate::tally::visible_at;
 
@@ -16,7 +16,7 @@ pub struct Located {
 
 // The component of the term at `at` that has the term's visible candidate number `i`. The tally says on which side it stands.
 pub fn locate(src: &[u8], tally: &[u32], at: usize, depth: usize, i: usize) -> Located
-    requires { ⌜ (depth ≤ at) × (at ≤ length (now src)) × (length (now src) ≤ longestTerm) × Ends (now src) (now tally) ⌝ }
+    requires { ⌜ (depth ≤ at) × (at ≤ length (now src)) × (length (now src) ≤ longestTerm) × EndsInside (now src) (now tally) ⌝ }
     ensures { λ r. ⌜ LocateIs (now (src .entry)) (now (tally .entry)) at depth i r ⌝ }
 {
     let mut a = at;

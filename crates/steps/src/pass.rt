@@ -5,10 +5,10 @@ ghost use mathlib.Core.Bool.{false};
 ghost use Prim.Native.Nat.{_+_, _-_, _≤_, _<_};
 ghost use lib.ListN.{length, getD};
 ghost use Rattle.terms.specs.Limits.{tableNames, greatestArity, longestTerm};
-ghost use Rattle.steps.specs.Branching.{Ends, BranchIs};
+ghost use Rattle.steps.specs.Branching.{BranchIs};
 ghost use Rattle.steps.specs.Names.{mostBinders};
 ghost use Rattle.steps.specs.Passing.{nothingSent, PrefixIs, opensAt, leavingAt, returnedAt, PassIs, MiddleIs};
-ghost use Rattle.steps.specs.Tally.{TallyIs, BodiesTallied};
+ghost use Rattle.steps.specs.Tally.{EndsInside, TallyIs, BodiesTallied};
 use crate::bodies::body_of;
 use crate::bodies::call_at;
 use crate::names::slot_of;
@@ -130,7 +130,7 @@ pub struct Branch {
 
 // The branch of the choice at `at` that has the choice's candidate of this number: down from choice to choice.
 pub fn branch_of(src: &[u8], tally: &[u32], at: usize, silently: bool, number: usize) -> Branch
-    requires { ⌜ (length (now src) ≤ longestTerm) × Ends (now src) (now tally) ⌝ }
+    requires { ⌜ (length (now src) ≤ longestTerm) × EndsInside (now src) (now tally) ⌝ }
     ensures { λ r. ⌜ BranchIs (now (src .entry)) (now (tally .entry)) at silently number r ⌝ }
 {
     let mut b = at;
