@@ -19,7 +19,6 @@ use crate::entries::trivial;
 use crate::find::Found;
 use crate::find::KEY_BYTES;
 use crate::find::SLOT_BYTES;
-use crate::list_area::LIST_AREA;
 use crate::pairs::PAIR_COUNT;
 use crate::pairs::permitted;
 use crate::results::successor;
@@ -28,9 +27,6 @@ use crate::taking::Lists;
 use crate::taking::take_up;
 use steps::bodies::arities_of;
 use steps::limits::STEP_BYTES;
-use steps::rows::TABLE_OF_ROWS;
-use steps::tally::TALLY;
-use steps::tally::body_tallies;
 use terms::bytes::copy;
 
 // The size of the field, or a limit is passed.
@@ -351,30 +347,35 @@ fn grow(
     }
 }
 
-// Takes up the situations from the start on until none waits.
-pub fn explore(question: &[u8], capacity: usize, work: &mut [u8]) -> Explored
-    requires { ⌜ (1 ≤ capacity) × (capacity ≤ 4096) × (slotBytes * capacity ≤ length (now work)) ⌝ }
-    ensures { λ r. ⌜ ExploreIs (now (question .entry)) capacity (now (work .entry)) r (now (work .exit)) ⌝ }
+// Takes up the situations from the start on until none waits. The tables of the lister and the areas of the two lists are lent; each area has the
+// list that its label says, if any.
+pub fn explore(
+    question: &[u8],
+    bodies: &[u32],
+    numbers: &mut [u32],
+    rows: &mut [u8],
+    firsts: &mut [u8],
+    seconds: &mut [u8],
+    work: &mut [u8],
+    capacity: usize,
+) -> Explored
+    requires { ⌜ (1 ≤ capacity) × (capacity ≤ 4096) × (slotBytes * capacity ≤ length (now work)) × BodiesTallied (now question) (now bodies) × (length (now numbers) ≡ tallySize) × (rowBytes * mostRows ≤ length (now rows)) × Labelled (now question) (now firsts) × Labelled (now question) (now seconds) ⌝ }
+    ensures { λ r. ⌜ ExploreIs (now (question .entry)) capacity (now (work .entry)) r (now (work .exit)) × Labelled (now (question .entry)) (now (firsts .exit)) × Labelled (now (question .entry)) (now (seconds .exit)) ⌝ }
 {
     clear_heads(work, capacity);
     let key = start_key(question);
     put(work, capacity, 0, &key);
-    let bodies = body_tallies(question);
-    let mut numbers = [0u32; TALLY];
-    let mut rows = [0u8; TABLE_OF_ROWS];
-    let mut firsts = [0u8; LIST_AREA];
-    let mut seconds = [0u8; LIST_AREA];
     let mut known = 1;
     let mut taken = 0;
     while taken < known {
         let growth = grow(
             question,
-            &bodies,
+            bodies,
             taken,
-            &mut numbers,
-            &mut rows,
-            &mut firsts,
-            &mut seconds,
+            numbers,
+            rows,
+            firsts,
+            seconds,
             work,
             capacity,
             known,

@@ -9,6 +9,10 @@ use crate::strike::start_survives;
 use field::explore::Explored;
 use field::explore::explore;
 use field::find::SLOT_BYTES;
+use field::list_area::LIST_AREA;
+use steps::rows::TABLE_OF_ROWS;
+use steps::tally::TALLY;
+use steps::tally::body_tallies;
 use terms::check::Checked;
 use terms::check::check;
 
@@ -34,16 +38,40 @@ fn clear(work: &mut [u8], n: usize)
     }
 }
 
-// The verdict on an accepted question.
+// The verdict on an accepted question. The tallies of the bodies, the lister's tables and the lists of the two sides serve exploration and passes.
 fn decide(question: &[u8], capacity: usize, work: &mut [u8]) -> Judged
     requires { ⌜ (1 ≤ capacity) × (capacity ≤ greatestCapacity) × (slotBytes * capacity ≤ length (now work)) ⌝ }
     ensures { λ r. ⌜ DecidesIs (now (question .entry)) capacity (now (work .entry)) r (now (work .exit)) ⌝ }
 {
-    let explored = explore(question, capacity, work);
+    let bodies = body_tallies(question);
+    let mut numbers = [0u32; TALLY];
+    let mut rows = [0u8; TABLE_OF_ROWS];
+    let mut firsts = [0u8; LIST_AREA];
+    let mut seconds = [0u8; LIST_AREA];
+    let explored = explore(
+        question,
+        &bodies,
+        &mut numbers,
+        &mut rows,
+        &mut firsts,
+        &mut seconds,
+        work,
+        capacity,
+    );
     match explored {
         Explored::Incomplete => Judged::Unsettled,
         Explored::Field(n) => {
-            if start_survives(question, work, capacity, n) {
+            if start_survives(
+                question,
+                &bodies,
+                &mut numbers,
+                &mut rows,
+                &mut firsts,
+                &mut seconds,
+                work,
+                capacity,
+                n,
+            ) {
                 return Judged::Same(n);
             }
             Judged::Different(n)

@@ -12,7 +12,6 @@ use field::chains::find_chained;
 use field::entries::answers;
 use field::find::Found;
 use field::find::SLOT_BYTES;
-use field::list_area::LIST_AREA;
 use field::pairs::PAIR_COUNT;
 use field::pairs::permitted;
 use field::results::successor;
@@ -20,9 +19,6 @@ use field::taking::Lists;
 use field::taking::take_up;
 use steps::bodies::arities_of;
 use steps::limits::STEP_BYTES;
-use steps::rows::TABLE_OF_ROWS;
-use steps::tally::TALLY;
-use steps::tally::body_tallies;
 use terms::bytes::get;
 
 // The byte of a slot behind its key: 0 while the situation is left, 1 once it is struck out.
@@ -261,28 +257,33 @@ fn strike_pass(
     struck
 }
 
-// Passes until one strikes out none or the start is struck out; whether the start is left.
-fn survives_passes(question: &[u8], work: &mut [u8], capacity: usize, count: usize) -> bool
-    requires { ⌜ (1 ≤ count) × (count ≤ capacity) × (slotBytes * capacity ≤ length (now work)) ⌝ }
+// Passes until one strikes out none or the start is struck out; whether the start is left. The two areas have the lists that their labels say.
+fn survives_passes(
+    question: &[u8],
+    bodies: &[u32],
+    numbers: &mut [u32],
+    rows: &mut [u8],
+    firsts: &mut [u8],
+    seconds: &mut [u8],
+    work: &mut [u8],
+    capacity: usize,
+    count: usize,
+) -> bool
+    requires { ⌜ (1 ≤ count) × (count ≤ capacity) × (slotBytes * capacity ≤ length (now work)) × BodiesTallied (now question) (now bodies) × (length (now numbers) ≡ tallySize) × (rowBytes * mostRows ≤ length (now rows)) × Labelled (now question) (now firsts) × Labelled (now question) (now seconds) ⌝ }
     ensures { λ r. ⌜ StartSurvivesIs (now (question .entry)) capacity (now (work .entry)) count r (now (work .exit)) ⌝ }
 {
-    let bodies = body_tallies(question);
-    let mut numbers = [0u32; TALLY];
-    let mut rows = [0u8; TABLE_OF_ROWS];
-    let mut firsts = [0u8; LIST_AREA];
-    let mut seconds = [0u8; LIST_AREA];
     let mut again = true;
     while again {
         again = strike_pass(
             question,
-            &bodies,
+            bodies,
             work,
             capacity,
             count,
-            &mut numbers,
-            &mut rows,
-            &mut firsts,
-            &mut seconds,
+            numbers,
+            rows,
+            firsts,
+            seconds,
         );
         if !left_at(work, 0) {
             return false;
@@ -308,8 +309,18 @@ fn some_struck(work: &[u8], count: usize) -> bool
 
 // Whether the start survives. Exploration struck out the situations with a step that has no answer at all; if there are none, all survive, since
 // every answer leads to a situation of the field.
-pub fn start_survives(question: &[u8], work: &mut [u8], capacity: usize, count: usize) -> bool
-    requires { ⌜ (1 ≤ count) × (count ≤ capacity) × (slotBytes * capacity ≤ length (now work)) ⌝ }
+pub fn start_survives(
+    question: &[u8],
+    bodies: &[u32],
+    numbers: &mut [u32],
+    rows: &mut [u8],
+    firsts: &mut [u8],
+    seconds: &mut [u8],
+    work: &mut [u8],
+    capacity: usize,
+    count: usize,
+) -> bool
+    requires { ⌜ (1 ≤ count) × (count ≤ capacity) × (slotBytes * capacity ≤ length (now work)) × BodiesTallied (now question) (now bodies) × (length (now numbers) ≡ tallySize) × (rowBytes * mostRows ≤ length (now rows)) × Labelled (now question) (now firsts) × Labelled (now question) (now seconds) ⌝ }
     ensures { λ r. ⌜ StartSurvivesIs (now (question .entry)) capacity (now (work .entry)) count r (now (work .exit)) ⌝ }
 {
     if !left_at(work, 0) {
@@ -318,5 +329,15 @@ pub fn start_survives(question: &[u8], work: &mut [u8], capacity: usize, count: 
     if !some_struck(work, count) {
         return true;
     }
-    survives_passes(question, work, capacity, count)
+    survives_passes(
+        question,
+        bodies,
+        numbers,
+        rows,
+        firsts,
+        seconds,
+        work,
+        capacity,
+        count,
+    )
 }

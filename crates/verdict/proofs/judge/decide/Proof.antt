@@ -1,12 +1,33 @@
 -- `verdict::judge::decide` meets its contract. Assumes nothing.
 use native.Mathlib.Omega.{arith}
-use borrow.Author.Needs.{needs}
+use mathlib.Core.Path.{refl}
+use Rattle.field.specs.ListArea.{listArea}
+use Rattle.field.proofs.ListAreaLaws.{no-part}
 use Rattle.verdict.proofs.DecideLaws.{unsettled-is, same-is, different-is}
+use borrow.Author.Needs.{needs}
 use Rattle.verdict.proofs.judge.decide.Statement.{statement}
 use Rattle.verdict.proofs.judge.decide.Tie as tie
 
+body-tallies-requires : tie.Need-body-tallies-requires
+body-tallies-requires c κs = search needs
+
+slice-aggregate-explore : tie.Need-slice-aggregate-explore
+slice-aggregate-explore c = search needs
+
+slice-aggregate-explore-2 : tie.Need-slice-aggregate-explore-2
+slice-aggregate-explore-2 c = search needs
+
+slice-aggregate-explore-3 : tie.Need-slice-aggregate-explore-3
+slice-aggregate-explore-3 c = search needs
+
+slice-aggregate-explore-4 : tie.Need-slice-aggregate-explore-4
+slice-aggregate-explore-4 c = search needs
+
+slice-aggregate-explore-5 : tie.Need-slice-aggregate-explore-5
+slice-aggregate-explore-5 c = search needs
+
 explore-requires : tie.Need-explore-requires
-explore-requires c κs = search needs
+explore-requires c κs = (c .before .before .before .before .before .before .before .before .before .pre .0, c .before .before .before .before .before .before .before .before .before .pre .1, c .before .before .before .before .before .before .before .before .before .pre .2, c .before .before .before .before .before .before .body-tallies .ensures, search needs, search needs, no-part _ listArea (omega arith), no-part _ listArea (omega arith))
 
 enum-told : tie.Need-enum-told
 enum-told c = search needs
@@ -14,34 +35,60 @@ enum-told c = search needs
 enum-known-explored : tie.Need-enum-known-explored
 enum-known-explored c = search needs
 
+slice-aggregate-start-survives : tie.Need-slice-aggregate-start-survives
+slice-aggregate-start-survives c = search needs
+
+slice-aggregate-start-survives-2 : tie.Need-slice-aggregate-start-survives-2
+slice-aggregate-start-survives-2 c = search needs
+
+slice-aggregate-start-survives-3 : tie.Need-slice-aggregate-start-survives-3
+slice-aggregate-start-survives-3 c = search needs
+
+slice-aggregate-start-survives-4 : tie.Need-slice-aggregate-start-survives-4
+slice-aggregate-start-survives-4 c = search needs
+
+slice-aggregate-start-survives-5 : tie.Need-slice-aggregate-start-survives-5
+slice-aggregate-start-survives-5 c = search needs
+
 start-survives-requires : tie.Need-start-survives-requires
-start-survives-requires c κs = let w = c .before .before .before .before .before .before .explore .ensures .within _ (c .before .before .explored .given .1) in omega (arith, w .0, w .1)
+start-survives-requires c κs = let w = c .before .before .before .before .before .before .before .before .before .before .before .before .before .before .before .explore .ensures .0 .within _ (c .before .before .before .before .before .before .before .explored .given .1) in (w .0, w .1, omega (arith, c .before .before .before .before .before .before .before .before .before .before .before .before .before .before .before .before .before .before .before .before .before .before .before .before .before .pre .2), c .before .before .before .before .before .before .before .before .before .before .before .before .before .before .before .before .before .before .before .before .before .before .body-tallies .ensures, search needs, search needs, c .before .before .before .before .before .before .before .before .before .before .before .before .before .before .before .explore .ensures .1, c .before .before .before .before .before .before .before .before .before .before .before .before .before .before .before .explore .ensures .2)
 
 same-length : tie.Need-same-length
 same-length c = search needs
 
 returns : tie.Need-returns
-returns c = same-is _ _ _ _ _ (c .before .before .before .before .before .before .before .before .before .before .explore .ensures) _ (c .before .before .before .before .before .before .explored .given .1) (omega arith) _ _ (c .before .before .before .start-survives .ensures) (c .if1 .taken)
+returns c = same-is _ _ _ _ _ (c .before .before .before .before .before .before .before .before .before .before .before .before .before .before .before .before .before .before .before .before .before .before .before .explore .ensures .0) _ (c .before .before .before .before .before .before .before .before .before .before .before .before .before .before .before .explored .given .1) (omega (arith, c .before .before .before .before .before .before .before .before .before .before .before .before .before .before .before .before .before .before .before .before .before .before .before .before .before .before .before .before .before .before .before .before .before .pre .0, c .before .before .before .before .before .before .before .before .before .before .before .before .before .before .before .before .before .before .before .before .before .before .before .before .before .before .before .before .before .before .before .before .before .pre .1, c .before .before .before .before .before .before .before .before .before .before .before .before .before .before .before .before .before .before .before .before .before .before .before .before .before .before .before .before .before .before .before .before .before .pre .2)) _ _ (c .before .before .before .before .before .before .before .start-survives .ensures) (c .if1 .taken)
 
 same-length-2 : tie.Need-same-length-2
 same-length-2 c = search needs
 
 returns-2 : tie.Need-returns-2
-returns-2 c = unsettled-is _ _ _ _ _ (c .before .before .before .before .explore .ensures) (c .enum-told .given .1)
+returns-2 c = unsettled-is _ _ _ _ _ (c .before .before .before .before .before .before .before .before .explore .ensures .0) (c .enum-told .given .1)
 
 same-length-3 : tie.Need-same-length-3
 same-length-3 c = search needs
 
 returns-3 : tie.Need-returns-3
-returns-3 c = different-is _ _ _ _ _ (c .before .before .before .before .before .before .before .before .before .before .explore .ensures) _ (c .before .before .before .before .before .before .explored .given .1) (omega arith) _ _ (c .before .before .before .start-survives .ensures) (c .if1 .left)
+returns-3 c = different-is _ _ _ _ _ (c .before .before .before .before .before .before .before .before .before .before .before .before .before .before .before .before .before .before .before .before .before .before .before .explore .ensures .0) _ (c .before .before .before .before .before .before .before .before .before .before .before .before .before .before .before .explored .given .1) (omega (arith, c .before .before .before .before .before .before .before .before .before .before .before .before .before .before .before .before .before .before .before .before .before .before .before .before .before .before .before .before .before .before .before .before .before .pre .0, c .before .before .before .before .before .before .before .before .before .before .before .before .before .before .before .before .before .before .before .before .before .before .before .before .before .before .before .before .before .before .before .before .before .pre .1, c .before .before .before .before .before .before .before .before .before .before .before .before .before .before .before .before .before .before .before .before .before .before .before .before .before .before .before .before .before .before .before .before .before .pre .2)) _ _ (c .before .before .before .before .before .before .before .start-survives .ensures) (c .if1 .left)
 
 pub decide-spec : {M : Type 1} → statement M
 decide-spec =
     tie.close
     (tie.spec
+    body-tallies-requires
+    slice-aggregate-explore
+    slice-aggregate-explore-2
+    slice-aggregate-explore-3
+    slice-aggregate-explore-4
+    slice-aggregate-explore-5
     explore-requires
     enum-told
     enum-known-explored
+    slice-aggregate-start-survives
+    slice-aggregate-start-survives-2
+    slice-aggregate-start-survives-3
+    slice-aggregate-start-survives-4
+    slice-aggregate-start-survives-5
     start-survives-requires
     same-length
     returns

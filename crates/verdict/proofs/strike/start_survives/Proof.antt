@@ -1,8 +1,8 @@
 -- `verdict::strike::start_survives` meets its contract. Assumes nothing.
 use native.Mathlib.Omega.{arith}
-use borrow.Author.Needs.{needs}
 use borrow.Author.Tests.{not-true}
 use Rattle.verdict.proofs.StrikeLaws.{start-gone, none-struck-stays}
+use borrow.Author.Needs.{needs}
 use Rattle.verdict.proofs.strike.start_survives.Statement.{statement}
 use Rattle.verdict.proofs.strike.start_survives.Tie as tie
 
@@ -25,13 +25,25 @@ returns-2 : tie.Need-returns-2
 returns-2 c = none-struck-stays _ _ _ _ _ (omega arith) (c .before .some-struck .ensures) (not-true _ (c .if2 .taken))
 
 survives-passes-requires : tie.Need-survives-passes-requires
-survives-passes-requires c κs = search needs
+survives-passes-requires c κs = c .before .before .before .before .before .before .before .before .before .before .before .before .before .before .before .before .before .before .pre
 
 same-length-3 : tie.Need-same-length-3
 same-length-3 c = search needs
 
+same-length-4 : tie.Need-same-length-4
+same-length-4 c = search needs
+
+same-length-5 : tie.Need-same-length-5
+same-length-5 c = search needs
+
+same-length-6 : tie.Need-same-length-6
+same-length-6 c = search needs
+
+same-length-7 : tie.Need-same-length-7
+same-length-7 c = search needs
+
 returns-3 : tie.Need-returns-3
-returns-3 c = c .before .before .survives-passes .ensures
+returns-3 c = c .before .before .before .before .before .before .before .before .before .before .survives-passes .ensures
 
 pub start-survives-spec : {M : Type 1} → statement M
 start-survives-spec =
@@ -45,4 +57,8 @@ start-survives-spec =
     returns-2
     survives-passes-requires
     same-length-3
+    same-length-4
+    same-length-5
+    same-length-6
+    same-length-7
     returns-3)

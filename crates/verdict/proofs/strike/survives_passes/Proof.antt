@@ -4,13 +4,12 @@ use borrow.Author.Needs.{needs}
 use borrow.Author.Tests.{not-true, not-false}
 use mathlib.Core.Bool.{false, cond}
 use mathlib.Core.Path.{_≡_, refl}
-use Prim.Native.Nat.{_+_, _*_}
+use Prim.Native.Nat.{_+_, _*_, _≤_}
 use lib.ListN.{length, getD}
 use Rattle.steps.specs.Rows.{rowBytes, mostRows}
 use Rattle.steps.specs.Tally.{tallySize}
-use Rattle.field.specs.ListArea.{listArea, Labelled}
+use Rattle.field.specs.ListArea.{Labelled}
 use Rattle.field.specs.Slot.{struckAt}
-use Rattle.field.proofs.ListAreaLaws.{no-part}
 use Rattle.verdict.specs.Striking.{marks, zeros, Strikes, none-struck, AllSurvive}
 use Rattle.verdict.proofs.Rounds.{true-not-false}
 use Rattle.verdict.proofs.StrikeLaws.{strikes-then, left-zero, pass-less, start-goes, start-stays}
@@ -18,76 +17,84 @@ use Rattle.verdict.proofs.strike.survives_passes.Statement.{statement}
 use Rattle.verdict.proofs.strike.survives_passes.Tie as tie
 
 abbrev Inv-loop : tie.InvT-loop
-Inv-loop question work₀ capacity count bodies numbers₀ rows₀ firsts₀ seconds₀ again₀ work numbers rows firsts seconds again =
-    (length work ≡ length work₀) × (length numbers ≡ tallySize) × (length rows ≡ rowBytes * mostRows)
-    × (length firsts ≡ listArea) × (length seconds ≡ listArea) × Labelled question firsts × Labelled question seconds
+Inv-loop question bodies numbers₀ rows₀ firsts₀ seconds₀ work₀ capacity count again₀ numbers rows firsts seconds work again =
+    (length work ≡ length work₀) × (length numbers ≡ tallySize) × (rowBytes * mostRows ≤ length rows) × Labelled question firsts × Labelled question seconds
     × Strikes question capacity count work₀ work × (again ≡ false → (getD work (struckAt 0) 0 ≡ 0) × AllSurvive question capacity work count)
+    × (length numbers ≡ length numbers₀) × (length rows ≡ length rows₀) × (length firsts ≡ length firsts₀) × (length seconds ≡ length seconds₀)
 
 abbrev μ-loop : tie.MeasureT-loop
-μ-loop question work₀ capacity count bodies numbers₀ rows₀ firsts₀ seconds₀ again₀ work numbers rows firsts seconds again = zeros (marks work count) + cond again 1 0
-
-body-tallies-requires : tie.Need-body-tallies-requires Inv-loop μ-loop
-body-tallies-requires c κs = search needs
+μ-loop question bodies numbers₀ rows₀ firsts₀ seconds₀ work₀ capacity count again₀ numbers rows firsts seconds work again = zeros (marks work count) + cond again 1 0
 
 loop-holds : tie.Need-loop-holds Inv-loop μ-loop
-loop-holds c = (refl, search needs, search needs, search needs, search needs, no-part _ listArea (omega arith), no-part _ listArea (omega arith), none-struck, λ q. true-not-false refl q)
-
-slice-aggregate-strike-pass : tie.Need-slice-aggregate-strike-pass Inv-loop μ-loop
-slice-aggregate-strike-pass c = search needs
-
-slice-aggregate-strike-pass-2 : tie.Need-slice-aggregate-strike-pass-2 Inv-loop μ-loop
-slice-aggregate-strike-pass-2 c = search needs
-
-slice-aggregate-strike-pass-3 : tie.Need-slice-aggregate-strike-pass-3 Inv-loop μ-loop
-slice-aggregate-strike-pass-3 c = search needs
-
-slice-aggregate-strike-pass-4 : tie.Need-slice-aggregate-strike-pass-4 Inv-loop μ-loop
-slice-aggregate-strike-pass-4 c = search needs
-
-slice-aggregate-strike-pass-5 : tie.Need-slice-aggregate-strike-pass-5 Inv-loop μ-loop
-slice-aggregate-strike-pass-5 c = search needs
+loop-holds c = (refl, search needs, search needs, c .before .before .before .before .before .before .before .pre .6, c .before .before .before .before .before .before .before .pre .7, none-struck, λ q. true-not-false refl q, refl, refl, refl, refl)
 
 strike-pass-requires : tie.Need-strike-pass-requires Inv-loop μ-loop
 strike-pass-requires c κs = (
-  c .before .before .before .before .before .before .before .before .before .before .before .pre .1,
-  omega (arith, c .before .before .before .before .before .before .before .before .before .before .before .pre .2, c .before .before .before .before .before .before .before .loop .inv .0),
-  c .before .before .before .before .before .before .before .before .body-tallies .ensures,
-  c .before .before .before .before .before .before .before .loop .inv .1,
-  omega (arith, c .before .before .before .before .before .before .before .loop .inv .2),
-  c .before .before .before .before .before .before .before .loop .inv .5,
-  c .before .before .before .before .before .before .before .loop .inv .6,
+  c .before .before .before .before .before .before .before .before .before .before .before .before .before .before .pre .1,
+  omega (arith, c .before .before .before .before .before .before .before .before .before .before .before .before .before .before .pre .2, c .before .before .before .before .before .before .loop .inv .0),
+  c .before .before .before .before .before .before .before .before .before .before .before .before .before .before .pre .3,
+  c .before .before .before .before .before .before .loop .inv .1,
+  c .before .before .before .before .before .before .loop .inv .2,
+  c .before .before .before .before .before .before .loop .inv .3,
+  c .before .before .before .before .before .before .loop .inv .4,
 )
 
 left-at-requires : tie.Need-left-at-requires Inv-loop μ-loop
 left-at-requires c κs = search needs
 
 same-length : tie.Need-same-length Inv-loop μ-loop
-same-length c = search needs
+same-length c = omega (arith, c .before .before .before .before .before .before .before .before .before .before .before .before .before .before .before .before .before .before .before .before .loop .inv .7, c .before .before .before .before .before .before .before .before .before .before .before .before .before .strike-pass .kept)
+
+same-length-2 : tie.Need-same-length-2 Inv-loop μ-loop
+same-length-2 c = omega (arith, c .before .before .before .before .before .before .before .before .before .before .before .before .before .before .before .before .before .before .before .before .loop .inv .8, c .before .before .before .before .before .before .before .before .before .before .before .before .before .strike-pass .kept)
+
+same-length-3 : tie.Need-same-length-3 Inv-loop μ-loop
+same-length-3 c = omega (arith, c .before .before .before .before .before .before .before .before .before .before .before .before .before .before .before .before .before .before .before .before .loop .inv .9, c .before .before .before .before .before .before .before .before .before .before .before .before .before .strike-pass .kept)
+
+same-length-4 : tie.Need-same-length-4 Inv-loop μ-loop
+same-length-4 c = omega (arith, c .before .before .before .before .before .before .before .before .before .before .before .before .before .before .before .before .before .before .before .before .loop .inv .10, c .before .before .before .before .before .before .before .before .before .before .before .before .before .strike-pass .kept)
+
+same-length-5 : tie.Need-same-length-5 Inv-loop μ-loop
+same-length-5 c = search needs
 
 returns : tie.Need-returns Inv-loop μ-loop
-returns c = start-goes _ _ _ _ _ _ _ _ (c .before .before .before .before .before .before .before .before .before .before .before .before .before .before .before .before .before .loop .inv .7) (c .before .before .before .before .before .before .before .before .before .strike-pass .ensures .0) (c .before .left-at .ensures) (not-true _ (c .if1 .taken))
+returns c = start-goes _ _ _ _ _ _ _ _ (c .before .before .before .before .before .before .before .before .before .before .before .before .before .before .before .before .before .before .before .before .loop .inv .5) (c .before .before .before .before .before .before .before .before .before .before .before .before .before .strike-pass .ensures .0) (c .before .left-at .ensures) (not-true _ (c .if1 .taken))
 
 loop-less : tie.Need-loop-less Inv-loop μ-loop
-loop-less c = pass-less _ _ _ _ _ _ _ (omega (arith, c .before .before .before .before .before .before .before .before .before .before .before .before .before .before .before .before .before .before .before .before .before .pre .1, c .before .before .before .before .before .before .before .before .before .before .before .before .before .before .before .before .before .before .before .before .before .pre .2, c .before .before .before .before .before .before .before .before .before .before .before .before .before .before .before .before .before .loop .inv .0)) (c .before .before .before .before .before .before .before .before .before .before .before .before .before .before .before .before .loop-test .taken) (c .before .before .before .before .before .before .before .before .before .strike-pass .ensures .0)
+loop-less c = pass-less _ _ _ _ _ _ _ (omega (arith, c .before .before .before .before .before .before .before .before .before .before .before .before .before .before .before .before .before .before .before .before .before .before .before .before .before .before .before .before .pre .1, c .before .before .before .before .before .before .before .before .before .before .before .before .before .before .before .before .before .before .before .before .before .before .before .before .before .before .before .before .pre .2, c .before .before .before .before .before .before .before .before .before .before .before .before .before .before .before .before .before .before .before .before .loop .inv .0)) (c .before .before .before .before .before .before .before .before .before .before .before .before .before .before .before .before .before .before .before .loop-test .taken) (c .before .before .before .before .before .before .before .before .before .before .before .before .before .strike-pass .ensures .0)
 
 loop-again : tie.Need-loop-again Inv-loop μ-loop
 loop-again c = (
   search needs,
   search needs,
   search needs,
-  search needs,
-  search needs,
-  c .before .before .before .before .before .before .before .before .before .strike-pass .ensures .1,
-  c .before .before .before .before .before .before .before .before .before .strike-pass .ensures .2,
-  strikes-then _ _ _ (c .before .before .before .before .before .before .before .before .before .before .before .before .before .before .before .before .before .loop .inv .7) (c .before .before .before .before .before .before .before .before .before .strike-pass .ensures .0 .strikes),
-  λ q. (left-zero _ _ _ (c .before .left-at .ensures) (not-false _ (c .if1 .left)), c .before .before .before .before .before .before .before .before .before .strike-pass .ensures .0 .none q),
+  c .before .before .before .before .before .before .before .before .before .before .before .before .before .strike-pass .ensures .1,
+  c .before .before .before .before .before .before .before .before .before .before .before .before .before .strike-pass .ensures .2,
+  strikes-then _ _ _ (c .before .before .before .before .before .before .before .before .before .before .before .before .before .before .before .before .before .before .before .before .loop .inv .5) (c .before .before .before .before .before .before .before .before .before .before .before .before .before .strike-pass .ensures .0 .strikes),
+  λ q. (left-zero _ _ _ (c .before .left-at .ensures) (not-false _ (c .if1 .left)), c .before .before .before .before .before .before .before .before .before .before .before .before .before .strike-pass .ensures .0 .none q),
+  omega (arith, c .before .before .before .before .before .before .before .before .before .before .before .before .before .before .before .before .before .before .before .before .loop .inv .7, c .before .before .before .before .before .before .before .before .before .before .before .before .before .strike-pass .kept),
+  omega (arith, c .before .before .before .before .before .before .before .before .before .before .before .before .before .before .before .before .before .before .before .before .loop .inv .8, c .before .before .before .before .before .before .before .before .before .before .before .before .before .strike-pass .kept),
+  omega (arith, c .before .before .before .before .before .before .before .before .before .before .before .before .before .before .before .before .before .before .before .before .loop .inv .9, c .before .before .before .before .before .before .before .before .before .before .before .before .before .strike-pass .kept),
+  omega (arith, c .before .before .before .before .before .before .before .before .before .before .before .before .before .before .before .before .before .before .before .before .loop .inv .10, c .before .before .before .before .before .before .before .before .before .before .before .before .before .strike-pass .kept),
 )
 
-same-length-2 : tie.Need-same-length-2 Inv-loop μ-loop
-same-length-2 c = search needs
+same-length-6 : tie.Need-same-length-6 Inv-loop μ-loop
+same-length-6 c = omega (arith, c .before .loop .inv .7)
+
+same-length-7 : tie.Need-same-length-7 Inv-loop μ-loop
+same-length-7 c = omega (arith, c .before .loop .inv .8)
+
+same-length-8 : tie.Need-same-length-8 Inv-loop μ-loop
+same-length-8 c = omega (arith, c .before .loop .inv .9)
+
+same-length-9 : tie.Need-same-length-9 Inv-loop μ-loop
+same-length-9 c = omega (arith, c .before .loop .inv .10)
+
+same-length-10 : tie.Need-same-length-10 Inv-loop μ-loop
+same-length-10 c = search needs
 
 returns-2 : tie.Need-returns-2 Inv-loop μ-loop
-returns-2 c = let w = c .before .loop .inv .8 (c .loop-test .left) in start-stays _ _ _ _ _ (c .before .loop .inv .7) (w .0) (w .1)
+returns-2 c = let w = c .before .loop .inv .6 (c .loop-test .left) in start-stays _ _ _ _ _ (c .before .loop .inv .5) (w .0) (w .1)
 
 pub survives-passes-spec : {M : Type 1} → statement M
 survives-passes-spec =
@@ -95,18 +102,20 @@ survives-passes-spec =
     (tie.spec
     Inv-loop
     μ-loop
-    body-tallies-requires
     loop-holds
-    slice-aggregate-strike-pass
-    slice-aggregate-strike-pass-2
-    slice-aggregate-strike-pass-3
-    slice-aggregate-strike-pass-4
-    slice-aggregate-strike-pass-5
     strike-pass-requires
     left-at-requires
     same-length
+    same-length-2
+    same-length-3
+    same-length-4
+    same-length-5
     returns
     loop-less
     loop-again
-    same-length-2
+    same-length-6
+    same-length-7
+    same-length-8
+    same-length-9
+    same-length-10
     returns-2)
