@@ -108,19 +108,6 @@ module _ (S : Setting) (start : Situation) where
       → (ts : List Situation) × (selves rs ≡ start ∷ ts)
   run-first (taken {rs = rs} e r) = (selves rs, refl)
 
-  -- What a row leads to is among the rows.
-  pub rows-closed : (rs : List Row) → Rows rs → (r : Row) → r ∈ rs → (w : List Situation) → w ∈ r .wants → (t : Situation) → t ∈ w → t ∈ selves rs
-  rows-closed rs a r i w j t k =
-      a .reached t .1
-      (onward (a .reached (r .self) .0 (∈-map (λ (r : Row). r .self) r rs i))
-      (record {
-        wants = r .wants;
-        within = all-∈ (λ r. successors S (r .self) ≡ leads (r .wants)) rs (a .within) r i;
-        want = w;
-        wanted = j;
-        there = k;
-      }))
-
   -- `Rows` holds all situations reached, so none of them is past a limit and they are no more than the rows.
   rows-within : (rs : List Row) → Rows rs → (capacity : ℕ) → length rs ≤ capacity → ¬ (ReachesPast S start capacity)
   rows-within rs a capacity l (inr p) =

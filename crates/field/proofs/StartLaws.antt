@@ -24,7 +24,6 @@ use Rattle.field.specs.Situation.{situation, startOf}
 use Rattle.field.specs.Slot.{partBytes, flagsOf, octets, keyBytes}
 use Rattle.field.specs.Starting.{PutsPart, MarksList}
 use Rattle.field.proofs.KeyLaws.{length-part}
-use Rattle.field.proofs.KeysDiffer.{Fits}
 use Rattle.field.proofs.UpdateLaws.{no-pairs}
 
 -- A part in the place of zeros.
@@ -113,7 +112,3 @@ module _ (s : List ℕ) (bytes : Bytes s) (first second apart : ℕ) (x : first 
         fits = w .first .size;
         fits₂ = w .second .size;
       }) d
-
-pub start-fits : (s : List ℕ) (q : Question) → checkOf s ≡ result q → Fits (startOf q)
-unfolding startOf situation
-start-fits s q a = let w = accepted-well-formed s q a in record { first = w .first .size; second = w .second .size }
