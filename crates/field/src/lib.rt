@@ -3,6 +3,7 @@ pub mod chains;
 pub mod entries;
 pub mod explore;
 pub mod find;
+pub mod kept_lists;
 pub mod list_area;
 pub mod names;
 pub mod pairs;

@@ -10,7 +10,10 @@ ghost use Rattle.field.specs.ListArea.{listArea, ListIn, Labelled, SideI
 ghost use Rattle.field.specs.Slot.{keyBytes};
 ghost use Rattle.field.specs.TakingUp.{SomeBindsIs, PastNamesIs, ListsSides, TakesUp};
 use crate::entries::binds;
-use crate::list_area::LABEL_NAME;
+use crate::kept_lists::bring;
+use crate::kept_lists::keep;
+use crate::kept_lists::kept_place;
+use crate::list_area::LABEL;
 use crate::list_area::NO_LIST;
 use crate::list_area::has_list;
 use crate::list_area::put_label;
@@ -71,7 +74,8 @@ fn past_names(x: usize, firsts: &[u8], n: usize, seconds: &[u8], m: usize) -> bo
     some_binds(seconds, m)
 }
 
-// Lists one side, unless its list is at hand. A part above the limit stands in no slot.
+// Lists one side, unless its list is at hand or kept. A part above the limit stands in no slot. The lister is lent the room of the list at hand
+// alone: it promises nothing of the area after "unsettled".
 fn list_side(
     question: &[u8],
     bodies: &[u32],
@@ -87,17 +91,30 @@ fn list_side(
     if LONGEST_TERM < part.len() {
         return ListAnswer::Unsettled;
     }
-    if has_list(area, part, x) {
-        return ListAnswer::Count(steps_in(area));
+    if has_list(area, LABEL, part, x) {
+        return ListAnswer::Count(steps_in(area, LABEL));
     }
-    let answer = list_tallied(question, bodies, part, x as u8, numbers, rows, area);
+    let p = kept_place(part, x);
+    if has_list(area, p, part, x) {
+        return ListAnswer::Count(bring(area, p, part, x));
+    }
+    let answer = list_tallied(
+        question,
+        bodies,
+        part,
+        x as u8,
+        numbers,
+        rows,
+        &mut area[..LABEL],
+    );
     match answer {
         ListAnswer::Unsettled => {
-            area[LABEL_NAME] = NO_LIST;
+            area[LABEL] = NO_LIST;
             ListAnswer::Unsettled
         }
         ListAnswer::Count(n) => {
-            put_label(area, part, x, n);
+            put_label(area, LABEL, part, x, n);
+            keep(area, p, part, x, n);
             ListAnswer::Count(n)
         }
     }
@@ -121,7 +138,7 @@ fn list_second(
 {
     if same_part(first, second) {
         copy(firsts, 0, STEP_BYTES * n, seconds, 0);
-        put_label(seconds, second, x, n);
+        put_label(seconds, LABEL, second, x, n);
         return ListAnswer::Count(n);
     }
     list_side(question, bodies, second, x, numbers, rows, seconds)

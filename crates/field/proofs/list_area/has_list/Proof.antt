@@ -2,8 +2,8 @@
 use native.Mathlib.Omega.{arith}
 use mathlib.Core.Path.{_≡_}
 use Prim.Native.Nat.{ℕ}
+use Rattle.field.proofs.LabelLaws.{label-is}
 use borrow.Author.Needs.{needs}
-use Rattle.field.proofs.ListAreaLaws.{label-is}
 use Rattle.field.proofs.list_area.has_list.Statement.{statement}
 use Rattle.field.proofs.list_area.has_list.Tie as tie
 
@@ -16,6 +16,9 @@ cast-if1 c = search needs
 returns : tie.Need-returns
 returns c = λ t. let z : _≡_ {A = ℕ} 0 1 = cc in absurd (omega arith)
 
+add-get : tie.Need-add-get
+add-get c = search needs
+
 get-requires-2 : tie.Need-get-requires-2
 get-requires-2 c κs = search needs
 
@@ -25,11 +28,14 @@ cast-if2 c = search needs
 returns-2 : tie.Need-returns-2
 returns-2 c = λ t. let z : _≡_ {A = ℕ} 0 1 = cc in absurd (omega arith)
 
+add-alike : tie.Need-add-alike
+add-alike c = search needs
+
 alike-requires : tie.Need-alike-requires
 alike-requires c κs = search needs
 
 returns-3 : tie.Need-returns-3
-returns-3 c = λ t. label-is _ _ _ (omega (arith, c .before .before .before .before .before .before .before .pre .0, c .before .before .before .before .before .before .before .pre .1)) (omega (arith, c .before .before .before .before .get .ensures, c .before .before .before .if1 .left)) (omega (arith, c .before .before .get2 .ensures, c .before .if2 .left)) _ (c .alike .ensures) t
+returns-3 c = λ t. label-is _ _ _ _ (c .before .before .before .before .before .before .before .pre .0) (c .before .before .before .before .before .before .before .pre .1) (omega (arith, c .before .before .before .before .get .ensures, c .before .before .before .if1 .left)) (omega (arith, c .before .before .get2 .ensures, c .before .if2 .left)) _ (c .alike .ensures) t
 
 pub has-list-spec : {M : Type 1} → statement M
 has-list-spec =
@@ -38,8 +44,10 @@ has-list-spec =
     get-requires
     cast-if1
     returns
+    add-get
     get-requires-2
     cast-if2
     returns-2
+    add-alike
     alike-requires
     returns-3)

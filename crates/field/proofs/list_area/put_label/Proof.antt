@@ -4,10 +4,9 @@ use mathlib.Core.Path.{_∙_, ap}
 use Prim.Native.Nat.{_+_}
 use lib.ListN.{length, take, drop, length-set}
 use lib.Seq.{sets}
-use borrow.Author.Needs.{needs}
-use Rattle.field.specs.ListArea.{labelPlace}
 use Rattle.field.proofs.ChainLaws.{length-put}
-use Rattle.field.proofs.ListAreaLaws.{label-put}
+use Rattle.field.proofs.LabelLaws.{label-put}
+use borrow.Author.Needs.{needs}
 use Rattle.field.proofs.list_area.put_label.Statement.{statement}
 use Rattle.field.proofs.list_area.put_label.Tie as tie
 
@@ -20,11 +19,20 @@ slice-write-area c = search needs
 cast-area-2 : tie.Need-cast-area-2
 cast-area-2 c = search needs
 
+add-area : tie.Need-add-area
+add-area c = search needs
+
 slice-write-area-2 : tie.Need-slice-write-area-2
 slice-write-area-2 c = simp length-set (omega (arith, c .before .before .pre .0))
 
+add-put-number : tie.Need-add-put-number
+add-put-number c = search needs
+
 put-number-requires : tie.Need-put-number-requires
 put-number-requires c κs = (simp length-set (omega (arith, c .before .before .before .pre .0)), omega (arith, c .before .before .before .pre .3))
+
+add-copy : tie.Need-add-copy
+add-copy c = search needs
 
 copy-requires : tie.Need-copy-requires
 copy-requires c κs =
@@ -37,7 +45,10 @@ same-length c =
     omega (arith, simp length-set at e, c .before .before .copy .kept)
 
 returns : tie.Need-returns
-returns c = label-put _ _ _ _ (c .before .before .before .before .before .before .before .before .before .before .pre .0) (c .before .before .before .before .before .before .before .before .before .before .pre .1) _ (c .before .before .copy .ensures ∙ ap (λ w. sets w (labelPlace + 4) (take (length (c .before .before .before .before .before .before .before .before .before .before .args .part .now)) (drop 0 (c .before .before .before .before .before .before .before .before .before .before .args .part .now)))) (c .before .before .before .before .before .before .put-number .ensures))
+returns c =
+    let a = c .before .before .before .before .before .before .before .before .before .before .args in
+    label-put _ _ _ _ _ (c .before .before .before .before .before .before .before .before .before .before .pre .0) (c .before .before .before .before .before .before .before .before .before .before .pre .1) _
+    (c .before .before .copy .ensures ∙ ap (λ w. sets w (a .p + 4) (take (length (a .part .now)) (drop 0 (a .part .now)))) (c .before .before .before .before .before .before .put-number .ensures))
 
 pub put-label-spec : {M : Type 1} → statement M
 put-label-spec =
@@ -46,8 +57,11 @@ put-label-spec =
     cast-area
     slice-write-area
     cast-area-2
+    add-area
     slice-write-area-2
+    add-put-number
     put-number-requires
+    add-copy
     copy-requires
     same-length
     returns)

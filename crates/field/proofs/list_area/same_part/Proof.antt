@@ -3,7 +3,7 @@ use native.Mathlib.Omega.{arith}
 use mathlib.Core.Path.{_≡_}
 use Prim.Native.Nat.{ℕ}
 use borrow.Author.Needs.{needs}
-use Rattle.field.proofs.ListAreaLaws.{same-parts}
+use Rattle.field.proofs.LabelLaws.{same-parts}
 use Rattle.field.proofs.list_area.same_part.Statement.{statement}
 use Rattle.field.proofs.list_area.same_part.Tie as tie
 
