@@ -16,12 +16,13 @@ use Rattle.calculus.specs.Cond.{Cond}
 use Rattle.calculus.specs.Term.{Term}
 use Rattle.terms.specs.Limits.{nameCount, longestTerm}
 use Rattle.steps.specs.Collecting.{Stands, Found, PutInto, PutIs, CollectIs}
+use Rattle.steps.specs.Deciding.{Again}
 use Rattle.steps.specs.Derived.{Ascending}
 use Rattle.steps.specs.Entries.{Sized, InsertIs}
 use Rattle.steps.specs.Limits.{mostSteps, stepBytes}
 use Rattle.steps.specs.Listed.{ListedStep, listedAs, canonStep, resultBytes, bytes}
 use Rattle.steps.specs.Listing.{order, insert, collect, unsettled, limited}
-use Rattle.steps.specs.Lists.{_∈_, Among, All}
+use Rattle.steps.specs.Lists.{_∈_, All}
 use Rattle.steps.specs.Operations.{listBytes}
 use Rattle.steps.specs.Raw.{Candidate, step, blocked}
 use Rattle.steps.proofs.ClassLists.{length-classes}
@@ -223,8 +224,8 @@ module _ (cs : List Candidate) (x : ℕ) (area₀ : List ℕ) (count₀ : ℕ) w
             ∙ ap (λ l. sets area₀ 0 (listBytes l)) e;
       }
 
-  -- A candidate that comes earlier too is there.
-  pub progress-again : (i n : ℕ) (area : List ℕ) → i < length cs → getD cs i blocked ∈ take i cs → Progresses i n area → Progresses (i + 1) n area
+  -- A candidate that adds no step.
+  pub progress-again : (i n : ℕ) (area : List ℕ) → i < length cs → Again 0 (getD cs i blocked) (take i cs) → Progresses i n area → Progresses (i + 1) n area
   progress-again i n area h m p found s =
       let e : after i found ≡ after (i + 1) found =
       sym (collect-there nameCount longestTerm x (take i cs) (getD cs i blocked ∷ []) found (ascending-sorted longestTerm found (s .ascending)) (only m))
@@ -234,8 +235,8 @@ module _ (cs : List Candidate) (x : ℕ) (area₀ : List ℕ) (count₀ : ℕ) w
         stored = p found s .stored ∙ ap (λ l. sets area₀ 0 (listBytes l)) e;
       }
     where
-      only : getD cs i blocked ∈ take i cs → Among (getD cs i blocked ∷ []) (take i cs)
-      only m c (inl e) = subst (λ d. d ∈ take i cs) (sym e) m
+      only : Again 0 (getD cs i blocked) (take i cs) → (c : Candidate) → c ∈ (getD cs i blocked ∷ []) → Again 0 c (take i cs)
+      only m c (inl e) = subst (λ d. Again 0 d (take i cs)) (sym e) m
 
   pub progress-done : (i n : ℕ) (area : List ℕ) → length cs ≤ i → n ≤ mostSteps → Progresses i n area → CollectIs cs x area₀ count₀ n area
   unfolding CollectIs
@@ -289,8 +290,8 @@ module _ (cs ds : List Candidate) (x : ℕ) (area : List ℕ) (count m : ℕ) (a
         passed = λ l. limited-grows nameCount longestTerm x mostSteps ds f (first found s .passed l);
       })
 
-  -- Candidates that come earlier too are there.
-  pub collect-again : Among ds cs → CollectIs (cs ++ ds) x area count m area₁
+  -- Candidates that add no step.
+  pub collect-again : ((c : Candidate) → c ∈ ds → Again 0 c cs) → CollectIs (cs ++ ds) x area count m area₁
   unfolding CollectIs
   collect-again h found s =
       subst (λ l. Found l area m area₁)

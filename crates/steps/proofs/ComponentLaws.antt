@@ -16,10 +16,10 @@ use Rattle.terms.specs.Question.{Question}
 use Rattle.terms.proofs.Answers.{both-true}
 use Rattle.steps.specs.Collecting.{PutIs, CollectIs}
 use Rattle.steps.specs.Contexts.{Frame, leftOf, rightOf, beneath, raised, restrictions, Placed, levelIn}
+use Rattle.steps.specs.Deciding.{decided, Again}
 use Rattle.steps.specs.Labels.{actionOf}
 use Rattle.steps.specs.Limits.{mostSteps, stepBytes}
 use Rattle.steps.specs.Listing.{bodyOf}
-use Rattle.steps.specs.Lists.{_∈_}
 use Rattle.steps.specs.Names.{OwnNames}
 use Rattle.steps.specs.PartLister.{Lists, candidatesOf, TakeIs}
 use Rattle.steps.specs.Passing.{candidates}
@@ -30,7 +30,8 @@ use Rattle.steps.specs.Walking.{rowOpens, rowObject, Unopened, Trivial, 
 use Rattle.steps.specs.declared.listed.ActionBytes.{ActionBytes}
 use Rattle.steps.proofs.CollectLaws.{put-blocked, Progresses, progress-start, progress-step, progress-again, progress-done, progress-passed}
 use Rattle.steps.proofs.ContextLaws.{raised-blocked, placed-bytes}
-use Rattle.steps.proofs.Membership.{∈-map, take-map}
+use Rattle.steps.proofs.DecidingLaws.{decided-raised, Like, decided-step, outside-blocked, like-trivial, like-action, again-by}
+use Rattle.steps.proofs.Membership.{take-map}
 use Rattle.steps.proofs.Numbering.{nth-by}
 use Rattle.steps.proofs.RowLaws.{row-act, plain-step, outlined-left, outlined-right, outlined-restricted}
 use Rattle.steps.proofs.StepEntries.{slot-name, same-action}
@@ -106,21 +107,22 @@ module _ (question part : List ℕ) (at depth : ℕ) (rows : List ℕ) (first j 
     over = λ e. absurd (new e);
   }
 
-  -- one that comes earlier too
+  -- one that adds no step
   pub row-again : kindAt rows (first + j) ≡ 4 → Takes count area
   row-again e = record { is = λ q P l K C number p h new row. absurd (new e); over = λ _. (refl, refl) }
 
   module _ (kind channel object : ℕ) (at-kind : kind ≡ kindAt rows (first + j)) (at-channel : channel ≡ channelAt rows (first + j))
       (at-object : object ≡ objectAt rows (first + j)) (new : kind ≡ 4 → ⊥) where
-    inside : (c : Candidate) → Row depth c rows (first + j) → Outlined depth c kind channel object
+    inside : (c : Candidate) → Row depth c rows (first + j) → Outlined depth (decided depth c) kind channel object
     unfolding Row
     inside c row =
-        subst (λ k. Outlined depth c k channel object) (sym at-kind)
-        (subst (λ a. Outlined depth c (kindAt rows (first + j)) a object) (sym at-channel)
-        (subst (λ o. Outlined depth c (kindAt rows (first + j)) (channelAt rows (first + j)) o) (sym at-object) (row (λ e. new (at-kind ∙ e)))))
+        subst (λ k. Outlined depth (decided depth c) k channel object) (sym at-kind)
+        (subst (λ a. Outlined depth (decided depth c) (kindAt rows (first + j)) a object) (sym at-channel)
+        (subst (λ o. Outlined depth (decided depth c) (kindAt rows (first + j)) (channelAt rows (first + j)) o) (sym at-object) (row (λ e. new (at-kind ∙ e)))))
 
-    outside : (K : List Frame) (c : Candidate) → restrictions K ≡ depth → Row depth c rows (first + j) → Outlined 0 (raised K c) kind channel object
-    outside K c e row = outlined-raised K c kind channel object (subst (λ (d : ℕ). Outlined d c kind channel object) (sym e) (inside c row))
+    outside : (K : List Frame) (c : Candidate) → restrictions K ≡ depth → Row depth c rows (first + j) → Outlined 0 (raised K (decided depth c)) kind channel object
+    outside K c e row =
+        outlined-raised K (decided depth c) kind channel object (subst (λ (d : ℕ). Outlined d (decided depth c) kind channel object) (sym e) (inside c row))
 
     pub row-blocked : nameCount ≤ channel → mostSteps * stepBytes ≤ length area → count ≤ mostSteps → Takes count area
     unfolding PutIs
@@ -128,11 +130,23 @@ module _ (question part : List ℕ) (at depth : ℕ) (rows : List ℕ) (first j 
       over = λ e. absurd (new (at-kind ∙ e));
       is = λ q P l K C number p _ _ row.
           let c = getD (visible (bodyOf (q .bodies)) 1 C) j blocked in
-          let e : raised K c ≡ blocked = outside K c (p .level) row .inner (omega arith) in
+          let e : raised K c ≡ blocked = outside-blocked (raised K c) (decided-raised K depth (p .level) c ∙ outside K c (p .level) row .inner (omega arith)) in
           subst (λ d. PutIs d x area count count area) (sym e) (λ found s. put-blocked area room x count found s few);
     }
 
     module _ (free : channel < nameCount) (few : kind ≤ 3) (r : ℕ) (area′ : List ℕ) where
+      -- what the candidate is raised to
+      record Taken (K : List Frame) (c : Candidate) : Type 0 where
+        action : Act
+        result : Term
+        acts : actionOf 0 action ≡ rowAction 0 kind channel object
+        like : Like (raised K c) [] action result
+
+      taken : (K : List Frame) (c : Candidate) → restrictions K ≡ depth → Row depth c rows (first + j) → Taken K c
+      taken K c level row =
+          let (α, A, e, a, b) = plain-step 0 kind channel object (raised K (decided depth c)) few (outside K c level row) (omega arith) in
+          record { action = α; result = A; acts = a; like = decided-step 0 (raised K c) [] α A (decided-raised K depth level c ∙ e) }
+
       placed : (kind ≡ 2 → object < nameCount) → (action : ActionBytes)
           → (0 < kind → (α : Act) → actionOf 0 α ≡ rowAction 0 kind channel object → action ≡ stepAction x [] α)
           → PutPlacedIs question part at depth false j action x area count r area′ → Takes r area′
@@ -141,21 +155,21 @@ module _ (question part : List ℕ) (at depth : ℕ) (rows : List ℕ) (first j 
         over = λ e. absurd (new (at-kind ∙ e));
         is = λ q P l K C number p h _ row.
             let c = getD (visible (bodyOf (q .bodies)) 1 C) j blocked in
-            let o = outside K c (p .level) row in
-            let (α, A, e, a, b) = plain-step 0 kind channel object (raised K c) few o (omega arith) in
-            let (β, B, d, f, g) = plain-step depth kind channel object c few (inside c row) (omega arith) in
-            let z : raised K (step [] β B) ≡ step [] α A = ap (raised K) (sym d) ∙ e in
-            subst (λ t. PutIs t x area count r area′) (sym e)
-            (put .is q P l K C first number [] α A
+            let t = taken K c (p .level) row in
+            let M = t .like .condition in
+            let (β, B, d, f, g) = plain-step depth kind channel object (decided depth c) few (inside c row) (omega arith) in
+            let own = decided-step depth c [] β B d in
+            subst (λ t. PutIs t x area count r area′) (sym (t .like .is))
+            (put .is q P l K C first number M (t .action) (t .result)
             (record {
               placed = p;
-              condition = [];
+              condition = own .condition;
               action = β;
               result = B;
-              own = d;
-              is = z;
-              unopened = unopened x kind channel object α a m depth β f;
-            }) trivial (same (o .known) α a));
+              own = own .is;
+              is = ap (raised K) (sym (own .is)) ∙ t .like .is;
+              unopened = unopened x kind channel object (t .action) (t .acts) m depth β f;
+            }) (like-trivial M [] (t .like .same) trivial) (same (inside c row .known) (t .action) (t .acts) ∙ like-action x [] M (sym (t .like .same)) (t .action)));
       }
 
       pub row-placed : rowOpens kind object ≡ false → (o : ℕ) → o ≡ rowObject kind object x
@@ -175,18 +189,17 @@ module _ (question part : List ℕ) (at depth : ℕ) (rows : List ℕ) (first j 
 
       pub row-opened : rowOpens kind object ≡ true → (class : List ℕ) → OwnNames 0 class
           → PutClassedIs question part false (first + j) class (record { kind = 3; channel = channel; object = x }) x area count r area′ → Takes r area′
-      unfolding candidatesOf candidates cls rowOpens OwnNames
+      unfolding candidatesOf candidates rowOpens OwnNames Trivial
       row-opened n class apart put =
           let (m, k) = both-true (eqb kind 2) (leb nameCount object) n in
           record {
             over = λ e. absurd (new (at-kind ∙ e));
             is = λ q P l K C number p h _ row.
-                let c = getD (visible (bodyOf (q .bodies)) 1 C) j blocked in
-                let o = outside K c (p .level) row in
-                let (α, A, e, a, b) = plain-step 0 kind channel object (raised K c) few o (omega arith) in
-                subst (λ t. PutIs t x area count r area′) (sym e)
-                (put .is q P l [] α A (p .visibly .is j h ∙ e) (λ n h. apart n (omega arith))
-                (bytes-new x kind channel object α a (eqb-true kind 2 m) (leb-true nameCount object k)));
+                let t = taken K (getD (visible (bodyOf (q .bodies)) 1 C) j blocked) (p .level) row in
+                let M = t .like .condition in
+                subst (λ t. PutIs t x area count r area′) (sym (t .like .is))
+                (put .is q P l M (t .action) (t .result) (p .visibly .is j h ∙ t .like .is) (λ n h. apart n (omega arith) ∙ sym (like-trivial M [] (t .like .same) trivial n))
+                (bytes-new x kind channel object (t .action) (t .acts) (eqb-true kind 2 m) (leb-true nameCount object k) ∙ like-action x [] M (sym (t .like .same)) (t .action)));
           }
 
 nth-raised : (K : List Frame) (cs : List Candidate) (j : ℕ) → getD (map (raised K) cs) j blocked ≡ raised K (getD cs j blocked)
@@ -238,11 +251,12 @@ module _ (question part : List ℕ) (at depth : ℕ) (rows : List ℕ) (first la
         unfolding RowsBehind
         one new = put .is q P l K C number p (omega arith) new (R j (omega arith) .0)
 
-        earlier : kindAt rows (first + j) ≡ 4 → getD (map (raised K) vs) j blocked ∈ take j (map (raised K) vs)
+        earlier : kindAt rows (first + j) ≡ 4 → Again 0 (getD (map (raised K) vs) j blocked) (take j (map (raised K) vs))
         unfolding RowsBehind
         earlier f =
-            subst (λ c. c ∈ take j (map (raised K) vs)) (sym (nth-raised K vs j))
-            (subst (λ cs. raised K (getD vs j blocked) ∈ cs) (sym (take-map (raised K) j vs)) (∈-map (raised K) (getD vs j blocked) (take j vs) (R j (omega arith) .1 f)))
+            subst (λ c. Again 0 c (take j (map (raised K) vs))) (sym (nth-raised K vs j))
+            (subst (λ cs. Again 0 (raised K (getD vs j blocked)) cs) (sym (take-map (raised K) j vs))
+            (again-by 0 depth (raised K) (raised K) (decided-raised K depth (p .level)) (raised-blocked K) (getD vs j blocked) (take j vs) (R j (omega arith) .1 f)))
 
       pub rows-next : m ≤ mostSteps → RowsGo (j + 1) m area′
       rows-next h q P l K C number p e R = test (eqb (kindAt rows (first + j)) 4) refl

@@ -14,6 +14,7 @@ pub mod CollectLaws
 pub mod ComponentLaws
 pub mod ConditionArrays
 pub mod ContextLaws
+pub mod DecidingLaws
 pub mod DerivedLaws
 pub mod EntryLaws
 pub mod EntryOrder

@@ -14,19 +14,22 @@ use Rattle.calculus.proofs.Renaming.{ren-id}
 use Rattle.terms.specs.Limits.{nameCount}
 use Rattle.terms.proofs.Answers.{both-true}
 use Rattle.steps.specs.Collecting.{PutIs}
-use Rattle.steps.specs.Contexts.{raised}
+use Rattle.steps.specs.Contexts.{Frame, raised, restrictions}
+use Rattle.steps.specs.Deciding.{decided}
 use Rattle.steps.specs.Labels.{actionOf, ActionBelow}
 use Rattle.steps.specs.Locating.{Unextruded, TakeMetIs}
-use Rattle.steps.specs.Meeting.{senderOf, sendsFree, Unblocked, PairIs}
+use Rattle.steps.specs.Meeting.{mayMeet, senderOf, sendsFree, Unblocked, PairIs}
 use Rattle.steps.specs.PartLister.{candidatesOf, TakeIs}
 use Rattle.steps.specs.Passing.{candidates}
-use Rattle.steps.specs.Raw.{step, meet, communication}
+use Rattle.steps.specs.Raw.{Candidate, step, meet, communication}
 use Rattle.steps.specs.Results.{receiving}
-use Rattle.steps.specs.Rows.{actionKind, rowAction}
+use Rattle.steps.specs.Rows.{actionKind, rowAction, Outlined}
 use Rattle.steps.specs.Slots.{slotOf}
-use Rattle.steps.specs.Walking.{Unopened, stepAction, PutPlacedIs, PutClassedIs}
+use Rattle.steps.specs.Walking.{Trivial, stepAction, PutPlacedIs, PutClassedIs}
 use Rattle.steps.specs.declared.meet.Side.{Side}
+use Rattle.steps.proofs.DecidingLaws.{decided-step, met-like, like-trivial}
 use Rattle.steps.proofs.MeetLaws.{trivial-match, opposite, pair-same, pair-merged}
+use Rattle.steps.proofs.MetLaws.{From, raised-from, unopened-of}
 use Rattle.steps.proofs.RowLaws.{row-act, plain-step}
 
 -- The kind of a row that stands beneath no match.
@@ -41,8 +44,8 @@ record Com (d : ℕ) (α : Act) (A : Term) (β : Act) (B : Term) (object : ℕ) 
   below : y < d + nameCount
   left : Unextruded α
   right : Unextruded β
-  meets : (N : Cond) (C : Term) → communication (step [] α A) (step [] β B) ≡ step N tauA C
-      → C ≡ par (ren (receiving y (λ n. n) α) A) (ren (receiving y (λ n. n) β) B)
+  meets : (M₁ M₂ N : Cond) (γ : Act) (C : Term) → communication (step M₁ α A) (step M₂ β B) ≡ step N γ C
+      → (γ ≡ tauA) × (C ≡ par (ren (receiving y (λ n. n) α) A) (ren (receiving y (λ n. n) β) B))
 
 module _ (a b : Side) (d : ℕ) (α : Act) (A : Term) (β : Act) (B : Term) (ea : actionOf d α ≡ rowAction d (a .kind) (a .channel) (a .object))
     (eb : actionOf d β ≡ rowAction d (b .kind) (b .channel) (b .object)) where
@@ -58,7 +61,7 @@ module _ (a b : Side) (d : ℕ) (α : Act) (A : Term) (β : Act) (B : Term) (ea 
         below = w .1;
         left = tt;
         right = tt;
-        meets = λ N C z. let f : par (ren (inst y) A) B ≡ C = cc in sym f ∙ ap (λ (D : Term). par (ren (inst y) A) D) (sym (ren-id B));
+        meets = λ M₁ M₂ N γ C z. let f : par (ren (inst y) A) B ≡ C = cc in (cc, sym f ∙ ap (λ (D : Term). par (ren (inst y) A) D) (sym (ren-id B)));
       })
       (λ e h n s w. absurd (omega (arith, n l))) β eb below)
       (λ c e h l s t. absurd (omega arith)) (λ c h n s. absurd (h k)) α ea
@@ -75,7 +78,7 @@ module _ (a b : Side) (d : ℕ) (α : Act) (A : Term) (β : Act) (B : Term) (ea 
         below = w .1;
         left = tt;
         right = tt;
-        meets = λ N C z. let f : par A (ren (inst y) B) ≡ C = cc in sym f ∙ ap (λ (D : Term). par D (ren (inst y) B)) (sym (ren-id A));
+        meets = λ M₁ M₂ N γ C z. let f : par A (ren (inst y) B) ≡ C = cc in (cc, sym f ∙ ap (λ (D : Term). par D (ren (inst y) B)) (sym (ren-id A)));
       })
       (λ e h n s w. absurd (omega (arith, n k))) α ea below)
       (λ c e h n s t. absurd (omega arith)) (λ c h n s. absurd (h l)) β eb
@@ -89,25 +92,49 @@ module _ (question part : List ℕ) (at depth number : ℕ) (a b : Side) (j x : 
   }
 
   module _ (k : a .kind ≤ 3) (l : b .kind ≤ 3) where
+    -- The communication on one channel, as a candidate of the whole and of the parallel.
+    record OnOne (K : List Frame) (s t : Candidate) : Type 0 where
+      condition : Cond
+      whole : Term
+      is : raised K (communication s t) ≡ step condition tauA whole
+      from : From K (communication s t) condition tauA whole
+      asks : Trivial condition
+
+    on-one : a .channel ≡ b .channel → (K : List Frame) → restrictions K ≡ depth → (s t : Candidate)
+        → Unblocked depth (decided depth s) (a .kind) (a .channel) (a .object) → Outlined depth (decided depth t) (b .kind) (b .channel) (b .object)
+        → mayMeet (a .kind) (a .channel) (b .kind) (b .channel) ≡ true → OnOne K s t
+    unfolding Unblocked
+    on-one e K level s t (o, w) right m =
+        let S = pair-same K depth level (decided depth s) (decided depth t) (a .kind) (a .channel) (a .object) (b .kind) (b .channel) (b .object) o w right k l m e in
+        let N : Cond = (S .outer, S .outer) ∷ [] in
+        let L = met-like K depth level s t N tauA (S .whole) (ap (raised K) (S .own) ∙ S .is) in
+        record {
+          condition = L .condition;
+          whole = S .whole;
+          is = L .is;
+          from = raised-from K (communication s t) (L .condition) tauA (S .whole) (L .is);
+          asks = like-trivial (L .condition) N (L .same) (trivial-match (S .outer));
+        }
+
     pub pair-placed : a .channel ≡ b .channel → PutPlacedIs question part at depth true j (record { kind = 0; channel = 0; object = 0 }) x area count r area′
         → PairIs question part at depth number a b j x area count r area′
-    unfolding Unblocked candidates Unopened stepAction
+    unfolding candidates Unextruded stepAction
     pair-placed e T = record {
       is = λ q P lists K L R first p s t _ _ _ _ left right m h f.
-          let (o, w) = left in
-          let S = pair-same K depth (p .level) s t (a .kind) (a .channel) (a .object) (b .kind) (b .channel) (b .object) o w right k l m e in
-          subst (λ c. PutIs c x area count r area′) (sym (ap (raised K) (S .own) ∙ S .is))
-          (T .is q P lists K (par L R) first number ((S .outer, S .outer) ∷ []) tauA (S .whole)
+          let S = on-one e K (p .level) s t left right m in
+          let F = S .from in
+          subst (λ c. PutIs c x area count r area′) (sym (S .is))
+          (T .is q P lists K (par L R) first number (S .condition) tauA (S .whole)
           (record {
             placed = p;
-            condition = (S .name, S .name) ∷ [];
-            action = tauA;
-            result = S .result;
-            own = f ∙ S .own;
-            is = S .is;
-            unopened = tt;
+            condition = F .condition;
+            action = F .action;
+            result = F .result;
+            own = f ∙ F .own;
+            is = F .is;
+            unopened = unopened-of K (F .condition) (F .action) (F .result) (S .condition) tauA (S .whole) (F .is) tt;
           })
-          (trivial-match (S .outer)) refl);
+          (S .asks) refl);
     }
 
     pub pair-classed : (a .channel ≡ b .channel → ⊥) → (class : List ℕ) → ((n : ℕ) → n < nameCount → getD class n 0 ≡ join (a .channel) (b .channel) n)
@@ -117,9 +144,10 @@ module _ (question part : List ℕ) (at depth number : ℕ) (a b : Side) (j x : 
     pair-classed n class is T = record {
       is = λ q P lists K L R first p s t _ _ _ _ left right m h f.
           let (o, w) = left in
-          let (B, e) = pair-merged K depth (p .level) s t (a .kind) (a .channel) (a .object) (b .kind) (b .channel) (b .object) o w right k l m n in
-          subst (λ c. PutIs c x area count r area′) (sym e)
-          (T .is q P lists ((a .channel, b .channel) ∷ []) tauA B (p .silently .is j h ∙ ap (raised K) f ∙ e) is refl);
+          let (B, e) = pair-merged K depth (p .level) (decided depth s) (decided depth t) (a .kind) (a .channel) (a .object) (b .kind) (b .channel) (b .object) o w right k l m n in
+          let S = met-like K depth (p .level) s t ((a .channel, b .channel) ∷ []) tauA B e in
+          subst (λ c. PutIs c x area count r area′) (sym (S .is))
+          (T .is q P lists (S .condition) tauA B (p .silently .is j h ∙ ap (raised K) f ∙ S .is) (λ n h. is n h ∙ (λ i. sym (S .same) i n)) refl);
     }
 
     pub pair-met : a .channel ≡ b .channel → (from : Side) → from ≡ senderOf a b → sendsFree depth from ≡ true
@@ -130,17 +158,18 @@ module _ (question part : List ℕ) (at depth number : ℕ) (a b : Side) (j x : 
           let free = subst (λ (d : Side). eqb (d .kind) 2 && ltb (d .object) (nameCount + depth) ≡ true) is free₀ in
           let T = subst (λ (d : Side). TakeMetIs question part at depth (a .number) (b .number) (d .object) area count r area′) is T₀ in
           let (o, w) = left in
-          let S = pair-same K depth (p .level) s t (a .kind) (a .channel) (a .object) (b .kind) (b .channel) (b .object) o w right k l m e in
-          let turned = rw (plain-kind (a .kind) k, plain-kind (b .kind) l) at (opposite K depth (p .level) s t (a .kind) (a .channel) (a .object) (b .kind) (b .channel) (b .object) o w right k l m .0) in
-          let (α, A, d, g, n₁) = plain-step depth (a .kind) (a .channel) (a .object) s k o w in
-          let (β, B, u, v, n₂) = plain-step depth (b .kind) (b .channel) (b .object) t l right (omega arith) in
+          let S = on-one e K (p .level) s t left right m in
+          let F = S .from in
+          let turned = rw (plain-kind (a .kind) k, plain-kind (b .kind) l) at (opposite K depth (p .level) (decided depth s) (decided depth t) (a .kind) (a .channel) (a .object) (b .kind) (b .channel) (b .object) o w right k l m .0) in
+          let (α, A, d, g, n₁) = plain-step depth (a .kind) (a .channel) (a .object) (decided depth s) k o w in
+          let (β, B, u, v, n₂) = plain-step depth (b .kind) (b .channel) (b .object) (decided depth t) l right (omega arith) in
+          let one = decided-step depth s [] α A d in
+          let two = decided-step depth t [] β B u in
           let C = com-of (eqb (a .kind) 1) refl turned α A β B g v n₁ n₂ free in
-          let N : Cond = (S .name, S .name) ∷ [] in
-          let result : S .result ≡ par (ren (receiving (C .y) (λ n. n) α) A) (ren (receiving (C .y) (λ n. n) β) B) =
-          C .meets N (S .result) ((λ i. communication (sym d i) (sym u i)) ∙ S .own) in
-          subst (λ c. PutIs c x area count r area′) (sym (ap (raised K) (S .own) ∙ S .is))
-          (T .is q P x lists K L R first number p hv hw α A (sym es ∙ d) (C .left) β B (sym et ∙ u) (C .right) (C .y) (C .sent) (C .below)
-          N ((S .outer, S .outer) ∷ []) (S .whole) (ap (λ (D : Term). raised K (step N tauA D)) (sym result) ∙ S .is) (trivial-match (S .outer)));
+          let result = C .meets (one .condition) (two .condition) (F .condition) (F .action) (F .result) ((λ i. communication (sym (one .is) i) (sym (two .is) i)) ∙ F .own) in
+          subst (λ c. PutIs c x area count r area′) (sym (S .is))
+          (T .is q P x lists K L R first number p hv hw (one .condition) α A (sym es ∙ one .is) (C .left) (two .condition) β B (sym et ∙ two .is) (C .right) (C .y) (C .sent) (C .below)
+          (F .condition) (S .condition) (S .whole) ((λ i. raised K (step (F .condition) (sym (result .0) i) (sym (result .1) i))) ∙ F .is) (S .asks));
     }
       where
         com-of : (c : Bool) → eqb (a .kind) 1 ≡ c → eqb (b .kind) 1 ≡ not c → (α : Act) (A : Term) (β : Act) (B : Term)

@@ -2,7 +2,7 @@
 use borrow.Author.Tests.{eqb-true, eqb-false}
 use mathlib.Core.Bool.{Bool, true, false}
 use mathlib.Core.List.{List, [], _∷_, _++_, map, append-nil, append-assoc}
-use mathlib.Core.Logic.{inl, inr}
+use mathlib.Core.Logic.{_⊎_, inl, inr}
 use mathlib.Core.Path.{_≡_, refl, sym, _∙_, ap, subst}
 use native.Mathlib.Nat.{suc-mul, zero-mul, mul-le-mul-right}
 use native.Mathlib.Numerals.{add-one}
@@ -16,7 +16,8 @@ use Rattle.calculus.proofs.Renaming.{map-++}
 use Rattle.terms.specs.Limits.{nameCount, longestTerm}
 use Rattle.terms.specs.Question.{Question}
 use Rattle.steps.specs.Collecting.{Found, PutIs, CollectIs}
-use Rattle.steps.specs.Contexts.{Frame, raised, Placed}
+use Rattle.steps.specs.Contexts.{Frame, raised, restrictions, Placed}
+use Rattle.steps.specs.Deciding.{decided, Again}
 use Rattle.steps.specs.Limits.{mostSteps, stepBytes}
 use Rattle.steps.specs.Listing.{bodyOf, collect}
 use Rattle.steps.specs.Listed.{ListedStep}
@@ -29,8 +30,9 @@ use Rattle.steps.specs.Rows.{kindAt, channelAt, objectAt, Row, RowsBehin
 use Rattle.steps.specs.Walking.{MeetsIs}
 use Rattle.steps.proofs.CollectLaws.{put-blocked, collect-none, collect-then, collect-over, collect-again, Progresses, progress-start, progress-step, progress-again, progress-done, progress-passed}
 use Rattle.steps.proofs.ContextLaws.{raised-blocked}
+use Rattle.steps.proofs.DecidingLaws.{decided-raised, decided-communication, met-blocked, again-by}
 use Rattle.steps.proofs.MeetLaws.{meets-new, pair-apart}
-use Rattle.steps.proofs.Membership.{∈-left, ∈-right, ∈-map, take-map, within-map}
+use Rattle.steps.proofs.Membership.{∈-left, ∈-right, ∈-map, ∈-mapped, take-map}
 use Rattle.steps.proofs.Numbering.{nth-by, not-met, length-communications, nth-communication}
 use Rattle.steps.proofs.TwoSides.{sides-par}
 
@@ -44,18 +46,50 @@ length-met K s ts = length-map (map (communication s) ts) (raised K) ∙ length-
 nth-met : (K : List Frame) (s : Candidate) (ts : List Candidate) (w : ℕ) → getD (met K s ts) w blocked ≡ raised K (communication s (getD ts w blocked))
 nth-met K s ts w = nth-by (raised K) (raised-blocked K) (map (communication s) ts) w ∙ ap (raised K) (nth-by (communication s) (not-met s) ts w)
 
--- Those of a blocked candidate are none.
-collect-blocked : (x : ℕ) (K : List Frame) (ts : List Candidate) (found : List ListedStep)
-    → collect nameCount longestTerm x (met K blocked ts) found ≡ found
-unfolding collect communication
-collect-blocked x K [] found = refl
-collect-blocked x K (t ∷ ts) found =
-    ap (λ c. collect nameCount longestTerm x (c ∷ met K blocked ts) found) (raised-blocked K) ∙ collect-blocked x K ts found
+-- Those that are blocked in the end are none.
+collect-blocked : (x : ℕ) (K : List Frame) (s : Candidate) → ((t : Candidate) → raised K (communication s t) ≡ blocked) → (ts : List Candidate) (found : List ListedStep)
+    → collect nameCount longestTerm x (met K s ts) found ≡ found
+unfolding collect
+collect-blocked x K s e [] found = refl
+collect-blocked x K s e (t ∷ ts) found =
+    ap (λ c. collect nameCount longestTerm x (c ∷ met K s ts) found) (e t) ∙ collect-blocked x K s e ts found
 
-met-blocked : (x : ℕ) (K : List Frame) (ts : List Candidate) (area : List ℕ) (count : ℕ) → count ≤ mostSteps → CollectIs (met K blocked ts) x area count count area
-unfolding CollectIs collect
-met-blocked x K ts area count h found s =
-    subst (λ l. Found l area count area) (sym (collect-blocked x K ts found)) (collect-none x area count h found s)
+collect-stopped : (x : ℕ) (K : List Frame) (d : ℕ) → restrictions K ≡ d → (s : Candidate) → decided d s ≡ blocked → (ts : List Candidate) (area : List ℕ) (count : ℕ) → count ≤ mostSteps
+    → CollectIs (met K s ts) x area count count area
+unfolding CollectIs collect communication
+collect-stopped x K d level s e ts area count h found stood =
+    subst (λ l. Found l area count area)
+    (sym (collect-blocked x K s (λ t. met-blocked K d level s t (ap (λ c. raised K (communication c (decided d t))) e ∙ raised-blocked K)) ts found))
+    (collect-none x area count h found stood)
+
+-- Those of a candidate that is one of us are among those of us.
+communications-among : (ts us : List Candidate) (s : Candidate) → s ∈ us → Among (map (communication s) ts) (communications us ts)
+unfolding communications
+communications-among ts (u ∷ us) s (inl e) c i =
+    ∈-left c (map (communication u) ts) (communications us ts) (subst (λ v. c ∈ map (communication v) ts) e i)
+communications-among ts (u ∷ us) s (inr m) c i =
+    ∈-right c (map (communication u) ts) (communications us ts) (communications-among ts us s m c i)
+
+-- What adds no step on one side adds none in a communication.
+module _ (d : ℕ) where
+  again-right : (s t : Candidate) (ts : List Candidate) → Again d t ts → Again d (communication s t) (map (communication s) ts)
+  unfolding decided
+  again-right s =
+      again-by d d (communication s) (λ t. decided d (communication (decided d s) t)) (decided-communication d s) (ap (decided d) (not-met (decided d s)))
+
+  again-left : (ts us : List Candidate) (s : Candidate) → Again d s us → (c : Candidate) → c ∈ map (communication s) ts → Again d c (communications us ts)
+  unfolding Again decided communication
+  again-left ts us s h c m = let (t, i, e) = ∈-mapped (communication s) c ts m in go h t i e
+    where
+      go : (decided d s ≡ blocked) ⊎ ((u : Candidate) × (u ∈ us) × (decided d s ≡ decided d u)) → (t : Candidate) → t ∈ ts → c ≡ communication s t
+          → (decided d c ≡ blocked) ⊎ ((b : Candidate) × (b ∈ communications us ts) × (decided d c ≡ decided d b))
+      go (inl f) t i e = inl (ap (decided d) e ∙ decided-communication d s t ∙ ap (λ a. decided d (communication a (decided d t))) f)
+      go (inr (u, n, f)) t i e =
+          inr (
+            communication u t,
+            communications-among ts us u n (communication u t) (∈-map (communication u) t ts i),
+            ap (decided d) e ∙ decided-communication d s t ∙ ap (λ a. decided d (communication a (decided d t))) f ∙ sym (decided-communication d u t),
+          )
 
 -- A row of the left side.
 module _ (question part : List ℕ) (at depth number x : ℕ) (rows : List ℕ) (row left middle last j : ℕ) (area₀ : List ℕ) (count : ℕ) where
@@ -91,7 +125,7 @@ module _ (question part : List ℕ) (at depth number x : ℕ) (rows : List ℕ) 
     over = λ e. absurd (new e);
   }
 
-  -- A candidate that comes earlier too.
+  -- A candidate that adds no step.
   pub row-again : kindAt rows row ≡ 4 → MeetRowIs question part at depth number x rows row left middle last j area₀ count count area₀
   row-again e = record { is = λ q P l K L R first p s i g new u v f h n. absurd (new e); over = λ _. (refl, refl) }
 
@@ -100,8 +134,7 @@ module _ (question part : List ℕ) (at depth number x : ℕ) (rows : List ℕ) 
       → MeetRowIs question part at depth number x rows row left middle last j area₀ count count area₀
   unfolding Row
   row-inner few new h = row-is count area₀ new (λ q P K L R first s c.
-      subst (λ t. CollectIs (met K t (visible (bodyOf (q .bodies)) 1 R)) x area₀ count count area₀) (sym (c .left-row new .inner h))
-      (met-blocked x K (visible (bodyOf (q .bodies)) 1 R) area₀ count few))
+      collect-stopped x K depth (c .placed .level) s (c .left-row new .inner h) (visible (bodyOf (q .bodies)) 1 R) area₀ count few)
 
   module _ (new : kindAt rows row ≡ 4 → ⊥) (known : channelAt rows row < nameCount + depth) (w n : ℕ) (area : List ℕ) (paired : Paired w n area) (on : middle ≤ w) where
     module _ (q : Question) (P : Term) (K : List Frame) (L R : Term) (first : ℕ) (s : Candidate) (c : RowCase q P K L R first s) (h : w < last) where
@@ -117,7 +150,7 @@ module _ (question part : List ℕ) (at depth number x : ℕ) (rows : List ℕ) 
       within-met : w - middle < length (met K s ts)
       within-met = omega (arith, length-met K s ts, within)
 
-      unblocked : Unblocked depth s (kindAt rows row) (channelAt rows row) (objectAt rows row)
+      unblocked : Unblocked depth (decided depth s) (kindAt rows row) (channelAt rows row) (objectAt rows row)
       unfolding Unblocked Row
       unblocked = (c .left-row new, known)
 
@@ -125,16 +158,17 @@ module _ (question part : List ℕ) (at depth number x : ℕ) (rows : List ℕ) 
       unfolding RowsBehind
       other = let e : middle + (w - middle) ≡ w = omega arith in subst (λ i. Row depth t rows i) e (c .right (w - middle) within .0)
 
-      -- if it comes earlier too, so does the communication with it
-      earlier : kindAt rows w ≡ 4 → getD (met K s ts) (w - middle) blocked ∈ take (w - middle) (met K s ts)
+      -- if it adds no step, neither does the communication with it
+      earlier : kindAt rows w ≡ 4 → Again 0 (getD (met K s ts) (w - middle) blocked) (take (w - middle) (met K s ts))
       unfolding RowsBehind
       earlier f =
           let i : ℕ = w - middle in
           let e : middle + (w - middle) ≡ w = omega arith in
-          let m : t ∈ take (w - middle) ts = c .right (w - middle) within .1 (ap (kindAt rows) e ∙ f) in
+          let m : Again depth t (take (w - middle) ts) = c .right (w - middle) within .1 (ap (kindAt rows) e ∙ f) in
           let l : take i (met K s ts) ≡ met K s (take i ts) = take-map (raised K) i (map (communication s) ts) ∙ ap (map (raised K)) (take-map (communication s) i ts) in
-          subst (λ d. d ∈ take i (met K s ts)) (sym (nth-met K s ts i))
-          (subst (λ cs. raised K (communication s t) ∈ cs) (sym l) (∈-map (raised K) (communication s t) (map (communication s) (take i ts)) (∈-map (communication s) t (take i ts) m)))
+          subst (λ d. Again 0 d (take i (met K s ts))) (sym (nth-met K s ts i))
+          (subst (λ cs. Again 0 (raised K (communication s t)) cs) (sym l)
+          (again-by 0 depth (raised K) (raised K) (decided-raised K depth (c .placed .level)) (raised-blocked K) (communication s t) (map (communication s) (take i ts)) (again-right depth s t (take i ts) m)))
 
     pair-next : mostSteps * stepBytes ≤ length area → n ≤ mostSteps → w < last → mayMeet (kindAt rows row) (channelAt rows row) (kindAt rows w) (channelAt rows w) ≡ false
         → Paired (w + 1) n area
@@ -151,8 +185,9 @@ module _ (question part : List ℕ) (at depth number x : ℕ) (rows : List ℕ) 
             let ts : List Candidate = visible (bodyOf (q .bodies)) 1 R in
             let f = eqb-false (kindAt rows w) 4 b in
             let e : raised K (communication s (getD ts (w - middle) blocked)) ≡ blocked =
-            pair-apart K depth (c .placed .level) s (getD ts (w - middle) blocked) (kindAt rows row) (channelAt rows row) (objectAt rows row) (kindAt rows w) (channelAt rows w) (objectAt rows w)
-            (unblocked q P K L R first s c h) (other q P K L R first s c h f) f m in
+            met-blocked K depth (c .placed .level) s (getD ts (w - middle) blocked)
+            (pair-apart K depth (c .placed .level) (decided depth s) (decided depth (getD ts (w - middle) blocked)) (kindAt rows row) (channelAt rows row) (objectAt rows row) (kindAt rows w) (channelAt rows w) (objectAt rows w)
+            (unblocked q P K L R first s c h) (other q P K L R first s c h f) f m) in
             let put : PutIs (getD (met K s ts) (w - middle) blocked) x area n n area =
             subst (λ d. PutIs d x area n n area) (sym (nth-met K s ts (w - middle) ∙ e)) (λ found stood. put-blocked area room x n found stood few) in
             progress-step (met K s ts) x area₀ count (w - middle) n n area area (within-met q P K L R first s c h) (paired q P K L R first s c) put few
@@ -207,14 +242,6 @@ unfolding communications
 communications-++ [] us ts = refl
 communications-++ (s ∷ ss) us ts =
     ap (λ cs. map (communication s) ts ++ cs) (communications-++ ss us ts) ∙ sym (append-assoc (map (communication s) ts) (communications ss ts) (communications us ts))
-
--- Those of a candidate that is one of us are among those of us.
-communications-among : (ts us : List Candidate) (s : Candidate) → s ∈ us → Among (map (communication s) ts) (communications us ts)
-unfolding communications
-communications-among ts (u ∷ us) s (inl e) c i =
-    ∈-left c (map (communication u) ts) (communications us ts) (subst (λ v. c ∈ map (communication v) ts) e i)
-communications-among ts (u ∷ us) s (inr m) c i =
-    ∈-right c (map (communication u) ts) (communications us ts) (communications-among ts us s m c i)
 
 module _ (K : List Frame) (ts : List Candidate) where
   abbrev pub all : List Candidate → List Candidate
@@ -293,7 +320,7 @@ module _ (question part : List ℕ) (at depth number before x : ℕ) (rows : Lis
         unfolding RowsBehind
         own-row = subst (λ i. Row depth (getD lefts (row - first) blocked) rows i) same-row (c .left (row - first) within-left .0)
 
-        earlier-row : kindAt rows row ≡ 4 → getD lefts (row - first) blocked ∈ take (row - first) lefts
+        earlier-row : kindAt rows row ≡ 4 → Again depth (getD lefts (row - first) blocked) (take (row - first) lefts)
         unfolding RowsBehind
         earlier-row f = c .left (row - first) within-left .1 (ap (kindAt rows) same-row ∙ f)
 
@@ -337,8 +364,11 @@ module _ (question part : List ℕ) (at depth number before x : ℕ) (rows : Lis
                 subst (λ m. CollectIs (all K rights (take (row - first) lefts) ++ met K (getD lefts (row - first) blocked) rights) x area₀ count m area′) (sym e)
                 (subst (λ a. CollectIs (all K rights (take (row - first) lefts) ++ met K (getD lefts (row - first) blocked) rights) x area₀ count n a) (sym d)
                 (collect-again (all K rights (take (row - first) lefts)) (met K (getD lefts (row - first) blocked) rights) x area₀ count n area (so-far q P K L R c .1)
-                (within-map (raised K) (map (communication (getD lefts (row - first) blocked)) rights) (communications (take (row - first) lefts) rights)
-                (communications-among rights (take (row - first) lefts) (getD lefts (row - first) blocked) (earlier-row f)))))
+                (λ d i.
+                let (y, m, g) = ∈-mapped (raised K) d (map (communication (getD lefts (row - first) blocked)) rights) i in
+                subst (λ d. Again 0 d (all K rights (take (row - first) lefts))) (sym g)
+                (again-by 0 depth (raised K) (raised K) (decided-raised K depth (c .placed .level)) (raised-blocked K) y (communications (take (row - first) lefts) rights)
+                (again-left depth rights (take (row - first) lefts) (getD lefts (row - first) blocked) (earlier-row f) y m)))))
             go false b =
                 collect-then (all K rights (take (row - first) lefts)) (met K (getD lefts (row - first) blocked) rights) x area₀ count n area (so-far q P K L R c .1) few r area′
                 (row-put (eqb-false (kindAt rows row) 4 b))

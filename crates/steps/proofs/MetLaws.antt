@@ -60,7 +60,7 @@ stays-output (beneath ∷ K) M γ A M′ α A′ s e = go (stays-output K) (spar
     go f true (boutA (suc a)) s e = f (mapP outside M) (boutA a) (res (ren swap A)) M′ α A′ tt e
 
 -- [Open] has not applied where no name is extruded.
-unopened-of : (K : List Frame) (M : Cond) (γ : Act) (A : Term) (M′ : Cond) (α : Act) (A′ : Term) → raised K (step M γ A) ≡ step M′ α A′ → Unextruded α → Unopened γ α
+pub unopened-of : (K : List Frame) (M : Cond) (γ : Act) (A : Term) (M′ : Cond) (α : Act) (A′ : Term) → raised K (step M γ A) ≡ step M′ α A′ → Unextruded α → Unopened γ α
 unfolding Unopened Unextruded
 unopened-of K M tauA A M′ α A′ e u = tt
 unopened-of K M (inpA a) A M′ α A′ e u = tt
@@ -96,14 +96,14 @@ new-sent d y object e h = (go (ltb y d) refl (leb object 15) refl, omega arith)
         let l = ltb-false y d b in let k = leb-false object 15 c in absurd (omega (arith, slot-free nameCount d y l))
 
 -- What a step is raised from.
-record From (K : List Frame) (c : Candidate) (M : Cond) (α : Act) (A : Term) : Type 0 where
-  condition : Cond
-  action : Act
-  result : Term
-  own : c ≡ step condition action result
-  is : raised K (step condition action result) ≡ step M α A
+pub record From (K : List Frame) (c : Candidate) (M : Cond) (α : Act) (A : Term) : Type 0 where
+  pub condition : Cond
+  pub action : Act
+  pub result : Term
+  pub own : c ≡ step condition action result
+  pub is : raised K (step condition action result) ≡ step M α A
 
-raised-from : (K : List Frame) (c : Candidate) (M : Cond) (α : Act) (A : Term) → raised K c ≡ step M α A → From K c M α A
+pub raised-from : (K : List Frame) (c : Candidate) (M : Cond) (α : Act) (A : Term) → raised K c ≡ step M α A → From K c M α A
 raised-from K (step N γ T) M α A e = record { condition = N; action = γ; result = T; own = refl; is = e }
 raised-from K blocked M α A e = raised-never K M α A e
 
@@ -144,10 +144,10 @@ record Sided (q : Question) (at d : ℕ) (C : Term) (α : Act) (A : Term) (y new
   filled : ren (receiving y (λ n. n) α) A ≡ fill frames (ren (receiving name (λ n. n) action) result)
 
 sided : (q : Question) (s : List ℕ) (at d : ℕ) (C : Term) (c : Candidate) (l : Located) → Component q s at d C c (l .at) (l .depth) (l .number)
-    → (α : Act) (A : Term) → c ≡ step [] α A → Unextruded α → (y new : ℕ) → HasNew d new y → Sided q at d C α A y new l
-sided q s at d C c l E α A e u y new h =
+    → (M : Cond) (α : Act) (A : Term) → c ≡ step M α A → Unextruded α → (y new : ℕ) → HasNew d new y → Sided q at d C α A y new l
+sided q s at d C c l E M α A e u y new h =
     let K = E .frames in
-    let F = raised-from K (getD (visible (bodyOf (q .bodies)) 1 (E .term)) (l .number) blocked) [] α A (sym (E .candidate) ∙ e) in
+    let F = raised-from K (getD (visible (bodyOf (q .bodies)) 1 (E .term)) (l .number) blocked) M α A (sym (E .candidate) ∙ e) in
     record {
       frames = K;
       term = E .term;
@@ -161,8 +161,8 @@ sided q s at d C c l E α A e u y new h =
       action = F .action;
       result = F .result;
       own = F .own;
-      filled = filled-result K [] α A y (F .condition) (F .action) (F .result) (F .is)
-          (unopened-of K (F .condition) (F .action) (F .result) [] α A (F .is) u);
+      filled = filled-result K M α A y (F .condition) (F .action) (F .result) (F .is)
+          (unopened-of K (F .condition) (F .action) (F .result) M α A (F .is) u);
     }
 
 module _ (question part tally : List ℕ) (T : TallyIs question part 1 tally) (at depth v w object : ℕ) (left : Located) (one : LocateIs part tally (at + 1) depth v left)
@@ -270,7 +270,7 @@ module _ (question part tally : List ℕ) (T : TallyIs question part 1 tally) (a
       → PutMetIs question part left right new area count r area′ → TakeMetIs question part at depth v w object area count r area′
   unfolding Leads Unopened receiving
   met-taken new slot area count r area′ put = record {
-    is = λ q P x lists K L R first number p hv hw α A ea ua β B eb ub y sent below N₁ M W e t.
+    is = λ q P x lists K L R first number p hv hw M₁ α A ea ua M₂ β B eb ub y sent below N₁ M W e t.
         let h = subst (λ (n : ℕ). HasNew depth n y) (sym slot) (new-sent depth y object sent below) in
         let pl = placed-left p in
         let pr = placed-right p in
@@ -281,8 +281,8 @@ module _ (question part tally : List ℕ) (T : TallyIs question part 1 tally) (a
         ∙ T .is q (at + 1) nameCount depth (λ n. n) L (bytesBehind (leftOf R ∷ K)) (lists .accepted) (pl .scope) bl .2 in
         let cl = one .is question T q L (bytesBehind (leftOf R ∷ K)) (lists .accepted) (pl .scope) bl hv in
         let cr = two .is question T q R (bytesBehind (rightOf L ∷ K)) (lists .accepted) (pr .scope) (ap (λ (k : ℕ). drop k part) ends ∙ br) hw in
-        let l = sided q part (at + 1) depth L (getD (visible (bodyOf (q .bodies)) 1 L) v blocked) left cl α A ea ua y new h in
-        let r = sided q part m depth R (getD (visible (bodyOf (q .bodies)) 1 R) w blocked) right cr β B eb ub y new h in
+        let l = sided q part (at + 1) depth L (getD (visible (bodyOf (q .bodies)) 1 L) v blocked) left cl M₁ α A ea ua y new h in
+        let r = sided q part m depth R (getD (visible (bodyOf (q .bodies)) 1 R) w blocked) right cr M₂ β B eb ub y new h in
         let one-side : Term = ren (receiving y (λ n. n) α) A in
         let other-side : Term = ren (receiving y (λ n. n) β) B in
         let whole : W ≡ fill K (par (fill (l .frames) (ren (receiving (l .name) (λ n. n) (l .action)) (l .result))) (fill (r .frames) (ren (receiving (r .name) (λ n. n) (r .action)) (r .result)))) =

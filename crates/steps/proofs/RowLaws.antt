@@ -1,6 +1,6 @@
 -- What the row of a candidate says: of its action, outside a restriction, beside another term; and rows that are kept. Assumes nothing.
 use mathlib.Core.Path.{_≡_, refl, sym, ap, ap₂, subst, _∙_}
-use mathlib.Core.Bool.{Bool, true, false, cond, _&&_}
+use mathlib.Core.Bool.{Bool, true, false, cond, _&&_, _||_}
 use mathlib.Core.List.{List, [], _∷_, _++_, map, append-assoc}
 use mathlib.Core.Logic.{_⊎_, inl, inr, ⊎-elim}
 use Prim.Native.Nat.{ℕ, zero, suc, _+_, _-_, _*_, _<_, _≤_}
@@ -13,6 +13,7 @@ use Rattle.calculus.specs.Abstraction.{Act, tauA, inpA, outA, boutA, swap, weak
 use Rattle.calculus.specs.Cond.{Cond, mapP}
 use Rattle.calculus.specs.Term.{Term, par, res, ren}
 use Rattle.terms.specs.Limits.{nameCount}
+use Rattle.steps.specs.Deciding.{decided, Again}
 use Rattle.steps.specs.Labels.{actionOf, ActionBelow}
 use Rattle.steps.specs.Raw.{Candidate, step, blocked, matching, leftSteps, rightSteps, sparesRestricted, outside, restrictedAction, restricted, visible, visibleOf}
 use Rattle.steps.specs.Lists.{_∈_, Among}
@@ -20,7 +21,8 @@ use Rattle.steps.specs.Rows.{rowBytes, kindAt, channelAt, objectAt, acti
 use Rattle.steps.specs.Slots.{slotOf}
 use Rattle.steps.specs.declared.action.Action.{Action}
 use Rattle.steps.specs.declared.action.Action.the-variants.{Silent, Input, Output, NewOutput}
-use Rattle.steps.proofs.Membership.{∈-left, ∈-right, ∈-nth, ∈-map, take-map, within-either}
+use Rattle.steps.proofs.DecidingLaws.{judged, judged-blocked, decided-matching, decided-left, decided-right, decided-restricted, decided-trivial, again-more, again-by, again-trivial}
+use Rattle.steps.proofs.Membership.{∈-left, ∈-right, ∈-nth, take-map, within-either}
 use Rattle.steps.proofs.NameSlots.{slot-inner}
 use Rattle.steps.proofs.Numbering.{nth-matching, nth-leftSteps, nth-rightSteps, nth-restricted}
 use Rattle.steps.proofs.SlotLaws.{slot-restricted, slot-outside}
@@ -205,24 +207,29 @@ module _ (d kind channel object : ℕ) where
         (O .acts h);
   }
 
-  -- [Match]
-  outlined-matching : 3 < kind → (a b : ℕ) (c : Candidate) → Outlined d c kind channel object → Outlined d (matching a b c) kind channel object
-  unfolding matching
-  outlined-matching m a b c O = record {
-    known = O .known;
-    inner = λ h. ap (matching a b) (O .inner h);
-    acts = λ h. ⊎-elim (λ p. inl (p .0, ap (matching a b) (p .1)))
-        (λ D. inr (record { condition = (a, b) ∷ D .condition; action = D .action; result = D .result; is = ap (matching a b) (D .is); plain = λ few. absurd (omega arith); acts = D .acts; below = D .below }))
-        (O .acts h);
-  }
+  -- [Match]: it asks nothing, or fails, or is one of the condition
+  outlined-judged : 3 < kind → (a b : ℕ) (c : Candidate) → Outlined d c kind channel object → Outlined d (judged d a b c) kind channel object
+  unfolding matching judged
+  outlined-judged m a b c O = go (eqb a b) (ltb a d || ltb b d)
+    where
+      go : (t u : Bool) → Outlined d (cond t c (cond u blocked (matching a b c))) kind channel object
+      go true u = O
+      go false true = record { known = O .known; inner = λ h. refl; acts = λ h. inl (m, refl) }
+      go false false = record {
+        known = O .known;
+        inner = λ h. ap (matching a b) (O .inner h);
+        acts = λ h. ⊎-elim (λ p. inl (p .0, ap (matching a b) (p .1)))
+            (λ D. inr (record { condition = (a, b) ∷ D .condition; action = D .action; result = D .result; is = ap (matching a b) (D .is); plain = λ few. absurd (omega arith); acts = D .acts; below = D .below }))
+            (O .acts h);
+      }
 
 -- The rows of a list of candidates, behind others.
 module _ (rows : List ℕ) (n d : ℕ) where
-  -- candidates that all come earlier
-  pub rows-again : (before cs : List Candidate) → Among cs before → ((j : ℕ) → j < length cs → kindAt rows (n + j) ≡ 4) → RowsBehind before d cs rows n
+  -- candidates that add no step
+  pub rows-again : (before cs : List Candidate) → ((c : Candidate) → c ∈ cs → Again d c before) → ((j : ℕ) → j < length cs → kindAt rows (n + j) ≡ 4) → RowsBehind before d cs rows n
   unfolding RowsBehind Row
   rows-again before cs m u j h =
-      (λ new. absurd (new (u j h)), λ e. ∈-left (getD cs j blocked) before (take j cs) (m (getD cs j blocked) (∈-nth cs j blocked h)))
+      (λ new. absurd (new (u j h)), λ e. again-more d (getD cs j blocked) before (before ++ take j cs) (λ c i. ∈-left c before (take j cs) i) (m (getD cs j blocked) (∈-nth cs j blocked h)))
 
   -- behind more of them
   pub rows-more : (before before′ cs : List Candidate) → Among before before′ → RowsBehind before d cs rows n → RowsBehind before′ d cs rows n
@@ -230,13 +237,13 @@ module _ (rows : List ℕ) (n d : ℕ) where
   rows-more before before′ cs m r j h = (
     r j h .0,
     λ e.
-        within-either before (take j cs) (before′ ++ take j cs)
-        (λ c i. ∈-left c before′ (take j cs) (m c i)) (λ c i. ∈-right c before′ (take j cs) i)
-        (getD cs j blocked) (r j h .1 e),
+        again-more d (getD cs j blocked) (before ++ take j cs) (before′ ++ take j cs)
+        (within-either before (take j cs) (before′ ++ take j cs) (λ c i. ∈-left c before′ (take j cs) (m c i)) (λ c i. ∈-right c before′ (take j cs) i))
+        (r j h .1 e),
   )
 
   abbrev One : Candidate → List Candidate → ℕ → Type 0
-  One c cs i = Row d c rows i × (kindAt rows i ≡ 4 → c ∈ cs)
+  One c cs i = Row d c rows i × (kindAt rows i ≡ 4 → Again d c cs)
 
   pub rows-append : (before ps qs : List Candidate) → RowsBehind before d ps rows n → RowsBehind (before ++ ps) d qs rows (n + length ps) → RowsBehind before d (ps ++ qs) rows n
   unfolding RowsBehind
@@ -259,35 +266,53 @@ module _ (rows : List ℕ) (n d : ℕ) where
           (subst (λ (cs : List Candidate). One (getD qs (j - length ps) blocked) cs (n + j)) (sym b)
           (subst (λ (i : ℕ). One (getD qs (j - length ps) blocked) ((before ++ ps) ++ take (j - length ps) qs) i) p (g (j - length ps) (omega (arith, length-append ps qs)))))
 
-  -- A rule with one premise, from rows under d₁ restrictions.
-  by-rule : (d₁ : ℕ) (f : Candidate → Candidate) (cs : List Candidate)
+  -- A rule with one premise, from rows under d₁ restrictions; g is what it makes of a candidate whose matches are decided.
+  by-rule : (d₁ : ℕ) (f g : Candidate → Candidate) → ((c : Candidate) → decided d (f c) ≡ g (decided d₁ c)) → g blocked ≡ blocked → (cs : List Candidate)
       → ((j : ℕ) → j < length cs → (c : Candidate) → Outlined d₁ c (kindAt rows (n + j)) (channelAt rows (n + j)) (objectAt rows (n + j))
-      → Outlined d (f c) (kindAt rows (n + j)) (channelAt rows (n + j)) (objectAt rows (n + j)))
+      → Outlined d (g c) (kindAt rows (n + j)) (channelAt rows (n + j)) (objectAt rows (n + j)))
       → ((i : ℕ) → getD (map f cs) i blocked ≡ f (getD cs i blocked)) → Rows d₁ cs rows n → Rows d (map f cs) rows n
   unfolding RowsBehind Row
-  by-rule d₁ f cs keeps nth r j h =
+  by-rule d₁ f g same none cs keeps nth r j h =
       let l : j < length cs = omega (arith, length-map cs f) in (
         λ new.
-            subst (λ (c : Candidate). Outlined d c (kindAt rows (n + j)) (channelAt rows (n + j)) (objectAt rows (n + j))) (sym (nth j))
-            (keeps j l (getD cs j blocked) (r j l .0 new)),
+            subst (λ (c : Candidate). Outlined d c (kindAt rows (n + j)) (channelAt rows (n + j)) (objectAt rows (n + j))) (sym (ap (decided d) (nth j) ∙ same (getD cs j blocked)))
+            (keeps j l (decided d₁ (getD cs j blocked)) (r j l .0 new)),
         λ e.
-            subst (λ (c : Candidate). c ∈ take j (map f cs)) (sym (nth j))
-            (subst (λ (l : List Candidate). f (getD cs j blocked) ∈ l) (sym (take-map f j cs)) (∈-map f (getD cs j blocked) (take j cs) (r j l .1 e))),
+            subst (λ (c : Candidate). Again d c (take j (map f cs))) (sym (nth j))
+            (subst (λ (l : List Candidate). Again d (f (getD cs j blocked)) l) (sym (take-map f j cs)) (again-by d d₁ f g same none (getD cs j blocked) (take j cs) (r j l .1 e))),
       )
 
   pub rows-left : (Q : Term) (cs : List Candidate) → Rows d cs rows n → Rows d (map (leftSteps Q) cs) rows n
-  rows-left Q cs = by-rule d (leftSteps Q) cs (λ j h. outlined-left d _ _ _ Q) (nth-leftSteps Q cs)
+  unfolding leftSteps
+  rows-left Q cs = by-rule d (leftSteps Q) (leftSteps Q) (decided-left d Q) refl cs (λ j h. outlined-left d _ _ _ Q) (nth-leftSteps Q cs)
 
   pub rows-right : (P : Term) (cs : List Candidate) → Rows d cs rows n → Rows d (map (rightSteps P) cs) rows n
-  rows-right P cs = by-rule d (rightSteps P) cs (λ j h. outlined-right d _ _ _ P) (nth-rightSteps P cs)
+  unfolding rightSteps
+  rows-right P cs = by-rule d (rightSteps P) (rightSteps P) (decided-right d P) refl cs (λ j h. outlined-right d _ _ _ P) (nth-rightSteps P cs)
 
   pub rows-restricted : (cs : List Candidate) → Rows (1 + d) cs rows n → Rows d (map restricted cs) rows n
-  rows-restricted cs = by-rule (1 + d) restricted cs (λ j h. outlined-restricted d _ _ _) (nth-restricted cs)
+  unfolding restricted
+  rows-restricted cs = by-rule (1 + d) restricted restricted (decided-restricted d) refl cs (λ j h. outlined-restricted d _ _ _) (nth-restricted cs)
 
   -- [Match]
   pub rows-matching : (a b : ℕ) (cs : List Candidate) → Matched (length cs) rows n → Rows d cs rows n → Rows d (map (matching a b) cs) rows n
   unfolding Matched
-  rows-matching a b cs u = by-rule d (matching a b) cs (λ j h. outlined-matching d _ _ _ (u j h) a b) (nth-matching a b cs)
+  rows-matching a b cs u =
+      by-rule d (matching a b) (judged d a b) (decided-matching d a b) (judged-blocked d a b) cs (λ j h. outlined-judged d _ _ _ (u j h) a b) (nth-matching a b cs)
+
+  -- a match of a name with itself
+  pub rows-trivial : (a b : ℕ) → a ≡ b → (before cs : List Candidate) → RowsBehind before d cs rows n → RowsBehind before d (map (matching a b) cs) rows n
+  unfolding RowsBehind Row
+  rows-trivial a b e before cs r j h =
+      let l : j < length cs = omega (arith, length-map cs (matching a b)) in (
+        λ new.
+            subst (λ (c : Candidate). Outlined d c (kindAt rows (n + j)) (channelAt rows (n + j)) (objectAt rows (n + j)))
+            (sym (ap (decided d) (nth-matching a b cs j) ∙ decided-trivial d a b e (getD cs j blocked))) (r j l .0 new),
+        λ f.
+            subst (λ (c : Candidate). Again d c (before ++ take j (map (matching a b) cs))) (sym (nth-matching a b cs j))
+            (subst (λ (l : List Candidate). Again d (matching a b (getD cs j blocked)) (before ++ l)) (sym (take-map (matching a b) j cs))
+            (again-trivial d a b e (getD cs j blocked) before (take j cs) (r j l .1 f))),
+      )
 
 -- The rows of a parallel, and those of a restriction.
 module _ (body : ℕ → Term) (calls : ℕ) (rows : List ℕ) (n d : ℕ) where
@@ -331,8 +356,8 @@ module _ (m : ℕ) (rows rows′ : List ℕ) (kept : RowsKept m rows rows′) wh
       let a : channelAt rows′ (n + j) ≡ channelAt rows (n + j) = kept (rowBytes * (n + j) + 1) (omega arith) in
       let o : objectAt rows′ (n + j) ≡ objectAt rows (n + j) = kept (rowBytes * (n + j) + 2) (omega arith) in (
         λ new.
-            subst (λ (k : ℕ). Outlined d (getD cs j blocked) k (channelAt rows′ (n + j)) (objectAt rows′ (n + j))) (sym k)
-            (subst (λ (a : ℕ). Outlined d (getD cs j blocked) (kindAt rows (n + j)) a (objectAt rows′ (n + j))) (sym a)
-            (subst (λ (o : ℕ). Outlined d (getD cs j blocked) (kindAt rows (n + j)) (channelAt rows (n + j)) o) (sym o) (r j l .0 (λ z. new (k ∙ z))))),
+            subst (λ (k : ℕ). Outlined d (decided d (getD cs j blocked)) k (channelAt rows′ (n + j)) (objectAt rows′ (n + j))) (sym k)
+            (subst (λ (a : ℕ). Outlined d (decided d (getD cs j blocked)) (kindAt rows (n + j)) a (objectAt rows′ (n + j))) (sym a)
+            (subst (λ (o : ℕ). Outlined d (decided d (getD cs j blocked)) (kindAt rows (n + j)) (channelAt rows (n + j)) o) (sym o) (r j l .0 (λ z. new (k ∙ z))))),
         λ e. r j l .1 (sym k ∙ e),
       )

@@ -11,6 +11,7 @@ use lib.Seq.{getD-set-same, getD-set-other}
 use lib.Dec.{ltb}
 use borrow.Author.Tests.{ltb-true, ltb-false, lt-ltb, le-ltb, eq-eqb, ne-eqb}
 use Rattle.calculus.specs.Abstraction.{Act, inpA, outA, boutA}
+use Rattle.calculus.specs.Cond.{nontrivial}
 use Rattle.calculus.specs.Term.{Term, inp, out, bout, sum, par, res, call, lift, ren}
 use Rattle.terms.specs.Answer.{result}
 use Rattle.terms.specs.Encoding.{nameByte, encode, InScope}
@@ -18,12 +19,13 @@ use Rattle.terms.specs.Limits.{nameCount}
 use Rattle.terms.specs.Question.{Question, checkOf}
 use Rattle.terms.proofs.Stores.{getD-front}
 use Rattle.steps.specs.Bodies.{BodyIs, OpeningIs}
+use Rattle.steps.specs.Deciding.{fails, decided}
 use Rattle.steps.specs.Labels.{actionOf, ActionBelow}
 use Rattle.steps.specs.LabelWalk.{slotAt, HasSlots, ArgumentsIs}
 use Rattle.steps.specs.Listing.{bodyOf}
 use Rattle.steps.specs.Passing.{candidates, MiddleIs}
 use Rattle.steps.specs.Raw.{Candidate, step, blocked, matching, leftSteps, rightSteps, restricted, visible, visibleOf, visibleCalls}
-use Rattle.steps.specs.Rows.{rowBytes, mostRows, kindAt, channelAt, objectAt, actionKind, rowAction, Outlined, Row, RowsBehind, Rows, Matched, RowsKept, PutRowIs, PutRepeatedIs, sentSlot, prefixKind, PrefixRowIs, Offers, rootOf, RepeatedIs, ScanIs}
+use Rattle.steps.specs.Rows.{rowBytes, mostRows, kindAt, channelAt, objectAt, actionKind, rowAction, Outlined, Row, RowsBehind, Rows, Matched, RowsKept, PutRowIs, PutRepeatedIs, sentSlot, prefixKind, PrefixRowIs, isTrivial, Offers, rootOf, RepeatedIs, ScanIs}
 use Rattle.steps.specs.Slots.{slotOf}
 use Rattle.steps.specs.Tally.{visibleAt, TallyIs}
 use Rattle.steps.specs.declared.action.Action.the-variants.{Input, Output, NewOutput}
@@ -31,9 +33,9 @@ use Rattle.steps.specs.declared.bodies.Opening.{Opening}
 use Rattle.steps.proofs.ArgumentSlots.{slots-lift, slot-read, slots-call}
 use Rattle.steps.proofs.CallLaws.{params, at-call, body-scope}
 use Rattle.steps.proofs.CandidateForms.{candidates-call, tag, tag-at, only-mat, only-res, only-two, only-prefix}
-use Rattle.steps.proofs.ChoiceLaws.{offers-alone, offers-left, offers-right}
+use Rattle.steps.proofs.ChoiceLaws.{trivial-slots, trivial-names, offers-alone, offers-left, offers-beneath, offers-right}
 use Rattle.steps.proofs.FrontLaws.{stands, behind}
-use Rattle.steps.proofs.RowLaws.{row-input, row-output, row-new, rows-again, rows-more, rows-append, rows-matching, rows-par, rows-res, kind-kept, rows-kept, matched-kept, kept-all, kept-then}
+use Rattle.steps.proofs.RowLaws.{row-input, row-output, row-new, rows-again, rows-more, rows-append, rows-matching, rows-trivial, rows-par, rows-res, kind-kept, rows-kept, matched-kept, kept-all, kept-then}
 use Rattle.steps.proofs.SlotLaws.{slot-below}
 use Rattle.steps.proofs.TwoSides.{at-left}
 use Rattle.steps.proofs.TwoSides as two
@@ -167,22 +169,23 @@ module _ (t root at : ℕ) where
 
 -- One row.
 module _ (d kind channel object : ℕ) (rows : List ℕ) (n : ℕ) (k : kindAt rows n ≡ kind) where
-  one-row : channelAt rows n ≡ channel → objectAt rows n ≡ object → (kind ≡ 4 → ⊥) → (before : List Candidate) (c : Candidate) → Outlined d c kind channel object
+  one-row : channelAt rows n ≡ channel → objectAt rows n ≡ object → (kind ≡ 4 → ⊥) → (before : List Candidate) (c : Candidate) → Outlined d (decided d c) kind channel object
       → RowsBehind before d (c ∷ []) rows n
   unfolding RowsBehind Row
   one-row a o once before c O j h =
       let z : j ≡ 0 = omega arith in
       let e : n ≡ n + j = omega arith in (
         λ new.
-            subst (λ (i : ℕ). Outlined d (getD (c ∷ []) j blocked) (kindAt rows i) (channelAt rows i) (objectAt rows i)) e
-            (subst (λ (i : ℕ). Outlined d (getD (c ∷ []) i blocked) (kindAt rows n) (channelAt rows n) (objectAt rows n)) (sym z)
+            subst (λ (i : ℕ). Outlined d (decided d (getD (c ∷ []) j blocked)) (kindAt rows i) (channelAt rows i) (objectAt rows i)) e
+            (subst (λ (i : ℕ). Outlined d (decided d (getD (c ∷ []) i blocked)) (kindAt rows n) (channelAt rows n) (objectAt rows n)) (sym z)
             (rw (k, a, o) O)),
         λ f. absurd (once (sym k ∙ ap (kindAt rows) e ∙ f)),
       )
 
 -- The candidate of a visible prefix.
 module _ (d kind channel object : ℕ) (α : Act) (A : Term) (some : 0 < kind) (below : channel < nameCount + d) (e : actionOf d α ≡ rowAction d (actionKind kind) channel object) (b : ActionBelow (d + nameCount) α) where
-  outlined : Outlined d (step [] α A) kind channel object
+  outlined : Outlined d (decided d (step [] α A)) kind channel object
+  unfolding decided fails nontrivial
   outlined = record {
     known = some;
     inner = λ h. absurd (omega arith);
@@ -249,7 +252,7 @@ module _ (question s : List ℕ) (root at : ℕ) (asked : Bool) (args : List ℕ
           let kind = prefixKind (getD s at 0) asked in
           let is-plain = prefix-plain (getD s at 0) l g asked in
           let new = prefix-new (getD s at 0) l g asked in
-          let one : (c : Candidate) → Outlined depth c kind channel object → n + 1 ≤ mostRows → Has before r rows′ (c ∷ []) =
+          let one : (c : Candidate) → Outlined depth (decided depth c) kind channel object → n + 1 ≤ mostRows → Has before r rows′ (c ∷ []) =
           λ c O h.
           let w = R .is (omega arith) in
           (w .0, one-row depth kind channel object rows′ n (w .1) (w .2) (w .3) (new .1) before c O, λ e j h. first (w .1) e j h) in
@@ -278,11 +281,12 @@ module _ (question s : List ℕ) (root at : ℕ) (asked : Bool) (args : List ℕ
             let m = prefix-matched (getD s at 0) l g asked e in
             subst (λ (i : ℕ). 3 < kindAt rows′ i) (sym z) (rw k m)
 
-  -- a branch that the choice has before
-  pub scan-again : (getD s at 0 ≡ 6 → ⊥) → (numbers : List ℕ) → TallyIs question s calls numbers → RepeatedIs question s root at true → (m : ℕ) → m ≡ visibleAt numbers at
+  -- a term that adds no step to its choice
+  pub scan-again : (getD s at 0 ≡ 6 → ⊥) → isTrivial s args inner depth at ≡ false → (numbers : List ℕ) → TallyIs question s calls numbers
+      → RepeatedIs question s args inner depth root at true → (m : ℕ) → m ≡ visibleAt numbers at
       → (r : ℕ) (rows′ : List ℕ) → PutRepeatedIs m n rows r rows′ → ScanIs question s root at asked args inner depth calls n rows r rows′
   unfolding Matched
-  scan-again g numbers T again m c r rows′ R = record {
+  scan-again g t numbers T again m c r rows′ R = record {
     on = R .on;
     inside = R .inside;
     kept = R .kept;
@@ -291,7 +295,26 @@ module _ (question s : List ℕ) (root at : ℕ) (asked : Bool) (args : List ℕ
         let many : m ≡ length (seen q σ P) = c ∙ T .is q at free D σ P rest ok scope st .0 in
         let (e, u) = R .is (omega arith) in
         let u′ : (j : ℕ) → j < length (seen q σ P) → kindAt rows′ (n + j) ≡ 4 = λ j l. u j (omega arith) in
-        (e ∙ ap (λ (k : ℕ). n + k) many, rows-again rows′ n depth before cs (again .is q calls free D σ P rest before refl ok few scope st g o) u′, λ _ j l. omega (arith, u′ j l));
+        (e ∙ ap (λ (k : ℕ). n + k) many, rows-again rows′ n depth before cs (again .is q calls free D σ P rest before refl ok few has scope st g t o) u′, λ _ j l. omega (arith, u′ j l));
+  }
+
+  -- [Match] of a name with itself
+  pub scan-trivial : isTrivial s args inner depth at ≡ true → (r : ℕ) (rows′ : List ℕ) → ScanIs question s root (at + 3) asked args inner depth calls n rows r rows′
+      → ScanIs question s root at asked args inner depth calls n rows r rows′
+  unfolding visible visibleOf InScope encode
+  scan-trivial t r rows′ X = record {
+    on = X .on;
+    inside = X .inside;
+    kept = X .kept;
+    is = λ q free D σ P rest before ok few has scope st o. only-mat (Stands before q free D σ rest r rows′)
+        (λ a b P scope st h.
+        let cs = seen q σ P in
+        let m : length (map (matching (σ a) (σ b)) cs) ≡ length cs = length-map cs (matching (σ a) (σ b)) in
+        let same = trivial-names free D σ s args inner depth few has (q .arities) a b P at rest scope st t in
+        let w = X .is q free D σ P rest before ok few has (scope .2) (behind s at 3 (5 ∷ nameByte D a ∷ nameByte D b ∷ []) (encode D P ++ rest) st refl)
+        (offers-beneath (bodyOf (q .bodies)) calls (q .arities) free D σ s args inner depth before root at o t) (omega arith) in
+        (w .0 ∙ omega arith, rows-trivial rows′ n depth (σ a) (σ b) same before cs (w .1), λ e. rw m (w .2 e)))
+        P (sym (tag-at s at D P rest st) ∙ trivial-slots s args inner depth at t .0) scope st;
   }
 
   -- [Match]
@@ -305,7 +328,7 @@ module _ (question s : List ℕ) (root at : ℕ) (asked : Bool) (args : List ℕ
         (λ a b P scope st h.
         let cs = seen q σ P in
         let m : length (map (matching (σ a) (σ b)) cs) ≡ length cs = length-map cs (matching (σ a) (σ b)) in
-        let w = X .is q free D σ P rest [] ok few has (scope .2) (behind s at 3 (5 ∷ nameByte D a ∷ nameByte D b ∷ []) (encode D P ++ rest) st refl) (offers-alone (bodyOf (q .bodies)) calls (q .arities) free D σ s [] (at + 3)) (omega arith) in
+        let w = X .is q free D σ P rest [] ok few has (scope .2) (behind s at 3 (5 ∷ nameByte D a ∷ nameByte D b ∷ []) (encode D P ++ rest) st refl) (offers-alone (bodyOf (q .bodies)) calls (q .arities) free D σ s args inner depth [] (at + 3)) (omega arith) in
         let u : Matched (length (map (matching (σ a) (σ b)) cs)) rows′ n = rw m (w .2 refl) in
         (w .0 ∙ omega arith, behind-all before rows′ _ (rows-matching rows′ n depth (σ a) (σ b) cs (w .2 refl) (w .1)), λ e. u))
         P (sym (tag-at s at D P rest st) ∙ g) scope st;
@@ -324,7 +347,7 @@ module _ (question s : List ℕ) (root at : ℕ) (asked : Bool) (args : List ℕ
         let cs = seen q (lift σ) P in
         let d : depth + 1 ≡ 1 + depth = omega arith in
         let m = many-res (bodyOf (q .bodies)) calls (ren (lift σ) P) in
-        let w = X .is q free (1 + D) (lift σ) P rest [] ok few (slots-lift free D args inner depth σ few has) scope (behind s at 1 (8 ∷ []) (encode (1 + D) P ++ rest) st refl) (offers-alone (bodyOf (q .bodies)) calls (q .arities) free (1 + D) (lift σ) s [] (at + 1)) (omega arith) in
+        let w = X .is q free (1 + D) (lift σ) P rest [] ok few (slots-lift free D args inner depth σ few has) scope (behind s at 1 (8 ∷ []) (encode (1 + D) P ++ rest) st refl) (offers-alone (bodyOf (q .bodies)) calls (q .arities) free (1 + D) (lift σ) s args (inner + 1) (depth + 1) [] (at + 1)) (omega arith) in
         (w .0 ∙ omega arith, behind-all before rows′ _ (rows-res (bodyOf (q .bodies)) calls rows′ n depth (ren (lift σ) P) (subst (λ (d : ℕ). Rows d cs rows′ n) d (w .1))), λ e. rw m (w .2 e)))
         P (sym (tag-at s at D P rest st) ∙ g) scope st;
   }
@@ -336,8 +359,8 @@ module _ (question s : List ℕ) (root at : ℕ) (asked : Bool) (args : List ℕ
       (Y : ScanIs question s right middle asked args inner depth calls r₁ rows₁ r rows′) where
     sides : (q : Question) (free D : ℕ) (σ : ℕ → ℕ) (P Q : Term) (rest : List ℕ) (before before₁ before₂ : List Candidate) → checkOf question ≡ result q → free ≤ nameCount
         → HasSlots free D args inner depth σ → InScope free (q .arities) D P → InScope free (q .arities) D Q → drop (at + 1) s ≡ encode D P ++ (encode D Q ++ rest)
-        → Offers (bodyOf (q .bodies)) calls (q .arities) free D σ s before₁ left (at + 1)
-        → Offers (bodyOf (q .bodies)) calls (q .arities) free D σ s before₂ right middle
+        → Offers (bodyOf (q .bodies)) calls (q .arities) free D σ s args inner depth before₁ left (at + 1)
+        → Offers (bodyOf (q .bodies)) calls (q .arities) free D σ s args inner depth before₂ right middle
         → (cs : List Candidate) → length cs ≡ length (seen q σ P) + length (seen q σ Q)
         → (RowsBehind before₁ depth (seen q σ P) rows′ n → RowsBehind before₂ depth (seen q σ Q) rows′ (n + length (seen q σ P)) → RowsBehind before depth cs rows′ n)
         → n + length cs ≤ mostRows → Has before r rows′ cs
@@ -365,17 +388,17 @@ module _ (question s : List ℕ) (root at : ℕ) (asked : Bool) (args : List ℕ
           let sl = at-left D s at P Q rest 6 st in
           let m = two.middle-is question s calls numbers T at middle N q free D σ P Q rest ok (scope .0) (scope .1) sl in
           sides q free D σ P Q rest before before (before ++ seen q σ P) ok few has (scope .0) (scope .1) sl
-          (subst (λ (i : ℕ). Offers body calls (q .arities) free D σ s before i (at + 1)) (sym (begins ∙ root-choice (getD s at 0) root (at + 1) t))
-          (offers-left body calls (q .arities) free D σ s before root at o t))
-          (subst (λ (i : ℕ). Offers body calls (q .arities) free D σ s (before ++ seen q σ P) i middle) (sym (begins₂ ∙ root-choice (getD s at 0) root middle t))
-          (offers-right body calls (q .arities) free D σ s before root at o t P (encode D Q ++ rest) (scope .0) sl middle m))
+          (subst (λ (i : ℕ). Offers body calls (q .arities) free D σ s args inner depth before i (at + 1)) (sym (begins ∙ root-choice (getD s at 0) root (at + 1) t))
+          (offers-left body calls (q .arities) free D σ s args inner depth before root at o t))
+          (subst (λ (i : ℕ). Offers body calls (q .arities) free D σ s args inner depth (before ++ seen q σ P) i middle) (sym (begins₂ ∙ root-choice (getD s at 0) root middle t))
+          (offers-right body calls (q .arities) free D σ s args inner depth few has before root at o t P (encode D Q ++ rest) (scope .0) sl middle m))
           _ (many-sum body calls (ren σ P) (ren σ Q)) (rows-sum body calls rows′ n depth before (ren σ P) (ren σ Q)))
           (λ P Q t scope st.
           sides q free D σ P Q rest before [] [] ok few has (scope .0) (scope .1) (at-left D s at P Q rest 7 st)
-          (subst (λ (i : ℕ). Offers body calls (q .arities) free D σ s [] i (at + 1)) (sym (begins ∙ root-other (getD s at 0) root (at + 1) (λ z. omega arith)))
-          (offers-alone body calls (q .arities) free D σ s [] (at + 1)))
-          (subst (λ (i : ℕ). Offers body calls (q .arities) free D σ s [] i middle) (sym (begins₂ ∙ root-other (getD s at 0) root middle (λ z. omega arith)))
-          (offers-alone body calls (q .arities) free D σ s [] middle))
+          (subst (λ (i : ℕ). Offers body calls (q .arities) free D σ s args inner depth [] i (at + 1)) (sym (begins ∙ root-other (getD s at 0) root (at + 1) (λ z. omega arith)))
+          (offers-alone body calls (q .arities) free D σ s args inner depth [] (at + 1)))
+          (subst (λ (i : ℕ). Offers body calls (q .arities) free D σ s args inner depth [] i middle) (sym (begins₂ ∙ root-other (getD s at 0) root middle (λ z. omega arith)))
+          (offers-alone body calls (q .arities) free D σ s args inner depth [] middle))
           _ (many-par body calls (ren σ P) (ren σ Q)) (λ f g. behind-all before rows′ _ (rows-par body calls rows′ n depth (ren σ P) (ren σ Q) f g)))
           P (omega arith) (omega arith) k scope st;
     }
@@ -425,6 +448,6 @@ module _ (question s : List ℕ) (root at : ℕ) (asked : Bool) (args : List ℕ
           let w = X .is q 0 m (params σ xs) (body k) [] [] ok (omega arith) (slots-call free D args inner depth σ few has s (at + 2) xs rest m given names st e G)
           (subst (λ (n : ℕ). InScope 0 (q .arities) n (body k)) (sym a) (body-scope question q ok k))
           (B .is q ok j ∙ ap (λ (n : ℕ). encode n (body k)) (sym a) ∙ sym (append-nil (encode m (body k))))
-          (offers-alone body (calls - 1) (q .arities) 0 m (params σ xs) bytes [] 0) h in
+          (offers-alone body (calls - 1) (q .arities) 0 m (params σ xs) bytes given 0 depth [] 0) h in
           (w .0, behind-all before rows′ _ (w .1), w .2)));
     }

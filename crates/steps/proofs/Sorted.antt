@@ -1,18 +1,21 @@
 -- Steps put into a list by their bytes: the list ascends, and holds what was put in and no more. Assumes nothing.
 use mathlib.Core.List.{List, [], _∷_}
-use mathlib.Core.Logic.{inl, inr}
+use mathlib.Core.Logic.{_⊎_, inl, inr}
 use mathlib.Core.Path.{_≡_, refl, sym, _∙_, ap, subst}
 use native.Mathlib.Omega.{arith}
 use Prim.Native.Nat.{ℕ, Ordering, Ordering·lt, Ordering·eq, Ordering·gt}
 use Rattle.calculus.specs.Abstraction.{Act}
 use Rattle.calculus.specs.Term.{Term}
 use Rattle.calculus.specs.Cond.{Cond}
+use Rattle.steps.specs.Deciding.{decided, Again}
 use Rattle.steps.specs.Derived.{Ascending}
 use Rattle.steps.specs.Raw.{Candidate, step, blocked}
 use Rattle.steps.specs.Listed.{ListedStep, canonStep, bytes}
 use Rattle.steps.specs.Listing.{order, insert, collect}
-use Rattle.steps.specs.Lists.{_∈_, Among, All}
+use Rattle.steps.specs.Lists.{_∈_, All}
+use Rattle.steps.proofs.DecidingLaws.{like-of, like-listed, outside-blocked}
 use Rattle.steps.proofs.Membership.{all-imp, all-∈}
+use Rattle.steps.proofs.Premises.{never}
 use Rattle.steps.proofs.ByteOrder.{Before, Says, ordered, before-irreflexive, before-trans, before-order, order-before}
 
 module _ (longest : ℕ) where
@@ -169,10 +172,15 @@ module _ (names longest x : ℕ) where
       ∙ there ds found a (λ c m. h c (inr m))
   there (blocked ∷ ds) found a h = there ds found a (λ c m. h c (inr m))
 
-  pub collect-there : (cs ds : List Candidate) (found : List ListedStep) → Sorted longest found → Among ds cs
+  pub collect-there : (cs ds : List Candidate) (found : List ListedStep) → Sorted longest found → ((c : Candidate) → c ∈ ds → Again 0 c cs)
       → collect names longest x ds (collect names longest x cs found) ≡ collect names longest x cs found
-  collect-there cs ds found a h = there ds (collect names longest x cs found) (collect-sorted cs found a) go
+  unfolding Again
+  collect-there cs ds found a h = there ds (collect names longest x cs found) (collect-sorted cs found a) (λ c m. go c (h c m))
     where
-      go : (c : Candidate) → c ∈ ds → OfCandidate (λ s. HasBytes longest s (collect names longest x cs found)) c
-      go (step M α P) m = collect-new cs found M α P (h (step M α P) m)
-      go blocked m = tt
+      go : (c : Candidate) → (decided 0 c ≡ blocked) ⊎ ((b : Candidate) × (b ∈ cs) × (decided 0 c ≡ decided 0 b)) → OfCandidate (λ s. HasBytes longest s (collect names longest x cs found)) c
+      go (step M α P) (inl e) = never M α P (sym (outside-blocked (step M α P) e))
+      go (step M α P) (inr (b, m, e)) =
+          let l = like-of b M α P (sym e) in
+          subst (λ s. HasBytes longest s (collect names longest x cs found)) (like-listed names x (l .condition) M (l .same) α P)
+          (collect-new cs found (l .condition) α P (subst (λ c. c ∈ cs) (l .is) m))
+      go blocked h = tt

@@ -114,7 +114,7 @@ module _ (question part : List ℕ) (at depth number x : ℕ) (rows : List ℕ) 
           let s : n + length (visible body 1 (ren (λ n. n) C)) ≤ mostRows
           → (last ≡ n + length (visible body 1 (ren (λ n. n) C))) × Rows depth (visible body 1 (ren (λ n. n) C)) rows′ n =
           λ h. let r = scan .is q nameCount depth (λ n. n) C _ [] (l .accepted) (omega arith) (slots-part depth args) (p .scope) (placed-bytes l p)
-          (offers-alone body 1 (q .arities) nameCount depth (λ n. n) part [] at) h in
+          (offers-alone body 1 (q .arities) nameCount depth (λ n. n) part args depth depth [] at) h in
           (r .0, r .1) in
           subst (λ (Q : Term). n + length (visible body 1 Q) ≤ mostRows → (last ≡ n + length (visible body 1 Q)) × Rows depth (visible body 1 Q) rows′ n)
           (ren-id C) s (rows-room question part x q P l K C at depth n number p)

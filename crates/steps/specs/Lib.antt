@@ -4,6 +4,7 @@ pub mod Branching
 pub mod Collecting
 pub mod Conditions
 pub mod Contexts
+pub mod Deciding
 pub mod Derived
 pub mod Entries
 pub mod EntryBytes

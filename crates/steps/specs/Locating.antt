@@ -2,7 +2,7 @@
 -- the part: what the functions that do so promise.
 use mathlib.Core.Path.{_≡_}
 use mathlib.Core.Bool.{cond}
-use mathlib.Core.List.{List, [], _++_}
+use mathlib.Core.List.{List, _++_}
 use Prim.Native.Nat.{ℕ, _+_, _<_, _≤_}
 use lib.Dec.{leb}
 use lib.ListN.{length, getD, drop}
@@ -119,8 +119,8 @@ pub record TakeMetIs (question part : List ℕ) (at depth v w object : ℕ) (are
       → Placed (q .arities) (bodyOf (q .bodies)) P K (par L R) at depth first number
       → v < length (visible (bodyOf (q .bodies)) 1 L)
       → w < length (visible (bodyOf (q .bodies)) 1 R)
-      → (α : Act) (A : Term) → getD (visible (bodyOf (q .bodies)) 1 L) v blocked ≡ step [] α A → Unextruded α
-      → (β : Act) (B : Term) → getD (visible (bodyOf (q .bodies)) 1 R) w blocked ≡ step [] β B → Unextruded β
+      → (M₁ : Cond) (α : Act) (A : Term) → getD (visible (bodyOf (q .bodies)) 1 L) v blocked ≡ step M₁ α A → Unextruded α
+      → (M₂ : Cond) (β : Act) (B : Term) → getD (visible (bodyOf (q .bodies)) 1 R) w blocked ≡ step M₂ β B → Unextruded β
       → (y : ℕ) → slotOf nameCount depth y ≡ object → y < depth + nameCount
       → (N M : Cond) (W : Term)
       → raised K (step N tauA (par (ren (receiving y (λ n. n) α) A) (ren (receiving y (λ n. n) β) B))) ≡ step M tauA W → Trivial M

@@ -10,6 +10,7 @@ use Rattle.terms.specs.Limits.{nameCount}
 use Rattle.terms.specs.Question.{Question}
 use Rattle.steps.specs.Collecting.{PutIs, CollectIs}
 use Rattle.steps.specs.Contexts.{Frame, raised, Placed}
+use Rattle.steps.specs.Deciding.{decided}
 use Rattle.steps.specs.Listing.{bodyOf}
 use Rattle.steps.specs.PartLister.{Lists}
 use Rattle.steps.specs.Raw.{Candidate, blocked, communication, visible, silent}
@@ -31,7 +32,7 @@ unfoldable pub isBetween : (c low high : ℕ) → Bool
 isBetween c low high = cond (ltb c low) false (leb c high)
 
 -- Two rows, the second by kind and channel, the first by kind and those channels: one receives, the other sends, and the channels may be merged.
--- A row whose candidate is equal to an earlier one meets no other.
+-- A row whose candidate adds no step meets no other.
 unfoldable pub meetsBetween : (k₁ low high k₂ c₂ : ℕ) → Bool
 meetsBetween k₁ low high k₂ c₂ =
     cond (eqb k₂ 4) false
@@ -67,8 +68,8 @@ pub record PairIs (question part : List ℕ) (at depth number : ℕ) (a b : Side
       → (s t : Candidate)
       → a .number < length (visible (bodyOf (q .bodies)) 1 L) → s ≡ getD (visible (bodyOf (q .bodies)) 1 L) (a .number) blocked
       → b .number < length (visible (bodyOf (q .bodies)) 1 R) → t ≡ getD (visible (bodyOf (q .bodies)) 1 R) (b .number) blocked
-      → Unblocked depth s (a .kind) (a .channel) (a .object)
-      → Outlined depth t (b .kind) (b .channel) (b .object)
+      → Unblocked depth (decided depth s) (a .kind) (a .channel) (a .object)
+      → Outlined depth (decided depth t) (b .kind) (b .channel) (b .object)
       → mayMeet (a .kind) (a .channel) (b .kind) (b .channel) ≡ true
       → j < length (silent (bodyOf (q .bodies)) 1 (par L R))
       → getD (silent (bodyOf (q .bodies)) 1 (par L R)) j blocked ≡ communication s t
@@ -79,7 +80,7 @@ unfoldable pub SamePairIs : (question part : List ℕ) (at depth : ℕ) (a b : S
 SamePairIs question part at depth a b j x area count r area′ = (number : ℕ) → PairIs question part at depth number a b j x area count r area′
 
 -- The communications of s, the left side's visible candidate number `left`, whose row has this number, with the right side's visible candidates,
--- whose rows are those from `middle` up to `last`; j is the number of the first. An s that is equal to an earlier candidate is passed over.
+-- whose rows are those from `middle` up to `last`; j is the number of the first. An s that adds no step is passed over.
 pub record MeetRowIs (question part : List ℕ) (at depth number x : ℕ) (rows : List ℕ) (row left middle last j : ℕ) (area : List ℕ) (count r : ℕ) (area′ : List ℕ) : Type 0 where
   pub is : (q : Question) (P : Term) → Lists question part x q P
       → (K : List Frame) (L R : Term) (first : ℕ)

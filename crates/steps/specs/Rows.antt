@@ -1,12 +1,13 @@
 -- The visible candidates of a term in a table, four bytes for each: what it does, its channel and its object; the fourth byte is not used. Names
--- stand by their slots (Slots), which do not move when a restriction is left: so a row serves beneath a restriction and outside it.
+-- stand by their slots (Slots), which do not move when a restriction is left: so a row serves beneath a restriction and outside it. For the same
+-- reason a match of a name with itself, and one of a restricted name with another, are decided before a row is put (Deciding).
 use mathlib.Core.Path.{_≡_}
-use mathlib.Core.Bool.{Bool, true, cond, _&&_}
+use mathlib.Core.Bool.{Bool, true, false, cond, _&&_}
 use mathlib.Core.List.{List, [], _∷_, _++_}
 use mathlib.Core.Logic.{_⊎_}
 use Prim.Native.Nat.{ℕ, _+_, _-_, _*_, _<_, _≤_}
 use lib.ListN.{length, getD, take, drop}
-use lib.Dec.{eqb, ltb}
+use lib.Dec.{eqb, ltb, leb}
 use Rattle.calculus.specs.Abstraction.{Act, tauA}
 use Rattle.calculus.specs.Cond.{Cond}
 use Rattle.calculus.specs.Term.{Term, ren}
@@ -14,9 +15,10 @@ use Rattle.terms.specs.Answer.{result}
 use Rattle.terms.specs.Encoding.{encode, InScope}
 use Rattle.terms.specs.Limits.{nameCount}
 use Rattle.terms.specs.Question.{Question, checkOf}
+use Rattle.steps.specs.Deciding.{decided, Again}
 use Rattle.steps.specs.LabelWalk.{slotAt, HasSlots}
 use Rattle.steps.specs.Labels.{actionOf, ActionBelow}
-use Rattle.steps.specs.Lists.{_∈_, Among}
+use Rattle.steps.specs.Lists.{_∈_}
 use Rattle.steps.specs.Listing.{bodyOf}
 use Rattle.steps.specs.Raw.{Candidate, step, blocked, visible, silent}
 use Rattle.steps.specs.Tally.{endAt}
@@ -30,8 +32,8 @@ rowBytes = 4
 abbrev pub mostRows : ℕ
 mostRows = 1056
 
--- The kind is 1 for an input, 2 for an output, 3 for a new-name output, and 4 more for a candidate beneath a match, whose condition the row does not
--- say. It is 4 where an equal candidate comes earlier, which has the row that counts.
+-- The kind is 1 for an input, 2 for an output, 3 for a new-name output, and 4 more for a candidate beneath a match of two free names, whose condition
+-- the row does not say. It is 4 for a candidate that adds no step: an equal one comes earlier, which has the row that counts, or a match fails.
 unfoldable pub kindAt : List ℕ → ℕ → ℕ
 kindAt rows i = getD rows (rowBytes * i) 0
 
@@ -66,20 +68,21 @@ pub record Outlined (d : ℕ) (c : Candidate) (kind channel object : ℕ) : Type
   pub inner : nameCount + d ≤ channel → c ≡ blocked
   pub acts : channel < nameCount + d → ((3 < kind) × (c ≡ blocked)) ⊎ Does d kind channel object c
 
+-- What the row says holds once the matches that can be are decided.
 unfoldable pub Row : ℕ → Candidate → List ℕ → ℕ → Type 0
-Row d c rows i = (kindAt rows i ≡ 4 → ⊥) → Outlined d c (kindAt rows i) (channelAt rows i) (objectAt rows i)
+Row d c rows i = (kindAt rows i ≡ 4 → ⊥) → Outlined d (decided d c) (kindAt rows i) (channelAt rows i) (objectAt rows i)
 
 -- The candidates cs, under d restrictions, are in the rows from number n on; those of `before` come before them. A row of kind 4 has a candidate that
--- is one of these or of the earlier ones of cs.
+-- adds no step to these and the earlier ones of cs.
 unfoldable pub RowsBehind : List Candidate → ℕ → List Candidate → List ℕ → ℕ → Type 0
 RowsBehind before d cs rows n =
     (j : ℕ) → j < length cs
-    → Row d (getD cs j blocked) rows (n + j) × (kindAt rows (n + j) ≡ 4 → getD cs j blocked ∈ (before ++ take j cs))
+    → Row d (getD cs j blocked) rows (n + j) × (kindAt rows (n + j) ≡ 4 → Again d (getD cs j blocked) (before ++ take j cs))
 
 abbrev pub Rows : ℕ → List Candidate → List ℕ → ℕ → Type 0
 Rows = RowsBehind []
 
--- So many rows from number n on are of candidates beneath a match, or equal to earlier ones.
+-- So many rows from number n on are of candidates beneath a match, or of such that add no step.
 unfoldable pub Matched : ℕ → List ℕ → ℕ → Type 0
 Matched count rows n = (j : ℕ) → j < count → 3 < kindAt rows (n + j)
 
@@ -113,19 +116,34 @@ prefixKind t asked = cond asked (t + 3) (t - 1)
 abbrev pub PrefixRowIs : List ℕ → ℕ → Bool → List ℕ → ℕ → ℕ → ℕ → List ℕ → ℕ → List ℕ → Type 0
 PrefixRowIs s at asked args inner depth = PutRowIs (prefixKind (getD s at 0) asked) (slotAt args inner depth (getD s (at + 1) 0)) (sentSlot s at args inner depth)
 
--- What stands in a choice before one of its branches: bytes 06, and branches.
+-- At p stands a match of a name with itself, by the slots of its names,
+unfoldable pub isTrivial : (s args : List ℕ) (inner depth p : ℕ) → Bool
+isTrivial s args inner depth p =
+    cond (eqb (getD s p 0) 5) (eqb (slotAt args inner depth (getD s (p + 1) 0)) (slotAt args inner depth (getD s (p + 2) 0))) false
+
+-- or one of a restricted name with another.
+unfoldable pub isFailing : (s args : List ℕ) (inner depth p : ℕ) → Bool
+isFailing s args inner depth p =
+    let u = slotAt args inner depth (getD s (p + 1) 0) in
+    let v = slotAt args inner depth (getD s (p + 2) 0) in
+    cond (eqb (getD s p 0) 5) (cond (eqb u v) false (cond (leb nameCount u) true (leb nameCount v))) false
+
+-- What stands in a choice before one of its branches: bytes 06, matches of a name with itself, and branches.
 pub data Piece : Type 0 where
   plus : Piece
+  match : Piece
   branch : Term → Piece
 
-module _ (body : ℕ → Term) (calls : ℕ) (arities : List ℕ) (free D : ℕ) (σ : ℕ → ℕ) (s : List ℕ) (before : List Candidate) where
-  -- The pieces from p up to `at`: the visible candidates of each branch are among those of `before`.
+module _ (body : ℕ → Term) (calls : ℕ) (arities : List ℕ) (free D : ℕ) (σ : ℕ → ℕ) (s args : List ℕ) (inner depth : ℕ) (before : List Candidate) where
+  -- The pieces from p up to `at`: the visible candidates of each branch add no step to those of `before`.
   unfoldable pub Pieces : (p at : ℕ) → List Piece → Type 0
   Pieces p at [] = p ≡ at
   Pieces p at (plus ∷ l) = (getD s p 0 ≡ 6) × Pieces (p + 1) at l
+  Pieces p at (match ∷ l) = (isTrivial s args inner depth p ≡ true) × Pieces (p + 3) at l
   Pieces p at (branch B ∷ l) =
-      (getD s p 0 ≡ 6 → ⊥) × InScope free arities D B × ((rest : List ℕ) × (drop p s ≡ encode D B ++ rest))
-      × Among (visible body calls (ren σ B)) before × Pieces (p + length (encode D B)) at l
+      (getD s p 0 ≡ 6 → ⊥) × (isTrivial s args inner depth p ≡ false) × InScope free arities D B
+      × ((rest : List ℕ) × (drop p s ≡ encode D B ++ rest))
+      × ((c : Candidate) → c ∈ visible body calls (ren σ B) → Again depth c before) × Pieces (p + length (encode D B)) at l
 
   -- The choice that begins at `root` has the term at `at` for a branch, and those of `before` come before it.
   abbrev pub Offers : (root at : ℕ) → Type 0
@@ -136,23 +154,25 @@ unfoldable pub rootOf : (t root at : ℕ) → ℕ
 rootOf t root at = cond (eqb t 6) root at
 
 -- The place behind the piece at p, by the tally t.
-unfoldable pub behindPiece : List ℕ → List ℕ → ℕ → ℕ
-behindPiece s t p = cond (eqb (getD s p 0) 6) (p + 1) (endAt t p)
+unfoldable pub behindPiece : (s t args : List ℕ) (inner depth p : ℕ) → ℕ
+behindPiece s t args inner depth p = cond (eqb (getD s p 0) 6) (p + 1) (cond (isTrivial s args inner depth p) (p + 3) (endAt t p))
 
--- Whether the term at `at` is known to stand earlier in its choice: then its visible candidates come before it.
-pub record RepeatedIs (question s : List ℕ) (root at : ℕ) (r : Bool) : Type 0 where
+-- Whether the term at `at`, no match of a name with itself, is known to add no step to its choice: a match that fails, or one that stands earlier.
+pub record RepeatedIs (question s args : List ℕ) (inner depth root at : ℕ) (r : Bool) : Type 0 where
   pub is : (q : Question) (calls free D : ℕ) (σ : ℕ → ℕ) (P : Term) (rest : List ℕ) (before : List Candidate)
       → r ≡ true
       → checkOf question ≡ result q
       → free ≤ nameCount
+      → HasSlots free D args inner depth σ
       → InScope free (q .arities) D P
       → drop at s ≡ encode D P ++ rest
       → (getD s at 0 ≡ 6 → ⊥)
-      → Offers (bodyOf (q .bodies)) calls (q .arities) free D σ s before root at
-      → Among (visible (bodyOf (q .bodies)) calls (ren σ P)) before
+      → isTrivial s args inner depth at ≡ false
+      → Offers (bodyOf (q .bodies)) calls (q .arities) free D σ s args inner depth before root at
+      → (c : Candidate) → c ∈ visible (bodyOf (q .bodies)) calls (ren σ P) → Again depth c before
 
 -- The visible candidates of the term at `at` are put into the rows from number n on, while there is room; the answer is the number behind the last,
--- or one past the last row. Beneath a match, where `asked`, the rows say so. The term is `ren σ P`, as in LabelWalk, and stands in the choice that
+-- or one past the last row. Beneath a match of free names, where `asked`, the rows say so. The term is `ren σ P`, as in LabelWalk, and stands in the choice that
 -- begins at `root`.
 pub record ScanIs (question s : List ℕ) (root at : ℕ) (asked : Bool) (args : List ℕ) (inner depth calls n : ℕ) (rows : List ℕ) (r : ℕ) (rows′ : List ℕ) : Type 0 where
   pub on : n ≤ r
@@ -164,7 +184,7 @@ pub record ScanIs (question s : List ℕ) (root at : ℕ) (asked : Bool) (args :
       → HasSlots free D args inner depth σ
       → InScope free (q .arities) D P
       → drop at s ≡ encode D P ++ rest
-      → Offers (bodyOf (q .bodies)) calls (q .arities) free D σ s before root at
+      → Offers (bodyOf (q .bodies)) calls (q .arities) free D σ s args inner depth before root at
       → n + length (visible (bodyOf (q .bodies)) calls (ren σ P)) ≤ mostRows
       → (r ≡ n + length (visible (bodyOf (q .bodies)) calls (ren σ P)))
       × RowsBehind before depth (visible (bodyOf (q .bodies)) calls (ren σ P)) rows′ n

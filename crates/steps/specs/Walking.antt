@@ -135,8 +135,8 @@ rowOpens kind object = eqb kind 2 && leb nameCount object
 unfoldable pub rowObject : ℕ → ℕ → ℕ → ℕ
 rowObject kind object x = cond (eqb kind 2) object x
 
--- The visible candidate number j of the term at `at`, put into the list by its row; the term's rows are those from `first` on. One that is equal to
--- an earlier candidate is passed over.
+-- The visible candidate number j of the term at `at`, put into the list by its row; the term's rows are those from `first` on. One that adds no
+-- step is passed over.
 pub record TakeRowIs (question part : List ℕ) (at depth : ℕ) (rows : List ℕ) (first j x : ℕ) (area : List ℕ) (count r : ℕ) (area′ : List ℕ) : Type 0 where
   pub is : (q : Question) (P : Term) → Lists question part x q P
       → (K : List Frame) (C : Term) (number : ℕ)

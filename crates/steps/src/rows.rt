@@ -6,7 +6,7 @@ ghost use Prim.Native.Nat.{ℕ, _+_, _*_, _≤_, _<_};
 ghost use lib.ListN.{length, getD};
 ghost use Rattle.terms.specs.Limits.{nameCount, longestTerm};
 ghost use Rattle.steps.specs.LabelWalk.{Within};
-ghost use Rattle.steps.specs.Rows.{rowBytes, mostRows, PutRowIs, prefixKind, PrefixRowIs, PutRepeatedIs, rootOf, behindPiece, RepeatedIs, ScanIs, QuietIs};
+ghost use Rattle.steps.specs.Rows.{rowBytes, mostRows, PutRowIs, prefixKind, PrefixRowIs, PutRepeatedIs, rootOf, isTrivial, isFailing, behindPiece, RepeatedIs, ScanIs, QuietIs};
 ghost use Rattle.steps.specs.Slots.{slotCount};
 ghost use Rattle.steps.specs.Tally.{EndsInside, TallyIs, EndsTallied, BodiesTallied};
 use crate::bodies::body_of;
@@ -20,18 +20,21 @@ use crate::tally::end_at;
 use crate::tally::silent_at;
 use crate::tally::visible_at;
 use terms::bytes::get;
+use terms::limits::NAME_COUNT;
 
-// What a candidate does (1 input, 2 output, 3 new-name output; 4 more beneath a match; 4 equal to an earlier one), its channel and its object; the
-// fourth byte is not used.
+// What a candidate does (1 input, 2 output, 3 new-name output; 4 more beneath a match of free names; 4 if it adds no step), its channel and its
+// object; the fourth byte is not used.
 pub const ROW_BYTES: usize = 4;
 
-// The kind of a row whose candidate is equal to an earlier one.
+// The kind of a row whose candidate adds no step: it is equal to an earlier one, or beneath a match that fails.
 pub const REPEATED: u8 = 4;
 
-// Added to the kind of a row whose candidate stands beneath a match: the row does not say its condition.
+// Added to the kind of a row whose candidate stands beneath a match of two free names: the row does not say its condition.
 pub const MATCHED: u8 = 4;
 
-// The byte of a choice.
+// The bytes of a match and of a choice.
+const MATCH: u8 = 5;
+
 const CHOICE: u8 = 6;
 
 // No part has more visible candidates.
@@ -55,7 +58,7 @@ fn put_row(rows: &mut [u8], n: usize, kind: u8, channel: u8, object: u8) -> usiz
     n + 1
 }
 
-// Puts so many rows of candidates that are equal to earlier ones.
+// Puts so many rows of candidates that add no step.
 fn put_repeated(rows: &mut [u8], n: usize, count: usize) -> usize
     requires { ⌜ (n ≤ mostRows + 1) × (rowBytes * mostRows ≤ length (now rows)) ⌝ }
     ensures { λ r. ⌜ PutRepeatedIs count n (now (rows .entry)) r (now (rows .exit)) ⌝ }
@@ -114,21 +117,72 @@ fn root_of(t: u8, root: usize, at: usize) -> usize
     at
 }
 
-// The place behind the piece of a choice at `p`: a byte 06 or a branch.
-fn behind_piece(src: &[u8], tally: &[u32], p: usize) -> usize
-    requires { ⌜ p < length (now src) ⌝ }
-    ensures { λ r. ⌜ r ≡ behindPiece (now (src .entry)) (now (tally .entry)) p ⌝ }
+// Whether a match of a name with itself stands at `at`: it asks nothing.
+fn is_trivial(src: &[u8], at: usize, args: &[u8], inner: usize, depth: usize) -> bool
+    requires { ⌜ (at < length (now src)) × (inner ≤ depth) × (nameCount + depth ≤ slotCount) ⌝ }
+    ensures { λ r. ⌜ r ≡ isTrivial (now (src .entry)) (now (args .entry)) inner depth at ⌝ }
+{
+    if src[at] != MATCH {
+        return false;
+    }
+    let u = slot(get(src, at + 1), args, inner, depth);
+    let v = slot(get(src, at + 2), args, inner, depth);
+    u == v
+}
+
+// Whether a match of a restricted name with another stands at `at`: the restriction blocks every candidate beneath it, and every communication with
+// one.
+fn is_failing(src: &[u8], at: usize, args: &[u8], inner: usize, depth: usize) -> bool
+    requires { ⌜ (at < length (now src)) × (inner ≤ depth) × (nameCount + depth ≤ slotCount) ⌝ }
+    ensures { λ r. ⌜ r ≡ isFailing (now (src .entry)) (now (args .entry)) inner depth at ⌝ }
+{
+    if src[at] != MATCH {
+        return false;
+    }
+    let u = slot(get(src, at + 1), args, inner, depth);
+    let v = slot(get(src, at + 2), args, inner, depth);
+    if u == v {
+        return false;
+    }
+    if NAME_COUNT <= u as usize {
+        return true;
+    }
+    NAME_COUNT <= v as usize
+}
+
+// The place behind the piece of a choice at `p`: a byte 06, a match of a name with itself, or a branch.
+fn behind_piece(
+    src: &[u8],
+    tally: &[u32],
+    args: &[u8],
+    inner: usize,
+    depth: usize,
+    p: usize,
+) -> usize
+    requires { ⌜ (p < length (now src)) × (inner ≤ depth) × (nameCount + depth ≤ slotCount) ⌝ }
+    ensures { λ r. ⌜ r ≡ behindPiece (now (src .entry)) (now (tally .entry)) (now (args .entry)) inner depth p ⌝ }
 {
     if src[p] == CHOICE {
         return p + 1;
+    }
+    if is_trivial(src, p, args, inner, depth) {
+        return p + 3;
     }
     end_at(tally, p)
 }
 
 // Whether the term at `at` is equal to an earlier branch of its choice, which begins at `root`: by their bytes.
-fn is_repeated(src: &[u8], tally: &[u32], root: usize, at: usize) -> bool
-    requires { ⌜ (at < length (now src)) × EndsInside (now src) (now tally) ⌝ }
-    ensures { λ r. ⌜ ((question : List ℕ) → EndsTallied question (now (src .entry)) (now (tally .entry)) → RepeatedIs question (now (src .entry)) root at r) ⌝ }
+fn is_repeated(
+    src: &[u8],
+    tally: &[u32],
+    root: usize,
+    at: usize,
+    args: &[u8],
+    inner: usize,
+    depth: usize,
+) -> bool
+    requires { ⌜ (at < length (now src)) × EndsInside (now src) (now tally) × (inner ≤ depth) × (nameCount + depth ≤ slotCount) ⌝ }
+    ensures { λ r. ⌜ ((question : List ℕ) → EndsTallied question (now (src .entry)) (now (tally .entry)) → RepeatedIs question (now (src .entry)) (now (args .entry)) inner depth root at r) ⌝ }
 {
     let t = src[at];
     let n = end_at(tally, at) - at;
@@ -140,9 +194,28 @@ fn is_repeated(src: &[u8], tally: &[u32], root: usize, at: usize) -> bool
                 return true;
             }
         }
-        p = behind_piece(src, tally, p);
+        p = behind_piece(src, tally, args, inner, depth, p);
     }
     false
+}
+
+// Whether the candidates of the term at `at` add no step: it is a match that fails, or equal to an earlier branch of its choice.
+fn adds_nothing(
+    src: &[u8],
+    tally: &[u32],
+    root: usize,
+    at: usize,
+    args: &[u8],
+    inner: usize,
+    depth: usize,
+) -> bool
+    requires { ⌜ (at < length (now src)) × EndsInside (now src) (now tally) × (inner ≤ depth) × (nameCount + depth ≤ slotCount) ⌝ }
+    ensures { λ r. ⌜ ((question : List ℕ) → EndsTallied question (now (src .entry)) (now (tally .entry)) → RepeatedIs question (now (src .entry)) (now (args .entry)) inner depth root at r) ⌝ }
+{
+    if is_failing(src, at, args, inner, depth) {
+        return true;
+    }
+    is_repeated(src, tally, root, at, args, inner, depth)
 }
 
 // The call at `at`: the rows of the body, while calls are left to open.
@@ -191,7 +264,7 @@ fn scan_call(
 
 // Puts the visible candidates of the term at `at` into the rows from number `n` on, and answers the number behind the last. The term stands beneath
 // `inner` restrictions of these bytes and `depth` in all, in the choice that begins at `root`; `args` has the slots of the parameters. Beneath a
-// match, where `asked`, the rows say so.
+// match of two free names, where `asked`, the rows say so; one of a name with itself is passed by.
 pub fn scan(
     question: &[u8],
     bodies: &[u32],
@@ -217,15 +290,32 @@ pub fn scan(
     if t < 2 {
         return n;
     }
+    if is_trivial(src, at, args, inner, depth) {
+        return scan(
+            question,
+            bodies,
+            src,
+            tally,
+            root,
+            at + 3,
+            asked,
+            args,
+            inner,
+            depth,
+            calls,
+            rows,
+            n,
+        );
+    }
     if t != CHOICE {
-        if is_repeated(src, tally, root, at) {
+        if adds_nothing(src, tally, root, at, args, inner, depth) {
             return put_repeated(rows, n, visible_at(tally, at));
         }
     }
     if t < 5 {
         return scan_prefix(src, at, asked, args, inner, depth, rows, n);
     }
-    if t == 5 {
+    if t == MATCH {
         return scan(
             question,
             bodies,

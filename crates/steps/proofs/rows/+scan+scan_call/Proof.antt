@@ -1,12 +1,12 @@
 -- `steps::rows::scan` and `scan_call` meet their contracts. The measure: the bytes left, and 113 for each call that may be opened. Assumes nothing.
-use mathlib.Core.Path.{refl, ap, subst}
+use mathlib.Core.Path.{refl, sym, ap, subst, _∙_}
 use native.Mathlib.Omega.{arith}
 use lib.ListN.{length}
 use borrow.Author.Needs.{needs}
 use borrow.Author.Tests.{not-true, not-false}
 use Rattle.terms.specs.Limits.{longestTerm}
 use Rattle.steps.proofs.LabelWalks.{weight-on, weight-part, weight-body, room-on, room-under, room-body}
-use Rattle.steps.proofs.RowWalks.{scan-none, scan-idle, scan-again, scan-prefix, scan-mat, scan-res, scan-two, scan-closed, scan-cut, scan-called}
+use Rattle.steps.proofs.RowWalks.{scan-none, scan-idle, scan-again, scan-trivial, scan-prefix, scan-mat, scan-res, scan-two, scan-closed, scan-cut, scan-called}
 use Rattle.steps.proofs.TallyLoops.{called-tally}
 use Rattle.steps.proofs.TwoSides.{middle-on}
 use Prim.Native.Nat.{ℕ, _+_, _-_, _*_, _<_, _≤_}
@@ -24,7 +24,8 @@ use Rattle.steps.proofs.bodies.body_of.Reads as body-of-reads
 use Rattle.steps.proofs.bodies.call_at.Reads as call-at-reads
 use Rattle.steps.proofs.label.arguments.Reads as arguments-reads
 use Rattle.steps.proofs.pass.middle_of.Reads as middle-of-reads
-use Rattle.steps.proofs.rows.is_repeated.Reads as is-repeated-reads
+use Rattle.steps.proofs.rows.adds_nothing.Reads as adds-nothing-reads
+use Rattle.steps.proofs.rows.is_trivial.Reads as is-trivial-reads
 use Rattle.steps.proofs.rows.put_repeated.Reads as put-repeated-reads
 use Rattle.steps.proofs.rows.root_of.Reads as root-of-reads
 use Rattle.steps.proofs.rows.scan_prefix.Reads as scan-prefix-reads
@@ -53,7 +54,7 @@ scan-call-below t =
     and 5 scan-call-kinds.ps (falls 5 scan-call-kinds.ps _<_ μ-scan-call t) scan-call.Pre
 
 abbrev scan-claims : ℕ → scan-lts.Claims
-scan-claims t = (is-repeated-reads.Asked, is-repeated-reads.Learnt, visible-at-reads.Asked, visible-at-reads.Learnt, put-repeated-reads.Asked, put-repeated-reads.Learnt, scan-prefix-reads.Asked, scan-prefix-reads.Learnt, scan-below t, scan.Post, scan-call-below t, scan-call.Post, middle-of-reads.Asked, middle-of-reads.Learnt, root-of-reads.Asked, root-of-reads.Learnt)
+scan-claims t = (is-trivial-reads.Asked, is-trivial-reads.Learnt, scan-below t, scan.Post, adds-nothing-reads.Asked, adds-nothing-reads.Learnt, visible-at-reads.Asked, visible-at-reads.Learnt, put-repeated-reads.Asked, put-repeated-reads.Learnt, scan-prefix-reads.Asked, scan-prefix-reads.Learnt, scan-call-below t, scan-call.Post, middle-of-reads.Asked, middle-of-reads.Learnt, root-of-reads.Asked, root-of-reads.Learnt)
 
 abbrev scan-call-claims : ℕ → scan-call-lts.Claims
 scan-call-claims t = (call-at-reads.Asked, call-at-reads.Learnt, arguments-reads.Asked, arguments-reads.Learnt, body-of-reads.Asked, body-of-reads.Learnt, body-tally-reads.Asked, body-tally-reads.Learnt, scan-below t, scan.Post)
@@ -67,101 +68,116 @@ scan-shared-slice-read-t t c = search needs
 scan-returns-2 : (t : ℕ) → scan-lts.Need-returns-2 (scan-claims t) (scan-at t) scan.Post
 scan-returns-2 t c = let a = c .before .before .before .before .before .before .before .before .before .args in let p = c .before .before .before .before .before .before .before .before .before .pre in scan-idle (a .question .now) (a .src .now) (a .root) (a .at) (a .asked) (a .args .now) (a .inner) (a .depth) (a .calls) (a .n) (a .rows .now) (p .1 .3) (c .if2 .taken)
 
-scan-is-repeated-requires : (t : ℕ) → scan-lts.Need-is-repeated-requires (scan-claims t) (scan-at t) scan.Post
-scan-is-repeated-requires t c κs = (c .before .before .before .if1 .left, c .before .before .before .before .before .before .before .before .before .before .pre .1 .1 .on)
+scan-is-trivial-requires : (t : ℕ) → scan-lts.Need-is-trivial-requires (scan-claims t) (scan-at t) scan.Post
+scan-is-trivial-requires t c κs = let w = c .before .before .before .before .before .before .before .before .before .pre .1 .0 .room in (c .before .before .if1 .left, c .before .before .before .before .before .before .before .before .before .pre .1 .0 .outer, omega arith)
 
-scan-visible-at-requires : (t : ℕ) → scan-lts.Need-visible-at-requires (scan-claims t) (scan-at t) scan.Post
-scan-visible-at-requires t c κs = search needs
+scan-add-scan : (t : ℕ) → scan-lts.Need-add-scan (scan-claims t) (scan-at t) scan.Post
+scan-add-scan t c = let w = c .before .before .before .before .before .before .before .before .before .before .before .pre .1 .0 .short in omega (arith, c .before .before .before .before .if1 .left)
 
-scan-put-repeated-requires : (t : ℕ) → scan-lts.Need-put-repeated-requires (scan-claims t) (scan-at t) scan.Post
-scan-put-repeated-requires t c κs = (c .before .before .before .before .before .before .before .before .before .before .before .before .before .before .pre .1 .3, c .before .before .before .before .before .before .before .before .before .before .before .before .before .before .pre .1 .4)
+scan-scan-requires : (t : ℕ) → scan-lts.Need-scan-requires (scan-claims t) (scan-at t) scan.Post
+scan-scan-requires t c κs = let a = c .before .before .before .before .before .before .before .before .before .before .before .before .args in let p = c .before .before .before .before .before .before .before .before .before .before .before .before .pre in (weight-on (a .calls * 113) (length (a .src .now)) (a .at) (a .at + 3) t 3 (p .0) (omega arith) (c .before .before .before .before .before .if1 .left), (room-on (a .src .now) (a .at) (a .at + 3) (a .inner) (a .depth) (a .calls) (p .1 .0) (omega arith), p .1 .1, p .1 .2, p .1 .3, p .1 .4))
 
 scan-same-length : (t : ℕ) → scan-lts.Need-same-length (scan-claims t) (scan-at t) scan.Post
 scan-same-length t c = search needs
 
 scan-returns-3 : (t : ℕ) → scan-lts.Need-returns-3 (scan-claims t) (scan-at t) scan.Post
-scan-returns-3 t c = let a = c .before .before .before .before .before .before .before .before .before .before .before .before .before .before .before .before .before .args in let p = c .before .before .before .before .before .before .before .before .before .before .before .before .before .before .before .before .before .pre in scan-again (a .question .now) (a .src .now) (a .root) (a .at) (a .asked) (a .args .now) (a .inner) (a .depth) (a .calls) (a .n) (a .rows .now) (c .before .before .before .before .before .before .before .if3 .taken) (a .tally .now) (p .1 .1) (subst (RepeatedIs (a .question .now) (a .src .now) (a .root) (a .at)) (c .before .before .before .before .before .if4 .taken) (c .before .before .before .before .before .before .is-repeated .ensures (a .question .now) (ends-tallied (a .question .now) (a .src .now) (a .calls) (a .tally .now) (p .1 .1)))) (c .before .before .before .visible-at .result) (c .before .before .before .visible-at .ensures) _ _ (c .before .before .put-repeated .ensures)
+scan-returns-3 t c = let a = c .before .before .before .before .before .before .before .before .before .before .before .before .before .before .before .args in let p = c .before .before .before .before .before .before .before .before .before .before .before .before .before .before .before .pre in scan-trivial (a .question .now) (a .src .now) (a .root) (a .at) (a .asked) (a .args .now) (a .inner) (a .depth) (a .calls) (a .n) (a .rows .now) (sym (c .before .before .before .before .before .is-trivial .ensures) ∙ c .before .before .before .before .if3 .taken) _ _ (c .before .before .scan .ensures)
 
-scan-scan-prefix-requires : (t : ℕ) → scan-lts.Need-scan-prefix-requires (scan-claims t) (scan-at t) scan.Post
-scan-scan-prefix-requires t c κs = let a = c .before .before .before .before .before .before .before .before .before .before .before .before .args in let p = c .before .before .before .before .before .before .before .before .before .before .before .before .pre in let w = p .1 .0 .room in (c .before .before .before .before .before .if1 .left, omega (arith, c .before .before .before .if2 .left), c .before .if5 .taken, p .1 .0 .outer, omega arith, p .1 .3, p .1 .4)
+scan-adds-nothing-requires : (t : ℕ) → scan-lts.Need-adds-nothing-requires (scan-claims t) (scan-at t) scan.Post
+scan-adds-nothing-requires t c κs = let w = c .before .before .before .before .before .before .before .before .before .before .before .before .pre .1 .0 .room in (c .before .before .before .before .before .if1 .left, c .before .before .before .before .before .before .before .before .before .before .before .before .pre .1 .1 .on, c .before .before .before .before .before .before .before .before .before .before .before .before .pre .1 .0 .outer, omega arith)
+
+scan-visible-at-requires : (t : ℕ) → scan-lts.Need-visible-at-requires (scan-claims t) (scan-at t) scan.Post
+scan-visible-at-requires t c κs = search needs
+
+scan-put-repeated-requires : (t : ℕ) → scan-lts.Need-put-repeated-requires (scan-claims t) (scan-at t) scan.Post
+scan-put-repeated-requires t c κs = (c .before .before .before .before .before .before .before .before .before .before .before .before .before .before .before .before .pre .1 .3, c .before .before .before .before .before .before .before .before .before .before .before .before .before .before .before .before .pre .1 .4)
 
 scan-same-length-2 : (t : ℕ) → scan-lts.Need-same-length-2 (scan-claims t) (scan-at t) scan.Post
 scan-same-length-2 t c = search needs
 
 scan-returns-4 : (t : ℕ) → scan-lts.Need-returns-4 (scan-claims t) (scan-at t) scan.Post
-scan-returns-4 t c = let a = c .before .before .before .before .before .before .before .before .before .before .before .before .before .before .before .args in let p = c .before .before .before .before .before .before .before .before .before .before .before .before .before .before .before .pre in scan-prefix (a .question .now) (a .src .now) (a .root) (a .at) (a .asked) (a .args .now) (a .inner) (a .depth) (a .calls) (a .n) (a .rows .now) (omega (arith, c .before .before .before .before .before .before .if2 .left)) (c .before .before .before .before .if5 .taken) _ _ (c .before .before .scan-prefix .ensures)
+scan-returns-4 t c = let a = c .before .before .before .before .before .before .before .before .before .before .before .before .before .before .before .before .before .before .before .args in let p = c .before .before .before .before .before .before .before .before .before .before .before .before .before .before .before .before .before .before .before .pre in scan-again (a .question .now) (a .src .now) (a .root) (a .at) (a .asked) (a .args .now) (a .inner) (a .depth) (a .calls) (a .n) (a .rows .now) (c .before .before .before .before .before .before .before .if4 .taken) (sym (c .before .before .before .before .before .before .before .before .before .is-trivial .ensures) ∙ c .before .before .before .before .before .before .before .before .if3 .left) (a .tally .now) (p .1 .1) (subst (RepeatedIs (a .question .now) (a .src .now) (a .args .now) (a .inner) (a .depth) (a .root) (a .at)) (c .before .before .before .before .before .if5 .taken) (c .before .before .before .before .before .before .adds-nothing .ensures (a .question .now) (ends-tallied (a .question .now) (a .src .now) (a .calls) (a .tally .now) (p .1 .1)))) (c .before .before .before .visible-at .result) (c .before .before .before .visible-at .ensures) _ _ (c .before .before .put-repeated .ensures)
 
-scan-add-scan : (t : ℕ) → scan-lts.Need-add-scan (scan-claims t) (scan-at t) scan.Post
-scan-add-scan t c = let w = c .before .before .before .before .before .before .before .before .before .before .before .before .pre .1 .0 .short in omega (arith, c .before .before .before .before .before .if1 .left)
-
-scan-add-scan-2 : (t : ℕ) → scan-lts.Need-add-scan-2 (scan-claims t) (scan-at t) scan.Post
-scan-add-scan-2 t c = let w = c .before .before .before .before .before .before .before .before .before .before .before .before .pre .1 .0 .short in omega (arith, c .before .before .before .before .before .if1 .left)
-
-scan-scan-requires : (t : ℕ) → scan-lts.Need-scan-requires (scan-claims t) (scan-at t) scan.Post
-scan-scan-requires t c κs = let a = c .before .before .before .before .before .before .before .before .before .before .before .before .before .args in let p = c .before .before .before .before .before .before .before .before .before .before .before .before .before .pre in (weight-on (a .calls * 113) (length (a .src .now)) (a .at) (a .at + 3) t 3 (p .0) (omega arith) (c .before .before .before .before .before .before .if1 .left), (room-on (a .src .now) (a .at) (a .at + 3) (a .inner) (a .depth) (a .calls) (p .1 .0) (omega arith), p .1 .1, p .1 .2, p .1 .3, p .1 .4))
+scan-scan-prefix-requires : (t : ℕ) → scan-lts.Need-scan-prefix-requires (scan-claims t) (scan-at t) scan.Post
+scan-scan-prefix-requires t c κs = let a = c .before .before .before .before .before .before .before .before .before .before .before .before .before .before .args in let p = c .before .before .before .before .before .before .before .before .before .before .before .before .before .before .pre in let w = p .1 .0 .room in (c .before .before .before .before .before .before .before .if1 .left, omega (arith, c .before .before .before .before .before .if2 .left), c .before .if6 .taken, p .1 .0 .outer, omega arith, p .1 .3, p .1 .4)
 
 scan-same-length-3 : (t : ℕ) → scan-lts.Need-same-length-3 (scan-claims t) (scan-at t) scan.Post
 scan-same-length-3 t c = search needs
 
 scan-returns-5 : (t : ℕ) → scan-lts.Need-returns-5 (scan-claims t) (scan-at t) scan.Post
-scan-returns-5 t c = let a = c .before .before .before .before .before .before .before .before .before .before .before .before .before .before .before .before .args in let p = c .before .before .before .before .before .before .before .before .before .before .before .before .before .before .before .before .pre in scan-mat (a .question .now) (a .src .now) (a .root) (a .at) (a .asked) (a .args .now) (a .inner) (a .depth) (a .calls) (a .n) (a .rows .now) (c .before .before .before .before .if6 .taken) _ _ (c .before .before .scan .ensures)
+scan-returns-5 t c = let a = c .before .before .before .before .before .before .before .before .before .before .before .before .before .before .before .before .before .args in let p = c .before .before .before .before .before .before .before .before .before .before .before .before .before .before .before .before .before .pre in scan-prefix (a .question .now) (a .src .now) (a .root) (a .at) (a .asked) (a .args .now) (a .inner) (a .depth) (a .calls) (a .n) (a .rows .now) (omega (arith, c .before .before .before .before .before .before .before .before .if2 .left)) (c .before .before .before .before .if6 .taken) _ _ (c .before .before .scan-prefix .ensures)
+
+scan-add-scan-2 : (t : ℕ) → scan-lts.Need-add-scan-2 (scan-claims t) (scan-at t) scan.Post
+scan-add-scan-2 t c = let w = c .before .before .before .before .before .before .before .before .before .before .before .before .before .before .pre .1 .0 .short in omega (arith, c .before .before .before .before .before .before .before .if1 .left)
 
 scan-add-scan-3 : (t : ℕ) → scan-lts.Need-add-scan-3 (scan-claims t) (scan-at t) scan.Post
-scan-add-scan-3 t c = let w = c .before .before .before .before .before .before .before .before .before .before .before .before .before .pre .1 .0 .short in omega (arith, c .before .before .before .before .before .before .if1 .left)
-
-scan-add-scan-4 : (t : ℕ) → scan-lts.Need-add-scan-4 (scan-claims t) (scan-at t) scan.Post
-scan-add-scan-4 t c = let w = c .before .before .before .before .before .before .before .before .before .before .before .before .before .pre .1 .0 .short in omega (arith, c .before .before .before .before .before .before .if1 .left)
-
-scan-add-scan-5 : (t : ℕ) → scan-lts.Need-add-scan-5 (scan-claims t) (scan-at t) scan.Post
-scan-add-scan-5 t c = let w = c .before .before .before .before .before .before .before .before .before .before .before .before .before .pre .1 .0 .room in let o = c .before .before .before .before .before .before .before .before .before .before .before .before .before .pre .1 .0 .outer in omega (arith, c .before .before .before .before .before .before .if1 .left)
-
-scan-add-scan-6 : (t : ℕ) → scan-lts.Need-add-scan-6 (scan-claims t) (scan-at t) scan.Post
-scan-add-scan-6 t c = let w = c .before .before .before .before .before .before .before .before .before .before .before .before .before .pre .1 .0 .room in omega (arith, c .before .before .before .before .before .before .if1 .left)
+scan-add-scan-3 t c = let w = c .before .before .before .before .before .before .before .before .before .before .before .before .before .before .pre .1 .0 .short in omega (arith, c .before .before .before .before .before .before .before .if1 .left)
 
 scan-scan-requires-2 : (t : ℕ) → scan-lts.Need-scan-requires-2 (scan-claims t) (scan-at t) scan.Post
-scan-scan-requires-2 t c κs = let a = c .before .before .before .before .before .before .before .before .before .before .before .before .before .before .args in let p = c .before .before .before .before .before .before .before .before .before .before .before .before .before .before .pre in (weight-on (a .calls * 113) (length (a .src .now)) (a .at) (a .at + 1) t 3 (p .0) (omega arith) (c .before .before .before .before .before .before .before .if1 .left), (room-under (a .src .now) (a .at) (a .inner) (a .depth) (a .calls) 1 1 (p .1 .0) (c .before .before .before .before .before .before .before .if1 .left) (omega (arith, c .before .before .before .before .before .before .before .if1 .left)) (omega arith), p .1 .1, p .1 .2, p .1 .3, p .1 .4))
+scan-scan-requires-2 t c κs = let a = c .before .before .before .before .before .before .before .before .before .before .before .before .before .before .before .args in let p = c .before .before .before .before .before .before .before .before .before .before .before .before .before .before .before .pre in (weight-on (a .calls * 113) (length (a .src .now)) (a .at) (a .at + 3) t 3 (p .0) (omega arith) (c .before .before .before .before .before .before .before .before .if1 .left), (room-on (a .src .now) (a .at) (a .at + 3) (a .inner) (a .depth) (a .calls) (p .1 .0) (omega arith), p .1 .1, p .1 .2, p .1 .3, p .1 .4))
 
 scan-same-length-4 : (t : ℕ) → scan-lts.Need-same-length-4 (scan-claims t) (scan-at t) scan.Post
 scan-same-length-4 t c = search needs
 
 scan-returns-6 : (t : ℕ) → scan-lts.Need-returns-6 (scan-claims t) (scan-at t) scan.Post
-scan-returns-6 t c = let a = c .before .before .before .before .before .before .before .before .before .before .before .before .before .before .before .before .before .args in let p = c .before .before .before .before .before .before .before .before .before .before .before .before .before .before .before .before .before .pre in scan-res (a .question .now) (a .src .now) (a .root) (a .at) (a .asked) (a .args .now) (a .inner) (a .depth) (a .calls) (a .n) (a .rows .now) (c .before .before .before .before .if7 .taken) _ _ (c .before .before .scan2 .ensures)
+scan-returns-6 t c = let a = c .before .before .before .before .before .before .before .before .before .before .before .before .before .before .before .before .before .before .args in let p = c .before .before .before .before .before .before .before .before .before .before .before .before .before .before .before .before .before .before .pre in scan-mat (a .question .now) (a .src .now) (a .root) (a .at) (a .asked) (a .args .now) (a .inner) (a .depth) (a .calls) (a .n) (a .rows .now) (c .before .before .before .before .if7 .taken) _ _ (c .before .before .scan2 .ensures)
 
-scan-scan-call-requires : (t : ℕ) → scan-lts.Need-scan-call-requires (scan-claims t) (scan-at t) scan.Post
-scan-scan-call-requires t c κs = let a = c .before .before .before .before .before .before .before .before .before .before .before .before .before .before .before .args in let p = c .before .before .before .before .before .before .before .before .before .before .before .before .before .before .before .pre in (weight-part (a .calls * 113) (length (a .src .now)) (a .at) t 2 (p .0), (c .before .before .before .before .before .before .before .before .if1 .left, c .before .if8 .taken, p .1 .0, p .1 .2, p .1 .3, p .1 .4))
+scan-add-scan-4 : (t : ℕ) → scan-lts.Need-add-scan-4 (scan-claims t) (scan-at t) scan.Post
+scan-add-scan-4 t c = let w = c .before .before .before .before .before .before .before .before .before .before .before .before .before .before .before .pre .1 .0 .short in omega (arith, c .before .before .before .before .before .before .before .before .if1 .left)
+
+scan-add-scan-5 : (t : ℕ) → scan-lts.Need-add-scan-5 (scan-claims t) (scan-at t) scan.Post
+scan-add-scan-5 t c = let w = c .before .before .before .before .before .before .before .before .before .before .before .before .before .before .before .pre .1 .0 .short in omega (arith, c .before .before .before .before .before .before .before .before .if1 .left)
+
+scan-add-scan-6 : (t : ℕ) → scan-lts.Need-add-scan-6 (scan-claims t) (scan-at t) scan.Post
+scan-add-scan-6 t c = let w = c .before .before .before .before .before .before .before .before .before .before .before .before .before .before .before .pre .1 .0 .room in let o = c .before .before .before .before .before .before .before .before .before .before .before .before .before .before .before .pre .1 .0 .outer in omega (arith, c .before .before .before .before .before .before .before .before .if1 .left)
+
+scan-add-scan-7 : (t : ℕ) → scan-lts.Need-add-scan-7 (scan-claims t) (scan-at t) scan.Post
+scan-add-scan-7 t c = let w = c .before .before .before .before .before .before .before .before .before .before .before .before .before .before .before .pre .1 .0 .room in omega (arith, c .before .before .before .before .before .before .before .before .if1 .left)
+
+scan-scan-requires-3 : (t : ℕ) → scan-lts.Need-scan-requires-3 (scan-claims t) (scan-at t) scan.Post
+scan-scan-requires-3 t c κs = let a = c .before .before .before .before .before .before .before .before .before .before .before .before .before .before .before .before .args in let p = c .before .before .before .before .before .before .before .before .before .before .before .before .before .before .before .before .pre in (weight-on (a .calls * 113) (length (a .src .now)) (a .at) (a .at + 1) t 3 (p .0) (omega arith) (c .before .before .before .before .before .before .before .before .before .if1 .left), (room-under (a .src .now) (a .at) (a .inner) (a .depth) (a .calls) 1 1 (p .1 .0) (c .before .before .before .before .before .before .before .before .before .if1 .left) (omega (arith, c .before .before .before .before .before .before .before .before .before .if1 .left)) (omega arith), p .1 .1, p .1 .2, p .1 .3, p .1 .4))
 
 scan-same-length-5 : (t : ℕ) → scan-lts.Need-same-length-5 (scan-claims t) (scan-at t) scan.Post
 scan-same-length-5 t c = search needs
 
 scan-returns-7 : (t : ℕ) → scan-lts.Need-returns-7 (scan-claims t) (scan-at t) scan.Post
-scan-returns-7 t c = c .before .before .scan-call .ensures (c .before .before .before .before .before .before .before .before .before .before .before .before .before .before .before .before .before .before .args .root)
+scan-returns-7 t c = let a = c .before .before .before .before .before .before .before .before .before .before .before .before .before .before .before .before .before .before .before .args in let p = c .before .before .before .before .before .before .before .before .before .before .before .before .before .before .before .before .before .before .before .pre in scan-res (a .question .now) (a .src .now) (a .root) (a .at) (a .asked) (a .args .now) (a .inner) (a .depth) (a .calls) (a .n) (a .rows .now) (c .before .before .before .before .if8 .taken) _ _ (c .before .before .scan3 .ensures)
 
-scan-middle-of-requires : (t : ℕ) → scan-lts.Need-middle-of-requires (scan-claims t) (scan-at t) scan.Post
-scan-middle-of-requires t c κs = (c .before .before .before .before .before .before .before .if1 .left, c .before .before .before .before .before .before .before .before .before .before .before .before .before .before .pre .1 .0 .short)
-
-scan-add-root-of : (t : ℕ) → scan-lts.Need-add-root-of (scan-claims t) (scan-at t) scan.Post
-scan-add-root-of t c = let w = c .before .before .before .before .before .before .before .before .before .before .before .before .before .before .before .pre .1 .0 .short in omega (arith, c .before .before .before .before .before .before .before .before .if1 .left)
-
-scan-root-of-requires : (t : ℕ) → scan-lts.Need-root-of-requires (scan-claims t) (scan-at t) scan.Post
-scan-root-of-requires t c κs = search needs
-
-scan-add-scan-7 : (t : ℕ) → scan-lts.Need-add-scan-7 (scan-claims t) (scan-at t) scan.Post
-scan-add-scan-7 t c = let w = c .before .before .before .before .before .before .before .before .before .before .before .before .before .before .before .before .pre .1 .0 .short in omega (arith, c .before .before .before .before .before .before .before .before .before .if1 .left)
-
-scan-scan-requires-3 : (t : ℕ) → scan-lts.Need-scan-requires-3 (scan-claims t) (scan-at t) scan.Post
-scan-scan-requires-3 t c κs = let a = c .before .before .before .before .before .before .before .before .before .before .before .before .before .before .before .before .before .args in let p = c .before .before .before .before .before .before .before .before .before .before .before .before .before .before .before .before .before .pre in (weight-on (a .calls * 113) (length (a .src .now)) (a .at) (a .at + 1) t 3 (p .0) (omega arith) (c .before .before .before .before .before .before .before .before .before .before .if1 .left), (room-on (a .src .now) (a .at) (a .at + 1) (a .inner) (a .depth) (a .calls) (p .1 .0) (omega arith), p .1 .1, p .1 .2, p .1 .3, p .1 .4))
-
-scan-root-of-requires-2 : (t : ℕ) → scan-lts.Need-root-of-requires-2 (scan-claims t) (scan-at t) scan.Post
-scan-root-of-requires-2 t c κs = search needs
-
-scan-scan-requires-4 : (t : ℕ) → scan-lts.Need-scan-requires-4 (scan-claims t) (scan-at t) scan.Post
-scan-scan-requires-4 t c κs = let a = c .before .before .before .before .before .before .before .before .before .before .before .before .before .before .before .before .before .before .before .before .before .before .args in let p = c .before .before .before .before .before .before .before .before .before .before .before .before .before .before .before .before .before .before .before .before .before .before .pre in let on = middle-on (a .question .now) (a .src .now) (a .calls) (a .tally .now) (p .1 .1) (a .at) (c .before .before .before .before .before .before .before .middle-of .result) (c .before .before .before .before .before .before .before .middle-of .ensures) (c .before .before .before .before .before .before .before .before .before .before .before .before .before .before .before .if1 .left) in (weight-on (a .calls * 113) (length (a .src .now)) (a .at) (c .before .before .before .before .before .before .before .middle-of .result) t 3 (p .0) (on) (c .before .before .before .before .before .before .before .before .before .before .before .before .before .before .before .if1 .left), (room-on (a .src .now) (a .at) (c .before .before .before .before .before .before .before .middle-of .result) (a .inner) (a .depth) (a .calls) (p .1 .0) (omega arith), p .1 .1, p .1 .2, c .before .before .before .before .scan3 .ensures .inside, search needs))
+scan-scan-call-requires : (t : ℕ) → scan-lts.Need-scan-call-requires (scan-claims t) (scan-at t) scan.Post
+scan-scan-call-requires t c κs = let a = c .before .before .before .before .before .before .before .before .before .before .before .before .before .before .before .before .before .args in let p = c .before .before .before .before .before .before .before .before .before .before .before .before .before .before .before .before .before .pre in (weight-part (a .calls * 113) (length (a .src .now)) (a .at) t 2 (p .0), (c .before .before .before .before .before .before .before .before .before .before .if1 .left, c .before .if9 .taken, p .1 .0, p .1 .2, p .1 .3, p .1 .4))
 
 scan-same-length-6 : (t : ℕ) → scan-lts.Need-same-length-6 (scan-claims t) (scan-at t) scan.Post
 scan-same-length-6 t c = search needs
 
 scan-returns-8 : (t : ℕ) → scan-lts.Need-returns-8 (scan-claims t) (scan-at t) scan.Post
-scan-returns-8 t c = let a = c .before .before .before .before .before .before .before .before .before .before .before .before .before .before .before .before .before .before .before .before .before .before .before .before .before .args in let p = c .before .before .before .before .before .before .before .before .before .before .before .before .before .before .before .before .before .before .before .before .before .before .before .before .before .pre in scan-two (a .question .now) (a .src .now) (a .root) (a .at) (a .asked) (a .args .now) (a .inner) (a .depth) (a .calls) (a .n) (a .rows .now) (omega (arith, c .before .before .before .before .before .before .before .before .before .before .before .before .before .before .if5 .left, c .before .before .before .before .before .before .before .before .before .before .before .before .before .if6 .left)) (omega (arith, c .before .before .before .before .before .before .before .before .before .before .before .before .if7 .left, c .before .before .before .before .before .before .before .before .before .before .before .if8 .left)) (a .tally .now) (p .1 .1) (c .before .before .before .before .before .before .before .before .before .before .middle-of .result) (c .before .before .before .before .before .before .before .before .before .before .middle-of .ensures) (c .before .before .before .before .before .before .before .before .before .root-of .result) (c .before .before .before .before .before .before .before .before .before .root-of .ensures) (c .before .before .before .before .root-of2 .result) (c .before .before .before .before .root-of2 .ensures) _ _ (c .before .before .before .before .before .before .before .scan3 .ensures) _ _ (c .before .before .scan4 .ensures)
+scan-returns-8 t c = c .before .before .scan-call .ensures (c .before .before .before .before .before .before .before .before .before .before .before .before .before .before .before .before .before .before .before .before .args .root)
+
+scan-middle-of-requires : (t : ℕ) → scan-lts.Need-middle-of-requires (scan-claims t) (scan-at t) scan.Post
+scan-middle-of-requires t c κs = (c .before .before .before .before .before .before .before .before .before .if1 .left, c .before .before .before .before .before .before .before .before .before .before .before .before .before .before .before .before .pre .1 .0 .short)
+
+scan-add-root-of : (t : ℕ) → scan-lts.Need-add-root-of (scan-claims t) (scan-at t) scan.Post
+scan-add-root-of t c = let w = c .before .before .before .before .before .before .before .before .before .before .before .before .before .before .before .before .before .pre .1 .0 .short in omega (arith, c .before .before .before .before .before .before .before .before .before .before .if1 .left)
+
+scan-root-of-requires : (t : ℕ) → scan-lts.Need-root-of-requires (scan-claims t) (scan-at t) scan.Post
+scan-root-of-requires t c κs = search needs
+
+scan-add-scan-8 : (t : ℕ) → scan-lts.Need-add-scan-8 (scan-claims t) (scan-at t) scan.Post
+scan-add-scan-8 t c = let w = c .before .before .before .before .before .before .before .before .before .before .before .before .before .before .before .before .before .before .pre .1 .0 .short in omega (arith, c .before .before .before .before .before .before .before .before .before .before .before .if1 .left)
+
+scan-scan-requires-4 : (t : ℕ) → scan-lts.Need-scan-requires-4 (scan-claims t) (scan-at t) scan.Post
+scan-scan-requires-4 t c κs = let a = c .before .before .before .before .before .before .before .before .before .before .before .before .before .before .before .before .before .before .before .args in let p = c .before .before .before .before .before .before .before .before .before .before .before .before .before .before .before .before .before .before .before .pre in (weight-on (a .calls * 113) (length (a .src .now)) (a .at) (a .at + 1) t 3 (p .0) (omega arith) (c .before .before .before .before .before .before .before .before .before .before .before .before .if1 .left), (room-on (a .src .now) (a .at) (a .at + 1) (a .inner) (a .depth) (a .calls) (p .1 .0) (omega arith), p .1 .1, p .1 .2, p .1 .3, p .1 .4))
+
+scan-root-of-requires-2 : (t : ℕ) → scan-lts.Need-root-of-requires-2 (scan-claims t) (scan-at t) scan.Post
+scan-root-of-requires-2 t c κs = search needs
+
+scan-scan-requires-5 : (t : ℕ) → scan-lts.Need-scan-requires-5 (scan-claims t) (scan-at t) scan.Post
+scan-scan-requires-5 t c κs = let a = c .before .before .before .before .before .before .before .before .before .before .before .before .before .before .before .before .before .before .before .before .before .before .before .before .args in let p = c .before .before .before .before .before .before .before .before .before .before .before .before .before .before .before .before .before .before .before .before .before .before .before .before .pre in let on = middle-on (a .question .now) (a .src .now) (a .calls) (a .tally .now) (p .1 .1) (a .at) (c .before .before .before .before .before .before .before .middle-of .result) (c .before .before .before .before .before .before .before .middle-of .ensures) (c .before .before .before .before .before .before .before .before .before .before .before .before .before .before .before .before .before .if1 .left) in (weight-on (a .calls * 113) (length (a .src .now)) (a .at) (c .before .before .before .before .before .before .before .middle-of .result) t 3 (p .0) (on) (c .before .before .before .before .before .before .before .before .before .before .before .before .before .before .before .before .before .if1 .left), (room-on (a .src .now) (a .at) (c .before .before .before .before .before .before .before .middle-of .result) (a .inner) (a .depth) (a .calls) (p .1 .0) (omega arith), p .1 .1, p .1 .2, c .before .before .before .before .scan4 .ensures .inside, search needs))
+
+scan-same-length-7 : (t : ℕ) → scan-lts.Need-same-length-7 (scan-claims t) (scan-at t) scan.Post
+scan-same-length-7 t c = search needs
+
+scan-returns-9 : (t : ℕ) → scan-lts.Need-returns-9 (scan-claims t) (scan-at t) scan.Post
+scan-returns-9 t c = let a = c .before .before .before .before .before .before .before .before .before .before .before .before .before .before .before .before .before .before .before .before .before .before .before .before .before .before .before .args in let p = c .before .before .before .before .before .before .before .before .before .before .before .before .before .before .before .before .before .before .before .before .before .before .before .before .before .before .before .pre in scan-two (a .question .now) (a .src .now) (a .root) (a .at) (a .asked) (a .args .now) (a .inner) (a .depth) (a .calls) (a .n) (a .rows .now) (omega (arith, c .before .before .before .before .before .before .before .before .before .before .before .before .before .before .if6 .left, c .before .before .before .before .before .before .before .before .before .before .before .before .before .if7 .left)) (omega (arith, c .before .before .before .before .before .before .before .before .before .before .before .before .if8 .left, c .before .before .before .before .before .before .before .before .before .before .before .if9 .left)) (a .tally .now) (p .1 .1) (c .before .before .before .before .before .before .before .before .before .before .middle-of .result) (c .before .before .before .before .before .before .before .before .before .before .middle-of .ensures) (c .before .before .before .before .before .before .before .before .before .root-of .result) (c .before .before .before .before .before .before .before .before .before .root-of .ensures) (c .before .before .before .before .root-of2 .result) (c .before .before .before .before .root-of2 .ensures) _ _ (c .before .before .before .before .before .before .before .scan4 .ensures) _ _ (c .before .before .scan5 .ensures)
 
 scan-call-call-at-requires : (t : ℕ) → scan-call-lts.Need-call-at-requires (scan-call-claims t) (scan-call-at t) scan-call.Post
 scan-call-call-at-requires t c κs = search needs
@@ -200,61 +216,49 @@ scan-call-returns-3 : (t : ℕ) → scan-call-lts.Need-returns-3 (scan-call-clai
 scan-call-returns-3 t c = λ root. let a = c .before .before .before .before .before .before .before .before .before .before .before .before .before .before .before .before .before .before .args in let p = c .before .before .before .before .before .before .before .before .before .before .before .before .before .before .before .before .before .before .pre in let m = c .before .before .before .before .before .before .before .before .before .before .before .before .call-at .ensures .may (not-false _ (c .before .before .before .before .before .before .before .before .before .before .if1 .left)) in scan-called (a .question .now) (a .src .now) root (a .at) (a .asked) (a .args .now) (a .inner) (a .depth) (a .calls) (a .n) (a .rows .now) (p .1 .1) (c .before .before .before .before .before .before .before .before .before .before .before .before .call-at .result) (c .before .before .before .before .before .before .before .before .before .before .before .before .call-at .ensures) (m .0) (c .before .before .before .before .before .before .body-of .result .now) (c .before .before .before .before .before .before .body-of .ensures) (c .before .before .before .before .before .before .before .arguments .result) (c .before .before .before .before .before .before .before .arguments .ensures) _ _ (c .before .before .scan .ensures)
 
 pub +scan+scan-call-spec : {M : Type 1} → statement M
-+scan+scan-call-spec = close μ-scan μ-scan-call (λ t. scan-lts.spec (
-  is-repeated-reads.Asked,
-  is-repeated-reads.Learnt,
-  visible-at-reads.Asked,
-  visible-at-reads.Learnt,
-  put-repeated-reads.Asked,
-  put-repeated-reads.Learnt,
-  scan-prefix-reads.Asked,
-  scan-prefix-reads.Learnt,
-  scan-below t,
-  scan.Post,
-  scan-call-below t,
-  scan-call.Post,
-  middle-of-reads.Asked,
-  middle-of-reads.Learnt,
-  root-of-reads.Asked,
-  root-of-reads.Learnt,
-)
++scan+scan-call-spec = close μ-scan μ-scan-call (λ t. scan-lts.spec (scan-claims t)
     (scan-at t)
     scan.Post
     (scan-returns t)
     (scan-shared-slice-read-t t)
     (scan-returns-2 t)
-    (scan-is-repeated-requires t)
-    (scan-visible-at-requires t)
-    (scan-put-repeated-requires t)
+    (scan-is-trivial-requires t)
+    (scan-add-scan t)
+    (scan-scan-requires t)
     (scan-same-length t)
     (scan-returns-3 t)
-    (scan-scan-prefix-requires t)
+    (scan-adds-nothing-requires t)
+    (scan-visible-at-requires t)
+    (scan-put-repeated-requires t)
     (scan-same-length-2 t)
     (scan-returns-4 t)
-    (scan-add-scan t)
-    (scan-add-scan-2 t)
-    (scan-scan-requires t)
+    (scan-scan-prefix-requires t)
     (scan-same-length-3 t)
     (scan-returns-5 t)
+    (scan-add-scan-2 t)
     (scan-add-scan-3 t)
-    (scan-add-scan-4 t)
-    (scan-add-scan-5 t)
-    (scan-add-scan-6 t)
     (scan-scan-requires-2 t)
     (scan-same-length-4 t)
     (scan-returns-6 t)
-    (scan-scan-call-requires t)
+    (scan-add-scan-4 t)
+    (scan-add-scan-5 t)
+    (scan-add-scan-6 t)
+    (scan-add-scan-7 t)
+    (scan-scan-requires-3 t)
     (scan-same-length-5 t)
     (scan-returns-7 t)
+    (scan-scan-call-requires t)
+    (scan-same-length-6 t)
+    (scan-returns-8 t)
     (scan-middle-of-requires t)
     (scan-add-root-of t)
     (scan-root-of-requires t)
-    (scan-add-scan-7 t)
-    (scan-scan-requires-3 t)
-    (scan-root-of-requires-2 t)
+    (scan-add-scan-8 t)
     (scan-scan-requires-4 t)
-    (scan-same-length-6 t)
-    (scan-returns-8 t))
+    (scan-root-of-requires-2 t)
+    (scan-scan-requires-5 t)
+    (scan-same-length-7 t)
+    (scan-returns-9 t))
     λ t. scan-call-lts.spec (
       call-at-reads.Asked,
       call-at-reads.Learnt,

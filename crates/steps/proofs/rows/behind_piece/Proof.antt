@@ -1,4 +1,6 @@
 -- `steps::rows::behind_piece` meets its contract. Assumes nothing.
+use mathlib.Core.Path.{sym, _∙_}
+use lib.ListN.{getD}
 use borrow.Author.Tests.{eq-eqb, ne-eqb}
 use Rattle.steps.specs.Rows.{behindPiece}
 use borrow.Author.Needs.{needs}
@@ -13,15 +15,34 @@ add-result c = search needs
 
 returns : tie.Need-returns
 unfolding behindPiece
-returns c = simp (eq-eqb _ _ (c .if1 .taken))
+returns c = simp (eq-eqb (getD (c .before .before .before .before .before .args .src .now) (c .before .before .before .before .before .args .p) 0) 6 (c .if1 .taken))
+
+is-trivial-requires : tie.Need-is-trivial-requires
+is-trivial-requires c κs = search needs
+
+add-result-2 : tie.Need-add-result-2
+add-result-2 c = search needs
+
+returns-2 : tie.Need-returns-2
+unfolding behindPiece
+returns-2 c = simp (ne-eqb (getD (c .before .before .before .before .before .before .before .args .src .now) (c .before .before .before .before .before .before .before .args .p) 0) 6 (c .before .before .if1 .left), sym (c .before .is-trivial .ensures) ∙ c .if2 .taken)
 
 end-at-requires : tie.Need-end-at-requires
 end-at-requires c κs = search needs
 
-returns-2 : tie.Need-returns-2
+returns-3 : tie.Need-returns-3
 unfolding behindPiece
-returns-2 c = simp (ne-eqb _ _ (c .before .if1 .left)) (c .end-at .ensures)
+returns-3 c = simp (ne-eqb (getD (c .before .before .before .before .before .before .before .before .args .src .now) (c .before .before .before .before .before .before .before .before .args .p) 0) 6 (c .before .before .before .if1 .left), sym (c .before .before .is-trivial .ensures) ∙ c .before .if2 .left) (c .end-at .ensures)
 
 pub behind-piece-spec : {M : Type 1} → statement M
 behind-piece-spec =
-    tie.close (tie.spec shared-slice-read-if1 add-result returns end-at-requires returns-2)
+    tie.close
+    (tie.spec
+    shared-slice-read-if1
+    add-result
+    returns
+    is-trivial-requires
+    add-result-2
+    returns-2
+    end-at-requires
+    returns-3)
