@@ -70,7 +70,7 @@ fn action_kind(kind: u8) -> u8
 }
 
 // Whether the candidates of two rows may communicate: by their kinds, and by the channel of one and those that may be merged with the other's. A
-// candidate that is equal to an earlier one adds nothing.
+// candidate that adds no step is passed over.
 fn may_meet(k1: u8, low: u8, high: u8, k2: u8, c2: u8) -> bool
     ensures { λ r. ⌜ r ≡ meetsBetween k1 low high k2 c2 ⌝ }
 {
@@ -236,7 +236,7 @@ fn take_same(
 }
 
 // Puts the communication of two candidates whose rows may meet into the list; `j` is its number among the silent candidates of the parallel. Where a
-// candidate stands beneath a match it is found by its number in the part.
+// candidate stands beneath a match of free names it is found by its number in the part.
 fn take_pair(
     question: &[u8],
     bodies: &[u32],
@@ -301,7 +301,7 @@ fn take_pair(
 
 // Puts the communications of one row of the left side into the list, until a limit is passed; `left` is the number of its candidate, and `j` that of
 // the first communication. A candidate on a channel that is restricted further in is blocked, and so are its communications; those of a candidate
-// that is equal to an earlier one are in the list already.
+// that adds no step add none.
 fn meet_row(
     question: &[u8],
     bodies: &[u32],

@@ -52,8 +52,8 @@ fn row_object(kind: u8, object: u8, x: u8) -> u8
     x
 }
 
-// Puts the visible candidate number `j` of the component at `at`, whose row is the one of that number from `first` on, into the list. One that is
-// equal to an earlier candidate is in it already; one beneath a match is found by its number.
+// Puts the visible candidate number `j` of the component at `at`, whose row is the one of that number from `first` on, into the list. One that
+// adds no step is passed over; one beneath a match of free names is found by its number.
 fn take_row(
     question: &[u8],
     bodies: &[u32],

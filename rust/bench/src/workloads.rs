@@ -45,6 +45,7 @@ pub fn all() -> Vec<Workload> {
         listing("list-matched", "132,678 raw silent steps beneath matches", worst(0, MATCHED)),
         listing("list-matches", "16,384 raw silent steps, 64 distinct", different_matches()),
         listing("list-unmet", "48,400 raw silent steps beneath a match that fails", unmet()),
+        listing("list-equated", "16,384 raw silent steps beneath a match, 64 distinct", equated()),
         listing("list-alike", "1,452 raw silent steps, 121 distinct", alike()),
     ]
 }
@@ -304,6 +305,22 @@ fn unmet() -> Fields {
     let calls = |k: u8| vec![call(k, &[0x80, 0x81]); 11];
     let part = restricted(2, grouped_left(&[calls(0), calls(1)].concat()));
     question(definitions, part, vec![0x00])
+}
+
+/// Eight calls that offer inputs and eight that offer outputs, all on one free name and each beneath
+/// 16 matches of that name with another: one condition and one channel, by different parameters.
+fn equated() -> Fields {
+    let body = |kind: u8| {
+        let pairs = [0x80, 0x81].iter().flat_map(|&a| [0x82, 0x83].map(|b| [a, b]));
+        let matches = pairs.flat_map(|[a, b]| [[0x05, a, b], [0x05, b, a]]);
+        let branches: Vec<Vec<u8>> = matches
+            .flat_map(|pair| [0x80, 0x81].map(|name| [&pair[..], &[kind, name, 0x00]].concat()))
+            .collect();
+        definition(4, &choice(&branches))
+    };
+    let calls = |k: u8| vec![call(k, &[0x00, 0x00, 0x01, 0x01]); 8];
+    let part = grouped_left(&[calls(0), calls(1)].concat());
+    question(vec![body(INPUT[0]), body(NEW_OUTPUT[0])], part, vec![0x00])
 }
 
 /// Eleven calls that receive a name in 12 branches and go on with calls that differ in which of

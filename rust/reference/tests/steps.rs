@@ -54,6 +54,12 @@ fn choices_without_duplicates() {
     lists("06 01 00 01 00", &[step(&[], [0, 0, 0], "00")]);
     let both = [step(&[], [0, 0, 0], "00"), step(&[(1, 0)], [0, 0, 0], "00")];
     lists("06 06 05 01 00 01 00 01 00 06 05 00 01 01 00 01 00", &both);
+    // Beneath a match of a name with itself, beneath two of them, and beneath none.
+    let input = [step(&[], [1, 0, NEW], "00")];
+    lists("06 05 01 01 02 00 00 06 05 02 02 05 03 03 02 00 00 02 00 00", &input);
+    lists("05 01 01 06 02 00 00 05 01 01 06 02 00 00 02 00 00", &input);
+    // A match that fails stands beside one that does not.
+    lists("08 06 05 80 00 02 00 00 05 80 80 02 00 00", &[step(&[], [1, 0, NEW], "08 00")]);
     // Different as they stand, equal once rewritten by the condition.
     lists("05 00 01 06 03 00 01 00 03 01 00 00", &[step(&[(1, 0)], [2, 0, 0], "00")]);
 }
@@ -196,6 +202,11 @@ fn calls() {
     lists_with(&matching, "09 00 02 03", &[step(&[(3, 2)], [0, 0, 0], "09 00 02 02")]);
     lists_with(&matching, "08 09 00 80 80", &[step(&[], [0, 0, 0], "08 09 00 80 80")]);
     lists_with(&matching, "08 09 00 80 03", &[]);
+    // Parameters that stand for one name, two names and a restricted one, in communications.
+    let offers = [(2, "05 80 81 02 80 00"), (2, "05 80 81 04 80 00")];
+    let both = step(&[], [0, 0, 0], "08 08 07 00 00");
+    lists_with(&offers, "08 07 09 00 80 80 09 01 80 80", &[both]);
+    lists_with(&offers, "08 07 09 00 80 00 09 01 80 80", &[]);
     // A call stays folded in a result until its own step.
     let two = [(1, "01 09 01 80 80"), (2, "03 81 80 09 00 81")];
     lists_with(&two, "09 00 07", &[step(&[], [0, 0, 0], "09 01 07 07")]);

@@ -1,5 +1,5 @@
 -- `steps::rows::is_failing` meets its contract. Assumes nothing.
-use mathlib.Core.Path.{sym, _∙_}
+use mathlib.Core.Path.{sym}
 use borrow.Author.Tests.{eq-eqb, ne-eqb, le-leb, lt-leb}
 use Rattle.terms.specs.Limits.{nameCount}
 use Rattle.steps.proofs.ChoiceLaws.{other-failing, failing-is}

@@ -1,5 +1,5 @@
 -- `steps::rows::is_trivial` meets its contract. Assumes nothing.
-use mathlib.Core.Path.{sym, _∙_}
+use mathlib.Core.Path.{sym}
 use Rattle.steps.proofs.ChoiceLaws.{other-trivial, trivial-is}
 use borrow.Author.Needs.{needs}
 use Rattle.steps.proofs.rows.is_trivial.Statement.{statement}
