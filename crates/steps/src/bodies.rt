@@ -1,6 +1,8 @@
 // The definitions of an accepted question: their arities and bodies as pieces of it.
-ghost use Prim.Native.Nat.{_<_};
+ghost use mathlib.Core.Path.{_≡_};
+ghost use Prim.Native.Nat.{ℕ, _<_};
 ghost use lib.ListN.{length};
+ghost use Rattle.terms.specs.FieldPlaces.{fieldPlace};
 ghost use Rattle.steps.specs.Bodies.{AritiesIs, BodyIs, MayOpenIs, OpeningIs};
 use terms::bytes::get;
 use terms::frame::arities;
@@ -17,11 +19,18 @@ pub fn arities_of(question: &[u8]) -> &[u8]
     arities(question)
 }
 
+// The body whose field begins at `place`.
+pub fn body_at(question: &[u8], place: usize) -> &[u8]
+    ensures { λ r. ⌜ ((k : ℕ) → place ≡ fieldPlace (now (question .entry)) k → BodyIs (now (question .entry)) k (now r)) ⌝ }
+{
+    field_at(question, place)
+}
+
 // The body of definition `k`.
 pub fn body_of(question: &[u8], k: usize) -> &[u8]
     ensures { λ r. ⌜ BodyIs (now (question .entry)) k (now r) ⌝ }
 {
-    field_at(question, field_place(question, k))
+    body_at(question, field_place(question, k))
 }
 
 // Whether a call may be opened: one is left to open, and its definition keeps within the limits of an accepted question.

@@ -2,13 +2,16 @@
 ghost use mathlib.Core.Path.{_≡_};
 ghost use Prim.Native.Nat.{_+_, _<_, _≤_};
 ghost use lib.ListN.{length, getD};
+ghost use Rattle.terms.specs.FieldPlaces.{fieldPlace};
 ghost use Rattle.terms.specs.Limits.{longestTerm, mostDefinitions};
 ghost use Rattle.steps.specs.Tally.{tallySize, bodyTallies, visibleAt, silentAt, endAt, TallyIs, FewCalls, bodyTally, TalliedBelow, BodiesTallied};
 ghost use Rattle.steps.specs.Tallying.{numberAt, EntryIs, talliedEntry, prefixEntry, callEntry, choiceEntry, parallelEntry, Small, Filled};
 use crate::bodies::arities_of;
-use crate::bodies::body_of;
+use crate::bodies::body_at;
 use crate::front::front_at;
 use terms::bytes::get;
+use terms::frame::after_field;
+use terms::frame::field_place;
 use terms::limits::LONGEST_TERM;
 use terms::limits::MOST_DEFINITIONS;
 
@@ -185,12 +188,13 @@ fn fill(src: &[u8], arities: &[u8], bodies: &[u32], tally: &mut [u32])
     }
 }
 
-// Tallies the body of definition `k`, in which no further call may be opened. What is too long for a body has no candidates.
-fn tally_body(question: &[u8], k: usize, bodies: &mut [u32])
-    requires { ⌜ (k < mostDefinitions) × TalliedBelow (now question) k (now bodies) ⌝ }
+// Tallies the body of definition `k`, whose field begins at `place`; no further call may be opened in it. What is too long for a body has no
+// candidates.
+fn tally_body(question: &[u8], k: usize, place: usize, bodies: &mut [u32])
+    requires { ⌜ (k < mostDefinitions) × TalliedBelow (now question) k (now bodies) × (place ≡ fieldPlace (now question) k) ⌝ }
     ensures { λ _. ⌜ TalliedBelow (now (question .entry)) (k + 1) (now (bodies .exit)) ⌝ }
 {
-    let body = body_of(question, k);
+    let body = body_at(question, place);
     if body.len() == 0 {
         return;
     }
@@ -208,9 +212,11 @@ pub fn body_tallies(question: &[u8]) -> [u32; BODY_TALLIES]
     ensures { λ r. ⌜ BodiesTallied (now (question .entry)) r ⌝ }
 {
     let mut bodies = [0u32; BODY_TALLIES];
+    let mut place = field_place(question, 0);
     let mut k = 0;
     while k < MOST_DEFINITIONS {
-        tally_body(question, k, &mut bodies);
+        tally_body(question, k, place, &mut bodies);
+        place = after_field(question, place);
         k += 1;
     }
     bodies

@@ -7,14 +7,14 @@ use borrow.Author.Needs.{needs}
 use Rattle.steps.proofs.tally.tally_body.Statement.{statement}
 use Rattle.steps.proofs.tally.tally_body.Tie as tie
 
-body-of-requires : tie.Need-body-of-requires
-body-of-requires c κs = search needs
+body-at-requires : tie.Need-body-at-requires
+body-at-requires c κs = search needs
 
 returns : tie.Need-returns
-returns c = tallied-empty (c .before .before .before .before .args .question .now) (c .before .before .before .before .args .bodies .now) (c .before .before .before .before .args .k) (c .before .before .before .before .pre .1) (c .before .body-of .result .now) (c .before .body-of .ensures) (c .if1 .taken)
+returns c = tallied-empty (c .before .before .before .before .args .question .now) (c .before .before .before .before .args .bodies .now) (c .before .before .before .before .args .k) (c .before .before .before .before .pre .1) (c .before .body-at .result .now) (c .before .body-at .ensures (c .before .before .before .before .args .k) (c .before .before .before .before .pre .2)) (c .if1 .taken)
 
 returns-2 : tie.Need-returns-2
-returns-2 c = tallied-long (c .before .before .before .before .before .args .question .now) (c .before .before .before .before .before .args .bodies .now) (c .before .before .before .before .before .args .k) (c .before .before .before .before .before .pre .1) (c .before .before .body-of .result .now) (c .before .before .body-of .ensures) (c .if2 .taken)
+returns-2 c = tallied-long (c .before .before .before .before .before .args .question .now) (c .before .before .before .before .before .args .bodies .now) (c .before .before .before .before .before .args .k) (c .before .before .before .before .before .pre .1) (c .before .before .body-at .result .now) (c .before .before .body-at .ensures (c .before .before .before .before .before .args .k) (c .before .before .before .before .before .pre .2)) (c .if2 .taken)
 
 mul-from : tie.Need-mul-from
 mul-from c = search needs
@@ -47,13 +47,13 @@ same-length : tie.Need-same-length
 same-length c = search needs
 
 returns-3 : tie.Need-returns-3
-returns-3 c = tallied-more (c .before .before .before .before .before .before .before .before .before .before .before .args .question .now) (c .before .before .before .before .before .before .before .before .before .before .before .args .bodies .now) (c .before .before .before .before .before .before .before .before .before .before .before .args .k) (c .before .before .before .before .before .before .before .before .before .before .before .pre .1) (c .before .before .before .before .before .before .before .before .body-of .result .now) (c .before .before .before .before .before .before .before .before .body-of .ensures) (c .before .before .before .before .before .before .before .before .before .before .before .pre .0) (c .before .before .before .before .before .arities-of .result .now) (c .before .before .before .before .before .arities-of .ensures) (c .before .before .before .before .before .before .before .if1 .left) (c .before .before .before .before .before .before .if2 .left) (c .before .before .fill .last .1 .1 .1 .0) (c .before .before .fill .ensures) (c .before .before .fill .kept .1 .1 .1 .0 ∙ part-size (c .before .before .before .before .before .before .before .before .before .before .before .args .bodies .now) (c .before .before .before .before .before .before .before .before .before .before .before .pre .1 .size) (c .before .before .before .before .before .before .before .before .before .before .before .args .k) (c .before .before .before .before .before .before .before .before .before .before .before .pre .0))
+returns-3 c = tallied-more (c .before .before .before .before .before .before .before .before .before .before .before .args .question .now) (c .before .before .before .before .before .before .before .before .before .before .before .args .bodies .now) (c .before .before .before .before .before .before .before .before .before .before .before .args .k) (c .before .before .before .before .before .before .before .before .before .before .before .pre .1) (c .before .before .before .before .before .before .before .before .body-at .result .now) (c .before .before .before .before .before .before .before .before .body-at .ensures (c .before .before .before .before .before .before .before .before .before .before .before .args .k) (c .before .before .before .before .before .before .before .before .before .before .before .pre .2)) (c .before .before .before .before .before .before .before .before .before .before .before .pre .0) (c .before .before .before .before .before .arities-of .result .now) (c .before .before .before .before .before .arities-of .ensures) (c .before .before .before .before .before .before .before .if1 .left) (c .before .before .before .before .before .before .if2 .left) (c .before .before .fill .last .1 .1 .1 .0) (c .before .before .fill .ensures) (c .before .before .fill .kept .1 .1 .1 .0 ∙ part-size (c .before .before .before .before .before .before .before .before .before .before .before .args .bodies .now) (c .before .before .before .before .before .before .before .before .before .before .before .pre .1 .size) (c .before .before .before .before .before .before .before .before .before .before .before .args .k) (c .before .before .before .before .before .before .before .before .before .before .before .pre .0))
 
 pub tally-body-spec : {M : Type 1} → statement M
 tally-body-spec =
     tie.close
     (tie.spec
-    body-of-requires
+    body-at-requires
     returns
     returns-2
     mul-from
