@@ -57,15 +57,16 @@ module _ (question area : List ℕ) (so : Labelled question area) (p : ℕ) (k :
       (sym (steps-here area p (countIn (labelAt area p)) few-kept))
       (subst (λ w. Tells question w (drop labelBytes (take keptBytes (drop p area)))) (label-here area p) (kept-here .is) part x h l)
 
--- The kept list at p copied to the front and labelled.
-pub brought : (area : List ℕ) (p : ℕ) (part : List ℕ) (x n : ℕ) (area′ area″ : List ℕ) → listArea ≤ length area → KeptPlace p → n ≤ keptSteps
-    → x ≤ nameCount → n ≡ countIn (labelAt area p) → area′ ≡ sets area 0 (take (stepBytes * n) (drop (p + labelBytes) area))
-    → PutsLabel area′ labelPlace part x n area″ → listArea ≤ length area″ → Brings area p part x n area″
-brought area p part x n area′ area″ room k few within e c put same question so label =
-    let list : ListIn question part x n (drop (p + labelBytes) area) = subst (λ m. ListIn question part x m (drop (p + labelBytes) area)) (sym e) (list-kept question area so p k part x within label) in
-    let there : p + labelBytes + stepBytes * n ≤ length area = omega arith in
-    labelled-by question part x n area′ area″ (kept-copied question part x n area (p + labelBytes) area area′ list there room c (so .kept))
-    (list-copied question part x n area (p + labelBytes) area area′ list there room c) put same
+-- The list kept at p of some area copied to the front of this one and labelled.
+pub brought : (from : List ℕ) (p : ℕ) (part : List ℕ) (x : ℕ) (area : List ℕ) (n : ℕ) (area′ area″ : List ℕ) → listArea ≤ length from → KeptPlace p
+    → n ≤ keptSteps → x ≤ nameCount → n ≡ countIn (labelAt from p) → area′ ≡ sets area 0 (take (stepBytes * n) (drop (p + labelBytes) from))
+    → PutsLabel area′ labelPlace part x n area″ → listArea ≤ length area″ → Brings from p part x area n area″
+brought from p part x area n area′ area″ room k few within e c put same question so label also =
+    let list : ListIn question part x n (drop (p + labelBytes) from) =
+    subst (λ m. ListIn question part x m (drop (p + labelBytes) from)) (sym e) (list-kept question from so p k part x within label) in
+    let there : p + labelBytes + stepBytes * n ≤ length from = omega arith in
+    labelled-by question part x n area′ area″ (kept-copied question part x n from (p + labelBytes) area area′ list there (also .room) c (also .kept))
+    (list-copied question part x n from (p + labelBytes) area area′ list there (also .room) c) put same
 
 -- The list at hand copied to p and labelled there.
 module _ (area : List ℕ) (p : ℕ) (part : List ℕ) (x n : ℕ) (area′ area″ : List ℕ) (room : listArea ≤ length area) (k : KeptPlace p) (few : n ≤ keptSteps)

@@ -25,10 +25,10 @@ abbrev pub labelBytes : ℕ
 labelBytes = 116
 
 abbrev pub keptSteps : ℕ
-keptSteps = 6
+keptSteps = 5
 
 abbrev pub keptBytes : ℕ
-keptBytes = 908
+keptBytes = 776
 
 abbrev pub keptLists : ℕ
 keptLists = 32
@@ -37,7 +37,7 @@ abbrev pub keptPlace : ℕ → ℕ
 keptPlace i = 34164 + keptBytes * i
 
 abbrev pub listArea : ℕ
-listArea = 63220
+listArea = 58996
 
 abbrev pub labelAt : List ℕ → ℕ → List ℕ
 labelAt area p = take labelBytes (drop p area)
@@ -91,10 +91,10 @@ pub record KeptPlace (p : ℕ) : Type 0 where
   pub among : number < keptLists
   pub is : p ≡ keptPlace number
 
--- The list kept at p is brought to hand: whatever the question, what the labels say stays so.
-abbrev pub Brings : List ℕ → ℕ → List ℕ → ℕ → ℕ → List ℕ → Type 0
-Brings area p part x n area′ =
-    (question : List ℕ) → Labelled question area → LabelIs (labelAt area p) part x → ListIn question part x n area′ × Labelled question area′
+-- The list kept at p of some area is brought to hand in this one: whatever the question, what the labels say stays so.
+abbrev pub Brings : List ℕ → ℕ → List ℕ → ℕ → List ℕ → ℕ → List ℕ → Type 0
+Brings from p part x area n area′ =
+    (question : List ℕ) → Labelled question from → LabelIs (labelAt from p) part x → Labelled question area → ListIn question part x n area′ × Labelled question area′
 
 -- The list at hand may be kept.
 abbrev pub Keeps : List ℕ → List ℕ → ℕ → ℕ → List ℕ → Type 0

@@ -1,4 +1,4 @@
-// The kept lists of an area: those of parts with few steps, for a part that comes again after other parts.
+// The kept lists of an area: those of parts with few steps, for a part that comes again after other parts, on this side or on the other.
 ghost use mathlib.Core.Path.{_≡_};
 ghost use Prim.Native.Nat.{_+_, _≤_, _<_, min, max};
 ghost use lib.ListN.{length, take, drop};
@@ -12,13 +12,14 @@ use crate::list_area::LABEL_BYTES;
 use crate::list_area::put_label;
 use crate::list_area::steps_in;
 use steps::limits::STEP_BYTES;
+use terms::bytes::copy;
 
-// Where the kept lists begin, 32 of them. A kept list has a label, and behind it room for six steps.
+// Where the kept lists begin, 32 of them. A kept list has a label, and behind it room for five steps.
 const KEPT_LISTS: usize = 34164;
 
-const KEPT_BYTES: usize = 908;
+const KEPT_BYTES: usize = 776;
 
-const KEPT_STEPS: usize = 6;
+const KEPT_STEPS: usize = 5;
 
 // A number for a part: of each four bytes and the sums before them, and once more of the last four.
 fn weighed(part: &[u8]) -> usize
@@ -39,8 +40,7 @@ fn weighed(part: &[u8]) -> usize
     sums + 3 * word(part, part.len() - 4)
 }
 
-// Where the list of a part for the new name `x` is kept, if it is: two parts may have the same place. 65521 is a prime, and 32 times 2048 is as
-// much.
+// Where the list of a part for the new name `x` is kept, if it is: parts may have the same place. The prime 65521 is just below 32 times 2048.
 pub fn kept_place(part: &[u8], x: usize) -> usize
     requires { ⌜ (length (now part) ≤ longestTerm) × (x ≤ nameCount) ⌝ }
     ensures { λ r. ⌜ KeptPlace r ⌝ }
@@ -64,10 +64,21 @@ fn copy_within(area: &mut [u8], from: usize, n: usize, to: usize)
 // Brings the list that is kept at `p`, which is that of this part for the new name `x`, to hand. Answers its number of steps.
 pub fn bring(area: &mut [u8], p: usize, part: &[u8], x: usize) -> usize
     requires { ⌜ (listArea ≤ length (now area)) × KeptPlace p × (countIn (labelAt (now area) p) ≤ keptSteps) × (length (now part) ≤ longestTerm) × (x ≤ nameCount) ⌝ }
-    ensures { λ r. ⌜ Brings (now (area .entry)) p (now (part .entry)) x r (now (area .exit)) ⌝ }
+    ensures { λ r. ⌜ Brings (now (area .entry)) p (now (part .entry)) x (now (area .entry)) r (now (area .exit)) ⌝ }
 {
     let n = steps_in(area, p);
     copy_within(area, p + LABEL_BYTES, STEP_BYTES * n, 0);
+    put_label(area, LABEL, part, x, n);
+    n
+}
+
+// The same for a list that is kept in the area of the other side.
+pub fn bring_over(other: &[u8], p: usize, part: &[u8], x: usize, area: &mut [u8]) -> usize
+    requires { ⌜ (listArea ≤ length (now other)) × KeptPlace p × (countIn (labelAt (now other) p) ≤ keptSteps) × (length (now part) ≤ longestTerm) × (x ≤ nameCount) × (listArea ≤ length (now area)) ⌝ }
+    ensures { λ r. ⌜ Brings (now (other .entry)) p (now (part .entry)) x (now (area .entry)) r (now (area .exit)) ⌝ }
+{
+    let n = steps_in(other, p);
+    copy(other, p + LABEL_BYTES, STEP_BYTES * n, area, 0);
     put_label(area, LABEL, part, x, n);
     n
 }

@@ -6,11 +6,12 @@ ghost use Rattle.terms.specs.Limits.{nameCount, longestTerm};
 ghost use Rattle.steps.specs.Limits.{stepBytes};
 ghost use Rattle.steps.specs.Rows.{rowBytes, mostRows};
 ghost use Rattle.steps.specs.Tally.{tallySize, BodiesTallied};
-ghost use Rattle.field.specs.ListArea.{listArea, ListIn, Labelled, SideIs};
+ghost use Rattle.field.specs.ListArea.{ListIn, Labelled, KeptPlace, SideIs};
 ghost use Rattle.field.specs.Slot.{keyBytes};
 ghost use Rattle.field.specs.TakingUp.{SomeBindsIs, PastNamesIs, ListsSides, TakesUp};
 use crate::entries::binds;
 use crate::kept_lists::bring;
+use crate::kept_lists::bring_over;
 use crate::kept_lists::keep;
 use crate::kept_lists::kept_place;
 use crate::list_area::LABEL;
@@ -74,30 +75,21 @@ fn past_names(x: usize, firsts: &[u8], n: usize, seconds: &[u8], m: usize) -> bo
     some_binds(seconds, m)
 }
 
-// Lists one side, unless its list is at hand or kept. A part above the limit stands in no slot. The lister is lent the room of the list at hand
-// alone: it promises nothing of the area after "unsettled".
-fn list_side(
+// Lists one side anew, and keeps the list at `p` if it is short. The lister is lent the room of the list at hand alone: it promises nothing of the
+// area after "unsettled".
+fn list_anew(
     question: &[u8],
     bodies: &[u32],
     part: &[u8],
     x: usize,
     numbers: &mut [u32],
     rows: &mut [u8],
+    p: usize,
     area: &mut [u8],
 ) -> ListAnswer
-    requires { ⌜ (x ≤ nameCount) × BodiesTallied (now question) (now bodies) × (length (now numbers) ≡ tallySize) × (rowBytes * mostRows ≤ length (now rows)) × Labelled (now question) (now area) ⌝ }
+    requires { ⌜ (x ≤ nameCount) × BodiesTallied (now question) (now bodies) × (length (now numbers) ≡ tallySize) × (rowBytes * mostRows ≤ length (now rows)) × (length (now part) ≤ longestTerm) × KeptPlace p × Labelled (now question) (now area) ⌝ }
     ensures { λ r. ⌜ SideIs (now (question .entry)) (now (part .entry)) x r (now (area .exit)) × Labelled (now (question .entry)) (now (area .exit)) ⌝ }
 {
-    if LONGEST_TERM < part.len() {
-        return ListAnswer::Unsettled;
-    }
-    if has_list(area, LABEL, part, x) {
-        return ListAnswer::Count(steps_in(area, LABEL));
-    }
-    let p = kept_place(part, x);
-    if has_list(area, p, part, x) {
-        return ListAnswer::Count(bring(area, p, part, x));
-    }
     let answer = list_tallied(
         question,
         bodies,
@@ -120,6 +112,36 @@ fn list_side(
     }
 }
 
+// Lists one side, unless its list is at hand, or kept here or on the other side. A part above the limit stands in no slot.
+fn list_side(
+    question: &[u8],
+    bodies: &[u32],
+    part: &[u8],
+    x: usize,
+    numbers: &mut [u32],
+    rows: &mut [u8],
+    other: &[u8],
+    area: &mut [u8],
+) -> ListAnswer
+    requires { ⌜ (x ≤ nameCount) × BodiesTallied (now question) (now bodies) × (length (now numbers) ≡ tallySize) × (rowBytes * mostRows ≤ length (now rows)) × Labelled (now question) (now other) × Labelled (now question) (now area) ⌝ }
+    ensures { λ r. ⌜ SideIs (now (question .entry)) (now (part .entry)) x r (now (area .exit)) × Labelled (now (question .entry)) (now (area .exit)) ⌝ }
+{
+    if LONGEST_TERM < part.len() {
+        return ListAnswer::Unsettled;
+    }
+    if has_list(area, LABEL, part, x) {
+        return ListAnswer::Count(steps_in(area, LABEL));
+    }
+    let p = kept_place(part, x);
+    if has_list(area, p, part, x) {
+        return ListAnswer::Count(bring(area, p, part, x));
+    }
+    if has_list(other, p, part, x) {
+        return ListAnswer::Count(bring_over(other, p, part, x, area));
+    }
+    list_anew(question, bodies, part, x, numbers, rows, p, area)
+}
+
 // Lists the second side. Where it is the same part as the first, which has `n` steps, its list is a copy.
 fn list_second(
     question: &[u8],
@@ -133,7 +155,7 @@ fn list_second(
     n: usize,
     seconds: &mut [u8],
 ) -> ListAnswer
-    requires { ⌜ (x ≤ nameCount) × BodiesTallied (now question) (now bodies) × (length (now numbers) ≡ tallySize) × (rowBytes * mostRows ≤ length (now rows)) × (listArea ≤ length (now firsts)) × (length (now first) ≤ longestTerm) × ListIn (now question) (now first) x n (now firsts) × Labelled (now question) (now seconds) ⌝ }
+    requires { ⌜ (x ≤ nameCount) × BodiesTallied (now question) (now bodies) × (length (now numbers) ≡ tallySize) × (rowBytes * mostRows ≤ length (now rows)) × Labelled (now question) (now firsts) × (length (now first) ≤ longestTerm) × ListIn (now question) (now first) x n (now firsts) × Labelled (now question) (now seconds) ⌝ }
     ensures { λ r. ⌜ SideIs (now (question .entry)) (now (second .entry)) x r (now (seconds .exit)) × Labelled (now (question .entry)) (now (seconds .exit)) ⌝ }
 {
     if same_part(first, second) {
@@ -141,7 +163,7 @@ fn list_second(
         put_label(seconds, LABEL, second, x, n);
         return ListAnswer::Count(n);
     }
-    list_side(question, bodies, second, x, numbers, rows, seconds)
+    list_side(question, bodies, second, x, numbers, rows, firsts, seconds)
 }
 
 // Lists both sides, each in its area, for the new name `x`.
@@ -159,7 +181,7 @@ fn list_sides(
     requires { ⌜ (x ≤ nameCount) × BodiesTallied (now question) (now bodies) × (length (now numbers) ≡ tallySize) × (rowBytes * mostRows ≤ length (now rows)) × Labelled (now question) (now firsts) × Labelled (now question) (now seconds) ⌝ }
     ensures { λ r. ⌜ ListsSides (now (question .entry)) (now (first .entry)) (now (second .entry)) x r (now (firsts .exit)) (now (seconds .exit)) × Labelled (now (question .entry)) (now (firsts .exit)) × Labelled (now (question .entry)) (now (seconds .exit)) ⌝ }
 {
-    let n = match list_side(question, bodies, first, x, numbers, rows, firsts) {
+    let n = match list_side(question, bodies, first, x, numbers, rows, seconds, firsts) {
         ListAnswer::Unsettled => return Lists::Past,
         ListAnswer::Count(n) => n,
     };

@@ -25,7 +25,7 @@ same-length c = search needs
 
 returns : tie.Need-returns
 returns c =
-    brought _ _ _ _ _ _ _ (c .before .before .before .before .before .before .before .before .before .before .before .before .pre .0) (c .before .before .before .before .before .before .before .before .before .before .before .before .pre .1) (omega (arith, c .before .before .before .before .before .before .before .before .before .before .before .before .pre .2, c .before .before .before .before .before .before .before .before .steps-in .ensures)) (c .before .before .before .before .before .before .before .before .before .before .before .before .pre .4) (c .before .before .before .before .before .before .before .before .steps-in .ensures) (c .before .before .before .before .before .before .copy-within .ensures) (c .before .before .put-label .ensures)
+    brought _ _ _ _ _ _ _ _ (c .before .before .before .before .before .before .before .before .before .before .before .before .pre .0) (c .before .before .before .before .before .before .before .before .before .before .before .before .pre .1) (omega (arith, c .before .before .before .before .before .before .before .before .before .before .before .before .pre .2, c .before .before .before .before .before .before .before .before .steps-in .ensures)) (c .before .before .before .before .before .before .before .before .before .before .before .before .pre .4) (c .before .before .before .before .before .before .before .before .steps-in .ensures) (c .before .before .before .before .before .before .copy-within .ensures) (c .before .before .put-label .ensures)
     (omega (arith, c .before .before .put-label .kept, c .before .before .before .before .before .before .copy-within .kept, c .before .before .before .before .before .before .before .before .before .before .before .before .pre .0))
 
 pub bring-spec : {M : Type 1} → statement M

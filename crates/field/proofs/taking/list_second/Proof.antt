@@ -17,7 +17,7 @@ mul-copy : tie.Need-mul-copy
 mul-copy c = search needs
 
 copy-requires : tie.Need-copy-requires
-copy-requires c κs = (omega (arith, c .before .before .before .before .before .before .before .before .before .before .before .pre .6 .few, c .before .before .before .before .before .before .before .before .before .before .before .pre .4), omega (arith, c .before .before .before .before .before .before .before .before .before .before .before .pre .6 .few, c .before .before .before .before .before .before .before .before .before .before .before .pre .7 .room))
+copy-requires c κs = (omega (arith, c .before .before .before .before .before .before .before .before .before .before .before .pre .6 .few, c .before .before .before .before .before .before .before .before .before .before .before .pre .4 .room), omega (arith, c .before .before .before .before .before .before .before .before .before .before .before .pre .6 .few, c .before .before .before .before .before .before .before .before .before .before .before .pre .7 .room))
 
 put-label-requires : tie.Need-put-label-requires
 put-label-requires c κs = (omega (arith, c .before .before .before .copy .kept, c .before .before .before .before .before .before .before .before .before .before .before .before .before .before .before .pre .7 .room), omega (arith, ap length (c .before .before .before .before .before .before .same-part .ensures (c .before .before .before .before .before .if1 .taken)), c .before .before .before .before .before .before .before .before .before .before .before .before .before .before .before .pre .5), c .before .before .before .before .before .before .before .before .before .before .before .before .before .before .before .pre .0, c .before .before .before .before .before .before .before .before .before .before .before .before .before .before .before .pre .6 .few)
@@ -29,13 +29,13 @@ returns : tie.Need-returns
 returns c =
     let a = c .before .before .before .before .before .before .before .before .before .before .before .before .before .before .before .before .before .before .args in
     let list : ListIn (a .question .now) (a .second .now) (a .x) (a .n) (a .firsts .now) = subst (λ part. ListIn (a .question .now) part (a .x) (a .n) (a .firsts .now)) (c .before .before .before .before .before .before .before .before .before .same-part .ensures (c .before .before .before .before .before .before .before .before .if1 .taken)) (c .before .before .before .before .before .before .before .before .before .before .before .before .before .before .before .before .before .before .pre .6) in
-    let there : 0 + stepBytes * a .n ≤ length (a .firsts .now) = omega (arith, c .before .before .before .before .before .before .before .before .before .before .before .before .before .before .before .before .before .before .pre .6 .few, c .before .before .before .before .before .before .before .before .before .before .before .before .before .before .before .before .before .before .pre .4) in
+    let there : 0 + stepBytes * a .n ≤ length (a .firsts .now) = omega (arith, c .before .before .before .before .before .before .before .before .before .before .before .before .before .before .before .before .before .before .pre .6 .few, c .before .before .before .before .before .before .before .before .before .before .before .before .before .before .before .before .before .before .pre .4 .room) in
     side-is _ _ _ _ _ (omega (arith, ap length (c .before .before .before .before .before .before .before .before .before .same-part .ensures (c .before .before .before .before .before .before .before .before .if1 .taken)), c .before .before .before .before .before .before .before .before .before .before .before .before .before .before .before .before .before .before .pre .5))
     (labelled-by _ _ _ _ _ _ (kept-copied _ _ _ _ _ 0 _ _ list there (c .before .before .before .before .before .before .before .before .before .before .before .before .before .before .before .before .before .before .pre .7 .room) (c .before .before .before .before .before .before .copy .ensures) (c .before .before .before .before .before .before .before .before .before .before .before .before .before .before .before .before .before .before .pre .7 .kept)) (list-copied _ _ _ _ _ 0 _ _ list there (c .before .before .before .before .before .before .before .before .before .before .before .before .before .before .before .before .before .before .pre .7 .room) (c .before .before .before .before .before .before .copy .ensures)) (c .before .before .put-label .ensures)
     (omega (arith, c .before .before .put-label .kept, c .before .before .before .before .before .before .copy .kept, c .before .before .before .before .before .before .before .before .before .before .before .before .before .before .before .before .before .before .pre .7 .room)))
 
 list-side-requires : tie.Need-list-side-requires
-list-side-requires c κs = (c .before .before .before .before .before .before .before .before .before .before .before .before .before .pre .0, c .before .before .before .before .before .before .before .before .before .before .before .before .before .pre .1, c .before .before .before .before .before .before .before .before .before .before .before .before .before .pre .2, c .before .before .before .before .before .before .before .before .before .before .before .before .before .pre .3, c .before .before .before .before .before .before .before .before .before .before .before .before .before .pre .7)
+list-side-requires c κs = (c .before .before .before .before .before .before .before .before .before .before .before .before .before .pre .0, c .before .before .before .before .before .before .before .before .before .before .before .before .before .pre .1, c .before .before .before .before .before .before .before .before .before .before .before .before .before .pre .2, c .before .before .before .before .before .before .before .before .before .before .before .before .before .pre .3, c .before .before .before .before .before .before .before .before .before .before .before .before .before .pre .4, c .before .before .before .before .before .before .before .before .before .before .before .before .before .pre .7)
 
 same-length-2 : tie.Need-same-length-2
 same-length-2 c = search needs

@@ -1,13 +1,13 @@
 -- `field::taking::list_sides` meets its contract. Assumes nothing.
 use native.Mathlib.Omega.{arith}
-use borrow.Author.Needs.{needs}
 use Rattle.field.proofs.ListAreaLaws.{side-list}
 use Rattle.field.proofs.TakingLaws.{sides-first-past, sides-second-past, sides-names-past, sides-listed}
+use borrow.Author.Needs.{needs}
 use Rattle.field.proofs.taking.list_sides.Statement.{statement}
 use Rattle.field.proofs.taking.list_sides.Tie as tie
 
 list-side-requires : tie.Need-list-side-requires
-list-side-requires c κs = (c .before .before .before .before .before .before .before .before .before .before .before .pre .0, c .before .before .before .before .before .before .before .before .before .before .before .pre .1, c .before .before .before .before .before .before .before .before .before .before .before .pre .2, c .before .before .before .before .before .before .before .before .before .before .before .pre .3, c .before .before .before .before .before .before .before .before .before .before .before .pre .4)
+list-side-requires c κs = (c .before .before .before .before .before .before .before .before .before .before .before .before .pre .0, c .before .before .before .before .before .before .before .before .before .before .before .before .pre .1, c .before .before .before .before .before .before .before .before .before .before .before .before .pre .2, c .before .before .before .before .before .before .before .before .before .before .before .before .pre .3, c .before .before .before .before .before .before .before .before .before .before .before .before .pre .5, c .before .before .before .before .before .before .before .before .before .before .before .before .pre .4)
 
 enum-told : tie.Need-enum-told
 enum-told c = search needs
@@ -21,8 +21,11 @@ same-length-2 c = search needs
 same-length-3 : tie.Need-same-length-3
 same-length-3 c = search needs
 
+same-length-4 : tie.Need-same-length-4
+same-length-4 c = search needs
+
 returns : tie.Need-returns
-returns c = (sides-first-past _ _ _ _ _ _ _ (c .before .before .before .before .before .before .before .before .list-side .ensures .0) (c .enum-told .given .1), c .before .before .before .before .before .before .before .before .list-side .ensures .1, c .before .before .before .before .before .before .before .before .before .before .before .before .before .before .before .before .before .before .before .before .pre .5)
+returns c = (sides-first-past _ _ _ _ _ _ _ (c .before .before .before .before .before .before .before .before .list-side .ensures .0) (c .enum-told .given .1), c .before .before .before .before .before .before .before .before .list-side .ensures .1, c .before .before .before .before .before .before .before .before .before .before .before .before .before .before .before .before .before .before .before .before .before .pre .5)
 
 enum-known-n : tie.Need-enum-known-n
 enum-known-n c = search needs
@@ -31,13 +34,10 @@ list-second-requires : tie.Need-list-second-requires
 list-second-requires c κs =
     let first = side-list _ _ _ _ _ (c .before .before .before .before .before .before .before .before .before .before .before .before .before .list-side .ensures .0) _ (c .before .before .before .before .before .n .given .1) in
     let k = c .before .before .before .before .before .before .before .before .before .before .before .before .before .list-side .kept in
-    (c .before .before .before .before .before .before .before .before .before .before .before .before .before .before .before .before .before .before .before .before .before .before .before .before .before .pre .0, c .before .before .before .before .before .before .before .before .before .before .before .before .before .before .before .before .before .before .before .before .before .before .before .before .before .pre .1, omega (arith, k, c .before .before .before .before .before .before .before .before .before .before .before .before .before .before .before .before .before .before .before .before .before .before .before .before .before .pre .2), omega (arith, k, c .before .before .before .before .before .before .before .before .before .before .before .before .before .before .before .before .before .before .before .before .before .before .before .before .before .pre .3), c .before .before .before .before .before .before .before .before .before .before .before .before .before .list-side .ensures .1 .room, first .1, first .0, c .before .before .before .before .before .before .before .before .before .before .before .before .before .before .before .before .before .before .before .before .before .before .before .before .before .pre .5)
+    (c .before .before .before .before .before .before .before .before .before .before .before .before .before .before .before .before .before .before .before .before .before .before .before .before .before .before .pre .0, c .before .before .before .before .before .before .before .before .before .before .before .before .before .before .before .before .before .before .before .before .before .before .before .before .before .before .pre .1, omega (arith, k, c .before .before .before .before .before .before .before .before .before .before .before .before .before .before .before .before .before .before .before .before .before .before .before .before .before .before .pre .2), omega (arith, k, c .before .before .before .before .before .before .before .before .before .before .before .before .before .before .before .before .before .before .before .before .before .before .before .before .before .before .pre .3), c .before .before .before .before .before .before .before .before .before .before .before .before .before .list-side .ensures .1, first .1, first .0, c .before .before .before .before .before .before .before .before .before .before .before .before .before .before .before .before .before .before .before .before .before .before .before .before .before .before .pre .5)
 
 enum-told-2 : tie.Need-enum-told-2
 enum-told-2 c = search needs
-
-same-length-4 : tie.Need-same-length-4
-same-length-4 c = search needs
 
 same-length-5 : tie.Need-same-length-5
 same-length-5 c = search needs
@@ -47,6 +47,9 @@ same-length-6 c = search needs
 
 same-length-7 : tie.Need-same-length-7
 same-length-7 c = search needs
+
+same-length-8 : tie.Need-same-length-8
+same-length-8 c = search needs
 
 returns-2 : tie.Need-returns-2
 returns-2 c = (sides-second-past _ _ _ _ _ _ _ (c .before .before .before .before .before .before .before .before .list-second .ensures .0) (c .enum-told2 .given .1), c .before .before .before .before .before .before .before .before .before .before .before .before .before .before .before .before .before .before .before .before .before .before .list-side .ensures .1, c .before .before .before .before .before .before .before .before .list-second .ensures .1)
@@ -60,9 +63,6 @@ past-names-requires c κs =
     let m = (side-list _ _ _ _ _ (c .before .before .before .before .before .before .before .before .before .before .before .list-second .ensures .0) _ (c .before .before .before .m .given .1) .0) .few in
     (omega (arith, n, c .before .before .before .before .before .before .before .before .before .before .before .before .before .before .before .before .before .before .before .before .before .before .before .before .before .list-side .ensures .1 .room), omega (arith, m, c .before .before .before .before .before .before .before .before .before .before .before .list-second .ensures .1 .room))
 
-same-length-8 : tie.Need-same-length-8
-same-length-8 c = search needs
-
 same-length-9 : tie.Need-same-length-9
 same-length-9 c = search needs
 
@@ -72,11 +72,11 @@ same-length-10 c = search needs
 same-length-11 : tie.Need-same-length-11
 same-length-11 c = search needs
 
-returns-3 : tie.Need-returns-3
-returns-3 c = (sides-names-past _ _ _ _ _ _ (c .before .before .before .before .before .before .before .before .before .before .before .before .before .before .before .before .before .before .before .before .before .before .before .before .before .before .before .list-side .ensures .1 .room) (c .before .before .before .before .before .before .before .before .before .before .before .before .before .list-second .ensures .1 .room) _ _ (side-list _ _ _ _ _ (c .before .before .before .before .before .before .before .before .before .before .before .before .before .before .before .before .before .before .before .before .before .before .before .before .before .before .before .list-side .ensures .0) _ (c .before .before .before .before .before .before .before .before .before .before .before .before .before .before .before .before .before .before .before .n .given .1) .0) (side-list _ _ _ _ _ (c .before .before .before .before .before .before .before .before .before .before .before .before .before .list-second .ensures .0) _ (c .before .before .before .before .before .m .given .1) .0) _ (c .before .past-names .ensures) (c .if1 .taken), c .before .before .before .before .before .before .before .before .before .before .before .before .before .before .before .before .before .before .before .before .before .before .before .before .before .before .before .list-side .ensures .1, c .before .before .before .before .before .before .before .before .before .before .before .before .before .list-second .ensures .1)
-
 same-length-12 : tie.Need-same-length-12
 same-length-12 c = search needs
+
+returns-3 : tie.Need-returns-3
+returns-3 c = (sides-names-past _ _ _ _ _ _ (c .before .before .before .before .before .before .before .before .before .before .before .before .before .before .before .before .before .before .before .before .before .before .before .before .before .before .before .list-side .ensures .1 .room) (c .before .before .before .before .before .before .before .before .before .before .before .before .before .list-second .ensures .1 .room) _ _ (side-list _ _ _ _ _ (c .before .before .before .before .before .before .before .before .before .before .before .before .before .before .before .before .before .before .before .before .before .before .before .before .before .before .before .list-side .ensures .0) _ (c .before .before .before .before .before .before .before .before .before .before .before .before .before .before .before .before .before .before .before .n .given .1) .0) (side-list _ _ _ _ _ (c .before .before .before .before .before .before .before .before .before .before .before .before .before .list-second .ensures .0) _ (c .before .before .before .before .before .m .given .1) .0) _ (c .before .past-names .ensures) (c .if1 .taken), c .before .before .before .before .before .before .before .before .before .before .before .before .before .before .before .before .before .before .before .before .before .before .before .before .before .before .before .list-side .ensures .1, c .before .before .before .before .before .before .before .before .before .before .before .before .before .list-second .ensures .1)
 
 same-length-13 : tie.Need-same-length-13
 same-length-13 c = search needs
@@ -86,6 +86,9 @@ same-length-14 c = search needs
 
 same-length-15 : tie.Need-same-length-15
 same-length-15 c = search needs
+
+same-length-16 : tie.Need-same-length-16
+same-length-16 c = search needs
 
 returns-4 : tie.Need-returns-4
 returns-4 c = (sides-listed _ _ _ _ _ _ (c .before .before .before .before .before .before .before .before .before .before .before .before .before .before .before .before .before .before .before .before .before .before .before .before .before .before .before .list-side .ensures .1 .room) (c .before .before .before .before .before .before .before .before .before .before .before .before .before .list-second .ensures .1 .room) _ _ (side-list _ _ _ _ _ (c .before .before .before .before .before .before .before .before .before .before .before .before .before .before .before .before .before .before .before .before .before .before .before .before .before .before .before .list-side .ensures .0) _ (c .before .before .before .before .before .before .before .before .before .before .before .before .before .before .before .before .before .before .before .n .given .1) .0) (side-list _ _ _ _ _ (c .before .before .before .before .before .before .before .before .before .before .before .before .before .list-second .ensures .0) _ (c .before .before .before .before .before .m .given .1) .0) _ (c .before .past-names .ensures) (c .if1 .left), c .before .before .before .before .before .before .before .before .before .before .before .before .before .before .before .before .before .before .before .before .before .before .before .before .before .before .before .list-side .ensures .1, c .before .before .before .before .before .before .before .before .before .before .before .before .before .list-second .ensures .1)
@@ -99,24 +102,25 @@ list-sides-spec =
     same-length
     same-length-2
     same-length-3
+    same-length-4
     returns
     enum-known-n
     list-second-requires
     enum-told-2
-    same-length-4
     same-length-5
     same-length-6
     same-length-7
+    same-length-8
     returns-2
     enum-known-m
     past-names-requires
-    same-length-8
     same-length-9
     same-length-10
     same-length-11
-    returns-3
     same-length-12
+    returns-3
     same-length-13
     same-length-14
     same-length-15
+    same-length-16
     returns-4)
