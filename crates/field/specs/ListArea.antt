@@ -25,10 +25,10 @@ abbrev pub labelBytes : ℕ
 labelBytes = 116
 
 abbrev pub keptSteps : ℕ
-keptSteps = 5
+keptSteps = 6
 
 abbrev pub keptBytes : ℕ
-keptBytes = 776
+keptBytes = 908
 
 abbrev pub keptLists : ℕ
 keptLists = 32
@@ -37,7 +37,7 @@ abbrev pub keptPlace : ℕ → ℕ
 keptPlace i = 34164 + keptBytes * i
 
 abbrev pub listArea : ℕ
-listArea = 58996
+listArea = 63220
 
 abbrev pub labelAt : List ℕ → ℕ → List ℕ
 labelAt area p = take labelBytes (drop p area)
