@@ -39,6 +39,7 @@ use Rattle.verdict.specs.declared.judge.Judged.{Judged}
 use Rattle.verdict.specs.declared.judge.Judged.the-variants.{Unsettled, Same, Different}
 use Rattle.verdict.proofs.AnyOrder.{StrikesTo, NoneToStrike, survivors-left, same-found}
 use Rattle.verdict.proofs.ByNumber.{distinct-number}
+use Rattle.verdict.proofs.FieldKept.{field-kept}
 use Rattle.verdict.proofs.FieldRows.{FieldRows, good-rows, explored-rows, rows-field}
 use Rattle.verdict.proofs.LeftLaws.{left-found}
 use Rattle.verdict.proofs.Living.{living-at}
@@ -132,15 +133,17 @@ module _ (question : List ℕ) (q : Question) (accepted : checkOf question ≡ r
   searching : Searching question capacity work (length rs)
   unfolding settingOf
   searching = record {
-    read = q;
-    accepted = accepted;
-    known = selves rs;
-    number = count;
-    standing = standing;
-    first = λ s m. those .proper s m .first;
-    second = λ s m. those .proper s m .second;
-    distinction = λ s m. those .proper s m .distinction;
-    closed = leads-within;
+    field = record {
+      read = q;
+      accepted = accepted;
+      known = selves rs;
+      number = count;
+      standing = standing;
+      first = λ s m. those .proper s m .first;
+      second = λ s m. those .proper s m .second;
+      distinction = λ s m. those .proper s m .distinction;
+      closed = leads-within;
+    };
     struck = struck-unanswered;
   }
 
@@ -160,11 +163,11 @@ module _ (question : List ℕ) (q : Question) (accepted : checkOf question ≡ r
 
     -- the byte of slot 0
     start-left : found (leftOf v (selves rs)) (startOf q) ≡ eqb (getD v (struckAt 0) 0) 0
-    unfolding search still searching
-    start-left = left-found v (selves rs) (search .standing) 0 (startOf q) (startOf q) some start-here
+    unfolding search still field-kept searching
+    start-left = left-found v (selves rs) (search .field .standing) 0 (startOf q) (startOf q) some start-here
 
     none-to-strike : AllSurvive question capacity v (length rs) → NoneToStrike rs (leftOf v (selves rs))
-    unfolding AllSurvive SurvivesIs search still searching
+    unfolding AllSurvive SurvivesIs search still field-kept searching
     none-to-strike a = record { answers = each }
       where
         each : (r : Row) → r ∈ rs → r .self ∈ leftOf v (selves rs) → allAnswered (leftOf v (selves rs)) (r .wants) ≡ true

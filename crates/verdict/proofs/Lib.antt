@@ -4,12 +4,14 @@ pub mod Completeness
 pub mod DecideLaws
 pub mod DecidedField
 pub mod EntriesKeep
+pub mod FieldKept
 pub mod FieldRows
 pub mod JudgeLaws
 pub mod LeftLaws
 pub mod ListOfEntries
 pub mod Living
 pub mod Marks
+pub mod NoteLaws
 pub mod OutcomeLaws
 pub mod RelatedVerdicts
 pub mod Rounds

@@ -1,4 +1,5 @@
 -- The bytes that say which situations are left: one store strikes one out, and changes no key. Assumes nothing.
+use mathlib.Core.Bool.{Bool, true}
 use mathlib.Core.List.{List}
 use mathlib.Core.Path.{_≡_, refl, sym, ap, _∙_}
 use native.Mathlib.Decide.{ℕ-discrete}
@@ -6,8 +7,9 @@ use native.Mathlib.Omega.{arith}
 use Prim.Native.Nat.{ℕ, zero, suc, _+_, _*_, _<_, _≤_}
 use lib.ListN.{length, getD, set, length-set}
 use lib.Seq.{getD-set-same, getD-set-other, ext-getD}
+use borrow.Author.Tests.{eqb-true}
 use Rattle.field.specs.Slot.{slotBytes, struckAt}
-use Rattle.verdict.specs.Striking.{marksFrom, marks, zeros}
+use Rattle.verdict.specs.Striking.{marksFrom, marks, zeros, LeftAtIs}
 use Rattle.verdict.proofs.Living.{struck-fewer}
 
 length-marksFrom : (work : List ℕ) (i n : ℕ) → length (marksFrom work i n) ≡ n
@@ -28,6 +30,18 @@ marksFrom-at work i (suc n) (suc k) d h =
 
 pub marks-at : (work : List ℕ) (n k d : ℕ) → k < n → getD (marks work n) k d ≡ getD work (struckAt k) 0
 marks-at work n k d h = let e : 0 + k ≡ k = omega arith in marksFrom-at work 0 n k d h ∙ ap (λ j. getD work (struckAt j) 0) e
+
+pub marks-kept : (work work′ : List ℕ) (n : ℕ) → ((i : ℕ) → getD work′ (struckAt i) 0 ≡ getD work (struckAt i) 0) → marks work′ n ≡ marks work n
+marks-kept work work′ n so =
+    ext-getD 0 (marks work′ n) (marks work n) (length-marks work′ n ∙ sym (length-marks work n))
+    (λ k h.
+    let l : k < n = omega (arith, length-marks work′ n) in
+    marks-at work′ n k 0 l ∙ so k ∙ sym (marks-at work n k 0 l))
+
+-- as the code tests it
+pub left-zero : (work : List ℕ) (i : ℕ) (r : Bool) → LeftAtIs work i r → r ≡ true → getD work (struckAt i) 0 ≡ 0
+unfolding LeftAtIs
+left-zero work i r l e = eqb-true (getD work (struckAt i) 0) 0 (sym l ∙ e)
 
 -- slot i struck out
 module _ (work : List ℕ) (n i : ℕ) (below : i < n) (room : slotBytes * n ≤ length work) where

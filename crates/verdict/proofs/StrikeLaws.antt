@@ -8,7 +8,7 @@ use native.Mathlib.Omega.{arith}
 use Prim.Native.Nat.{ℕ, _+_, _*_, _<_, _≤_}
 use lib.ListN.{length, getD, set, drop, replicate, length-set, length-map, length-replicate, getD-replicate, List·getD-map}
 use lib.Seq.{drop-set-lt, getD-set-other, ext-getD}
-use borrow.Author.Tests.{eqb-true, eqb-false}
+use borrow.Author.Tests.{eqb-false}
 use Rattle.calculus.specs.Term.{nil}
 use Rattle.steps.specs.Lists.{_∈_}
 use Rattle.field.specs.Exploration.{unanswered, Row}
@@ -18,21 +18,19 @@ use Rattle.field.specs.Situation.{Situation}
 use Rattle.field.specs.Slot.{slotBytes, struckAt}
 use Rattle.field.specs.Successors.{leads, successors}
 use Rattle.field.proofs.Run.{selves}
-use Rattle.field.proofs.ChainLaws.{key-flag, chained-flag}
 use Rattle.field.proofs.Members.{getD-∈}
-use Rattle.field.proofs.SlotWriting.{situation-kept}
-use Rattle.verdict.specs.Striking.{marks, living, zeros, leftOf, Standing, LeftAtIs, Searching, SurvivesIs, Strikes, none-struck, one-struck, StrikesOne, AllSurvive, PassIs, SomeStruckIs, StartSurvivesIs}
+use Rattle.verdict.specs.Notes.{SpareOnly, NoteIs, RestsIs}
+use Rattle.verdict.specs.Striking.{marks, living, zeros, leftOf, LeftAtIs, Searching, SurvivesIs, ExaminedIs, AllNoted, Strikes, none-struck, one-struck, notes-changed, StrikesOne, AllSurvive, PassIs, SomeStruckIs, StartSurvivesIs}
 use Rattle.verdict.specs.Verdict.{allAnswered}
+use Rattle.verdict.specs.declared.strike.Answered.{Answered}
 use Rattle.verdict.proofs.AnyOrder.{StrikesTo, all-left}
 use Rattle.verdict.proofs.AnyOrder as order
+use Rattle.verdict.proofs.FieldKept.{SameField, same-none, same-then, struck-same, spare-same, field-kept, noted-struck, noted-one, rests-survives, spare-mark, spare-left, survives-kept}
 use Rattle.verdict.proofs.Living.{struck-either, struck-within, all-living}
-use Rattle.verdict.proofs.Marks.{length-marks, marks-at, marks-set, zeros-fewer}
+use Rattle.verdict.proofs.Marks.{length-marks, marks-at, marks-kept, marks-set, zeros-fewer}
+use Rattle.verdict.proofs.NoteLaws.{spare-none}
 use Rattle.verdict.proofs.Rounds.{true-not-false}
 use Rattle.verdict.proofs.Unanswered.{all-within, strikes-flagged}
-
-pub left-zero : (work : List ℕ) (i : ℕ) (r : Bool) → LeftAtIs work i r → r ≡ true → getD work (struckAt i) 0 ≡ 0
-unfolding LeftAtIs
-left-zero work i r l e = eqb-true (getD work (struckAt i) 0) 0 (sym l ∙ e)
 
 -- some_struck
 pub some-gone : (work : List ℕ) (count i : ℕ) (r : Bool) → i < count → LeftAtIs work i r → r ≡ false → SomeStruckIs work count true
@@ -56,37 +54,35 @@ left-all work known h =
     marks-at work n i 0 k ∙ h i k ∙ sym (getD-replicate {A = ℕ} n i 0 0 k)) in
     ap (λ fs. living fs known) zero ∙ all-living known
 
--- One store changes no key.
-module _ (v : List ℕ) (i : ℕ) where
-  standing-kept : {capacity : ℕ} (known : List Situation) → Standing capacity v known → Standing capacity (set v (struckAt i) 1) known
-  standing-kept {capacity} known st = record {
-    held = λ j d h. situation-kept v (set v (struckAt i) 1) (key-flag v i 1) j (getD known j d) (st .held j d h);
-    once = λ j k g h e. st .once j k g h (sym (key-flag v i 1 j) ∙ e ∙ key-flag v i 1 k);
-    chained = chained-flag capacity v (length known) i 1 (st .chained);
-    exact = st .exact;
-  }
-
 module _ (question : List ℕ) (capacity count : ℕ) where
   pub strikes-then : {work v u : List ℕ} → Strikes question capacity count work v → Strikes question capacity count v u → Strikes question capacity count work u
   strikes-then s none-struck = s
   strikes-then s (one-struck t i h z d) = one-struck (strikes-then s t) i h z d
+  strikes-then s (notes-changed t c) = notes-changed (strikes-then s t) c
 
   pub strikes-length : {work v : List ℕ} → Strikes question capacity count work v → length v ≡ length work
   strikes-length none-struck = refl
   strikes-length (one-struck {v} t i h z d) = length-set v (struckAt i) 1 ∙ strikes-length t
+  strikes-length (notes-changed t c) = c .len ∙ strikes-length t
 
   pub strikes-rest : {work v : List ℕ} (k : ℕ) → count ≤ k → Strikes question capacity count work v → drop (slotBytes * k) v ≡ drop (slotBytes * k) work
   strikes-rest k g none-struck = refl
   strikes-rest k g (one-struck {v} t i h z d) = drop-set-lt (slotBytes * k) v (struckAt i) 1 (omega arith) ∙ strikes-rest k g t
+  strikes-rest k g (notes-changed t c) = c .rest k g ∙ strikes-rest k g t
+
+  spare-zeros : (v u : List ℕ) → SpareOnly count v u → zeros (marks u count) ≡ zeros (marks v count)
+  spare-zeros v u c = ap zeros (marks-kept v u count (spare-mark question capacity count v u c))
 
   strikes-most : {work v : List ℕ} → slotBytes * count ≤ length work → Strikes question capacity count work v → zeros (marks v count) ≤ zeros (marks work count)
   strikes-most room none-struck = omega arith
   strikes-most room (one-struck {v} t i h z d) =
       omega (arith, zeros-fewer v count i h (omega (arith, strikes-length t)) z, strikes-most room t)
+  strikes-most room (notes-changed {v} {u} t c) = omega (arith, spare-zeros v u c, strikes-most room t)
 
-  pub strikes-standing : {work v : List ℕ} (known : List Situation) → Strikes question capacity count work v → Standing capacity work known → Standing capacity v known
-  strikes-standing known none-struck st = st
-  strikes-standing known (one-struck {v} t i h z d) st = standing-kept v i known (strikes-standing known t st)
+  pub strikes-same : {work v : List ℕ} → Strikes question capacity count work v → SameField work v
+  strikes-same {work} none-struck = same-none work
+  strikes-same (one-struck {v} t i h z d) = same-then (strikes-same t) (struck-same v i)
+  strikes-same (notes-changed {v} {u} t c) = same-then (strikes-same t) (spare-same v u c)
 
   -- what is struck out stays struck out
   pub strikes-gone : {work v : List ℕ} (j : ℕ) → Strikes question capacity count work v → (getD work (struckAt j) 0 ≡ 0 → ⊥) → getD v (struckAt j) 0 ≡ 0 → ⊥
@@ -96,42 +92,50 @@ module _ (question : List ℕ) (capacity count : ℕ) where
       go : Dec (j ≡ i) → (getD v (struckAt j) 0 ≡ 0 → ⊥) → ⊥
       go (yes k) gone = gone (ap (λ n. getD v (struckAt n) 0) k ∙ z)
       go (no k) gone = gone (sym (getD-set-other v (struckAt i) (struckAt j) 1 0 (λ q. k (omega arith))) ∙ e)
+  strikes-gone j (notes-changed {v} {u} t c) h e = strikes-gone j t h (sym (spare-mark question capacity count v u c j) ∙ e)
 
   -- the field stays in the work area
   unfoldable pub still : {work v : List ℕ} → Strikes question capacity count work v → Searching question capacity work count → Searching question capacity v count
+  unfolding field-kept
   still s f = record {
-    read = f .read;
-    accepted = f .accepted;
-    known = f .known;
-    number = f .number;
-    standing = strikes-standing (f .known) s (f .standing);
-    first = f .first;
-    second = f .second;
-    distinction = f .distinction;
-    closed = f .closed;
+    field = field-kept question capacity count (strikes-same s) (f .field);
     struck = λ i d ms h e u. strikes-gone i s (f .struck i d ms h e u);
   }
 
   -- strike_one
-  module _ (work : List ℕ) (i : ℕ) where
+  module _ (work : List ℕ) (i : ℕ) (n : AllNoted question capacity work count) where
     pub gone-kept : (r : Bool) → LeftAtIs work i r → r ≡ false → StrikesOne question capacity work count i false work
     unfolding LeftAtIs
     gone-kept r l e = record {
       struck = λ q. true-not-false q refl;
-      kept = λ q. (refl, λ z. absurd (eqb-false (getD work (struckAt i) 0) 0 (sym l ∙ e) z));
+      kept = λ q. (spare-none count work, λ z. absurd (eqb-false (getD work (struckAt i) 0) 0 (sym l ∙ e) z));
+      noted = n;
     }
 
-    pub survivor-kept : (r : Bool) → SurvivesIs question capacity work count i r → r ≡ true → StrikesOne question capacity work count i false work
-    survivor-kept r s e = record {
+    pub resting-kept : (r : Bool) → i < count → RestsIs work count i r → r ≡ true → StrikesOne question capacity work count i false work
+    resting-kept r h s e = record {
       struck = λ q. true-not-false q refl;
-      kept = λ q. (refl, λ z. subst (SurvivesIs question capacity work count i) e s);
+      kept = λ q. (spare-none count work, λ z. rests-survives question capacity count work i r h n s e);
+      noted = n;
     }
 
-    pub one-strikes : (b : Bool) → getD work (struckAt i) 0 ≡ 0 → SurvivesIs question capacity work count i b → b ≡ false
+    pub survivor-noted : (r : Answered) (v : List ℕ) → i < count → ExaminedIs question capacity work count i r → r .all ≡ true → NoteIs work i (r .relied) v
+        → StrikesOne question capacity work count i false v
+    survivor-noted r v h s e t = record {
+      struck = λ q. true-not-false q refl;
+      kept = λ q. (spare-more work v h (t .spare), λ z. subst (SurvivesIs question capacity work count i) e (s .is));
+      noted = noted-one question capacity count work v i r s e t n;
+    }
+      where
+        spare-more : (work v : List ℕ) → i < count → SpareOnly (i + 1) work v → SpareOnly count work v
+        spare-more work v h c = record { len = c .len; slots = c .slots; rest = λ k g. c .rest k (omega arith) }
+
+    pub one-strikes : (r : Answered) → getD work (struckAt i) 0 ≡ 0 → ExaminedIs question capacity work count i r → r .all ≡ false
         → StrikesOne question capacity work count i true (set work (struckAt i) 1)
-    one-strikes b z s e = record {
-      struck = λ q. (z, subst (SurvivesIs question capacity work count i) e s, refl);
+    one-strikes r z s e = record {
+      struck = λ q. (z, subst (SurvivesIs question capacity work count i) e (s .is), refl);
       kept = λ q. true-not-false refl q;
+      noted = noted-struck question capacity count work i n;
     }
 
   -- A pass that has come down to number i.
@@ -139,12 +143,14 @@ module _ (question : List ℕ) (capacity count : ℕ) where
     pub strikes : Strikes question capacity count work v
     pub fewer : struck ≡ true → zeros (marks v count) < zeros (marks work count)
     pub none : struck ≡ false → (j : ℕ) → i ≤ j → j < count → getD v (struckAt j) 0 ≡ 0 → SurvivesIs question capacity v count j true
+    pub noted : AllNoted question capacity v count
 
-  pub passing-start : (work : List ℕ) → Passing work false work count
-  passing-start work = record {
+  pub passing-start : (work : List ℕ) → AllNoted question capacity work count → Passing work false work count
+  passing-start work n = record {
     strikes = none-struck;
     fewer = λ q. true-not-false q refl;
     none = λ q j g h. absurd (omega arith);
+    noted = n;
   }
 
   module _ (work : List ℕ) (struck : Bool) (v : List ℕ) (k i : ℕ) (next : k ≡ i + 1) (p : Passing work struck v k)
@@ -154,18 +160,24 @@ module _ (question : List ℕ) (capacity count : ℕ) where
     passing-struck r v′ room₀ s e =
         let (z, d, q) = s .struck e in
         let l = zeros-fewer v count i below (omega (arith, strikes-length (p .strikes))) z in
-        subst (λ u. Passing work true u i) (sym q)
-        (record {
-          strikes = one-struck (p .strikes) i below z d;
-          fewer = λ x. omega (arith, l, strikes-most room₀ (p .strikes));
+        record {
+          strikes = subst (Strikes question capacity count work) (sym q) (one-struck (p .strikes) i below z d);
+          fewer = λ x. rw q (omega (arith, l, strikes-most room₀ (p .strikes)));
           none = λ x. true-not-false refl x;
-        })
+          noted = s .noted;
+        }
 
     pub passing-kept : (r : Bool) (v′ : List ℕ) → StrikesOne question capacity v count i r v′ → r ≡ false → Passing work struck v′ i
     passing-kept r v′ s e =
-        let (q, d) = s .kept e in
-        subst (λ u. Passing work struck u i) (sym q)
-        (record { strikes = p .strikes; fewer = p .fewer; none = λ x j g h z. go x j g h z d (decLt i j) })
+        let (c, d) = s .kept e in
+        record {
+          strikes = notes-changed (p .strikes) c;
+          fewer = λ x. omega (arith, spare-zeros v v′ c, p .fewer x);
+          none = λ x j g h z.
+              survives-kept question capacity count v v′ c j true
+              (go x j g h (sym (spare-mark question capacity count v v′ c j) ∙ z) d (decLt i j));
+          noted = s .noted;
+        }
       where
         go : struck ≡ false → (j : ℕ) → i ≤ j → j < count → getD v (struckAt j) 0 ≡ 0 → (getD v (struckAt i) 0 ≡ 0 → SurvivesIs question capacity v count i true)
             → Dec (i < j) → SurvivesIs question capacity v count j true
@@ -176,7 +188,7 @@ module _ (question : List ℕ) (capacity count : ℕ) where
 
   pub passed : (work : List ℕ) (struck : Bool) (v : List ℕ) (i : ℕ) → i ≡ 0 → Passing work struck v i → PassIs question capacity work count struck v
   unfolding AllSurvive
-  passed work struck v i e p = record { strikes = p .strikes; fewer = p .fewer; none = λ x j h z. p .none x j (omega arith) h z }
+  passed work struck v i e p = record { strikes = p .strikes; fewer = p .fewer; none = λ x j h z. p .none x j (omega arith) h z; noted = p .noted }
 
   -- survives_passes
   pub pass-less : (v u : List ℕ) (again r : Bool) → slotBytes * count ≤ length v → again ≡ true → PassIs question capacity v count r u
@@ -214,16 +226,20 @@ module _ (question : List ℕ) (capacity count : ℕ) where
   none-struck-stays work b some s e = start-stays work work none-struck (s .none e 0 some) each
     where
       each : AllSurvive question capacity work count
-      each i h z f d ms l = sym (rw (left-all work (f .known) (λ j k. s .none e j (omega (arith, f .number)))) (go (unanswered ms) refl))
+      each i h z f d ms l =
+          let known = f .field .known in
+          sym (rw (left-all work known (λ j k. s .none e j (omega (arith, f .field .number)))) (go (unanswered ms) refl))
         where
-          go : (u : Bool) → unanswered ms ≡ u → allAnswered (f .known) ms ≡ true
+          go : (u : Bool) → unanswered ms ≡ u → allAnswered (f .field .known) ms ≡ true
           go true u = absurd (f .struck i d ms h l u z)
-          go false u = all-within (f .known) ms u (f .closed (getD (f .known) i d) (getD-∈ (f .known) i d (omega (arith, f .number))) ms l)
+          go false u =
+              let g = f .field in
+              all-within (g .known) ms u (g .closed (getD (g .known) i d) (getD-∈ (g .known) i d (omega (arith, g .number))) ms l)
 
 -- Over the rows of the field, from a work area in which exactly those with a permitted step that has no answer are struck out.
-module _ (question : List ℕ) (capacity : ℕ) (work : List ℕ) (rs : List Row) (f : Searching question capacity work (length rs)) (those : f .known ≡ selves rs)
+module _ (question : List ℕ) (capacity : ℕ) (work : List ℕ) (rs : List Row) (f : Searching question capacity work (length rs)) (those : f .field .known ≡ selves rs)
     (room : slotBytes * length rs ≤ length work)
-    (rows : (r : Row) → r ∈ rs → successors (settingOf (f .read .bodies)) (r .self) ≡ leads (r .wants))
+    (rows : (r : Row) → r ∈ rs → successors (settingOf (f .field .read .bodies)) (r .self) ≡ leads (r .wants))
     (first : StruckFirst work rs) where
   struck-at-first : StrikesTo rs (leftOf work (selves rs))
   unfolding StruckFirst
@@ -232,8 +248,8 @@ module _ (question : List ℕ) (capacity : ℕ) (work : List ℕ) (rs : List Row
       strikes-flagged rs [] (marks work (length (selves rs))) rs (length-marks work (length (selves rs)) ∙ n) (λ q m. m)
       (λ i d h. marks-at work (length (selves rs)) i 0 (omega arith) ∙ first i d h) all-left
 
-  pub strikes-to : {v : List ℕ} → Strikes question capacity (length rs) work v → StrikesTo rs (leftOf v (f .known))
-  unfolding still SurvivesIs
+  pub strikes-to : {v : List ℕ} → Strikes question capacity (length rs) work v → StrikesTo rs (leftOf v (f .field .known))
+  unfolding still field-kept SurvivesIs
   strikes-to none-struck =
       subst (λ k. StrikesTo rs (leftOf work k)) (sym those) struck-at-first
   strikes-to (one-struck {v} t i h z d) =
@@ -246,26 +262,28 @@ module _ (question : List ℕ) (capacity : ℕ) (work : List ℕ) (rs : List Row
       r = getD rs i blank
 
       n : ℕ
-      n = length (f .known)
+      n = length (f .field .known)
 
-      self : getD (f .known) i (blank .self) ≡ r .self
+      self : getD (f .field .known) i (blank .self) ≡ r .self
       self = ap (λ k. getD k i (blank .self)) those ∙ List·getD-map (λ (r : Row). r .self) rs i blank
 
       wide : slotBytes * n ≤ length v
-      wide = omega (arith, strikes-length question capacity (length rs) t, f .number)
+      wide = omega (arith, strikes-length question capacity (length rs) t, f .field .number)
 
-      unanswered : allAnswered (leftOf v (f .known)) (r .wants) ≡ false
+      unanswered : allAnswered (leftOf v (f .field .known)) (r .wants) ≡ false
       unanswered =
           sym (d (still question capacity (length rs) t f) (blank .self) (r .wants)
-          (ap (successors (settingOf (f .read .bodies))) self ∙ rows r (getD-∈ rs i blank h)))
+          (ap (successors (settingOf (f .field .read .bodies))) self ∙ rows r (getD-∈ rs i blank h)))
 
       set-is : marks (set v (struckAt i) 1) n ≡ set (marks v n) i 1
-      set-is = marks-set v n i (omega (arith, f .number)) wide
+      set-is = marks-set v n i (omega (arith, f .field .number)) wide
 
-      either : (s : Situation) → s ∈ leftOf v (f .known) → (s ≡ r .self) ⊎ (s ∈ leftOf (set v (struckAt i) 1) (f .known))
+      either : (s : Situation) → s ∈ leftOf v (f .field .known) → (s ≡ r .self) ⊎ (s ∈ leftOf (set v (struckAt i) 1) (f .field .known))
       either s m =
-          subst (λ u. (s ≡ u) ⊎ (s ∈ leftOf (set v (struckAt i) 1) (f .known))) self
-          (rw set-is (struck-either (marks v n) (f .known) i (blank .self) s m))
+          subst (λ u. (s ≡ u) ⊎ (s ∈ leftOf (set v (struckAt i) 1) (f .field .known))) self
+          (rw set-is (struck-either (marks v n) (f .field .known) i (blank .self) s m))
 
-      within : (s : Situation) → s ∈ leftOf (set v (struckAt i) 1) (f .known) → s ∈ leftOf v (f .known)
-      within s m = struck-within (marks v n) (f .known) i s (rw set-is at m)
+      within : (s : Situation) → s ∈ leftOf (set v (struckAt i) 1) (f .field .known) → s ∈ leftOf v (f .field .known)
+      within s m = struck-within (marks v n) (f .field .known) i s (rw set-is at m)
+  strikes-to (notes-changed {v} {u} t c) =
+      subst (StrikesTo rs) (sym (spare-left question capacity (length rs) v u c (f .field .known))) (strikes-to t)

@@ -1,6 +1,7 @@
 -- A situation survives if each permitted step of both sides is answered by those left. Assumes nothing.
 use mathlib.Core.Bool.{Bool, true, false, _&&_}
 use mathlib.Core.List.{List, [], _∷_, _++_}
+use mathlib.Core.Logic.{⊎-elim}
 use mathlib.Core.Path.{_≡_, refl, sym, ap, ap₂, _∙_, subst}
 use native.Mathlib.Omega.{arith}
 use Prim.Native.Nat.{ℕ, _*_, _<_}
@@ -9,7 +10,7 @@ use Rattle.calculus.specs.Free.{fn}
 use Rattle.terms.specs.Limits.{nameCount}
 use Rattle.steps.specs.Bodies.{AritiesIs}
 use Rattle.steps.specs.Lists.{_∈_}
-use Rattle.steps.proofs.Membership.{∈-left, ∈-right}
+use Rattle.steps.proofs.Membership.{∈-left, ∈-right, ∈-either}
 use Rattle.field.specs.Leading.{placed}
 use Rattle.field.specs.Setting.{settingOf}
 use Rattle.field.specs.Situation.{Situation, freeFrom, freeIn}
@@ -19,8 +20,12 @@ use Rattle.field.specs.TakingUp.{ListAt, SidesListed, ListsAre, TakenAs, TakesU
 use Rattle.field.specs.declared.taking.Lists.the-variants.{Past, Listed}
 use Rattle.field.specs.declared.taking.TakenUp.{TakenUp}
 use Rattle.field.proofs.Members.{getD-∈}
-use Rattle.verdict.specs.Striking.{leftOf, Side, SideAnsweredIs, Searching, SurvivesIs}
+use Rattle.verdict.specs.Notes.{Has, Few, Numbers}
+use Rattle.verdict.specs.Striking.{leftOf, Side, ReliesOn, SideAnsweredIs, FieldIn, LeadsTo, SurvivesIs, Relies, ExaminedIs}
 use Rattle.verdict.specs.Verdict.{answered, allAnswered}
+use Rattle.verdict.specs.declared.relied.Relied.{Relied}
+use Rattle.verdict.specs.declared.strike.Answered.{Answered}
+use Rattle.verdict.proofs.Rounds.{true-not-false}
 
 all-both : (left : List Situation) (ms ns : List (List Situation)) → allAnswered left (ms ++ ns) ≡ (allAnswered left ms && allAnswered left ns)
 unfolding allAnswered
@@ -34,7 +39,7 @@ all-both left (m ∷ ms) ns = go (answered left m) (all-both left ms ns)
 
 module _ (question : List ℕ) (capacity : ℕ) (work : List ℕ) (count i : ℕ) (below : i < count) (r : TakenUp) (firsts seconds : List ℕ)
     (takes : TakesUp question work (slotBytes * i) r firsts seconds) where
-  module _ (f : Searching question capacity work count) (d : Situation) where
+  module _ (f : FieldIn question capacity work count) (d : Situation) where
     abbrev here : Situation
     here = getD (f .known) i d
 
@@ -102,34 +107,58 @@ module _ (question : List ℕ) (capacity : ℕ) (work : List ℕ) (count i : ℕ
         closed = λ w g t h. leads-known w (∈-right w ofFirst ofSecond g) t h;
       }
 
-      both-sides : allAnswered (leftOf work (f .known)) ms
-          ≡ (allAnswered (leftOf work (f .known)) ofFirst && allAnswered (leftOf work (f .known)) ofSecond)
-      both-sides = ap (allAnswered (leftOf work (f .known))) those ∙ all-both (leftOf work (f .known)) ofFirst ofSecond
+      both-sides : (left : List Situation) → allAnswered left ms ≡ (allAnswered left ofFirst && allAnswered left ofSecond)
+      both-sides left = ap (allAnswered left) those ∙ all-both left ofFirst ofSecond
 
-  pub past-limit : r .lists ≡ Past → SurvivesIs question capacity work count i false
+  pub past-limit : r .lists ≡ Past → (relied : Relied) → Numbers relied
+      → ExaminedIs question capacity work count i (record { all = false; relied = relied })
   unfolding SurvivesIs ListsAre
-  past-limit e f d ms h =
-      let p = subst (λ k. ListsAre (f .read) (getD (f .known) i d) k firsts seconds) e (taken f d .lists) in
-      let z : _≡_ {A = ℕ} 0 1 = cc in absurd (omega arith)
+  past-limit e relied n = record { is = λ f. survives (f .field); numbers = n; relies = λ q. true-not-false q refl }
+    where
+      survives : (f : FieldIn question capacity work count) (d : Situation) (ms : List (List Situation)) → LeadsTo f i d ms
+          → false ≡ allAnswered (leftOf work (f .known)) ms
+      survives f d ms h =
+          let p = subst (λ k. ListsAre (f .read) (getD (f .known) i d) k firsts seconds) e (taken f d .lists) in
+          let z : _≡_ {A = ℕ} 0 1 = cc in absurd (omega arith)
 
-  module _ (n m : ℕ) (e : r .lists ≡ Listed n m) (arities : List ℕ) (a : AritiesIs question arities) (first second : Bool)
-      (h : SideAnsweredIs arities capacity work count (r .free) (r .apart) false firsts n seconds m first) where
-    sides : (f : Searching question capacity work count) (d : Situation) → SidesListed (f .read) (getD (f .known) i d) n m firsts seconds
+  module _ (n m : ℕ) (e : r .lists ≡ Listed n m) (arities : List ℕ) (a : AritiesIs question arities) (before : Relied) (first : Answered)
+      (h : SideAnsweredIs arities capacity work count (r .free) (r .apart) false firsts n seconds m before first) where
+    sides : (f : FieldIn question capacity work count) (d : Situation) → SidesListed (f .read) (getD (f .known) i d) n m firsts seconds
     unfolding ListsAre
     sides f d = subst (λ k. ListsAre (f .read) (getD (f .known) i d) k firsts seconds) e (taken f d .lists)
 
-    pub first-fails : first ≡ false → SurvivesIs question capacity work count i false
-    unfolding SurvivesIs SideAnsweredIs first-side sides moves
-    first-fails q f d ms g =
-        let l = sides f d in
-        let x = h (first-side f d arities a n m l ms g) in
-        sym (both-sides f d arities a n m l ms g ∙ ap (λ b. b && allAnswered (leftOf work (f .known)) (ofSecond f d arities a n m l ms g)) (sym x ∙ q))
+    pub first-fails : first .all ≡ false → ExaminedIs question capacity work count i (record { all = false; relied = first .relied })
+    unfolding SurvivesIs first-side sides moves
+    first-fails q = record { is = λ f. survives (f .field); numbers = h .numbers; relies = λ q. true-not-false q refl }
+      where
+        survives : (f : FieldIn question capacity work count) (d : Situation) (ms : List (List Situation)) → LeadsTo f i d ms
+            → false ≡ allAnswered (leftOf work (f .known)) ms
+        survives f d ms g =
+            let l = sides f d in
+            let x = h .is (first-side f d arities a n m l ms g) in
+            sym (both-sides f d arities a n m l ms g (leftOf work (f .known))
+            ∙ ap (λ b. b && allAnswered (leftOf work (f .known)) (ofSecond f d arities a n m l ms g)) (sym x ∙ q))
 
-    pub second-decides : first ≡ true → SideAnsweredIs arities capacity work count (r .free) (r .apart) true seconds m firsts n second
-        → SurvivesIs question capacity work count i second
-    unfolding SurvivesIs SideAnsweredIs first-side sides second-side
-    second-decides q k f d ms g =
-        let l = sides f d in
-        let x = h (first-side f d arities a n m l ms g) in
-        let y = k (second-side f d arities a n m l ms g) in
-        sym (both-sides f d arities a n m l ms g ∙ ap₂ _&&_ (sym x ∙ q) (sym y))
+    pub second-decides : (second : Answered) → first .all ≡ true → SideAnsweredIs arities capacity work count (r .free) (r .apart) true seconds m firsts n (first .relied) second
+        → ExaminedIs question capacity work count i second
+    unfolding SurvivesIs Relies ReliesOn first-side sides second-side
+    second-decides second q k = record { is = λ f. survives (f .field); numbers = k .numbers; relies = relies }
+      where
+        survives : (f : FieldIn question capacity work count) (d : Situation) (ms : List (List Situation)) → LeadsTo f i d ms
+            → second .all ≡ allAnswered (leftOf work (f .known)) ms
+        survives f d ms g =
+            let l = sides f d in
+            let x = h .is (first-side f d arities a n m l ms g) in
+            let y = k .is (second-side f d arities a n m l ms g) in
+            sym (both-sides f d arities a n m l ms g (leftOf work (f .known)) ∙ ap₂ _&&_ (sym x ∙ q) (sym y))
+
+        relies : second .all ≡ true → Few (second .relied) → Relies question capacity work count i (Has (second .relied))
+        relies t few f d ms g w o =
+            let l = sides f d in
+            ⊎-elim
+            (λ o.
+            let (j, b, y, z) = h .relies q (k .more .few few) (first-side f d arities a n m l ms g) w o in
+            (j, b, k .more .has few j y, z))
+            (λ o. k .relies t few (second-side f d arities a n m l ms g) w o)
+            (∈-either w (ofFirst f d arities a n m l ms g) (ofSecond f d arities a n m l ms g)
+            (subst (λ ms. w ∈ ms) (those f d arities a n m l ms g) o))

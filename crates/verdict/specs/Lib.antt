@@ -2,6 +2,7 @@ pub mod Demand
 pub mod Entries
 pub mod Judge
 pub mod Judging
+pub mod Notes
 pub mod Outcome
 pub mod Promises
 pub mod Striking

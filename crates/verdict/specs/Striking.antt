@@ -24,7 +24,12 @@ use Rattle.field.specs.Situation.{Situation, freeFrom, sameSituation}
 use Rattle.field.specs.Slot.{flagsOf, keyBytes, slotBytes, struckAt}
 use Rattle.field.specs.Successors.{answers, moves, leads, successors}
 use Rattle.field.specs.TakingUp.{ListAt}
+use Rattle.field.specs.declared.find.Found.{Found}
+use Rattle.field.specs.declared.find.Found.the-variants.{At, Nothing}
+use Rattle.verdict.specs.Notes.{noteAt, NotedIn, Has, Few, Numbers, Within, SpareOnly}
 use Rattle.verdict.specs.Verdict.{allAnswered}
+use Rattle.verdict.specs.declared.relied.Relied.{Relied}
+use Rattle.verdict.specs.declared.strike.Answered.{Answered}
 
 -- the bytes that say so of as many slots, from slot i on
 unfoldable pub marksFrom : List ℕ → ℕ → ℕ → List ℕ
@@ -59,19 +64,29 @@ pub record Standing (capacity : ℕ) (work : List ℕ) (known : List Situation) 
 unfoldable pub LeftAtIs : List ℕ → ℕ → Bool → Type 0
 LeftAtIs work i r = r ≡ eqb (getD work (struckAt i) 0) 0
 
--- Where the key stands in one slot of the first `count`, and these are chained.
-unfoldable pub LeftIs : ℕ → List ℕ → ℕ → List ℕ → Bool → Type 0
-LeftIs capacity work count key r =
-    Chained capacity work count → (i : ℕ) → i < count → keyAt work i ≡ take keyBytes key → ((j : ℕ) → j < count → keyAt work j ≡ take keyBytes key → j ≡ i) → LeftAtIs work i r
+-- slot i, if it is left
+unfoldable pub leftAt : List ℕ → ℕ → Found
+leftAt work i = cond (eqb (getD work (struckAt i) 0) 0) (At i) Nothing
 
--- Whether the entry at `place` answers the one at `at` and leads to a situation that is left.
-unfoldable pub AnswerLeftIs : List ℕ → ℕ → List ℕ → ℕ → List ℕ → List ℕ → Bool → List ℕ → ℕ → List ℕ → ℕ → Bool → Type 0
-AnswerLeftIs arities capacity work count free apart second area at others place r =
-    (known : List Situation) (G : List ℕ) (D : Pairs) (s t : ListedStep) → length known ≡ count → Standing capacity work known → HasNames free G
-    → apart ≡ flagsOf D → EntryAt area at s → EntryAt others place t → InScope nameCount arities 0 (s .result) → InScope nameCount arities 0 (t .result)
-    → Rewritten t
-    → (answers nameCount s t ≡ true → leading second (freeFrom G 0 nameCount) D s t ∈ known)
-    → r ≡ (answers nameCount s t && found (leftOf work known) (leading second (freeFrom G 0 nameCount) D s t))
+-- Where the key stands in one slot of the first `count`, and these are chained; one of them in any case.
+pub record LeftIs (capacity : ℕ) (work : List ℕ) (count : ℕ) (key : List ℕ) (r : Found) : Type 0 where
+  pub within : (i : ℕ) → r ≡ At i → i < count
+  pub is : Chained capacity work count → (i : ℕ) → i < count → keyAt work i ≡ take keyBytes key
+      → ((j : ℕ) → j < count → keyAt work j ≡ take keyBytes key → j ≡ i) → r ≡ leftAt work i
+
+unfoldable pub isAt : Found → Bool
+isAt (At i) = true
+isAt Nothing = false
+
+-- Whether the entry at `place` answers the one at `at` and leads to a situation that is left, and the slot of that one.
+pub record AnswerLeftIs (arities : List ℕ) (capacity : ℕ) (work : List ℕ) (count : ℕ) (free apart : List ℕ) (second : Bool) (area : List ℕ) (at : ℕ) (others : List ℕ) (place : ℕ) (r : Found) : Type 0 where
+  pub within : (i : ℕ) → r ≡ At i → i < count
+  pub is : (known : List Situation) (G : List ℕ) (D : Pairs) (s t : ListedStep) → length known ≡ count → Standing capacity work known → HasNames free G
+      → apart ≡ flagsOf D → EntryAt area at s → EntryAt others place t → InScope nameCount arities 0 (s .result) → InScope nameCount arities 0 (t .result)
+      → Rewritten t
+      → (answers nameCount s t ≡ true → leading second (freeFrom G 0 nameCount) D s t ∈ known)
+      → (isAt r ≡ (answers nameCount s t && found (leftOf work known) (leading second (freeFrom G 0 nameCount) D s t)))
+      × ((i : ℕ) → r ≡ At i → (d : Situation) → getD known i d ≡ leading second (freeFrom G 0 nameCount) D s t)
 
 -- One side of a situation: its list of steps, the other side's, and that all answers lead to known situations.
 pub record Side (arities : List ℕ) (capacity : ℕ) (work : List ℕ) (count : ℕ) (free apart : List ℕ) (second : Bool) (area : List ℕ) (n : ℕ) (others : List ℕ) (m : ℕ) : Type 0 where
@@ -90,15 +105,25 @@ pub record Side (arities : List ℕ) (capacity : ℕ) (work : List ℕ) (count :
   pub closed : (w : List Situation) → w ∈ moves nameCount (placed second) (freeFrom names 0 nameCount) pairs steps replies
       → (t : Situation) → t ∈ w → t ∈ known
 
--- Whether each permitted step of the side is answered.
-unfoldable pub SideAnsweredIs : List ℕ → ℕ → List ℕ → ℕ → List ℕ → List ℕ → Bool → List ℕ → ℕ → List ℕ → ℕ → Bool → Type 0
-SideAnsweredIs arities capacity work count free apart second area n others m r =
-    (p : Side arities capacity work count free apart second area n others m)
-    → r ≡ allAnswered (leftOf work (p .known)) (moves nameCount (placed second) (freeFrom (p .names) 0 nameCount) (p .pairs) (p .steps) (p .replies))
+-- what its permitted steps lead to
+abbrev pub sideMoves : {arities : List ℕ} {capacity : ℕ} {work : List ℕ} {count : ℕ} {free apart : List ℕ} {second : Bool} {area : List ℕ} {n : ℕ} {others : List ℕ} {m : ℕ}
+    → Side arities capacity work count free apart second area n others m → List (List Situation)
+sideMoves {second} p = moves nameCount (placed second) (freeFrom (p .names) 0 nameCount) (p .pairs) (p .steps) (p .replies)
 
--- The field of an accepted question in the work area: its situations lead to each other only, and those with a permitted step that has no answer at
--- all are struck out.
-pub record Searching (question : List ℕ) (capacity : ℕ) (work : List ℕ) (count : ℕ) : Type 0 where
+-- Each of the lists has one of the situations whose numbers are in H.
+unfoldable pub ReliesOn : (ℕ → Type 0) → List Situation → List (List Situation) → Type 0
+ReliesOn H known ms = (w : List Situation) → w ∈ ms → (j : ℕ) × (j < length known) × H j × ((d : Situation) → getD known j d ∈ w)
+
+-- Whether each permitted step of the side is answered, and what that relies on, beside what was relied on before.
+pub record SideAnsweredIs (arities : List ℕ) (capacity : ℕ) (work : List ℕ) (count : ℕ) (free apart : List ℕ) (second : Bool) (area : List ℕ) (n : ℕ) (others : List ℕ) (m : ℕ) (before : Relied) (r : Answered) : Type 0 where
+  pub is : (p : Side arities capacity work count free apart second area n others m) → r .all ≡ allAnswered (leftOf work (p .known)) (sideMoves p)
+  pub numbers : Numbers (r .relied)
+  pub more : Within before (r .relied)
+  pub relies : r .all ≡ true → Few (r .relied) → (p : Side arities capacity work count free apart second area n others m)
+      → ReliesOn (Has (r .relied)) (p .known) (sideMoves p)
+
+-- The field of an accepted question in the work area: its situations lead to each other only.
+pub record FieldIn (question : List ℕ) (capacity : ℕ) (work : List ℕ) (count : ℕ) : Type 0 where
   pub read : Question
   pub accepted : checkOf question ≡ result read
   pub known : List Situation
@@ -109,25 +134,50 @@ pub record Searching (question : List ℕ) (capacity : ℕ) (work : List ℕ) (c
   pub distinction : (s : Situation) → s ∈ known → Irr (s .apart)
   pub closed : (s : Situation) → s ∈ known → (ms : List (List Situation)) → successors (settingOf (read .bodies)) s ≡ leads ms
       → (w : List Situation) → w ∈ ms → (t : Situation) → t ∈ w → t ∈ known
-  pub struck : (i : ℕ) (d : Situation) (ms : List (List Situation)) → i < count → successors (settingOf (read .bodies)) (getD known i d) ≡ leads ms
-      → unanswered ms ≡ true → getD work (struckAt i) 0 ≡ 0 → ⊥
+
+-- Situation i leads to ms.
+abbrev pub LeadsTo : {question : List ℕ} {capacity : ℕ} {work : List ℕ} {count : ℕ} → FieldIn question capacity work count → ℕ → Situation → List (List Situation) → Type 0
+LeadsTo f i d ms = successors (settingOf (f .read .bodies)) (getD (f .known) i d) ≡ leads ms
+
+-- Those with a permitted step that has no answer at all are struck out.
+pub record Searching (question : List ℕ) (capacity : ℕ) (work : List ℕ) (count : ℕ) : Type 0 where
+  pub field : FieldIn question capacity work count
+  pub struck : (i : ℕ) (d : Situation) (ms : List (List Situation)) → i < count → LeadsTo field i d ms → unanswered ms ≡ true
+      → getD work (struckAt i) 0 ≡ 0 → ⊥
 
 -- Whether each permitted step of situation i is answered by those left.
 unfoldable pub SurvivesIs : List ℕ → ℕ → List ℕ → ℕ → ℕ → Bool → Type 0
 SurvivesIs question capacity work count i r =
-    (f : Searching question capacity work count) (d : Situation) (ms : List (List Situation))
-    → successors (settingOf (f .read .bodies)) (getD (f .known) i d) ≡ leads ms → r ≡ allAnswered (leftOf work (f .known)) ms
+    (f : Searching question capacity work count) (d : Situation) (ms : List (List Situation)) → LeadsTo (f .field) i d ms
+    → r ≡ allAnswered (leftOf work (f .field .known)) ms
 
--- Situations are struck out one at a time, each while it is left and a permitted step of it is not answered. No other byte is changed.
+-- Each permitted step of situation i has an answer that leads to a situation in H, whichever are left.
+unfoldable pub Relies : List ℕ → ℕ → List ℕ → ℕ → ℕ → (ℕ → Type 0) → Type 0
+Relies question capacity work count i H =
+    (f : FieldIn question capacity work count) (d : Situation) (ms : List (List Situation)) → LeadsTo f i d ms → ReliesOn H (f .known) ms
+
+pub record ExaminedIs (question : List ℕ) (capacity : ℕ) (work : List ℕ) (count i : ℕ) (r : Answered) : Type 0 where
+  pub is : SurvivesIs question capacity work count i (r .all)
+  pub numbers : Numbers (r .relied)
+  pub relies : r .all ≡ true → Few (r .relied) → Relies question capacity work count i (Has (r .relied))
+
+-- What is noted is enough for each slot to rest on.
+unfoldable pub AllNoted : List ℕ → ℕ → List ℕ → ℕ → Type 0
+AllNoted question capacity work count = (i : ℕ) → i < count → 0 < noteAt work i 0 → Relies question capacity work count i (NotedIn work i)
+
+-- Situations are struck out one at a time, each while it is left and a permitted step of it is not answered. No other byte is changed but those for
+-- notes.
 pub data Strikes (question : List ℕ) (capacity count : ℕ) (work : List ℕ) : List ℕ → Type 0 where
   none-struck : Strikes question capacity count work work
   one-struck : {v : List ℕ} → Strikes question capacity count work v → (i : ℕ) → i < count → getD v (struckAt i) 0 ≡ 0 → SurvivesIs question capacity v count i false
       → Strikes question capacity count work (set v (struckAt i) 1)
+  notes-changed : {v u : List ℕ} → Strikes question capacity count work v → SpareOnly count v u → Strikes question capacity count work u
 
 -- Situation i is struck out, or it is not to be struck out.
 pub record StrikesOne (question : List ℕ) (capacity : ℕ) (work : List ℕ) (count i : ℕ) (r : Bool) (work′ : List ℕ) : Type 0 where
   pub struck : r ≡ true → (getD work (struckAt i) 0 ≡ 0) × SurvivesIs question capacity work count i false × (work′ ≡ set work (struckAt i) 1)
-  pub kept : r ≡ false → (work′ ≡ work) × (getD work (struckAt i) 0 ≡ 0 → SurvivesIs question capacity work count i true)
+  pub kept : r ≡ false → SpareOnly count work work′ × (getD work (struckAt i) 0 ≡ 0 → SurvivesIs question capacity work count i true)
+  pub noted : AllNoted question capacity work′ count
 
 -- every situation that is left survives
 unfoldable pub AllSurvive : List ℕ → ℕ → List ℕ → ℕ → Type 0
@@ -138,6 +188,7 @@ pub record PassIs (question : List ℕ) (capacity : ℕ) (work : List ℕ) (coun
   pub strikes : Strikes question capacity count work work′
   pub fewer : r ≡ true → zeros (marks work′ count) < zeros (marks work count)
   pub none : r ≡ false → AllSurvive question capacity work′ count
+  pub noted : AllNoted question capacity work′ count
 
 -- Whether one of the first `count` situations is struck out.
 pub record SomeStruckIs (work : List ℕ) (count : ℕ) (r : Bool) : Type 0 where

@@ -1,3 +1,4 @@
 // The verdict.
 pub mod judge;
+pub mod relied;
 pub mod strike;

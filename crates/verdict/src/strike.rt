@@ -7,7 +7,15 @@ ghost use Rattle.field.specs.Slot.{keyBytes, slotBytes, struckAt};
 ghost use Rattle.steps.specs.Limits.{stepBytes};
 ghost use Rattle.steps.specs.Rows.{rowBytes, mostRows};
 ghost use Rattle.steps.specs.Tally.{tallySize, BodiesTallied};
-ghost use Rattle.verdict.specs.Striking.{LeftAtIs, LeftIs, AnswerLeftIs, SideAnsweredIs, SurvivesIs, StrikesOne, PassIs, SomeStruckIs, StartSurvivesIs};
+ghost use Rattle.verdict.specs.Judge.{greatestCapacity};
+ghost use Rattle.verdict.specs.Notes.{Numbers};
+ghost use Rattle.verdict.specs.Striking.{LeftAtIs, LeftIs, AnswerLeftIs, SideAnsweredIs, ExaminedIs, AllNoted, StrikesOne, PassIs, SomeStruckIs, StartSurvivesIs};
+use crate::relied::Relied;
+use crate::relied::clear_notes;
+use crate::relied::note;
+use crate::relied::relied_none;
+use crate::relied::relied_with;
+use crate::relied::rests;
 use field::chains::find_chained;
 use field::entries::answers;
 use field::find::Found;
@@ -25,26 +33,31 @@ use terms::bytes::get;
 const STRUCK: usize = 241;
 
 // Whether situation `i` is left.
-fn left_at(work: &[u8], i: usize) -> bool
+pub fn left_at(work: &[u8], i: usize) -> bool
     requires { ⌜ struckAt i < length (now work) ⌝ }
     ensures { λ r. ⌜ LeftAtIs (now (work .entry)) i r ⌝ }
 {
     get(work, SLOT_BYTES * i + STRUCK) == 0
 }
 
-// Whether the situation with this key is left, of the first `count`.
-fn is_left(work: &[u8], capacity: usize, count: usize, key: &[u8]) -> bool
+// The slot of the situation with this key, of the first `count`, if it is left.
+fn find_left(work: &[u8], capacity: usize, count: usize, key: &[u8]) -> Found
     requires { ⌜ (1 ≤ capacity) × (count ≤ capacity) × (slotBytes * capacity ≤ length (now work)) × (keyBytes ≤ length (now key)) ⌝ }
     ensures { λ r. ⌜ LeftIs capacity (now (work .entry)) count (now (key .entry)) r ⌝ }
 {
     let found = find_chained(work, capacity, count, key);
     match found {
-        Found::Nothing => false,
-        Found::At(i) => left_at(work, i),
+        Found::Nothing => Found::Nothing,
+        Found::At(i) => {
+            if left_at(work, i) {
+                return Found::At(i);
+            }
+            Found::Nothing
+        }
     }
 }
 
-// Whether the step at `place` of the other side's list answers the one at `at` and leads to a situation that is left.
+// The slot of the situation that the step at `place` of the other side's list leads to, if it answers the one at `at` and that situation is left.
 fn answer_left(
     arities: &[u8],
     work: &[u8],
@@ -57,18 +70,24 @@ fn answer_left(
     at: usize,
     others: &[u8],
     place: usize,
-) -> bool
+) -> Found
     requires { ⌜ (1 ≤ capacity) × (count ≤ capacity) × (slotBytes * capacity ≤ length (now work)) × (at + stepBytes ≤ length (now area)) × (place + stepBytes ≤ length (now others)) ⌝ }
     ensures { λ r. ⌜ AnswerLeftIs (now (arities .entry)) capacity (now (work .entry)) count (now (free .entry)) apart second (now (area .entry)) at (now (others .entry)) place r ⌝ }
 {
     if !answers(area, at, others, place) {
-        return false;
+        return Found::Nothing;
     }
     let key = successor(arities, free, apart, second, area, at, others, place);
-    is_left(work, capacity, count, &key)
+    find_left(work, capacity, count, &key)
 }
 
-// Whether each permitted step of one side has an answer that leads to a situation that is left.
+// Whether all permitted steps are answered, and what that relies on.
+pub struct Answered {
+    pub all: bool,
+    pub relied: Relied,
+}
+
+// Whether each permitted step of one side has an answer that leads to a situation that is left; what was relied on before is relied on still.
 fn side_answered(
     arities: &[u8],
     work: &[u8],
@@ -81,10 +100,12 @@ fn side_answered(
     n: usize,
     others: &[u8],
     m: usize,
-) -> bool
-    requires { ⌜ (1 ≤ capacity) × (count ≤ capacity) × (slotBytes * capacity ≤ length (now work)) × (stepBytes * n ≤ length (now area)) × (stepBytes * m ≤ length (now others)) ⌝ }
-    ensures { λ r. ⌜ SideAnsweredIs (now (arities .entry)) capacity (now (work .entry)) count (now (free .entry)) apart second (now (area .entry)) n (now (others .entry)) m r ⌝ }
+    before: Relied,
+) -> Answered
+    requires { ⌜ (1 ≤ capacity) × (count ≤ capacity) × (slotBytes * capacity ≤ length (now work)) × (stepBytes * n ≤ length (now area)) × (stepBytes * m ≤ length (now others)) × (capacity ≤ greatestCapacity) × Numbers before ⌝ }
+    ensures { λ r. ⌜ SideAnsweredIs (now (arities .entry)) capacity (now (work .entry)) count (now (free .entry)) apart second (now (area .entry)) n (now (others .entry)) m before r ⌝ }
 {
+    let mut relied = before;
     let mut i = 0;
     'steps: while i < n {
         let at = STEP_BYTES * i;
@@ -94,7 +115,7 @@ fn side_answered(
         }
         let mut j = 0;
         while j < m {
-            if answer_left(
+            let found = answer_left(
                 arities,
                 work,
                 capacity,
@@ -106,14 +127,20 @@ fn side_answered(
                 at,
                 others,
                 STEP_BYTES * j,
-            ) {
-                continue 'steps;
+            );
+            match found {
+                Found::At(slot) => {
+                    relied = relied_with(relied, slot);
+                    continue 'steps;
+                }
+                Found::Nothing => {
+                    j += 1;
+                }
             }
-            j += 1;
         }
-        return false;
+        return Answered { all: false, relied };
     }
-    true
+    Answered { all: true, relied }
 }
 
 // Whether each permitted step of either side of situation `i` is answered by a situation that is left; the two areas have the lists of the one
@@ -129,9 +156,9 @@ fn survives(
     rows: &mut [u8],
     firsts: &mut [u8],
     seconds: &mut [u8],
-) -> bool
-    requires { ⌜ (i < count) × (count ≤ capacity) × (slotBytes * capacity ≤ length (now work)) × BodiesTallied (now question) (now bodies) × (length (now numbers) ≡ tallySize) × (rowBytes * mostRows ≤ length (now rows)) × Labelled (now question) (now firsts) × Labelled (now question) (now seconds) ⌝ }
-    ensures { λ r. ⌜ SurvivesIs (now (question .entry)) capacity (now (work .entry)) count i r × Labelled (now (question .entry)) (now (firsts .exit)) × Labelled (now (question .entry)) (now (seconds .exit)) ⌝ }
+) -> Answered
+    requires { ⌜ (i < count) × (count ≤ capacity) × (slotBytes * capacity ≤ length (now work)) × BodiesTallied (now question) (now bodies) × (length (now numbers) ≡ tallySize) × (rowBytes * mostRows ≤ length (now rows)) × Labelled (now question) (now firsts) × Labelled (now question) (now seconds) × (capacity ≤ greatestCapacity) ⌝ }
+    ensures { λ r. ⌜ ExaminedIs (now (question .entry)) capacity (now (work .entry)) count i r × Labelled (now (question .entry)) (now (firsts .exit)) × Labelled (now (question .entry)) (now (seconds .exit)) ⌝ }
 {
     let taken = take_up(
         question,
@@ -146,12 +173,16 @@ fn survives(
     let free = taken.free;
     let apart = taken.apart;
     let lists = taken.lists;
+    let none = relied_none(i);
     match lists {
         // no situation of an explored field is past a limit
-        Lists::Past => false,
+        Lists::Past => Answered {
+            all: false,
+            relied: none,
+        },
         Lists::Listed(n, m) => {
             let arities = arities_of(question);
-            if !side_answered(
+            let first = side_answered(
                 arities,
                 work,
                 capacity,
@@ -163,8 +194,12 @@ fn survives(
                 n,
                 seconds,
                 m,
-            ) {
-                return false;
+                none,
+            );
+            let all = first.all;
+            let relied = first.relied;
+            if !all {
+                return Answered { all: false, relied };
             }
             side_answered(
                 arities,
@@ -178,12 +213,14 @@ fn survives(
                 m,
                 firsts,
                 n,
+                relied,
             )
         }
     }
 }
 
-// Strikes out situation `i` if it is left and does not survive; whether it did.
+// Strikes out situation `i` if it is left and does not survive; whether it did. It is not examined while all that it relied on when it last survived
+// is left.
 fn strike_one(
     question: &[u8],
     bodies: &[u32],
@@ -196,13 +233,16 @@ fn strike_one(
     firsts: &mut [u8],
     seconds: &mut [u8],
 ) -> bool
-    requires { ⌜ (i < count) × (count ≤ capacity) × (slotBytes * capacity ≤ length (now work)) × BodiesTallied (now question) (now bodies) × (length (now numbers) ≡ tallySize) × (rowBytes * mostRows ≤ length (now rows)) × Labelled (now question) (now firsts) × Labelled (now question) (now seconds) ⌝ }
+    requires { ⌜ (i < count) × (count ≤ capacity) × (slotBytes * capacity ≤ length (now work)) × BodiesTallied (now question) (now bodies) × (length (now numbers) ≡ tallySize) × (rowBytes * mostRows ≤ length (now rows)) × Labelled (now question) (now firsts) × Labelled (now question) (now seconds) × (capacity ≤ greatestCapacity) × AllNoted (now question) capacity (now work) count ⌝ }
     ensures { λ r. ⌜ StrikesOne (now (question .entry)) capacity (now (work .entry)) count i r (now (work .exit)) × Labelled (now (question .entry)) (now (firsts .exit)) × Labelled (now (question .entry)) (now (seconds .exit)) ⌝ }
 {
     if !left_at(work, i) {
         return false;
     }
-    if survives(
+    if rests(work, count, i) {
+        return false;
+    }
+    let answered = survives(
         question,
         bodies,
         work,
@@ -213,7 +253,11 @@ fn strike_one(
         rows,
         firsts,
         seconds,
-    ) {
+    );
+    let all = answered.all;
+    let relied = answered.relied;
+    if all {
+        note(work, i, relied);
         return false;
     }
     work[SLOT_BYTES * i + STRUCK] = 1;
@@ -232,7 +276,7 @@ fn strike_pass(
     firsts: &mut [u8],
     seconds: &mut [u8],
 ) -> bool
-    requires { ⌜ (count ≤ capacity) × (slotBytes * capacity ≤ length (now work)) × BodiesTallied (now question) (now bodies) × (length (now numbers) ≡ tallySize) × (rowBytes * mostRows ≤ length (now rows)) × Labelled (now question) (now firsts) × Labelled (now question) (now seconds) ⌝ }
+    requires { ⌜ (count ≤ capacity) × (slotBytes * capacity ≤ length (now work)) × BodiesTallied (now question) (now bodies) × (length (now numbers) ≡ tallySize) × (rowBytes * mostRows ≤ length (now rows)) × Labelled (now question) (now firsts) × Labelled (now question) (now seconds) × (capacity ≤ greatestCapacity) × AllNoted (now question) capacity (now work) count ⌝ }
     ensures { λ r. ⌜ PassIs (now (question .entry)) capacity (now (work .entry)) count r (now (work .exit)) × Labelled (now (question .entry)) (now (firsts .exit)) × Labelled (now (question .entry)) (now (seconds .exit)) ⌝ }
 {
     let mut struck = false;
@@ -269,9 +313,10 @@ fn survives_passes(
     capacity: usize,
     count: usize,
 ) -> bool
-    requires { ⌜ (1 ≤ count) × (count ≤ capacity) × (slotBytes * capacity ≤ length (now work)) × BodiesTallied (now question) (now bodies) × (length (now numbers) ≡ tallySize) × (rowBytes * mostRows ≤ length (now rows)) × Labelled (now question) (now firsts) × Labelled (now question) (now seconds) ⌝ }
+    requires { ⌜ (1 ≤ count) × (count ≤ capacity) × (slotBytes * capacity ≤ length (now work)) × BodiesTallied (now question) (now bodies) × (length (now numbers) ≡ tallySize) × (rowBytes * mostRows ≤ length (now rows)) × Labelled (now question) (now firsts) × Labelled (now question) (now seconds) × (capacity ≤ greatestCapacity) ⌝ }
     ensures { λ r. ⌜ StartSurvivesIs (now (question .entry)) capacity (now (work .entry)) count r (now (work .exit)) ⌝ }
 {
+    clear_notes(work, count);
     let mut again = true;
     while again {
         again = strike_pass(
@@ -320,7 +365,7 @@ pub fn start_survives(
     capacity: usize,
     count: usize,
 ) -> bool
-    requires { ⌜ (1 ≤ count) × (count ≤ capacity) × (slotBytes * capacity ≤ length (now work)) × BodiesTallied (now question) (now bodies) × (length (now numbers) ≡ tallySize) × (rowBytes * mostRows ≤ length (now rows)) × Labelled (now question) (now firsts) × Labelled (now question) (now seconds) ⌝ }
+    requires { ⌜ (1 ≤ count) × (count ≤ capacity) × (slotBytes * capacity ≤ length (now work)) × BodiesTallied (now question) (now bodies) × (length (now numbers) ≡ tallySize) × (rowBytes * mostRows ≤ length (now rows)) × Labelled (now question) (now firsts) × Labelled (now question) (now seconds) × (capacity ≤ greatestCapacity) ⌝ }
     ensures { λ r. ⌜ StartSurvivesIs (now (question .entry)) capacity (now (work .entry)) count r (now (work .exit)) ⌝ }
 {
     if !left_at(work, 0) {

@@ -14,14 +14,14 @@ returns c = no-answer _ _ _ _ _ _ _ _ _ _ _ _ (c .before .answers .ensures) (not
 successor-requires : tie.Need-successor-requires
 successor-requires c κs = search needs
 
-slice-aggregate-is-left : tie.Need-slice-aggregate-is-left
-slice-aggregate-is-left c = search needs
+slice-aggregate-find-left : tie.Need-slice-aggregate-find-left
+slice-aggregate-find-left c = search needs
 
-is-left-requires : tie.Need-is-left-requires
-is-left-requires c κs = search needs
+find-left-requires : tie.Need-find-left-requires
+find-left-requires c κs = search needs
 
 returns-2 : tie.Need-returns-2
-returns-2 c = answer-left-is _ _ _ _ _ _ _ _ _ _ _ _ _ _ (c .before .before .before .before .answers .ensures) (not-false _ (c .before .before .before .if1 .left)) (c .before .before .successor .ensures) (c .is-left .ensures)
+returns-2 c = answer-left-is _ _ _ _ _ _ _ _ _ _ _ _ _ _ (c .before .before .before .before .answers .ensures) (not-false _ (c .before .before .before .if1 .left)) (c .before .before .successor .ensures) (c .find-left .ensures)
 
 pub answer-left-spec : {M : Type 1} → statement M
 answer-left-spec =
@@ -30,6 +30,6 @@ answer-left-spec =
     answers-requires
     returns
     successor-requires
-    slice-aggregate-is-left
-    is-left-requires
+    slice-aggregate-find-left
+    find-left-requires
     returns-2)

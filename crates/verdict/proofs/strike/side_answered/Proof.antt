@@ -1,29 +1,33 @@
 -- `verdict::strike::side_answered` meets its contract. Assumes nothing.
 use native.Mathlib.Omega.{arith}
 use borrow.Author.Count.{below-more}
-use borrow.Author.Needs.{needs}
 use borrow.Author.Tests.{not-true, not-false}
-use mathlib.Core.Path.{_≡_, refl}
+use mathlib.Core.Path.{_≡_, refl, sym, subst}
 use Prim.Native.Nat.{ℕ, _+_, _-_, _<_, _≤_}
-use Rattle.verdict.proofs.SideLaws.{StepAnswered, ReplyFails, not-permitted, reply-answers, reply-fails, step-unanswered, steps-answered}
+use Rattle.verdict.specs.Notes.{Numbers}
+use Rattle.verdict.proofs.SideLaws.{ReplyFails, Sweep, sweep-start, sweep-skips, sweep-answered, reply-fails, step-unanswered, steps-answered}
+use borrow.Author.Needs.{needs}
 use Rattle.verdict.proofs.strike.side_answered.Statement.{statement}
 use Rattle.verdict.proofs.strike.side_answered.Tie as tie
 
 abbrev Inv-loop : tie.InvT-loop
-Inv-loop arities work capacity count free second area n others m apart i at j₀ j =
-    (j ≤ m) × ((l : ℕ) → l < j → (k : ℕ) → i ≡ k + 1 → ReplyFails arities capacity work count free apart second area n others m k l)
+Inv-loop arities work capacity count free second area n others m apart relied₀ i at j₀ relied j =
+    (j ≤ m) × (relied ≡ relied₀) × ((l : ℕ) → l < j → (k : ℕ) → i ≡ k + 1 → ReplyFails arities capacity work count free apart second area n others m k l)
 
 abbrev μ-loop : tie.MeasureT-loop
-μ-loop arities work capacity count free second area n others m apart i at j₀ j = m - j
+μ-loop arities work capacity count free second area n others m apart relied₀ i at j₀ relied j =
+    m - j
 
 abbrev Inv-steps : tie.InvT-steps
-Inv-steps arities work capacity count free second area n others m apart i₀ i = (i ≤ n) × ((k : ℕ) → k < i → StepAnswered arities capacity work count free apart second area n others m k)
+Inv-steps arities work capacity count free second area n others m apart relied₀ i₀ relied i =
+    (i ≤ n) × Sweep arities capacity work count free apart second area n others m relied₀ relied i
 
 abbrev μ-steps : tie.MeasureT-steps
-μ-steps arities work capacity count free second area n others m apart i₀ i = n - i
+μ-steps arities work capacity count free second area n others m apart relied₀ i₀ relied i =
+    n - i
 
 steps-holds : tie.Need-steps-holds Inv-loop μ-loop Inv-steps μ-steps
-steps-holds c = (search needs, λ k h. absurd (omega arith))
+steps-holds c = (search needs, sweep-start _ _ _ _ _ _ _ _ _ _ _ _ (c .before .before .before .before .before .pre .6))
 
 mul-at : tie.Need-mul-at Inv-loop μ-loop Inv-steps μ-steps
 mul-at c = search needs
@@ -41,10 +45,10 @@ steps-less : tie.Need-steps-less Inv-loop μ-loop Inv-steps μ-steps
 steps-less c = search needs
 
 steps-again : tie.Need-steps-again Inv-loop μ-loop Inv-steps μ-steps
-steps-again c = (search needs, below-more _ _ (c .before .before .before .before .steps .inv .1) (not-permitted _ _ _ _ _ _ _ _ _ _ _ _ _ (omega arith) (c .before .permitted .ensures) (not-true _ (c .if1 .taken))))
+steps-again c = (search needs, sweep-skips _ _ _ _ _ _ _ _ _ _ _ _ _ _ _ (omega arith) (c .before .permitted .ensures) (not-true _ (c .if1 .taken)) (c .before .before .before .before .steps .inv .1))
 
 loop-holds : tie.Need-loop-holds Inv-loop μ-loop Inv-steps μ-steps
-loop-holds c = (search needs, λ l h. absurd (omega arith))
+loop-holds c = (search needs, refl, λ l h. absurd (omega arith))
 
 mul-answer-left : tie.Need-mul-answer-left Inv-loop μ-loop Inv-steps μ-steps
 mul-answer-left c = search needs
@@ -52,11 +56,20 @@ mul-answer-left c = search needs
 answer-left-requires : tie.Need-answer-left-requires Inv-loop μ-loop Inv-steps μ-steps
 answer-left-requires c κs = search needs
 
+enum-known-found : tie.Need-enum-known-found Inv-loop μ-loop Inv-steps μ-steps
+enum-known-found c = search needs
+
+relied-with-requires : tie.Need-relied-with-requires Inv-loop μ-loop Inv-steps μ-steps
+relied-with-requires c κs = (subst Numbers (sym (c .before .before .before .before .before .loop .inv .1)) (c .before .before .before .before .before .before .before .before .before .before .steps .inv .1 .numbers), omega (arith, c .before .before .before .answer-left .ensures .within _ (c .before .found .given .1), c .before .before .before .before .before .before .before .before .before .before .before .before .before .before .before .before .pre .1, c .before .before .before .before .before .before .before .before .before .before .before .before .before .before .before .before .pre .5))
+
 steps-less-2 : tie.Need-steps-less-2 Inv-loop μ-loop Inv-steps μ-steps
 steps-less-2 c = search needs
 
 steps-again-2 : tie.Need-steps-again-2 Inv-loop μ-loop Inv-steps μ-steps
-steps-again-2 c = (search needs, below-more _ _ (c .before .before .before .before .before .before .before .before .steps .inv .1) (reply-answers _ _ _ _ _ _ _ _ _ _ _ _ _ _ (omega arith) (omega arith) (c .before .answer-left .ensures) (c .if2 .taken)))
+steps-again-2 c = (search needs, sweep-answered _ _ _ _ _ _ _ _ _ _ _ _ _ _ _ _ _ _ _ (c .before .before .before .before .before .before .loop .inv .1) (omega arith) (omega arith) (c .before .before .before .before .answer-left .ensures) (c .before .before .found .given .1) (c .relied-with .ensures) (c .before .before .before .before .before .before .before .before .before .before .before .steps .inv .1))
+
+enum-told : tie.Need-enum-told Inv-loop μ-loop Inv-steps μ-steps
+enum-told c = search needs
 
 add-j : tie.Need-add-j Inv-loop μ-loop Inv-steps μ-steps
 add-j c = search needs
@@ -65,19 +78,13 @@ loop-less : tie.Need-loop-less Inv-loop μ-loop Inv-steps μ-steps
 loop-less c = search needs
 
 loop-again : tie.Need-loop-again Inv-loop μ-loop Inv-steps μ-steps
-loop-again c = (
-  search needs,
-  below-more _ _ (c .before .before .before .loop .inv .1)
-      (reply-fails _ _ _ _ _ _ _ _ _ _ _ (c .before .before .before .before .before .before .before .before .steps .i) (c .before .before .before .loop .j) _ _ (omega arith) (omega arith) (c .before .before .before .before .before .permitted .ensures) (not-false _ (c .before .before .before .before .if1 .left)) (c .before .answer-left .ensures) (c .if2 .left)),
-)
+loop-again c = (search needs, c .before .before .before .before .loop .inv .1, below-more _ _ (c .before .before .before .before .loop .inv .2) (reply-fails _ _ _ _ _ _ _ _ _ _ _ (c .before .before .before .before .before .before .before .before .before .steps .i) (c .before .before .before .before .loop .j) _ _ (omega arith) (omega arith) (c .before .before .before .before .before .before .permitted .ensures) (not-false _ (c .before .before .before .before .before .if1 .left)) (c .before .before .answer-left .ensures) (c .enum-told .given .1)))
 
 returns : tie.Need-returns Inv-loop μ-loop Inv-steps μ-steps
-returns c =
-    step-unanswered _ _ _ _ _ _ _ _ _ _ _ (c .before .before .before .before .before .before .steps .i) _ _ (omega arith) (c .before .before .before .permitted .ensures) (not-false _ (c .before .before .if1 .left)) (omega arith)
-    (λ l h. c .before .loop .inv .1 l h (c .before .before .before .before .before .before .steps .i) refl)
+returns c = step-unanswered _ _ _ _ _ _ _ _ _ _ _ _ _ _ (c .before .before .before .before .before .before .steps .i) _ _ (c .before .loop .inv .1) (omega arith) (c .before .before .before .permitted .ensures) (not-false _ (c .before .before .if1 .left)) (omega arith) (λ l h. c .before .loop .inv .2 l h (c .before .before .before .before .before .before .steps .i) refl) (c .before .before .before .before .before .before .steps .inv .1)
 
 returns-2 : tie.Need-returns-2 Inv-loop μ-loop Inv-steps μ-steps
-returns-2 c = steps-answered _ _ _ _ _ _ _ _ _ _ _ _ (omega arith) (c .before .steps .inv .1)
+returns-2 c = steps-answered _ _ _ _ _ _ _ _ _ _ _ _ _ _ (omega arith) (c .before .steps .inv .1)
 
 pub side-answered-spec : {M : Type 1} → statement M
 side-answered-spec =
@@ -97,8 +104,11 @@ side-answered-spec =
     loop-holds
     mul-answer-left
     answer-left-requires
+    enum-known-found
+    relied-with-requires
     steps-less-2
     steps-again-2
+    enum-told
     add-j
     loop-less
     loop-again

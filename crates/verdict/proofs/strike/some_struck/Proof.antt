@@ -7,7 +7,8 @@ use mathlib.Core.Path.{_≡_}
 use Prim.Native.Nat.{ℕ, _-_, _<_, _≤_}
 use lib.ListN.{getD}
 use Rattle.field.specs.Slot.{struckAt}
-use Rattle.verdict.proofs.StrikeLaws.{left-zero, some-gone, none-gone}
+use Rattle.verdict.proofs.Marks.{left-zero}
+use Rattle.verdict.proofs.StrikeLaws.{some-gone, none-gone}
 use Rattle.verdict.proofs.strike.some_struck.Statement.{statement}
 use Rattle.verdict.proofs.strike.some_struck.Tie as tie
 

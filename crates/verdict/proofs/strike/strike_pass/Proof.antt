@@ -1,11 +1,11 @@
 -- `verdict::strike::strike_pass` meets its contract. Assumes nothing.
 use native.Mathlib.Omega.{arith}
-use borrow.Author.Needs.{needs}
 use mathlib.Core.Path.{_≡_, refl}
 use Prim.Native.Nat.{_≤_}
 use lib.ListN.{length}
 use Rattle.field.specs.ListArea.{Labelled}
 use Rattle.verdict.proofs.StrikeLaws.{Passing, passing-start, passing-struck, passing-kept, passed}
+use borrow.Author.Needs.{needs}
 use Rattle.verdict.proofs.strike.strike_pass.Statement.{statement}
 use Rattle.verdict.proofs.strike.strike_pass.Tie as tie
 
@@ -19,22 +19,13 @@ abbrev μ-loop : tie.MeasureT-loop
 μ-loop question bodies work₀ capacity count numbers₀ rows₀ firsts₀ seconds₀ struck₀ i₀ work numbers rows firsts seconds struck i = i
 
 loop-holds : tie.Need-loop-holds Inv-loop μ-loop
-loop-holds c = (search needs, refl, refl, refl, refl, refl, c .before .before .before .before .before .before .before .pre .5, c .before .before .before .before .before .before .before .pre .6, passing-start _ _ _ _)
+loop-holds c = (search needs, refl, refl, refl, refl, refl, c .before .before .before .before .before .before .before .pre .5, c .before .before .before .before .before .before .before .pre .6, passing-start _ _ _ _ (c .before .before .before .before .before .before .before .pre .8))
 
 sub-i : tie.Need-sub-i Inv-loop μ-loop
 sub-i c = search needs
 
 strike-one-requires : tie.Need-strike-one-requires Inv-loop μ-loop
-strike-one-requires c κs = (
-  omega (arith, c .before .before .before .before .before .before .loop .inv .0, c .before .before .before .before .before .loop-test .taken),
-  c .before .before .before .before .before .before .before .before .before .before .before .before .before .before .pre .0,
-  omega (arith, c .before .before .before .before .before .before .before .before .before .before .before .before .before .before .pre .1, c .before .before .before .before .before .before .loop .inv .1),
-  c .before .before .before .before .before .before .before .before .before .before .before .before .before .before .pre .2,
-  omega (arith, c .before .before .before .before .before .before .before .before .before .before .before .before .before .before .pre .3, c .before .before .before .before .before .before .loop .inv .2),
-  omega (arith, c .before .before .before .before .before .before .before .before .before .before .before .before .before .before .pre .4, c .before .before .before .before .before .before .loop .inv .3),
-  c .before .before .before .before .before .before .loop .inv .6,
-  c .before .before .before .before .before .before .loop .inv .7,
-)
+strike-one-requires c κs = (omega (arith, c .before .before .before .before .before .before .loop .inv .0, c .before .before .before .before .before .loop-test .taken), c .before .before .before .before .before .before .before .before .before .before .before .before .before .before .pre .0, omega (arith, c .before .before .before .before .before .before .before .before .before .before .before .before .before .before .pre .1, c .before .before .before .before .before .before .loop .inv .1), c .before .before .before .before .before .before .before .before .before .before .before .before .before .before .pre .2, omega (arith, c .before .before .before .before .before .before .before .before .before .before .before .before .before .before .pre .3, c .before .before .before .before .before .before .loop .inv .2), omega (arith, c .before .before .before .before .before .before .before .before .before .before .before .before .before .before .pre .4, c .before .before .before .before .before .before .loop .inv .3), c .before .before .before .before .before .before .loop .inv .6, c .before .before .before .before .before .before .loop .inv .7, c .before .before .before .before .before .before .before .before .before .before .before .before .before .before .pre .7, c .before .before .before .before .before .before .loop .inv .8 .noted)
 
 loop-less : tie.Need-loop-less Inv-loop μ-loop
 loop-less c = search needs
