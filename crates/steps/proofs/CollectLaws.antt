@@ -1,36 +1,29 @@
 -- Candidates put one by one into the list that stands in the area: after each the area holds what `collect` has, or a limit is passed for good.
 -- Assumes nothing.
-use mathlib.Core.Bool.{cond}
 use mathlib.Core.List.{List, [], _∷_, _++_}
 use mathlib.Core.Logic.{_⊎_, inl, inr}
 use mathlib.Core.Path.{_≡_, refl, sym, _∙_, ap, subst}
-use native.Mathlib.Nat.{mul-le-mul-right}
 use native.Mathlib.Numerals.{add-one}
 use native.Mathlib.Omega.{arith}
-use borrow.Author.Tests.{le-leb}
-use Prim.Native.Nat.{ℕ, suc, _+_, _*_, _<_, _≤_, Ordering, Ordering·lt, Ordering·eq, Ordering·gt}
-use lib.ListN.{length, getD, take, drop, set, take-append-drop}
-use lib.Seq.{sets, sets-eq, set-set, take-suc, take-at, take-all, split-at}
+use Prim.Native.Nat.{ℕ, suc, _+_, _<_, _≤_, Ordering, Ordering·lt, Ordering·eq, Ordering·gt}
+use lib.ListN.{length, getD, take, drop}
+use lib.Seq.{sets, sets-eq, take-suc, take-at, take-all, split-at}
 use Rattle.calculus.specs.Abstraction.{Act, tauA, inpA, outA, boutA}
 use Rattle.calculus.specs.Cond.{Cond}
 use Rattle.calculus.specs.Term.{Term}
 use Rattle.terms.specs.Limits.{nameCount, longestTerm}
 use Rattle.steps.specs.Collecting.{Stands, Found, PutInto, PutIs, CollectIs}
 use Rattle.steps.specs.Deciding.{Again}
-use Rattle.steps.specs.Derived.{Ascending}
-use Rattle.steps.specs.Entries.{Sized, InsertIs}
+use Rattle.steps.specs.Entries.{InsertIs}
 use Rattle.steps.specs.Limits.{mostSteps, stepBytes}
 use Rattle.steps.specs.Listed.{ListedStep, listedAs, canonStep, resultBytes, bytes}
 use Rattle.steps.specs.Listing.{order, insert, collect, unsettled, limited}
 use Rattle.steps.specs.Lists.{_∈_, All}
-use Rattle.steps.specs.Operations.{listBytes}
 use Rattle.steps.specs.Raw.{Candidate, step, blocked}
 use Rattle.steps.proofs.ClassLists.{length-classes}
-use Rattle.steps.proofs.InsertLaws.{length-listBytes, stored-again}
 use Rattle.steps.proofs.Limited.{Long, limited-passed, limited-many, limited-long}
 use Rattle.steps.proofs.ListedBytes.{step-length, step-size}
 use Rattle.steps.proofs.Membership.{all-∈, all-imp}
-use Rattle.steps.proofs.Moves.{set-before}
 use Rattle.steps.proofs.Sorted.{placed, insert-all, insert-sorted, insert-new, sorted-ascending, ascending-sorted, collect-old, collect-there}
 
 -- `collect` only grows.
@@ -76,131 +69,78 @@ limited-grows names longest x most cs found e = go (limited-passed longest most 
     go (inl h) = limited-many longest most (collect names longest x cs found) (omega (arith, collect-length names longest x cs found))
     go (inr (s, m, l)) = limited-long longest most (collect names longest x cs found) (s, collect-old names longest x cs found s m, l)
 
--- a later run over an earlier one that is no longer
-sets-over : (l : List ℕ) (p : ℕ) (xs ys : List ℕ) → length xs ≤ length ys → sets (sets l p xs) p ys ≡ sets l p ys
-sets-over l p [] ys h = refl
-sets-over l p (x ∷ xs) [] h = absurd (omega arith)
-sets-over l p (x ∷ xs) (y ∷ ys) h =
-    ap (λ m. sets m (suc p) ys) (set-before (set l p x) p (suc p) y xs (omega arith) ∙ ap (λ m. sets m (suc p) xs) (set-set l p x y))
-    ∙ sets-over (set l p y) (suc p) xs ys (omega arith)
-
+-- what was stored at the beginning
 pub take-sets : (l xs : List ℕ) (n : ℕ) → length xs ≡ n → n ≤ length l → take n (sets l 0 xs) ≡ xs
 take-sets l xs n e h = ap (take n) (sets-eq xs l 0 (omega arith)) ∙ take-at xs (drop (0 + length xs) l) n e
 
--- A list that stands in the area may be stored again.
-stands-again : (area : List ℕ) (count : ℕ) (found : List ListedStep) → Stands area count found → area ≡ sets area 0 (listBytes found)
-stands-again area count found s =
-    let rest : List ℕ = drop (count * stepBytes) area in
-    let whole : area ≡ listBytes found ++ rest = sym (take-append-drop (count * stepBytes) area) ∙ ap (λ l. l ++ rest) (s .bytes) in
-    whole ∙ sym (stored-again (listBytes found) rest) ∙ ap (λ l. sets l 0 (listBytes found)) (sym whole)
+-- One candidate put into the list that stands in the area.
+module _ (area : List ℕ) (x count : ℕ) (found : List ListedStep) (s : Stands area count found) where
+  pub put-blocked : count ≤ mostSteps → PutInto blocked x count area found
+  unfolding collect
+  put-blocked h = record { stands = λ _. s; passed = λ g. absurd (omega arith) }
 
--- Stored over the list that stood there, a list stands there.
-module _ (area : List ℕ) (room : mostSteps * stepBytes ≤ length area) where
-  stands-stored : (found : List ListedStep) (r : ℕ) → Sized found → Ascending longestTerm found → All (λ s. length (resultBytes s) ≤ longestTerm) found
-      → r ≡ length found → r ≤ mostSteps → (area′ : List ℕ) → area′ ≡ sets area 0 (listBytes found) → Stands area′ r found
-  stands-stored found r z a f e h area′ p =
-      let l : length (listBytes found) ≡ r * stepBytes = length-listBytes found z ∙ ap (λ n. n * stepBytes) (sym e) in
-      let k : r * stepBytes ≤ mostSteps * stepBytes = mul-le-mul-right stepBytes h in
-      record {
-        sized = z;
-        ascending = a;
-        fit = f;
-        number = sym e;
-        bytes = ap (take (r * stepBytes)) p ∙ take-sets area (listBytes found) (r * stepBytes) l (omega arith);
-      }
+  module _ (M : Cond) (α : Act) (A : Term) where
+    pub put-step : length (resultBytes (canonStep nameCount x M α A)) ≤ longestTerm
+        → (entry : List ℕ) → entry ≡ bytes longestTerm (canonStep nameCount x M α A)
+        → (r : ℕ) (area′ : List ℕ) → InsertIs area count entry r area′ → PutInto (step M α A) x r area′ found
+    unfolding collect InsertIs
+    put-step f entry e r area′ i =
+        let t : ListedStep = canonStep nameCount x M α A in
+        let (n, p) = i t found e (s .ascending) (s .number) (s .indexed) in
+        let size : length (bytes longestTerm t) ≡ stepBytes = step-size nameCount longestTerm t (canon-classes nameCount longestTerm x M α A) f in
+        let sorted = insert-sorted longestTerm t found (ascending-sorted longestTerm found (s .ascending)) in
+        record {
+          stands = λ h. record {
+            sized = insert-all longestTerm (λ u. length (bytes longestTerm u) ≡ stepBytes) t found size (s .sized);
+            ascending = sorted-ascending longestTerm (insert longestTerm t found) sorted;
+            fit = insert-all longestTerm (λ u. length (resultBytes u) ≤ longestTerm) t found f (s .fit);
+            number = sym n;
+            indexed = p h;
+          };
+          passed = λ h cs.
+              limited-many longestTerm mostSteps (collect nameCount longestTerm x cs (insert longestTerm t found))
+              (omega (arith, n, collect-length nameCount longestTerm x cs (insert longestTerm t found)));
+        }
 
-  module _ (x count : ℕ) (found : List ListedStep) (s : Stands area count found) where
-    pub put-blocked : count ≤ mostSteps → PutInto blocked x area count count area found
+    -- a step whose result is too long stands in the list, whatever comes after it
+    pub put-long : longestTerm < length (resultBytes (canonStep nameCount x M α A)) → (area′ : List ℕ)
+        → PutInto (step M α A) x (mostSteps + 1) area′ found
     unfolding collect
-    put-blocked h = record { stands = λ _. s; stored = λ _. stands-again area count found s; passed = λ g. absurd (omega arith) }
-
-    module _ (M : Cond) (α : Act) (A : Term) where
-      abbrev listedStep : ListedStep
-      listedStep = canonStep nameCount x M α A
-
-      pub put-step : length (resultBytes (canonStep nameCount x M α A)) ≤ longestTerm
-          → (entry : List ℕ) → entry ≡ bytes longestTerm (canonStep nameCount x M α A)
-          → (r : ℕ) (area′ : List ℕ) → InsertIs area count entry r area′ → PutInto (step M α A) x area count r area′ found
-      unfolding collect InsertIs
-      put-step f entry e r area′ i =
-          let t : ListedStep = canonStep nameCount x M α A in
-          let (n, p) = i t found e (s .sized) (s .ascending) (s .number) (s .bytes) in
-          let size : length (bytes longestTerm t) ≡ stepBytes = step-size nameCount longestTerm t (canon-classes nameCount longestTerm x M α A) f in
-          let sorted = insert-sorted longestTerm t found (ascending-sorted longestTerm found (s .ascending)) in
-          let q : r ≤ mostSteps → area′ ≡ sets area 0 (listBytes (insert longestTerm t found)) =
-          λ h. p ∙ ap (λ b. cond b (sets area 0 (listBytes (insert longestTerm t found))) area) (le-leb r mostSteps h) in
-          record {
-            stands = λ h.
-                stands-stored (insert longestTerm t found) r
-                (insert-all longestTerm (λ u. length (bytes longestTerm u) ≡ stepBytes) t found size (s .sized))
-                (sorted-ascending longestTerm (insert longestTerm t found) sorted)
-                (insert-all longestTerm (λ u. length (resultBytes u) ≤ longestTerm) t found f (s .fit))
-                n h area′ (q h);
-            stored = q;
-            passed = λ h cs.
-                limited-many longestTerm mostSteps (collect nameCount longestTerm x cs (insert longestTerm t found))
-                (omega (arith, n, collect-length nameCount longestTerm x cs (insert longestTerm t found)));
-          }
-
-      -- a step whose result is too long stands in the list, whatever comes after it
-      pub put-long : longestTerm < length (resultBytes (canonStep nameCount x M α A)) → (area′ : List ℕ)
-          → PutInto (step M α A) x area count (mostSteps + 1) area′ found
-      unfolding collect
-      put-long f area′ =
-          let t : ListedStep = canonStep nameCount x M α A in
-          let all : All (λ u. (u ≡ t) ⊎ (length (bytes longestTerm u) ≡ stepBytes)) (insert longestTerm t found) =
-          insert-all longestTerm (λ u. (u ≡ t) ⊎ (length (bytes longestTerm u) ≡ stepBytes)) t found (inl refl)
-          (all-imp (λ u. length (bytes longestTerm u) ≡ stepBytes) (λ u. (u ≡ t) ⊎ (length (bytes longestTerm u) ≡ stepBytes)) found (λ u h. inr h) (s .sized)) in
-          let (u, m, b) = insert-new longestTerm t found in
-          let there : t ∈ insert longestTerm t found =
-          is-t u m b (all-∈ (λ u. (u ≡ t) ⊎ (length (bytes longestTerm u) ≡ stepBytes)) (insert longestTerm t found) all u m) in
-          record {
-            stands = λ h. absurd (omega arith);
-            stored = λ h. absurd (omega arith);
-            passed = λ h cs.
-                limited-long longestTerm mostSteps (collect nameCount longestTerm x cs (insert longestTerm t found))
-                (t, collect-old nameCount longestTerm x cs (insert longestTerm t found) t there, f);
-          }
-        where
-          is-t : (u : ListedStep) → u ∈ insert longestTerm (canonStep nameCount x M α A) found
-              → bytes longestTerm (canonStep nameCount x M α A) ≡ bytes longestTerm u
-              → (u ≡ canonStep nameCount x M α A) ⊎ (length (bytes longestTerm u) ≡ stepBytes)
-              → canonStep nameCount x M α A ∈ insert longestTerm (canonStep nameCount x M α A) found
-          is-t u m b (inl e) = subst (λ v. v ∈ insert longestTerm (canonStep nameCount x M α A) found) e m
-          is-t u m b (inr e) =
-              let c = canon-classes nameCount longestTerm x M α A in
-              absurd (omega (arith, step-length longestTerm (canonStep nameCount x M α A), ap length b))
-
--- A list stored over one that it has grown from.
-pub stored-twice : (area₀ : List ℕ) (cs : List Candidate) (x : ℕ) (f : List ListedStep) (n : ℕ) {area : List ℕ} → Stands area n f
-    → area ≡ sets area₀ 0 (listBytes f) → (m : ℕ) (area′ : List ℕ) → Stands area′ m (collect nameCount longestTerm x cs f)
-    → area′ ≡ sets area 0 (listBytes (collect nameCount longestTerm x cs f)) → area′ ≡ sets area₀ 0 (listBytes (collect nameCount longestTerm x cs f))
-stored-twice area₀ cs x f n s p m area′ t q =
-    let g : List ListedStep = collect nameCount longestTerm x cs f in
-    let longer : length (listBytes f) ≤ length (listBytes g) =
-    omega (
-      arith,
-      length-listBytes f (s .sized),
-      length-listBytes g (t .sized),
-      mul-le-mul-right stepBytes (collect-length nameCount longestTerm x cs f),
-    ) in
-    q ∙ ap (λ l. sets l 0 (listBytes g)) p ∙ sets-over area₀ 0 (listBytes f) (listBytes g) longer
+    put-long f area′ =
+        let t : ListedStep = canonStep nameCount x M α A in
+        let all : All (λ u. (u ≡ t) ⊎ (length (bytes longestTerm u) ≡ stepBytes)) (insert longestTerm t found) =
+        insert-all longestTerm (λ u. (u ≡ t) ⊎ (length (bytes longestTerm u) ≡ stepBytes)) t found (inl refl)
+        (all-imp (λ u. length (bytes longestTerm u) ≡ stepBytes) (λ u. (u ≡ t) ⊎ (length (bytes longestTerm u) ≡ stepBytes)) found (λ u h. inr h) (s .sized)) in
+        let (u, m, b) = insert-new longestTerm t found in
+        let there : t ∈ insert longestTerm t found =
+        is-t u m b (all-∈ (λ u. (u ≡ t) ⊎ (length (bytes longestTerm u) ≡ stepBytes)) (insert longestTerm t found) all u m) in
+        record {
+          stands = λ h. absurd (omega arith);
+          passed = λ h cs.
+              limited-long longestTerm mostSteps (collect nameCount longestTerm x cs (insert longestTerm t found))
+              (t, collect-old nameCount longestTerm x cs (insert longestTerm t found) t there, f);
+        }
+      where
+        is-t : (u : ListedStep) → u ∈ insert longestTerm (canonStep nameCount x M α A) found
+            → bytes longestTerm (canonStep nameCount x M α A) ≡ bytes longestTerm u
+            → (u ≡ canonStep nameCount x M α A) ⊎ (length (bytes longestTerm u) ≡ stepBytes)
+            → canonStep nameCount x M α A ∈ insert longestTerm (canonStep nameCount x M α A) found
+        is-t u m b (inl e) = subst (λ v. v ∈ insert longestTerm (canonStep nameCount x M α A) found) e m
+        is-t u m b (inr e) =
+            let c = canon-classes nameCount longestTerm x M α A in
+            absurd (omega (arith, step-length longestTerm (canonStep nameCount x M α A), ap length b))
 
 -- What the area holds when the first i candidates have been put into it.
 module _ (cs : List Candidate) (x : ℕ) (area₀ : List ℕ) (count₀ : ℕ) where
   abbrev after : ℕ → List ListedStep → List ListedStep
   after i found = collect nameCount longestTerm x (take i cs) found
 
-  pub record Progress (i n : ℕ) (area : List ℕ) (found : List ListedStep) : Type 0 where
-    pub stands : Stands area n (collect nameCount longestTerm x (take i cs) found)
-    pub stored : area ≡ sets area₀ 0 (listBytes (collect nameCount longestTerm x (take i cs) found))
-
   abbrev pub Progresses : ℕ → ℕ → List ℕ → Type 0
-  Progresses i n area = (found : List ListedStep) → Stands area₀ count₀ found → Progress i n area found
+  Progresses i n area = (found : List ListedStep) → Stands area₀ count₀ found → Stands area n (collect nameCount longestTerm x (take i cs) found)
 
   pub progress-start : Progresses 0 count₀ area₀
   unfolding collect
-  progress-start found s = record { stands = s; stored = stands-again area₀ count₀ found s }
+  progress-start found s = s
 
   next : (i : ℕ) → i < length cs → (found : List ListedStep)
       → collect nameCount longestTerm x (getD cs i blocked ∷ []) (after i found) ≡ after (i + 1) found
@@ -212,17 +152,7 @@ module _ (cs : List Candidate) (x : ℕ) (area₀ : List ℕ) (count₀ : ℕ) w
       → m ≤ mostSteps → Progresses (i + 1) m area′
   unfolding PutIs
   progress-step i n m area area′ h p u k found s =
-      let f : List ListedStep = after i found in
-      let g : List ListedStep = collect nameCount longestTerm x (getD cs i blocked ∷ []) f in
-      let before = p found s in
-      let put = u f (before .stands) in
-      let e : g ≡ after (i + 1) found = next i h found in
-      record {
-        stands = subst (Stands area′ m) e (put .stands k);
-        stored =
-            stored-twice area₀ (getD cs i blocked ∷ []) x f n (before .stands) (before .stored) m area′ (put .stands k) (put .stored k)
-            ∙ ap (λ l. sets area₀ 0 (listBytes l)) e;
-      }
+      subst (Stands area′ m) (next i h found) (u (after i found) (p found s) .stands k)
 
   -- A candidate that adds no step.
   pub progress-again : (i n : ℕ) (area : List ℕ) → i < length cs → Again 0 (getD cs i blocked) (take i cs) → Progresses i n area → Progresses (i + 1) n area
@@ -230,10 +160,7 @@ module _ (cs : List Candidate) (x : ℕ) (area₀ : List ℕ) (count₀ : ℕ) w
       let e : after i found ≡ after (i + 1) found =
       sym (collect-there nameCount longestTerm x (take i cs) (getD cs i blocked ∷ []) found (ascending-sorted longestTerm found (s .ascending)) (only m))
       ∙ next i h found in
-      record {
-        stands = subst (Stands area n) e (p found s .stands);
-        stored = p found s .stored ∙ ap (λ l. sets area₀ 0 (listBytes l)) e;
-      }
+      subst (Stands area n) e (p found s)
     where
       only : Again 0 (getD cs i blocked) (take i cs) → (c : Candidate) → c ∈ (getD cs i blocked ∷ []) → Again 0 c (take i cs)
       only m c (inl e) = subst (λ d. Again 0 d (take i cs)) (sym e) m
@@ -241,52 +168,40 @@ module _ (cs : List Candidate) (x : ℕ) (area₀ : List ℕ) (count₀ : ℕ) w
   pub progress-done : (i n : ℕ) (area : List ℕ) → length cs ≤ i → n ≤ mostSteps → Progresses i n area → CollectIs cs x area₀ count₀ n area
   unfolding CollectIs
   progress-done i n area h k p found s =
-      let now = p found s in
       let e : after i found ≡ collect nameCount longestTerm x cs found = ap (λ ds. collect nameCount longestTerm x ds found) (take-all i cs h) in
-      subst (λ l. Found l area₀ n area) e
-      (record { stands = λ _. now .stands; stored = λ _. now .stored; passed = λ l. absurd (omega arith) })
+      subst (λ l. Found l n area) e (record { stands = λ _. p found s; passed = λ l. absurd (omega arith) })
 
   pub progress-passed : (i n m : ℕ) (area area′ : List ℕ) → i < length cs → Progresses i n area → PutIs (getD cs i blocked) x area n m area′
       → mostSteps < m → CollectIs cs x area₀ count₀ m area′
   unfolding CollectIs PutIs
   progress-passed i n m area area′ h p u k found s =
-      let now = p found s in
       let e : collect nameCount longestTerm x (getD cs i blocked ∷ drop (suc i) cs) (after i found) ≡ collect nameCount longestTerm x cs found =
       sym (collect-++ nameCount longestTerm x (take i cs) (getD cs i blocked ∷ drop (suc i) cs) found)
       ∙ ap (λ ds. collect nameCount longestTerm x ds found) (sym (split-at cs i blocked h)) in
       record {
         stands = λ l. absurd (omega arith);
-        stored = λ l. absurd (omega arith);
-        passed = λ _. subst (λ l. limited longestTerm mostSteps l ≡ unsettled) e (u (after i found) (now .stands) .passed k (drop (suc i) cs));
+        passed = λ _. subst (λ l. limited longestTerm mostSteps l ≡ unsettled) e (u (after i found) (p found s) .passed k (drop (suc i) cs));
       }
 
 -- One list of candidates after another.
 pub collect-none : (x : ℕ) (area : List ℕ) (count : ℕ) → count ≤ mostSteps → CollectIs [] x area count count area
 unfolding CollectIs collect
-collect-none x area count h found s = record { stands = λ _. s; stored = λ _. stands-again area count found s; passed = λ l. absurd (omega arith) }
+collect-none x area count h found s = record { stands = λ _. s; passed = λ l. absurd (omega arith) }
 
 module _ (cs ds : List Candidate) (x : ℕ) (area : List ℕ) (count m : ℕ) (area₁ : List ℕ) (first : CollectIs cs x area count m area₁) where
   pub collect-then : m ≤ mostSteps → (r : ℕ) (area₂ : List ℕ) → CollectIs ds x area₁ m r area₂ → CollectIs (cs ++ ds) x area count r area₂
   unfolding CollectIs
   collect-then h r area₂ second found s =
       let f : List ListedStep = collect nameCount longestTerm x cs found in
-      let a = first found s in
-      let b = second f (a .stands h) in
-      subst (λ l. Found l area r area₂) (sym (collect-++ nameCount longestTerm x cs ds found))
-      (record {
-        stands = b .stands;
-        stored = λ k. stored-twice area ds x f m (a .stands h) (a .stored h) r area₂ (b .stands k) (b .stored k);
-        passed = b .passed;
-      })
+      subst (λ l. Found l r area₂) (sym (collect-++ nameCount longestTerm x cs ds found)) (second f (first found s .stands h))
 
   pub collect-over : mostSteps < m → CollectIs (cs ++ ds) x area count m area₁
   unfolding CollectIs
   collect-over h found s =
       let f : List ListedStep = collect nameCount longestTerm x cs found in
-      subst (λ l. Found l area m area₁) (sym (collect-++ nameCount longestTerm x cs ds found))
+      subst (λ l. Found l m area₁) (sym (collect-++ nameCount longestTerm x cs ds found))
       (record {
         stands = λ l. absurd (omega arith);
-        stored = λ l. absurd (omega arith);
         passed = λ l. limited-grows nameCount longestTerm x mostSteps ds f (first found s .passed l);
       })
 
@@ -294,6 +209,6 @@ module _ (cs ds : List Candidate) (x : ℕ) (area : List ℕ) (count m : ℕ) (a
   pub collect-again : ((c : Candidate) → c ∈ ds → Again 0 c cs) → CollectIs (cs ++ ds) x area count m area₁
   unfolding CollectIs
   collect-again h found s =
-      subst (λ l. Found l area m area₁)
+      subst (λ l. Found l m area₁)
       (sym (collect-++ nameCount longestTerm x cs ds found ∙ collect-there nameCount longestTerm x cs ds found (ascending-sorted longestTerm found (s .ascending)) h))
       (first found s)

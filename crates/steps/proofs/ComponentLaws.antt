@@ -4,7 +4,7 @@ use mathlib.Core.Bool.{Bool, true, false, cond, _&&_}
 use mathlib.Core.List.{List, [], _∷_, map}
 use mathlib.Core.Path.{_≡_, refl, sym, _∙_, ap, subst}
 use native.Mathlib.Omega.{arith}
-use Prim.Native.Nat.{ℕ, suc, _+_, _-_, _*_, _<_, _≤_}
+use Prim.Native.Nat.{ℕ, suc, _+_, _-_, _<_, _≤_}
 use lib.Dec.{eqb, leb}
 use lib.ListN.{length, getD, take, length-map}
 use Rattle.calculus.specs.Abstraction.{Act, tauA, outA}
@@ -18,7 +18,7 @@ use Rattle.steps.specs.Collecting.{PutIs, CollectIs}
 use Rattle.steps.specs.Contexts.{Frame, leftOf, rightOf, beneath, raised, restrictions, Placed, levelIn}
 use Rattle.steps.specs.Deciding.{decided, Again}
 use Rattle.steps.specs.Labels.{actionOf}
-use Rattle.steps.specs.Limits.{mostSteps, stepBytes}
+use Rattle.steps.specs.Limits.{mostSteps}
 use Rattle.steps.specs.Listing.{bodyOf}
 use Rattle.steps.specs.Names.{OwnNames}
 use Rattle.steps.specs.PartLister.{Lists, candidatesOf, TakeIs}
@@ -124,14 +124,14 @@ module _ (question part : List ℕ) (at depth : ℕ) (rows : List ℕ) (first j 
     outside K c e row =
         outlined-raised K (decided depth c) kind channel object (subst (λ (d : ℕ). Outlined d (decided depth c) kind channel object) (sym e) (inside c row))
 
-    pub row-blocked : nameCount ≤ channel → mostSteps * stepBytes ≤ length area → count ≤ mostSteps → Takes count area
+    pub row-blocked : nameCount ≤ channel → count ≤ mostSteps → Takes count area
     unfolding PutIs
-    row-blocked h room few = record {
+    row-blocked h few = record {
       over = λ e. absurd (new (at-kind ∙ e));
       is = λ q P l K C number p _ _ row.
           let c = getD (visible (bodyOf (q .bodies)) 1 C) j blocked in
           let e : raised K c ≡ blocked = outside-blocked (raised K c) (decided-raised K depth (p .level) c ∙ outside K c (p .level) row .inner (omega arith)) in
-          subst (λ d. PutIs d x area count count area) (sym e) (λ found s. put-blocked area room x count found s few);
+          subst (λ d. PutIs d x area count count area) (sym e) (λ found s. put-blocked area x count found s few);
     }
 
     module _ (free : channel < nameCount) (few : kind ≤ 3) (r : ℕ) (area′ : List ℕ) where

@@ -1,70 +1,63 @@
--- A step's bytes put in their place among those in the area are the bytes of the list with that step. Assumes nothing.
+-- A step's bytes put behind those in the area, and their number into the index, are an entry more, in its place in the order. Assumes nothing.
 use borrow.Author.Tests.{le-leb, lt-leb}
-use mathlib.Core.Bool.{true, false}
-use mathlib.Core.List.{List, [], _∷_, _++_, map, append-assoc}
-use mathlib.Core.Path.{_≡_, refl, sym, _∙_, ap, ap₂}
-use native.Mathlib.Nat.{suc-mul}
+use mathlib.Core.Bool.{Bool, true, false}
+use mathlib.Core.List.{List, [], _∷_, _++_}
+use mathlib.Core.Logic.{_⊎_, inl, inr}
+use mathlib.Core.Path.{_≡_, refl, sym, _∙_, ap, ap₂, subst}
 use native.Mathlib.Omega.{arith}
 use Prim.Native.Nat.{ℕ, zero, suc, _+_, _*_, _-_, _<_, _≤_, Ordering·lt, Ordering·eq, Ordering·gt}
-use lib.ListN.{length, getD, take, drop, length-append, length-drop, take-append-drop}
-use lib.Seq.{sets, sets-eq, take-at, drop-at, drop-append-add, take-all, length-take-le}
+use lib.ListN.{length, getD, set, take, drop, length-append, length-drop, length-set}
+use lib.Seq.{sets, length-sets, getD-set-same, getD-set-other, ext-getD, take-all, length-take-le}
 use Rattle.terms.specs.Limits.{longestTerm}
-use Rattle.terms.proofs.Stores.{sets-join}
+use Rattle.terms.proofs.Stores.{span, length-span, getD-span}
 use Rattle.steps.specs.Derived.{Ascending}
-use Rattle.steps.specs.Entries.{entryFrom, entryAt, isBefore, comesBefore, EntriesAscend, PlaceIs, Sized, InsertIs}
-use Rattle.steps.specs.Limits.{mostSteps, stepBytes}
+use Rattle.steps.specs.Entries.{entryFrom, placeAt, entryAt, isBefore, comesBefore, Alike, EntriesAscend, PlaceIs, stepAt, Indexed, InsertIs}
+use Rattle.steps.specs.Limits.{mostSteps, stepBytes, indexPlace, listRoom}
 use Rattle.steps.specs.Listed.{ListedStep, bytes}
 use Rattle.steps.specs.Listing.{order, insert}
 use Rattle.steps.specs.Lists.{All}
-use Rattle.steps.specs.Operations.{listBytes}
 use Rattle.steps.proofs.ByteOrder.{before-order}
-use Rattle.steps.proofs.EntryOrder.{comes-before, order-same-bytes, order-behind, not-before}
-use Rattle.steps.proofs.Moves.{sets-before}
+use Rattle.steps.proofs.EntryOrder.{comes-before, order-same-bytes, order-behind, not-before, length-entry}
+use Rattle.steps.proofs.Moves.{getD-before, getD-behind, getD-stored}
 
--- the bytes of the step of a number
-abbrev nth : List ListedStep → ℕ → List ℕ
-nth ss i = getD (map (bytes longestTerm) ss) i []
+-- Entries with the same bytes, an entry that was stored, and one that a run of stores does not touch.
+pub same-entry : (a b : List ℕ) (i : ℕ) → i + stepBytes ≤ length a → i + stepBytes ≤ length b → Alike a i b i stepBytes → entryFrom a i ≡ entryFrom b i
+unfolding entryFrom
+same-entry a b i m n s =
+    ext-getD 0 (entryFrom a i) (entryFrom b i) (length-entry a i m ∙ sym (length-entry b i n))
+    (λ k h. let l : k < stepBytes = omega (arith, length-entry a i m) in getD-span a i stepBytes k l ∙ s k l ∙ sym (getD-span b i stepBytes k l))
 
-pub length-listBytes : (ss : List ListedStep) → Sized ss → length (listBytes ss) ≡ length ss * stepBytes
-unfolding listBytes
-length-listBytes [] z = refl
-length-listBytes (s ∷ ss) z =
-    let r = length-listBytes ss (z .1) in
-    let h = z .0 in
-    omega (arith, length-append (bytes longestTerm s) (listBytes ss), suc-mul (length ss) stepBytes)
+module _ (l : List ℕ) (p : ℕ) (xs : List ℕ) where
+  pub entry-written : length xs ≡ stepBytes → p + stepBytes ≤ length l → entryFrom (sets l p xs) p ≡ xs
+  unfolding entryFrom
+  entry-written e h =
+      let m : p + stepBytes ≤ length (sets l p xs) = omega (arith, length-sets l p xs) in
+      ext-getD 0 (entryFrom (sets l p xs) p) xs (length-entry (sets l p xs) p m ∙ sym e)
+      (λ k g.
+      let n : k < stepBytes = omega (arith, length-entry (sets l p xs) p m) in
+      getD-span (sets l p xs) p stepBytes k n ∙ getD-stored l p xs (omega arith) k (omega arith))
 
-listBytes-append : (ss ts : List ListedStep) → listBytes (ss ++ ts) ≡ listBytes ss ++ listBytes ts
-unfolding listBytes
-listBytes-append [] ts = refl
-listBytes-append (s ∷ ss) ts =
-    ap (λ r. bytes longestTerm s ++ r) (listBytes-append ss ts) ∙ sym (append-assoc (bytes longestTerm s) (listBytes ss) (listBytes ts))
+  pub entry-beside : (i : ℕ) → i + stepBytes ≤ length l → (i + stepBytes ≤ p) ⊎ (p + length xs ≤ i) → entryFrom (sets l p xs) i ≡ entryFrom l i
+  entry-beside i h o = same-entry (sets l p xs) l i (omega (arith, length-sets l p xs)) h (λ k m. go o k m)
+    where
+      go : (i + stepBytes ≤ p) ⊎ (p + length xs ≤ i) → (k : ℕ) → k < stepBytes → getD (sets l p xs) (i + k) 0 ≡ getD l (i + k) 0
+      go (inl q) k m = getD-before l (i + k) p xs (omega arith)
+      go (inr q) k m = getD-behind l p (i + k) xs (omega arith)
 
-sized-take : (i : ℕ) (ss : List ListedStep) → Sized ss → Sized (take i ss)
-sized-take zero ss z = tt
-sized-take (suc i) [] z = tt
-sized-take (suc i) (s ∷ ss) z = (z .0, sized-take i ss (z .1))
+-- what holds of each number before i, of i, and of each behind it
+around : (T : ℕ → Type 0) (i : ℕ) → ((k : ℕ) → k < i → T k) → T i → ((k : ℕ) → i ≤ k → T (suc k)) → (k : ℕ) → T k
+around T zero b t h zero = t
+around T zero b t h (suc k) = h k (omega arith)
+around T (suc i) b t h zero = b 0 (omega arith)
+around T (suc i) b t h (suc k) = around (λ j. T (suc j)) i (λ j l. b (suc j) (omega arith)) t (λ j l. h (suc j) (omega arith)) k
 
--- the entries of the area are the bytes of the steps
-entries : (ss : List ListedStep) (rest : List ℕ) → Sized ss → (i : ℕ) → i < length ss → entryAt (listBytes ss ++ rest) i ≡ nth ss i
-unfolding listBytes entryAt entryFrom
-entries [] rest z i h = absurd (omega arith)
-entries (s ∷ ss) rest z zero h =
-    ap (take stepBytes) (append-assoc (bytes longestTerm s) (listBytes ss) rest)
-    ∙ take-at (bytes longestTerm s) (listBytes ss ++ rest) stepBytes (z .0)
-entries (s ∷ ss) rest z (suc i) h =
-    let e : suc i * stepBytes ≡ length (bytes longestTerm s) + i * stepBytes = omega (arith, suc-mul i stepBytes, z .0) in
-    ap (λ l. take stepBytes (drop (suc i * stepBytes) l)) (append-assoc (bytes longestTerm s) (listBytes ss) rest)
-    ∙ ap (λ n. take stepBytes (drop n (bytes longestTerm s ++ (listBytes ss ++ rest)))) e
-    ∙ ap (take stepBytes) (drop-append-add (bytes longestTerm s) (listBytes ss ++ rest) (i * stepBytes))
-    ∙ entries ss rest (z .1) i (omega arith)
-
-ascends : (ss : List ListedStep) → Ascending longestTerm ss → (i j : ℕ) → i < j → j < length ss → order (nth ss i) (nth ss j) ≡ Ordering·lt
+pub ascends : (ss : List ListedStep) → Ascending longestTerm ss → (i j : ℕ) → i < j → j < length ss → order (stepAt ss i) (stepAt ss j) ≡ Ordering·lt
 ascends [] a i j h k = absurd (omega arith)
 ascends (s ∷ ss) a i zero h k = absurd (omega arith)
 ascends (s ∷ ss) a zero (suc j) h k = go ss (a .0) j (omega arith)
   where
     go : (ts : List ListedStep) → All (λ t. order (bytes longestTerm s) (bytes longestTerm t) ≡ Ordering·lt) ts → (j : ℕ) → j < length ts
-        → order (bytes longestTerm s) (nth ts j) ≡ Ordering·lt
+        → order (bytes longestTerm s) (stepAt ts j) ≡ Ordering·lt
     go [] b j h = absurd (omega arith)
     go (t ∷ ts) b zero h = b .0
     go (t ∷ ts) b (suc j) h = go ts (b .1) j (omega arith)
@@ -72,7 +65,7 @@ ascends (s ∷ ss) a (suc i) (suc j) h k = ascends ss (a .1) i j (omega arith) (
 
 -- `insert` where the steps before number i come before s: either s is there,
 insert-there : (s : ListedStep) (ss : List ListedStep) (i : ℕ) → i < length ss
-    → ((k : ℕ) → k < i → comesBefore (nth ss k) (bytes longestTerm s) ≡ true) → bytes longestTerm s ≡ nth ss i
+    → ((k : ℕ) → k < i → comesBefore (stepAt ss k) (bytes longestTerm s) ≡ true) → bytes longestTerm s ≡ stepAt ss i
     → insert longestTerm s ss ≡ ss
 unfolding insert
 insert-there s [] i h b e = absurd (omega arith)
@@ -85,8 +78,8 @@ insert-there s (t ∷ ts) (suc i) h b e =
 
 -- or it comes to stand there.
 insert-before : (s : ListedStep) (ss : List ListedStep) (i : ℕ) → i ≤ length ss
-    → ((k : ℕ) → k < i → comesBefore (nth ss k) (bytes longestTerm s) ≡ true)
-    → (i < length ss → comesBefore (bytes longestTerm s) (nth ss i) ≡ true) → insert longestTerm s ss ≡ take i ss ++ (s ∷ drop i ss)
+    → ((k : ℕ) → k < i → comesBefore (stepAt ss k) (bytes longestTerm s) ≡ true)
+    → (i < length ss → comesBefore (bytes longestTerm s) (stepAt ss i) ≡ true) → insert longestTerm s ss ≡ take i ss ++ (s ∷ drop i ss)
 unfolding insert
 insert-before s [] zero h b e = refl
 insert-before s [] (suc i) h b e = absurd (omega arith)
@@ -98,60 +91,157 @@ insert-before s (t ∷ ts) (suc i) h b e =
     let o : order (bytes longestTerm s) (bytes longestTerm t) ≡ Ordering·gt = order-behind (bytes longestTerm s) (bytes longestTerm t) (b 0 (omega arith)) in
     rw (o, insert) (ap (λ r. t ∷ r) (insert-before s ts i (omega arith) (λ k l. b (suc k) (omega arith)) (λ l. e (omega arith))))
 
--- to store what stands there changes nothing
-pub stored-again : (xs rest : List ℕ) → sets (xs ++ rest) 0 xs ≡ xs ++ rest
-stored-again xs rest =
-    sets-eq xs (xs ++ rest) 0 (omega (arith, length-append xs rest)) ∙ ap (λ r. xs ++ r) (drop-at xs rest (0 + length xs) (omega arith))
+-- The steps of a list into which one was put at the place i.
+module _ (s : ListedStep) where
+  step-before : (ss : List ListedStep) (i : ℕ) → i ≤ length ss → (k : ℕ) → k < i → stepAt (take i ss ++ (s ∷ drop i ss)) k ≡ stepAt ss k
+  step-before ss zero h k l = absurd (omega arith)
+  step-before [] (suc i) h k l = absurd (omega arith)
+  step-before (t ∷ ts) (suc i) h zero l = refl
+  step-before (t ∷ ts) (suc i) h (suc k) l = step-before ts i (omega arith) k (omega arith)
 
--- The bytes behind the place moved up by one entry, and the entry stored at the place.
-placed : (xs ys : List ListedStep) (s : ListedStep) (rest : List ℕ) (p : ℕ) → length (listBytes xs) ≡ p → length (bytes longestTerm s) ≡ stepBytes
-    → (area : List ℕ) → area ≡ listBytes xs ++ (listBytes ys ++ rest)
-    → sets (sets area (p + stepBytes) (listBytes ys)) p (bytes longestTerm s) ≡ sets area 0 (listBytes (xs ++ (s ∷ ys)))
-unfolding listBytes
-placed xs ys s rest p l z area e =
-    let b : List ℕ = bytes longestTerm s in
-    let kept : sets area 0 (listBytes xs) ≡ area =
-    ap (λ a. sets a 0 (listBytes xs)) e ∙ stored-again (listBytes xs) (listBytes ys ++ rest) ∙ sym e in
-    sets-before area p (p + stepBytes) b (listBytes ys) (omega arith)
-    ∙ sets-join area p (p + stepBytes) b (listBytes ys) (omega arith)
-    ∙ ap (λ a. sets a p (b ++ listBytes ys)) (sym kept)
-    ∙ sets-join area 0 p (listBytes xs) (b ++ listBytes ys) (omega arith)
-    ∙ ap (sets area 0) (sym (listBytes-append xs (s ∷ ys)))
+  step-there : (ss : List ListedStep) (i : ℕ) → i ≤ length ss → stepAt (take i ss ++ (s ∷ drop i ss)) i ≡ bytes longestTerm s
+  step-there ss zero h = refl
+  step-there [] (suc i) h = absurd (omega arith)
+  step-there (t ∷ ts) (suc i) h = step-there ts i (omega arith)
 
-module _ (area : List ℕ) (count : ℕ) (entry : List ℕ) (size : length entry ≡ stepBytes) (i : ℕ) (place : PlaceIs area count (entryFrom entry 0) i)
-    (few : count ≤ mostSteps) where
+  step-behind : (ss : List ListedStep) (i : ℕ) → i ≤ length ss → (k : ℕ) → i ≤ k → stepAt (take i ss ++ (s ∷ drop i ss)) (suc k) ≡ stepAt ss k
+  step-behind ss zero h k l = refl
+  step-behind [] (suc i) h k l = absurd (omega arith)
+  step-behind (t ∷ ts) (suc i) h zero l = absurd (omega arith)
+  step-behind (t ∷ ts) (suc i) h (suc k) l = step-behind ts i (omega arith) k (omega arith)
+
+-- An entry e stored behind the first `count`, and its number put into the index at i, those behind it moved up.
+module _ (area : List ℕ) (room : listRoom ≤ length area) (count i : ℕ) (inside : i ≤ count) (few : count < mostSteps) (e : List ℕ)
+    (size : length e ≡ stepBytes) where
+  abbrev stored : List ℕ
+  stored = sets area (count * stepBytes) e
+
+  abbrev shifted : List ℕ
+  shifted = span stored (indexPlace + i) (count - i)
+
+  abbrev moved : List ℕ
+  moved = sets stored (indexPlace + i + 1) shifted
+
+  abbrev pub put : List ℕ
+  put = set moved (indexPlace + i) count
+
+  wide : listRoom ≤ length stored
+  wide = omega (arith, length-sets area (count * stepBytes) e)
+
+  wide₂ : listRoom ≤ length moved
+  wide₂ = omega (arith, wide, length-sets stored (indexPlace + i + 1) shifted)
+
+  length-shifted : length shifted ≡ count - i
+  length-shifted = length-span stored (indexPlace + i) (count - i) (omega (arith, wide))
+
+  place-stored : (k : ℕ) → placeAt stored k ≡ placeAt area k
+  place-stored k = getD-behind area (count * stepBytes) (indexPlace + k) e (omega arith)
+
+  place-before : (k : ℕ) → k < i → placeAt put k ≡ placeAt area k
+  place-before k h =
+      getD-set-other moved (indexPlace + i) (indexPlace + k) count 0 (λ z. omega arith)
+      ∙ getD-before stored (indexPlace + k) (indexPlace + i + 1) shifted (omega arith)
+      ∙ place-stored k
+
+  place-there : placeAt put i ≡ count
+  place-there = getD-set-same moved (indexPlace + i) count 0 (omega (arith, wide₂))
+
+  place-behind : (k : ℕ) → i ≤ k → k < count → placeAt put (suc k) ≡ placeAt area k
+  place-behind k h l =
+      let p : indexPlace + suc k ≡ indexPlace + i + 1 + (k - i) = omega arith in
+      let q : indexPlace + i + (k - i) ≡ indexPlace + k = omega arith in
+      getD-set-other moved (indexPlace + i) (indexPlace + suc k) count 0 (λ z. omega arith)
+      ∙ ap (λ j. getD moved j 0) p
+      ∙ getD-stored stored (indexPlace + i + 1) shifted (omega (arith, wide, length-shifted)) (k - i) (omega (arith, length-shifted))
+      ∙ getD-span stored (indexPlace + i) (count - i) (k - i) (omega arith)
+      ∙ ap (λ j. getD stored j 0) q
+      ∙ place-stored k
+
+  entry-put : (p : ℕ) → p ≤ count → entryFrom put (p * stepBytes) ≡ entryFrom stored (p * stepBytes)
+  entry-put p h =
+      same-entry put stored (p * stepBytes) (omega (arith, wide₂, length-set moved (indexPlace + i) count)) (omega (arith, wide))
+      (λ k l.
+      getD-set-other moved (indexPlace + i) (p * stepBytes + k) count 0 (λ z. omega arith)
+      ∙ getD-before stored (p * stepBytes + k) (indexPlace + i + 1) shifted (omega arith))
+
+  entry-old : (p : ℕ) → p < count → entryFrom put (p * stepBytes) ≡ entryFrom area (p * stepBytes)
+  entry-old p h = entry-put p (omega arith) ∙ entry-beside area (count * stepBytes) e (p * stepBytes) (omega arith) (inl (omega arith))
+
+  entry-new : entryFrom put (count * stepBytes) ≡ e
+  entry-new = entry-put count (omega arith) ∙ entry-written area (count * stepBytes) e size (omega arith)
+
+  module _ (s : ListedStep) (ss : List ListedStep) (given : e ≡ bytes longestTerm s) (n : length ss ≡ count) (x : Indexed area ss) where
+    abbrev grown : List ListedStep
+    grown = take i ss ++ (s ∷ drop i ss)
+
+    number : length grown ≡ count + 1
+    number = omega (arith, length-append (take i ss) (s ∷ drop i ss), length-take-le i ss (omega arith), length-drop i ss)
+
+    abbrev Holds : ℕ → Type 0
+    Holds k = k < count + 1 → (placeAt put k < length grown) × (entryAt put k ≡ stepAt grown k)
+
+    old : (j k : ℕ) → k < count → placeAt put j ≡ placeAt area k → stepAt grown j ≡ stepAt ss k → Holds j
+    unfolding entryAt
+    old j k h p q m = (
+      omega (arith, number, x .among k (omega arith)),
+      ap (λ a. entryFrom put (a * stepBytes)) p
+          ∙ entry-old (placeAt area k) (omega (arith, x .among k (omega arith)))
+          ∙ x .entries k (omega arith)
+          ∙ sym q,
+    )
+
+    new : Holds i
+    unfolding entryAt
+    new m = (
+      omega (arith, number, place-there),
+      ap (λ a. entryFrom put (a * stepBytes)) place-there ∙ entry-new ∙ given ∙ sym (step-there s ss i (omega arith)),
+    )
+
+    each : (k : ℕ) → Holds k
+    each =
+        around Holds i (λ k h. old k k (omega arith) (place-before k h) (step-before s ss i (omega arith) k h)) new
+        (λ k h m. old (suc k) k (omega arith) (place-behind k h (omega arith)) (step-behind s ss i (omega arith) k h) m)
+
+    indexed-put : Indexed put grown
+    indexed-put = record {
+      among = λ k h. each k (omega (arith, number)) .0;
+      entries = λ k h. each k (omega (arith, number)) .1;
+    }
+
+-- The test of the entry against the one that the index leads to.
+pub tested : (area entry : List ℕ) (i at : ℕ) (r : Bool) → at ≡ placeAt area i * stepBytes → r ≡ comesBefore (entryFrom entry 0) (entryFrom area at)
+    → comesBefore (entryFrom entry 0) (entryAt area i) ≡ r
+unfolding entryAt
+tested area entry i at r e f = ap (λ p. comesBefore (entryFrom entry 0) (entryFrom area p)) (sym e) ∙ sym f
+
+module _ (area : List ℕ) (count : ℕ) (entry : List ℕ) (size : length entry ≡ stepBytes) (i : ℕ) (place : PlaceIs area count (entryFrom entry 0) i) where
   abbrev pub TestAt : Type 0
-  TestAt = i < count → comesBefore (entryFrom entry 0) (entryFrom area (i * stepBytes)) ≡ true
+  TestAt = i < count → comesBefore (entryFrom entry 0) (entryAt area i) ≡ true
 
-  module _ (s : ListedStep) (ss : List ListedStep) (e : entry ≡ bytes longestTerm s) (z : Sized ss) (a : Ascending longestTerm ss)
-      (n : length ss ≡ count) (t : take (count * stepBytes) area ≡ listBytes ss) where
-    whole : area ≡ listBytes ss ++ drop (count * stepBytes) area
-    whole = sym (take-append-drop (count * stepBytes) area) ∙ ap (λ l. l ++ drop (count * stepBytes) area) t
-
+  module _ (s : ListedStep) (ss : List ListedStep) (e : entry ≡ bytes longestTerm s) (a : Ascending longestTerm ss) (n : length ss ≡ count)
+      (x : Indexed area ss) where
     given : entryFrom entry 0 ≡ bytes longestTerm s
     unfolding entryFrom
     given = take-all stepBytes entry (omega arith) ∙ e
 
-    entry-is : (k : ℕ) → k < count → entryAt area k ≡ nth ss k
-    entry-is k h = ap (λ l. entryAt l k) whole ∙ entries ss (drop (count * stepBytes) area) z k (omega arith)
+    entry-is : (k : ℕ) → k < count → entryAt area k ≡ stepAt ss k
+    entry-is k h = x .entries k (omega arith)
 
     ascend : EntriesAscend area count
     unfolding EntriesAscend comesBefore isBefore
     ascend j k h l = rw (entry-is j (omega arith), entry-is k l, ascends ss a j k h (omega arith)) refl
 
-    behind : (k : ℕ) → k < i → comesBefore (nth ss k) (bytes longestTerm s) ≡ true
+    behind : (k : ℕ) → k < i → comesBefore (stepAt ss k) (bytes longestTerm s) ≡ true
     behind k h =
         let w = place .within in
         ap₂ comesBefore (sym (entry-is k (omega arith))) (sym given) ∙ place .behind ascend k h
 
-    is-there : i < count → comesBefore (entryFrom entry 0) (entryFrom area (i * stepBytes)) ≡ false → insert longestTerm s ss ≡ ss
-    unfolding entryAt
+    is-there : i < count → comesBefore (entryFrom entry 0) (entryAt area i) ≡ false → insert longestTerm s ss ≡ ss
     is-there h f =
         let d : entryFrom entry 0 ≡ entryAt area i = not-before (entryFrom entry 0) (entryAt area i) f (place .ahead ascend i (omega arith) h) in
         insert-there s ss i (omega arith) behind (sym given ∙ d ∙ entry-is i h)
 
     is-new : TestAt → insert longestTerm s ss ≡ take i ss ++ (s ∷ drop i ss)
-    unfolding entryAt
     is-new f =
         let w = place .within in
         insert-before s ss i (omega arith) behind
@@ -163,67 +253,27 @@ module _ (area : List ℕ) (count : ℕ) (entry : List ℕ) (size : length entry
         ap length (is-new f)
         ∙ omega (arith, length-append (take i ss) (s ∷ drop i ss), length-take-le i ss (omega arith), length-drop i ss)
 
-    -- the bytes before the place, behind it, and behind the list
-    halves : listBytes ss ≡ listBytes (take i ss) ++ listBytes (drop i ss)
-    halves = ap listBytes (sym (take-append-drop i ss)) ∙ listBytes-append (take i ss) (drop i ss)
-
-    split : area ≡ listBytes (take i ss) ++ (listBytes (drop i ss) ++ drop (count * stepBytes) area)
-    split =
-        whole
-        ∙ ap (λ l. l ++ drop (count * stepBytes) area) halves
-        ∙ append-assoc (listBytes (take i ss)) (listBytes (drop i ss)) (drop (count * stepBytes) area)
-
-    length-first : length (listBytes (take i ss)) ≡ i * stepBytes
-    length-first =
-        let w = place .within in
-        length-listBytes (take i ss) (sized-take i ss z) ∙ ap (λ k. k * stepBytes) (length-take-le i ss (omega arith))
-
-    length-second : length (listBytes (drop i ss)) ≡ count * stepBytes - i * stepBytes
-    length-second =
-        let m : length ss * stepBytes ≡ count * stepBytes = ap (λ k. k * stepBytes) n in
-        let l : length (listBytes ss) ≡ length (listBytes (take i ss)) + length (listBytes (drop i ss)) =
-        ap length halves ∙ length-append (listBytes (take i ss)) (listBytes (drop i ss)) in
-        omega (arith, length-first, length-listBytes ss z)
-
-    moved : take (count * stepBytes - i * stepBytes) (drop (i * stepBytes) area) ≡ listBytes (drop i ss)
-    moved =
-        ap (λ l. take (count * stepBytes - i * stepBytes) (drop (i * stepBytes) l)) split
-        ∙ ap (take (count * stepBytes - i * stepBytes))
-        (drop-at (listBytes (take i ss)) (listBytes (drop i ss) ++ drop (count * stepBytes) area) (i * stepBytes) length-first)
-        ∙ take-at (listBytes (drop i ss)) (drop (count * stepBytes) area) (count * stepBytes - i * stepBytes) length-second
-
-    stays : area ≡ sets area 0 (listBytes ss)
-    stays =
-        whole
-        ∙ sym (stored-again (listBytes ss) (drop (count * stepBytes) area))
-        ∙ ap (λ l. sets l 0 (listBytes ss)) (sym whole)
-
-    stored : (area₁ area₂ : List ℕ)
-        → area₁ ≡ sets area (i * stepBytes + stepBytes) (take (count * stepBytes - i * stepBytes) (drop (i * stepBytes) area))
-        → area₂ ≡ sets area₁ (i * stepBytes) (entryFrom entry 0)
-        → area₂ ≡ sets area 0 (listBytes (take i ss ++ (s ∷ drop i ss)))
-    stored area₁ area₂ p q =
-        q
-        ∙ ap₂ (λ l b. sets l (i * stepBytes) b) (p ∙ ap (sets area (i * stepBytes + stepBytes)) moved) given
-        ∙ placed (take i ss) (drop i ss) s (drop (count * stepBytes) area) (i * stepBytes) length-first (ap length (sym e) ∙ size) area split
-
-  pub inserted-there : i < count → comesBefore (entryFrom entry 0) (entryFrom area (i * stepBytes)) ≡ false → InsertIs area count entry count area
+  pub inserted-there : i < count → comesBefore (entryFrom entry 0) (entryAt area i) ≡ false → InsertIs area count entry count area
   unfolding InsertIs
-  inserted-there h f s ss e z a n t =
-      let d : insert longestTerm s ss ≡ ss = is-there s ss e z a n t h f in
-      (sym n ∙ ap length (sym d), rw (le-leb count mostSteps few, d) (stays s ss e z a n t))
+  inserted-there h f s ss e a n x =
+      let d : insert longestTerm s ss ≡ ss = is-there s ss e a n x h f in
+      (sym n ∙ ap length (sym d), λ _. subst (Indexed area) (sym d) x)
 
   pub inserted-full : count ≡ mostSteps → TestAt → InsertIs area count entry (count + 1) area
   unfolding InsertIs
-  inserted-full h f s ss e z a n t =
-      (sym (length-new s ss e z a n t f), rw (lt-leb (count + 1) mostSteps (omega arith)) refl)
+  inserted-full h f s ss e a n x = (sym (length-new s ss e a n x f), λ l. absurd (omega arith))
 
-  pub inserted-new : (count ≡ mostSteps → ⊥) → TestAt → (area₁ area₂ : List ℕ)
-      → area₁ ≡ sets area (i * stepBytes + stepBytes) (take (count * stepBytes - i * stepBytes) (drop (i * stepBytes) area))
-      → area₂ ≡ sets area₁ (i * stepBytes) (entryFrom entry 0)
-      → InsertIs area count entry (count + 1) area₂
+  pub inserted-new : listRoom ≤ length area → count < mostSteps → TestAt → (area₁ area₂ : List ℕ) → area₁ ≡ sets area (count * stepBytes) (entryFrom entry 0)
+      → area₂ ≡ sets area₁ (indexPlace + i + 1) (take (count - i) (drop (indexPlace + i) area₁))
+      → InsertIs area count entry (count + 1) (set area₂ (indexPlace + i) count)
   unfolding InsertIs
-  inserted-new h f area₁ area₂ p q s ss e z a n t = (
-    sym (length-new s ss e z a n t f),
-    rw (le-leb (count + 1) mostSteps (omega arith), is-new s ss e z a n t f) (stored s ss e z a n t area₁ area₂ p q),
+  inserted-new room few f area₁ area₂ p q s ss e a n x = (
+    sym (length-new s ss e a n x f),
+    λ _.
+        let g : entryFrom entry 0 ≡ bytes longestTerm s = given s ss e a n x in
+        let m : length (entryFrom entry 0) ≡ stepBytes = length-entry entry 0 (omega arith) in
+        subst (Indexed (set area₂ (indexPlace + i) count)) (sym (is-new s ss e a n x f))
+        (subst (λ l. Indexed (set l (indexPlace + i) count) (take i ss ++ (s ∷ drop i ss)))
+        (sym (q ∙ ap (λ l. sets l (indexPlace + i + 1) (take (count - i) (drop (indexPlace + i) l))) p))
+        (indexed-put area room count i (place .within) few (entryFrom entry 0) m s ss g n x)),
   )

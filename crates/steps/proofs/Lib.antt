@@ -1,4 +1,5 @@
 pub mod ArgumentSlots
+pub mod ArrangeLaws
 pub mod AskLaws
 pub mod BodyPlaces
 pub mod BranchLaws

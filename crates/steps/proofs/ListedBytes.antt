@@ -1,17 +1,22 @@
 -- The bytes of a listed step determine it. Assumes nothing.
-use mathlib.Core.List.{List, _∷_, _++_}
+use mathlib.Core.List.{List, [], _∷_, _++_}
 use mathlib.Core.Path.{_≡_, refl, sym, _∙_, ap}
+use native.Mathlib.Nat.{suc-mul}
 use native.Mathlib.Omega.{arith}
-use Prim.Native.Nat.{ℕ, _+_, _-_, _≤_, max}
+use Prim.Native.Nat.{ℕ, _+_, _*_, _-_, _≤_, max}
 use lib.ListN.{length, take, drop, replicate, length-append, length-replicate}
 use lib.Seq.{take-at, drop-at}
 use Rattle.calculus.specs.Term.{Term}
 use Rattle.terms.specs.Answer.{result}
 use Rattle.terms.specs.Encoding.{encode, InScope}
+use Rattle.terms.specs.Limits.{longestTerm}
 use Rattle.terms.specs.Reading.{readTerm}
 use Rattle.terms.proofs.Answers.{result-injective}
 use Rattle.terms.proofs.ReadEncoded.{read-encoded}
+use Rattle.steps.specs.Entries.{Sized}
+use Rattle.steps.specs.Limits.{stepBytes}
 use Rattle.steps.specs.Listed.{ListedStep, resultBytes, bytes}
+use Rattle.steps.specs.Operations.{listBytes}
 
 -- Lists that begin with lists of the same length.
 fronts : {A : Type 0} (xs ys us vs : List A) → length xs ≡ length ys → xs ++ us ≡ ys ++ vs → xs ≡ ys
@@ -70,3 +75,12 @@ step-length longest s =
 pub step-size : (names longest : ℕ) (s : ListedStep) → length (s .classes) ≡ names → length (resultBytes s) ≤ longest
     → length (bytes longest s) ≡ names + (4 + longest)
 step-size names longest s c h = omega (arith, step-length longest s)
+
+-- The bytes of a list of steps.
+pub length-listBytes : (ss : List ListedStep) → Sized ss → length (listBytes ss) ≡ length ss * stepBytes
+unfolding listBytes
+length-listBytes [] z = refl
+length-listBytes (s ∷ ss) z =
+    let r = length-listBytes ss (z .1) in
+    let h = z .0 in
+    omega (arith, length-append (bytes longestTerm s) (listBytes ss), suc-mul (length ss) stepBytes)

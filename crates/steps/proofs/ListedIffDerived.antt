@@ -26,7 +26,7 @@ use Rattle.steps.specs.Listed.{ListedStep}
 use Rattle.steps.specs.Listing.{Listing, listed, listing, bodyOf, stepsOf}
 use Rattle.steps.specs.Operations.{sideOf, isNew, listOf, listBytes}
 use Rattle.steps.proofs.Calls.{Opens}
-use Rattle.steps.proofs.InsertLaws.{length-listBytes}
+use Rattle.steps.proofs.ListedBytes.{length-listBytes}
 use Rattle.steps.proofs.ListingLaws.{listing-sizes, derived-well, listing-exact}
 use Rattle.steps.proofs.QuestionDefinitions.{bodies-in-scope, opens-one}
 use Rattle.steps.proofs.Scope.{CallsInScope, scope-calls}

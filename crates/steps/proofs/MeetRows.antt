@@ -18,7 +18,7 @@ use Rattle.terms.specs.Question.{Question}
 use Rattle.steps.specs.Collecting.{Found, PutIs, CollectIs}
 use Rattle.steps.specs.Contexts.{Frame, raised, restrictions, Placed}
 use Rattle.steps.specs.Deciding.{decided, Again}
-use Rattle.steps.specs.Limits.{mostSteps, stepBytes}
+use Rattle.steps.specs.Limits.{mostSteps}
 use Rattle.steps.specs.Listing.{bodyOf, collect}
 use Rattle.steps.specs.Listed.{ListedStep}
 use Rattle.steps.specs.Lists.{_∈_, Among}
@@ -58,7 +58,7 @@ collect-stopped : (x : ℕ) (K : List Frame) (d : ℕ) → restrictions K ≡ d 
     → CollectIs (met K s ts) x area count count area
 unfolding CollectIs collect communication
 collect-stopped x K d level s e ts area count h found stood =
-    subst (λ l. Found l area count area)
+    subst (λ l. Found l count area)
     (sym (collect-blocked x K s (λ t. met-blocked K d level s t (ap (λ c. raised K (communication c (decided d t))) e ∙ raised-blocked K)) ts found))
     (collect-none x area count h found stood)
 
@@ -170,10 +170,10 @@ module _ (question part : List ℕ) (at depth number x : ℕ) (rows : List ℕ) 
           (subst (λ cs. Again 0 (raised K (communication s t)) cs) (sym l)
           (again-by 0 depth (raised K) (raised K) (decided-raised K depth (c .placed .level)) (raised-blocked K) (communication s t) (map (communication s) (take i ts)) (again-right depth s t (take i ts) m)))
 
-    pair-next : mostSteps * stepBytes ≤ length area → n ≤ mostSteps → w < last → mayMeet (kindAt rows row) (channelAt rows row) (kindAt rows w) (channelAt rows w) ≡ false
+    pair-next : n ≤ mostSteps → w < last → mayMeet (kindAt rows row) (channelAt rows row) (kindAt rows w) (channelAt rows w) ≡ false
         → Paired (w + 1) n area
     unfolding Row PutIs Unblocked
-    pair-next room few h m q P K L R first s c =
+    pair-next few h m q P K L R first s c =
         let i : w - middle + 1 ≡ w + 1 - middle = omega arith in
         subst (λ i. Progresses (met K s (visible (bodyOf (q .bodies)) 1 R)) x area₀ count i n area) i (go (eqb (kindAt rows w) 4) refl)
       where
@@ -189,7 +189,7 @@ module _ (question part : List ℕ) (at depth number x : ℕ) (rows : List ℕ) 
             (pair-apart K depth (c .placed .level) (decided depth s) (decided depth (getD ts (w - middle) blocked)) (kindAt rows row) (channelAt rows row) (objectAt rows row) (kindAt rows w) (channelAt rows w) (objectAt rows w)
             (unblocked q P K L R first s c h) (other q P K L R first s c h f) f m) in
             let put : PutIs (getD (met K s ts) (w - middle) blocked) x area n n area =
-            subst (λ d. PutIs d x area n n area) (sym (nth-met K s ts (w - middle) ∙ e)) (λ found stood. put-blocked area room x n found stood few) in
+            subst (λ d. PutIs d x area n n area) (sym (nth-met K s ts (w - middle) ∙ e)) (λ found stood. put-blocked area x n found stood few) in
             progress-step (met K s ts) x area₀ count (w - middle) n n area area (within-met q P K L R first s c h) (paired q P K L R first s c) put few
 
     module _ (h : w < last) (m : mayMeet (kindAt rows row) (channelAt rows row) (kindAt rows w) (channelAt rows w) ≡ true) (r : ℕ) (area′ : List ℕ)
@@ -224,12 +224,12 @@ module _ (question part : List ℕ) (at depth number x : ℕ) (rows : List ℕ) 
         (omega (arith, length-met K s (visible (bodyOf (q .bodies)) 1 R), c .ends)) few (paired q P K L R first s c))
 
   -- The rows that are passed over do not meet.
-  module _ (new : kindAt rows row ≡ 4 → ⊥) (known : channelAt rows row < nameCount + depth) (n : ℕ) (area : List ℕ) (room : mostSteps * stepBytes ≤ length area) (few : n ≤ mostSteps) where
+  module _ (new : kindAt rows row ≡ 4 → ⊥) (known : channelAt rows row < nameCount + depth) (n : ℕ) (area : List ℕ) (few : n ≤ mostSteps) where
     skip : (k w : ℕ) → Paired w n area → middle ≤ w → (r : ℕ) → r ≡ w + k → r ≤ last
         → ((v : ℕ) → w ≤ v → v < r → mayMeet (kindAt rows row) (channelAt rows row) (kindAt rows v) (channelAt rows v) ≡ false) → Paired r n area
     skip zero w p on r e h m = let f : w ≡ r = omega arith in subst (λ v. Paired v n area) f p
     skip (suc k) w p on r e h m =
-        skip k (w + 1) (pair-next new known w n area p on room few (omega arith) (m w (omega arith) (omega arith))) (omega arith) r (omega arith) h
+        skip k (w + 1) (pair-next new known w n area p on few (omega arith) (m w (omega arith) (omega arith))) (omega arith) r (omega arith) h
         (λ v a b. m v (omega arith) b)
 
     pub pairs-skipped : (from r : ℕ) → middle ≤ from → NextMetIs rows (kindAt rows row) (channelAt rows row) from last r → Paired from n area → Paired r n area

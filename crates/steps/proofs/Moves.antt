@@ -1,11 +1,12 @@
--- Runs of stores that do not touch each other, and bytes moved up by a run from the last to the first, in a part that was lent. Assumes nothing.
+-- What a run of stores leaves and what it writes, and bytes moved up by a run from the last to the first, in a part that was lent. Assumes nothing.
 use borrow.Rule.Slice.PartMut.{midOf, postOf, putMid, post-is}
 use mathlib.Core.Path.{_≡_, refl, sym, _∙_, ap, ap₂}
 use mathlib.Core.List.{List, [], _∷_, _++_, append-nil}
+use native.Mathlib.Nat.{add-zero}
 use native.Mathlib.Omega.{arith}
 use Prim.Native.Nat.{ℕ, zero, suc, _+_, _-_, _<_, _≤_}
-use lib.ListN.{length, getD, set, take, drop, length-drop, drop-of-length-le}
-use lib.Seq.{sets, set-comm, getD-set-other, drop-cons, take-all}
+use lib.ListN.{length, getD, set, take, drop, length-set, length-drop, drop-of-length-le}
+use lib.Seq.{sets, length-sets, set-comm, getD-set-same, getD-set-other, drop-cons, take-all}
 use Rattle.terms.proofs.Stores.{span}
 
 -- a store before a run
@@ -19,11 +20,17 @@ pub getD-before : (l : List ℕ) (p q : ℕ) (xs : List ℕ) → p < q → getD 
 getD-before l p q [] h = refl
 getD-before l p q (x ∷ xs) h = getD-before (set l q x) p (suc q) xs (omega arith) ∙ getD-set-other l q p x 0 (λ e. omega arith)
 
--- two runs, the second before the first
-pub sets-before : (l : List ℕ) (p q : ℕ) (xs ys : List ℕ) → p + length xs ≤ q → sets (sets l q ys) p xs ≡ sets (sets l p xs) q ys
-sets-before l p q [] ys h = refl
-sets-before l p q (x ∷ xs) ys h =
-    ap (λ m. sets m (suc p) xs) (set-before l p q x ys (omega arith)) ∙ sets-before (set l p x) (suc p) q xs ys (omega arith)
+-- what is behind a run, and what was stored by it
+pub getD-behind : (l : List ℕ) (p k : ℕ) (xs : List ℕ) → p + length xs ≤ k → getD (sets l p xs) k 0 ≡ getD l k 0
+getD-behind l p k [] h = refl
+getD-behind l p k (x ∷ xs) h = getD-behind (set l p x) (suc p) k xs (omega arith) ∙ getD-set-other l p k x 0 (λ z. omega arith)
+
+pub getD-stored : (l : List ℕ) (p : ℕ) (xs : List ℕ) → p + length xs ≤ length l → (k : ℕ) → k < length xs → getD (sets l p xs) (p + k) 0 ≡ getD xs k 0
+getD-stored l p [] h k m = absurd (omega arith)
+getD-stored l p (x ∷ xs) h zero m = rw add-zero (getD-before (set l p x) p (suc p) xs (omega arith) ∙ getD-set-same l p x 0 (omega arith))
+getD-stored l p (x ∷ xs) h (suc k) m =
+    let e : p + suc k ≡ suc p + k = omega arith in
+    rw e (getD-stored (set l p x) (suc p) xs (omega (arith, length-set l p x)) k (omega arith))
 
 span-cons : (l : List ℕ) (j n : ℕ) → j < length l → span l j (suc n) ≡ getD l j 0 ∷ span l (suc j) n
 span-cons l j n h = rw (drop-cons l j 0 h) refl
@@ -69,15 +76,19 @@ sets-part (x ∷ l) (suc p) q xs h =
     let e : suc p + q ≡ suc (p + q) = omega arith in
     rw e (ap (λ r. x ∷ r) (sets-part l p q xs (omega arith)) ∙ sym (sets-cons x l (p + q) xs))
 
--- The bytes moved up in the part from p on that was lent: the same in the whole.
-pub moved-part : (l : List ℕ) (p n m : ℕ) → p ≤ length l → (part : List ℕ)
-    → part ≡ sets (midOf p (length l - p) l) n (take m (midOf p (length l - p) l))
-    → putMid p (length l - p) l part ≡ sets l (p + n) (take m (drop p l))
-moved-part l p n m h part e =
-    let w : midOf p (length l - p) l ≡ drop p l = take-all (length l - p) (drop p l) (omega (arith, length-drop p l)) in
-    let all : length l ≤ length l = omega arith in
-    let z : postOf p (length l - p) l ≡ [] = post-is p (length l) l h ∙ drop-of-length-le l all in
-    let q : part ≡ sets (drop p l) n (take m (drop p l)) = e ∙ ap (λ d. sets d n (take m d)) w in
-    ap₂ (λ y r. take p l ++ (y ++ r)) q z
-    ∙ ap (λ y. take p l ++ y) (append-nil (sets (drop p l) n (take m (drop p l))))
-    ∙ sets-part l p n (take m (drop p l)) h
+-- The bytes moved up in the part from p on that was lent: the same in the whole, and a store there leaves the length.
+module _ (l : List ℕ) (p n m : ℕ) (h : p ≤ length l) (part : List ℕ)
+    (e : part ≡ sets (midOf p (length l - p) l) n (take m (midOf p (length l - p) l))) where
+  pub moved-part : putMid p (length l - p) l part ≡ sets l (p + n) (take m (drop p l))
+  moved-part =
+      let w : midOf p (length l - p) l ≡ drop p l = take-all (length l - p) (drop p l) (omega (arith, length-drop p l)) in
+      let all : length l ≤ length l = omega arith in
+      let z : postOf p (length l - p) l ≡ [] = post-is p (length l) l h ∙ drop-of-length-le l all in
+      let q : part ≡ sets (drop p l) n (take m (drop p l)) = e ∙ ap (λ d. sets d n (take m d)) w in
+      ap₂ (λ y r. take p l ++ (y ++ r)) q z
+      ∙ ap (λ y. take p l ++ y) (append-nil (sets (drop p l) n (take m (drop p l))))
+      ∙ sets-part l p n (take m (drop p l)) h
+
+  pub length-moved : (i v : ℕ) → length (set (putMid p (length l - p) l part) i v) ≡ length l
+  length-moved i v =
+      length-set (putMid p (length l - p) l part) i v ∙ ap length moved-part ∙ length-sets l (p + n) (take m (drop p l))

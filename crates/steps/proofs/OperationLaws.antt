@@ -36,37 +36,35 @@ use Rattle.steps.specs.declared.list.ListAnswer.{ListAnswer}
 use Rattle.steps.specs.declared.list.ListAnswer.the-variants as part
 use Rattle.steps.specs.declared.operation.StepsAnswer.{StepsAnswer}
 use Rattle.steps.specs.declared.operation.StepsAnswer.the-variants.{Refused, Unsettled, Count}
-use Rattle.steps.proofs.CollectLaws.{take-sets}
 use Rattle.steps.proofs.ListedIffDerived.{steps-length, side-allowed}
 use Rattle.steps.proofs.QuestionDefinitions.{definitions}
 
 -- The list of a part, made in an area of its own, and copied.
-module _ (question bytes : List ℕ) (x : ℕ) (own own′ area : List ℕ) (room : mostSteps * stepBytes ≤ length own) (space : mostSteps * stepBytes ≤ length area) where
-  pub into-unsettled : (a : ListAnswer) → a ≡ part.Unsettled → ListPartIs question bytes x own a own′ → ListsInto question bytes x area Unsettled area
+module _ (question bytes : List ℕ) (x : ℕ) (own′ area : List ℕ) (space : mostSteps * stepBytes ≤ length area) where
+  pub into-unsettled : (a : ListAnswer) → a ≡ part.Unsettled → ListPartIs question bytes x a own′ → ListsInto question bytes x area Unsettled area
   unfolding ListsInto AnswersListing stepsAnswer areaAfter
-  into-unsettled a e p q P l = go (stepsOf (q .bodies) x P) (subst (λ c. AnswersListing (stepsOf (q .bodies) x P) own c own′) e (p .is q P l))
+  into-unsettled a e p q P l = go (stepsOf (q .bodies) x P) (subst (λ c. AnswersListing (stepsOf (q .bodies) x P) c own′) e (p .is q P l))
     where
-      go : (r : Listing) → AnswersListing r own part.Unsettled own′ → DoesList (result r) area Unsettled area
+      go : (r : Listing) → AnswersListing r part.Unsettled own′ → DoesList (result r) area Unsettled area
       go unsettled a = record { answer = refl; left = refl }
       go (listed ss) a = let e = a .0 in let z : _≡_ {A = ℕ} 0 1 = cc in absurd (omega arith)
 
-  pub into-count : (n : ℕ) (a : ListAnswer) → a ≡ part.Count n → ListPartIs question bytes x own a own′ → (area′ : List ℕ)
+  pub into-count : (n : ℕ) (a : ListAnswer) → a ≡ part.Count n → ListPartIs question bytes x a own′ → (area′ : List ℕ)
       → area′ ≡ sets area 0 (take (n * stepBytes) own′) → ListsInto question bytes x area (Count n) area′
   unfolding ListsInto AnswersListing stepsAnswer areaAfter definitions
   into-count n a c p area′ e q P l =
-      go (stepsOf (q .bodies) x P) refl (subst (λ c. AnswersListing (stepsOf (q .bodies) x P) own c own′) c (p .is q P l))
+      go (stepsOf (q .bodies) x P) refl (subst (λ c. AnswersListing (stepsOf (q .bodies) x P) c own′) c (p .is q P l))
     where
-      go : (r : Listing) → stepsOf (q .bodies) x P ≡ r → AnswersListing r own (part.Count n) own′ → DoesList (result r) area (Count n) area′
+      go : (r : Listing) → stepsOf (q .bodies) x P ≡ r → AnswersListing r (part.Count n) own′ → DoesList (result r) area (Count n) area′
       go unsettled s a = let z : _≡_ {A = ℕ} 0 1 = cc in absurd (omega arith)
       go (listed ss) s (m, w) =
           let d : n ≡ length ss = cc in
           let allowed = accepted-well-formed question q (l .accepted) .bodies in
           let size : length (listBytes ss) ≡ length ss * stepBytes =
           steps-length (q .arities) (q .bodies) allowed (definitions (q .arities) (q .bodies) allowed) (λ k. refl) refl P (l .scope) x (l .new) ss s in
-          let size′ : length (listBytes ss) ≡ n * stepBytes = size ∙ ap (λ k. k * stepBytes) (sym d) in
           let few : n * stepBytes ≤ mostSteps * stepBytes = mul-le-mul-right stepBytes (p .few n c) in
-          let copied : take (n * stepBytes) own′ ≡ listBytes ss =
-          ap (take (n * stepBytes)) w ∙ take-sets own (listBytes ss) (n * stepBytes) size′ (omega arith) in
+          let number : n * stepBytes ≡ length ss * stepBytes = ap (λ k. k * stepBytes) d in
+          let copied : take (n * stepBytes) own′ ≡ listBytes ss = ap (λ k. take k own′) number ∙ w in
           record {
             answer = ap Count d;
             left =

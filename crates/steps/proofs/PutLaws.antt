@@ -4,7 +4,7 @@ use mathlib.Core.Bool.{Bool, true, false}
 use mathlib.Core.List.{List}
 use mathlib.Core.Path.{_≡_, refl, sym, _∙_, ap, ap₂}
 use native.Mathlib.Omega.{arith}
-use Prim.Native.Nat.{ℕ, _+_, _*_, _<_, _≤_}
+use Prim.Native.Nat.{ℕ, _+_, _<_, _≤_}
 use lib.Dec.{leb}
 use lib.ListN.{length, take}
 use Rattle.calculus.specs.Abstraction.{Act, tauA, inpA, outA, boutA}
@@ -15,7 +15,7 @@ use Rattle.terms.specs.Limits.{nameCount, longestTerm}
 use Rattle.steps.specs.Collecting.{PutIs}
 use Rattle.steps.specs.Entries.{InsertIs}
 use Rattle.steps.specs.EntryBytes.{entryBytes}
-use Rattle.steps.specs.Limits.{mostSteps, stepBytes}
+use Rattle.steps.specs.Limits.{mostSteps}
 use Rattle.steps.specs.Listed.{kindOf, channelOf, objectOf, canonStep, resultBytes}
 use Rattle.steps.specs.Locating.{MetResultIs, PutMetIs}
 use Rattle.steps.specs.Names.{OwnNames}
@@ -36,13 +36,13 @@ step-coded x M (inpA a) = refl
 step-coded x M (outA a b) = refl
 step-coded x M (boutA a) = refl
 
-module _ (class : List ℕ) (action : ActionBytes) (result : List ℕ) (n : ℕ) (area : List ℕ) (count : ℕ) (room : mostSteps * stepBytes ≤ length area) where
+module _ (class : List ℕ) (action : ActionBytes) (result : List ℕ) (n : ℕ) (area : List ℕ) (count : ℕ) where
   -- A result that is too long passes a limit.
   pub put-result-long : longestTerm < n → (area′ : List ℕ) → PutResultIs class action result n area count (mostSteps + 1) area′
   unfolding PutIs
   put-result-long long area′ = record {
     is = λ out x M α A size w classes acts found s.
-        put-long area room x count found s M α A
+        put-long area x count found s M α A
         (over (length (resultBytes (canonStep nameCount x M α A))) (λ k. w .fits (omega arith) .0)) area′;
   }
     where
@@ -62,7 +62,7 @@ module _ (class : List ℕ) (action : ActionBytes) (result : List ℕ) (n : ℕ)
         let fit : length bs ≤ longestTerm = within (length bs) (λ k. omega (arith, w .over (omega arith))) in
         let f = w .fits (omega arith) in
         let t : take n result ≡ bs = ap (take n) (f .1) ∙ take-sets out bs n (omega (arith, f .0)) (omega arith) in
-        put-step area room x count found s M α A fit entry
+        put-step area x count found s M α A fit entry
         (made ∙ ap₂ (entryBytes class) (acts ∙ step-coded x M α) t ∙ entry-canonical class M many classes x α A) r area′ inserted;
   }
     where

@@ -3,7 +3,7 @@ use mathlib.Core.Bool.{Bool, false}
 use mathlib.Core.List.{List, [], _++_, append-nil}
 use mathlib.Core.Path.{_≡_, refl, sym, _∙_, ap, subst}
 use native.Mathlib.Omega.{arith}
-use Prim.Native.Nat.{ℕ, _+_, _*_, _<_, _≤_}
+use Prim.Native.Nat.{ℕ, _+_, _<_, _≤_}
 use lib.ListN.{length, getD, set, take, drop, replicate, length-replicate, List·getD-append}
 use lib.Seq.{sets, sets-eq, getD-take, getD-set-other, length-take-le}
 use Rattle.calculus.specs.Abstraction.{Act, tauA, inpA, outA, boutA}
@@ -18,7 +18,7 @@ use Rattle.steps.specs.Collecting.{PutIs}
 use Rattle.steps.specs.EntryBytes.{actionBytes}
 use Rattle.steps.specs.LabelWalk.{NthIs}
 use Rattle.steps.specs.Labels.{Labels}
-use Rattle.steps.specs.Limits.{mostSteps, stepBytes}
+use Rattle.steps.specs.Limits.{mostSteps}
 use Rattle.steps.specs.Listed.{listedAs, canonStep, resultBytes}
 use Rattle.steps.specs.Listing.{bodyOf}
 use Rattle.steps.specs.Names.{nameSlots, HasNames, HasNew}
@@ -110,14 +110,14 @@ module _ (question part : List ℕ) (silently : Bool) (i : ℕ) (args : List ℕ
       subst (λ (Q : Term). i < length (candidates silently (bodyOf (q .bodies)) 1 Q) → Labels 0 (getD (candidates silently (bodyOf (q .bodies)) 1 Q) i blocked) h) (ren-id P)
       (label .is q nameCount 0 (λ n. n) P [] (l .accepted) (omega arith) (slots-part 0 args) (l .scope) (l .bytes ∙ sym (append-nil (encode 0 P))))
 
-  pub takes-blocked : mostSteps * stepBytes ≤ length area → count ≤ mostSteps → h .status ≡ Blocked
+  pub takes-blocked : count ≤ mostSteps → h .status ≡ Blocked
       → TakeIs question part silently i x area count count area
   unfolding TakeIs Labels PutIs
-  takes-blocked room few b q P l k = go (getD (candidatesOf silently q P) i blocked) (label-is q P l k)
+  takes-blocked few b q P l k = go (getD (candidatesOf silently q P) i blocked) (label-is q P l k)
     where
       go : (c : Candidate) → Labels 0 c h → PutIs c x area count count area
       go (step M α A) t = let f = t .found in let z : _≡_ {A = ℕ} 0 1 = cc in absurd (omega arith)
-      go blocked t = λ found s. put-blocked area room x count found s few
+      go blocked t = λ found s. put-blocked area x count found s few
 
   pub takes-found : h .status ≡ Found → (m : ℕ) (area′ : List ℕ) → PutStepIs question part silently i h x area count m area′
       → TakeIs question part silently i x area count m area′

@@ -3,14 +3,14 @@ use mathlib.Core.List.{List, [], _∷_, _++_, map}
 use mathlib.Core.Logic.{_⊎_, inl, inr}
 use mathlib.Core.Path.{_≡_, refl, sym, _∙_, ap, ap₂, subst}
 use native.Mathlib.Omega.{arith}
-use Prim.Native.Nat.{ℕ, _+_, _<_, _≤_}
-use lib.ListN.{length, length-map}
-use lib.Seq.{sets}
+use Prim.Native.Nat.{ℕ, _+_, _*_, _<_, _≤_}
+use lib.ListN.{length, take, length-map}
 use Rattle.calculus.specs.Term.{Term}
 use Rattle.terms.specs.Limits.{nameCount, longestTerm}
 use Rattle.terms.specs.Question.{Question}
+use Rattle.steps.specs.Arranging.{ArrangeIs}
 use Rattle.steps.specs.Collecting.{Stands, Found, CollectIs}
-use Rattle.steps.specs.Limits.{mostSteps}
+use Rattle.steps.specs.Limits.{mostSteps, stepBytes}
 use Rattle.steps.specs.Listed.{ListedStep, bytes}
 use Rattle.steps.specs.Listing.{Listing, collect, unsettled, listed, limited, listing, bodyOf, stepsOf}
 use Rattle.steps.specs.Lists.{_∈_, All}
@@ -70,8 +70,13 @@ bytes-same (s ∷ f) (t ∷ g) e =
 
 -- Nothing stands in any area.
 none-stands : (area : List ℕ) → Stands area 0 []
-unfolding listBytes
-none-stands area = record { sized = tt; ascending = tt; fit = tt; number = refl; bytes = refl }
+none-stands area = record {
+  sized = tt;
+  ascending = tt;
+  fit = tt;
+  number = refl;
+  indexed = record { among = λ i h. absurd (omega arith); entries = λ i h. absurd (omega arith) };
+}
 
 not-counted : (n : ℕ) → Unsettled ≡ Count n → n ≤ mostSteps
 not-counted n e = let z : _≡_ {A = ℕ} 0 1 = cc in absurd (omega arith)
@@ -95,7 +100,7 @@ module _ (question part : List ℕ) (x : ℕ) (area : List ℕ) (n : ℕ) (area�
     same : map (bytes longestTerm) found ≡ map (bytes longestTerm) whole
     same = same-found nameCount longestTerm x (walked body P) (visible body 1 P ++ silent body 1 P) (walked-raw body P) (raw-walked body P)
 
-    is-found : Found found area n area′
+    is-found : Found found n area′
     unfolding CollectIs
     is-found = walks q P l [] (none-stands area)
 
@@ -110,20 +115,20 @@ module _ (question part : List ℕ) (x : ℕ) (area : List ℕ) (n : ℕ) (area�
     classed : (cs : List Candidate) → All (Classed nameCount longestTerm x) (collect nameCount longestTerm x cs [])
     classed cs = found-classed nameCount longestTerm x cs
 
-    answers-passed : mostSteps < n → AnswersListing (stepsOf (q .bodies) x P) area Unsettled area′
+    answers-passed : mostSteps < n → AnswersListing (stepsOf (q .bodies) x P) Unsettled area′
     unfolding AnswersListing
     answers-passed h =
         let e = both found whole (classed (walked body P)) (classed (visible body 1 P ++ silent body 1 P)) same (is-found .passed h) in
-        subst (λ r. AnswersListing r area Unsettled area′) (sym (steps-are ∙ e)) refl
+        subst (λ r. AnswersListing r Unsettled area′) (sym (steps-are ∙ e)) refl
 
-    answers-given : n ≤ mostSteps → AnswersListing (stepsOf (q .bodies) x P) area (Count n) area′
-    unfolding AnswersListing
-    answers-given h = subst (λ r. AnswersListing r area (Count n) area′) (sym steps-are) (go (limited longestTerm mostSteps whole) refl)
+    answers-given : n ≤ mostSteps → (area″ : List ℕ) → ArrangeIs area′ n area″ → AnswersListing (stepsOf (q .bodies) x P) (Count n) area″
+    unfolding AnswersListing ArrangeIs
+    answers-given h area″ arranged = subst (λ r. AnswersListing r (Count n) area″) (sym steps-are) (go (limited longestTerm mostSteps whole) refl)
       where
         s : Stands area′ n found
         s = is-found .stands h
 
-        go : (r : Listing) → limited longestTerm mostSteps whole ≡ r → AnswersListing r area (Count n) area′
+        go : (r : Listing) → limited longestTerm mostSteps whole ≡ r → AnswersListing r (Count n) area″
         go unsettled e =
             let d = both whole found (classed (visible body 1 P ++ silent body 1 P)) (classed (walked body P)) (sym same) e in
             let w = limited-within longestTerm mostSteps found (omega (arith, s .number)) (s .fit) in
@@ -131,10 +136,14 @@ module _ (question part : List ℕ) (x : ℕ) (area : List ℕ) (n : ℕ) (area�
         go (listed ss) e =
             let d : whole ≡ ss = limited-given longestTerm mostSteps whole ss e in
             let k : length found ≡ length whole = length-same nameCount longestTerm x mostSteps found whole (classed (walked body P)) (classed (visible body 1 P ++ silent body 1 P)) same in
-            (ap Count (sym (s .number) ∙ k ∙ ap length d), is-found .stored h ∙ ap (sets area 0) (bytes-same found whole same ∙ ap listBytes d))
+            let m : n ≡ length ss = sym (s .number) ∙ k ∙ ap length d in (
+              ap Count m,
+              ap (λ i. take (i * stepBytes) area″) (sym m) ∙ arranged found (s .ascending) (s .number) (s .indexed) ∙ bytes-same found whole same ∙ ap listBytes d,
+            )
 
-  pub list-passed : mostSteps < n → ListPartIs question part x area Unsettled area′
+  pub list-passed : mostSteps < n → ListPartIs question part x Unsettled area′
   list-passed h = record { few = not-counted; is = λ q P l. answers-passed q P l h }
 
-  pub list-given : n ≤ mostSteps → ListPartIs question part x area (Count n) area′
-  list-given h = record { few = λ m e. let d : n ≡ m = cc in omega arith; is = λ q P l. answers-given q P l h }
+  -- and the entries are brought into order
+  pub list-given : n ≤ mostSteps → (area″ : List ℕ) → ArrangeIs area′ n area″ → ListPartIs question part x (Count n) area″
+  list-given h area″ arranged = record { few = λ m e. let d : n ≡ m = cc in omega arith; is = λ q P l. answers-given q P l h area″ arranged }

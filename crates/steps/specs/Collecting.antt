@@ -1,45 +1,41 @@
 -- A list of steps as it stands in an area, and what becomes of it when candidates are put into it one by one.
 use mathlib.Core.List.{List, [], _∷_}
 use mathlib.Core.Path.{_≡_}
-use Prim.Native.Nat.{ℕ, _*_, _<_, _≤_}
-use lib.ListN.{length, take}
-use lib.Seq.{sets}
+use Prim.Native.Nat.{ℕ, _<_, _≤_}
+use lib.ListN.{length}
 use Rattle.terms.specs.Limits.{nameCount, longestTerm}
 use Rattle.steps.specs.Derived.{Ascending}
-use Rattle.steps.specs.Entries.{Sized}
-use Rattle.steps.specs.Limits.{mostSteps, stepBytes}
+use Rattle.steps.specs.Entries.{Sized, Indexed}
+use Rattle.steps.specs.Limits.{mostSteps}
 use Rattle.steps.specs.Listed.{ListedStep, resultBytes}
 use Rattle.steps.specs.Listing.{collect, unsettled, limited}
 use Rattle.steps.specs.Lists.{All}
-use Rattle.steps.specs.Operations.{listBytes}
 use Rattle.steps.specs.Raw.{Candidate}
 
--- The first entries of the area are the steps found, which pass no limit.
+-- The entries of the area, in the order of the index, are the steps found, which pass no limit.
 pub record Stands (area : List ℕ) (count : ℕ) (found : List ListedStep) : Type 0 where
   pub sized : Sized found
   pub ascending : Ascending longestTerm found
   pub fit : All (λ s. length (resultBytes s) ≤ longestTerm) found
   pub number : length found ≡ count
-  pub bytes : take (count * stepBytes) area ≡ listBytes found
+  pub indexed : Indexed area found
 
 -- The steps found have been put into the area, and the answer is their number; an answer above the limit says that a limit is passed, and then
 -- the area is not determined.
-pub record Found (found : List ListedStep) (area : List ℕ) (r : ℕ) (area′ : List ℕ) : Type 0 where
+pub record Found (found : List ListedStep) (r : ℕ) (area′ : List ℕ) : Type 0 where
   pub stands : r ≤ mostSteps → Stands area′ r found
-  pub stored : r ≤ mostSteps → area′ ≡ sets area 0 (listBytes found)
   pub passed : mostSteps < r → limited longestTerm mostSteps found ≡ unsettled
 
--- One candidate c put into the list found, which stands in the area, for the new name x. An answer above the limit says that a limit is passed,
+-- One candidate c put into the list found, for the new name x. An answer above the limit says that a limit is passed,
 -- whatever comes after it.
-pub record PutInto (c : Candidate) (x : ℕ) (area : List ℕ) (count r : ℕ) (area′ : List ℕ) (found : List ListedStep) : Type 0 where
+pub record PutInto (c : Candidate) (x r : ℕ) (area′ : List ℕ) (found : List ListedStep) : Type 0 where
   pub stands : r ≤ mostSteps → Stands area′ r (collect nameCount longestTerm x (c ∷ []) found)
-  pub stored : r ≤ mostSteps → area′ ≡ sets area 0 (listBytes (collect nameCount longestTerm x (c ∷ []) found))
   pub passed : mostSteps < r → (cs : List Candidate) → limited longestTerm mostSteps (collect nameCount longestTerm x (c ∷ cs) found) ≡ unsettled
 
 unfoldable pub PutIs : Candidate → ℕ → List ℕ → ℕ → ℕ → List ℕ → Type 0
-PutIs c x area count r area′ = (found : List ListedStep) → Stands area count found → PutInto c x area count r area′ found
+PutIs c x area count r area′ = (found : List ListedStep) → Stands area count found → PutInto c x r area′ found
 
 -- The candidates cs put into the list that stands in the area, for the new name x.
 unfoldable pub CollectIs : List Candidate → ℕ → List ℕ → ℕ → ℕ → List ℕ → Type 0
 CollectIs cs x area count r area′ =
-    (found : List ListedStep) → Stands area count found → Found (collect nameCount longestTerm x cs found) area r area′
+    (found : List ListedStep) → Stands area count found → Found (collect nameCount longestTerm x cs found) r area′

@@ -1,25 +1,27 @@
--- The listed steps as they stand in the result area: entries of one size, in ascending byte order.
-use mathlib.Core.Bool.{Bool, true, false, cond}
-use mathlib.Core.List.{List}
+-- The listed steps as they stand in an area while the list is made: entries of one size, and an index that says their ascending byte order.
+use mathlib.Core.Bool.{Bool, true, false}
+use mathlib.Core.List.{List, [], map}
 use mathlib.Core.Path.{_≡_}
 use Prim.Native.Nat.{ℕ, _+_, _*_, _<_, _≤_, Ordering, Ordering·lt, Ordering·eq, Ordering·gt}
-use lib.Dec.{leb}
 use lib.ListN.{length, getD, take, drop}
-use lib.Seq.{sets}
 use Rattle.terms.specs.Limits.{longestTerm}
 use Rattle.steps.specs.Derived.{Ascending}
-use Rattle.steps.specs.Limits.{mostSteps, stepBytes}
+use Rattle.steps.specs.Limits.{mostSteps, stepBytes, indexPlace}
 use Rattle.steps.specs.Listed.{ListedStep, bytes}
 use Rattle.steps.specs.Listing.{order, insert}
 use Rattle.steps.specs.Lists.{All}
-use Rattle.steps.specs.Operations.{listBytes}
 
--- the entry that begins at a place of the area, and the entry of a number
+-- the entry that begins at a place of the area
 unfoldable pub entryFrom : List ℕ → ℕ → List ℕ
 entryFrom area at = take stepBytes (drop at area)
 
+-- An entry stays where it was put. The index says which of them is the i-th in order, by its number,
+abbrev pub placeAt : List ℕ → ℕ → ℕ
+placeAt area i = getD area (indexPlace + i) 0
+
+-- and so that entry.
 unfoldable pub entryAt : List ℕ → ℕ → List ℕ
-entryAt area i = entryFrom area (i * stepBytes)
+entryAt area i = entryFrom area (placeAt area i * stepBytes)
 
 unfoldable pub isBefore : Ordering → Bool
 isBefore Ordering·lt = true
@@ -37,7 +39,7 @@ Alike a i b j n = (k : ℕ) → k < n → getD a (i + k) 0 ≡ getD b (j + k) 0
 abbrev pub AlikeIs : List ℕ → ℕ → List ℕ → ℕ → ℕ → Bool → Type 0
 AlikeIs a i b j n r = (r ≡ true → Alike a i b j n) × (Alike a i b j n → r ≡ true)
 
--- the first `count` entries ascend
+-- the first `count` entries in order ascend
 unfoldable pub EntriesAscend : List ℕ → ℕ → Type 0
 EntriesAscend area count = (i j : ℕ) → i < j → j < count → comesBefore (entryAt area i) (entryAt area j) ≡ true
 
@@ -51,15 +53,23 @@ pub record PlaceIs (area : List ℕ) (count : ℕ) (entry : List ℕ) (r : ℕ) 
 abbrev pub Sized : List ListedStep → Type 0
 Sized ss = All (λ s. length (bytes longestTerm s) ≡ stepBytes) ss
 
--- A step put into the list of those that stand in the area. The answer is the new number of steps; where that passes the limit, the area is as
--- it was.
+-- the bytes of the step of a number
+abbrev pub stepAt : List ListedStep → ℕ → List ℕ
+stepAt ss i = getD (map (bytes longestTerm) ss) i []
+
+-- The entries of the area, in the order of the index, are the steps; there are no others before the last of them.
+pub record Indexed (area : List ℕ) (ss : List ListedStep) : Type 0 where
+  pub among : (i : ℕ) → i < length ss → placeAt area i < length ss
+  pub entries : (i : ℕ) → i < length ss → entryAt area i ≡ stepAt ss i
+
+-- A step put into the list of those that stand in the area. The answer is the new number of steps; where that passes the limit, the area is not
+-- determined.
 unfoldable pub InsertIs : List ℕ → ℕ → List ℕ → ℕ → List ℕ → Type 0
 InsertIs area count entry r area′ =
     (s : ListedStep) (ss : List ListedStep)
     → entry ≡ bytes longestTerm s
-    → Sized ss
     → Ascending longestTerm ss
     → length ss ≡ count
-    → take (count * stepBytes) area ≡ listBytes ss
+    → Indexed area ss
     → (r ≡ length (insert longestTerm s ss))
-    × (area′ ≡ cond (leb r mostSteps) (sets area 0 (listBytes (insert longestTerm s ss))) area)
+    × (r ≤ mostSteps → Indexed area′ (insert longestTerm s ss))

@@ -1,4 +1,5 @@
 pub mod Answering
+pub mod Arranging
 pub mod Bodies
 pub mod Branching
 pub mod Collecting

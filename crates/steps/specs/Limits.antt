@@ -9,6 +9,13 @@ mostSteps = 256
 abbrev pub stepBytes : ℕ
 stepBytes = 132
 
+-- A list is made in an area that has, behind as many steps, an index: a byte for each.
+abbrev pub indexPlace : ℕ
+indexPlace = 33792
+
+abbrev pub listRoom : ℕ
+listRoom = 34048
+
 -- A part has no more candidates of one kind: 112 for each of its bytes, and the square of that.
 abbrev pub mostCandidates : ℕ
 mostCandidates = 157351936

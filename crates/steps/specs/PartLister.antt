@@ -3,9 +3,8 @@
 use mathlib.Core.Bool.{Bool}
 use mathlib.Core.List.{List}
 use mathlib.Core.Path.{_≡_}
-use Prim.Native.Nat.{ℕ, _<_, _≤_}
-use lib.ListN.{length, getD}
-use lib.Seq.{sets}
+use Prim.Native.Nat.{ℕ, _*_, _<_, _≤_}
+use lib.ListN.{length, getD, take}
 use Rattle.calculus.specs.Abstraction.{Act}
 use Rattle.calculus.specs.Cond.{Cond, cls}
 use Rattle.calculus.specs.Term.{Term}
@@ -15,7 +14,7 @@ use Rattle.terms.specs.Limits.{nameCount, longestTerm}
 use Rattle.terms.specs.Question.{Question, checkOf}
 use Rattle.steps.specs.Collecting.{PutIs}
 use Rattle.steps.specs.Labels.{HeaderIs}
-use Rattle.steps.specs.Limits.{mostSteps}
+use Rattle.steps.specs.Limits.{mostSteps, stepBytes}
 use Rattle.steps.specs.Listed.{canonStep, resultBytes}
 use Rattle.steps.specs.Listing.{Listing, unsettled, listed, bodyOf, stepsOf}
 use Rattle.steps.specs.Operations.{listBytes}
@@ -64,11 +63,11 @@ TakeIs question part silently i x area count r area′ =
     (q : Question) (P : Term) → Lists question part x q P → i < length (candidatesOf silently q P)
     → PutIs (getD (candidatesOf silently q P) i blocked) x area count r area′
 
--- The answer: after "unsettled" the area is not determined, and the operation restores it.
-unfoldable pub AnswersListing : Listing → List ℕ → ListAnswer → List ℕ → Type 0
-AnswersListing unsettled area r area′ = r ≡ Unsettled
-AnswersListing (listed ss) area r area′ = (r ≡ Count (length ss)) × (area′ ≡ sets area 0 (listBytes ss))
+-- The answer, and the steps at the beginning of the area. After "unsettled" it is not determined, and the operation restores its own.
+unfoldable pub AnswersListing : Listing → ListAnswer → List ℕ → Type 0
+AnswersListing unsettled r area′ = r ≡ Unsettled
+AnswersListing (listed ss) r area′ = (r ≡ Count (length ss)) × (take (length ss * stepBytes) area′ ≡ listBytes ss)
 
-pub record ListPartIs (question part : List ℕ) (x : ℕ) (area : List ℕ) (r : ListAnswer) (area′ : List ℕ) : Type 0 where
+pub record ListPartIs (question part : List ℕ) (x : ℕ) (r : ListAnswer) (area′ : List ℕ) : Type 0 where
   pub few : (n : ℕ) → r ≡ Count n → n ≤ mostSteps
-  pub is : (q : Question) (P : Term) → Lists question part x q P → AnswersListing (stepsOf (q .bodies) x P) area r area′
+  pub is : (q : Question) (P : Term) → Lists question part x q P → AnswersListing (stepsOf (q .bodies) x P) r area′

@@ -2,7 +2,7 @@
 use mathlib.Core.Path.{_≡_}
 use mathlib.Core.Bool.{Bool, cond, _&&_}
 use mathlib.Core.List.{List, _++_, map}
-use Prim.Native.Nat.{ℕ, _+_, _*_, _<_, _≤_}
+use Prim.Native.Nat.{ℕ, _+_, _<_, _≤_}
 use lib.Dec.{eqb, leb}
 use lib.ListN.{length, getD}
 use Rattle.calculus.specs.Abstraction.{Act, tauA, inpA, outA, boutA}
@@ -13,7 +13,7 @@ use Rattle.terms.specs.Question.{Question}
 use Rattle.steps.specs.Collecting.{PutIs, CollectIs}
 use Rattle.steps.specs.Contexts.{Frame, raised, Placed}
 use Rattle.steps.specs.declared.listed.ActionBytes.{ActionBytes}
-use Rattle.steps.specs.Limits.{mostSteps, stepBytes}
+use Rattle.steps.specs.Limits.{mostSteps, listRoom}
 use Rattle.steps.specs.Listed.{canonStep, resultBytes}
 use Rattle.steps.specs.Listing.{bodyOf}
 use Rattle.steps.specs.PartLister.{Lists, candidatesOf}
@@ -117,7 +117,7 @@ pub record MeetsIs (question part : List ℕ) (at depth number before x : ℕ) (
 -- What putting candidates into the list needs: the tally of the part, and room.
 abbrev pub CanPut : List ℕ → List ℕ → List ℕ → List ℕ → List ℕ → ℕ → Type 0
 CanPut question bodies part tally area count =
-    (count ≤ mostSteps) × (mostSteps * stepBytes ≤ length area) × (length part ≤ longestTerm) × TallyIs question part 1 tally
+    (count ≤ mostSteps) × (listRoom ≤ length area) × (length part ≤ longestTerm) × TallyIs question part 1 tally
     × BodiesTallied question bodies
 
 -- The term at `at` is one of the part, under so many restrictions.

@@ -1,5 +1,6 @@
 // The steps of terms.
 pub mod action;
+pub mod arrange;
 pub mod bodies;
 pub mod condition;
 pub mod front;

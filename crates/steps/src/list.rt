@@ -3,12 +3,13 @@ ghost use mathlib.Core.Path.{_≡_};
 ghost use Prim.Native.Nat.{_*_, _≤_};
 ghost use lib.ListN.{length};
 ghost use Rattle.terms.specs.Limits.{longestTerm};
-ghost use Rattle.steps.specs.Limits.{stepBytes, mostSteps};
+ghost use Rattle.steps.specs.Limits.{mostSteps, listRoom};
 ghost use Rattle.steps.specs.PartLister.{PutStepIs, TakeIs, ListPartIs};
 ghost use Rattle.steps.specs.Rows.{rowBytes, mostRows};
 ghost use Rattle.steps.specs.Tally.{tallySize, TallyIs, BodiesTallied};
 use crate::action::Label;
 use crate::action::Status;
+use crate::arrange::arrange;
 use crate::label::nth;
 use crate::limits::MOST_STEPS;
 use crate::listed::action_bytes;
@@ -33,7 +34,7 @@ fn put_step(
     area: &mut [u8],
     count: usize,
 ) -> usize
-    requires { ⌜ (count ≤ mostSteps) × (mostSteps * stepBytes ≤ length (now area)) × (length (now part) ≤ longestTerm) × TallyIs (now question) (now part) 1 (now tally) × BodiesTallied (now question) (now bodies) ⌝ }
+    requires { ⌜ (count ≤ mostSteps) × (listRoom ≤ length (now area)) × (length (now part) ≤ longestTerm) × TallyIs (now question) (now part) 1 (now tally) × BodiesTallied (now question) (now bodies) ⌝ }
     ensures { λ r. ⌜ PutStepIs (now (question .entry)) (now (part .entry)) silently i header x (now (area .entry)) count r (now (area .exit)) ⌝ }
 {
     let condition = header.condition;
@@ -67,7 +68,7 @@ pub fn take_candidate(
     area: &mut [u8],
     count: usize,
 ) -> usize
-    requires { ⌜ (count ≤ mostSteps) × (mostSteps * stepBytes ≤ length (now area)) × (length (now part) ≤ longestTerm) × TallyIs (now question) (now part) 1 (now tally) × BodiesTallied (now question) (now bodies) ⌝ }
+    requires { ⌜ (count ≤ mostSteps) × (listRoom ≤ length (now area)) × (length (now part) ≤ longestTerm) × TallyIs (now question) (now part) 1 (now tally) × BodiesTallied (now question) (now bodies) ⌝ }
     ensures { λ r. ⌜ TakeIs (now (question .entry)) (now (part .entry)) silently i x (now (area .entry)) count r (now (area .exit)) ⌝ }
 {
     // In a body every call is beneath a prefix (check 11), so that one call is opened.
@@ -109,7 +110,7 @@ pub enum ListAnswer {
 }
 
 // Lists the steps of a part under the definitions of an accepted question whose bodies are tallied, for the new name `x`. The area must hold as
-// many steps as the limit allows. `numbers` and `rows` are lent for the part's tally and rows; what they have before is not read.
+// many steps as the limit allows, and their index. `numbers` and `rows` are lent for the part's tally and rows; what they have before is not read.
 pub fn list_tallied(
     question: &[u8],
     bodies: &[u32],
@@ -119,8 +120,8 @@ pub fn list_tallied(
     rows: &mut [u8],
     area: &mut [u8],
 ) -> ListAnswer
-    requires { ⌜ (mostSteps * stepBytes ≤ length (now area)) × (length (now part) ≤ longestTerm) × BodiesTallied (now question) (now bodies) × (length (now numbers) ≡ tallySize) × (rowBytes * mostRows ≤ length (now rows)) ⌝ }
-    ensures { λ r. ⌜ ListPartIs (now (question .entry)) (now (part .entry)) x (now (area .entry)) r (now (area .exit)) ⌝ }
+    requires { ⌜ (listRoom ≤ length (now area)) × (length (now part) ≤ longestTerm) × BodiesTallied (now question) (now bodies) × (length (now numbers) ≡ tallySize) × (rowBytes * mostRows ≤ length (now rows)) ⌝ }
+    ensures { λ r. ⌜ ListPartIs (now (question .entry)) (now (part .entry)) x r (now (area .exit)) ⌝ }
 {
     tally(question, bodies, part, numbers);
     let walked = walk(
@@ -141,13 +142,14 @@ pub fn list_tallied(
     if MOST_STEPS < n {
         return ListAnswer::Unsettled;
     }
+    arrange(area, n);
     ListAnswer::Count(n)
 }
 
 // The same for bodies that are not tallied yet.
 pub fn list_part(question: &[u8], part: &[u8], x: u8, area: &mut [u8]) -> ListAnswer
-    requires { ⌜ (mostSteps * stepBytes ≤ length (now area)) × (length (now part) ≤ longestTerm) ⌝ }
-    ensures { λ r. ⌜ ListPartIs (now (question .entry)) (now (part .entry)) x (now (area .entry)) r (now (area .exit)) ⌝ }
+    requires { ⌜ (listRoom ≤ length (now area)) × (length (now part) ≤ longestTerm) ⌝ }
+    ensures { λ r. ⌜ ListPartIs (now (question .entry)) (now (part .entry)) x r (now (area .exit)) ⌝ }
 {
     let bodies = body_tallies(question);
     let mut numbers = [0u32; TALLY];

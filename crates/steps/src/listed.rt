@@ -1,13 +1,15 @@
-// The listed steps: the bytes of one, and the sorted list of them, entries of 132 bytes each in ascending byte order without duplicates.
+// The listed steps: the bytes of one, and the list of them while it is made, entries of 132 bytes each without duplicates. An entry stays where it
+// was put; an index behind the entries has a byte for each, which says where the entries stand in ascending byte order.
 ghost use mathlib.Core.Path.{_≡_};
 ghost use Prim.Native.Nat.{_+_, _*_, _<_, _≤_};
 ghost use lib.ListN.{length, take};
 ghost use lib.Seq.{sets};
 ghost use Rattle.terms.specs.Limits.{nameCount, longestTerm};
-ghost use Rattle.steps.specs.Entries.{entryFrom, comesBefore, Alike, AlikeIs, PlaceIs, InsertIs};
+ghost use Rattle.steps.specs.Entries.{entryFrom, comesBefore, Alike, AlikeIs, placeAt, PlaceIs, InsertIs};
 ghost use Rattle.steps.specs.EntryBytes.{actionBytes, entryBytes};
-ghost use Rattle.steps.specs.Limits.{stepBytes, mostSteps};
+ghost use Rattle.steps.specs.Limits.{stepBytes, mostSteps, indexPlace, listRoom};
 use crate::action::Action;
+use crate::limits::INDEX;
 use crate::limits::MOST_STEPS;
 use crate::limits::STEP_BYTES;
 use terms::bytes::copy;
@@ -120,16 +122,24 @@ fn precedes(a: &[u8], i: usize, b: &[u8], j: usize) -> bool
     false
 }
 
-// Where the entry belongs among the first `count`, by halving: the number of entries that come before it.
+// Where the i-th entry in order begins.
+fn entry_place(list: &[u8], i: usize) -> usize
+    requires { ⌜ i < mostSteps ⌝ }
+    ensures { λ r. ⌜ (r ≡ placeAt (now (list .entry)) i * stepBytes) × (r + stepBytes ≤ indexPlace) ⌝ }
+{
+    get(list, INDEX + i) as usize * STEP_BYTES
+}
+
+// Where the entry belongs among the first `count` in order, by halving: the number of entries that come before it.
 fn place(list: &[u8], count: usize, entry: &[u8]) -> usize
-    requires { ⌜ (count * stepBytes ≤ length (now list)) × (stepBytes ≤ length (now entry)) ⌝ }
+    requires { ⌜ (count ≤ mostSteps) × (listRoom ≤ length (now list)) × (stepBytes ≤ length (now entry)) ⌝ }
     ensures { λ r. ⌜ PlaceIs (now (list .entry)) count (entryFrom (now (entry .entry)) 0) r ⌝ }
 {
     let mut low = 0;
     let mut high = count;
     while low < high {
         let middle = low + (high - low) / 2;
-        if precedes(list, middle * STEP_BYTES, entry, 0) {
+        if precedes(list, entry_place(list, middle), entry, 0) {
             low = middle + 1;
         } else {
             high = middle;
@@ -138,35 +148,36 @@ fn place(list: &[u8], count: usize, entry: &[u8]) -> usize
     low
 }
 
-// Moves the first `n` bytes up by one entry, the last first. They begin the slice, so that the compiler makes this one move of memory.
+// Moves the first `n` bytes up by one, the last first. They begin the slice, so that the compiler makes this one move of memory.
 fn move_up(list: &mut [u8], n: usize)
-    requires { ⌜ n + stepBytes ≤ length (now list) ⌝ }
-    ensures { λ _. ⌜ now (list .exit) ≡ sets (now (list .entry)) stepBytes (take n (now (list .entry))) ⌝ }
+    requires { ⌜ n + 1 ≤ length (now list) ⌝ }
+    ensures { λ _. ⌜ now (list .exit) ≡ sets (now (list .entry)) 1 (take n (now (list .entry))) ⌝ }
 {
     let mut i = n;
     while 0 < i {
         i -= 1;
-        list[i + STEP_BYTES] = list[i];
+        list[i + 1] = list[i];
     }
 }
 
-// Puts the entry in its place among the first `count`, unless its bytes are there. Answers how many there are then; where they would be more
-// than the limit, nothing changes.
+// Puts the entry behind the first `count`, unless its bytes are there, and its number in its place in the index. Answers how many there are then;
+// where they would be more than the limit, nothing changes.
 pub fn insert(list: &mut [u8], count: usize, entry: &[u8]) -> usize
-    requires { ⌜ (count ≤ mostSteps) × (mostSteps * stepBytes ≤ length (now list)) × (length (now entry) ≡ stepBytes) ⌝ }
+    requires { ⌜ (count ≤ mostSteps) × (listRoom ≤ length (now list)) × (length (now entry) ≡ stepBytes) ⌝ }
     ensures { λ r. ⌜ InsertIs (now (list .entry)) count (now (entry .entry)) r (now (list .exit)) ⌝ }
 {
     let i = place(list, count, entry);
-    let at = i * STEP_BYTES;
     if i < count {
-        if !precedes(entry, 0, list, at) {
+        if !precedes(entry, 0, list, entry_place(list, i)) {
             return count;
         }
     }
     if count == MOST_STEPS {
         return count + 1;
     }
-    move_up(&mut list[at..], count * STEP_BYTES - at);
-    copy(entry, 0, STEP_BYTES, list, at);
+    copy(entry, 0, STEP_BYTES, list, count * STEP_BYTES);
+    let at = INDEX + i;
+    move_up(&mut list[at..], count - i);
+    list[at] = count as u8;
     count + 1
 }

@@ -3,7 +3,7 @@ ghost use mathlib.Core.Path.{_≡_};
 ghost use Prim.Native.Nat.{_+_, _*_, _≤_, _<_};
 ghost use lib.ListN.{length};
 ghost use Rattle.terms.specs.Limits.{longestTerm};
-ghost use Rattle.steps.specs.Limits.{stepBytes, mostSteps};
+ghost use Rattle.steps.specs.Limits.{mostSteps, listRoom};
 ghost use Rattle.steps.specs.Locating.{tableSlot, TakeMetIs};
 ghost use Rattle.steps.specs.Meeting.{mostNumbers, firstMerged, lastMerged, isBetween, meetsBetween, senderOf, sendsFree, NextMetIs, PairIs, SamePairIs, MeetRowIs};
 ghost use Rattle.steps.specs.Rows.{rowBytes, mostRows, actionKind};
@@ -169,7 +169,7 @@ fn take_met(
     area: &mut [u8],
     count: usize,
 ) -> usize
-    requires { ⌜ (count ≤ mostSteps) × (mostSteps * stepBytes ≤ length (now area)) × (length (now part) ≤ longestTerm) × TallyIs (now question) (now part) 1 (now tally) × BodiesTallied (now question) (now bodies) × (depth ≤ at) × (at < length (now part)) × (object < 255) ⌝ }
+    requires { ⌜ (count ≤ mostSteps) × (listRoom ≤ length (now area)) × (length (now part) ≤ longestTerm) × TallyIs (now question) (now part) 1 (now tally) × BodiesTallied (now question) (now bodies) × (depth ≤ at) × (at < length (now part)) × (object < 255) ⌝ }
     ensures { λ r. ⌜ TakeMetIs (now (question .entry)) (now (part .entry)) at depth v w object (now (area .entry)) count r (now (area .exit)) ⌝ }
 {
     let left = locate(part, tally, at + 1, depth, v);
@@ -194,7 +194,7 @@ fn take_same(
     area: &mut [u8],
     count: usize,
 ) -> usize
-    requires { ⌜ (count ≤ mostSteps) × (mostSteps * stepBytes ≤ length (now area)) × (length (now part) ≤ longestTerm) × TallyIs (now question) (now part) 1 (now tally) × BodiesTallied (now question) (now bodies) × (depth ≤ at) × (at < length (now part)) × (a .kind ≤ 3) × (b .kind ≤ 3) × (a .channel ≡ b .channel) ⌝ }
+    requires { ⌜ (count ≤ mostSteps) × (listRoom ≤ length (now area)) × (length (now part) ≤ longestTerm) × TallyIs (now question) (now part) 1 (now tally) × BodiesTallied (now question) (now bodies) × (depth ≤ at) × (at < length (now part)) × (a .kind ≤ 3) × (b .kind ≤ 3) × (a .channel ≡ b .channel) ⌝ }
     ensures { λ r. ⌜ SamePairIs (now (question .entry)) (now (part .entry)) at depth a b j x (now (area .entry)) count r (now (area .exit)) ⌝ }
 {
     let from = sender(a, b);
@@ -252,7 +252,7 @@ fn take_pair(
     area: &mut [u8],
     count: usize,
 ) -> usize
-    requires { ⌜ (count ≤ mostSteps) × (mostSteps * stepBytes ≤ length (now area)) × (length (now part) ≤ longestTerm) × TallyIs (now question) (now part) 1 (now tally) × BodiesTallied (now question) (now bodies) × (depth ≤ at) × (at < length (now part)) × (number + j ≤ mostNumbers + mostNumbers) ⌝ }
+    requires { ⌜ (count ≤ mostSteps) × (listRoom ≤ length (now area)) × (length (now part) ≤ longestTerm) × TallyIs (now question) (now part) 1 (now tally) × BodiesTallied (now question) (now bodies) × (depth ≤ at) × (at < length (now part)) × (number + j ≤ mostNumbers + mostNumbers) ⌝ }
     ensures { λ r. ⌜ PairIs (now (question .entry)) (now (part .entry)) at depth number a b j x (now (area .entry)) count r (now (area .exit)) ⌝ }
 {
     let i = number + j;
@@ -320,7 +320,7 @@ fn meet_row(
     area: &mut [u8],
     count: usize,
 ) -> usize
-    requires { ⌜ (count ≤ mostSteps) × (mostSteps * stepBytes ≤ length (now area)) × (length (now part) ≤ longestTerm) × TallyIs (now question) (now part) 1 (now tally) × BodiesTallied (now question) (now bodies) × (depth ≤ at) × (at < length (now part)) × (row < middle) × (middle ≤ last) × (last ≤ mostRows) × (rowBytes * mostRows ≤ length (now rows)) × (number + j + mostRows ≤ mostNumbers + mostNumbers) ⌝ }
+    requires { ⌜ (count ≤ mostSteps) × (listRoom ≤ length (now area)) × (length (now part) ≤ longestTerm) × TallyIs (now question) (now part) 1 (now tally) × BodiesTallied (now question) (now bodies) × (depth ≤ at) × (at < length (now part)) × (row < middle) × (middle ≤ last) × (last ≤ mostRows) × (rowBytes * mostRows ≤ length (now rows)) × (number + j + mostRows ≤ mostNumbers + mostNumbers) ⌝ }
     ensures { λ r. ⌜ MeetRowIs (now (question .entry)) (now (part .entry)) at depth number x (now (rows .entry)) row left middle last j (now (area .entry)) count r (now (area .exit)) ⌝ }
 {
     let kind = rows[ROW_BYTES * row];
@@ -395,7 +395,7 @@ pub fn meet(
     area: &mut [u8],
     count: usize,
 ) -> usize
-    requires { ⌜ (count ≤ mostSteps) × (mostSteps * stepBytes ≤ length (now area)) × (length (now part) ≤ longestTerm) × TallyIs (now question) (now part) 1 (now tally) × BodiesTallied (now question) (now bodies) × (depth ≤ at) × (at < length (now part)) × (first ≤ middle) × (middle ≤ last) × (last ≤ mostRows) × (rowBytes * mostRows ≤ length (now rows)) × (number + before ≤ mostNumbers) ⌝ }
+    requires { ⌜ (count ≤ mostSteps) × (listRoom ≤ length (now area)) × (length (now part) ≤ longestTerm) × TallyIs (now question) (now part) 1 (now tally) × BodiesTallied (now question) (now bodies) × (depth ≤ at) × (at < length (now part)) × (first ≤ middle) × (middle ≤ last) × (last ≤ mostRows) × (rowBytes * mostRows ≤ length (now rows)) × (number + before ≤ mostNumbers) ⌝ }
     ensures { λ r. ⌜ MeetsIs (now (question .entry)) (now (part .entry)) at depth number before x (now (rows .entry)) first middle last (now (area .entry)) count r (now (area .exit)) ⌝ }
 {
     let width = last - middle;

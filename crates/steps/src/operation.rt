@@ -10,6 +10,7 @@ ghost use Rattle.steps.specs.Answering.{DoesList, SideIs, ListsInto};
 ghost use Rattle.steps.specs.Limits.{stepBytes, mostSteps};
 ghost use Rattle.steps.specs.Operations.{listOf};
 use crate::bodies::arities_of;
+use crate::limits::LIST_ROOM;
 use crate::limits::STEP_BYTES;
 use crate::list::ListAnswer;
 use crate::list::list_part;
@@ -37,7 +38,7 @@ fn list_into(question: &[u8], part: &[u8], x: u8, area: &mut [u8]) -> StepsAnswe
     requires { ⌜ (mostSteps * stepBytes ≤ length (now area)) × (length (now part) ≤ longestTerm) ⌝ }
     ensures { λ r. ⌜ ListsInto (now (question .entry)) (now (part .entry)) x (now (area .entry)) r (now (area .exit)) ⌝ }
 {
-    let mut listing = [0u8; LISTING_BYTES];
+    let mut listing = [0u8; LIST_ROOM];
     let answer = list_part(question, part, x, &mut listing);
     match answer {
         ListAnswer::Unsettled => StepsAnswer::Unsettled,

@@ -1,9 +1,9 @@
 // Steps put into the list: from the classes of the condition, the bytes of the action and those written for the result.
 ghost use mathlib.Core.Path.{_≡_};
-ghost use Prim.Native.Nat.{_*_, _≤_, _<_};
+ghost use Prim.Native.Nat.{_≤_, _<_};
 ghost use lib.ListN.{length};
 ghost use Rattle.terms.specs.Limits.{nameCount, longestTerm};
-ghost use Rattle.steps.specs.Limits.{stepBytes, mostSteps};
+ghost use Rattle.steps.specs.Limits.{mostSteps, listRoom};
 ghost use Rattle.steps.specs.Locating.{PutMetIs};
 ghost use Rattle.steps.specs.PartLister.{NamesAre, ResultIs};
 ghost use Rattle.steps.specs.Tally.{TallyIs, BodiesTallied};
@@ -82,7 +82,7 @@ fn put_result(
     area: &mut [u8],
     count: usize,
 ) -> usize
-    requires { ⌜ (count ≤ mostSteps) × (mostSteps * stepBytes ≤ length (now area)) × (nameCount ≤ length (now class)) × (length (now result) ≡ longestTerm) ⌝ }
+    requires { ⌜ (count ≤ mostSteps) × (listRoom ≤ length (now area)) × (nameCount ≤ length (now class)) × (length (now result) ≡ longestTerm) ⌝ }
     ensures { λ r. ⌜ PutResultIs (now (class .entry)) action (now (result .entry)) n (now (area .entry)) count r (now (area .exit)) ⌝ }
 {
     if LONGEST_TERM < n {
@@ -106,7 +106,7 @@ pub fn put_classed(
     area: &mut [u8],
     count: usize,
 ) -> usize
-    requires { ⌜ (count ≤ mostSteps) × (mostSteps * stepBytes ≤ length (now area)) × (length (now part) ≤ longestTerm) × (nameCount ≤ length (now class)) × TallyIs (now question) (now part) 1 (now tally) × BodiesTallied (now question) (now bodies) ⌝ }
+    requires { ⌜ (count ≤ mostSteps) × (listRoom ≤ length (now area)) × (length (now part) ≤ longestTerm) × (nameCount ≤ length (now class)) × TallyIs (now question) (now part) 1 (now tally) × BodiesTallied (now question) (now bodies) ⌝ }
     ensures { λ r. ⌜ PutClassedIs (now (question .entry)) (now (part .entry)) silently i (now (class .entry)) action x (now (area .entry)) count r (now (area .exit)) ⌝ }
 {
     let mut result = [0u8; LONGEST_TERM];
@@ -139,7 +139,7 @@ pub fn put_placed(
     area: &mut [u8],
     count: usize,
 ) -> usize
-    requires { ⌜ (count ≤ mostSteps) × (mostSteps * stepBytes ≤ length (now area)) × (length (now part) ≤ longestTerm) × (depth ≤ at) × (at < length (now part)) × TallyIs (now question) (now part) 1 (now tally) × BodiesTallied (now question) (now bodies) ⌝ }
+    requires { ⌜ (count ≤ mostSteps) × (listRoom ≤ length (now area)) × (length (now part) ≤ longestTerm) × (depth ≤ at) × (at < length (now part)) × TallyIs (now question) (now part) 1 (now tally) × BodiesTallied (now question) (now bodies) ⌝ }
     ensures { λ r. ⌜ PutPlacedIs (now (question .entry)) (now (part .entry)) at depth silently j action x (now (area .entry)) count r (now (area .exit)) ⌝ }
 {
     let mut result = [0u8; LONGEST_TERM];
@@ -171,7 +171,7 @@ pub fn put_met(
     area: &mut [u8],
     count: usize,
 ) -> usize
-    requires { ⌜ (count ≤ mostSteps) × (mostSteps * stepBytes ≤ length (now area)) × (length (now part) ≤ longestTerm) × (left .depth ≤ left .at) × (left .at ≤ length (now part)) × (right .depth ≤ right .at) × (right .at ≤ length (now part)) × TallyIs (now question) (now part) 1 (now tally) × BodiesTallied (now question) (now bodies) ⌝ }
+    requires { ⌜ (count ≤ mostSteps) × (listRoom ≤ length (now area)) × (length (now part) ≤ longestTerm) × (left .depth ≤ left .at) × (left .at ≤ length (now part)) × (right .depth ≤ right .at) × (right .at ≤ length (now part)) × TallyIs (now question) (now part) 1 (now tally) × BodiesTallied (now question) (now bodies) ⌝ }
     ensures { λ r. ⌜ PutMetIs (now (question .entry)) (now (part .entry)) left right new (now (area .entry)) count r (now (area .exit)) ⌝ }
 {
     let mut result = [0u8; LONGEST_TERM];

@@ -20,7 +20,7 @@ put-step-requires : tie.Need-put-step-requires
 put-step-requires c κs = search needs
 
 returns : tie.Need-returns
-returns c = let a = c .before .before .before .before .before .before .before .before .before .args in takes-blocked (a .question .now) (a .part .now) (a .silently) (a .i) _ (c .before .before .nth .result) (c .before .before .nth .ensures) (a .x) (a .area .now) (a .count) (c .before .before .before .before .before .before .before .before .before .pre .1) (c .before .before .before .before .before .before .before .before .before .pre .0) (c .enum-told .given .1)
+returns c = let a = c .before .before .before .before .before .before .before .before .before .args in takes-blocked (a .question .now) (a .part .now) (a .silently) (a .i) _ (c .before .before .nth .result) (c .before .before .nth .ensures) (a .x) (a .area .now) (a .count) (c .before .before .before .before .before .before .before .before .before .pre .0) (c .enum-told .given .1)
 
 same-length : tie.Need-same-length
 same-length c = search needs

@@ -6,19 +6,18 @@ use lib.Seq.{sets, length-sets}
 use mathlib.Core.Path.{_≡_, ap, _∙_}
 use native.Mathlib.Omega.{arith}
 use Rattle.steps.proofs.Moves.{moved-all, moved-more, moved-none}
-use Rattle.steps.specs.Limits.{stepBytes}
 use Rattle.terms.proofs.Stores.{span}
 use Rattle.steps.proofs.listed.move_up.Statement.{statement}
 use Rattle.steps.proofs.listed.move_up.Tie as tie
 
 abbrev Inv-loop : tie.InvT-loop
-Inv-loop list₀ n i₀ list i = (i ≤ n) × (list ≡ sets list₀ (i + stepBytes) (span list₀ i (n - i)))
+Inv-loop list₀ n i₀ list i = (i ≤ n) × (list ≡ sets list₀ (i + 1) (span list₀ i (n - i)))
 
 abbrev μ-loop : tie.MeasureT-loop
 μ-loop list₀ n i₀ list i = i
 
 loop-holds : tie.Need-loop-holds Inv-loop μ-loop
-loop-holds c = (search needs, moved-none (c .args .list .now) stepBytes (c .args .n))
+loop-holds c = (search needs, moved-none (c .args .list .now) 1 (c .args .n))
 
 sub-i : tie.Need-sub-i Inv-loop μ-loop
 sub-i c = search needs
@@ -36,13 +35,13 @@ loop-less : tie.Need-loop-less Inv-loop μ-loop
 loop-less c = search needs
 
 loop-again : tie.Need-loop-again Inv-loop μ-loop
-loop-again c = (search needs, moved-more (c .before .before .before .args .list .now) stepBytes (c .before .before .loop .i) (c .before .before .before .args .n) (search needs) (search needs) (search needs) (c .before .before .loop .list) (c .before .before .loop .inv .1))
+loop-again c = (search needs, moved-more (c .before .before .before .args .list .now) 1 (c .before .before .loop .i) (c .before .before .before .args .n) (search needs) (search needs) (search needs) (c .before .before .loop .list) (c .before .before .loop .inv .1))
 
 same-length : tie.Need-same-length Inv-loop μ-loop
 same-length c = ap length (c .before .loop .inv .1) ∙ simp length-sets
 
 returns : tie.Need-returns Inv-loop μ-loop
-returns c = moved-all (c .before .before .args .list .now) stepBytes (c .before .loop .i) (c .before .before .args .n) (search needs) (c .before .loop .list) (c .before .loop .inv .1)
+returns c = moved-all (c .before .before .args .list .now) 1 (c .before .loop .i) (c .before .before .args .n) (search needs) (c .before .loop .list) (c .before .loop .inv .1)
 
 pub move-up-spec : {M : Type 1} → statement M
 move-up-spec =

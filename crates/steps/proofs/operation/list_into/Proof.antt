@@ -29,13 +29,13 @@ copy-requires : tie.Need-copy-requires
 copy-requires c κs = let few : c .before .before .before .answer .given .0 .0 ≤ mostSteps = c .before .before .before .before .before .before .list-part .ensures .few (c .before .before .before .answer .given .0 .0) (c .before .before .before .answer .given .1) in (search needs, search needs)
 
 returns : tie.Need-returns
-returns c = into-unsettled (c .before .before .before .before .before .before .before .before .args .question .now) (c .before .before .before .before .before .before .before .before .args .part .now) (c .before .before .before .before .before .before .before .before .args .x) _ _ (c .before .before .before .before .before .before .before .before .args .area .now) (omega arith) (c .before .before .before .before .before .before .before .before .pre .0) (c .before .before .before .list-part .result) (c .enum-told .given .1) (c .before .before .before .list-part .ensures)
+returns c = into-unsettled (c .before .before .before .before .before .before .before .before .args .question .now) (c .before .before .before .before .before .before .before .before .args .part .now) (c .before .before .before .before .before .before .before .before .args .x) _ (c .before .before .before .before .before .before .before .before .args .area .now) (c .before .before .before .before .before .before .before .before .pre .0) (c .before .before .before .list-part .result) (c .enum-told .given .1) (c .before .before .before .list-part .ensures)
 
 same-length : tie.Need-same-length
 same-length c = search needs
 
 returns-2 : tie.Need-returns-2
-returns-2 c = into-count (c .before .before .before .before .before .before .before .before .before .before .before .before .before .before .args .question .now) (c .before .before .before .before .before .before .before .before .before .before .before .before .before .before .args .part .now) (c .before .before .before .before .before .before .before .before .before .before .before .before .before .before .args .x) _ _ (c .before .before .before .before .before .before .before .before .before .before .before .before .before .before .args .area .now) (omega arith) (c .before .before .before .before .before .before .before .before .before .before .before .before .before .before .pre .0) (c .before .before .before .before .before .before .answer .given .0 .0) (c .before .before .before .before .before .before .before .before .before .list-part .result) (c .before .before .before .before .before .before .answer .given .1) (c .before .before .before .before .before .before .before .before .before .list-part .ensures) _ (c .before .before .copy .ensures)
+returns-2 c = into-count (c .before .before .before .before .before .before .before .before .before .before .before .before .before .before .args .question .now) (c .before .before .before .before .before .before .before .before .before .before .before .before .before .before .args .part .now) (c .before .before .before .before .before .before .before .before .before .before .before .before .before .before .args .x) _ (c .before .before .before .before .before .before .before .before .before .before .before .before .before .before .args .area .now) (c .before .before .before .before .before .before .before .before .before .before .before .before .before .before .pre .0) (c .before .before .before .before .before .before .answer .given .0 .0) (c .before .before .before .before .before .before .before .before .before .list-part .result) (c .before .before .before .before .before .before .answer .given .1) (c .before .before .before .before .before .before .before .before .before .list-part .ensures) _ (c .before .before .copy .ensures)
 
 pub list-into-spec : {M : Type 1} → statement M
 list-into-spec =

@@ -8,7 +8,7 @@ add-result : tie.Need-add-result
 add-result c = search needs
 
 returns : tie.Need-returns
-returns c = let a = c .before .before .before .before .args in put-result-long (a .class .now) (a .action) (a .result .now) (a .n) (a .area .now) (a .count) (c .before .before .before .before .pre .1) (c .if1 .taken) (a .area .now)
+returns c = let a = c .before .before .before .before .args in put-result-long (a .class .now) (a .action) (a .result .now) (a .n) (a .area .now) (a .count) (c .if1 .taken) (a .area .now)
 
 entry-of-requires : tie.Need-entry-of-requires
 entry-of-requires c κs = search needs
@@ -23,7 +23,7 @@ same-length : tie.Need-same-length
 same-length c = search needs
 
 returns-2 : tie.Need-returns-2
-returns-2 c = let a = c .before .before .before .before .before .before .before .before .before .before .args in put-result-inserted (a .class .now) (a .action) (a .result .now) (a .n) (a .area .now) (a .count) (c .before .before .before .before .before .before .before .before .before .before .pre .1) (search needs) (c .before .before .before .before .before .before .before .before .before .before .pre .2) (c .before .before .before .before .before .entry-of .result) (c .before .before .before .before .before .entry-of .ensures) (c .before .before .insert .result) _ (c .before .before .insert .ensures)
+returns-2 c = let a = c .before .before .before .before .before .before .before .before .before .before .args in put-result-inserted (a .class .now) (a .action) (a .result .now) (a .n) (a .area .now) (a .count) (search needs) (c .before .before .before .before .before .before .before .before .before .before .pre .2) (c .before .before .before .before .before .entry-of .result) (c .before .before .before .before .before .entry-of .ensures) (c .before .before .insert .result) _ (c .before .before .insert .ensures)
 
 pub put-result-spec : {M : Type 1} → statement M
 put-result-spec =

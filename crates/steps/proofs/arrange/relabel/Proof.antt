@@ -1,0 +1,58 @@
+-- `steps::arrange::relabel` meets its contract. Assumes nothing.
+use Prim.Native.Nat.{_-_, _≤_}
+use borrow.Author.Needs.{needs}
+use native.Mathlib.Omega.{arith}
+use Rattle.terms.proofs.Filling.{Filling}
+use Rattle.steps.proofs.ArrangeLaws.{relabelAt, relabel-start, relabel-step, relabel-done}
+use Rattle.steps.proofs.arrange.relabel.Statement.{statement}
+use Rattle.steps.proofs.arrange.relabel.Tie as tie
+
+abbrev Inv-loop : tie.InvT-loop
+Inv-loop list₀ from end old new k₀ list k =
+    (from ≤ k) × (k ≤ end) × Filling (relabelAt list₀ from old new) list₀ list k
+
+abbrev μ-loop : tie.MeasureT-loop
+μ-loop list₀ from end old new k₀ list k = end - k
+
+loop-holds : tie.Need-loop-holds Inv-loop μ-loop
+loop-holds c = (search needs, search needs, relabel-start (c .before .args .list .now) (c .before .args .from) (c .before .args .old) (c .before .args .new))
+
+slice-read-moved : tie.Need-slice-read-moved Inv-loop μ-loop
+slice-read-moved c = omega (arith, c .before .before .loop .inv .2 .len)
+
+moved-requires : tie.Need-moved-requires Inv-loop μ-loop
+moved-requires c κs = search needs
+
+slice-write-list : tie.Need-slice-write-list Inv-loop μ-loop
+slice-write-list c = omega (arith, c .before .before .before .loop .inv .2 .len)
+
+add-k : tie.Need-add-k Inv-loop μ-loop
+add-k c = search needs
+
+loop-less : tie.Need-loop-less Inv-loop μ-loop
+loop-less c = search needs
+
+loop-again : tie.Need-loop-again Inv-loop μ-loop
+loop-again c = (search needs, search needs, relabel-step (c .before .before .before .before .before .args .list .now) (c .before .before .before .before .before .args .from) (c .before .before .before .before .before .args .old) (c .before .before .before .before .before .args .new) (c .before .before .before .loop .k) (c .moved .result) (c .before .before .before .loop .list) (c .before .before .before .loop .inv .0) (omega arith) (c .moved .ensures) (c .before .before .before .loop .inv .2))
+
+same-length : tie.Need-same-length Inv-loop μ-loop
+same-length c = c .before .loop .inv .2 .len
+
+returns : tie.Need-returns Inv-loop μ-loop
+returns c = relabel-done (c .before .before .before .args .list .now) (c .before .before .before .args .from) (c .before .before .before .args .old) (c .before .before .before .args .new) (c .before .before .before .args .end) (c .before .loop .k) (c .before .loop .list) (c .before .loop .inv .0) (search needs) (c .before .loop .inv .2)
+
+pub relabel-spec : {M : Type 1} → statement M
+relabel-spec =
+    tie.close
+    (tie.spec
+    Inv-loop
+    μ-loop
+    loop-holds
+    slice-read-moved
+    moved-requires
+    slice-write-list
+    add-k
+    loop-less
+    loop-again
+    same-length
+    returns)
