@@ -1,7 +1,7 @@
 -- The chains of the buckets: a key is found along them, and what keeps them. Assumes nothing.
 use mathlib.Core.Path.{_≡_, refl, sym, ap, _∙_}
 use mathlib.Core.Bool.{Bool, true, false, cond}
-use mathlib.Core.List.{List, [], _∷_}
+use mathlib.Core.List.{List}
 use mathlib.Core.Logic.{⊎-elim}
 use Prim.Native.Nat.{ℕ, zero, suc, _+_, _-_, _*_, _/_, _%_, _<_, _≤_}
 use native.Mathlib.Decide.{decLt}
@@ -15,7 +15,7 @@ use lib.ListN.{length, getD, take, drop, set, length-set, length-take, length-dr
 use lib.Seq.{sets, length-sets, take-take, getD-set-same, getD-set-other, drop-set-lt, getD-take, ext-getD}
 use Rattle.terms.specs.FieldPlaces.{sizeAt}
 use Rattle.terms.proofs.Stores.{span, getD-span}
-use Rattle.steps.proofs.Moves.{getD-before}
+use Rattle.steps.proofs.Moves.{getD-before, getD-behind}
 use Rattle.field.specs.Chains.{wordAt, folded, mixed, rounds, roundsTo, spread, bucketOf, bucketAt, BucketIs, headPlace, linkPlace, headAt, nextAt, putNumber, lastWith, lastIn, Chained, KeepsKeys, Clears, LinkIs, FindsIn}
 use Rattle.field.specs.Key.{keyAt, SameKeyIs, FoundIs}
 use Rattle.field.specs.Slot.{keyBytes, slotBytes}
@@ -274,10 +274,6 @@ chained-flag capacity work count i v =
     (λ k j h l. getD-set-other work (slotBytes * i + keyBytes) (slotBytes * k + j) v 0 (λ z. omega arith))
 
 -- A slot that is not counted may get its key and the byte behind it.
-getD-behind : (l : List ℕ) (p k : ℕ) (xs : List ℕ) → p + length xs ≤ k → getD (sets l p xs) k 0 ≡ getD l k 0
-getD-behind l p k [] h = refl
-getD-behind l p k (x ∷ xs) h = getD-behind (set l p x) (suc p) k xs (omega arith) ∙ getD-set-other l p k x 0 (λ z. omega arith)
-
 pub chained-slot : (capacity : ℕ) (work : List ℕ) (count : ℕ) (xs : List ℕ) → length xs ≤ 242 → Chained capacity work count
     → Chained capacity (sets work (slotBytes * count) xs) count
 chained-slot capacity work count xs h =

@@ -12,7 +12,7 @@ use Rattle.terms.specs.Limits.{nameCount, longestTerm}
 use Rattle.terms.specs.Question.{Question}
 use Rattle.terms.proofs.ReadEncoded.{encode-some}
 use Rattle.terms.proofs.Stores.{length-span, getD-span}
-use Rattle.steps.specs.Limits.{stepBytes, mostSteps}
+use Rattle.steps.specs.Limits.{stepBytes}
 use Rattle.steps.specs.Listed.{ListedStep}
 use Rattle.steps.specs.Listing.{Listing, unsettled, listed, stepsOf}
 use Rattle.steps.specs.Operations.{listBytes}
@@ -21,7 +21,6 @@ use Rattle.steps.specs.declared.list.ListAnswer.{ListAnswer}
 use Rattle.steps.specs.declared.list.ListAnswer.the-variants.{Unsettled, Count}
 use Rattle.field.specs.ListArea.{labelPlace, labelBytes, keptBytes, keptLists, keptPlace, listArea, labelAt, keptAt, LabelIs, countIn, Elsewhere, PutsLabel, ListIn, Tells, Kept, Labelled, SideIs}
 use Rattle.field.proofs.ElsewhereLaws.{fewer, window-behind, one-set, run-set}
-use Rattle.field.proofs.ListedParts.{listed-bytes}
 
 -- The same list where the same steps stand.
 pub list-same : (question part : List ℕ) (x n : ℕ) (a b : List ℕ) → take (stepBytes * n) b ≡ take (stepBytes * n) a → ListIn question part x n a
@@ -99,7 +98,7 @@ no-part question n room = record {
 
 -- What the lister's answer says of a side. It is lent the beginning of the area.
 module _ (question part : List ℕ) (x : ℕ) (area : List ℕ) (r : ListAnswer) (steps : List ℕ)
-    (answer : ListPartIs question part x (take labelPlace area) r steps) (same : length steps ≡ length (take labelPlace area))
+    (answer : ListPartIs question part x r steps) (same : length steps ≡ length (take labelPlace area))
     (so : Labelled question area) where
   abbrev whole : List ℕ
   whole = steps ++ drop labelPlace area
@@ -119,7 +118,7 @@ module _ (question part : List ℕ) (x : ℕ) (area : List ℕ) (r : ListAnswer)
   unfolding SideIs AnswersListing
   side-past u b q P l new = go (stepsOf (q .bodies) x P) (answer .is q P l)
     where
-      go : (k : Listing) → AnswersListing k (take labelPlace area) r steps → k ≡ unsettled
+      go : (k : Listing) → AnswersListing k r steps → k ≡ unsettled
       go unsettled e = refl
       go (listed ss) e = let d = e .0 in let z : _≡_ {A = ℕ} 0 1 = cc in absurd (omega arith)
 
@@ -131,19 +130,14 @@ module _ (question part : List ℕ) (x : ℕ) (area : List ℕ) (r : ListAnswer)
   list-made n c = record { few = answer .few n c; is = λ q P l new. go q P l new (stepsOf (q .bodies) x P) refl (answer .is q P l) }
     where
       go : (q : Question) (P : Term) → Lists question part x q P → ¬ Free x P → (k : Listing) → stepsOf (q .bodies) x P ≡ k
-          → AnswersListing k (take labelPlace area) r steps
+          → AnswersListing k r steps
           → (ss : List ListedStep) × (stepsOf (q .bodies) x P ≡ listed ss) × (length ss ≡ n) × (take (stepBytes * n) steps ≡ listBytes ss)
       go q P l new unsettled d e = let z : _≡_ {A = ℕ} 0 1 = cc in absurd (omega arith)
       go q P l new (listed ss) d e =
           let f = e .0 in
           let number : length ss ≡ n = cc in
-          let few : length ss ≤ mostSteps = omega (arith, answer .few n c) in
-          let room : mostSteps * stepBytes ≤ length (take labelPlace area) = omega (arith, same, size) in (
-            ss,
-            d,
-            number,
-            ap (λ k. take (stepBytes * k) steps) (sym number) ∙ listed-bytes question part x q P l new ss d (take labelPlace area) steps room few (e .1),
-          )
+          let bytes : stepBytes * n ≡ length ss * stepBytes = omega arith in
+          (ss, d, number, ap (λ k. take k steps) bytes ∙ e .1)
 
   pub listed-at-hand : (n : ℕ) → r ≡ Count n → (area′ : List ℕ) → PutsLabel whole labelPlace part x n area′ → listArea ≤ length area′
       → ListIn question part x n area′ × Labelled question area′

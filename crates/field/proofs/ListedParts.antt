@@ -8,8 +8,8 @@ use native.Mathlib.Decide.{ℕ-discrete, decLe}
 use native.Mathlib.Nat.{mul-le-mul-right}
 use native.Mathlib.Omega.{arith}
 use Prim.Native.Nat.{ℕ, zero, suc, _+_, _*_, _<_, _≤_}
-use lib.ListN.{length, getD, take, drop}
-use lib.Seq.{sets, sets-eq, drop-append-add, take-at}
+use lib.ListN.{length, getD, drop}
+use lib.Seq.{sets, sets-eq, drop-append-add}
 use Rattle.calculus.specs.Term.{Term, ren}
 use Rattle.calculus.specs.Free.{In, Free}
 use Rattle.calculus.specs.Definitions.{Defs}
@@ -28,8 +28,7 @@ use Rattle.steps.specs.Lists.{_∈_}
 use Rattle.steps.specs.Operations.{listBytes}
 use Rattle.steps.specs.PartLister.{Lists}
 use Rattle.steps.proofs.ClassLists.{length-classes, class-of}
-use Rattle.steps.proofs.InsertLaws.{length-listBytes}
-use Rattle.steps.proofs.ListedBytes.{step-size}
+use Rattle.steps.proofs.ListedBytes.{step-size, length-listBytes}
 use Rattle.steps.proofs.ListingLaws.{listing-exact}
 use Rattle.steps.proofs.Membership.{∈-all}
 use Rattle.steps.proofs.QuestionDefinitions.{definitions, bodies-in-scope, opens-one}
@@ -148,11 +147,6 @@ module _ (question part : List ℕ) (x : ℕ) (q : Question) (P : Term) (l : Lis
       begins =
           let k : length ss * stepBytes ≤ mostSteps * stepBytes = mul-le-mul-right stepBytes few in
           stored ∙ sets-eq (listBytes ss) area 0 (omega (arith, length-listBytes ss sized))
-
-      pub listed-bytes : take (stepBytes * length ss) area′ ≡ listBytes ss
-      listed-bytes =
-          ap (take (stepBytes * length ss)) begins
-          ∙ take-at (listBytes ss) (drop (0 + length (listBytes ss)) area) (stepBytes * length ss) (omega (arith, length-listBytes ss sized))
 
       entry-at : (i : ℕ) (d : ListedStep) → i < length ss → EntryAt area′ (stepBytes * i) (getD ss i d)
       entry-at i d h =

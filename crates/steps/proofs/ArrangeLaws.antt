@@ -7,7 +7,7 @@ use mathlib.Core.Path.{_≡_, refl, sym, _∙_, ap, ap₂}
 use native.Mathlib.Decide.{ℕ-discrete, decLe}
 use native.Mathlib.Nat.{eq-or-lt-of-le, suc-mul, zero-add}
 use native.Mathlib.Omega.{arith}
-use Prim.Native.Nat.{ℕ, suc, _+_, _*_, _<_, _≤_, Ordering·lt}
+use Prim.Native.Nat.{ℕ, suc, _+_, _*_, _<_, _≤_}
 use lib.Dec.{ltb}
 use lib.ListN.{length, getD, set, take, drop}
 use lib.Seq.{sets, length-sets, take-add, drop-drop}
@@ -17,7 +17,7 @@ use Rattle.steps.specs.Arranging.{relabelled, RelabelIs, Settled, Settle
 use Rattle.steps.specs.Derived.{Ascending}
 use Rattle.steps.specs.Entries.{entryFrom, placeAt, entryAt, stepAt, Indexed}
 use Rattle.steps.specs.Limits.{mostSteps, stepBytes, indexPlace, listRoom}
-use Rattle.steps.specs.Listed.{ListedStep, bytes}
+use Rattle.steps.specs.Listed.{ListedStep}
 use Rattle.steps.specs.Listing.{order}
 use Rattle.steps.specs.Operations.{listBytes}
 use Rattle.steps.proofs.EntryOrder.{order-same-bytes, length-entry}

@@ -1,5 +1,4 @@
 -- A step's bytes put behind those in the area, and their number into the index, are an entry more, in its place in the order. Assumes nothing.
-use borrow.Author.Tests.{le-leb, lt-leb}
 use mathlib.Core.Bool.{Bool, true, false}
 use mathlib.Core.List.{List, [], _∷_, _++_}
 use mathlib.Core.Logic.{_⊎_, inl, inr}

@@ -2,7 +2,6 @@
 use Prim.Native.Nat.{_-_, _≤_}
 use borrow.Author.Needs.{needs}
 use mathlib.Core.Path.{_≡_}
-use native.Mathlib.Omega.{arith}
 use lib.ListN.{length}
 use Rattle.steps.proofs.ArrangeLaws.{Arranges, arrange-start, arrange-step, arrange-done}
 use Rattle.steps.proofs.arrange.arrange.Statement.{statement}

@@ -1,9 +1,5 @@
 -- `steps::arrange::settle` meets its contract. Assumes nothing.
-use mathlib.Core.Path.{sym, _∙_, ap, subst}
-use native.Mathlib.Omega.{arith}
-use lib.ListN.{length}
-use lib.Seq.{sets}
-use Rattle.steps.specs.Arranging.{RelabelIs}
+use mathlib.Core.Path.{sym, _∙_}
 use Rattle.steps.proofs.ArrangeLaws.{settled-there, settled-away}
 use borrow.Author.Needs.{needs}
 use Rattle.steps.proofs.arrange.settle.Statement.{statement}
