@@ -14,10 +14,10 @@ use Rattle.terms.specs.Answer.{result}
 use Rattle.terms.specs.Limits.{nameCount}
 use Rattle.terms.specs.Question.{Question, checkOf}
 use Rattle.terms.proofs.WellFormed.{WellFormed, accepted-well-formed}
-use Rattle.steps.specs.Bodies.{AritiesIs}
-use Rattle.steps.specs.Lists.{All}
-use Rattle.steps.proofs.Membership.{∈-all, all-∈}
-use Rattle.steps.proofs.QuestionDefinitions.{definitions}
+use Rattle.candidates.specs.Bodies.{AritiesIs}
+use Rattle.candidates.specs.Lists.{All}
+use Rattle.candidates.proofs.Membership.{∈-all, all-∈}
+use Rattle.candidates.proofs.QuestionDefinitions.{definitions}
 use Rattle.field.specs.Chains.{Clears, LinkIs}
 use Rattle.field.specs.Exploration.{unseen, together, unanswered, Row, incomplete, explored, fieldOf}
 use Rattle.field.specs.Growing.{Proper, Fitting, grown, Knows, GrowsTo, Puts, slotWith, Flagged, moved, Strikes, Leads, GrowsSides, Follows, GrowIs}

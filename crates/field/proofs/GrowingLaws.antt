@@ -14,10 +14,10 @@ use Rattle.calculus.proofs.Renaming.{map-++}
 use Rattle.terms.specs.Encoding.{encode, InScope}
 use Rattle.terms.specs.Limits.{nameCount, longestTerm}
 use Rattle.terms.proofs.Shapes.{length-ren}
+use Rattle.candidates.specs.Lists.{_∈_, All}
+use Rattle.candidates.proofs.Membership.{all-imp, all-∈, ∈-all}
 use Rattle.steps.specs.Limits.{stepBytes}
 use Rattle.steps.specs.Listed.{ListedStep, classIn, resultBytes}
-use Rattle.steps.specs.Lists.{_∈_, All}
-use Rattle.steps.proofs.Membership.{all-imp, all-∈, ∈-all}
 use Rattle.field.specs.Chains.{LinkIs, FindsIn}
 use Rattle.field.specs.Entry.{EntryAt, TrivialIs, SameHeaderIs, AnswersIs}
 use Rattle.field.specs.Exploration.{found, together, unanswered}

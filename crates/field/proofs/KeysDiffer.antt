@@ -17,8 +17,8 @@ use Rattle.terms.specs.Encoding.{encode, InScope}
 use Rattle.terms.specs.Limits.{nameCount, longestTerm}
 use Rattle.terms.specs.Operations.{holdsApart}
 use Rattle.terms.proofs.ApartLaws.{holds-apart, apart-holds}
-use Rattle.steps.specs.Lists.{_∈_, All}
-use Rattle.steps.proofs.Membership.{all-∈}
+use Rattle.candidates.specs.Lists.{_∈_, All}
+use Rattle.candidates.proofs.Membership.{all-∈}
 use Rattle.field.specs.Exploration.{found}
 pub use Rattle.field.specs.Growing.{Fits}
 use Rattle.field.specs.Holding.{SlotsHold}

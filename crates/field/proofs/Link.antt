@@ -9,9 +9,9 @@ use Rattle.calculus.specs.Cond.{Pairs, cls}
 use Rattle.calculus.specs.Distinction.{Resp}
 use Rattle.calculus.specs.Definitions.{Defs}
 use Rattle.calculus.specs.OpenBisimulation.{update}
-use Rattle.steps.specs.Lists.{_∈_}
-use Rattle.steps.proofs.Calls.{Opens}
-use Rattle.steps.proofs.Scope.{CallsInScope}
+use Rattle.candidates.specs.Lists.{_∈_}
+use Rattle.candidates.proofs.Calls.{Opens}
+use Rattle.candidates.proofs.Scope.{CallsInScope}
 use Rattle.field.specs.Setting.{Setting}
 use Rattle.field.specs.Situation.{Situation, situation}
 use Rattle.field.specs.Successors.{pastLimit, leads, successors}

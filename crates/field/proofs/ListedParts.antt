@@ -19,20 +19,20 @@ use Rattle.terms.specs.Encoding.{InScope}
 use Rattle.terms.specs.Limits.{nameCount, longestTerm}
 use Rattle.terms.specs.Question.{Question}
 use Rattle.terms.proofs.WellFormed.{WellFormed, accepted-well-formed}
+use Rattle.candidates.specs.Lists.{_∈_}
+use Rattle.candidates.proofs.Membership.{∈-all}
+use Rattle.candidates.proofs.QuestionDefinitions.{definitions, bodies-in-scope, opens-one}
+use Rattle.candidates.proofs.Scope.{CallsInScope, scope-calls}
 use Rattle.steps.specs.Derived.{Derived, ListsExactly}
 use Rattle.steps.specs.Entries.{Sized}
 use Rattle.steps.specs.Limits.{mostSteps, stepBytes}
 use Rattle.steps.specs.Listed.{ListedStep, listedAs, classIn, resultBytes, bytes}
 use Rattle.steps.specs.Listing.{listed, stepsOf}
-use Rattle.steps.specs.Lists.{_∈_}
 use Rattle.steps.specs.Operations.{listBytes}
 use Rattle.steps.specs.PartLister.{Lists}
 use Rattle.steps.proofs.ClassLists.{length-classes, class-of}
 use Rattle.steps.proofs.ListedBytes.{step-size, length-listBytes}
 use Rattle.steps.proofs.ListingLaws.{listing-exact}
-use Rattle.steps.proofs.Membership.{∈-all}
-use Rattle.steps.proofs.QuestionDefinitions.{definitions, bodies-in-scope, opens-one}
-use Rattle.steps.proofs.Scope.{CallsInScope, scope-calls}
 use Rattle.field.specs.Entry.{EntryAt, Rewritten}
 use Rattle.field.specs.Field.{Move}
 use Rattle.field.specs.Setting.{Setting, settingOf}

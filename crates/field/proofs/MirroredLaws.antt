@@ -11,9 +11,9 @@ use Rattle.calculus.specs.Cond.{Pairs, mapP}
 use Rattle.calculus.specs.OpenBisimulation.{times}
 use Rattle.calculus.specs.Term.{ren}
 use Rattle.terms.specs.Limits.{nameCount}
+use Rattle.candidates.specs.Lists.{_∈_}
+use Rattle.candidates.proofs.Membership.{∈-map}
 use Rattle.steps.specs.Listed.{ListedStep, namesFrom, classIn}
-use Rattle.steps.specs.Lists.{_∈_}
-use Rattle.steps.proofs.Membership.{∈-map}
 use Rattle.field.specs.Entry.{Rewritten, SameHeader}
 use Rattle.field.specs.Exploration.{together}
 use Rattle.field.specs.Growing.{Mirrored, moved}

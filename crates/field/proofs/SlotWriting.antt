@@ -7,7 +7,7 @@ use borrow.Author.Count.{below-more}
 use lib.ListN.{length, getD, take, drop, set, length-append, take-append-drop, List·getD-append}
 use lib.Seq.{sets, sets-eq, length-sets, length-take-le, drop-at, take-at, getD-at, drop-set-lt, take-set-le, take-add}
 use Rattle.terms.proofs.Stores.{getD-front, sets-join}
-use Rattle.steps.proofs.Membership.{all-++}
+use Rattle.candidates.proofs.Membership.{all-++}
 use Rattle.steps.proofs.Moves.{getD-before}
 use Rattle.field.specs.Chains.{Chained, LinkIs}
 use Rattle.field.specs.Growing.{Fits, Fitting, Knows, slotWith, KeepsStruck}

@@ -23,13 +23,13 @@ use Rattle.calculus.proofs.UpToRenaming.{Either}
 use Rattle.terms.specs.Encoding.{InScope}
 use Rattle.terms.proofs.Answers.{both-true, true-both}
 use Rattle.terms.proofs.ScopeLaws.{free-below}
+use Rattle.candidates.specs.Lists.{_∈_}
+use Rattle.candidates.proofs.Membership.{∈-left, ∈-right}
+use Rattle.candidates.proofs.Scope.{scope-calls, in-scope, calls-ren}
 use Rattle.steps.specs.Derived.{Derived, TooMany, TooLong, ListsExactly}
 use Rattle.steps.specs.Listed.{ListedStep}
 use Rattle.steps.specs.Listing.{Listing, unsettled, listed, listing}
-use Rattle.steps.specs.Lists.{_∈_}
 use Rattle.steps.proofs.ListingLaws.{listing-exact}
-use Rattle.steps.proofs.Membership.{∈-left, ∈-right}
-use Rattle.steps.proofs.Scope.{scope-calls, in-scope, calls-ren}
 use Rattle.field.specs.Setting.{Setting, stepsIn}
 use Rattle.field.specs.Situation.{Situation, freeIn}
 use Rattle.field.specs.Successors.{someBinds, moves, pastLimit, leads, ledTo, withSteps, successors}

@@ -16,7 +16,7 @@ use Rattle.calculus.proofs.UpToRenaming.{Either}
 use Rattle.terms.specs.Encoding.{InScope}
 use Rattle.terms.specs.Limits.{nameCount}
 use Rattle.terms.specs.Question.{Question}
-use Rattle.steps.specs.Bodies.{AritiesIs}
+use Rattle.candidates.specs.Bodies.{AritiesIs}
 use Rattle.steps.specs.Limits.{mostSteps, stepBytes}
 use Rattle.steps.specs.Listed.{ListedStep}
 use Rattle.steps.specs.Listing.{Listing, unsettled, listed, stepsOf}

@@ -12,8 +12,8 @@ use Rattle.terms.specs.Answer.{result}
 use Rattle.terms.specs.Encoding.{encode, InScope}
 use Rattle.terms.specs.Limits.{nameCount, longestTerm}
 use Rattle.terms.specs.Question.{Question, checkOf}
+use Rattle.candidates.specs.Lists.{_∈_, All}
 use Rattle.steps.specs.Listed.{ListedStep}
-use Rattle.steps.specs.Lists.{_∈_, All}
 use Rattle.field.specs.Chains.{Chained}
 use Rattle.field.specs.Entry.{EntryAt, Rewritten, SameHeader}
 use Rattle.field.specs.Exploration.{found, together, unanswered}

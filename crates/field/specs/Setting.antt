@@ -3,8 +3,9 @@ use mathlib.Core.List.{List}
 use Prim.Native.Nat.{ℕ}
 use Rattle.calculus.specs.Term.{Term}
 use Rattle.terms.specs.Limits.{nameCount, longestTerm}
+use Rattle.candidates.specs.Bodies.{bodyOf}
 use Rattle.steps.specs.Limits.{mostSteps}
-use Rattle.steps.specs.Listing.{Listing, listing, bodyOf}
+use Rattle.steps.specs.Listing.{Listing, listing}
 
 pub record Setting : Type 0 where
   -- how many names there are

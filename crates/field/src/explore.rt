@@ -2,9 +2,9 @@
 ghost use mathlib.Core.Path.{_≡_};
 ghost use Prim.Native.Nat.{_+_, _*_, _<_, _≤_};
 ghost use lib.ListN.{length};
+ghost use Rattle.candidates.specs.Tally.{tallySize, BodiesTallied};
 ghost use Rattle.steps.specs.Limits.{stepBytes, mostSteps};
 ghost use Rattle.steps.specs.Rows.{rowBytes, mostRows};
-ghost use Rattle.steps.specs.Tally.{tallySize, BodiesTallied};
 ghost use Rattle.field.specs.Chains.{LinkIs};
 ghost use Rattle.field.specs.Growing.{slotWith, AddIs, GrowsAnswer, GrowsAnswers, FirstAnswerIs, GrowsStep, GrowsSide, GrowsSides, GrowIs};
 ghost use Rattle.field.specs.Holding.{ExploreIs};
@@ -25,7 +25,7 @@ use crate::results::successor;
 use crate::start::start_key;
 use crate::taking::Lists;
 use crate::taking::take_up;
-use steps::bodies::arities_of;
+use candidates::bodies::arities_of;
 use steps::limits::STEP_BYTES;
 use terms::bytes::copy;
 

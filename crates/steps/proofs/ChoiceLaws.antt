@@ -15,23 +15,23 @@ use Rattle.terms.specs.Encoding.{nameByte, encode, InScope}
 use Rattle.terms.specs.Limits.{nameCount}
 use Rattle.terms.specs.Question.{Question, checkOf}
 use Rattle.terms.proofs.Stores.{span, length-span, getD-span, getD-front}
+use Rattle.candidates.specs.LabelWalk.{slotAt, HasSlots}
+use Rattle.candidates.specs.Bodies.{bodyOf}
+use Rattle.candidates.specs.Lists.{_∈_, Among}
+use Rattle.candidates.specs.Raw.{Candidate, matching, visible, visibleOf}
+use Rattle.candidates.specs.Slots.{slotOf}
+use Rattle.candidates.specs.Tally.{endAt, EndsInside, EndsTallied}
+use Rattle.candidates.proofs.ArgumentSlots.{slot-read}
+use Rattle.candidates.proofs.CandidateForms.{tag, tag-at, only-mat}
+use Rattle.candidates.proofs.FrontLaws.{stands, behind}
+use Rattle.candidates.proofs.Membership.{∈-left, ∈-right, ∈-map, ∈-mapped}
+use Rattle.candidates.proofs.TwoSides.{at-left, at-right}
 use Rattle.steps.specs.Deciding.{decided, Again}
 use Rattle.steps.specs.Entries.{Alike}
-use Rattle.steps.specs.LabelWalk.{slotAt, HasSlots}
-use Rattle.steps.specs.Listing.{bodyOf}
-use Rattle.steps.specs.Lists.{_∈_, Among}
-use Rattle.steps.specs.Raw.{Candidate, matching, visible, visibleOf}
 use Rattle.steps.specs.Rows.{isTrivial, isFailing, Piece, plus, match, branch, Pieces, Offers, behindPiece, RepeatedIs}
-use Rattle.steps.specs.Slots.{slotOf}
-use Rattle.steps.specs.Tally.{endAt, EndsInside, EndsTallied}
-use Rattle.steps.proofs.ArgumentSlots.{slot-read}
-use Rattle.steps.proofs.CandidateForms.{tag, tag-at, only-mat}
 use Rattle.steps.proofs.DecidingLaws.{decided-trivial, decided-failing, again-one, again-more, again-as}
-use Rattle.steps.proofs.FrontLaws.{stands, behind}
 use Rattle.steps.proofs.ListedBytes.{reads-once}
-use Rattle.steps.proofs.Membership.{∈-left, ∈-right, ∈-map, ∈-mapped}
 use Rattle.steps.proofs.RaisedMeetings.{bound-slot, slot-one}
-use Rattle.steps.proofs.TwoSides.{at-left, at-right}
 
 -- Where a match of a name with itself stands, or another one.
 module _ (s args : List ℕ) (inner depth p : ℕ) where

@@ -12,18 +12,18 @@ use Rattle.calculus.specs.Abstraction.{Act, tauA, inpA, outA, boutA}
 use Rattle.calculus.specs.Cond.{Cond}
 use Rattle.calculus.specs.Term.{Term}
 use Rattle.terms.specs.Limits.{nameCount, longestTerm}
+use Rattle.candidates.specs.Lists.{_∈_, All}
+use Rattle.candidates.specs.Raw.{Candidate, step, blocked}
+use Rattle.candidates.proofs.Membership.{all-∈, all-imp}
 use Rattle.steps.specs.Collecting.{Stands, Found, PutInto, PutIs, CollectIs}
 use Rattle.steps.specs.Deciding.{Again}
 use Rattle.steps.specs.Entries.{InsertIs}
 use Rattle.steps.specs.Limits.{mostSteps, stepBytes}
 use Rattle.steps.specs.Listed.{ListedStep, listedAs, canonStep, resultBytes, bytes}
 use Rattle.steps.specs.Listing.{order, insert, collect, unsettled, limited}
-use Rattle.steps.specs.Lists.{_∈_, All}
-use Rattle.steps.specs.Raw.{Candidate, step, blocked}
 use Rattle.steps.proofs.ClassLists.{length-classes}
 use Rattle.steps.proofs.Limited.{Long, limited-passed, limited-many, limited-long}
 use Rattle.steps.proofs.ListedBytes.{step-length, step-size}
-use Rattle.steps.proofs.Membership.{all-∈, all-imp}
 use Rattle.steps.proofs.Sorted.{placed, insert-all, insert-sorted, insert-new, sorted-ascending, ascending-sorted, collect-old, collect-there}
 
 -- `collect` only grows.

@@ -14,25 +14,25 @@ use Rattle.calculus.proofs.Renaming.{ren-id}
 use Rattle.terms.specs.Limits.{nameCount}
 use Rattle.terms.specs.Question.{Question}
 use Rattle.terms.proofs.Answers.{both-true}
+use Rattle.candidates.specs.Labels.{actionOf}
+use Rattle.candidates.specs.Bodies.{bodyOf}
+use Rattle.candidates.specs.Names.{OwnNames}
+use Rattle.candidates.specs.Passing.{candidates}
+use Rattle.candidates.specs.Raw.{Candidate, step, blocked, leftSteps, rightSteps, sparesRestricted, restrictedAction, restricted, visible, silent}
+use Rattle.candidates.specs.Tally.{silentAt, TallyIs}
+use Rattle.candidates.proofs.Membership.{take-map}
+use Rattle.candidates.proofs.Numbering.{nth-by}
 use Rattle.steps.specs.Collecting.{PutIs, CollectIs}
 use Rattle.steps.specs.Contexts.{Frame, leftOf, rightOf, beneath, raised, restrictions, Placed, levelIn}
 use Rattle.steps.specs.Deciding.{decided, Again}
-use Rattle.steps.specs.Labels.{actionOf}
 use Rattle.steps.specs.Limits.{mostSteps}
-use Rattle.steps.specs.Listing.{bodyOf}
-use Rattle.steps.specs.Names.{OwnNames}
 use Rattle.steps.specs.PartLister.{Lists, candidatesOf, TakeIs}
-use Rattle.steps.specs.Passing.{candidates}
-use Rattle.steps.specs.Raw.{Candidate, step, blocked, leftSteps, rightSteps, sparesRestricted, restrictedAction, restricted, visible, silent}
 use Rattle.steps.specs.Rows.{kindAt, channelAt, objectAt, rowAction, Outlined, Row, RowsBehind, Rows, Unconditional, QuietIs}
-use Rattle.steps.specs.Tally.{silentAt, TallyIs}
 use Rattle.steps.specs.Walking.{rowOpens, rowObject, Unopened, Trivial, stepAction, PutPlacedIs, PutClassedIs, TakeRowIs, TakeRowsIs, TakeSilentIs}
 use Rattle.steps.specs.declared.listed.ActionBytes.{ActionBytes}
 use Rattle.steps.proofs.CollectLaws.{put-blocked, Progresses, progress-start, progress-step, progress-again, progress-done, progress-passed}
 use Rattle.steps.proofs.ContextLaws.{raised-blocked, placed-bytes}
 use Rattle.steps.proofs.DecidingLaws.{decided-raised, Like, decided-step, outside-blocked, like-trivial, like-action, again-by}
-use Rattle.steps.proofs.Membership.{take-map}
-use Rattle.steps.proofs.Numbering.{nth-by}
 use Rattle.steps.proofs.RowLaws.{row-act, plain-step, outlined-left, outlined-right, outlined-restricted}
 use Rattle.steps.proofs.StepEntries.{slot-name, same-action}
 

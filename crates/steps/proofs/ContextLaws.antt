@@ -11,14 +11,14 @@ use lib.Seq.{drop-at}
 use Rattle.calculus.specs.Term.{Term, par, res}
 use Rattle.terms.specs.Encoding.{encode, InScope}
 use Rattle.terms.specs.Question.{Question}
+use Rattle.candidates.specs.Bodies.{bodyOf}
+use Rattle.candidates.specs.Passing.{candidates}
+use Rattle.candidates.specs.Raw.{Candidate, blocked, leftSteps, rightSteps, restricted, communication, communications, visible, silent}
+use Rattle.candidates.proofs.CandidateForms.{candidates-res}
+use Rattle.candidates.proofs.Numbering.{nth-restricted, length-communications, nth-communication}
+use Rattle.candidates.proofs.TwoSides.{sides-par}
 use Rattle.steps.specs.Contexts.{Frame, leftOf, rightOf, beneath, fill, raised, restrictions, bytesBefore, bytesBehind, Numbered, Placed, beforeIn, behindIn, levelIn}
-use Rattle.steps.specs.Listing.{bodyOf}
 use Rattle.steps.specs.PartLister.{Lists}
-use Rattle.steps.specs.Passing.{candidates}
-use Rattle.steps.specs.Raw.{Candidate, blocked, leftSteps, rightSteps, restricted, communication, communications, visible, silent}
-use Rattle.steps.proofs.CandidateForms.{candidates-res}
-use Rattle.steps.proofs.Numbering.{nth-restricted, length-communications, nth-communication}
-use Rattle.steps.proofs.TwoSides.{sides-par}
 
 -- The whole's bytes are those before the term, its own, and those behind it.
 pub fill-bytes-in : (d : ℕ) (K : List Frame) (C : Term) → encode d (fill K C) ≡ beforeIn d K ++ (encode (levelIn d K) C ++ behindIn d K)

@@ -13,15 +13,15 @@ use Rattle.calculus.specs.Cond.{Cond, mapP, cls, nontrivial}
 use Rattle.calculus.specs.Term.{Term, ren, _•_}
 use Rattle.calculus.proofs.Canonical.{nontrivial-~}
 use Rattle.calculus.proofs.Conditions.{cls-~}
+use Rattle.candidates.specs.Lists.{_∈_, Among}
+use Rattle.candidates.specs.Raw.{Candidate, step, blocked, matching, leftSteps, rightSteps, meet, communication, spares, sparesRestricted, outside, restrictedAction, restricted}
+use Rattle.candidates.proofs.Membership.{∈-left, ∈-right, ∈-either, ∈-map}
+use Rattle.candidates.proofs.Numbering.{not-met}
+use Rattle.candidates.proofs.Premises.{never}
 use Rattle.steps.specs.Contexts.{Frame, leftOf, rightOf, beneath, raised, restrictions, levelIn}
 use Rattle.steps.specs.Deciding.{failing, fails, decided, Again}
 use Rattle.steps.specs.Listed.{namesFrom, classesOf, kindOf, channelOf, objectOf, listedAs, canonStep}
-use Rattle.steps.specs.Lists.{_∈_, Among}
-use Rattle.steps.specs.Raw.{Candidate, step, blocked, matching, leftSteps, rightSteps, meet, communication, spares, sparesRestricted, outside, restrictedAction, restricted}
 use Rattle.steps.specs.Walking.{Trivial, stepAction}
-use Rattle.steps.proofs.Membership.{∈-left, ∈-right, ∈-either, ∈-map}
-use Rattle.steps.proofs.Numbering.{not-met}
-use Rattle.steps.proofs.Premises.{never}
 
 -- Decided once is decided.
 fails-nontrivial : (d : ℕ) (M : Cond) → fails d (nontrivial M) ≡ fails d M

@@ -9,12 +9,12 @@ use lib.ListN.{length, getD, set, take, drop, length-append, length-drop, length
 use lib.Seq.{sets, length-sets, getD-set-same, getD-set-other, ext-getD, take-all, length-take-le}
 use Rattle.terms.specs.Limits.{longestTerm}
 use Rattle.terms.proofs.Stores.{span, length-span, getD-span}
+use Rattle.candidates.specs.Lists.{All}
 use Rattle.steps.specs.Derived.{Ascending}
 use Rattle.steps.specs.Entries.{entryFrom, placeAt, entryAt, isBefore, comesBefore, Alike, EntriesAscend, PlaceIs, stepAt, Indexed, InsertIs}
 use Rattle.steps.specs.Limits.{mostSteps, stepBytes, indexPlace, listRoom}
 use Rattle.steps.specs.Listed.{ListedStep, bytes}
 use Rattle.steps.specs.Listing.{order, insert}
-use Rattle.steps.specs.Lists.{All}
 use Rattle.steps.proofs.ByteOrder.{before-order}
 use Rattle.steps.proofs.EntryOrder.{comes-before, order-same-bytes, order-behind, not-before, length-entry}
 use Rattle.steps.proofs.Moves.{getD-before, getD-behind, getD-stored}

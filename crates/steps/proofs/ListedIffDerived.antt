@@ -20,16 +20,17 @@ use Rattle.terms.specs.Limits.{nameCount, longestTerm}
 use Rattle.terms.specs.Question.{Question, checkOf}
 use Rattle.terms.proofs.Answers.{result-injective, bind-result, need-result, both-true}
 use Rattle.terms.proofs.WellFormed.{BodiesAllowed, PartAllowed, WellFormed, accepted-well-formed}
+use Rattle.candidates.specs.Bodies.{bodyOf}
+use Rattle.candidates.proofs.Calls.{Opens}
+use Rattle.candidates.proofs.QuestionDefinitions.{bodies-in-scope, opens-one}
+use Rattle.candidates.proofs.Scope.{CallsInScope, scope-calls}
 use Rattle.steps.specs.Derived.{Derived, ListsExactly}
 use Rattle.steps.specs.Limits.{mostSteps, stepBytes}
 use Rattle.steps.specs.Listed.{ListedStep}
-use Rattle.steps.specs.Listing.{Listing, listed, listing, bodyOf, stepsOf}
+use Rattle.steps.specs.Listing.{Listing, listed, listing, stepsOf}
 use Rattle.steps.specs.Operations.{sideOf, isNew, listOf, listBytes}
-use Rattle.steps.proofs.Calls.{Opens}
 use Rattle.steps.proofs.ListedBytes.{length-listBytes}
 use Rattle.steps.proofs.ListingLaws.{listing-sizes, derived-well, listing-exact}
-use Rattle.steps.proofs.QuestionDefinitions.{bodies-in-scope, opens-one}
-use Rattle.steps.proofs.Scope.{CallsInScope, scope-calls}
 
 -- For every term in scope under the definitions of a question.
 module _ (arities : List ℕ) (bodies : List Term) (allowed : BodiesAllowed arities arities bodies)

@@ -18,17 +18,17 @@ use Rattle.calculus.proofs.Working.{Trans}
 use Rattle.calculus.proofs.WorkingNames.{resid-free}
 use Rattle.terms.specs.Encoding.{InScope}
 use Rattle.terms.proofs.ScopeLaws.{free-below}
-use Rattle.steps.specs.Raw.{Candidate, step, blocked, visible, silent}
+use Rattle.candidates.specs.Raw.{Candidate, step, blocked, visible, silent}
+use Rattle.candidates.specs.Lists.{_∈_, All, Distinct}
+use Rattle.candidates.proofs.Membership.{all-++, all-imp, all-∈, distinct-length}
+use Rattle.candidates.proofs.Calls.{Opens}
+use Rattle.candidates.proofs.Scope.{CallsInScope, scope-calls, in-scope, calls-ren, calls-residual}
 use Rattle.steps.specs.Listed.{ListedStep, listedAs, canonStep, resultBytes, bytes}
 use Rattle.steps.specs.Listing.{collect, unsettled, listed, limited, listing}
-use Rattle.steps.specs.Lists.{_∈_, All, Distinct}
 use Rattle.steps.specs.Derived.{Ascending, Derived, TooMany, TooLong, ListsExactly}
-use Rattle.steps.proofs.Membership.{all-++, all-imp, all-∈, distinct-length}
 use Rattle.steps.proofs.ByteOrder.{before-irreflexive}
-use Rattle.steps.proofs.Calls.{Opens}
 use Rattle.steps.proofs.RawSound.{Sound, visible-sound, silent-sound}
 use Rattle.steps.proofs.ClassLists.{length-classes}
-use Rattle.steps.proofs.Scope.{CallsInScope, scope-calls, in-scope, calls-ren, calls-residual}
 use Rattle.steps.proofs.ListedBytes.{WellListed, bytes-determine, step-size}
 use Rattle.steps.proofs.Sorted.{Precedes, Sorted, sorted-ascending, OfCandidate, collect-sorted, collect-all, collect-new}
 use Rattle.steps.proofs.CanonSteps.{derived, derived-raw}

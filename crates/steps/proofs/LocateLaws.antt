@@ -12,15 +12,15 @@ use Rattle.terms.specs.Answer.{result}
 use Rattle.terms.specs.Encoding.{encode, InScope}
 use Rattle.terms.specs.Limits.{nameCount}
 use Rattle.terms.specs.Question.{Question, checkOf}
+use Rattle.candidates.specs.Bodies.{bodyOf}
+use Rattle.candidates.specs.Passing.{candidates, MiddleIs}
+use Rattle.candidates.specs.Raw.{Candidate, blocked, restricted, visible}
+use Rattle.candidates.specs.Tally.{visibleAt, TallyIs}
+use Rattle.candidates.proofs.CandidateForms.{candidates-res, tag-at, only-par, only-res}
+use Rattle.candidates.proofs.Numbering.{nth-restricted}
+use Rattle.candidates.proofs.TwoSides.{sides-par, at-left, middle-is, behind}
 use Rattle.steps.specs.Contexts.{leftOf, rightOf, beneath, fill, raised, levelIn, beforeIn}
-use Rattle.steps.specs.Listing.{bodyOf}
 use Rattle.steps.specs.Locating.{Component, Leads}
-use Rattle.steps.specs.Passing.{candidates, MiddleIs}
-use Rattle.steps.specs.Raw.{Candidate, blocked, restricted, visible}
-use Rattle.steps.specs.Tally.{visibleAt, TallyIs}
-use Rattle.steps.proofs.CandidateForms.{candidates-res, tag-at, only-par, only-res}
-use Rattle.steps.proofs.Numbering.{nth-restricted}
-use Rattle.steps.proofs.TwoSides.{sides-par, at-left, middle-is, behind}
 
 module _ (s t : List ℕ) (at depth i : ℕ) where
   pub lead-start : Leads s t at depth i at depth i

@@ -13,16 +13,16 @@ use Rattle.calculus.specs.Abstraction.{Act, tauA, inpA, outA, boutA}
 use Rattle.calculus.specs.Cond.{Cond, join, cls}
 use Rattle.calculus.specs.Term.{Term}
 use Rattle.terms.specs.Limits.{nameCount}
+use Rattle.candidates.specs.Labels.{actionOf, ActionBelow}
+use Rattle.candidates.specs.Raw.{Candidate, step, blocked, meet, communication}
+use Rattle.candidates.specs.Slots.{slotOf}
+use Rattle.candidates.specs.declared.action.Action.the-variants.{Input, Output, NewOutput}
+use Rattle.candidates.proofs.Numbering.{not-met}
 use Rattle.steps.specs.Contexts.{Frame, raised, restrictions}
-use Rattle.steps.specs.Labels.{actionOf, ActionBelow}
 use Rattle.steps.specs.Meeting.{firstMerged, lastMerged, isBetween, meetsBetween, mayMeet}
-use Rattle.steps.specs.Raw.{Candidate, step, blocked, meet, communication}
 use Rattle.steps.specs.Rows.{rowBytes, kindAt, channelAt, actionKind, rowAction, Does, Outlined}
-use Rattle.steps.specs.Slots.{slotOf}
 use Rattle.steps.specs.Walking.{Trivial}
-use Rattle.steps.specs.declared.action.Action.the-variants.{Input, Output, NewOutput}
 use Rattle.steps.proofs.ContextLaws.{raised-blocked}
-use Rattle.steps.proofs.Numbering.{not-met}
 use Rattle.steps.proofs.RaisedMeetings.{raised-same, raised-free, raised-apart, slot-of-free, bound-slot, slot-one}
 
 -- The action is an input on a channel (true), or an output (false).

@@ -13,18 +13,18 @@ use Rattle.calculus.specs.Term.{Term, par, ren, inst}
 use Rattle.calculus.proofs.Renaming.{ren-id}
 use Rattle.terms.specs.Limits.{nameCount}
 use Rattle.terms.proofs.Answers.{both-true}
+use Rattle.candidates.specs.Labels.{actionOf, ActionBelow}
+use Rattle.candidates.specs.Passing.{candidates}
+use Rattle.candidates.specs.Raw.{Candidate, step, meet, communication}
+use Rattle.candidates.specs.Results.{receiving}
+use Rattle.candidates.specs.Slots.{slotOf}
 use Rattle.steps.specs.Collecting.{PutIs}
 use Rattle.steps.specs.Contexts.{Frame, raised, restrictions}
 use Rattle.steps.specs.Deciding.{decided}
-use Rattle.steps.specs.Labels.{actionOf, ActionBelow}
 use Rattle.steps.specs.Locating.{Unextruded, TakeMetIs}
 use Rattle.steps.specs.Meeting.{mayMeet, senderOf, sendsFree, Unblocked, PairIs}
 use Rattle.steps.specs.PartLister.{candidatesOf, TakeIs}
-use Rattle.steps.specs.Passing.{candidates}
-use Rattle.steps.specs.Raw.{Candidate, step, meet, communication}
-use Rattle.steps.specs.Results.{receiving}
 use Rattle.steps.specs.Rows.{actionKind, rowAction, Outlined}
-use Rattle.steps.specs.Slots.{slotOf}
 use Rattle.steps.specs.Walking.{Trivial, stepAction, PutPlacedIs, PutClassedIs}
 use Rattle.steps.specs.declared.meet.Side.{Side}
 use Rattle.steps.proofs.DecidingLaws.{decided-step, met-like, like-trivial}

@@ -15,26 +15,27 @@ use Rattle.calculus.specs.Term.{Term, par}
 use Rattle.calculus.proofs.Renaming.{map-++}
 use Rattle.terms.specs.Limits.{nameCount, longestTerm}
 use Rattle.terms.specs.Question.{Question}
+use Rattle.candidates.specs.Bodies.{bodyOf}
+use Rattle.candidates.specs.Lists.{_∈_, Among}
+use Rattle.candidates.specs.Passing.{candidates}
+use Rattle.candidates.specs.Raw.{Candidate, blocked, communication, communications, visible, silent}
+use Rattle.candidates.proofs.Membership.{∈-left, ∈-right, ∈-map, ∈-mapped, take-map}
+use Rattle.candidates.proofs.Numbering.{nth-by, not-met, length-communications, nth-communication}
+use Rattle.candidates.proofs.TwoSides.{sides-par}
 use Rattle.steps.specs.Collecting.{Found, PutIs, CollectIs}
 use Rattle.steps.specs.Contexts.{Frame, raised, restrictions, Placed}
 use Rattle.steps.specs.Deciding.{decided, Again}
 use Rattle.steps.specs.Limits.{mostSteps}
-use Rattle.steps.specs.Listing.{bodyOf, collect}
+use Rattle.steps.specs.Listing.{collect}
 use Rattle.steps.specs.Listed.{ListedStep}
-use Rattle.steps.specs.Lists.{_∈_, Among}
 use Rattle.steps.specs.Meeting.{mayMeet, NextMetIs, Unblocked, PairIs, MeetRowIs}
-use Rattle.steps.specs.Passing.{candidates}
 use Rattle.steps.specs.PartLister.{Lists}
-use Rattle.steps.specs.Raw.{Candidate, blocked, communication, communications, visible, silent}
 use Rattle.steps.specs.Rows.{kindAt, channelAt, objectAt, Row, RowsBehind, Rows}
 use Rattle.steps.specs.Walking.{MeetsIs}
 use Rattle.steps.proofs.CollectLaws.{put-blocked, collect-none, collect-then, collect-over, collect-again, Progresses, progress-start, progress-step, progress-again, progress-done, progress-passed}
 use Rattle.steps.proofs.ContextLaws.{raised-blocked}
 use Rattle.steps.proofs.DecidingLaws.{decided-raised, decided-communication, met-blocked, again-by}
 use Rattle.steps.proofs.MeetLaws.{meets-new, pair-apart}
-use Rattle.steps.proofs.Membership.{∈-left, ∈-right, ∈-map, ∈-mapped, take-map}
-use Rattle.steps.proofs.Numbering.{nth-by, not-met, length-communications, nth-communication}
-use Rattle.steps.proofs.TwoSides.{sides-par}
 
 -- The communications of s with each of ts, as candidates of the whole.
 abbrev pub met : List Frame → Candidate → List Candidate → List Candidate

@@ -15,21 +15,21 @@ use Rattle.calculus.proofs.Renaming.{ren-id}
 use Rattle.terms.specs.Encoding.{encode, InScope}
 use Rattle.terms.specs.Limits.{nameCount, tableNames}
 use Rattle.terms.specs.Question.{Question}
+use Rattle.candidates.specs.Bodies.{bodyOf}
+use Rattle.candidates.specs.Names.{HasNew}
+use Rattle.candidates.specs.Passing.{MiddleIs}
+use Rattle.candidates.specs.Raw.{Candidate, step, blocked, leftSteps, rightSteps, sparesRestricted, outside, restrictedAction, restricted, visible}
+use Rattle.candidates.specs.Results.{receiving}
+use Rattle.candidates.specs.Slots.{slotOf}
+use Rattle.candidates.specs.Tally.{TallyIs}
+use Rattle.candidates.proofs.FrontLaws.{stands}
+use Rattle.candidates.proofs.NameSlots.{slot-bound, slot-free, new-beneath}
 use Rattle.steps.specs.Contexts.{Frame, leftOf, rightOf, beneath, fill, raised, levelIn, restrictions, beforeIn, behindIn, bytesBefore, bytesBehind, Placed}
-use Rattle.steps.specs.Listing.{bodyOf}
 use Rattle.steps.specs.Locating.{Component, Leads, LocateIs, Holes, PutMetIs, Unextruded, tableSlot, TakeMetIs}
-use Rattle.steps.specs.Names.{HasNew}
-use Rattle.steps.specs.Passing.{MiddleIs}
 use Rattle.steps.specs.PartLister.{Lists}
-use Rattle.steps.specs.Raw.{Candidate, step, blocked, leftSteps, rightSteps, sparesRestricted, outside, restrictedAction, restricted, visible}
-use Rattle.steps.specs.Results.{receiving}
-use Rattle.steps.specs.Slots.{slotOf}
-use Rattle.steps.specs.Tally.{TallyIs}
 use Rattle.steps.specs.Walking.{Unopened}
 use Rattle.steps.specs.declared.locate.Located.{Located}
 use Rattle.steps.proofs.ContextLaws.{fill-bytes, fill-bytes-in, level-before, placed-left, placed-right, placed-bytes, placed-depth}
-use Rattle.steps.proofs.FrontLaws.{stands}
-use Rattle.steps.proofs.NameSlots.{slot-bound, slot-free, new-beneath}
 use Rattle.steps.proofs.PlacedResults.{raised-never, filled-result}
 
 -- An output stays one.

@@ -11,17 +11,17 @@ use Rattle.terms.specs.Answer.{result}
 use Rattle.terms.specs.Encoding.{encode}
 use Rattle.terms.specs.Limits.{nameCount}
 use Rattle.terms.specs.Question.{Question, checkOf}
-use Rattle.steps.specs.Listing.{bodyOf}
+use Rattle.candidates.specs.Bodies.{bodyOf}
+use Rattle.candidates.specs.Names.{OwnNames}
+use Rattle.candidates.specs.Passing.{candidates}
+use Rattle.candidates.specs.Raw.{blocked}
+use Rattle.candidates.specs.Results.{chosen, Written, WriteIs}
+use Rattle.candidates.specs.Tally.{endAt, TallyIs}
+use Rattle.candidates.proofs.FrontLaws.{stands, behind}
+use Rattle.candidates.proofs.NameSlots.{names-own}
+use Rattle.candidates.proofs.ResultLaws.{written-to, written-then, written-stop}
 use Rattle.steps.specs.Locating.{Hole, HoleIs, Holes, MetResultIs}
-use Rattle.steps.specs.Names.{OwnNames}
-use Rattle.steps.specs.Passing.{candidates}
-use Rattle.steps.specs.Raw.{blocked}
-use Rattle.steps.specs.Results.{chosen, Written, WriteIs}
-use Rattle.steps.specs.Tally.{endAt, TallyIs}
 use Rattle.steps.specs.declared.locate.Located.{Located}
-use Rattle.steps.proofs.FrontLaws.{stands, behind}
-use Rattle.steps.proofs.NameSlots.{names-own}
-use Rattle.steps.proofs.ResultLaws.{written-to, written-then, written-stop}
 
 -- Where a component stands.
 hole-stands : (q : Question) (part : List ℕ) (from : ℕ) (l : Located) (new : ℕ) (before bs after : List ℕ) (H : Hole q part from l new before bs after)

@@ -26,8 +26,9 @@ use Rattle.terms.proofs.FramingLaws.{Bytes, Framable}
 use Rattle.terms.proofs.Places.{allFields, definitions-of, field-is}
 use Rattle.terms.proofs.QuestionPlaces.{framable, accepted-joined}
 use Rattle.terms.proofs.WellFormed.{PartAllowed, accepted-well-formed}
+use Rattle.candidates.specs.Bodies.{AritiesIs}
+use Rattle.candidates.proofs.QuestionDefinitions.{definitions}
 use Rattle.steps.specs.Answering.{stepsAnswer, DoesList, sideTerm, SideIs, ListsInto}
-use Rattle.steps.specs.Bodies.{AritiesIs}
 use Rattle.steps.specs.Limits.{mostSteps, stepBytes}
 use Rattle.steps.specs.Listing.{Listing, unsettled, listed, stepsOf}
 use Rattle.steps.specs.Operations.{sideOf, isNew, listOf, listBytes, areaAfter}
@@ -37,7 +38,6 @@ use Rattle.steps.specs.declared.list.ListAnswer.the-variants as part
 use Rattle.steps.specs.declared.operation.StepsAnswer.{StepsAnswer}
 use Rattle.steps.specs.declared.operation.StepsAnswer.the-variants.{Refused, Unsettled, Count}
 use Rattle.steps.proofs.ListedIffDerived.{steps-length, side-allowed}
-use Rattle.steps.proofs.QuestionDefinitions.{definitions}
 
 -- The list of a part, made in an area of its own, and copied.
 module _ (question bytes : List ℕ) (x : ℕ) (own′ area : List ℕ) (space : mostSteps * stepBytes ≤ length area) where

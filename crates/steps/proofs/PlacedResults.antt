@@ -16,20 +16,20 @@ use Rattle.terms.specs.Encoding.{encode}
 use Rattle.terms.specs.Limits.{nameCount}
 use Rattle.terms.specs.Question.{Question}
 use Rattle.terms.proofs.Stores.{sets-join}
+use Rattle.candidates.specs.Bodies.{bodyOf}
+use Rattle.candidates.specs.Names.{OwnNames}
+use Rattle.candidates.specs.Passing.{candidates}
+use Rattle.candidates.specs.Raw.{step, blocked, leftSteps, rightSteps, sparesRestricted, outside, restrictedAction, restricted}
+use Rattle.candidates.specs.Results.{receiving, chosen, Written, WriteIs}
+use Rattle.candidates.specs.Tally.{endAt, TallyIs}
+use Rattle.candidates.proofs.NameSlots.{names-own, new-own}
+use Rattle.candidates.proofs.PlanLaws.{weak-received}
+use Rattle.candidates.proofs.Premises.{never}
 use Rattle.steps.specs.Contexts.{Frame, leftOf, rightOf, beneath, fill, raised, restrictions, bytesBefore, bytesBehind, levelIn}
 use Rattle.steps.specs.Listed.{canonStep, resultBytes}
-use Rattle.steps.specs.Listing.{bodyOf}
-use Rattle.steps.specs.Names.{OwnNames}
 use Rattle.steps.specs.PartLister.{Lists}
-use Rattle.steps.specs.Passing.{candidates}
-use Rattle.steps.specs.Raw.{step, blocked, leftSteps, rightSteps, sparesRestricted, outside, restrictedAction, restricted}
-use Rattle.steps.specs.Results.{receiving, chosen, Written, WriteIs}
-use Rattle.steps.specs.Tally.{endAt, TallyIs}
 use Rattle.steps.specs.Walking.{Unopened, Trivial, Raises, PlacedResultIs}
 use Rattle.steps.proofs.ContextLaws.{fill-bytes, raised-blocked, placed-split, placed-bytes, placed-length}
-use Rattle.steps.proofs.NameSlots.{names-own, new-own}
-use Rattle.steps.proofs.PlanLaws.{weak-received}
-use Rattle.steps.proofs.Premises.{never}
 use Rattle.steps.proofs.TakeLaws.{receiving-canonical}
 
 -- No step is made of what is blocked.

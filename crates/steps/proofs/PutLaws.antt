@@ -12,15 +12,15 @@ use Rattle.calculus.specs.Cond.{Cond}
 use Rattle.calculus.proofs.Renaming.{ren-id}
 use Rattle.terms.specs.Encoding.{encode}
 use Rattle.terms.specs.Limits.{nameCount, longestTerm}
+use Rattle.candidates.specs.Names.{OwnNames}
+use Rattle.candidates.specs.Results.{receiving}
 use Rattle.steps.specs.Collecting.{PutIs}
 use Rattle.steps.specs.Entries.{InsertIs}
 use Rattle.steps.specs.EntryBytes.{entryBytes}
 use Rattle.steps.specs.Limits.{mostSteps}
 use Rattle.steps.specs.Listed.{kindOf, channelOf, objectOf, canonStep, resultBytes}
 use Rattle.steps.specs.Locating.{MetResultIs, PutMetIs}
-use Rattle.steps.specs.Names.{OwnNames}
 use Rattle.steps.specs.PartLister.{ResultIs}
-use Rattle.steps.specs.Results.{receiving}
 use Rattle.steps.specs.Walking.{Trivial, PlacedResultIs, stepAction, PutResultIs, PutPlacedIs, PutClassedIs}
 use Rattle.steps.specs.declared.listed.ActionBytes.{ActionBytes}
 use Rattle.steps.specs.declared.locate.Located.{Located}

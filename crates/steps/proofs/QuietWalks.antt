@@ -12,19 +12,18 @@ use Rattle.calculus.specs.Abstraction.{tauA}
 use Rattle.calculus.specs.Term.{Term, res, call, lift, ren}
 use Rattle.terms.specs.Encoding.{encode, InScope}
 use Rattle.terms.specs.Question.{Question}
-use Rattle.steps.specs.Bodies.{BodyIs, OpeningIs}
-use Rattle.steps.specs.Listing.{bodyOf}
-use Rattle.steps.specs.Passing.{candidates, MiddleIs}
-use Rattle.steps.specs.Raw.{Candidate, step, blocked, sparesRestricted, restrictedAction, restricted, silent, silentOf, silentCalls}
+use Rattle.candidates.specs.Bodies.{BodyIs, OpeningIs, bodyOf}
+use Rattle.candidates.specs.Passing.{candidates, MiddleIs}
+use Rattle.candidates.specs.Raw.{Candidate, step, blocked, sparesRestricted, restrictedAction, restricted, silent, silentOf, silentCalls}
+use Rattle.candidates.specs.Tally.{silentAt, TallyIs}
+use Rattle.candidates.specs.declared.bodies.Opening.{Opening}
+use Rattle.candidates.proofs.CallLaws.{params, at-call, body-scope}
+use Rattle.candidates.proofs.CandidateForms.{candidates-call, tag-at, only-sum, only-res, only-prefix}
+use Rattle.candidates.proofs.FrontLaws.{stands, behind}
+use Rattle.candidates.proofs.Numbering.{nth-restricted}
+use Rattle.candidates.proofs.TwoSides.{at-left}
+use Rattle.candidates.proofs.TwoSides as two
 use Rattle.steps.specs.Rows.{Unconditional, QuietIs}
-use Rattle.steps.specs.Tally.{silentAt, TallyIs}
-use Rattle.steps.specs.declared.bodies.Opening.{Opening}
-use Rattle.steps.proofs.CallLaws.{params, at-call, body-scope}
-use Rattle.steps.proofs.CandidateForms.{candidates-call, tag-at, only-sum, only-res, only-prefix}
-use Rattle.steps.proofs.FrontLaws.{stands, behind}
-use Rattle.steps.proofs.Numbering.{nth-restricted}
-use Rattle.steps.proofs.TwoSides.{at-left}
-use Rattle.steps.proofs.TwoSides as two
 
 -- Candidates that are steps without a condition: none, one, those of two terms, and those beneath a restriction.
 no-condition : (cs : List Candidate) → length cs ≡ 0 → Unconditional cs

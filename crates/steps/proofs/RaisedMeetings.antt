@@ -9,11 +9,11 @@ use lib.Dec.{ltb}
 use Rattle.calculus.specs.Abstraction.{tauA}
 use Rattle.calculus.specs.Cond.{Cond, mapP}
 use Rattle.calculus.specs.Term.{Term, par, res}
+use Rattle.candidates.specs.Raw.{step, blocked, leftSteps, rightSteps, restricted, spares, sparesRestricted, outside, restrictedAction}
+use Rattle.candidates.specs.Slots.{slotOf}
+use Rattle.candidates.proofs.NameSlots.{slot-bound, slot-free}
 use Rattle.steps.specs.Contexts.{Frame, leftOf, rightOf, beneath, raised, restrictions, levelIn}
-use Rattle.steps.specs.Raw.{step, blocked, leftSteps, rightSteps, restricted, spares, sparesRestricted, outside, restrictedAction}
-use Rattle.steps.specs.Slots.{slotOf}
 use Rattle.steps.proofs.ContextLaws.{raised-blocked}
-use Rattle.steps.proofs.NameSlots.{slot-bound, slot-free}
 
 -- A match of a name with itself.
 pub raised-same : (K : List Frame) (a : ℕ) (A : Term)

@@ -13,19 +13,19 @@ use Rattle.calculus.specs.Abstraction.{Act, tauA, inpA, outA, boutA, swap, weak
 use Rattle.calculus.specs.Cond.{Cond, mapP}
 use Rattle.calculus.specs.Term.{Term, par, res, ren}
 use Rattle.terms.specs.Limits.{nameCount}
+use Rattle.candidates.specs.Labels.{actionOf, ActionBelow}
+use Rattle.candidates.specs.Raw.{Candidate, step, blocked, matching, leftSteps, rightSteps, sparesRestricted, outside, restrictedAction, restricted, visible, visibleOf}
+use Rattle.candidates.specs.Lists.{_∈_, Among}
+use Rattle.candidates.specs.Slots.{slotOf}
+use Rattle.candidates.specs.declared.action.Action.{Action}
+use Rattle.candidates.specs.declared.action.Action.the-variants.{Silent, Input, Output, NewOutput}
+use Rattle.candidates.proofs.Membership.{∈-left, ∈-right, ∈-nth, take-map, within-either}
+use Rattle.candidates.proofs.NameSlots.{slot-inner}
+use Rattle.candidates.proofs.Numbering.{nth-matching, nth-leftSteps, nth-rightSteps, nth-restricted}
+use Rattle.candidates.proofs.SlotLaws.{slot-restricted, slot-outside}
 use Rattle.steps.specs.Deciding.{decided, Again}
-use Rattle.steps.specs.Labels.{actionOf, ActionBelow}
-use Rattle.steps.specs.Raw.{Candidate, step, blocked, matching, leftSteps, rightSteps, sparesRestricted, outside, restrictedAction, restricted, visible, visibleOf}
-use Rattle.steps.specs.Lists.{_∈_, Among}
 use Rattle.steps.specs.Rows.{rowBytes, kindAt, channelAt, objectAt, actionKind, rowAction, Does, Outlined, Row, RowsBehind, Rows, Matched, RowsKept}
-use Rattle.steps.specs.Slots.{slotOf}
-use Rattle.steps.specs.declared.action.Action.{Action}
-use Rattle.steps.specs.declared.action.Action.the-variants.{Silent, Input, Output, NewOutput}
 use Rattle.steps.proofs.DecidingLaws.{judged, judged-blocked, decided-matching, decided-left, decided-right, decided-restricted, decided-trivial, again-more, again-by, again-trivial}
-use Rattle.steps.proofs.Membership.{∈-left, ∈-right, ∈-nth, take-map, within-either}
-use Rattle.steps.proofs.NameSlots.{slot-inner}
-use Rattle.steps.proofs.Numbering.{nth-matching, nth-leftSteps, nth-rightSteps, nth-restricted}
-use Rattle.steps.proofs.SlotLaws.{slot-restricted, slot-outside}
 
 -- The action of a row.
 module _ (d kind channel object : ℕ) where

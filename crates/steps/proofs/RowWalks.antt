@@ -18,27 +18,26 @@ use Rattle.terms.specs.Encoding.{nameByte, encode, InScope}
 use Rattle.terms.specs.Limits.{nameCount}
 use Rattle.terms.specs.Question.{Question, checkOf}
 use Rattle.terms.proofs.Stores.{getD-front}
-use Rattle.steps.specs.Bodies.{BodyIs, OpeningIs}
+use Rattle.candidates.specs.Bodies.{BodyIs, OpeningIs, bodyOf}
+use Rattle.candidates.specs.Labels.{actionOf, ActionBelow}
+use Rattle.candidates.specs.LabelWalk.{slotAt, HasSlots, ArgumentsIs}
+use Rattle.candidates.specs.Passing.{candidates, MiddleIs}
+use Rattle.candidates.specs.Raw.{Candidate, step, blocked, matching, leftSteps, rightSteps, restricted, visible, visibleOf, visibleCalls}
+use Rattle.candidates.specs.Slots.{slotOf}
+use Rattle.candidates.specs.Tally.{visibleAt, TallyIs}
+use Rattle.candidates.specs.declared.action.Action.the-variants.{Input, Output, NewOutput}
+use Rattle.candidates.specs.declared.bodies.Opening.{Opening}
+use Rattle.candidates.proofs.ArgumentSlots.{slots-lift, slot-read, slots-call}
+use Rattle.candidates.proofs.CallLaws.{params, at-call, body-scope}
+use Rattle.candidates.proofs.CandidateForms.{candidates-call, tag, tag-at, only-mat, only-res, only-two, only-prefix}
+use Rattle.candidates.proofs.FrontLaws.{stands, behind}
+use Rattle.candidates.proofs.SlotLaws.{slot-below}
+use Rattle.candidates.proofs.TwoSides.{at-left}
+use Rattle.candidates.proofs.TwoSides as two
 use Rattle.steps.specs.Deciding.{fails, decided}
-use Rattle.steps.specs.Labels.{actionOf, ActionBelow}
-use Rattle.steps.specs.LabelWalk.{slotAt, HasSlots, ArgumentsIs}
-use Rattle.steps.specs.Listing.{bodyOf}
-use Rattle.steps.specs.Passing.{candidates, MiddleIs}
-use Rattle.steps.specs.Raw.{Candidate, step, blocked, matching, leftSteps, rightSteps, restricted, visible, visibleOf, visibleCalls}
 use Rattle.steps.specs.Rows.{rowBytes, mostRows, kindAt, channelAt, objectAt, actionKind, rowAction, Outlined, Row, RowsBehind, Rows, Matched, RowsKept, PutRowIs, PutRepeatedIs, sentSlot, prefixKind, PrefixRowIs, isTrivial, Offers, rootOf, RepeatedIs, ScanIs}
-use Rattle.steps.specs.Slots.{slotOf}
-use Rattle.steps.specs.Tally.{visibleAt, TallyIs}
-use Rattle.steps.specs.declared.action.Action.the-variants.{Input, Output, NewOutput}
-use Rattle.steps.specs.declared.bodies.Opening.{Opening}
-use Rattle.steps.proofs.ArgumentSlots.{slots-lift, slot-read, slots-call}
-use Rattle.steps.proofs.CallLaws.{params, at-call, body-scope}
-use Rattle.steps.proofs.CandidateForms.{candidates-call, tag, tag-at, only-mat, only-res, only-two, only-prefix}
 use Rattle.steps.proofs.ChoiceLaws.{trivial-slots, trivial-names, offers-alone, offers-left, offers-beneath, offers-right}
-use Rattle.steps.proofs.FrontLaws.{stands, behind}
 use Rattle.steps.proofs.RowLaws.{row-input, row-output, row-new, rows-again, rows-more, rows-append, rows-matching, rows-trivial, rows-par, rows-res, kind-kept, rows-kept, matched-kept, kept-all, kept-then}
-use Rattle.steps.proofs.SlotLaws.{slot-below}
-use Rattle.steps.proofs.TwoSides.{at-left}
-use Rattle.steps.proofs.TwoSides as two
 
 matched-none : (rows : List ℕ) (n : ℕ) → Matched 0 rows n
 unfolding Matched

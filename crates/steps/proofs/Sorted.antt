@@ -7,15 +7,15 @@ use Prim.Native.Nat.{ℕ, Ordering, Ordering·lt, Ordering·eq, Ordering·gt}
 use Rattle.calculus.specs.Abstraction.{Act}
 use Rattle.calculus.specs.Term.{Term}
 use Rattle.calculus.specs.Cond.{Cond}
+use Rattle.candidates.specs.Raw.{Candidate, step, blocked}
+use Rattle.candidates.specs.Lists.{_∈_, All}
+use Rattle.candidates.proofs.Membership.{all-imp, all-∈}
+use Rattle.candidates.proofs.Premises.{never}
 use Rattle.steps.specs.Deciding.{decided, Again}
 use Rattle.steps.specs.Derived.{Ascending}
-use Rattle.steps.specs.Raw.{Candidate, step, blocked}
 use Rattle.steps.specs.Listed.{ListedStep, canonStep, bytes}
 use Rattle.steps.specs.Listing.{order, insert, collect}
-use Rattle.steps.specs.Lists.{_∈_, All}
 use Rattle.steps.proofs.DecidingLaws.{like-of, like-listed, outside-blocked}
-use Rattle.steps.proofs.Membership.{all-imp, all-∈}
-use Rattle.steps.proofs.Premises.{never}
 use Rattle.steps.proofs.ByteOrder.{Before, Says, ordered, before-irreflexive, before-trans, before-order, order-before}
 
 module _ (longest : ℕ) where

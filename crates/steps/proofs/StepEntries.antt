@@ -8,12 +8,12 @@ use lib.ListN.{getD}
 use Rattle.calculus.specs.Abstraction.{Act, tauA, inpA, outA, boutA}
 use Rattle.calculus.specs.Cond.{Cond, mapP, cls}
 use Rattle.terms.specs.Limits.{nameCount}
+use Rattle.candidates.specs.Labels.{actionOf, ActionBelow}
+use Rattle.candidates.specs.Slots.{slotOf, HasClasses}
+use Rattle.candidates.proofs.NameSlots.{slot-free}
 use Rattle.steps.specs.EntryBytes.{actionBytes}
-use Rattle.steps.specs.Labels.{actionOf, ActionBelow}
-use Rattle.steps.specs.Slots.{slotOf, HasClasses}
 use Rattle.steps.specs.Walking.{stepAction}
 use Rattle.steps.specs.declared.listed.ActionBytes.{ActionBytes}
-use Rattle.steps.proofs.NameSlots.{slot-free}
 
 -- Outside every restriction slots are names.
 pub slot-name : (names n : ℕ) → slotOf names 0 n ≡ n

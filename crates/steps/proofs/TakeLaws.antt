@@ -14,23 +14,23 @@ use Rattle.calculus.proofs.Renaming.{ren-id}
 use Rattle.terms.specs.Encoding.{encode}
 use Rattle.terms.specs.Limits.{nameCount, tableNames}
 use Rattle.terms.specs.Question.{Question}
+use Rattle.candidates.specs.LabelWalk.{NthIs}
+use Rattle.candidates.specs.Labels.{Labels}
+use Rattle.candidates.specs.Bodies.{bodyOf}
+use Rattle.candidates.specs.Names.{nameSlots, HasNames, HasNew}
+use Rattle.candidates.specs.Passing.{candidates}
+use Rattle.candidates.specs.Raw.{Candidate, step, blocked}
+use Rattle.candidates.specs.Results.{receiving, chosen, WriteIs}
+use Rattle.candidates.specs.declared.action.Label.{Label}
+use Rattle.candidates.specs.declared.action.Status.the-variants.{Blocked, Found}
+use Rattle.candidates.proofs.ArgumentSlots.{slots-part}
 use Rattle.steps.specs.Collecting.{PutIs}
 use Rattle.steps.specs.EntryBytes.{actionBytes}
-use Rattle.steps.specs.LabelWalk.{NthIs}
-use Rattle.steps.specs.Labels.{Labels}
 use Rattle.steps.specs.Limits.{mostSteps}
 use Rattle.steps.specs.Listed.{listedAs, canonStep, resultBytes}
-use Rattle.steps.specs.Listing.{bodyOf}
-use Rattle.steps.specs.Names.{nameSlots, HasNames, HasNew}
 use Rattle.steps.specs.PartLister.{Lists, candidatesOf, NamesAre, ResultIs, PutStepIs, TakeIs}
-use Rattle.steps.specs.Passing.{candidates}
-use Rattle.steps.specs.Raw.{Candidate, step, blocked}
-use Rattle.steps.specs.Results.{receiving, chosen, WriteIs}
 use Rattle.steps.specs.Walking.{PutClassedIs}
-use Rattle.steps.specs.declared.action.Label.{Label}
-use Rattle.steps.specs.declared.action.Status.the-variants.{Blocked, Found}
 use Rattle.steps.specs.declared.listed.ActionBytes.{ActionBytes}
-use Rattle.steps.proofs.ArgumentSlots.{slots-part}
 use Rattle.steps.proofs.CollectLaws.{put-blocked}
 use Rattle.steps.proofs.StepEntries.{slot-name, class-names, action-is}
 

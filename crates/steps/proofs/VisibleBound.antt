@@ -10,11 +10,11 @@ use Rattle.terms.specs.Encoding.{encode}
 use Rattle.terms.specs.Question.{Question}
 use Rattle.terms.proofs.ReadEncoded.{encode-some}
 use Rattle.calculus.proofs.Renaming.{ren-id}
-use Rattle.steps.specs.Listing.{bodyOf}
+use Rattle.candidates.specs.Bodies.{bodyOf}
+use Rattle.candidates.specs.Raw.{matching, leftSteps, rightSteps, restricted, visible, visibleOf, visibleCalls}
+use Rattle.candidates.proofs.CallLaws.{body-size}
 use Rattle.steps.specs.PartLister.{Lists}
-use Rattle.steps.specs.Raw.{matching, leftSteps, rightSteps, restricted, visible, visibleOf, visibleCalls}
 use Rattle.steps.specs.Rows.{mostRows}
-use Rattle.steps.proofs.CallLaws.{body-size}
 
 -- A term of b bytes has v visible candidates at most as R says, if R says so of prefixes and calls, and of two terms behind one byte.
 module _ (body : ℕ → Term) (n : ℕ) (R : ℕ → ℕ → Type 0) (none : (b : ℕ) → R 0 b) (one : (b : ℕ) → 3 ≤ b → R 1 b)

@@ -12,19 +12,19 @@ use Rattle.terms.specs.Encoding.{encode}
 use Rattle.terms.specs.Limits.{nameCount}
 use Rattle.terms.specs.Question.{Question}
 use Rattle.terms.proofs.ReadEncoded.{encode-some}
+use Rattle.candidates.specs.Bodies.{bodyOf}
+use Rattle.candidates.specs.Passing.{MiddleIs}
+use Rattle.candidates.specs.Raw.{Candidate, leftSteps, rightSteps, restricted, communications, visibleOf, visible, silent}
+use Rattle.candidates.specs.Tally.{silentAt, TallyIs}
+use Rattle.candidates.proofs.ArgumentSlots.{slots-part}
+use Rattle.candidates.proofs.CandidateForms.{tag, tag-at, only-par, only-res}
 use Rattle.steps.specs.Collecting.{CollectIs}
 use Rattle.steps.specs.Contexts.{Frame, leftOf, rightOf, beneath, raised, Placed}
 use Rattle.steps.specs.Limits.{mostSteps}
-use Rattle.steps.specs.Listing.{bodyOf}
 use Rattle.steps.specs.PartLister.{Lists}
-use Rattle.steps.specs.Passing.{MiddleIs}
-use Rattle.steps.specs.Raw.{Candidate, leftSteps, rightSteps, restricted, communications, visibleOf, visible, silent}
 use Rattle.steps.specs.Rows.{mostRows, Rows, RowsKept, ScanIs}
-use Rattle.steps.specs.Tally.{silentAt, TallyIs}
 use Rattle.steps.specs.Walking.{ownOf, walked, TakeRowsIs, TakeSilentIs, MeetsIs, WalkIs}
 use Rattle.steps.specs.declared.walk.Walked.{Walked}
-use Rattle.steps.proofs.ArgumentSlots.{slots-part}
-use Rattle.steps.proofs.CandidateForms.{tag, tag-at, only-par, only-res}
 use Rattle.steps.proofs.ChoiceLaws.{offers-alone}
 use Rattle.steps.proofs.CollectLaws.{collect-then, collect-over}
 use Rattle.steps.proofs.ComponentLaws.{silent-count}

@@ -5,13 +5,13 @@ use mathlib.Core.Logic.{_⊎_, inl, inr}
 use mathlib.Core.Path.{_≡_, refl, sym, _∙_, ap₂, subst}
 use Prim.Native.Nat.{ℕ}
 use Rattle.calculus.specs.Term.{Term, nil, tau, inp, out, bout, mat, sum, par, res, call}
+use Rattle.candidates.specs.Lists.{_∈_, Among, All}
+use Rattle.candidates.specs.Raw.{Candidate, step, blocked, leftSteps, rightSteps, restricted, communications, visibleOf, silentOf, visible, silent}
+use Rattle.candidates.proofs.Membership.{∈-left, ∈-right, ∈-either, ∈-map, ∈-mapped, within-either, within-map, all-map, all-∈, ∈-all}
 use Rattle.steps.specs.Listed.{ListedStep, bytes}
 use Rattle.steps.specs.Listing.{collect}
-use Rattle.steps.specs.Lists.{_∈_, Among, All}
-use Rattle.steps.specs.Raw.{Candidate, step, blocked, leftSteps, rightSteps, restricted, communications, visibleOf, silentOf, visible, silent}
 use Rattle.steps.specs.Walking.{ownOf, walked}
 use Rattle.steps.proofs.ByteOrder.{Before, before-irreflexive, before-trans}
-use Rattle.steps.proofs.Membership.{∈-left, ∈-right, ∈-either, ∈-map, ∈-mapped, within-either, within-map, all-map, all-∈, ∈-all}
 use Rattle.steps.proofs.Sorted.{Sorted, Precedes, OfCandidate, collect-sorted, collect-all, collect-new}
 
 -- Members of lists that are joined and mapped.

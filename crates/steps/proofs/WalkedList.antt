@@ -8,21 +8,22 @@ use lib.ListN.{length, take, length-map}
 use Rattle.calculus.specs.Term.{Term}
 use Rattle.terms.specs.Limits.{nameCount, longestTerm}
 use Rattle.terms.specs.Question.{Question}
+use Rattle.candidates.specs.Bodies.{bodyOf}
+use Rattle.candidates.specs.Lists.{_∈_, All}
+use Rattle.candidates.specs.Raw.{Candidate, step, blocked, visible, silent}
+use Rattle.candidates.proofs.Membership.{∈-map, ∈-mapped, ∈-all, all-∈}
 use Rattle.steps.specs.Arranging.{ArrangeIs}
 use Rattle.steps.specs.Collecting.{Stands, Found, CollectIs}
 use Rattle.steps.specs.Limits.{mostSteps, stepBytes}
 use Rattle.steps.specs.Listed.{ListedStep, bytes}
-use Rattle.steps.specs.Listing.{Listing, collect, unsettled, listed, limited, listing, bodyOf, stepsOf}
-use Rattle.steps.specs.Lists.{_∈_, All}
+use Rattle.steps.specs.Listing.{Listing, collect, unsettled, listed, limited, listing, stepsOf}
 use Rattle.steps.specs.Operations.{listBytes}
 use Rattle.steps.specs.PartLister.{Lists, AnswersListing, ListPartIs}
-use Rattle.steps.specs.Raw.{Candidate, step, blocked, visible, silent}
 use Rattle.steps.specs.Walking.{walked}
 use Rattle.steps.specs.declared.list.ListAnswer.the-variants.{Unsettled, Count}
 use Rattle.steps.proofs.CollectLaws.{canon-classes}
 use Rattle.steps.proofs.Limited.{Long, limited-given, limited-passed, limited-within, limited-many, limited-long}
 use Rattle.steps.proofs.ListedBytes.{step-length}
-use Rattle.steps.proofs.Membership.{∈-map, ∈-mapped, ∈-all, all-∈}
 use Rattle.steps.proofs.Sorted.{OfCandidate, collect-all}
 use Rattle.steps.proofs.WalkOrder.{walked-raw, raw-walked, same-found}
 

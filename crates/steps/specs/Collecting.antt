@@ -4,13 +4,13 @@ use mathlib.Core.Path.{_≡_}
 use Prim.Native.Nat.{ℕ, _<_, _≤_}
 use lib.ListN.{length}
 use Rattle.terms.specs.Limits.{nameCount, longestTerm}
+use Rattle.candidates.specs.Lists.{All}
+use Rattle.candidates.specs.Raw.{Candidate}
 use Rattle.steps.specs.Derived.{Ascending}
 use Rattle.steps.specs.Entries.{Sized, Indexed}
 use Rattle.steps.specs.Limits.{mostSteps}
 use Rattle.steps.specs.Listed.{ListedStep, resultBytes}
 use Rattle.steps.specs.Listing.{collect, unsettled, limited}
-use Rattle.steps.specs.Lists.{All}
-use Rattle.steps.specs.Raw.{Candidate}
 
 -- The entries of the area, in the order of the index, are the steps found, which pass no limit.
 pub record Stands (area : List ℕ) (count : ℕ) (found : List ListedStep) : Type 0 where

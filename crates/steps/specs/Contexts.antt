@@ -6,7 +6,7 @@ use lib.ListN.{length, getD}
 use Rattle.calculus.specs.Term.{Term, par, res}
 use Rattle.terms.specs.Encoding.{encode, InScope}
 use Rattle.terms.specs.Limits.{nameCount}
-use Rattle.steps.specs.Raw.{Candidate, blocked, leftSteps, rightSteps, restricted, visible, silent}
+use Rattle.candidates.specs.Raw.{Candidate, blocked, leftSteps, rightSteps, restricted, visible, silent}
 
 -- What stands around a term: it is the left side of a parallel, or the right one, or beneath a restriction.
 pub data Frame : Type 0 where

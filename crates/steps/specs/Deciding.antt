@@ -7,8 +7,8 @@ use mathlib.Core.Logic.{_⊎_}
 use Prim.Native.Nat.{ℕ}
 use lib.Dec.{eqb, ltb}
 use Rattle.calculus.specs.Cond.{Cond, nontrivial}
-use Rattle.steps.specs.Lists.{_∈_}
-use Rattle.steps.specs.Raw.{Candidate, step, blocked}
+use Rattle.candidates.specs.Lists.{_∈_}
+use Rattle.candidates.specs.Raw.{Candidate, step, blocked}
 
 -- The match of two different names, of which one is restricted: the names below d are.
 unfoldable pub failing : (d a b : ℕ) → Bool

@@ -5,11 +5,11 @@ use mathlib.Core.Path.{_≡_}
 use Prim.Native.Nat.{ℕ, _+_, _*_, _<_, _≤_, Ordering, Ordering·lt, Ordering·eq, Ordering·gt}
 use lib.ListN.{length, getD, take, drop}
 use Rattle.terms.specs.Limits.{longestTerm}
+use Rattle.candidates.specs.Lists.{All}
 use Rattle.steps.specs.Derived.{Ascending}
 use Rattle.steps.specs.Limits.{mostSteps, stepBytes, indexPlace}
 use Rattle.steps.specs.Listed.{ListedStep, bytes}
 use Rattle.steps.specs.Listing.{order, insert}
-use Rattle.steps.specs.Lists.{All}
 
 -- the entry that begins at a place of the area
 unfoldable pub entryFrom : List ℕ → ℕ → List ℕ

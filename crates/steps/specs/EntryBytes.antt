@@ -3,8 +3,8 @@ use mathlib.Core.List.{List, _∷_, _++_}
 use Prim.Native.Nat.{ℕ, _-_}
 use lib.ListN.{length, getD, take, replicate}
 use Rattle.terms.specs.Limits.{nameCount, longestTerm}
-use Rattle.steps.specs.declared.action.Action.{Action}
-use Rattle.steps.specs.declared.action.Action.the-variants.{Silent, Input, Output, NewOutput}
+use Rattle.candidates.specs.declared.action.Action.{Action}
+use Rattle.candidates.specs.declared.action.Action.the-variants.{Silent, Input, Output, NewOutput}
 use Rattle.steps.specs.declared.listed.ActionBytes.{ActionBytes}
 
 -- An action outside every restriction, where slots are names, rewritten by the condition.

@@ -15,7 +15,3 @@ indexPlace = 33792
 
 abbrev pub listRoom : ℕ
 listRoom = 34048
-
--- A part has no more candidates of one kind: 112 for each of its bytes, and the square of that.
-abbrev pub mostCandidates : ℕ
-mostCandidates = 157351936

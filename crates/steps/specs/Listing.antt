@@ -2,12 +2,13 @@
 use mathlib.Core.Bool.{Bool, true, cond, _&&_}
 use mathlib.Core.List.{List, [], _∷_, _++_}
 use Prim.Native.Nat.{ℕ, compare, Ordering, Ordering·lt, Ordering·eq, Ordering·gt}
-use lib.ListN.{length, getD}
+use lib.ListN.{length}
 use lib.Dec.{leb}
-use Rattle.calculus.specs.Term.{Term, nil}
+use Rattle.calculus.specs.Term.{Term}
 use Rattle.terms.specs.Limits.{nameCount, longestTerm}
+use Rattle.candidates.specs.Bodies.{bodyOf}
+use Rattle.candidates.specs.Raw.{Candidate, step, blocked, visible, silent}
 use Rattle.steps.specs.Limits.{mostSteps}
-use Rattle.steps.specs.Raw.{Candidate, step, blocked, visible, silent}
 use Rattle.steps.specs.Listed.{ListedStep, canonStep, resultBytes, bytes}
 
 -- byte order: the first byte that differs decides
@@ -50,10 +51,6 @@ limited longest most found = cond (leb (length found) most && allFit longest fou
 unfoldable pub listing : (names longest most : ℕ) (body : ℕ → Term) (calls x : ℕ) → Term → Listing
 listing names longest most body calls x P =
     limited longest most (collect names longest x (visible body calls P ++ silent body calls P) [])
-
--- the body of definition k (from 0)
-unfoldable pub bodyOf : List Term → ℕ → Term
-bodyOf bodies k = getD bodies k nil
 
 -- The steps of a part of a question with these definitions. In a body every call is beneath a prefix (check 11): one call is opened.
 unfoldable pub stepsOf : List Term → ℕ → Term → Listing

@@ -13,15 +13,15 @@ use Rattle.terms.specs.Answer.{result}
 use Rattle.terms.specs.Encoding.{encode, InScope}
 use Rattle.terms.specs.Limits.{nameCount}
 use Rattle.terms.specs.Question.{Question, checkOf}
+use Rattle.candidates.specs.Bodies.{bodyOf}
+use Rattle.candidates.specs.Names.{HasNew}
+use Rattle.candidates.specs.Raw.{Candidate, step, blocked, visible}
+use Rattle.candidates.specs.Results.{receiving, Written}
+use Rattle.candidates.specs.Slots.{slotOf}
+use Rattle.candidates.specs.Tally.{TallyIs}
 use Rattle.steps.specs.Collecting.{PutIs}
 use Rattle.steps.specs.Contexts.{Frame, fill, raised, levelIn, beforeIn, Placed}
-use Rattle.steps.specs.Listing.{bodyOf}
-use Rattle.steps.specs.Names.{HasNew}
 use Rattle.steps.specs.PartLister.{Lists}
-use Rattle.steps.specs.Raw.{Candidate, step, blocked, visible}
-use Rattle.steps.specs.Results.{receiving, Written}
-use Rattle.steps.specs.Slots.{slotOf}
-use Rattle.steps.specs.Tally.{TallyIs}
 use Rattle.steps.specs.Walking.{Trivial}
 use Rattle.steps.specs.declared.locate.Located.{Located}
 

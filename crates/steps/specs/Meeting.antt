@@ -8,12 +8,12 @@ use lib.ListN.{length, getD}
 use Rattle.calculus.specs.Term.{Term, par}
 use Rattle.terms.specs.Limits.{nameCount}
 use Rattle.terms.specs.Question.{Question}
+use Rattle.candidates.specs.Bodies.{bodyOf}
+use Rattle.candidates.specs.Raw.{Candidate, blocked, communication, visible, silent}
 use Rattle.steps.specs.Collecting.{PutIs, CollectIs}
 use Rattle.steps.specs.Contexts.{Frame, raised, Placed}
 use Rattle.steps.specs.Deciding.{decided}
-use Rattle.steps.specs.Listing.{bodyOf}
 use Rattle.steps.specs.PartLister.{Lists}
-use Rattle.steps.specs.Raw.{Candidate, blocked, communication, visible, silent}
 use Rattle.steps.specs.Rows.{kindAt, channelAt, actionKind, Outlined, Row, Rows}
 use Rattle.steps.specs.declared.meet.Side.{Side}
 

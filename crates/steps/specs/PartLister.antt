@@ -12,16 +12,17 @@ use Rattle.terms.specs.Answer.{result}
 use Rattle.terms.specs.Encoding.{encode, InScope}
 use Rattle.terms.specs.Limits.{nameCount, longestTerm}
 use Rattle.terms.specs.Question.{Question, checkOf}
+use Rattle.candidates.specs.Labels.{HeaderIs}
+use Rattle.candidates.specs.Bodies.{bodyOf}
+use Rattle.candidates.specs.Passing.{candidates}
+use Rattle.candidates.specs.Raw.{Candidate, step, blocked}
+use Rattle.candidates.specs.Results.{Written}
+use Rattle.candidates.specs.declared.action.Label.{Label}
 use Rattle.steps.specs.Collecting.{PutIs}
-use Rattle.steps.specs.Labels.{HeaderIs}
 use Rattle.steps.specs.Limits.{mostSteps, stepBytes}
 use Rattle.steps.specs.Listed.{canonStep, resultBytes}
-use Rattle.steps.specs.Listing.{Listing, unsettled, listed, bodyOf, stepsOf}
+use Rattle.steps.specs.Listing.{Listing, unsettled, listed, stepsOf}
 use Rattle.steps.specs.Operations.{listBytes}
-use Rattle.steps.specs.Passing.{candidates}
-use Rattle.steps.specs.Raw.{Candidate, step, blocked}
-use Rattle.steps.specs.Results.{Written}
-use Rattle.steps.specs.declared.action.Label.{Label}
 use Rattle.steps.specs.declared.list.ListAnswer.{ListAnswer}
 use Rattle.steps.specs.declared.list.ListAnswer.the-variants.{Unsettled, Count}
 

@@ -15,15 +15,15 @@ use Rattle.terms.specs.Answer.{result}
 use Rattle.terms.specs.Encoding.{encode, InScope}
 use Rattle.terms.specs.Limits.{nameCount}
 use Rattle.terms.specs.Question.{Question, checkOf}
+use Rattle.candidates.specs.LabelWalk.{slotAt, HasSlots}
+use Rattle.candidates.specs.Labels.{actionOf, ActionBelow}
+use Rattle.candidates.specs.Lists.{_∈_}
+use Rattle.candidates.specs.Bodies.{bodyOf}
+use Rattle.candidates.specs.Raw.{Candidate, step, blocked, visible, silent}
+use Rattle.candidates.specs.Tally.{endAt}
+use Rattle.candidates.specs.declared.action.Action.{Action}
+use Rattle.candidates.specs.declared.action.Action.the-variants.{Input, Output, NewOutput}
 use Rattle.steps.specs.Deciding.{decided, Again}
-use Rattle.steps.specs.LabelWalk.{slotAt, HasSlots}
-use Rattle.steps.specs.Labels.{actionOf, ActionBelow}
-use Rattle.steps.specs.Lists.{_∈_}
-use Rattle.steps.specs.Listing.{bodyOf}
-use Rattle.steps.specs.Raw.{Candidate, step, blocked, visible, silent}
-use Rattle.steps.specs.Tally.{endAt}
-use Rattle.steps.specs.declared.action.Action.{Action}
-use Rattle.steps.specs.declared.action.Action.the-variants.{Input, Output, NewOutput}
 
 abbrev pub rowBytes : ℕ
 rowBytes = 4

@@ -10,18 +10,18 @@ use Rattle.calculus.specs.Cond.{Cond, cls}
 use Rattle.calculus.specs.Term.{Term, nil, tau, inp, out, bout, mat, sum, par, res, call}
 use Rattle.terms.specs.Limits.{nameCount, longestTerm}
 use Rattle.terms.specs.Question.{Question}
+use Rattle.candidates.specs.Bodies.{bodyOf}
+use Rattle.candidates.specs.Passing.{candidates}
+use Rattle.candidates.specs.Raw.{Candidate, step, blocked, leftSteps, rightSteps, restricted, communications, visible, silent}
+use Rattle.candidates.specs.Results.{Written}
+use Rattle.candidates.specs.Tally.{TallyIs, BodiesTallied}
 use Rattle.steps.specs.Collecting.{PutIs, CollectIs}
 use Rattle.steps.specs.Contexts.{Frame, raised, Placed}
 use Rattle.steps.specs.declared.listed.ActionBytes.{ActionBytes}
 use Rattle.steps.specs.Limits.{mostSteps, listRoom}
 use Rattle.steps.specs.Listed.{canonStep, resultBytes}
-use Rattle.steps.specs.Listing.{bodyOf}
 use Rattle.steps.specs.PartLister.{Lists, candidatesOf}
-use Rattle.steps.specs.Passing.{candidates}
-use Rattle.steps.specs.Raw.{Candidate, step, blocked, leftSteps, rightSteps, restricted, communications, visible, silent}
-use Rattle.steps.specs.Results.{Written}
 use Rattle.steps.specs.Rows.{mostRows, kindAt, Row, Rows, RowsKept}
-use Rattle.steps.specs.Tally.{TallyIs, BodiesTallied}
 use Rattle.steps.specs.declared.walk.Walked.{Walked}
 
 -- The candidates in the order of the walk: those of each component, visible and silent, and the communications at each parallel once both sides are

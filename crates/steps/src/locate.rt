@@ -2,10 +2,10 @@
 ghost use Prim.Native.Nat.{_≤_};
 ghost use lib.ListN.{length};
 ghost use Rattle.terms.specs.Limits.{longestTerm};
+ghost use Rattle.candidates.specs.Tally.{EndsInside};
 ghost use Rattle.steps.specs.Locating.{LocateIs};
-ghost use Rattle.steps.specs.Tally.{EndsInside};
-use crate::pass::middle_of;
-use crate::tally::visible_at;
+use candidates::pass::middle_of;
+use candidates::tally::visible_at;
 
 // A component, the restrictions around it, and the number of a candidate among its own.
 pub struct Located {

@@ -1,24 +1,24 @@
 // The visible candidates of a term in a table of rows, found on one walk of the term's bytes beneath restriction, choice, parallel, match and call,
-// in the order of specs/Raw. And whether the term's silent candidates have no condition.
+// in the order of crates/candidates/specs/Raw. And whether the term's silent candidates have no condition.
 ghost use mathlib.Core.List.{List};
 ghost use mathlib.Core.Path.{_≡_};
 ghost use Prim.Native.Nat.{ℕ, _+_, _*_, _≤_, _<_};
 ghost use lib.ListN.{length, getD};
 ghost use Rattle.terms.specs.Limits.{nameCount, longestTerm};
-ghost use Rattle.steps.specs.LabelWalk.{Within};
+ghost use Rattle.candidates.specs.LabelWalk.{Within};
+ghost use Rattle.candidates.specs.Slots.{slotCount};
+ghost use Rattle.candidates.specs.Tally.{EndsInside, TallyIs, EndsTallied, BodiesTallied};
 ghost use Rattle.steps.specs.Rows.{rowBytes, mostRows, PutRowIs, prefixKind, PrefixRowIs, PutRepeatedIs, rootOf, isTrivial, isFailing, behindPiece, RepeatedIs, ScanIs, QuietIs};
-ghost use Rattle.steps.specs.Slots.{slotCount};
-ghost use Rattle.steps.specs.Tally.{EndsInside, TallyIs, EndsTallied, BodiesTallied};
-use crate::bodies::body_of;
-use crate::bodies::call_at;
-use crate::label::arguments;
-use crate::label::slot;
 use crate::listed::alike;
-use crate::pass::middle_of;
-use crate::tally::body_tally;
-use crate::tally::end_at;
-use crate::tally::silent_at;
-use crate::tally::visible_at;
+use candidates::bodies::body_of;
+use candidates::bodies::call_at;
+use candidates::label::arguments;
+use candidates::label::slot;
+use candidates::pass::middle_of;
+use candidates::tally::body_tally;
+use candidates::tally::end_at;
+use candidates::tally::silent_at;
+use candidates::tally::visible_at;
 use terms::bytes::get;
 use terms::limits::NAME_COUNT;
 

@@ -11,9 +11,9 @@ use Rattle.calculus.specs.Definitions.{Defs}
 use Rattle.terms.specs.Answer.{result}
 use Rattle.terms.specs.Question.{Question, checkOf}
 use Rattle.terms.proofs.WellFormed.{WellFormed, accepted-well-formed}
-use Rattle.steps.specs.Lists.{_∈_}
-use Rattle.steps.proofs.Membership.{all-∈}
-use Rattle.steps.proofs.QuestionDefinitions.{definitions}
+use Rattle.candidates.specs.Lists.{_∈_}
+use Rattle.candidates.proofs.Membership.{all-∈}
+use Rattle.candidates.proofs.QuestionDefinitions.{definitions}
 use Rattle.field.specs.Chains.{Chained}
 use Rattle.field.specs.Exploration.{found, unanswered, Row, Exploration, incomplete, explored, fieldOf}
 use Rattle.field.specs.Holding.{SlotsHold, StruckFirst, Explores, ExploreIs}

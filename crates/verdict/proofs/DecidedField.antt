@@ -8,7 +8,7 @@ use native.Mathlib.Omega.{arith}
 use lib.ListN.{length, length-map}
 use Rattle.calculus.specs.Definitions.{Defs}
 use Rattle.calculus.specs.OpenBisimulation.{Related}
-use Rattle.steps.specs.Lists.{_∈_, Distinct}
+use Rattle.candidates.specs.Lists.{_∈_, Distinct}
 use Rattle.field.specs.Setting.{Setting}
 use Rattle.field.specs.Situation.{Situation}
 use Rattle.field.specs.Exploration.{found, Row, Exploration, incomplete, explored, fieldOf}

@@ -8,7 +8,7 @@ use Prim.Native.Nat.{ℕ, _+_, _-_, _*_, _<_, _≤_}
 use lib.ListN.{length, getD, set}
 use lib.Seq.{getD-set-other}
 use borrow.Author.Tests.{eq-eqb}
-use Rattle.steps.specs.Lists.{_∈_}
+use Rattle.candidates.specs.Lists.{_∈_}
 use Rattle.field.specs.Key.{keyAt}
 use Rattle.field.specs.Situation.{Situation}
 use Rattle.field.specs.Slot.{slotBytes, struckAt}

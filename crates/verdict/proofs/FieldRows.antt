@@ -3,8 +3,8 @@ use mathlib.Core.Path.{_≡_}
 use mathlib.Core.List.{List}
 use Prim.Native.Nat.{ℕ}
 use Rattle.calculus.specs.Definitions.{Defs}
-use Rattle.steps.specs.Lists.{_∈_}
-use Rattle.steps.proofs.Membership.{all-∈}
+use Rattle.candidates.specs.Lists.{_∈_}
+use Rattle.candidates.proofs.Membership.{all-∈}
 use Rattle.field.specs.Setting.{Setting}
 use Rattle.field.specs.Situation.{Situation}
 use Rattle.field.specs.Successors.{leads, successors}

@@ -8,8 +8,8 @@ use lib.Dec.{eqb}
 use lib.ListN.{length, getD, take}
 use borrow.Author.Tests.{eqb-true, eqb-false}
 use Rattle.terms.specs.Limits.{nameCount}
-use Rattle.steps.specs.Lists.{_∈_}
-use Rattle.steps.proofs.Membership.{∈-all}
+use Rattle.candidates.specs.Lists.{_∈_}
+use Rattle.candidates.proofs.Membership.{∈-all}
 use Rattle.field.specs.Chains.{Chained, FindsIn}
 use Rattle.field.specs.Entry.{AnswersIs}
 use Rattle.field.specs.Exploration.{found}

@@ -10,10 +10,10 @@ use lib.ListN.{length, getD}
 use Rattle.calculus.specs.Term.{nil}
 use Rattle.terms.specs.Limits.{nameCount}
 use Rattle.terms.proofs.Answers.{both-true}
+use Rattle.candidates.specs.Lists.{_∈_}
+use Rattle.candidates.proofs.Membership.{∈-map}
 use Rattle.steps.specs.Limits.{stepBytes}
 use Rattle.steps.specs.Listed.{ListedStep}
-use Rattle.steps.specs.Lists.{_∈_}
-use Rattle.steps.proofs.Membership.{∈-map}
 use Rattle.field.specs.Exploration.{found}
 use Rattle.field.specs.Leading.{placed, leading}
 use Rattle.field.specs.PairFlags.{PermittedIs}

@@ -11,7 +11,7 @@ use Rattle.calculus.proofs.Renaming.{ren-id}
 use Rattle.calculus.proofs.UpToRenaming.{Cl}
 use Rattle.calculus.proofs.PublishedBisimulation.{AwayFrom, SearchBisimulation}
 use Rattle.calculus.proofs.Theorems.{related-any-fresh}
-use Rattle.steps.specs.Lists.{_∈_}
+use Rattle.candidates.specs.Lists.{_∈_}
 use Rattle.field.specs.Setting.{Setting}
 use Rattle.field.specs.Situation.{Situation, situation, newName}
 use Rattle.field.specs.Exploration.{Row}

@@ -10,7 +10,7 @@ use lib.ListN.{length, getD, set, drop, replicate, length-set, length-map, lengt
 use lib.Seq.{drop-set-lt, getD-set-other, ext-getD}
 use borrow.Author.Tests.{eqb-false}
 use Rattle.calculus.specs.Term.{nil}
-use Rattle.steps.specs.Lists.{_∈_}
+use Rattle.candidates.specs.Lists.{_∈_}
 use Rattle.field.specs.Exploration.{unanswered, Row}
 use Rattle.field.specs.Holding.{StruckFirst}
 use Rattle.field.specs.Setting.{settingOf}

@@ -8,9 +8,9 @@ use Prim.Native.Nat.{ℕ, _*_, _<_}
 use lib.ListN.{getD}
 use Rattle.calculus.specs.Free.{fn}
 use Rattle.terms.specs.Limits.{nameCount}
-use Rattle.steps.specs.Bodies.{AritiesIs}
-use Rattle.steps.specs.Lists.{_∈_}
-use Rattle.steps.proofs.Membership.{∈-left, ∈-right, ∈-either}
+use Rattle.candidates.specs.Bodies.{AritiesIs}
+use Rattle.candidates.specs.Lists.{_∈_}
+use Rattle.candidates.proofs.Membership.{∈-left, ∈-right, ∈-either}
 use Rattle.field.specs.Leading.{placed}
 use Rattle.field.specs.Setting.{settingOf}
 use Rattle.field.specs.Situation.{Situation, freeFrom, freeIn}

@@ -7,8 +7,8 @@ use mathlib.Core.Path.{_≡_, refl, ap, _∙_}
 use native.Mathlib.Omega.{arith}
 use Prim.Native.Nat.{ℕ, suc, _<_}
 use lib.ListN.{length, getD}
-use Rattle.steps.specs.Lists.{_∈_}
-use Rattle.steps.proofs.Membership.{∈-left, ∈-right}
+use Rattle.candidates.specs.Lists.{_∈_}
+use Rattle.candidates.proofs.Membership.{∈-left, ∈-right}
 use Rattle.field.specs.Exploration.{unanswered, Row}
 use Rattle.field.specs.Situation.{Situation}
 use Rattle.field.specs.Slot.{flag}

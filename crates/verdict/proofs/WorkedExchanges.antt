@@ -14,9 +14,10 @@ use Rattle.terms.specs.Grammar.{sequential, parallelOutermost, guarded}
 use Rattle.terms.specs.Operations.{holdsApart}
 use Rattle.terms.specs.Question.{all, fits, readBodies, readPart, readApart, differentNames, readPairs, version, checkTerms, checkFields, checkOf, bodyFields, pairBytes, fieldsOf, write}
 use Rattle.terms.specs.Reading.{byte, readName, readNames, tagOf, readTerm, readWhole}
+use Rattle.candidates.specs.Bodies.{bodyOf}
+use Rattle.candidates.specs.Raw.{matching, leftSteps, rightSteps, meet, communication, communications, spares, sparesRestricted, outside, restrictedAction, restricted, visibleOf, silentOf, visibleCalls, silentCalls, visible, silent}
 use Rattle.steps.specs.Listed.{namesFrom, classesOf, classIn, kindOf, channelOf, objectOf, listedAs, canonStep, resultBytes, bytes}
-use Rattle.steps.specs.Listing.{order, insert, allFit, collect, limited, listing, bodyOf}
-use Rattle.steps.specs.Raw.{matching, leftSteps, rightSteps, meet, communication, communications, spares, sparesRestricted, outside, restrictedAction, restricted, visibleOf, silentOf, visibleCalls, silentCalls, visible, silent}
+use Rattle.steps.specs.Listing.{order, insert, allFit, collect, limited, listing}
 use Rattle.field.specs.Setting.{settingOf, stepsIn}
 use Rattle.field.specs.Situation.{freeFrom, freeIn, pairsOf, situation, startOf, missing, newName, sameBytes, sameSituation}
 use Rattle.field.specs.Successors.{select, permitted, implies, answers, extrudedBy, updatedBy, moves, bindsName, someBinds, ledTo, withSteps, successors}

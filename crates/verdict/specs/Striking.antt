@@ -11,8 +11,8 @@ use Rattle.terms.specs.Answer.{result}
 use Rattle.terms.specs.Encoding.{InScope}
 use Rattle.terms.specs.Limits.{nameCount}
 use Rattle.terms.specs.Question.{Question, checkOf}
+use Rattle.candidates.specs.Lists.{_∈_}
 use Rattle.steps.specs.Listed.{ListedStep}
-use Rattle.steps.specs.Lists.{_∈_}
 use Rattle.field.specs.Chains.{Chained}
 use Rattle.field.specs.Entry.{EntryAt, Rewritten}
 use Rattle.field.specs.Exploration.{found, unanswered}

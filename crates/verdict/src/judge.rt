@@ -6,13 +6,13 @@ ghost use lib.ListN.{length, drop, replicate};
 ghost use Rattle.verdict.specs.Judge.{slotBytes, greatestCapacity};
 ghost use Rattle.verdict.specs.Judging.{DecidesIs, AcceptedIs, JudgedIs};
 use crate::strike::start_survives;
+use candidates::tally::TALLY;
+use candidates::tally::body_tallies;
 use field::explore::Explored;
 use field::explore::explore;
 use field::find::SLOT_BYTES;
 use field::list_area::LIST_AREA;
 use steps::rows::TABLE_OF_ROWS;
-use steps::tally::TALLY;
-use steps::tally::body_tallies;
 use terms::check::Checked;
 use terms::check::check;
 

@@ -4,8 +4,8 @@ use borrow.Author.Needs.{needs}
 use mathlib.Core.Path.{_≡_, refl}
 use Prim.Native.Nat.{_*_, _-_, _≤_}
 use lib.ListN.{length}
+use Rattle.candidates.specs.Tally.{tallySize}
 use Rattle.steps.specs.Rows.{rowBytes, mostRows}
-use Rattle.steps.specs.Tally.{tallySize}
 use Rattle.field.specs.ListArea.{Labelled}
 use Rattle.field.proofs.ExploringLaws.{Explorers, explorers-start, explorers-next, explorers-full, explorers-end, explored-from}
 use Rattle.field.proofs.explore.explore.Statement.{statement}

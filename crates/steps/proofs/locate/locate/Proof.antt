@@ -2,9 +2,9 @@
 use Prim.Native.Nat.{_-_, _≤_}
 use native.Mathlib.Omega.{arith}
 use lib.ListN.{length}
+use Rattle.candidates.proofs.TwoSides.{middle-past, middle-inside}
 use Rattle.steps.specs.Locating.{Leads}
 use Rattle.steps.proofs.LocateLaws.{lead-start, lead-beneath, lead-left, lead-right}
-use Rattle.steps.proofs.TwoSides.{middle-past, middle-inside}
 use borrow.Author.Needs.{needs}
 use Rattle.steps.proofs.locate.locate.Statement.{statement}
 use Rattle.steps.proofs.locate.locate.Tie as tie

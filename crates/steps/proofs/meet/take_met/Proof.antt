@@ -1,5 +1,5 @@
 -- `steps::meet::take_met` meets its contract. Assumes nothing.
-use Rattle.steps.proofs.TwoSides.{middle-past, middle-inside}
+use Rattle.candidates.proofs.TwoSides.{middle-past, middle-inside}
 use Rattle.steps.proofs.MetLaws.{met-taken}
 use native.Mathlib.Omega.{arith}
 use borrow.Author.Needs.{needs}

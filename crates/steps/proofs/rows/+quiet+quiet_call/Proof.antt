@@ -5,10 +5,10 @@ use lib.ListN.{length}
 use borrow.Author.Needs.{needs}
 use borrow.Author.Tests.{not-true, not-false}
 use Rattle.terms.specs.Limits.{longestTerm}
-use Rattle.steps.proofs.LabelWalks.{weight-on, weight-part, weight-body}
+use Rattle.candidates.proofs.LabelWalks.{weight-on, weight-part, weight-body}
+use Rattle.candidates.proofs.TallyLoops.{called-tally}
+use Rattle.candidates.proofs.TwoSides.{middle-on}
 use Rattle.steps.proofs.QuietWalks.{quiet-not, quiet-none, quiet-idle, quiet-prefix, quiet-res, quiet-sum, quiet-closed, quiet-called}
-use Rattle.steps.proofs.TallyLoops.{called-tally}
-use Rattle.steps.proofs.TwoSides.{middle-on}
 use Prim.Native.Nat.{ℕ, _+_, _-_, _*_, _<_, _≤_}
 use borrow.Fn.Kinds.{In}
 use borrow.Fn.PlainCycle.{Measures, is, falls, and}
@@ -18,11 +18,11 @@ use Rattle.steps.proofs.rows.+quiet+quiet_call.Lts-quiet as quiet-lts
 use Rattle.steps.proofs.rows.quiet_call.Reads as quiet-call
 use Rattle.steps.proofs.rows.quiet_call.Kinds as quiet-call-kinds
 use Rattle.steps.proofs.rows.+quiet+quiet_call.Lts-quiet_call as quiet-call-lts
-use Rattle.steps.proofs.bodies.body_of.Reads as body-of-reads
-use Rattle.steps.proofs.bodies.call_at.Reads as call-at-reads
-use Rattle.steps.proofs.pass.middle_of.Reads as middle-of-reads
-use Rattle.steps.proofs.tally.body_tally.Reads as body-tally-reads
-use Rattle.steps.proofs.tally.silent_at.Reads as silent-at-reads
+use Rattle.candidates.proofs.bodies.body_of.Reads as body-of-reads
+use Rattle.candidates.proofs.bodies.call_at.Reads as call-at-reads
+use Rattle.candidates.proofs.pass.middle_of.Reads as middle-of-reads
+use Rattle.candidates.proofs.tally.body_tally.Reads as body-tally-reads
+use Rattle.candidates.proofs.tally.silent_at.Reads as silent-at-reads
 use Rattle.steps.proofs.rows.+quiet+quiet_call.{statement}
 use Rattle.steps.proofs.rows.+quiet+quiet_call.Tie.{close}
 

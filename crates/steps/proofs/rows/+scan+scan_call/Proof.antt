@@ -5,13 +5,13 @@ use lib.ListN.{length}
 use borrow.Author.Needs.{needs}
 use borrow.Author.Tests.{not-true, not-false}
 use Rattle.terms.specs.Limits.{longestTerm}
-use Rattle.steps.proofs.LabelWalks.{weight-on, weight-part, weight-body, room-on, room-under, room-body}
-use Rattle.steps.proofs.RowWalks.{scan-none, scan-idle, scan-again, scan-trivial, scan-prefix, scan-mat, scan-res, scan-two, scan-closed, scan-cut, scan-called}
-use Rattle.steps.proofs.TallyLoops.{called-tally}
-use Rattle.steps.proofs.TwoSides.{middle-on}
+use Rattle.candidates.proofs.LabelWalks.{weight-on, weight-part, weight-body, room-on, room-under, room-body}
+use Rattle.candidates.proofs.TallyLoops.{called-tally}
+use Rattle.candidates.proofs.TwoSides.{middle-on}
+use Rattle.candidates.proofs.ResultLaws.{ends-tallied}
 use Prim.Native.Nat.{ℕ, _+_, _-_, _*_, _<_, _≤_}
 use Rattle.steps.specs.Rows.{RepeatedIs}
-use Rattle.steps.proofs.ResultLaws.{ends-tallied}
+use Rattle.steps.proofs.RowWalks.{scan-none, scan-idle, scan-again, scan-trivial, scan-prefix, scan-mat, scan-res, scan-two, scan-closed, scan-cut, scan-called}
 use borrow.Fn.Kinds.{In}
 use borrow.Fn.PlainCycle.{Measures, is, falls, and}
 use Rattle.steps.proofs.rows.scan.Reads as scan
@@ -20,17 +20,17 @@ use Rattle.steps.proofs.rows.+scan+scan_call.Lts-scan as scan-lts
 use Rattle.steps.proofs.rows.scan_call.Reads as scan-call
 use Rattle.steps.proofs.rows.scan_call.Kinds as scan-call-kinds
 use Rattle.steps.proofs.rows.+scan+scan_call.Lts-scan_call as scan-call-lts
-use Rattle.steps.proofs.bodies.body_of.Reads as body-of-reads
-use Rattle.steps.proofs.bodies.call_at.Reads as call-at-reads
-use Rattle.steps.proofs.label.arguments.Reads as arguments-reads
-use Rattle.steps.proofs.pass.middle_of.Reads as middle-of-reads
+use Rattle.candidates.proofs.bodies.body_of.Reads as body-of-reads
+use Rattle.candidates.proofs.bodies.call_at.Reads as call-at-reads
+use Rattle.candidates.proofs.label.arguments.Reads as arguments-reads
+use Rattle.candidates.proofs.pass.middle_of.Reads as middle-of-reads
 use Rattle.steps.proofs.rows.adds_nothing.Reads as adds-nothing-reads
 use Rattle.steps.proofs.rows.is_trivial.Reads as is-trivial-reads
 use Rattle.steps.proofs.rows.put_repeated.Reads as put-repeated-reads
 use Rattle.steps.proofs.rows.root_of.Reads as root-of-reads
 use Rattle.steps.proofs.rows.scan_prefix.Reads as scan-prefix-reads
-use Rattle.steps.proofs.tally.body_tally.Reads as body-tally-reads
-use Rattle.steps.proofs.tally.visible_at.Reads as visible-at-reads
+use Rattle.candidates.proofs.tally.body_tally.Reads as body-tally-reads
+use Rattle.candidates.proofs.tally.visible_at.Reads as visible-at-reads
 use Rattle.steps.proofs.rows.+scan+scan_call.{statement}
 use Rattle.steps.proofs.rows.+scan+scan_call.Tie.{close}
 

@@ -4,8 +4,8 @@ use mathlib.Core.List.{List}
 use mathlib.Core.Path.{subst}
 use native.Mathlib.Omega.{arith}
 use Prim.Native.Nat.{ℕ, _-_}
+use Rattle.candidates.specs.Tally.{EndsTallied}
 use Rattle.steps.specs.Entries.{Alike}
-use Rattle.steps.specs.Tally.{EndsTallied}
 use Rattle.steps.proofs.ChoiceLaws.{Ahead, ahead-start, ahead-next, behind-on, repeated-none, repeated-found}
 use Rattle.steps.proofs.rows.is_repeated.Statement.{statement}
 use Rattle.steps.proofs.rows.is_repeated.Tie as tie

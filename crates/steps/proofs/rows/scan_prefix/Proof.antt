@@ -1,7 +1,7 @@
 -- `steps::rows::scan_prefix` meets its contract. Assumes nothing.
 use native.Mathlib.Omega.{arith}
 use mathlib.Core.Path.{refl, ap, _∙_}
-use Rattle.steps.specs.LabelWalk.{slotAt}
+use Rattle.candidates.specs.LabelWalk.{slotAt}
 use Rattle.steps.proofs.RowWalks.{prefix-sends, prefix-other}
 use borrow.Author.Needs.{needs}
 use Rattle.steps.proofs.rows.scan_prefix.Statement.{statement}

@@ -6,7 +6,7 @@ use lib.ListN.{length}
 use borrow.Author.Needs.{needs}
 use Rattle.terms.specs.Limits.{tableNames}
 use Rattle.terms.proofs.Filling.{fill-start, fill-step, Filling}
-use Rattle.steps.specs.Names.{nameSlots, OwnNames}
+use Rattle.candidates.specs.Names.{nameSlots, OwnNames}
 use Rattle.steps.proofs.splice.own_names.Statement.{statement}
 use Rattle.steps.proofs.splice.own_names.Tie as tie
 

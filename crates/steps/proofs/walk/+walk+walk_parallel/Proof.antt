@@ -3,8 +3,8 @@ use native.Mathlib.Omega.{arith}
 use lib.ListN.{length}
 use borrow.Author.Needs.{needs}
 use Rattle.terms.specs.Limits.{longestTerm}
-use Rattle.steps.specs.Tally.{silentAt}
-use Rattle.steps.proofs.TwoSides.{middle-on}
+use Rattle.candidates.specs.Tally.{silentAt}
+use Rattle.candidates.proofs.TwoSides.{middle-on}
 use Rattle.steps.proofs.WalkLaws.{walk-none, walk-run, left-passed, right-passed, right-full, sides-met}
 use Prim.Native.Nat.{ℕ, _+_, _-_, _*_, _<_}
 use borrow.Fn.Kinds.{In}
@@ -15,10 +15,10 @@ use Rattle.steps.proofs.walk.+walk+walk_parallel.Lts-walk as walk-lts
 use Rattle.steps.proofs.walk.walk_parallel.Reads as walk-parallel
 use Rattle.steps.proofs.walk.walk_parallel.Kinds as walk-parallel-kinds
 use Rattle.steps.proofs.walk.+walk+walk_parallel.Lts-walk_parallel as walk-parallel-lts
-use Rattle.steps.proofs.label.restrictions_at.Reads as restrictions-at-reads
+use Rattle.candidates.proofs.label.restrictions_at.Reads as restrictions-at-reads
 use Rattle.steps.proofs.meet.meet.Reads as meet-reads
-use Rattle.steps.proofs.pass.middle_of.Reads as middle-of-reads
-use Rattle.steps.proofs.tally.silent_at.Reads as silent-at-reads
+use Rattle.candidates.proofs.pass.middle_of.Reads as middle-of-reads
+use Rattle.candidates.proofs.tally.silent_at.Reads as silent-at-reads
 use Rattle.steps.proofs.walk.component.Reads as component-reads
 use Rattle.steps.proofs.walk.+walk+walk_parallel.{statement}
 use Rattle.steps.proofs.walk.+walk+walk_parallel.Tie.{close}

@@ -5,8 +5,8 @@ use Prim.Native.Nat.{ℕ, _+_, _-_, _≤_}
 use lib.ListN.{length}
 use borrow.Author.Needs.{needs}
 use Rattle.terms.specs.Limits.{longestTerm}
+use Rattle.candidates.specs.Tally.{silentAt}
 use Rattle.steps.specs.Limits.{mostSteps}
-use Rattle.steps.specs.Tally.{silentAt}
 use Rattle.steps.proofs.ComponentLaws.{SilentGo, silent-start, silent-done, silent-next, silent-passed, silent-taken}
 use Rattle.steps.proofs.walk.take_numbered.Statement.{statement}
 use Rattle.steps.proofs.walk.take_numbered.Tie as tie

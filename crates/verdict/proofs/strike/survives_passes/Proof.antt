@@ -5,8 +5,8 @@ use mathlib.Core.Bool.{false, cond}
 use mathlib.Core.Path.{_≡_, refl}
 use Prim.Native.Nat.{_+_, _*_, _≤_}
 use lib.ListN.{length, getD}
+use Rattle.candidates.specs.Tally.{tallySize}
 use Rattle.steps.specs.Rows.{rowBytes, mostRows}
-use Rattle.steps.specs.Tally.{tallySize}
 use Rattle.field.specs.ListArea.{Labelled}
 use Rattle.field.specs.Slot.{struckAt}
 use Rattle.verdict.specs.Striking.{marks, zeros, AllNoted, Strikes, none-struck, notes-changed, AllSurvive}

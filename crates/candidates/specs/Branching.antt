@@ -1,0 +1,38 @@
+-- Where the branch of a choice stands that has a candidate of the choice: what the function that goes down to it promises.
+use mathlib.Core.Path.{_≡_}
+use mathlib.Core.Bool.{Bool}
+use mathlib.Core.List.{List, _++_}
+use Prim.Native.Nat.{ℕ, _<_, _≤_}
+use lib.ListN.{length, getD, drop}
+use Rattle.calculus.specs.Term.{Term, ren}
+use Rattle.terms.specs.Answer.{result}
+use Rattle.terms.specs.Encoding.{encode, InScope}
+use Rattle.terms.specs.Question.{Question, checkOf}
+use Rattle.candidates.specs.Bodies.{bodyOf}
+use Rattle.candidates.specs.Passing.{candidates}
+use Rattle.candidates.specs.Raw.{Candidate, blocked}
+use Rattle.candidates.specs.Tally.{TallyIs}
+use Rattle.candidates.specs.declared.pass.Branch.{Branch}
+
+-- A term stands at `at` whose candidate of this number is c, if σ puts names for those of the bytes.
+pub record HasAt (q : Question) (s : List ℕ) (silently : Bool) (calls free D : ℕ) (σ : ℕ → ℕ) (c : Candidate) (at number : ℕ) : Type 0 where
+  pub term : Term
+  pub rest : List ℕ
+  pub scope : InScope free (q .arities) D term
+  pub stands : drop at s ≡ encode D term ++ rest
+  pub candidate : getD (candidates silently (bodyOf (q .bodies)) calls (ren σ term)) number blocked ≡ c
+
+-- The candidate of the term at `at` is that of this other number of the term at b.
+unfoldable pub Reaches : (s t : List ℕ) (at : ℕ) (silently : Bool) (number b n : ℕ) → Type 0
+Reaches s t at silently number b n =
+    (question : List ℕ) (calls : ℕ) → TallyIs question s calls t
+    → (q : Question) (free D : ℕ) (σ : ℕ → ℕ) (P : Term) (rest : List ℕ)
+    → checkOf question ≡ result q
+    → InScope free (q .arities) D P
+    → drop at s ≡ encode D P ++ rest
+    → HasAt q s silently calls free D σ (getD (candidates silently (bodyOf (q .bodies)) calls (ren σ P)) number blocked) b n
+
+pub record BranchIs (s t : List ℕ) (at : ℕ) (silently : Bool) (number : ℕ) (r : Branch) : Type 0 where
+  pub on : at ≤ r .at
+  pub past : at < length s → getD s at 0 ≡ 6 → at < r .at
+  pub is : Reaches s t at silently number (r .at) (r .number)

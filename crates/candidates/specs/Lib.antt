@@ -1,0 +1,14 @@
+pub mod Bodies
+pub mod Branching
+pub mod Conditions
+pub mod Fronts
+pub mod Labels
+pub mod LabelWalk
+pub mod Lists
+pub mod Names
+pub mod Passing
+pub mod Raw
+pub mod Results
+pub mod Slots
+pub mod Tally
+pub mod Tallying

@@ -1,0 +1,376 @@
+// The label of a term's candidate by its number: a recursive walk of the term's bytes beneath restriction, choice, parallel, match and call, in the
+// order of specs/Raw. A called body is walked in place, its parameters standing for the slots of the call's names.
+ghost use mathlib.Core.Path.{_≡_};
+ghost use Prim.Native.Nat.{_+_, _≤_, _<_};
+ghost use lib.ListN.{length, getD};
+ghost use Rattle.terms.specs.Limits.{nameCount, greatestArity};
+ghost use Rattle.candidates.specs.LabelWalk.{slotAt, ArgumentsIs, prefixAction, PrefixLabelIs, RestrictionsIs, LeavesIs, pastOf, OutsideOfIs, Within, NthIs, MeetingIs};
+ghost use Rattle.candidates.specs.Slots.{slotCount};
+ghost use Rattle.candidates.specs.Tally.{TallyIs, BodiesTallied};
+use crate::action::Action;
+use crate::action::Label;
+use crate::bodies::body_of;
+use crate::bodies::call_at;
+use crate::pass::middle_of;
+use crate::rules::communication;
+use crate::rules::matching;
+use crate::rules::restricted;
+use crate::tally::body_tally;
+use crate::tally::number_at;
+use crate::tally::visible_at;
+use terms::bytes::get;
+use terms::limits::GREATEST_ARITY;
+use terms::limits::NAME_COUNT;
+
+// The slot of the name byte `b` beneath `inner` restrictions of the bytes at hand, `depth` in all.
+pub fn slot(b: u8, args: &[u8], inner: usize, depth: usize) -> u8
+    requires { ⌜ (inner ≤ depth) × (nameCount + depth ≤ slotCount) ⌝ }
+    ensures { λ r. ⌜ r ≡ slotAt (now (args .entry)) inner depth b ⌝ }
+{
+    if b < 128 {
+        return b;
+    }
+    let k = b as usize - 128;
+    if k < inner {
+        return (NAME_COUNT + (depth - 1 - k)) as u8;
+    }
+    get(args, k - inner)
+}
+
+// The slots of a call's `count` names, which stand at `at`: the last parameter is the innermost.
+pub fn arguments(
+    src: &[u8],
+    at: usize,
+    count: usize,
+    args: &[u8],
+    inner: usize,
+    depth: usize,
+) -> [u8; GREATEST_ARITY]
+    requires { ⌜ (at + count ≤ length (now src)) × (count ≤ greatestArity) × (inner ≤ depth) × (nameCount + depth ≤ slotCount) ⌝ }
+    ensures { λ r. ⌜ ArgumentsIs (now (src .entry)) at count (now (args .entry)) inner depth r ⌝ }
+{
+    let mut slots = [0u8; GREATEST_ARITY];
+    let mut j = 0;
+    while j < count {
+        let v = slot(src[at + (count - 1 - j)], args, inner, depth);
+        slots[j] = v;
+        j += 1;
+    }
+    slots
+}
+
+// The action of a prefix by its first byte and its names.
+fn prefix_action(t: usize, a: u8, b: u8) -> Action
+    ensures { λ r. ⌜ r ≡ prefixAction t a b ⌝ }
+{
+    if t == 1 {
+        return Action::Silent;
+    }
+    if t == 2 {
+        return Action::Input(a);
+    }
+    if t == 3 {
+        return Action::Output(a, b);
+    }
+    Action::NewOutput(a)
+}
+
+// The one step of the prefix at `at`.
+fn nth_prefix(src: &[u8], at: usize, args: &[u8], inner: usize, depth: usize) -> Label
+    requires { ⌜ (at < length (now src)) × (inner ≤ depth) × (nameCount + depth ≤ slotCount) ⌝ }
+    ensures { λ r. ⌜ PrefixLabelIs (now (src .entry)) at (now (args .entry)) inner depth r ⌝ }
+{
+    let t = get(src, at) as usize;
+    let a = slot(get(src, at + 1), args, inner, depth);
+    let b = slot(get(src, at + 2), args, inner, depth);
+    Label::found(prefix_action(t, a, b))
+}
+
+// How many restrictions stand at `at`, one within the other.
+pub fn restrictions_at(src: &[u8], at: usize) -> usize
+    ensures { λ r. ⌜ RestrictionsIs (now (src .entry)) at r ⌝ }
+{
+    let mut k = at;
+    while k < src.len() {
+        if src[k] != 8 {
+            return k - at;
+        }
+        k += 1;
+    }
+    k - at
+}
+
+// The restrictions at `depth` and above it, `count` in all, are left from within.
+fn leave(label: Label, depth: usize, count: usize) -> Label
+    requires { ⌜ nameCount + depth + count ≤ slotCount ⌝ }
+    ensures { λ r. ⌜ LeavesIs label depth count r ⌝ }
+{
+    let mut out = label;
+    let mut left = count;
+    while 0 < left {
+        left -= 1;
+        out = restricted(out, depth + left);
+    }
+    out
+}
+
+// How far the term beneath a match or beneath `count` restrictions stands behind the first byte `t`: 0 where neither stands.
+fn past(t: u8, count: usize) -> usize
+    ensures { λ r. ⌜ r ≡ pastOf t count ⌝ }
+{
+    if t == 5 {
+        return 3;
+    }
+    count
+}
+
+// The label outside the `count` restrictions at `at`, or outside the match there if there are none.
+fn outside_of(
+    label: Label,
+    src: &[u8],
+    at: usize,
+    count: usize,
+    args: &[u8],
+    inner: usize,
+    depth: usize,
+) -> Label
+    requires { ⌜ (inner ≤ depth) × (at < length (now src)) × (nameCount + depth + count ≤ slotCount) ⌝ }
+    ensures { λ r. ⌜ OutsideOfIs (now (src .entry)) at count (now (args .entry)) inner depth label r ⌝ }
+{
+    if count == 0 {
+        let a = slot(get(src, at + 1), args, inner, depth);
+        let b = slot(get(src, at + 2), args, inner, depth);
+        return matching(label, a, b);
+    }
+    leave(label, depth, count)
+}
+
+// The communications of the two sides of the parallel at `at`: their numbers are those of the left side's visible candidates times the number
+// of the right side's, and those.
+fn nth_meeting(
+    question: &[u8],
+    bodies: &[u32],
+    src: &[u8],
+    tally: &[u32],
+    at: usize,
+    middle: usize,
+    i: usize,
+    args: &[u8],
+    inner: usize,
+    depth: usize,
+    calls: usize,
+) -> Label
+    requires { ⌜ (at < length (now src)) × (at < middle) × Within (now src) at inner depth calls × TallyIs (now question) (now src) calls (now tally) × BodiesTallied (now question) (now bodies) ⌝ }
+    ensures { λ r. ⌜ MeetingIs (now (question .entry)) (now (src .entry)) at middle i (now (args .entry)) inner depth calls r ⌝ }
+{
+    let n = visible_at(tally, middle);
+    if n == 0 {
+        return Label::blocked();
+    }
+    let p = nth(
+        question,
+        bodies,
+        src,
+        tally,
+        at + 1,
+        i / n,
+        false,
+        args,
+        inner,
+        depth,
+        calls,
+    );
+    let q = nth(
+        question,
+        bodies,
+        src,
+        tally,
+        middle,
+        i % n,
+        false,
+        args,
+        inner,
+        depth,
+        calls,
+    );
+    communication(p, q)
+}
+
+// The choice or parallel at `at`: the left side's candidates, then the right side's, and then the communications.
+fn nth_either(
+    question: &[u8],
+    bodies: &[u32],
+    src: &[u8],
+    tally: &[u32],
+    at: usize,
+    i: usize,
+    silent: bool,
+    args: &[u8],
+    inner: usize,
+    depth: usize,
+    calls: usize,
+) -> Label
+    requires { ⌜ (at < length (now src)) × (5 < getD (now src) at 0) × (getD (now src) at 0 < 8) × Within (now src) at inner depth calls × TallyIs (now question) (now src) calls (now tally) × BodiesTallied (now question) (now bodies) ⌝ }
+    ensures { λ r. ⌜ NthIs (now (question .entry)) (now (src .entry)) at i silent (now (args .entry)) inner depth calls r ⌝ }
+{
+    let middle = middle_of(src, tally, at);
+    let left = number_at(tally, at + 1, silent);
+    if i < left {
+        return nth(
+            question,
+            bodies,
+            src,
+            tally,
+            at + 1,
+            i,
+            silent,
+            args,
+            inner,
+            depth,
+            calls,
+        );
+    }
+    let j = i - left;
+    let right = number_at(tally, middle, silent);
+    if j < right {
+        return nth(
+            question,
+            bodies,
+            src,
+            tally,
+            middle,
+            j,
+            silent,
+            args,
+            inner,
+            depth,
+            calls,
+        );
+    }
+    nth_meeting(
+        question,
+        bodies,
+        src,
+        tally,
+        at,
+        middle,
+        j - right,
+        args,
+        inner,
+        depth,
+        calls,
+    )
+}
+
+// The call at `at`: the candidates of the body, while calls are left to open.
+fn nth_call(
+    question: &[u8],
+    bodies: &[u32],
+    src: &[u8],
+    at: usize,
+    i: usize,
+    silent: bool,
+    args: &[u8],
+    inner: usize,
+    depth: usize,
+    calls: usize,
+) -> Label
+    requires { ⌜ (at < length (now src)) × (8 < getD (now src) at 0) × Within (now src) at inner depth calls × BodiesTallied (now question) (now bodies) ⌝ }
+    ensures { λ r. ⌜ NthIs (now (question .entry)) (now (src .entry)) at i silent (now (args .entry)) inner depth calls r ⌝ }
+{
+    let o = call_at(question, src, at, calls);
+    if !o.allowed {
+        return Label::blocked();
+    }
+    if src.len() < o.end {
+        return Label::blocked();
+    }
+    let given = arguments(src, at + 2, o.arity, args, inner, depth);
+    let body = body_of(question, o.definition);
+    let within = body_tally(bodies, o.definition);
+    nth(
+        question,
+        bodies,
+        body,
+        within,
+        0,
+        i,
+        silent,
+        &given,
+        0,
+        depth,
+        calls - 1,
+    )
+}
+
+// The i-th candidate, silent or visible, of the term at `at`, beneath `inner` restrictions of these bytes and `depth` in all; `args` has the slots of
+// the parameters, and so many calls may be opened one within the other.
+pub fn nth(
+    question: &[u8],
+    bodies: &[u32],
+    src: &[u8],
+    tally: &[u32],
+    at: usize,
+    i: usize,
+    silent: bool,
+    args: &[u8],
+    inner: usize,
+    depth: usize,
+    calls: usize,
+) -> Label
+    requires { ⌜ Within (now src) at inner depth calls × TallyIs (now question) (now src) calls (now tally) × BodiesTallied (now question) (now bodies) ⌝ }
+    ensures { λ r. ⌜ NthIs (now (question .entry)) (now (src .entry)) at i silent (now (args .entry)) inner depth calls r ⌝ }
+{
+    if src.len() <= at {
+        return Label::blocked();
+    }
+    let t = src[at];
+    if t < 5 {
+        return nth_prefix(src, at, args, inner, depth);
+    }
+    if 8 < t {
+        return nth_call(
+            question,
+            bodies,
+            src,
+            at,
+            i,
+            silent,
+            args,
+            inner,
+            depth,
+            calls,
+        );
+    }
+    let k = restrictions_at(src, at);
+    let n = past(t, k);
+    if n == 0 {
+        return nth_either(
+            question,
+            bodies,
+            src,
+            tally,
+            at,
+            i,
+            silent,
+            args,
+            inner,
+            depth,
+            calls,
+        );
+    }
+    let p = nth(
+        question,
+        bodies,
+        src,
+        tally,
+        at + n,
+        i,
+        silent,
+        args,
+        inner + k,
+        depth + k,
+        calls,
+    );
+    outside_of(p, src, at, k, args, inner, depth)
+}
