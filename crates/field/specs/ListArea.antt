@@ -31,13 +31,13 @@ abbrev pub keptBytes : ℕ
 keptBytes = 908
 
 abbrev pub keptLists : ℕ
-keptLists = 32
+keptLists = 16
 
 abbrev pub keptPlace : ℕ → ℕ
 keptPlace i = 34164 + keptBytes * i
 
 abbrev pub listArea : ℕ
-listArea = 63220
+listArea = 48692
 
 abbrev pub labelAt : List ℕ → ℕ → List ℕ
 labelAt area p = take labelBytes (drop p area)

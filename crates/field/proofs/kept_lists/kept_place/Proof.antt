@@ -32,7 +32,7 @@ add-result : tie.Need-add-result
 add-result c = search needs
 
 returns : tie.Need-returns
-returns c = record { number = (c .weighed .result + 5 * length (c .before .before .args .part .now) + 1009 * c .before .before .args .x) * 40503 % 65521 / 2048; among = omega arith; is = refl }
+returns c = record { number = (c .weighed .result + 5 * length (c .before .before .args .part .now) + 1009 * c .before .before .args .x) * 40503 % 65521 / 4096; among = omega arith; is = refl }
 
 pub kept-place-spec : {M : Type 1} → statement M
 kept-place-spec =
