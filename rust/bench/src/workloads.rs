@@ -30,6 +30,7 @@ pub fn all() -> Vec<Workload> {
         judging("wide", "37 components, 5 of them with two states", full(wide())),
         judging("blocked", "985 raw steps, of which 6 are not blocked", full(blocked())),
         judging("far-end", "a ten-bit counter: all is alike until it overflows", full(far_end())),
+        judging("ladder", "a counter: each value is alike if the one below is", full(ladder())),
         judging("worst", "80,829 raw steps, all blocked", full(worst(0, WORST))),
         judging("worst-repeated", "143,444 raw steps, all blocked", full(worst(0, REPEATED))),
         judging("worst-16", "69,324 raw steps in each of 16 situations", full(worst(2, WORST))),
@@ -244,6 +245,55 @@ fn far_end() -> Fields {
         restricted(BITS.into(), grouped_right(&components))
     };
     question(definitions, side(0), side(1))
+}
+
+/// A counter that can be told to count up or down, and that puts out a name while its last digit is
+/// 0. Both sides begin alike: the last digit chooses by a silent step which of two names that is,
+/// and starts the first digit. If both choose the same, all is alike. If they do not, the
+/// situations with a last digit of 0 differ, and each other one only because the one below does,
+/// which was found before it.
+///
+/// An input on its own channel tells a digit to count up and an output to count down. At its
+/// highest value a digit that is told to count up first tells the next to do so, and at 0 one that
+/// is told to count down first tells the next to do so.
+fn ladder() -> Fields {
+    const RADIX: u8 = 10;
+    const LAST_RADIX: u8 = 6;
+    // How many digits there are before the last.
+    const DIGITS: u8 = 2;
+    // Parameters are the digit's own channel, 81, and that of the next, 80.
+    let up = |next: u8| vec![0x02, 0x81, 0x09, next, 0x82, 0x81];
+    let down = |next: u8| vec![0x03, 0x81, 0x81, 0x09, next, 0x81, 0x80];
+    let digit = |value: u8| {
+        let up = match value + 1 {
+            next if next == RADIX => vec![0x02, 0x81, 0x03, 0x81, 0x81, 0x09, 0, 0x82, 0x81],
+            next => up(next),
+        };
+        let down = match value {
+            0 => vec![0x03, 0x81, 0x81, 0x02, 0x80, 0x09, RADIX - 1, 0x82, 0x81],
+            value => down(value - 1),
+        };
+        definition(2, &choice(&[up, down]))
+    };
+    // Parameters of the last digit are its own channel, 81, and the name that it puts out, 80.
+    let last_digit = |value: u8| {
+        let number = RADIX + value;
+        let body = match value {
+            0 => choice(&[up(number + 1), vec![0x03, 0x80, 0x80, 0x09, number, 0x81, 0x80]]),
+            value if value + 1 == LAST_RADIX => down(number - 1),
+            _ => choice(&[up(number + 1), down(number - 1)]),
+        };
+        definition(2, &body)
+    };
+    let definitions = (0..RADIX).map(digit).chain((0..LAST_RADIX).map(last_digit)).collect();
+    // Restricted are the channel of the start, 80, and those of the digits behind the first.
+    let chosen = |name: u8| vec![0x01, 0x03, 0x80, 0x80, 0x09, RADIX, 0x80 + DIGITS, name];
+    let mut components = vec![vec![0x02, 0x80, 0x09, 0x00, 0x02, 0x82]];
+    components.extend((1..DIGITS).map(|place| call(0, &[0x80 + place, 0x81 + place])));
+    components.push(choice(&[chosen(0), chosen(1)]));
+    let part = restricted((DIGITS + 1).into(), grouped_right(&components));
+    let apart = vec![0, 1, 0, 2, 1, 2];
+    Fields { apart, ..question(definitions, part.clone(), part) }
 }
 
 /// How many inputs and new-name outputs a body can offer within its 112 bytes: with different
