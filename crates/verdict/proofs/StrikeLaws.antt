@@ -20,7 +20,7 @@ use Rattle.field.specs.Successors.{leads, successors}
 use Rattle.field.proofs.Run.{selves}
 use Rattle.field.proofs.Members.{getD-∈}
 use Rattle.verdict.specs.Notes.{SpareOnly, NoteIs, RestsIs}
-use Rattle.verdict.specs.Striking.{marks, living, zeros, leftOf, LeftAtIs, Searching, SurvivesIs, ExaminedIs, AllNoted, Strikes, none-struck, one-struck, notes-changed, StrikesOne, AllSurvive, PassIs, SomeStruckIs, StartSurvivesIs}
+use Rattle.verdict.specs.Striking.{marks, living, zeros, leftOf, LeftAtIs, Searching, SurvivesIs, ExaminedIs, AllNoted, Strikes, none-struck, one-struck, notes-changed, StrikesOne, AllSurvive, PassIs, SomeStruckIs, StartSurvivesIs, turned}
 use Rattle.verdict.specs.Verdict.{allAnswered}
 use Rattle.verdict.specs.declared.strike.Answered.{Answered}
 use Rattle.verdict.proofs.AnyOrder.{StrikesTo, all-left}
@@ -53,6 +53,17 @@ left-all work known h =
     let k : i < n = omega (arith, length-marks work n) in
     marks-at work n i 0 k ∙ h i k ∙ sym (getD-replicate {A = ℕ} n i 0 0 k)) in
     ap (λ fs. living fs known) zero ∙ all-living known
+
+-- The order of a pass turned over twice.
+pub turned-below : (rising : Bool) (count i : ℕ) → i < count → turned rising count i < count
+unfolding turned
+turned-below true count i h = omega arith
+turned-below false count i h = h
+
+turned-twice : (rising : Bool) (count i : ℕ) → i < count → turned rising count (turned rising count i) ≡ i
+unfolding turned
+turned-twice true count i h = omega arith
+turned-twice false count i h = refl
 
 module _ (question : List ℕ) (capacity count : ℕ) where
   pub strikes-then : {work v u : List ℕ} → Strikes question capacity count work v → Strikes question capacity count v u → Strikes question capacity count work u
@@ -138,36 +149,39 @@ module _ (question : List ℕ) (capacity count : ℕ) where
       noted = noted-struck question capacity count work i n;
     }
 
-  -- A pass that has come down to number i.
-  pub record Passing (work : List ℕ) (struck : Bool) (v : List ℕ) (i : ℕ) : Type 0 where
+  -- A pass in which i situations still wait.
+  pub record Passing (rising : Bool) (work : List ℕ) (struck : Bool) (v : List ℕ) (i : ℕ) : Type 0 where
     pub strikes : Strikes question capacity count work v
     pub fewer : struck ≡ true → zeros (marks v count) < zeros (marks work count)
-    pub none : struck ≡ false → (j : ℕ) → i ≤ j → j < count → getD v (struckAt j) 0 ≡ 0 → SurvivesIs question capacity v count j true
+    pub none : struck ≡ false → (j : ℕ) → i ≤ turned rising count j → j < count → getD v (struckAt j) 0 ≡ 0 → SurvivesIs question capacity v count j true
     pub noted : AllNoted question capacity v count
 
-  pub passing-start : (work : List ℕ) → AllNoted question capacity work count → Passing work false work count
-  passing-start work n = record {
+  pub passing-start : (rising : Bool) (work : List ℕ) → AllNoted question capacity work count → Passing rising work false work count
+  passing-start rising work n = record {
     strikes = none-struck;
     fewer = λ q. true-not-false q refl;
-    none = λ q j g h. absurd (omega arith);
+    none = λ q j g h. absurd (omega (arith, turned-below rising count j h));
     noted = n;
   }
 
-  module _ (work : List ℕ) (struck : Bool) (v : List ℕ) (k i : ℕ) (next : k ≡ i + 1) (p : Passing work struck v k)
-      (below : i < count) where
-    pub passing-struck : (r : Bool) (v′ : List ℕ) → slotBytes * count ≤ length work → StrikesOne question capacity v count i r v′ → r ≡ true
-        → Passing work true v′ i
+  module _ (rising : Bool) (work : List ℕ) (struck : Bool) (v : List ℕ) (k i : ℕ) (next : k ≡ i + 1) (p : Passing rising work struck v k)
+      (below : i < count) (t : ℕ) (at : t ≡ turned rising count i) where
+    inside : t < count
+    inside = omega (arith, turned-below rising count i below)
+
+    pub passing-struck : (r : Bool) (v′ : List ℕ) → slotBytes * count ≤ length work → StrikesOne question capacity v count t r v′ → r ≡ true
+        → Passing rising work true v′ i
     passing-struck r v′ room₀ s e =
         let (z, d, q) = s .struck e in
-        let l = zeros-fewer v count i below (omega (arith, strikes-length (p .strikes))) z in
+        let l = zeros-fewer v count t inside (omega (arith, strikes-length (p .strikes))) z in
         record {
-          strikes = subst (Strikes question capacity count work) (sym q) (one-struck (p .strikes) i below z d);
+          strikes = subst (Strikes question capacity count work) (sym q) (one-struck (p .strikes) t inside z d);
           fewer = λ x. rw q (omega (arith, l, strikes-most room₀ (p .strikes)));
           none = λ x. true-not-false refl x;
           noted = s .noted;
         }
 
-    pub passing-kept : (r : Bool) (v′ : List ℕ) → StrikesOne question capacity v count i r v′ → r ≡ false → Passing work struck v′ i
+    pub passing-kept : (r : Bool) (v′ : List ℕ) → StrikesOne question capacity v count t r v′ → r ≡ false → Passing rising work struck v′ i
     passing-kept r v′ s e =
         let (c, d) = s .kept e in
         record {
@@ -175,20 +189,23 @@ module _ (question : List ℕ) (capacity count : ℕ) where
           fewer = λ x. omega (arith, spare-zeros v v′ c, p .fewer x);
           none = λ x j g h z.
               survives-kept question capacity count v v′ c j true
-              (go x j g h (sym (spare-mark question capacity count v v′ c j) ∙ z) d (decLt i j));
+              (go x j g h (sym (spare-mark question capacity count v v′ c j) ∙ z) d (decLt i (turned rising count j)));
           noted = s .noted;
         }
       where
-        go : struck ≡ false → (j : ℕ) → i ≤ j → j < count → getD v (struckAt j) 0 ≡ 0 → (getD v (struckAt i) 0 ≡ 0 → SurvivesIs question capacity v count i true)
-            → Dec (i < j) → SurvivesIs question capacity v count j true
+        go : struck ≡ false → (j : ℕ) → i ≤ turned rising count j → j < count → getD v (struckAt j) 0 ≡ 0
+            → (getD v (struckAt t) 0 ≡ 0 → SurvivesIs question capacity v count t true)
+            → Dec (i < turned rising count j) → SurvivesIs question capacity v count j true
         go x j g h z d (yes l) = p .none x j (omega arith) h z
         go x j g h z d (no l) =
-            let e : i ≡ j = omega arith in
+            let k : i ≡ turned rising count j = omega arith in
+            let e : t ≡ j = at ∙ ap (turned rising count) k ∙ turned-twice rising count j h in
             subst (λ j. SurvivesIs question capacity v count j true) e (d (subst (λ j. getD v (struckAt j) 0 ≡ 0) (sym e) z))
 
-  pub passed : (work : List ℕ) (struck : Bool) (v : List ℕ) (i : ℕ) → i ≡ 0 → Passing work struck v i → PassIs question capacity work count struck v
+  pub passed : (rising : Bool) (work : List ℕ) (struck : Bool) (v : List ℕ) (i : ℕ) → i ≡ 0 → Passing rising work struck v i
+      → PassIs question capacity work count struck v
   unfolding AllSurvive
-  passed work struck v i e p = record { strikes = p .strikes; fewer = p .fewer; none = λ x j h z. p .none x j (omega arith) h z; noted = p .noted }
+  passed rising work struck v i e p = record { strikes = p .strikes; fewer = p .fewer; none = λ x j h z. p .none x j (omega arith) h z; noted = p .noted }
 
   -- survives_passes
   pub pass-less : (v u : List ℕ) (again r : Bool) → slotBytes * count ≤ length v → again ≡ true → PassIs question capacity v count r u

@@ -2,7 +2,7 @@
 use mathlib.Core.Bool.{Bool, true, false, cond, _&&_}
 use mathlib.Core.List.{List, [], _∷_}
 use mathlib.Core.Path.{_≡_}
-use Prim.Native.Nat.{ℕ, zero, suc, _*_, _<_}
+use Prim.Native.Nat.{ℕ, zero, suc, _-_, _*_, _<_}
 use lib.Dec.{eqb}
 use lib.ListN.{length, getD, set, take}
 use Rattle.calculus.specs.Cond.{Pairs}
@@ -182,6 +182,10 @@ pub record StrikesOne (question : List ℕ) (capacity : ℕ) (work : List ℕ) (
 -- every situation that is left survives
 unfoldable pub AllSurvive : List ℕ → ℕ → List ℕ → ℕ → Type 0
 AllSurvive question capacity work count = (i : ℕ) → i < count → getD work (struckAt i) 0 ≡ 0 → SurvivesIs question capacity work count i true
+
+-- The number of the situation that a pass takes up when i of the `count` come behind it: the larger numbers first, or the smaller ones.
+unfoldable pub turned : Bool → ℕ → ℕ → ℕ
+turned rising count i = cond rising (count - 1 - i) i
 
 -- One pass: whether it struck any out.
 pub record PassIs (question : List ℕ) (capacity : ℕ) (work : List ℕ) (count : ℕ) (r : Bool) (work′ : List ℕ) : Type 0 where

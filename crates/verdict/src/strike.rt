@@ -9,7 +9,7 @@ ghost use Rattle.steps.specs.Limits.{stepBytes};
 ghost use Rattle.steps.specs.Rows.{rowBytes, mostRows};
 ghost use Rattle.verdict.specs.Judge.{greatestCapacity};
 ghost use Rattle.verdict.specs.Notes.{Numbers};
-ghost use Rattle.verdict.specs.Striking.{LeftAtIs, LeftIs, AnswerLeftIs, SideAnsweredIs, ExaminedIs, AllNoted, StrikesOne, PassIs, SomeStruckIs, StartSurvivesIs};
+ghost use Rattle.verdict.specs.Striking.{LeftAtIs, LeftIs, AnswerLeftIs, SideAnsweredIs, ExaminedIs, AllNoted, StrikesOne, PassIs, SomeStruckIs, StartSurvivesIs, turned};
 use crate::relied::Relied;
 use crate::relied::clear_notes;
 use crate::relied::note;
@@ -264,7 +264,18 @@ fn strike_one(
     true
 }
 
-// One pass from the last situation to the first; whether it struck any out.
+// The number of the situation that a pass takes up when `i` of the `count` come behind it: the larger numbers first, or the smaller ones.
+fn turn(rising: bool, count: usize, i: usize) -> usize
+    requires { ⌜ i < count ⌝ }
+    ensures { λ r. ⌜ r ≡ turned rising count i ⌝ }
+{
+    if rising {
+        return count - 1 - i;
+    }
+    i
+}
+
+// One pass over all situations, from the last to the first or the other way round; whether it struck any out.
 fn strike_pass(
     question: &[u8],
     bodies: &[u32],
@@ -275,6 +286,7 @@ fn strike_pass(
     rows: &mut [u8],
     firsts: &mut [u8],
     seconds: &mut [u8],
+    rising: bool,
 ) -> bool
     requires { ⌜ (count ≤ capacity) × (slotBytes * capacity ≤ length (now work)) × BodiesTallied (now question) (now bodies) × (length (now numbers) ≡ tallySize) × (rowBytes * mostRows ≤ length (now rows)) × Labelled (now question) (now firsts) × Labelled (now question) (now seconds) × (capacity ≤ greatestCapacity) × AllNoted (now question) capacity (now work) count ⌝ }
     ensures { λ r. ⌜ PassIs (now (question .entry)) capacity (now (work .entry)) count r (now (work .exit)) × Labelled (now (question .entry)) (now (firsts .exit)) × Labelled (now (question .entry)) (now (seconds .exit)) ⌝ }
@@ -289,7 +301,7 @@ fn strike_pass(
             work,
             capacity,
             count,
-            i,
+            turn(rising, count, i),
             numbers,
             rows,
             firsts,
@@ -301,7 +313,8 @@ fn strike_pass(
     struck
 }
 
-// Passes until one strikes out none or the start is struck out; whether the start is left. The two areas have the lists that their labels say.
+// Passes until one strikes out none or the start is struck out; whether the start is left. Situations fail because of ones that were found later or
+// earlier, so that the passes go down and up by turns. The two areas have the lists that their labels say.
 fn survives_passes(
     question: &[u8],
     bodies: &[u32],
@@ -317,6 +330,7 @@ fn survives_passes(
     ensures { λ r. ⌜ StartSurvivesIs (now (question .entry)) capacity (now (work .entry)) count r (now (work .exit)) ⌝ }
 {
     clear_notes(work, count);
+    let mut rising = false;
     let mut again = true;
     while again {
         again = strike_pass(
@@ -329,7 +343,9 @@ fn survives_passes(
             rows,
             firsts,
             seconds,
+            rising,
         );
+        rising = !rising;
         if !left_at(work, 0) {
             return false;
         }
