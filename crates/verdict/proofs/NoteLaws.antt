@@ -73,6 +73,13 @@ module _ (count : ℕ) where
   pub spare-none : (work : List ℕ) → SpareOnly count work work
   spare-none work = record { len = refl; slots = λ i j h. refl; rest = λ k h. refl }
 
+  pub spare-then : (w v u : List ℕ) → SpareOnly count w v → SpareOnly count v u → SpareOnly count w u
+  spare-then w v u s t = record {
+    len = t .len ∙ s .len;
+    slots = λ i j h. t .slots i j h ∙ s .slots i j h;
+    rest = λ k h. t .rest k h ∙ s .rest k h;
+  }
+
   spare-put : (work₀ work : List ℕ) (i k n : ℕ) → i < count → k < notedCount → SpareOnly count work₀ work
       → SpareOnly count work₀ (putNumber work (notePlace i k) n)
   unfolding putNumber

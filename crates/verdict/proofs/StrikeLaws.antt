@@ -1,11 +1,11 @@
 -- Striking out in the work area: what it keeps, and that it strikes out as `StrikesTo` does (AnyOrder). Assumes nothing.
 use mathlib.Core.Bool.{Bool, true, false, cond}
 use mathlib.Core.List.{List, []}
-use mathlib.Core.Logic.{_⊎_}
+use mathlib.Core.Logic.{_⊎_, inl, inr}
 use mathlib.Core.Path.{_≡_, refl, sym, ap, _∙_, subst}
 use native.Mathlib.Decide.{ℕ-discrete, decLt}
 use native.Mathlib.Omega.{arith}
-use Prim.Native.Nat.{ℕ, _+_, _*_, _<_, _≤_}
+use Prim.Native.Nat.{ℕ, _+_, _-_, _*_, _/_, _<_, _≤_}
 use lib.ListN.{length, getD, set, drop, replicate, length-set, length-map, length-replicate, getD-replicate, List·getD-map}
 use lib.Seq.{drop-set-lt, getD-set-other, ext-getD}
 use borrow.Author.Tests.{eqb-false}
@@ -20,7 +20,7 @@ use Rattle.field.specs.Successors.{leads, successors}
 use Rattle.field.proofs.Run.{selves}
 use Rattle.field.proofs.Members.{getD-∈}
 use Rattle.verdict.specs.Notes.{SpareOnly, NoteIs, RestsIs}
-use Rattle.verdict.specs.Striking.{marks, living, zeros, leftOf, LeftAtIs, Searching, SurvivesIs, ExaminedIs, AllNoted, Strikes, none-struck, one-struck, notes-changed, StrikesOne, AllSurvive, PassIs, SomeStruckIs, StartSurvivesIs, turned}
+use Rattle.verdict.specs.Striking.{marks, living, zeros, leftOf, LeftAtIs, Searching, SurvivesIs, ExaminedIs, AllNoted, Strikes, none-struck, one-struck, notes-changed, StrikesOne, AllSurvive, Run, PassIs, SomeStruckIs, StartSurvivesIs, blockSlots, blockSize, turned}
 use Rattle.verdict.specs.Verdict.{allAnswered}
 use Rattle.verdict.specs.declared.strike.Answered.{Answered}
 use Rattle.verdict.proofs.AnyOrder.{StrikesTo, all-left}
@@ -28,7 +28,7 @@ use Rattle.verdict.proofs.AnyOrder as order
 use Rattle.verdict.proofs.FieldKept.{SameField, same-none, same-then, struck-same, spare-same, field-kept, noted-struck, noted-one, rests-survives, spare-mark, spare-left, survives-kept}
 use Rattle.verdict.proofs.Living.{struck-either, struck-within, all-living}
 use Rattle.verdict.proofs.Marks.{length-marks, marks-at, marks-kept, marks-set, zeros-fewer}
-use Rattle.verdict.proofs.NoteLaws.{spare-none}
+use Rattle.verdict.proofs.NoteLaws.{spare-none, spare-then}
 use Rattle.verdict.proofs.Rounds.{true-not-false}
 use Rattle.verdict.proofs.Unanswered.{all-within, strikes-flagged}
 
@@ -64,6 +64,17 @@ turned-twice : (rising : Bool) (count i : ℕ) → i < count → turned rising c
 unfolding turned
 turned-twice true count i h = omega arith
 turned-twice false count i h = refl
+
+-- The situations of those of the n parts that a pass has taken up while i wait.
+unfoldable pub TakenUp : Bool → ℕ → (ℕ → ℕ → Type 0) → ℕ → ℕ → Type 0
+TakenUp rising n Part i j = (k : ℕ) × (k < n) × (i ≤ turned rising n k) × Part k j
+
+-- Parts of one slot, and of one block.
+abbrev pub Slots : ℕ → ℕ → ℕ → Type 0
+Slots from k = Run (from + k) 1
+
+abbrev pub Blocks : ℕ → ℕ → ℕ → Type 0
+Blocks count k = Run (blockSlots * k) (blockSize count (blockSlots * k))
 
 module _ (question : List ℕ) (capacity count : ℕ) where
   pub strikes-then : {work v u : List ℕ} → Strikes question capacity count work v → Strikes question capacity count v u → Strikes question capacity count work u
@@ -149,66 +160,122 @@ module _ (question : List ℕ) (capacity count : ℕ) where
       noted = noted-struck question capacity count work i n;
     }
 
-  -- A pass in which i situations still wait.
-  pub record Passing (rising : Bool) (work : List ℕ) (struck : Bool) (v : List ℕ) (i : ℕ) : Type 0 where
-    pub strikes : Strikes question capacity count work v
-    pub fewer : struck ≡ true → zeros (marks v count) < zeros (marks work count)
-    pub none : struck ≡ false → (j : ℕ) → i ≤ turned rising count j → j < count → getD v (struckAt j) 0 ≡ 0 → SurvivesIs question capacity v count j true
-    pub noted : AllNoted question capacity v count
+  -- One situation is a pass, too.
+  pub one-pass : (v : List ℕ) (i : ℕ) (r : Bool) (u : List ℕ) → i < count → slotBytes * count ≤ length v → StrikesOne question capacity v count i r u
+      → PassIs question capacity v count (Run i 1) r u
+  one-pass v i r u h room s = go r refl
+    where
+      go : (b : Bool) → r ≡ b → PassIs question capacity v count (Run i 1) r u
+      go true e =
+          let (z, d, q) = s .struck e in
+          record {
+            strikes = subst (Strikes question capacity count v) (sym q) (one-struck none-struck i h z d);
+            fewer = λ x. rw q (zeros-fewer v count i h room z);
+            same = λ x. true-not-false e x;
+            none = λ x. true-not-false e x;
+            noted = s .noted;
+          }
+      go false e =
+          let (c, d) = s .kept e in
+          record {
+            strikes = notes-changed none-struck c;
+            fewer = λ x. true-not-false x e;
+            same = λ x. c;
+            none = λ x j l g z. survives-kept question capacity count v u c j true (only j (omega (arith, g)) (sym (spare-mark question capacity count v u c j) ∙ z) d);
+            noted = s .noted;
+          }
+        where
+          only : (j : ℕ) → i ≡ j → getD v (struckAt j) 0 ≡ 0 → (getD v (struckAt i) 0 ≡ 0 → SurvivesIs question capacity v count i true)
+              → SurvivesIs question capacity v count j true
+          only j e z d = subst (λ j. SurvivesIs question capacity v count j true) e (d (subst (λ j. getD v (struckAt j) 0 ≡ 0) (sym e) z))
 
-  pub passing-start : (rising : Bool) (work : List ℕ) → AllNoted question capacity work count → Passing rising work false work count
-  passing-start rising work n = record {
+  pub pass-none : (work : List ℕ) (H : ℕ → Type 0) → ((j : ℕ) → H j → ⊥) → AllNoted question capacity work count
+      → PassIs question capacity work count H false work
+  pass-none work H empty n = record {
     strikes = none-struck;
-    fewer = λ q. true-not-false q refl;
-    none = λ q j g h. absurd (omega (arith, turned-below rising count j h));
+    fewer = λ x. true-not-false x refl;
+    same = λ x. spare-none count work;
+    none = λ x j h m. absurd (empty j m);
     noted = n;
   }
 
-  module _ (rising : Bool) (work : List ℕ) (struck : Bool) (v : List ℕ) (k i : ℕ) (next : k ≡ i + 1) (p : Passing rising work struck v k)
-      (below : i < count) (t : ℕ) (at : t ≡ turned rising count i) where
-    inside : t < count
-    inside = omega (arith, turned-below rising count i below)
+  pub pass-within : {work u : List ℕ} {r : Bool} {H : ℕ → Type 0} (K : ℕ → Type 0) → ((j : ℕ) → j < count → K j → H j)
+      → PassIs question capacity work count H r u → PassIs question capacity work count K r u
+  pass-within K more p = record {
+    strikes = p .strikes;
+    fewer = p .fewer;
+    same = p .same;
+    none = λ x j h m. p .none x j h (more j h m);
+    noted = p .noted;
+  }
 
-    pub passing-struck : (r : Bool) (v′ : List ℕ) → slotBytes * count ≤ length work → StrikesOne question capacity v count t r v′ → r ≡ true
-        → Passing rising work true v′ i
-    passing-struck r v′ room₀ s e =
-        let (z, d, q) = s .struck e in
-        let l = zeros-fewer v count t inside (omega (arith, strikes-length (p .strikes))) z in
-        record {
-          strikes = subst (Strikes question capacity count work) (sym q) (one-struck (p .strikes) t inside z d);
-          fewer = λ x. rw q (omega (arith, l, strikes-most room₀ (p .strikes)));
-          none = λ x. true-not-false refl x;
-          noted = s .noted;
-        }
+  -- One pass after another.
+  module _ {work v u : List ℕ} {struck r : Bool} {H G : ℕ → Type 0} (K : ℕ → Type 0) (p : PassIs question capacity work count H struck v)
+      (q : PassIs question capacity v count G r u) where
+    pub pass-strikes : slotBytes * count ≤ length work → r ≡ true → PassIs question capacity work count K true u
+    pass-strikes room e = record {
+      strikes = strikes-then (p .strikes) (q .strikes);
+      fewer = λ x. omega (arith, q .fewer e, strikes-most room (p .strikes));
+      same = λ x. true-not-false refl x;
+      none = λ x. true-not-false refl x;
+      noted = q .noted;
+    }
 
-    pub passing-kept : (r : Bool) (v′ : List ℕ) → StrikesOne question capacity v count t r v′ → r ≡ false → Passing rising work struck v′ i
-    passing-kept r v′ s e =
-        let (c, d) = s .kept e in
-        record {
-          strikes = notes-changed (p .strikes) c;
-          fewer = λ x. omega (arith, spare-zeros v v′ c, p .fewer x);
-          none = λ x j g h z.
-              survives-kept question capacity count v v′ c j true
-              (go x j g h (sym (spare-mark question capacity count v v′ c j) ∙ z) d (decLt i (turned rising count j)));
-          noted = s .noted;
-        }
+    pub pass-keeps : r ≡ false → ((j : ℕ) → j < count → K j → H j ⊎ G j) → PassIs question capacity work count K struck u
+    pass-keeps e either = record {
+      strikes = strikes-then (p .strikes) (q .strikes);
+      fewer = λ x. omega (arith, spare-zeros v u (q .same e), p .fewer x);
+      same = λ x. spare-then count work v u (p .same x) (q .same e);
+      none = λ x j h m z. go x j h z (either j h m);
+      noted = q .noted;
+    }
       where
-        go : struck ≡ false → (j : ℕ) → i ≤ turned rising count j → j < count → getD v (struckAt j) 0 ≡ 0
-            → (getD v (struckAt t) 0 ≡ 0 → SurvivesIs question capacity v count t true)
-            → Dec (i < turned rising count j) → SurvivesIs question capacity v count j true
-        go x j g h z d (yes l) = p .none x j (omega arith) h z
-        go x j g h z d (no l) =
-            let k : i ≡ turned rising count j = omega arith in
-            let e : t ≡ j = at ∙ ap (turned rising count) k ∙ turned-twice rising count j h in
-            subst (λ j. SurvivesIs question capacity v count j true) e (d (subst (λ j. getD v (struckAt j) 0 ≡ 0) (sym e) z))
+        go : struck ≡ false → (j : ℕ) → j < count → getD u (struckAt j) 0 ≡ 0 → H j ⊎ G j → SurvivesIs question capacity u count j true
+        go x j h z (inl m) =
+            let c = q .same e in
+            survives-kept question capacity count v u c j true (p .none x j h m (sym (spare-mark question capacity count v u c j) ∙ z))
+        go x j h z (inr m) = q .none e j h m z
 
-  pub passed : (rising : Bool) (work : List ℕ) (struck : Bool) (v : List ℕ) (i : ℕ) → i ≡ 0 → Passing rising work struck v i
-      → PassIs question capacity work count struck v
+  -- A pass that takes up n parts.
+  pub parts-none : (rising : Bool) (n : ℕ) (Part : ℕ → ℕ → Type 0) (work : List ℕ) → AllNoted question capacity work count
+      → PassIs question capacity work count (TakenUp rising n Part n) false work
+  unfolding TakenUp
+  parts-none rising n Part work noted =
+      pass-none work (TakenUp rising n Part n) (λ j m. omega (arith, m .2, turned-below rising n (m .0) (m .1))) noted
+
+  module _ (rising : Bool) (n : ℕ) (Part : ℕ → ℕ → Type 0) {work v u : List ℕ} {struck r : Bool} (k i t : ℕ) (next : k ≡ i + 1) (at : t ≡ turned rising n i)
+      (p : PassIs question capacity work count (TakenUp rising n Part k) struck v) (q : PassIs question capacity v count (Part t) r u) where
+    pub part-strikes : slotBytes * count ≤ length work → r ≡ true → PassIs question capacity work count (TakenUp rising n Part i) true u
+    part-strikes = pass-strikes (TakenUp rising n Part i) p q
+
+    pub part-keeps : r ≡ false → PassIs question capacity work count (TakenUp rising n Part i) struck u
+    unfolding TakenUp
+    part-keeps e = pass-keeps (TakenUp rising n Part i) p q e (λ j h (m, l, g, x). go j m l g x (decLt i (turned rising n m)))
+      where
+        go : (j m : ℕ) → m < n → i ≤ turned rising n m → Part m j → Dec (i < turned rising n m) → TakenUp rising n Part k j ⊎ Part t j
+        go j m l g x (yes b) = inl (m, l, omega arith, x)
+        go j m l g x (no b) =
+            let e : i ≡ turned rising n m = omega arith in
+            let e′ : t ≡ m = at ∙ ap (turned rising n) e ∙ turned-twice rising n m l in
+            inr (subst (λ m. Part m j) (sym e′) x)
+
+  -- strike_run, strike_pass
+  pub run-passed : (rising : Bool) {work u : List ℕ} {r : Bool} (from size i : ℕ) → i ≡ 0 → PassIs question capacity work count (TakenUp rising size (Slots from) i) r u
+      → PassIs question capacity work count (Run from size) r u
+  unfolding TakenUp
+  run-passed rising from size i e = pass-within (Run from size) (λ j h m. (j - from, omega arith, omega arith, (omega arith, omega arith)))
+
+  pub blocks-passed : (rising : Bool) {work u : List ℕ} {r : Bool} (n i : ℕ) → n ≡ (count + blockSlots - 1) / blockSlots → i ≡ 0
+      → PassIs question capacity work count (TakenUp rising n (Blocks count) i) r u → PassIs question capacity work count (Run 0 count) r u
+  unfolding TakenUp
+  blocks-passed rising n i e z = pass-within (Run 0 count) (λ j h m. (j / blockSlots, omega arith, omega arith, (omega arith, omega arith)))
+
+  pub pass-all : {v u : List ℕ} {r : Bool} → PassIs question capacity v count (Run 0 count) r u → r ≡ false → AllSurvive question capacity u count
   unfolding AllSurvive
-  passed rising work struck v i e p = record { strikes = p .strikes; fewer = p .fewer; none = λ x j h z. p .none x j (omega arith) h z; noted = p .noted }
+  pass-all p e j h z = p .none e j h (omega arith, omega arith) z
 
   -- survives_passes
-  pub pass-less : (v u : List ℕ) (again r : Bool) → slotBytes * count ≤ length v → again ≡ true → PassIs question capacity v count r u
+  pub pass-less : {H : ℕ → Type 0} (v u : List ℕ) (again r : Bool) → slotBytes * count ≤ length v → again ≡ true → PassIs question capacity v count H r u
       → zeros (marks u count) + cond r 1 0 < zeros (marks v count) + cond again 1 0
   pass-less v u again r room e p = rw e (go r refl)
     where
@@ -216,7 +283,7 @@ module _ (question : List ℕ) (capacity count : ℕ) where
       go true q = omega (arith, p .fewer q)
       go false q = omega (arith, strikes-most room (p .strikes))
 
-  pub start-goes : (work v u : List ℕ) (again b : Bool) → Strikes question capacity count work v → PassIs question capacity v count again u → LeftAtIs u 0 b → b ≡ false
+  pub start-goes : {H : ℕ → Type 0} (work v u : List ℕ) (again b : Bool) → Strikes question capacity count work v → PassIs question capacity v count H again u → LeftAtIs u 0 b → b ≡ false
       → StartSurvivesIs question capacity work count false u
   unfolding LeftAtIs
   start-goes work v u again b s p l e = record {

@@ -2,7 +2,7 @@
 use mathlib.Core.Bool.{Bool, true, false, cond, _&&_}
 use mathlib.Core.List.{List, [], _∷_}
 use mathlib.Core.Path.{_≡_}
-use Prim.Native.Nat.{ℕ, zero, suc, _-_, _*_, _<_}
+use Prim.Native.Nat.{ℕ, zero, suc, _+_, _-_, _*_, _<_, _≤_, min}
 use lib.Dec.{eqb}
 use lib.ListN.{length, getD, set, take}
 use Rattle.calculus.specs.Cond.{Pairs}
@@ -183,15 +183,28 @@ pub record StrikesOne (question : List ℕ) (capacity : ℕ) (work : List ℕ) (
 unfoldable pub AllSurvive : List ℕ → ℕ → List ℕ → ℕ → Type 0
 AllSurvive question capacity work count = (i : ℕ) → i < count → getD work (struckAt i) 0 ≡ 0 → SurvivesIs question capacity work count i true
 
--- The number of the situation that a pass takes up when i of the `count` come behind it: the larger numbers first, or the smaller ones.
+-- The number of the part that a pass takes up when i of the `count` come behind it: the larger numbers first, or the smaller ones.
 unfoldable pub turned : Bool → ℕ → ℕ → ℕ
 turned rising count i = cond rising (count - 1 - i) i
 
--- One pass: whether it struck any out.
-pub record PassIs (question : List ℕ) (capacity : ℕ) (work : List ℕ) (count : ℕ) (r : Bool) (work′ : List ℕ) : Type 0 where
+-- one of the `size` slots from `from` on
+abbrev pub Run : ℕ → ℕ → ℕ → Type 0
+Run from size = λ j. (from ≤ j) × (j < from + size)
+
+-- A pass settles a block before it goes on.
+abbrev pub blockSlots : ℕ
+blockSlots = 64
+
+abbrev pub blockSize : ℕ → ℕ → ℕ
+blockSize count from = min blockSlots (count - from)
+
+-- One pass over the situations in H, or several: whether any was struck out. If none was, only notes are changed, and those in H that are left
+-- survive.
+pub record PassIs (question : List ℕ) (capacity : ℕ) (work : List ℕ) (count : ℕ) (H : ℕ → Type 0) (r : Bool) (work′ : List ℕ) : Type 0 where
   pub strikes : Strikes question capacity count work work′
   pub fewer : r ≡ true → zeros (marks work′ count) < zeros (marks work count)
-  pub none : r ≡ false → AllSurvive question capacity work′ count
+  pub same : r ≡ false → SpareOnly count work work′
+  pub none : r ≡ false → (j : ℕ) → j < count → H j → getD work′ (struckAt j) 0 ≡ 0 → SurvivesIs question capacity work′ count j true
   pub noted : AllNoted question capacity work′ count
 
 -- Whether one of the first `count` situations is struck out.

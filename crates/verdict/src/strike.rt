@@ -9,7 +9,7 @@ ghost use Rattle.steps.specs.Limits.{stepBytes};
 ghost use Rattle.steps.specs.Rows.{rowBytes, mostRows};
 ghost use Rattle.verdict.specs.Judge.{greatestCapacity};
 ghost use Rattle.verdict.specs.Notes.{Numbers};
-ghost use Rattle.verdict.specs.Striking.{LeftAtIs, LeftIs, AnswerLeftIs, SideAnsweredIs, ExaminedIs, AllNoted, StrikesOne, PassIs, SomeStruckIs, StartSurvivesIs, turned};
+ghost use Rattle.verdict.specs.Striking.{LeftAtIs, LeftIs, AnswerLeftIs, SideAnsweredIs, ExaminedIs, AllNoted, StrikesOne, Run, PassIs, SomeStruckIs, StartSurvivesIs, blockSize, turned};
 use crate::relied::Relied;
 use crate::relied::clear_notes;
 use crate::relied::note;
@@ -31,6 +31,9 @@ use terms::bytes::get;
 
 // The byte of a slot behind its key: 0 while the situation is left, 1 once it is struck out.
 const STRUCK: usize = 241;
+
+// How many slots a pass settles before it goes on.
+const BLOCK: usize = 64;
 
 // Whether situation `i` is left.
 pub fn left_at(work: &[u8], i: usize) -> bool
@@ -264,7 +267,7 @@ fn strike_one(
     true
 }
 
-// The number of the situation that a pass takes up when `i` of the `count` come behind it: the larger numbers first, or the smaller ones.
+// The number of the part that a pass takes up when `i` of the `count` come behind it: the larger numbers first, or the smaller ones.
 fn turn(rising: bool, count: usize, i: usize) -> usize
     requires { ⌜ i < count ⌝ }
     ensures { λ r. ⌜ r ≡ turned rising count i ⌝ }
@@ -275,7 +278,101 @@ fn turn(rising: bool, count: usize, i: usize) -> usize
     i
 }
 
-// One pass over all situations, from the last to the first or the other way round; whether it struck any out.
+// One pass over the `size` situations from `from` on, the last one first or the first one; whether it struck any out.
+fn strike_run(
+    question: &[u8],
+    bodies: &[u32],
+    work: &mut [u8],
+    capacity: usize,
+    count: usize,
+    from: usize,
+    size: usize,
+    numbers: &mut [u32],
+    rows: &mut [u8],
+    firsts: &mut [u8],
+    seconds: &mut [u8],
+    rising: bool,
+) -> bool
+    requires { ⌜ (from + size ≤ count) × (count ≤ capacity) × (slotBytes * capacity ≤ length (now work)) × BodiesTallied (now question) (now bodies) × (length (now numbers) ≡ tallySize) × (rowBytes * mostRows ≤ length (now rows)) × Labelled (now question) (now firsts) × Labelled (now question) (now seconds) × (capacity ≤ greatestCapacity) × AllNoted (now question) capacity (now work) count ⌝ }
+    ensures { λ r. ⌜ PassIs (now (question .entry)) capacity (now (work .entry)) count (Run from size) r (now (work .exit)) × Labelled (now (question .entry)) (now (firsts .exit)) × Labelled (now (question .entry)) (now (seconds .exit)) ⌝ }
+{
+    let mut struck = false;
+    let mut i = size;
+    while 0 < i {
+        i -= 1;
+        if strike_one(
+            question,
+            bodies,
+            work,
+            capacity,
+            count,
+            from + turn(rising, size, i),
+            numbers,
+            rows,
+            firsts,
+            seconds,
+        ) {
+            struck = true;
+        }
+    }
+    struck
+}
+
+// Passes over one block by turns of direction until one strikes out none of it; whether any was struck out. Situations that fail because of each
+// other lie near each other mostly, so that the rest of the field is not gone over for each.
+fn settle(
+    question: &[u8],
+    bodies: &[u32],
+    work: &mut [u8],
+    capacity: usize,
+    count: usize,
+    from: usize,
+    size: usize,
+    numbers: &mut [u32],
+    rows: &mut [u8],
+    firsts: &mut [u8],
+    seconds: &mut [u8],
+    rising: bool,
+) -> bool
+    requires { ⌜ (from + size ≤ count) × (count ≤ capacity) × (slotBytes * capacity ≤ length (now work)) × BodiesTallied (now question) (now bodies) × (length (now numbers) ≡ tallySize) × (rowBytes * mostRows ≤ length (now rows)) × Labelled (now question) (now firsts) × Labelled (now question) (now seconds) × (capacity ≤ greatestCapacity) × AllNoted (now question) capacity (now work) count ⌝ }
+    ensures { λ r. ⌜ PassIs (now (question .entry)) capacity (now (work .entry)) count (Run from size) r (now (work .exit)) × Labelled (now (question .entry)) (now (firsts .exit)) × Labelled (now (question .entry)) (now (seconds .exit)) ⌝ }
+{
+    let mut struck = false;
+    let mut up = rising;
+    loop {
+        if !strike_run(
+            question,
+            bodies,
+            work,
+            capacity,
+            count,
+            from,
+            size,
+            numbers,
+            rows,
+            firsts,
+            seconds,
+            up,
+        ) {
+            return struck;
+        }
+        struck = true;
+        up = !up;
+    }
+}
+
+// How many of the `count` slots belong to the block that begins at `from`.
+fn block_size(count: usize, from: usize) -> usize
+    requires { ⌜ from < count ⌝ }
+    ensures { λ r. ⌜ r ≡ blockSize count from ⌝ }
+{
+    if count - from < BLOCK {
+        return count - from;
+    }
+    BLOCK
+}
+
+// One pass over all situations block by block, from the last to the first or the other way round; whether it struck any out.
 fn strike_pass(
     question: &[u8],
     bodies: &[u32],
@@ -289,23 +386,27 @@ fn strike_pass(
     rising: bool,
 ) -> bool
     requires { ⌜ (count ≤ capacity) × (slotBytes * capacity ≤ length (now work)) × BodiesTallied (now question) (now bodies) × (length (now numbers) ≡ tallySize) × (rowBytes * mostRows ≤ length (now rows)) × Labelled (now question) (now firsts) × Labelled (now question) (now seconds) × (capacity ≤ greatestCapacity) × AllNoted (now question) capacity (now work) count ⌝ }
-    ensures { λ r. ⌜ PassIs (now (question .entry)) capacity (now (work .entry)) count r (now (work .exit)) × Labelled (now (question .entry)) (now (firsts .exit)) × Labelled (now (question .entry)) (now (seconds .exit)) ⌝ }
+    ensures { λ r. ⌜ PassIs (now (question .entry)) capacity (now (work .entry)) count (Run 0 count) r (now (work .exit)) × Labelled (now (question .entry)) (now (firsts .exit)) × Labelled (now (question .entry)) (now (seconds .exit)) ⌝ }
 {
+    let blocks = (count + BLOCK - 1) / BLOCK;
     let mut struck = false;
-    let mut i = count;
+    let mut i = blocks;
     while 0 < i {
         i -= 1;
-        if strike_one(
+        let from = BLOCK * turn(rising, blocks, i);
+        if settle(
             question,
             bodies,
             work,
             capacity,
             count,
-            turn(rising, count, i),
+            from,
+            block_size(count, from),
             numbers,
             rows,
             firsts,
             seconds,
+            rising,
         ) {
             struck = true;
         }

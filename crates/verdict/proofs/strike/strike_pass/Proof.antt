@@ -2,56 +2,69 @@
 use native.Mathlib.Omega.{arith}
 use borrow.Author.Needs.{needs}
 use mathlib.Core.Path.{_≡_, refl}
-use Prim.Native.Nat.{_-_, _≤_}
+use Prim.Native.Nat.{_+_, _-_, _/_, _≤_}
 use lib.ListN.{length}
 use Rattle.field.specs.ListArea.{Labelled}
-use Rattle.verdict.proofs.StrikeLaws.{turned-below, Passing, passing-start, passing-struck, passing-kept, passed}
+use Rattle.verdict.specs.Striking.{PassIs, blockSlots}
+use Rattle.verdict.proofs.StrikeLaws.{turned-below, TakenUp, Blocks, pass-within, parts-none, part-strikes, part-keeps, blocks-passed}
 use Rattle.verdict.proofs.strike.strike_pass.Statement.{statement}
 use Rattle.verdict.proofs.strike.strike_pass.Tie as tie
 
 abbrev Inv-loop : tie.InvT-loop
-Inv-loop question bodies work₀ capacity count numbers₀ rows₀ firsts₀ seconds₀ rising struck₀ i₀ work numbers rows firsts seconds struck i =
-    (i ≤ count) × (length work ≡ length work₀) × (length numbers ≡ length numbers₀) × (length rows ≡ length rows₀)
+Inv-loop question bodies work₀ capacity count numbers₀ rows₀ firsts₀ seconds₀ rising blocks struck₀ i₀ work numbers rows firsts seconds struck i =
+    (i ≤ blocks) × (length work ≡ length work₀) × (length numbers ≡ length numbers₀) × (length rows ≡ length rows₀)
     × (length firsts ≡ length firsts₀) × (length seconds ≡ length seconds₀) × Labelled question firsts × Labelled question seconds
-    × Passing question capacity count rising work₀ struck work i
+    × PassIs question capacity work₀ count (TakenUp rising blocks (Blocks count) i) struck work
 
 abbrev μ-loop : tie.MeasureT-loop
-μ-loop question bodies work₀ capacity count numbers₀ rows₀ firsts₀ seconds₀ rising struck₀ i₀ work numbers rows firsts seconds struck i = i
+μ-loop question bodies work₀ capacity count numbers₀ rows₀ firsts₀ seconds₀ rising blocks struck₀ i₀ work numbers rows firsts seconds struck i = i
+
+add-blocks : tie.Need-add-blocks Inv-loop μ-loop
+add-blocks c = omega (arith, c .before .before .before .before .before .before .before .pre .0, c .before .before .before .before .before .before .before .pre .7)
+
+sub-blocks : tie.Need-sub-blocks Inv-loop μ-loop
+sub-blocks c = search needs
 
 loop-holds : tie.Need-loop-holds Inv-loop μ-loop
-loop-holds c = (search needs, refl, refl, refl, refl, refl, c .before .before .before .before .before .before .before .pre .5, c .before .before .before .before .before .before .before .pre .6, passing-start _ _ _ _ _ (c .before .before .before .before .before .before .before .pre .8))
+loop-holds c = (search needs, refl, refl, refl, refl, refl, c .before .before .before .before .before .before .before .pre .5, c .before .before .before .before .before .before .before .pre .6, parts-none _ _ _ _ _ _ _ (c .before .before .before .before .before .before .before .pre .8))
 
 sub-i : tie.Need-sub-i Inv-loop μ-loop
 sub-i c = search needs
 
 turn-requires : tie.Need-turn-requires Inv-loop μ-loop
-turn-requires c κs = omega (arith, c .before .before .loop .inv .0, c .before .loop-test .taken)
+turn-requires c κs = omega (arith, c .before .loop .inv .0, c .loop-test .taken)
 
-strike-one-requires : tie.Need-strike-one-requires Inv-loop μ-loop
-strike-one-requires c κs = (
-  omega (arith, c .before .before .before .before .turn .ensures, turned-below (c .before .before .before .before .before .before .before .before .before .before .before .before .before .before .before .args .rising) (c .before .before .before .before .before .before .before .before .before .before .before .before .before .before .before .args .count) (c .before .before .before .before .before .before .before .loop .i - 1) (omega (arith, c .before .before .before .before .before .before .before .loop .inv .0, c .before .before .before .before .before .before .loop-test .taken))),
-  c .before .before .before .before .before .before .before .before .before .before .before .before .before .before .before .pre .0,
-  omega (arith, c .before .before .before .before .before .before .before .before .before .before .before .before .before .before .before .pre .1, c .before .before .before .before .before .before .before .loop .inv .1),
-  c .before .before .before .before .before .before .before .before .before .before .before .before .before .before .before .pre .2,
-  omega (arith, c .before .before .before .before .before .before .before .before .before .before .before .before .before .before .before .pre .3, c .before .before .before .before .before .before .before .loop .inv .2),
-  omega (arith, c .before .before .before .before .before .before .before .before .before .before .before .before .before .before .before .pre .4, c .before .before .before .before .before .before .before .loop .inv .3),
-  c .before .before .before .before .before .before .before .loop .inv .6,
-  c .before .before .before .before .before .before .before .loop .inv .7,
-  c .before .before .before .before .before .before .before .before .before .before .before .before .before .before .before .pre .7,
-  c .before .before .before .before .before .before .before .loop .inv .8 .noted,
+mul-from : tie.Need-mul-from Inv-loop μ-loop
+mul-from c = omega (arith, c .turn .ensures, turned-below (c .before .before .before .before .before .before .before .before .before .before .args .rising) ((c .before .before .before .before .before .before .before .before .before .before .args .count + blockSlots - 1) / blockSlots) (c .before .before .loop .i - 1) (omega (arith, c .before .before .loop .inv .0, c .before .loop-test .taken)), c .before .before .before .before .before .before .before .before .before .before .pre .0, c .before .before .before .before .before .before .before .before .before .before .pre .7)
+
+block-size-requires : tie.Need-block-size-requires Inv-loop μ-loop
+block-size-requires c κs = omega (arith, c .before .turn .ensures, turned-below (c .before .before .before .before .before .before .before .before .before .before .before .args .rising) ((c .before .before .before .before .before .before .before .before .before .before .before .args .count + blockSlots - 1) / blockSlots) (c .before .before .before .loop .i - 1) (omega (arith, c .before .before .before .loop .inv .0, c .before .before .loop-test .taken)))
+
+settle-requires : tie.Need-settle-requires Inv-loop μ-loop
+settle-requires c κs = (
+  omega (arith, c .before .before .before .before .before .before .turn .ensures, turned-below (c .before .before .before .before .before .before .before .before .before .before .before .before .before .before .before .before .args .rising) ((c .before .before .before .before .before .before .before .before .before .before .before .before .before .before .before .before .args .count + blockSlots - 1) / blockSlots) (c .before .before .before .before .before .before .before .before .loop .i - 1) (omega (arith, c .before .before .before .before .before .before .before .before .loop .inv .0, c .before .before .before .before .before .before .before .loop-test .taken)), c .before .before .before .before .block-size .ensures),
+  c .before .before .before .before .before .before .before .before .before .before .before .before .before .before .before .before .pre .0,
+  omega (arith, c .before .before .before .before .before .before .before .before .before .before .before .before .before .before .before .before .pre .1, c .before .before .before .before .before .before .before .before .loop .inv .1),
+  c .before .before .before .before .before .before .before .before .before .before .before .before .before .before .before .before .pre .2,
+  omega (arith, c .before .before .before .before .before .before .before .before .before .before .before .before .before .before .before .before .pre .3, c .before .before .before .before .before .before .before .before .loop .inv .2),
+  omega (arith, c .before .before .before .before .before .before .before .before .before .before .before .before .before .before .before .before .pre .4, c .before .before .before .before .before .before .before .before .loop .inv .3),
+  c .before .before .before .before .before .before .before .before .loop .inv .6,
+  c .before .before .before .before .before .before .before .before .loop .inv .7,
+  c .before .before .before .before .before .before .before .before .before .before .before .before .before .before .before .before .pre .7,
+  c .before .before .before .before .before .before .before .before .loop .inv .8 .noted,
 )
 
 loop-less : tie.Need-loop-less Inv-loop μ-loop
 loop-less c = search needs
 
 loop-again : tie.Need-loop-again Inv-loop μ-loop
-loop-again c = (search needs, search needs, search needs, search needs, search needs, search needs, c .before .before .before .before .before .before .before .before .before .before .before .strike-one .ensures .1, c .before .before .before .before .before .before .before .before .before .before .before .strike-one .ensures .2, passing-struck _ _ _ _ _ _ _ (c .before .before .before .before .before .before .before .before .before .before .before .before .before .before .before .before .before .before .before .loop .i) _ (omega (arith, c .before .before .before .before .before .before .before .before .before .before .before .before .before .before .before .before .before .before .loop-test .taken)) (c .before .before .before .before .before .before .before .before .before .before .before .before .before .before .before .before .before .before .before .loop .inv .8) (omega (arith, c .before .before .before .before .before .before .before .before .before .before .before .before .before .before .before .before .before .before .before .loop .inv .0, c .before .before .before .before .before .before .before .before .before .before .before .before .before .before .before .before .before .before .loop-test .taken)) _ (c .before .before .before .before .before .before .before .before .before .before .before .before .before .before .before .before .turn .ensures) _ _ (omega (arith, c .before .before .before .before .before .before .before .before .before .before .before .before .before .before .before .before .before .before .before .before .before .before .before .before .before .before .before .pre .0, c .before .before .before .before .before .before .before .before .before .before .before .before .before .before .before .before .before .before .before .before .before .before .before .before .before .before .before .pre .1, c .before .before .before .before .before .before .before .before .before .before .before .before .before .before .before .before .before .before .before .loop .inv .0, c .before .before .before .before .before .before .before .before .before .before .before .before .before .before .before .before .before .before .before .loop .inv .1)) (c .before .before .before .before .before .before .before .before .before .before .before .strike-one .ensures .0) (c .if1 .taken))
+loop-again c = (search needs, search needs, search needs, search needs, search needs, search needs, c .before .before .before .before .before .before .before .before .before .before .before .settle .ensures .1, c .before .before .before .before .before .before .before .before .before .before .before .settle .ensures .2, part-strikes _ _ _ _ _ (Blocks (c .before .before .before .before .before .before .before .before .before .before .before .before .before .before .before .before .before .before .before .before .before .before .before .before .before .before .before .before .args .count)) (c .before .before .before .before .before .before .before .before .before .before .before .before .before .before .before .before .before .before .before .before .loop .i) _ _ (omega (arith, c .before .before .before .before .before .before .before .before .before .before .before .before .before .before .before .before .before .before .before .loop-test .taken)) (c .before .before .before .before .before .before .before .before .before .before .before .before .before .before .before .before .before .before .turn .ensures) (c .before .before .before .before .before .before .before .before .before .before .before .before .before .before .before .before .before .before .before .before .loop .inv .8) (pass-within _ _ _ (Blocks (c .before .before .before .before .before .before .before .before .before .before .before .before .before .before .before .before .before .before .before .before .before .before .before .before .before .before .before .before .args .count) (c .before .before .before .before .before .before .before .before .before .before .before .before .before .before .before .before .before .before .turn .result)) (λ j h m. (m .0, omega (arith, m .1, c .before .before .before .before .before .before .before .before .before .before .before .before .before .before .before .before .block-size .ensures))) (c .before .before .before .before .before .before .before .before .before .before .before .settle .ensures .0)) (omega (arith, c .before .before .before .before .before .before .before .before .before .before .before .before .before .before .before .before .before .before .before .before .before .before .before .before .before .before .before .before .pre .0, c .before .before .before .before .before .before .before .before .before .before .before .before .before .before .before .before .before .before .before .before .before .before .before .before .before .before .before .before .pre .1)) (c .if1 .taken))
 
 loop-less-2 : tie.Need-loop-less-2 Inv-loop μ-loop
 loop-less-2 c = search needs
 
 loop-again-2 : tie.Need-loop-again-2 Inv-loop μ-loop
-loop-again-2 c = (search needs, search needs, search needs, search needs, search needs, search needs, c .before .before .before .before .before .before .before .before .before .before .before .strike-one .ensures .1, c .before .before .before .before .before .before .before .before .before .before .before .strike-one .ensures .2, passing-kept _ _ _ _ _ _ _ (c .before .before .before .before .before .before .before .before .before .before .before .before .before .before .before .before .before .before .before .loop .i) _ (omega (arith, c .before .before .before .before .before .before .before .before .before .before .before .before .before .before .before .before .before .before .loop-test .taken)) (c .before .before .before .before .before .before .before .before .before .before .before .before .before .before .before .before .before .before .before .loop .inv .8) (omega (arith, c .before .before .before .before .before .before .before .before .before .before .before .before .before .before .before .before .before .before .before .loop .inv .0, c .before .before .before .before .before .before .before .before .before .before .before .before .before .before .before .before .before .before .loop-test .taken)) _ (c .before .before .before .before .before .before .before .before .before .before .before .before .before .before .before .before .turn .ensures) _ _ (c .before .before .before .before .before .before .before .before .before .before .before .strike-one .ensures .0) (c .if1 .left))
+loop-again-2 c = (search needs, search needs, search needs, search needs, search needs, search needs, c .before .before .before .before .before .before .before .before .before .before .before .settle .ensures .1, c .before .before .before .before .before .before .before .before .before .before .before .settle .ensures .2, part-keeps _ _ _ _ _ (Blocks (c .before .before .before .before .before .before .before .before .before .before .before .before .before .before .before .before .before .before .before .before .before .before .before .before .before .before .before .before .args .count)) (c .before .before .before .before .before .before .before .before .before .before .before .before .before .before .before .before .before .before .before .before .loop .i) _ _ (omega (arith, c .before .before .before .before .before .before .before .before .before .before .before .before .before .before .before .before .before .before .before .loop-test .taken)) (c .before .before .before .before .before .before .before .before .before .before .before .before .before .before .before .before .before .before .turn .ensures) (c .before .before .before .before .before .before .before .before .before .before .before .before .before .before .before .before .before .before .before .before .loop .inv .8) (pass-within _ _ _ (Blocks (c .before .before .before .before .before .before .before .before .before .before .before .before .before .before .before .before .before .before .before .before .before .before .before .before .before .before .before .before .args .count) (c .before .before .before .before .before .before .before .before .before .before .before .before .before .before .before .before .before .before .turn .result)) (λ j h m. (m .0, omega (arith, m .1, c .before .before .before .before .before .before .before .before .before .before .before .before .before .before .before .before .block-size .ensures))) (c .before .before .before .before .before .before .before .before .before .before .before .settle .ensures .0)) (c .if1 .left))
 
 same-length : tie.Need-same-length Inv-loop μ-loop
 same-length c = search needs
@@ -69,7 +82,7 @@ same-length-5 : tie.Need-same-length-5 Inv-loop μ-loop
 same-length-5 c = search needs
 
 returns : tie.Need-returns Inv-loop μ-loop
-returns c = (passed _ _ _ _ _ _ _ (c .before .loop .i) (omega arith) (c .before .loop .inv .8), c .before .loop .inv .6, c .before .loop .inv .7)
+returns c = (blocks-passed _ _ _ _ _ (c .before .loop .i) refl (omega arith) (c .before .loop .inv .8), c .before .loop .inv .6, c .before .loop .inv .7)
 
 pub strike-pass-spec : {M : Type 1} → statement M
 strike-pass-spec =
@@ -77,10 +90,14 @@ strike-pass-spec =
     (tie.spec
     Inv-loop
     μ-loop
+    add-blocks
+    sub-blocks
     loop-holds
     sub-i
     turn-requires
-    strike-one-requires
+    mul-from
+    block-size-requires
+    settle-requires
     loop-less
     loop-again
     loop-less-2

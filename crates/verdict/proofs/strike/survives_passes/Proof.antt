@@ -14,7 +14,7 @@ use Rattle.verdict.specs.Striking.{marks, zeros, AllNoted, Strikes, none
 use Rattle.verdict.proofs.FieldKept.{noted-none}
 use Rattle.verdict.proofs.Marks.{left-zero}
 use Rattle.verdict.proofs.Rounds.{true-not-false}
-use Rattle.verdict.proofs.StrikeLaws.{strikes-then, pass-less, start-goes, start-stays}
+use Rattle.verdict.proofs.StrikeLaws.{strikes-then, pass-all, pass-less, start-goes, start-stays}
 use Rattle.verdict.proofs.strike.survives_passes.Statement.{statement}
 use Rattle.verdict.proofs.strike.survives_passes.Tie as tie
 
@@ -79,7 +79,7 @@ loop-again c = (
   c .before .before .before .before .before .before .before .before .before .before .before .before .before .strike-pass .ensures .1,
   c .before .before .before .before .before .before .before .before .before .before .before .before .before .strike-pass .ensures .2,
   strikes-then _ _ _ (c .before .before .before .before .before .before .before .before .before .before .before .before .before .before .before .before .before .before .before .before .loop .inv .5) (c .before .before .before .before .before .before .before .before .before .before .before .before .before .strike-pass .ensures .0 .strikes),
-  λ q. (left-zero _ _ _ (c .before .left-at .ensures) (not-false _ (c .if1 .left)), c .before .before .before .before .before .before .before .before .before .before .before .before .before .strike-pass .ensures .0 .none q),
+  λ q. (left-zero _ _ _ (c .before .left-at .ensures) (not-false _ (c .if1 .left)), pass-all _ _ _ (c .before .before .before .before .before .before .before .before .before .before .before .before .before .strike-pass .ensures .0) q),
   omega (arith, c .before .before .before .before .before .before .before .before .before .before .before .before .before .before .before .before .before .before .before .before .loop .inv .7, c .before .before .before .before .before .before .before .before .before .before .before .before .before .strike-pass .kept),
   omega (arith, c .before .before .before .before .before .before .before .before .before .before .before .before .before .before .before .before .before .before .before .before .loop .inv .8, c .before .before .before .before .before .before .before .before .before .before .before .before .before .strike-pass .kept),
   omega (arith, c .before .before .before .before .before .before .before .before .before .before .before .before .before .before .before .before .before .before .before .before .loop .inv .9, c .before .before .before .before .before .before .before .before .before .before .before .before .before .strike-pass .kept),
