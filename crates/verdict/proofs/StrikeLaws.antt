@@ -17,10 +17,12 @@ use Rattle.field.specs.Setting.{settingOf}
 use Rattle.field.specs.Situation.{Situation}
 use Rattle.field.specs.Slot.{slotBytes, struckAt}
 use Rattle.field.specs.Successors.{leads, successors}
+use Rattle.field.specs.declared.find.Found.{Found}
+use Rattle.field.specs.declared.find.Found.the-variants.{At, Nothing}
 use Rattle.field.proofs.Run.{selves}
 use Rattle.field.proofs.Members.{getD-∈}
 use Rattle.verdict.specs.Notes.{SpareOnly, NoteIs, RestsIs}
-use Rattle.verdict.specs.Striking.{marks, living, zeros, leftOf, LeftAtIs, Searching, SurvivesIs, ExaminedIs, AllNoted, Strikes, none-struck, one-struck, notes-changed, StrikesOne, AllSurvive, Run, PassIs, SomeStruckIs, StartSurvivesIs, blockSlots, blockSize, turned}
+use Rattle.verdict.specs.Striking.{marks, living, zeros, leftOf, LeftAtIs, Searching, SurvivesIs, ExaminedIs, AllNoted, Strikes, none-struck, one-struck, notes-changed, StrikesOne, AllSurvive, Run, PassIs, FirstStruckIs, StartSurvivesIs, blockSlots, blockSize, turned}
 use Rattle.verdict.specs.Verdict.{allAnswered}
 use Rattle.verdict.specs.declared.strike.Answered.{Answered}
 use Rattle.verdict.proofs.AnyOrder.{StrikesTo, all-left}
@@ -32,16 +34,18 @@ use Rattle.verdict.proofs.NoteLaws.{spare-none, spare-then}
 use Rattle.verdict.proofs.Rounds.{true-not-false}
 use Rattle.verdict.proofs.Unanswered.{all-within, strikes-flagged}
 
--- some_struck
-pub some-gone : (work : List ℕ) (count i : ℕ) (r : Bool) → i < count → LeftAtIs work i r → r ≡ false → SomeStruckIs work count true
+-- first_struck
+pub first-gone : (work : List ℕ) (count i : ℕ) (r : Bool) → i < count → LeftAtIs work i r → r ≡ false → ((j : ℕ) → j < i → getD work (struckAt j) 0 ≡ 0)
+    → FirstStruckIs work count (At i)
 unfolding LeftAtIs
-some-gone work count i r h l e = record {
-  some = λ q. (i, h, eqb-false (getD work (struckAt i) 0) 0 (sym l ∙ e));
-  none = λ q. true-not-false refl q;
+first-gone work count i r h l e before = record {
+  some = λ k q. let z : i ≡ k = cc in subst (λ k. (k < count) × (getD work (struckAt k) 0 ≡ 0 → ⊥) × ((j : ℕ) → j < k → getD work (struckAt j) 0 ≡ 0)) z
+      (h, eqb-false (getD work (struckAt i) 0) 0 (sym l ∙ e), before);
+  none = λ q. let z : _≡_ {A = ℕ} 0 1 = cc in absurd (omega arith);
 }
 
-pub none-gone : (work : List ℕ) (count : ℕ) → ((i : ℕ) → i < count → getD work (struckAt i) 0 ≡ 0) → SomeStruckIs work count false
-none-gone work count h = record { some = λ q. true-not-false q refl; none = λ q. h }
+pub none-gone : (work : List ℕ) (count : ℕ) → ((i : ℕ) → i < count → getD work (struckAt i) 0 ≡ 0) → FirstStruckIs work count Nothing
+none-gone work count h = record { some = λ k q. let z : _≡_ {A = ℕ} 0 1 = cc in absurd (omega arith); none = λ q. h }
 
 -- All are left where no byte says otherwise.
 left-all : (work : List ℕ) (known : List Situation) → ((i : ℕ) → i < length known → getD work (struckAt i) 0 ≡ 0) → leftOf work known ≡ known
@@ -305,9 +309,9 @@ module _ (question : List ℕ) (capacity count : ℕ) where
     goes = λ q z. eqb-false (getD work (struckAt 0) 0) 0 (sym l ∙ e) z;
   }
 
-  pub none-struck-stays : (work : List ℕ) (b : Bool) → 1 ≤ count → SomeStruckIs work count b → b ≡ false → StartSurvivesIs question capacity work count true work
+  pub none-struck-stays : (work : List ℕ) (r : Found) → 1 ≤ count → FirstStruckIs work count r → r ≡ Nothing → StartSurvivesIs question capacity work count true work
   unfolding AllSurvive SurvivesIs
-  none-struck-stays work b some s e = start-stays work work none-struck (s .none e 0 some) each
+  none-struck-stays work r some s e = start-stays work work none-struck (s .none e 0 some) each
     where
       each : AllSurvive question capacity work count
       each i h z f d ms l =

@@ -207,10 +207,10 @@ pub record PassIs (question : List ℕ) (capacity : ℕ) (work : List ℕ) (coun
   pub none : r ≡ false → (j : ℕ) → j < count → H j → getD work′ (struckAt j) 0 ≡ 0 → SurvivesIs question capacity work′ count j true
   pub noted : AllNoted question capacity work′ count
 
--- Whether one of the first `count` situations is struck out.
-pub record SomeStruckIs (work : List ℕ) (count : ℕ) (r : Bool) : Type 0 where
-  pub some : r ≡ true → (i : ℕ) × (i < count) × (getD work (struckAt i) 0 ≡ 0 → ⊥)
-  pub none : r ≡ false → (i : ℕ) → i < count → getD work (struckAt i) 0 ≡ 0
+-- The first situation that is struck out, of the first `count`.
+pub record FirstStruckIs (work : List ℕ) (count : ℕ) (r : Found) : Type 0 where
+  pub some : (i : ℕ) → r ≡ At i → (i < count) × (getD work (struckAt i) 0 ≡ 0 → ⊥) × ((j : ℕ) → j < i → getD work (struckAt j) 0 ≡ 0)
+  pub none : r ≡ Nothing → (i : ℕ) → i < count → getD work (struckAt i) 0 ≡ 0
 
 -- Whether the start is left, where none is left to strike out or the start is not left.
 pub record StartSurvivesIs (question : List ℕ) (capacity : ℕ) (work : List ℕ) (count : ℕ) (r : Bool) (work′ : List ℕ) : Type 0 where

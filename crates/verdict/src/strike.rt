@@ -9,7 +9,7 @@ ghost use Rattle.steps.specs.Limits.{stepBytes};
 ghost use Rattle.steps.specs.Rows.{rowBytes, mostRows};
 ghost use Rattle.verdict.specs.Judge.{greatestCapacity};
 ghost use Rattle.verdict.specs.Notes.{Numbers};
-ghost use Rattle.verdict.specs.Striking.{LeftAtIs, LeftIs, AnswerLeftIs, SideAnsweredIs, ExaminedIs, AllNoted, StrikesOne, Run, PassIs, SomeStruckIs, StartSurvivesIs, blockSize, turned};
+ghost use Rattle.verdict.specs.Striking.{LeftAtIs, LeftIs, AnswerLeftIs, SideAnsweredIs, ExaminedIs, AllNoted, StrikesOne, Run, PassIs, FirstStruckIs, StartSurvivesIs, blockSize, turned};
 use crate::relied::Relied;
 use crate::relied::clear_notes;
 use crate::relied::note;
@@ -415,7 +415,7 @@ fn strike_pass(
 }
 
 // Passes until one strikes out none or the start is struck out; whether the start is left. Situations fail because of ones that were found later or
-// earlier, so that the passes go down and up by turns. The two areas have the lists that their labels say.
+// earlier, so that the passes go up and down by turns. The two areas have the lists that their labels say.
 fn survives_passes(
     question: &[u8],
     bodies: &[u32],
@@ -426,12 +426,13 @@ fn survives_passes(
     work: &mut [u8],
     capacity: usize,
     count: usize,
+    rising: bool,
 ) -> bool
     requires { ⌜ (1 ≤ count) × (count ≤ capacity) × (slotBytes * capacity ≤ length (now work)) × BodiesTallied (now question) (now bodies) × (length (now numbers) ≡ tallySize) × (rowBytes * mostRows ≤ length (now rows)) × Labelled (now question) (now firsts) × Labelled (now question) (now seconds) × (capacity ≤ greatestCapacity) ⌝ }
     ensures { λ r. ⌜ StartSurvivesIs (now (question .entry)) capacity (now (work .entry)) count r (now (work .exit)) ⌝ }
 {
     clear_notes(work, count);
-    let mut rising = false;
+    let mut up = rising;
     let mut again = true;
     while again {
         again = strike_pass(
@@ -444,9 +445,9 @@ fn survives_passes(
             rows,
             firsts,
             seconds,
-            rising,
+            up,
         );
-        rising = !rising;
+        up = !up;
         if !left_at(work, 0) {
             return false;
         }
@@ -454,23 +455,23 @@ fn survives_passes(
     true
 }
 
-// Whether one of the first `count` situations is struck out.
-fn some_struck(work: &[u8], count: usize) -> bool
+// The first situation that is struck out, of the first `count`.
+fn first_struck(work: &[u8], count: usize) -> Found
     requires { ⌜ slotBytes * count ≤ length (now work) ⌝ }
-    ensures { λ r. ⌜ SomeStruckIs (now (work .entry)) count r ⌝ }
+    ensures { λ r. ⌜ FirstStruckIs (now (work .entry)) count r ⌝ }
 {
     let mut i = 0;
     while i < count {
         if !left_at(work, i) {
-            return true;
+            return Found::At(i);
         }
         i += 1;
     }
-    false
+    Found::Nothing
 }
 
 // Whether the start survives. Exploration struck out the situations with a step that has no answer at all; if there are none, all survive, since
-// every answer leads to a situation of the field.
+// every answer leads to a situation of the field. The first pass begins at the end that is nearer to the first of them.
 pub fn start_survives(
     question: &[u8],
     bodies: &[u32],
@@ -488,18 +489,20 @@ pub fn start_survives(
     if !left_at(work, 0) {
         return false;
     }
-    if !some_struck(work, count) {
-        return true;
+    let first = first_struck(work, count);
+    match first {
+        Found::Nothing => true,
+        Found::At(i) => survives_passes(
+            question,
+            bodies,
+            numbers,
+            rows,
+            firsts,
+            seconds,
+            work,
+            capacity,
+            count,
+            2 * i < count,
+        ),
     }
-    survives_passes(
-        question,
-        bodies,
-        numbers,
-        rows,
-        firsts,
-        seconds,
-        work,
-        capacity,
-        count,
-    )
 }

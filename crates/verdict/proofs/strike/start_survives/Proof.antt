@@ -15,17 +15,26 @@ same-length c = search needs
 returns : tie.Need-returns
 returns c = start-gone _ _ _ _ _ (c .before .left-at .ensures) (not-true _ (c .if1 .taken))
 
-some-struck-requires : tie.Need-some-struck-requires
-some-struck-requires c κs = search needs
+first-struck-requires : tie.Need-first-struck-requires
+first-struck-requires c κs = search needs
+
+enum-told : tie.Need-enum-told
+enum-told c = search needs
+
+enum-known-first : tie.Need-enum-known-first
+enum-known-first c = search needs
+
+mul-survives-passes : tie.Need-mul-survives-passes
+mul-survives-passes c = omega (arith, c .before .before .before .before .before .before .before .before .first-struck .ensures .some (c .before .before .before .before .before .before .first .given .0 .0) (c .before .before .before .before .before .before .first .given .1) .0, c .before .before .before .before .before .before .before .before .before .before .before .before .before .before .before .before .before .before .before .before .pre .1, c .before .before .before .before .before .before .before .before .before .before .before .before .before .before .before .before .before .before .before .before .pre .8)
+
+survives-passes-requires : tie.Need-survives-passes-requires
+survives-passes-requires c κs = search needs
 
 same-length-2 : tie.Need-same-length-2
 same-length-2 c = search needs
 
 returns-2 : tie.Need-returns-2
-returns-2 c = none-struck-stays _ _ _ _ _ (omega arith) (c .before .some-struck .ensures) (not-true _ (c .if2 .taken))
-
-survives-passes-requires : tie.Need-survives-passes-requires
-survives-passes-requires c κs = c .before .before .before .before .before .before .before .before .before .before .before .before .before .before .before .before .before .before .pre
+returns-2 c = none-struck-stays _ _ _ _ _ (omega arith) (c .before .before .first-struck .ensures) (c .enum-told .given .1)
 
 same-length-3 : tie.Need-same-length-3
 same-length-3 c = search needs
@@ -43,7 +52,7 @@ same-length-7 : tie.Need-same-length-7
 same-length-7 c = search needs
 
 returns-3 : tie.Need-returns-3
-returns-3 c = c .before .before .before .before .before .before .before .before .before .before .survives-passes .ensures
+returns-3 c = search needs
 
 pub start-survives-spec : {M : Type 1} → statement M
 start-survives-spec =
@@ -52,10 +61,13 @@ start-survives-spec =
     left-at-requires
     same-length
     returns
-    some-struck-requires
+    first-struck-requires
+    enum-told
+    enum-known-first
+    mul-survives-passes
+    survives-passes-requires
     same-length-2
     returns-2
-    survives-passes-requires
     same-length-3
     same-length-4
     same-length-5

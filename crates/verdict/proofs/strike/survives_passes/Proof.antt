@@ -19,14 +19,14 @@ use Rattle.verdict.proofs.strike.survives_passes.Statement.{statement}
 use Rattle.verdict.proofs.strike.survives_passes.Tie as tie
 
 abbrev Inv-loop : tie.InvT-loop
-Inv-loop question bodies numbers₀ rows₀ firsts₀ seconds₀ work₀ capacity count rising₀ again₀ numbers rows firsts seconds work rising again =
+Inv-loop question bodies numbers₀ rows₀ firsts₀ seconds₀ work₀ capacity count rising up₀ again₀ numbers rows firsts seconds work up again =
     (length work ≡ length work₀) × (length numbers ≡ tallySize) × (rowBytes * mostRows ≤ length rows) × Labelled question firsts × Labelled question seconds
     × Strikes question capacity count work₀ work × (again ≡ false → (getD work (struckAt 0) 0 ≡ 0) × AllSurvive question capacity work count)
     × (length numbers ≡ length numbers₀) × (length rows ≡ length rows₀) × (length firsts ≡ length firsts₀) × (length seconds ≡ length seconds₀)
     × AllNoted question capacity work count
 
 abbrev μ-loop : tie.MeasureT-loop
-μ-loop question bodies numbers₀ rows₀ firsts₀ seconds₀ work₀ capacity count rising₀ again₀ numbers rows firsts seconds work rising again = zeros (marks work count) + cond again 1 0
+μ-loop question bodies numbers₀ rows₀ firsts₀ seconds₀ work₀ capacity count rising up₀ again₀ numbers rows firsts seconds work up again = zeros (marks work count) + cond again 1 0
 
 clear-notes-requires : tie.Need-clear-notes-requires Inv-loop μ-loop
 clear-notes-requires c κs = omega (arith, c .before .before .before .before .before .before .before .before .pre .1, c .before .before .before .before .before .before .before .before .pre .2)

@@ -1,4 +1,4 @@
--- `verdict::strike::some_struck` meets its contract. Assumes nothing.
+-- `verdict::strike::first_struck` meets its contract. Assumes nothing.
 use native.Mathlib.Omega.{arith}
 use borrow.Author.Count.{below-more}
 use borrow.Author.Needs.{needs}
@@ -8,9 +8,9 @@ use Prim.Native.Nat.{ℕ, _-_, _<_, _≤_}
 use lib.ListN.{getD}
 use Rattle.field.specs.Slot.{struckAt}
 use Rattle.verdict.proofs.Marks.{left-zero}
-use Rattle.verdict.proofs.StrikeLaws.{some-gone, none-gone}
-use Rattle.verdict.proofs.strike.some_struck.Statement.{statement}
-use Rattle.verdict.proofs.strike.some_struck.Tie as tie
+use Rattle.verdict.proofs.StrikeLaws.{first-gone, none-gone}
+use Rattle.verdict.proofs.strike.first_struck.Statement.{statement}
+use Rattle.verdict.proofs.strike.first_struck.Tie as tie
 
 abbrev Inv-loop : tie.InvT-loop
 Inv-loop work count i₀ i =
@@ -26,7 +26,7 @@ left-at-requires : tie.Need-left-at-requires Inv-loop μ-loop
 left-at-requires c κs = search needs
 
 returns : tie.Need-returns Inv-loop μ-loop
-returns c = some-gone _ _ _ _ (c .before .before .loop-test .taken) (c .before .left-at .ensures) (not-true _ (c .if1 .taken))
+returns c = first-gone _ _ _ _ (c .before .before .loop-test .taken) (c .before .left-at .ensures) (not-true _ (c .if1 .taken)) (c .before .before .before .loop .inv .1)
 
 add-i : tie.Need-add-i Inv-loop μ-loop
 add-i c = search needs
@@ -40,8 +40,8 @@ loop-again c = (search needs, below-more _ _ (c .before .before .before .loop .i
 returns-2 : tie.Need-returns-2 Inv-loop μ-loop
 returns-2 c = none-gone _ _ (λ k h. c .before .loop .inv .1 k (omega arith))
 
-pub some-struck-spec : {M : Type 1} → statement M
-some-struck-spec =
+pub first-struck-spec : {M : Type 1} → statement M
+first-struck-spec =
     tie.close
     (tie.spec
     Inv-loop
