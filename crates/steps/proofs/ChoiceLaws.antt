@@ -16,7 +16,7 @@ use Rattle.terms.specs.Limits.{nameCount}
 use Rattle.terms.specs.Question.{Question, checkOf}
 use Rattle.terms.proofs.Stores.{span, length-span, getD-span, getD-front}
 use Rattle.candidates.specs.LabelWalk.{slotAt, HasSlots}
-use Rattle.candidates.specs.Bodies.{bodyOf}
+use Rattle.candidates.specs.Bodies.{AritiesIs, bodyOf}
 use Rattle.candidates.specs.Lists.{_∈_, Among}
 use Rattle.candidates.specs.Raw.{Candidate, matching, visible, visibleOf}
 use Rattle.candidates.specs.Slots.{slotOf}
@@ -27,10 +27,9 @@ use Rattle.candidates.proofs.FrontLaws.{stands, behind}
 use Rattle.candidates.proofs.Membership.{∈-left, ∈-right, ∈-map, ∈-mapped}
 use Rattle.candidates.proofs.TwoSides.{at-left, at-right}
 use Rattle.steps.specs.Deciding.{decided, Again}
-use Rattle.steps.specs.Entries.{Alike}
 use Rattle.steps.specs.Rows.{isTrivial, isFailing, Piece, plus, match, branch, Pieces, Offers, behindPiece, RepeatedIs}
+use Rattle.steps.specs.Same.{SameIs}
 use Rattle.steps.proofs.DecidingLaws.{decided-trivial, decided-failing, again-one, again-more, again-as}
-use Rattle.steps.proofs.ListedBytes.{reads-once}
 use Rattle.steps.proofs.RaisedMeetings.{bound-slot, slot-one}
 
 -- Where a match of a name with itself stands, or another one.
@@ -212,28 +211,6 @@ module _ (body : ℕ → Term) (calls : ℕ) (arities : List ℕ) (free D : ℕ)
         let (l′, k′) = pieces-of more P (at + 1) rest scope st (λ c i. again-one depth c more (∈-right c before (seen P) i)) m e in
         (l ++ l′, pieces-join more l l′ root (at + 1) m (pieces-more before more (λ c i. ∈-left c before (seen P) i) l root (at + 1) k) k′)
 
--- A term whose bytes are those at another place stands there too.
-stands-too : (s : List ℕ) (p at D : ℕ) (P : Term) (rest : List ℕ) → drop at s ≡ encode D P ++ rest → p ≤ at → Alike s p s at (length (encode D P))
-    → (more : List ℕ) × (drop p s ≡ encode D P ++ more)
-stands-too s p at D P rest st h same =
-    let n : ℕ = length (encode D P) in
-    let l : at + n ≤ length s = stands s at D P rest st .1 in
-    let here : span s at n ≡ encode D P = ap (take n) st ∙ take-at (encode D P) rest n refl in
-    let equal : span s p n ≡ span s at n =
-    ext-getD 0 (span s p n) (span s at n) (length-span s p n (omega arith) ∙ sym (length-span s at n l))
-    (λ i k. let j : i < n = omega (arith, length-span s p n (omega arith)) in getD-span s p n i j ∙ same i j ∙ sym (getD-span s at n i j)) in
-    (drop n (drop p s), sym (take-append-drop n (drop p s)) ∙ ap (λ l. l ++ drop n (drop p s)) (equal ∙ here))
-
--- A match and two names are three bytes, and say all of whether it is trivial.
-match-long : (D : ℕ) (P : Term) → tag P ≡ 5 → 3 ≤ length (encode D P)
-unfolding encode
-match-long D = only-mat (λ (P : Term). 3 ≤ length (encode D P)) (λ a b P. omega arith)
-
-same-trivial : (s args : List ℕ) (inner depth p at : ℕ) → getD s p 0 ≡ getD s at 0 → getD s (p + 1) 0 ≡ getD s (at + 1) 0 → getD s (p + 2) 0 ≡ getD s (at + 2) 0
-    → isTrivial s args inner depth p ≡ isTrivial s args inner depth at
-unfolding isTrivial
-same-trivial s args inner depth p at e f g = λ i. cond (eqb (e i) 5) (eqb (slotAt args inner depth (f i)) (slotAt args inner depth (g i))) false
-
 -- The place behind a piece lies behind it.
 pub behind-on : (s t args : List ℕ) (inner depth p : ℕ) → EndsInside s t → p < length s → p < behindPiece s t args inner depth p
 unfolding behindPiece
@@ -292,30 +269,35 @@ module _ (question s t args : List ℕ) (inner depth root at : ℕ) where
         go (branch B ∷ l) k =
             moved l (p + length (encode D B)) (e ∙ simp (ne-eqb (getD s p 0) 6 (k .0), k .1) (T .is q p free D B (k .3 .0) ok (k .2) (k .3 .1))) (k .5)
 
-    pub repeated-found : Alike s p s at (endAt t at - at) → RepeatedIs question s args inner depth root at true
-    unfolding Pieces
-    repeated-found same = record {
-      is = λ q calls free D σ P rest before _ ok few has scope st n u o.
+    -- a branch at p that is the same
+    pub repeated-found : (arities : List ℕ) → AritiesIs question arities → (n : ℕ) → 0 < n → SameIs s p at arities args inner depth n
+        → getD s p 0 ≡ getD s at 0 → RepeatedIs question s args inner depth root at true
+    unfolding Pieces AritiesIs
+    repeated-found arities A n some S b = record {
+      is = λ q calls free D σ P rest before _ ok few has scope st z u o.
           let (l, k) = ahead q calls free D σ before ok o in
-          let e = T .is q at free D P rest ok scope st in
-          let z = stands s at D P rest st in
-          let same′ : Alike s p s at (length (encode D P)) = λ i b. same i (omega arith) in
-          let (more, st′) = stands-too s p at D P rest st (omega arith) same′ in
-          go q calls free D σ P rest before few scope st n u same′ more st′ (tag-at s p D P more st′ ∙ sym (tag-at s at D P rest st)) l k;
+          go q calls free D σ P rest before (A q ok) few has scope st z u l k;
     }
       where
-        go : (q : Question) (calls free D : ℕ) (σ : ℕ → ℕ) (P : Term) (rest : List ℕ) (before : List Candidate) → free ≤ nameCount
-            → InScope free (q .arities) D P → drop at s ≡ encode D P ++ rest → (getD s at 0 ≡ 6 → ⊥) → isTrivial s args inner depth at ≡ false
-            → Alike s p s at (length (encode D P)) → (more : List ℕ) → drop p s ≡ encode D P ++ more
-            → getD s p 0 ≡ getD s at 0 → (l : List Piece) → Pieces (bodyOf (q .bodies)) calls (q .arities) free D σ s args inner depth before p at l
+        go : (q : Question) (calls free D : ℕ) (σ : ℕ → ℕ) (P : Term) (rest : List ℕ) (before : List Candidate) → arities ≡ q .arities → free ≤ nameCount
+            → HasSlots free D args inner depth σ → InScope free (q .arities) D P → drop at s ≡ encode D P ++ rest → (getD s at 0 ≡ 6 → ⊥)
+            → isTrivial s args inner depth at ≡ false → (l : List Piece)
+            → Pieces (bodyOf (q .bodies)) calls (q .arities) free D σ s args inner depth before p at l
             → (c : Candidate) → c ∈ visible (bodyOf (q .bodies)) calls (ren σ P) → Again depth c before
-        go q calls free D σ P rest before few scope st n u same more st′ b [] k = absurd (omega arith)
-        go q calls free D σ P rest before few scope st n u same more st′ b (plus ∷ l) k = absurd (n (sym b ∙ k .0))
-        go q calls free D σ P rest before few scope st n u same more st′ b (match ∷ l) k =
-            let five = trivial-slots s args inner depth p (k .0) .0 in
-            let long = match-long D P (sym (tag-at s at D P rest st) ∙ sym b ∙ five) in
-            let e : true ≡ false = sym (k .0) ∙ same-trivial s args inner depth p at b (same 1 (omega arith)) (same 2 (omega arith)) ∙ u in
-            let z : _≡_ {A = ℕ} 0 1 = cc in absurd (omega arith)
-        go q calls free D σ P rest before few scope st n u same more st′ b (branch B ∷ l) k =
-            let e : B ≡ P = reads-once free (omega arith) (q .arities) D B P (k .3 .0) more (k .2) scope (sym (k .3 .1) ∙ st′) in
-            subst (λ (Q : Term). (c : Candidate) → c ∈ visible (bodyOf (q .bodies)) calls (ren σ Q) → Again depth c before) e (k .4)
+        go q calls free D σ P rest before a few has scope st z u [] k = absurd (omega arith)
+        go q calls free D σ P rest before a few has scope st z u (plus ∷ l) k = absurd (z (sym b ∙ k .0))
+        go q calls free D σ P rest before a few has scope st z u (match ∷ l) k =
+            let e : true ≡ false = sym (k .0) ∙ S .trivial some ∙ u in
+            let w : _≡_ {A = ℕ} 0 1 = cc in absurd (omega arith)
+        go q calls free D σ P rest before a few has scope st z u (branch B ∷ l) k =
+            let e : ren σ P ≡ ren σ B = S .is some free D σ P B (record {
+              few = few;
+              has = has;
+              scope = subst (λ (xs : List ℕ). InScope free xs D P) (sym a) scope;
+              scope-too = subst (λ (xs : List ℕ). InScope free xs D B) (sym a) (k .2);
+              rest = rest;
+              stands = st;
+              more = k .3 .0;
+              stands-too = k .3 .1;
+            }) .1 in
+            subst (λ (Q : Term). (c : Candidate) → c ∈ visible (bodyOf (q .bodies)) calls Q → Again depth c before) (sym e) (k .4)

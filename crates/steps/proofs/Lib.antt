@@ -33,6 +33,7 @@ pub mod RawComplete
 pub mod RawSound
 pub mod RowLaws
 pub mod RowWalks
+pub mod SameLaws
 pub mod Sorted
 pub mod StepEntries
 pub mod TakeLaws

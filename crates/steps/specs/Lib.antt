@@ -14,4 +14,5 @@ pub mod Meeting
 pub mod Operations
 pub mod PartLister
 pub mod Rows
+pub mod Same
 pub mod Walking

@@ -8,5 +8,6 @@ pub mod meet;
 pub mod operation;
 pub mod put;
 pub mod rows;
+pub mod same;
 pub mod splice;
 pub mod walk;

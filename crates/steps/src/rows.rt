@@ -1,15 +1,15 @@
 // The visible candidates of a term in a table of rows, found on one walk of the term's bytes beneath restriction, choice, parallel, match and call,
 // in the order of crates/candidates/specs/Raw. And whether the term's silent candidates have no condition.
-ghost use mathlib.Core.List.{List};
 ghost use mathlib.Core.Path.{_≡_};
-ghost use Prim.Native.Nat.{ℕ, _+_, _*_, _≤_, _<_};
+ghost use Prim.Native.Nat.{ℕ, _+_, _-_, _*_, _≤_, _<_};
 ghost use lib.ListN.{length, getD};
 ghost use Rattle.terms.specs.Limits.{nameCount, longestTerm};
 ghost use Rattle.candidates.specs.LabelWalk.{Within};
 ghost use Rattle.candidates.specs.Slots.{slotCount};
 ghost use Rattle.candidates.specs.Tally.{EndsInside, TallyIs, EndsTallied, BodiesTallied};
 ghost use Rattle.steps.specs.Rows.{rowBytes, mostRows, PutRowIs, prefixKind, PrefixRowIs, PutRepeatedIs, rootOf, isTrivial, isFailing, behindPiece, RepeatedIs, ScanIs, QuietIs};
-use crate::listed::alike;
+use crate::same::same_term;
+use candidates::bodies::arities_of;
 use candidates::bodies::body_of;
 use candidates::bodies::call_at;
 use candidates::label::arguments;
@@ -171,8 +171,9 @@ fn behind_piece(
     end_at(tally, p)
 }
 
-// Whether the term at `at` is equal to an earlier branch of its choice, which begins at `root`: by their bytes.
+// Whether the term at `at` is equal to an earlier branch of its choice, which begins at `root`: by the slots of their names.
 fn is_repeated(
+    question: &[u8],
     src: &[u8],
     tally: &[u32],
     root: usize,
@@ -181,16 +182,16 @@ fn is_repeated(
     inner: usize,
     depth: usize,
 ) -> bool
-    requires { ⌜ (at < length (now src)) × EndsInside (now src) (now tally) × (inner ≤ depth) × (nameCount + depth ≤ slotCount) ⌝ }
-    ensures { λ r. ⌜ ((question : List ℕ) → EndsTallied question (now (src .entry)) (now (tally .entry)) → RepeatedIs question (now (src .entry)) (now (args .entry)) inner depth root at r) ⌝ }
+    requires { ⌜ (at < length (now src)) × EndsInside (now src) (now tally) × (inner ≤ depth) × (nameCount + depth + (length (now src) - at) ≤ slotCount) ⌝ }
+    ensures { λ r. ⌜ (EndsTallied (now (question .entry)) (now (src .entry)) (now (tally .entry)) → RepeatedIs (now (question .entry)) (now (src .entry)) (now (args .entry)) inner depth root at r) ⌝ }
 {
     let t = src[at];
-    let n = end_at(tally, at) - at;
     let mut p = root;
     while p < at {
         // A byte 06 and another form differ at once.
         if src[p] == t {
-            if alike(src, p, src, at, n) {
+            let n = same_term(src, p, at, arities_of(question), args, inner, depth);
+            if 0 < n {
                 return true;
             }
         }
@@ -201,6 +202,7 @@ fn is_repeated(
 
 // Whether the candidates of the term at `at` add no step: it is a match that fails, or equal to an earlier branch of its choice.
 fn adds_nothing(
+    question: &[u8],
     src: &[u8],
     tally: &[u32],
     root: usize,
@@ -209,13 +211,13 @@ fn adds_nothing(
     inner: usize,
     depth: usize,
 ) -> bool
-    requires { ⌜ (at < length (now src)) × EndsInside (now src) (now tally) × (inner ≤ depth) × (nameCount + depth ≤ slotCount) ⌝ }
-    ensures { λ r. ⌜ ((question : List ℕ) → EndsTallied question (now (src .entry)) (now (tally .entry)) → RepeatedIs question (now (src .entry)) (now (args .entry)) inner depth root at r) ⌝ }
+    requires { ⌜ (at < length (now src)) × EndsInside (now src) (now tally) × (inner ≤ depth) × (nameCount + depth + (length (now src) - at) ≤ slotCount) ⌝ }
+    ensures { λ r. ⌜ (EndsTallied (now (question .entry)) (now (src .entry)) (now (tally .entry)) → RepeatedIs (now (question .entry)) (now (src .entry)) (now (args .entry)) inner depth root at r) ⌝ }
 {
     if is_failing(src, at, args, inner, depth) {
         return true;
     }
-    is_repeated(src, tally, root, at, args, inner, depth)
+    is_repeated(question, src, tally, root, at, args, inner, depth)
 }
 
 // The call at `at`: the rows of the body, while calls are left to open.
@@ -308,7 +310,7 @@ pub fn scan(
         );
     }
     if t != CHOICE {
-        if adds_nothing(src, tally, root, at, args, inner, depth) {
+        if adds_nothing(question, src, tally, root, at, args, inner, depth) {
             return put_repeated(rows, n, visible_at(tally, at));
         }
     }

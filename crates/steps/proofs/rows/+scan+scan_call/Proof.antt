@@ -96,7 +96,7 @@ scan-same-length-2 : (t : ℕ) → scan-lts.Need-same-length-2 (scan-claims t) (
 scan-same-length-2 t c = search needs
 
 scan-returns-4 : (t : ℕ) → scan-lts.Need-returns-4 (scan-claims t) (scan-at t) scan.Post
-scan-returns-4 t c = let a = c .before .before .before .before .before .before .before .before .before .before .before .before .before .before .before .before .before .before .before .args in let p = c .before .before .before .before .before .before .before .before .before .before .before .before .before .before .before .before .before .before .before .pre in scan-again (a .question .now) (a .src .now) (a .root) (a .at) (a .asked) (a .args .now) (a .inner) (a .depth) (a .calls) (a .n) (a .rows .now) (c .before .before .before .before .before .before .before .if4 .taken) (sym (c .before .before .before .before .before .before .before .before .before .is-trivial .ensures) ∙ c .before .before .before .before .before .before .before .before .if3 .left) (a .tally .now) (p .1 .1) (subst (RepeatedIs (a .question .now) (a .src .now) (a .args .now) (a .inner) (a .depth) (a .root) (a .at)) (c .before .before .before .before .before .if5 .taken) (c .before .before .before .before .before .before .adds-nothing .ensures (a .question .now) (ends-tallied (a .question .now) (a .src .now) (a .calls) (a .tally .now) (p .1 .1)))) (c .before .before .before .visible-at .result) (c .before .before .before .visible-at .ensures) _ _ (c .before .before .put-repeated .ensures)
+scan-returns-4 t c = let a = c .before .before .before .before .before .before .before .before .before .before .before .before .before .before .before .before .before .before .before .args in let p = c .before .before .before .before .before .before .before .before .before .before .before .before .before .before .before .before .before .before .before .pre in scan-again (a .question .now) (a .src .now) (a .root) (a .at) (a .asked) (a .args .now) (a .inner) (a .depth) (a .calls) (a .n) (a .rows .now) (c .before .before .before .before .before .before .before .if4 .taken) (sym (c .before .before .before .before .before .before .before .before .before .is-trivial .ensures) ∙ c .before .before .before .before .before .before .before .before .if3 .left) (a .tally .now) (p .1 .1) (subst (RepeatedIs (a .question .now) (a .src .now) (a .args .now) (a .inner) (a .depth) (a .root) (a .at)) (c .before .before .before .before .before .if5 .taken) (c .before .before .before .before .before .before .adds-nothing .ensures (ends-tallied (a .question .now) (a .src .now) (a .calls) (a .tally .now) (p .1 .1)))) (c .before .before .before .visible-at .result) (c .before .before .before .visible-at .ensures) _ _ (c .before .before .put-repeated .ensures)
 
 scan-scan-prefix-requires : (t : ℕ) → scan-lts.Need-scan-prefix-requires (scan-claims t) (scan-at t) scan.Post
 scan-scan-prefix-requires t c κs = let a = c .before .before .before .before .before .before .before .before .before .before .before .before .before .before .args in let p = c .before .before .before .before .before .before .before .before .before .before .before .before .before .before .pre in let w = p .1 .0 .room in (c .before .before .before .before .before .before .before .if1 .left, omega (arith, c .before .before .before .before .before .if2 .left), c .before .if6 .taken, p .1 .0 .outer, omega arith, p .1 .3, p .1 .4)

@@ -1,15 +1,16 @@
 -- `steps::rows::adds_nothing` meets its contract. Assumes nothing.
 use mathlib.Core.Path.{sym, _∙_}
+use native.Mathlib.Omega.{arith}
 use Rattle.steps.proofs.ChoiceLaws.{repeated-failing}
 use borrow.Author.Needs.{needs}
 use Rattle.steps.proofs.rows.adds_nothing.Statement.{statement}
 use Rattle.steps.proofs.rows.adds_nothing.Tie as tie
 
 is-failing-requires : tie.Need-is-failing-requires
-is-failing-requires c κs = search needs
+is-failing-requires c κs = let r = c .before .before .before .before .pre .3 in (c .before .before .before .before .pre .0, c .before .before .before .before .pre .2, omega arith)
 
 returns : tie.Need-returns
-returns c = λ question T. repeated-failing question (c .before .before .before .before .before .args .src .now) (c .before .before .before .before .before .args .tally .now) (c .before .before .before .before .before .args .args .now) (c .before .before .before .before .before .args .inner) (c .before .before .before .before .before .args .depth) (c .before .before .before .before .before .args .root) (c .before .before .before .before .before .args .at) (sym (c .before .is-failing .ensures) ∙ c .if1 .taken)
+returns c = let a = c .before .before .before .before .before .before .args in λ T. repeated-failing (a .question .now) (a .src .now) (a .tally .now) (a .args .now) (a .inner) (a .depth) (a .root) (a .at) (sym (c .before .is-failing .ensures) ∙ c .if1 .taken)
 
 is-repeated-requires : tie.Need-is-repeated-requires
 is-repeated-requires c κs = search needs

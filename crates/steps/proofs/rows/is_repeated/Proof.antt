@@ -1,53 +1,57 @@
 -- `steps::rows::is_repeated` meets its contract. Assumes nothing.
 use borrow.Author.Needs.{needs}
-use mathlib.Core.List.{List}
-use mathlib.Core.Path.{subst}
 use native.Mathlib.Omega.{arith}
-use Prim.Native.Nat.{ℕ, _-_}
+use Prim.Native.Nat.{_-_}
 use Rattle.candidates.specs.Tally.{EndsTallied}
-use Rattle.steps.specs.Entries.{Alike}
 use Rattle.steps.proofs.ChoiceLaws.{Ahead, ahead-start, ahead-next, behind-on, repeated-none, repeated-found}
 use Rattle.steps.proofs.rows.is_repeated.Statement.{statement}
 use Rattle.steps.proofs.rows.is_repeated.Tie as tie
 
 abbrev Inv-loop : tie.InvT-loop
-Inv-loop src tally root at args inner depth t n p₀ p = (question : List ℕ) → EndsTallied question src tally → Ahead question src tally args inner depth root at p
+Inv-loop question src tally root at args inner depth t p₀ p = EndsTallied question src tally → Ahead question src tally args inner depth root at p
 
 abbrev μ-loop : tie.MeasureT-loop
-μ-loop src tally root at args inner depth t n p₀ p = at - p
+μ-loop question src tally root at args inner depth t p₀ p = at - p
 
+-- src/rows.rt:188:13
 shared-slice-read-t : tie.Need-shared-slice-read-t Inv-loop μ-loop
 shared-slice-read-t c = search needs
 
-end-at-requires : tie.Need-end-at-requires Inv-loop μ-loop
-end-at-requires c κs = search needs
-
-sub-n : tie.Need-sub-n Inv-loop μ-loop
-sub-n c = let h = c .before .before .before .before .before .pre .1 (c .before .before .before .before .before .args .at) (c .before .before .before .before .before .pre .0) in omega (arith, c .end-at .ensures)
-
+-- src/rows.rt:190:5
 loop-holds : tie.Need-loop-holds Inv-loop μ-loop
-loop-holds c = λ question T. ahead-start question (c .before .before .before .before .before .args .src .now) (c .before .before .before .before .before .args .tally .now) (c .before .before .before .before .before .args .args .now) (c .before .before .before .before .before .args .inner) (c .before .before .before .before .before .args .depth) (c .before .before .before .before .before .args .root) (c .before .before .before .before .before .args .at)
+loop-holds c = let a = c .before .before .before .before .before .args in let q = c .before .before .before .before .before .pre in λ T. ahead-start (a .question .now) (a .src .now) (a .tally .now) (a .args .now) (a .inner) (a .depth) (a .root) (a .at)
 
+-- src/rows.rt:192:12
 shared-slice-read-if1 : tie.Need-shared-slice-read-if1 Inv-loop μ-loop
 shared-slice-read-if1 c = omega (arith, c .before .loop-test .taken, c .before .before .before .before .before .before .before .before .pre .0)
 
-alike-requires : tie.Need-alike-requires Inv-loop μ-loop
-alike-requires c κs = let h = c .before .before .before .before .before .before .before .before .before .pre .1 (c .before .before .before .before .before .before .before .before .before .args .at) (c .before .before .before .before .before .before .before .before .before .pre .0) in (omega (arith, c .before .before .before .before .end-at .ensures, c .before .before .loop-test .taken), omega (arith, c .before .before .before .before .end-at .ensures))
+-- src/rows.rt:193:43
+arities-of-requires : tie.Need-arities-of-requires Inv-loop μ-loop
+arities-of-requires c κs = search needs
 
+-- src/rows.rt:193:17
+same-term-requires : tie.Need-same-term-requires Inv-loop μ-loop
+same-term-requires c κs = let a = c .before .before .before .before .before .before .before .before .before .before .args in let q = c .before .before .before .before .before .before .before .before .before .before .pre in (c .before .before .before .loop-test .taken, q .2, q .3)
+
+-- src/rows.rt:195:17
 returns : tie.Need-returns Inv-loop μ-loop
-returns c = λ question T. repeated-found question (c .before .before .before .before .before .before .before .before .before .before .before .args .src .now) (c .before .before .before .before .before .before .before .before .before .before .before .args .tally .now) (c .before .before .before .before .before .before .before .before .before .before .before .args .args .now) (c .before .before .before .before .before .before .before .before .before .before .before .args .inner) (c .before .before .before .before .before .before .before .before .before .before .before .args .depth) (c .before .before .before .before .before .before .before .before .before .before .before .args .root) (c .before .before .before .before .before .before .before .before .before .before .before .args .at) T (c .before .before .before .before .before .loop .p) (c .before .before .before .before .loop-test .taken) (c .before .before .before .before .before .loop .inv question T) (subst (λ (e : ℕ). Alike (c .before .before .before .before .before .before .before .before .before .before .before .args .src .now) (c .before .before .before .before .before .loop .p) (c .before .before .before .before .before .before .before .before .before .before .before .args .src .now) (c .before .before .before .before .before .before .before .before .before .before .before .args .at) (e - c .before .before .before .before .before .before .before .before .before .before .before .args .at)) (c .before .before .before .before .before .before .end-at .ensures) (c .before .alike .ensures .0 (c .if2 .taken)))
+returns c = let a = c .before .before .before .before .before .before .before .before .before .before .before .before .args in let q = c .before .before .before .before .before .before .before .before .before .before .before .before .pre in λ T. repeated-found (a .question .now) (a .src .now) (a .tally .now) (a .args .now) (a .inner) (a .depth) (a .root) (a .at) T (c .before .before .before .before .before .before .loop .p) (c .before .before .before .before .before .loop-test .taken) (c .before .before .before .before .before .before .loop .inv T) (c .before .before .arities-of .result .now) (c .before .before .arities-of .ensures) (c .before .same-term .result) (c .if2 .taken) (c .before .same-term .ensures) (c .before .before .before .if1 .taken)
 
+-- src/rows.rt:198:9
 behind-piece-requires : tie.Need-behind-piece-requires Inv-loop μ-loop
-behind-piece-requires c κs = (omega (arith, c .before .before .loop-test .taken, c .before .before .before .before .before .before .before .before .before .pre .0), c .before .before .before .before .before .before .before .before .before .pre .2, c .before .before .before .before .before .before .before .before .before .pre .3)
+behind-piece-requires c κs = let a = c .before .before .before .before .before .before .before .before .before .args in let q = c .before .before .before .before .before .before .before .before .before .pre in let r = q .3 in (omega (arith, c .before .before .loop-test .taken, q .0), q .2, omega arith)
 
+-- src/rows.rt:190:5
 loop-less : tie.Need-loop-less Inv-loop μ-loop
-loop-less c = let h = behind-on (c .before .before .before .before .before .before .before .before .before .before .args .src .now) (c .before .before .before .before .before .before .before .before .before .before .args .tally .now) (c .before .before .before .before .before .before .before .before .before .before .args .args .now) (c .before .before .before .before .before .before .before .before .before .before .args .inner) (c .before .before .before .before .before .before .before .before .before .before .args .depth) (c .before .before .before .before .loop .p) (c .before .before .before .before .before .before .before .before .before .before .pre .1) (omega (arith, c .before .before .before .loop-test .taken, c .before .before .before .before .before .before .before .before .before .before .pre .0)) in omega (arith, c .before .before .before .loop-test .taken, c .behind-piece .ensures)
+loop-less c = let a = c .before .before .before .before .before .before .before .before .before .before .args in let q = c .before .before .before .before .before .before .before .before .before .before .pre in let h = behind-on (a .src .now) (a .tally .now) (a .args .now) (a .inner) (a .depth) (c .before .before .before .before .loop .p) (q .1) (omega (arith, c .before .before .before .loop-test .taken, q .0)) in omega (arith, c .before .before .before .loop-test .taken, c .behind-piece .ensures)
 
+-- src/rows.rt:190:5
 loop-again : tie.Need-loop-again Inv-loop μ-loop
-loop-again c = λ question T. ahead-next question (c .before .before .before .before .before .before .before .before .before .before .args .src .now) (c .before .before .before .before .before .before .before .before .before .before .args .tally .now) (c .before .before .before .before .before .before .before .before .before .before .args .args .now) (c .before .before .before .before .before .before .before .before .before .before .args .inner) (c .before .before .before .before .before .before .before .before .before .before .args .depth) (c .before .before .before .before .before .before .before .before .before .before .args .root) (c .before .before .before .before .before .before .before .before .before .before .args .at) T (c .before .before .before .before .loop .p) (c .before .before .before .loop-test .taken) (c .before .before .before .before .loop .inv question T) (c .behind-piece .result) (c .behind-piece .ensures)
+loop-again c = let a = c .before .before .before .before .before .before .before .before .before .before .args in let q = c .before .before .before .before .before .before .before .before .before .before .pre in λ T. ahead-next (a .question .now) (a .src .now) (a .tally .now) (a .args .now) (a .inner) (a .depth) (a .root) (a .at) T (c .before .before .before .before .loop .p) (c .before .before .before .loop-test .taken) (c .before .before .before .before .loop .inv T) (c .behind-piece .result) (c .behind-piece .ensures)
 
+-- src/rows.rt:175:1
 returns-2 : tie.Need-returns-2 Inv-loop μ-loop
-returns-2 c = λ question T. repeated-none question (c .before .before .before .before .before .before .before .args .src .now) (c .before .before .before .before .before .before .before .args .tally .now) (c .before .before .before .before .before .before .before .args .args .now) (c .before .before .before .before .before .before .before .args .inner) (c .before .before .before .before .before .before .before .args .depth) (c .before .before .before .before .before .before .before .args .root) (c .before .before .before .before .before .before .before .args .at)
+returns-2 c = let a = c .before .before .before .before .before .before .before .args in let q = c .before .before .before .before .before .before .before .pre in λ T. repeated-none (a .question .now) (a .src .now) (a .tally .now) (a .args .now) (a .inner) (a .depth) (a .root) (a .at)
 
 pub is-repeated-spec : {M : Type 1} → statement M
 is-repeated-spec =
@@ -56,11 +60,10 @@ is-repeated-spec =
     Inv-loop
     μ-loop
     shared-slice-read-t
-    end-at-requires
-    sub-n
     loop-holds
     shared-slice-read-if1
-    alike-requires
+    arities-of-requires
+    same-term-requires
     returns
     behind-piece-requires
     loop-less

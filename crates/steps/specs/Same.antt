@@ -1,0 +1,39 @@
+-- Two terms of the same bytes that are one term once their names are read: what the walk of both at once promises.
+use mathlib.Core.Path.{_≡_}
+use mathlib.Core.List.{List, _++_}
+use Prim.Native.Nat.{ℕ, _+_, _<_, _≤_, max}
+use lib.ListN.{length, getD, drop}
+use Rattle.calculus.specs.Term.{Term, ren}
+use Rattle.terms.specs.Encoding.{encode, InScope}
+use Rattle.terms.specs.Limits.{nameCount}
+use Rattle.candidates.specs.LabelWalk.{slotAt, HasSlots}
+use Rattle.steps.specs.Entries.{Alike}
+use Rattle.steps.specs.Rows.{isTrivial}
+
+-- The n name bytes at p and those at `at` stand for the same names, by their slots.
+abbrev pub SameNames : (s args : List ℕ) (inner depth p at n : ℕ) → Type 0
+SameNames s args inner depth p at n = (j : ℕ) → j < n → slotAt args inner depth (getD s (p + j) 0) ≡ slotAt args inner depth (getD s (at + j) 0)
+
+-- The fronts at p and at `at`: bytes that no renaming changes, and names.
+pub record SameFront (s args : List ℕ) (inner depth p at fixed names : ℕ) : Type 0 where
+  pub inside : at + (fixed + names) ≤ length s
+  pub bytes : Alike s p s at fixed
+  pub names-are : SameNames s args inner depth (p + fixed) (at + fixed) names
+
+-- Two terms in scope, P at `at` and B at p, whose names σ takes to names in these slots.
+pub record Both (s : List ℕ) (p at : ℕ) (arities args : List ℕ) (inner depth free D : ℕ) (σ : ℕ → ℕ) (P B : Term) : Type 0 where
+  pub few : free ≤ nameCount
+  pub has : HasSlots free D args inner depth σ
+  pub scope : InScope free arities D P
+  pub scope-too : InScope free arities D B
+  pub rest : List ℕ
+  pub stands : drop at s ≡ encode D P ++ rest
+  pub more : List ℕ
+  pub stands-too : drop p s ≡ encode D B ++ more
+
+-- The length of the term at `at`, if the one at p is the same; 0 says nothing.
+pub record SameIs (s : List ℕ) (p at : ℕ) (arities args : List ℕ) (inner depth r : ℕ) : Type 0 where
+  pub inside : at + r ≤ max at (length s)
+  pub trivial : 0 < r → isTrivial s args inner depth p ≡ isTrivial s args inner depth at
+  pub is : 0 < r → (free D : ℕ) (σ : ℕ → ℕ) (P B : Term) → Both s p at arities args inner depth free D σ P B
+      → (r ≡ length (encode D P)) × (ren σ P ≡ ren σ B)
