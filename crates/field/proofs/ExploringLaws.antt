@@ -1,12 +1,12 @@
 -- A situation taken up, and exploration over all of them. Assumes nothing.
-use mathlib.Core.Bool.{Bool, true, false, cond}
+use mathlib.Core.Bool.{true, false}
 use mathlib.Core.List.{List, [], _∷_, _++_, map}
 use mathlib.Core.Path.{_≡_, refl, sym, _∙_, ap, subst}
 use native.Mathlib.Decide.{ℕ-discrete, decLt}
 use native.Mathlib.Omega.{arith}
 use native.Mathlib.Numerals.{add-one}
 use Prim.Native.Nat.{ℕ, _+_, _*_, _<_, _≤_}
-use lib.ListN.{length, getD, drop, length-map, List·getD-append, List·getD-map}
+use lib.ListN.{length, getD, drop, length-map, List·getD-map}
 use lib.Seq.{take-all}
 use Rattle.calculus.specs.Definitions.{Defs}
 use Rattle.calculus.specs.Free.{fn}
@@ -15,17 +15,17 @@ use Rattle.terms.specs.Limits.{nameCount}
 use Rattle.terms.specs.Question.{Question, checkOf}
 use Rattle.terms.proofs.WellFormed.{WellFormed, accepted-well-formed}
 use Rattle.candidates.specs.Bodies.{AritiesIs}
-use Rattle.candidates.specs.Lists.{All}
-use Rattle.candidates.proofs.Membership.{∈-all, all-∈}
+use Rattle.candidates.specs.Lists.{_∈_, All}
+use Rattle.candidates.proofs.Membership.{∈-all, all-∈, all-imp}
 use Rattle.candidates.proofs.QuestionDefinitions.{definitions}
 use Rattle.field.specs.Chains.{Clears, LinkIs}
-use Rattle.field.specs.Exploration.{unseen, together, unanswered, Row, incomplete, explored, fieldOf}
-use Rattle.field.specs.Growing.{Proper, Fitting, grown, Knows, GrowsTo, Puts, slotWith, Flagged, moved, Strikes, Leads, GrowsSides, Follows, GrowIs}
+use Rattle.field.specs.Exploration.{together, unanswered, Row, incomplete, explored, fieldOf}
+use Rattle.field.specs.Growing.{Proper, Fitting, grown, Knows, GrowsTo, Puts, slotWith, Gone, Flagged, moved, Strikes, Leads, GrowsSides, Follows, GrowIs}
 use Rattle.field.specs.Holding.{StruckFirst, Explores, ExploreIs}
 use Rattle.field.specs.Leading.{placed, StartIs}
 use Rattle.field.specs.Setting.{Setting, settingOf}
 use Rattle.field.specs.Situation.{Situation, freeIn, situation, startOf}
-use Rattle.field.specs.Slot.{flag, keyBytes, slotBytes, struckAt}
+use Rattle.field.specs.Slot.{keyBytes, slotBytes, struckAt}
 use Rattle.field.specs.Successors.{Outcome, pastLimit, leads, moves, successors}
 use Rattle.field.specs.TakingUp.{SidesListed, ListsAre, TakenAs, TakesUp}
 use Rattle.field.specs.declared.explore.Explored.{Explored}
@@ -36,7 +36,7 @@ use Rattle.field.specs.declared.taking.Lists.the-variants.{Past, Listed}
 use Rattle.field.specs.declared.taking.TakenUp.{TakenUp}
 use Rattle.field.proofs.Explored.{explored-leads}
 use Rattle.field.proofs.FieldIsSmallest.{invariant}
-use Rattle.field.proofs.Growth.{grown-unseen, Exploring, exploring-start, exploring-past, exploring-full, exploring-on, exploring-end}
+use Rattle.field.proofs.Growth.{grown-front, Exploring, exploring-start, exploring-past, exploring-full, exploring-on, exploring-end}
 use Rattle.field.proofs.GrowingLaws.{grows-full, whole-key}
 use Rattle.field.proofs.Members.{getD-∈, getD-within}
 use Rattle.field.proofs.QuestionField.{question-setting, start-proper}
@@ -124,24 +124,23 @@ module _ (question : List ℕ) (taken capacity : ℕ) (work : List ℕ) (known :
         (subst (λ l. GrowsSides l (up .free) (up .apart) taken firsts n seconds m capacity work known r work′) (A q a) g);
   }
 
--- Exploration: the known situations, of which the first `taken` have been taken up. Exactly those of them with a permitted step that has no answer
--- are struck out.
+-- A situation of a number below i is t, and it is struck out.
+abbrev Below : List ℕ → List Situation → ℕ → Situation → Type 0
+Below work ks i t = (j : ℕ) × (j < i) × ((d : Situation) → getD ks j d ≡ t) × (getD work (struckAt j) 0 ≡ 0 → ⊥)
+
+-- Situation i, which leads to ms, is struck out if one of these has no answer, and only if all answers of one are struck out and come before it.
+pub record StruckBy (work : List ℕ) (ks : List Situation) (i : ℕ) (ms : List (List Situation)) : Type 0 where
+  pub must : unanswered ms ≡ true → getD work (struckAt i) 0 ≡ 0 → ⊥
+  pub why : (getD work (struckAt i) 0 ≡ 0 → ⊥) → (w : List Situation) × (w ∈ ms) × All (Below work ks i) w
+
+-- Exploration: the known situations, of which the first `taken` have been taken up.
 pub record Explorer (q : Question) (capacity : ℕ) (work : List ℕ) (known taken : ℕ) : Type 0 where
   pub ks : List Situation
   pub exploring : Exploring (settingOf (q .bodies)) capacity (startOf q) ks taken
   pub knows : Knows (q .arities) capacity work known ks
   pub struck : (i : ℕ) (ms : List (List Situation)) → i < taken → successors (settingOf (q .bodies)) (getD ks i (startOf q)) ≡ leads ms
-      → getD work (struckAt i) 0 ≡ flag (unanswered ms)
+      → StruckBy work ks i ms
   pub left : (i : ℕ) → taken ≤ i → i < known → getD work (struckAt i) 0 ≡ 0
-
--- The situations known stay, and those found come behind them.
-grown-front : (ks ss : List Situation) (i : ℕ) (d : Situation) → i < length ks → getD (grown ks ss) i d ≡ getD ks i d
-grown-front ks ss i d h = ap (λ l. getD l i d) (grown-unseen ks ss) ∙ List·getD-append ks (unseen ks ss) d i h
-
-flag-is : (b : Bool) → cond b 1 0 ≡ flag b
-unfolding flag
-flag-is true = refl
-flag-is false = refl
 
 -- One more is taken up.
 module _ (q : Question) (capacity : ℕ) (work : List ℕ) (known taken : ℕ) (y : Explorer q capacity work known taken) (waits : taken < known)
@@ -150,28 +149,58 @@ module _ (q : Question) (capacity : ℕ) (work : List ℕ) (known taken : ℕ) (
   abbrev all : List Situation
   all = grown (y .ks) (together ms)
 
-  abbrev steps : Strikes taken ms work known n work′
+  abbrev steps : Strikes (q .arities) capacity taken [] ms work known n work′
   steps = f .strikes n refl
 
   knows-all : Knows (q .arities) capacity work′ n all
   unfolding Puts GrowsTo
   knows-all = f .puts (y .ks) (y .knows) tt
 
+  front : (i : ℕ) (d : Situation) → i < known → getD all i d ≡ getD (y .ks) i d
+  front i d h = grown-front (y .ks) (together ms) i d (omega (arith, y .knows .count))
+
+  -- those struck out before
+  below-now : (i : ℕ) → i ≤ taken → (t : Situation) → Below work (y .ks) i t → Below work′ all i t
+  below-now i h t (j, l, is, gone) =
+      (j, l, λ d. front j d (omega arith) ∙ is d, λ z. gone (sym (steps .others j (omega arith) (λ e. omega arith)) ∙ z))
+
+  gone-below : (t : Situation) → Gone work (y .ks) t → Below work (y .ks) taken t
+  gone-below t o = go (decLt (o .number) taken)
+    where
+      go : Dec (o .number < taken) → Below work (y .ks) taken t
+      go (yes l) = (o .number, l, o .is, o .struck)
+      go (no l) = absurd (o .struck (y .left (o .number) (omega arith) (omega (arith, o .inside, y .knows .count))))
+
+  struck-taken : StruckBy work′ all taken ms
+  struck-taken = record {
+    must = steps .must;
+    why = λ h.
+        let (w, i, a) = steps .why (y .ks) (y .knows) tt (y .left taken (omega arith) waits) h in
+        (w, i, all-imp (Gone work (y .ks)) (Below work′ all taken) w (λ t o. below-now taken (omega arith) t (gone-below t o)) a);
+  }
+
   struck-now : (i : ℕ) (ns : List (List Situation)) → i < taken + 1 → successors (settingOf (q .bodies)) (getD all i (startOf q)) ≡ leads ns
-      → getD work′ (struckAt i) 0 ≡ flag (unanswered ns)
+      → StruckBy work′ all i ns
   struck-now i ns h k = go (ℕ-discrete i taken)
     where
-      there : getD all i (startOf q) ≡ getD (y .ks) i (startOf q)
-      there = grown-front (y .ks) (together ms) i (startOf q) (omega (arith, y .knows .count))
+      there : successors (settingOf (q .bodies)) (getD (y .ks) i (startOf q)) ≡ leads ns
+      there = ap (successors (settingOf (q .bodies))) (sym (front i (startOf q) (omega arith))) ∙ k
 
-      go : Dec (i ≡ taken) → getD work′ (struckAt i) 0 ≡ flag (unanswered ns)
+      go : Dec (i ≡ taken) → StruckBy work′ all i ns
       go (yes d) =
           let t : successors (settingOf (q .bodies)) (getD (y .ks) taken (startOf q)) ≡ leads ns =
-          subst (λ j. successors (settingOf (q .bodies)) (getD (y .ks) j (startOf q)) ≡ leads ns) d (ap (successors (settingOf (q .bodies))) (sym there) ∙ k) in
+          subst (λ j. successors (settingOf (q .bodies)) (getD (y .ks) j (startOf q)) ≡ leads ns) d there in
           let z : ms ≡ ns = cc in
-          rw (d, ← z) (steps .here ∙ ap (cond (unanswered ms) 1) (y .left taken (omega arith) waits) ∙ flag-is (unanswered ms))
+          rw (d, ← z) struck-taken
       go (no d) =
-          steps .others i (omega arith) d ∙ y .struck i ns (omega arith) (ap (successors (settingOf (q .bodies))) (sym there) ∙ k)
+          let x = y .struck i ns (omega arith) there in
+          let o = steps .others i (omega arith) d in
+          record {
+            must = λ u z. x .must u (sym o ∙ z);
+            why = λ g.
+                let (w, m, a) = x .why (λ z. g (o ∙ z)) in
+                (w, m, all-imp (Below work (y .ks) i) (Below work′ all i) w (below-now i (omega arith)) a);
+          }
 
   left-now : (i : ℕ) → taken + 1 ≤ i → i < n → getD work′ (struckAt i) 0 ≡ 0
   left-now i h l = go (decLt i known)
@@ -197,10 +226,23 @@ unfolding StruckFirst
 struck-first q capacity work known taken y rs m e s i d h =
     let S : Setting = settingOf (q .bodies) in
     let r : Row = getD rs i d in
-    let self : getD (y .ks) i (d .self) ≡ r .self = ap (λ l. getD l i (d .self)) (sym s) ∙ List·getD-map (λ (r : Row). r .self) rs i d in
-    let there : getD (y .ks) i (startOf q) ≡ r .self = getD-within (y .ks) i (startOf q) (d .self) (omega (arith, ap length s, length-map rs (λ (r : Row). r .self))) ∙ self in
-    y .struck i (r .wants) (omega arith)
-    (ap (successors S) there ∙ all-∈ (λ r. successors S (r .self) ≡ leads (r .wants)) rs (explored-leads S (startOf q) capacity rs e) r (getD-∈ rs i d h))
+    let there : getD (y .ks) i (startOf q) ≡ r .self =
+    getD-within (y .ks) i (startOf q) (d .self) (omega (arith, ap length s, length-map rs (λ (r : Row). r .self))) ∙ sym (self i d) in
+    let x = y .struck i (r .wants) (omega arith)
+    (ap (successors S) there ∙ all-∈ (λ r. successors S (r .self) ≡ leads (r .wants)) rs (explored-leads S (startOf q) capacity rs e) r (getD-∈ rs i d h)) in
+    record {
+      must = x .must;
+      why = λ g.
+          let (w, k, a) = x .why g in (
+            w,
+            k,
+            all-imp (Below work (y .ks) i) (λ t. (j : ℕ) × (j < i) × ((d : Row) → getD rs j d .self ≡ t) × (getD work (struckAt j) 0 ≡ 0 → ⊥)) w
+                (λ t (j, l, is, gone). (j, l, λ c. self j c ∙ is (c .self), gone)) a,
+          );
+    }
+  where
+    self : (j : ℕ) (c : Row) → getD rs j c .self ≡ getD (y .ks) j (c .self)
+    self j c = sym (List·getD-map (λ (r : Row). r .self) rs j c) ∙ ap (λ l. getD l j (c .self)) s
 
 module _ (question : List ℕ) (capacity : ℕ) (work₀ : List ℕ) where
   pub record Explorers (work : List ℕ) (known taken : ℕ) : Type 0 where

@@ -1,13 +1,14 @@
 -- The known situations grow: by one, by what the answers to a step lead to, by what the steps of a side lead to. Assumes nothing.
-use mathlib.Core.Bool.{Bool, true, false, cond, _||_}
+use mathlib.Core.Bool.{Bool, true, false, _||_}
 use mathlib.Core.List.{List, [], _∷_, _++_, map, append-nil}
 use mathlib.Core.Logic.{inl}
 use mathlib.Core.Path.{_≡_, refl, sym, _∙_, ap, ap₂, subst}
-use native.Mathlib.Decide.{decLt}
+use native.Mathlib.Decide.{ℕ-discrete, decLt}
 use native.Mathlib.Omega.{arith}
 use Prim.Native.Nat.{ℕ, suc, _+_, _*_, _<_, _≤_}
 use lib.ListN.{length, getD, set, take, drop, length-append, take-append-drop}
 use lib.Seq.{take-suc, take-all, split-at, getD-set-same, getD-set-other, drop-set-lt}
+use borrow.Author.Tests.{eqb-false}
 use Rattle.calculus.specs.Cond.{Pairs}
 use Rattle.calculus.specs.Term.{ren}
 use Rattle.calculus.proofs.Renaming.{map-++}
@@ -15,25 +16,26 @@ use Rattle.terms.specs.Encoding.{encode, InScope}
 use Rattle.terms.specs.Limits.{nameCount, longestTerm}
 use Rattle.terms.proofs.Shapes.{length-ren}
 use Rattle.candidates.specs.Lists.{_∈_, All}
-use Rattle.candidates.proofs.Membership.{all-imp, all-∈, ∈-all}
+use Rattle.candidates.proofs.Membership.{∈-left, ∈-right, all-imp, all-++, all-∈, ∈-all}
 use Rattle.steps.specs.Limits.{stepBytes}
 use Rattle.steps.specs.Listed.{ListedStep, classIn, resultBytes}
 use Rattle.field.specs.Chains.{LinkIs, FindsIn}
 use Rattle.field.specs.Entry.{EntryAt, TrivialIs, SameHeaderIs, AnswersIs}
 use Rattle.field.specs.Exploration.{found, together, unanswered}
-use Rattle.field.specs.Growing.{Proper, Fits, Fitting, grownBy, grown, GrowsTo, AllFound, Puts, Grows, slotWith, KeepsStruck, AddIs, Flagged, answered, Mirrored, GrowsAnswer, GrowsAnswers, FirstAnswerIs, moved, Strikes, LeadsAfter, GrowsStep, GrowsSide, GrowsSides}
+use Rattle.field.specs.Growing.{Proper, Fits, Fitting, grownBy, grown, Knows, GrowsTo, AllFound, Puts, Grows, slotWith, KeepsStruck, AddIs, Gone, AddedIs, Flagged, answered, Mirrored, GrowsAnswer, AnswerIs, GrowsAnswers, AnswersAre, FirstAnswerIs, moved, Strikes, LeadsAfter, GrowsStep, GrowsSide, GrowsSides}
 use Rattle.field.specs.Leading.{placed, leading, SuccessorIs}
 use Rattle.field.specs.PairFlags.{PermittedIs}
 use Rattle.field.specs.Situation.{Situation, freeFrom, situation}
-use Rattle.field.specs.Slot.{keyOf, keyBytes, slotBytes, struckAt}
+use Rattle.field.specs.Slot.{keyOf, keyBytes, slotBytes, struckAt, LeftAtIs}
 use Rattle.field.specs.Successors.{select, permitted, answers, moves}
 use Rattle.field.specs.TakingUp.{ListAt, EntriesAt}
+use Rattle.field.specs.declared.explore.Added.{Added}
 use Rattle.field.specs.declared.explore.Growth.{Growth}
 use Rattle.field.specs.declared.explore.Growth.the-variants.{Full, Known}
 use Rattle.field.specs.declared.find.Found.the-variants.{At, Nothing}
 use Rattle.field.proofs.EntryLaws.{trivial-header}
-use Rattle.field.proofs.Growth.{grown-longer, all-kept, all-grown, grown-found}
-use Rattle.field.proofs.KeysDiffer.{length-key, found-slot, found-no-slot}
+use Rattle.field.proofs.Growth.{grown-front, grown-longer, all-kept, all-grown, grown-found}
+use Rattle.field.proofs.KeysDiffer.{length-key, slot-holds, found-slot, found-no-slot}
 use Rattle.field.proofs.Loops.{select-++, grown-++, together-++, answersTo, moves-are}
 use Rattle.field.proofs.Members.{map-∈, getD-∈, ∈-number}
 use Rattle.field.proofs.MirroredLaws.{mirrored, all-rewritten, first-mirrored, one-of, one-answer-mirrored, one-step-mirrored}
@@ -84,43 +86,95 @@ unfolding unanswered
 unanswered-some [] y ys = refl
 unanswered-some (x ∷ xs) y ys = refl
 
-module _ (taken : ℕ) (work : List ℕ) (known : ℕ) where
-  strikes-none : (n : ℕ) → Known known ≡ Known n → Strikes taken [] work known n work
-  unfolding unanswered
-  strikes-none n e = let z : known ≡ n = cc in record { here = refl; others = λ i h l. refl; fresh = λ i h l. absurd (omega arith) }
+never : {A : Type 0} → false ≡ true → A
+never e = let z : _≡_ {A = ℕ} 0 1 = cc in absurd (omega arith)
 
-  strikes-here : struckAt taken < length work → (n : ℕ) → Known known ≡ Known n → Strikes taken ([] ∷ []) work known n (set work (struckAt taken) 1)
+module _ (arities : List ℕ) (capacity taken : ℕ) (before : List Situation) (work : List ℕ) (known : ℕ) where
+  strikes-none : (n : ℕ) → Known known ≡ Known n → Strikes arities capacity taken before [] work known n work
   unfolding unanswered
-  strikes-here room n e =
+  strikes-none n e =
       let z : known ≡ n = cc in
       record {
-        here = getD-set-same work (struckAt taken) 1 0 room;
-        others = λ i h l. getD-set-other work (struckAt taken) (struckAt i) 1 0 (λ k. l (omega arith));
+        must = λ u. never u;
+        stays = λ h. h;
+        why = λ ks K b l h. absurd (h l);
+        others = λ i h l. refl;
         fresh = λ i h l. absurd (omega arith);
       }
 
+  -- all that the move leads to is struck out
+  strikes-here : struckAt taken < length work → (w : List Situation) → ((ks : List Situation) → Knows arities capacity work known ks → All (Gone work ks) w)
+      → (n : ℕ) → Known known ≡ Known n → Strikes arities capacity taken before (w ∷ []) work known n (set work (struckAt taken) 1)
+  strikes-here room w gone n e =
+      let z : known ≡ n = cc in
+      record {
+        must = λ u. now;
+        stays = λ h. now;
+        why = λ ks K b l h. (w, inl refl, gone ks K);
+        others = λ i h l. getD-set-other work (struckAt taken) (struckAt i) 1 0 (λ k. l (omega arith));
+        fresh = λ i h l. absurd (omega arith);
+      }
+    where
+      now : getD (set work (struckAt taken) 1) (struckAt taken) 0 ≡ 0 → ⊥
+      now k = omega (arith, k, getD-set-same work (struckAt taken) 1 0 room)
+
   module _ (waits : taken < known) where
     strikes-kept : (ms : List (List Situation)) (n : ℕ) (work′ : List ℕ) → unanswered ms ≡ false → KeepsStruck work known n work′
-        → Strikes taken ms work known n work′
-    strikes-kept ms n work′ e x = record { here = rw e (x .kept taken waits); others = λ i h l. x .kept i h; fresh = x .fresh }
-
-    strikes-more : (ms ns : List (List Situation)) (n m : ℕ) (work′ work″ : List ℕ) → known ≤ n → Strikes taken ms work known n work′
-        → Strikes taken ns work′ n m work″ → Strikes taken (ms ++ ns) work known m work″
-    strikes-more ms ns n m work′ work″ h x y = record {
-      here = y .here ∙ ap (cond (unanswered ns) 1) (x .here) ∙ both (unanswered ms) (unanswered ns) ∙ ap (λ b. cond b 1 (getD work (struckAt taken) 0)) (sym (unanswered-++ ms ns));
-      others = λ i l k. y .others i (omega arith) k ∙ x .others i l k;
-      fresh = λ i l k. go i l k (decLt i n);
+        → Strikes arities capacity taken before ms work known n work′
+    strikes-kept ms n work′ e x = record {
+      must = λ u. never (sym e ∙ u);
+      stays = λ h z. h (sym (x .kept taken waits) ∙ z);
+      why = λ ks K b l h. absurd (h (x .kept taken waits ∙ l));
+      others = λ i h l. x .kept i h;
+      fresh = x .fresh;
     }
-      where
-        both : (b c : Bool) → cond c 1 (cond b 1 (getD work (struckAt taken) 0)) ≡ cond (b || c) 1 (getD work (struckAt taken) 0)
-        both true true = refl
-        both true false = refl
-        both false true = refl
-        both false false = refl
 
-        go : (i : ℕ) → known ≤ i → i < m → Dec (i < n) → getD work″ (struckAt i) 0 ≡ 0
-        go i l k (yes b) = y .others i b (λ e. omega arith) ∙ x .fresh i l b
-        go i l k (no b) = y .fresh i (omega arith) k
+    module _ (ms ns : List (List Situation)) (after : List Situation)
+        (f : (ks : List Situation) → AllFound ks before → AllFound (grown ks (together ms)) after) (n m : ℕ) (work′ work″ : List ℕ) (h : known ≤ n)
+        (p : Puts arities capacity work known before (together ms) (Known n) work′) (x : Strikes arities capacity taken before ms work known n work′)
+        (y : Strikes arities capacity taken after ns work′ n m work″) where
+      -- what was struck out between the two was so before them
+      gone-before : (ks : List Situation) → Knows arities capacity work known ks → AllFound ks before → getD work′ (struckAt taken) 0 ≡ 0
+          → (t : Situation) → Gone work′ (grown ks (together ms)) t → Gone work ks t
+      unfolding Puts GrowsTo
+      gone-before ks K b d t o = go (decLt (o .number) known)
+        where
+          other : o .number ≡ taken → ⊥
+          other e = o .struck (ap (λ k. getD work′ (struckAt k) 0) e ∙ d)
+
+          go : Dec (o .number < known) → Gone work ks t
+          go (yes l) = record {
+            number = o .number;
+            inside = omega (arith, K .count);
+            is = λ e. sym (grown-front ks (together ms) (o .number) e (omega (arith, K .count))) ∙ o .is e;
+            struck = λ z. o .struck (x .others (o .number) l other ∙ z);
+          }
+          go (no l) = absurd (o .struck (x .fresh (o .number) (omega arith) (omega (arith, o .inside, p ks K b .count))))
+
+      strikes-more : Strikes arities capacity taken before (ms ++ ns) work known m work″
+      unfolding Puts GrowsTo
+      strikes-more = record {
+        must = λ u z. must u z (unanswered ms) refl;
+        stays = λ g. y .stays (x .stays g);
+        why = λ ks K b l g. why ks K b l g (ℕ-discrete (getD work′ (struckAt taken) 0) 0);
+        others = λ i l k. y .others i (omega arith) k ∙ x .others i l k;
+        fresh = λ i l k. go i l k (decLt i n);
+      }
+        where
+          must : unanswered (ms ++ ns) ≡ true → getD work″ (struckAt taken) 0 ≡ 0 → (b : Bool) → unanswered ms ≡ b → ⊥
+          must u z true e = y .stays (x .must e) z
+          must u z false e = y .must (ap (λ b. b || unanswered ns) (sym e) ∙ sym (unanswered-++ ms ns) ∙ u) z
+
+          why : (ks : List Situation) → Knows arities capacity work known ks → AllFound ks before → getD work (struckAt taken) 0 ≡ 0
+              → (getD work″ (struckAt taken) 0 ≡ 0 → ⊥) → Dec (getD work′ (struckAt taken) 0 ≡ 0) → (w : List Situation) × (w ∈ (ms ++ ns)) × All (Gone work ks) w
+          why ks K b l g (no d) = let (w, i, a) = x .why ks K b l d in (w, ∈-left w ms ns i, a)
+          why ks K b l g (yes d) =
+              let (w, i, a) = y .why (grown ks (together ms)) (p ks K b) (f ks b) d g in
+              (w, ∈-right w ms ns i, all-imp (Gone work′ (grown ks (together ms))) (Gone work ks) w (gone-before ks K b d) a)
+
+          go : (i : ℕ) → known ≤ i → i < m → Dec (i < n) → getD work″ (struckAt i) 0 ≡ 0
+          go i l k (yes b) = y .others i b (λ e. omega arith) ∙ x .fresh i l b
+          go i l k (no b) = y .fresh i (omega arith) k
 
 -- One list of situations after another.
 module _ (arities : List ℕ) (capacity : ℕ) (work : List ℕ) (known : ℕ) where
@@ -149,7 +203,7 @@ module _ (arities : List ℕ) (capacity : ℕ) (work : List ℕ) (known : ℕ) w
     module _ (taken : ℕ) where
       leads-none : LeadsAfter arities capacity taken before [] work known (Known known) work
       unfolding together
-      leads-none = record { puts = puts-none; strikes = strikes-none taken work known }
+      leads-none = record { puts = puts-none; strikes = strikes-none arities capacity taken before work known }
 
       module _ (ms ns : List (List Situation)) where
         leads-more : (after : List Situation) → ((ks : List Situation) → AllFound ks before → AllFound (grown ks (together ms)) after)
@@ -158,7 +212,7 @@ module _ (arities : List ℕ) (capacity : ℕ) (work : List ℕ) (known : ℕ) w
             → LeadsAfter arities capacity taken before (ms ++ ns) work known r work″
         leads-more after f waits n h work′ r work″ x y = record {
           puts = rw (together-++ ms ns) (puts-more (together ms) (together ns) after f n work′ r work″ (x .puts) (y .puts));
-          strikes = λ m e. strikes-more taken work known waits ms ns n m work′ work″ h (x .strikes n refl) (y .strikes m e);
+          strikes = λ m e. strikes-more arities capacity taken before work known waits ms ns after f n m work′ work″ h (x .puts) (x .strikes n refl) (y .strikes m e);
         }
 
         leads-full : (work′ : List ℕ) → LeadsAfter arities capacity taken before ms work known Full work′
@@ -213,6 +267,28 @@ module _ (capacity : ℕ) (work : List ℕ) (known : ℕ) (key : List ℕ) where
               rw (found-no-slot arities work known ks (K .count) (K .slots) (all-proper arities ks (K .fitting)) s (g .proper) (g .fits) key e (f .is (K .chained)))
               (knows-more work key known l long arities capacity ks K s g (whole-key key s (g .fits) e) work′ L);
         }
+
+  -- and whether it is left
+  pub added-left : (r : Growth) (work′ : List ℕ) → AddIs capacity work known key r work′ → AddedIs capacity work known key (record { growth = r; left = true }) work′
+  added-left r work′ a = record {
+    added = a;
+    same = record { growth = λ z. never (sym z); area = λ z. never (sym z) };
+    gone = λ z. never (sym z);
+  }
+
+  pub added-found : known ≤ capacity → (i : ℕ) (b : Bool) → FindsIn capacity work known key (At i) → LeftAtIs work i b
+      → AddedIs capacity work known key (record { growth = Known known; left = b }) work
+  unfolding LeftAtIs
+  added-found few i b f l = record {
+    added = add-found few i f;
+    same = record { growth = λ z. refl; area = λ z. refl };
+    gone = λ z arities s h e ks K. record {
+      number = i;
+      inside = omega (arith, f .within i refl, K .count);
+      is = slot-holds arities work known ks (K .count) (K .slots) (all-proper arities ks (K .fitting)) s (h .proper) (h .fits) key e i (f .is (K .chained));
+      struck = eqb-false (getD work (struckAt i) 0) 0 (sym l ∙ z);
+    };
+  }
 
 -- A loop over a list of steps: f says what a part of the list leads to.
 module _ {A : Type 0} (f : List ListedStep → List A) (parts : (xs ys : List ListedStep) → f (xs ++ ys) ≡ f xs ++ f ys) (xs : List ListedStep) (j : ℕ) where
@@ -348,6 +424,39 @@ module _ (arities free apart : List ℕ) (second : Bool) (area : List ℕ) (at :
           rw o (λ ks L b. a .is arities (leading second F D s t) fit (K G D s t (flags .names) (flags .pairs) e f i j own) ks L tt);
     }
 
+    -- and whether it is left
+    pub answer-left : (r : Growth) (work′ : List ℕ) → GrowsAnswer arities free apart second area at others place capacity work known r work′
+        → AnswerIs arities free apart second area at others place capacity work known (record { growth = r; left = true }) work′
+    answer-left r work′ g = record {
+      grown = g;
+      same = record { growth = λ z. never (sym z); area = λ z. never (sym z) };
+      gone = λ z. never (sym z);
+    }
+
+    pub no-answer-left : known ≤ capacity → AnswersIs area at others place false
+        → AnswerIs arities free apart second area at others place capacity work known (record { growth = Known known; left = false }) work
+    unfolding AnswersIs
+    no-answer-left few A = record {
+      grown = answer-none few A;
+      same = record { growth = λ z. refl; area = λ z. refl };
+      gone = λ z G D s t flags e i f j own p ks K. rw (answered-none second G D s t (sym (A s t e f))) tt;
+    }
+
+    pub answer-looked : AnswersIs area at others place true → (key : List ℕ) → SuccessorIs arities free apart second area at others place key
+        → (r : Added) (work′ : List ℕ) → AddedIs capacity work known key r work′
+        → AnswerIs arities free apart second area at others place capacity work known r work′
+    unfolding AnswersIs SuccessorIs
+    answer-looked A key K r work′ a = record {
+      grown = answer-added A key K (r .growth) work′ (a .added);
+      same = a .same;
+      gone = λ z G D s t flags e i f j own p ks L.
+          let F : List ℕ = freeFrom G 0 nameCount in
+          let o = answered-one second G D s t (sym (A s t e f)) in
+          let q : All (Proper nameCount arities) (leading second F D s t ∷ []) = subst (All (Proper nameCount arities)) o p in
+          let fit = leading-fits arities second F D s t (fits-first s area at e) (fits-second s t area others at place e f) (q .0) in
+          rw o (a .gone z arities (leading second F D s t) fit (K G D s t (flags .names) (flags .pairs) e f i j own) ks L, tt);
+    }
+
   -- The loop over the answers from number `first` on, once the first j are looked at.
   module _ (first count capacity : ℕ) (work₀ : List ℕ) (known : ℕ) where
     pub record Answers (work : List ℕ) (now j : ℕ) : Type 0 where
@@ -421,6 +530,64 @@ module _ (arities free apart : List ℕ) (second : Bool) (area : List ℕ) (at :
           rw (part-whole (answered second G D s) (answered-++ second G D s) ts j (omega (arith, l .number))) (x .is G D s ts before flags e i l o may m p);
     }
 
+    -- Whether one of them is left.
+    pub record Looked (work : List ℕ) (now j : ℕ) (left : Bool) : Type 0 where
+      pub number : left ≡ false → now ≡ known
+      pub bytes : left ≡ false → work ≡ work₀
+      pub gone : left ≡ false → (G : List ℕ) (D : Pairs) (s : ListedStep) (ts : List ListedStep) → Flagged free apart G D
+          → EntryAt area at s → InScope nameCount arities 0 (s .result)
+          → ListAt arities others count ts
+          → select (answers nameCount s) (take first ts) ≡ []
+          → All (Proper nameCount arities) (answered second G D s ts)
+          → (ks : List Situation) → Knows arities capacity work₀ known ks → All (Gone work₀ ks) (answered second G D s (take j ts))
+
+    pub looked-start : Looked work₀ known first false
+    unfolding answered
+    looked-start = record { number = λ z. refl; bytes = λ z. refl; gone = λ z G D s ts flags e i l o p ks K. rw o tt }
+
+    either-left : (b c : Bool) → (b || c) ≡ false → (b ≡ false) × (c ≡ false)
+    either-left true c z = never (sym z)
+    either-left false c z = (refl, z)
+
+    pub looked-next : (work : List ℕ) (now j : ℕ) (left : Bool) (a : Added) (n : ℕ) (work′ : List ℕ) → Looked work now j left → j < count → a .growth ≡ Known n
+        → AnswerIs arities free apart second area at others (stepBytes * j) capacity work now a work′ → Looked work′ n (j + 1) (left || a .left)
+    looked-next work now j left a n work′ x more q g = record {
+      number = λ z.
+          let (u, v) = either-left left (a .left) z in
+          let k : Known n ≡ Known now = sym q ∙ g .same .growth v in
+          let m : n ≡ now = cc in
+          m ∙ x .number u;
+      bytes = λ z. let (u, v) = either-left left (a .left) z in g .same .area v ∙ x .bytes u;
+      gone = λ z G D s ts flags e i l o p ks K.
+          let (u, v) = either-left left (a .left) z in
+          let f : List ListedStep → List Situation = answered second G D s in
+          let h : j < length ts = omega (arith, l .number) in
+          let t : ListedStep = getD ts j s in
+          let now-known : Knows arities capacity work now ks = rw (x .number u, x .bytes u) K in
+          rw (part-next f (answered-++ second G D s) ts j s h)
+          (all-++ (Gone work₀ ks) (f (take j ts)) (f (t ∷ [])) (x .gone u G D s ts flags e i l o p ks K)
+          (subst (λ w. All (Gone w ks) (f (t ∷ []))) (x .bytes u)
+          (g .gone v G D s t flags e i (l .entry j s more) (l .scope j s more) (l .rewritten j s more)
+          (all-one (Proper nameCount arities) f (answered-++ second G D s) ts j s h p) ks now-known)));
+    }
+
+    pub looked-full : (work′ : List ℕ) → GrowsAnswers arities free apart second area at others first count capacity work₀ known Full work′
+        → AnswersAre arities free apart second area at others first count capacity work₀ known (record { growth = Full; left = true }) work′
+    looked-full work′ g = record {
+      grown = g;
+      same = record { growth = λ z. never (sym z); area = λ z. never (sym z) };
+      gone = λ z. never (sym z);
+    }
+
+    pub looked-end : (work : List ℕ) (now j : ℕ) (left : Bool) → Answers work now j → Looked work now j left → count ≤ j
+        → AnswersAre arities free apart second area at others first count capacity work₀ known (record { growth = Known now; left = left }) work
+    looked-end work now j left x y h = record {
+      grown = answers-end work now j x h;
+      same = record { growth = λ z. ap Known (y .number z); area = y .bytes };
+      gone = λ z G D s ts flags e i l o p ks K.
+          rw (part-whole (answered second G D s) (answered-++ second G D s) ts j (omega (arith, l .number))) (y .gone z G D s ts flags e i l o p ks K);
+    }
+
 -- The first answer.
 module _ (area : List ℕ) (at : ℕ) (others : List ℕ) (count : ℕ) where
   -- none of the first j answers
@@ -484,7 +651,7 @@ module _ (arities free apart : List ℕ) (second : Bool) (taken : ℕ) (area : L
           rw (moved-one second G D s ts (sym (P D s (flags .distinction) (flags .pairs) e)), o)
           (record {
             puts = λ ks K b. knows-struck arities capacity work known ks taken 1 K;
-            strikes = strikes-here taken work known (omega arith);
+            strikes = strikes-here arities capacity taken before work known (omega arith) [] (λ ks K. tt);
           });
     }
 
@@ -499,7 +666,7 @@ module _ (arities free apart : List ℕ) (second : Bool) (taken : ℕ) (area : L
           let h : first < count = omega (arith, F .within) in
           record {
             puts = rw (ap together o ∙ together-one second G D (answered second G D s ts)) puts;
-            strikes = λ n z. strikes-kept taken work known waits (moved second G D (s ∷ []) ts) n work′
+            strikes = λ n z. strikes-kept arities capacity taken before work known waits (moved second G D (s ∷ []) ts) n work′
                 (ap unanswered o ∙ answered-some second G D s ts first s (omega (arith, l .number)) (F .answer s ts s e (list-entries arities others count ts l) h))
                 (keeps n z);
           }
@@ -515,6 +682,31 @@ module _ (arities free apart : List ℕ) (second : Bool) (taken : ℕ) (area : L
             answered-step G D s ts before may e l r work′ (g .keeps)
             (g .is G D s ts before flags e i l (F .none s ts e (list-entries arities others count ts l)) may m (subst (All (Proper nameCount arities)) t p));
       }
+
+      -- all that it leads to is struck out
+      pub step-gone : (a : Added) (work′ : List ℕ) → a .left ≡ false → known ≤ capacity → slotBytes * capacity ≤ length work
+          → AnswersAre arities free apart second area at others first count capacity work known a work′
+          → GrowsStep arities free apart second taken area at others count capacity work known (Known known) (set work′ (struckAt taken) 1)
+      unfolding PermittedIs Puts GrowsTo
+      step-gone a work′ z few room g = rw (g .same .area z) (record {
+        grows = record {
+          rest = drop-set-lt (slotBytes * capacity) work (struckAt taken) 1 (omega arith);
+          within = grows-none capacity work known few .within;
+        };
+        is = λ G D s ts before flags e i l m p.
+            let may = sym (P D s (flags .distinction) (flags .pairs) e) in
+            let xs : List Situation = answered second G D s ts in
+            let t = ap together (moved-one second G D s ts may) ∙ together-one second G D xs in
+            let o = F .none s ts e (list-entries arities others count ts l) in
+            let proper = subst (All (Proper nameCount arities)) t p in
+            let put : Puts arities capacity work known before xs (Known known) work =
+            rw (g .same .growth z, g .same .area z) at (g .grown .is G D s ts before flags e i l o may m proper) in
+            record {
+              puts = rw t (λ ks K b. knows-struck arities capacity work known (grown ks xs) taken 1 (put ks K b));
+              strikes = rw (moved-one second G D s ts may)
+                  (strikes-here arities capacity taken before work known (omega arith) xs (λ ks K. g .gone z G D s ts flags e i l o proper ks K));
+            };
+      })
 
       -- without a condition, made by the second side: its answers have its header
       pub step-mirrored : known ≤ capacity → second ≡ true → (b : Bool) → TrivialIs area at b → b ≡ true

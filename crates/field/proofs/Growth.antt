@@ -6,7 +6,7 @@ use mathlib.Core.Logic.{inl}
 use mathlib.Core.Path.{_≡_, refl, sym, _∙_, ap}
 use native.Mathlib.Omega.{arith}
 use Prim.Native.Nat.{ℕ, zero, suc, _+_, _-_, _<_, _≤_}
-use lib.ListN.{length, getD, take, drop, length-append, length-drop}
+use lib.ListN.{length, getD, take, drop, length-append, length-drop, List·getD-append}
 use lib.Seq.{take-suc, drop-cons, drop-length, take-append-le, drop-append-le}
 use Rattle.calculus.proofs.Renaming.{map-++}
 use Rattle.candidates.proofs.Membership.{∈-right, all-imp}
@@ -52,6 +52,10 @@ grown-unseen known (s ∷ ss) = go (found known s) refl (grown-unseen known ss) 
 
 pub grown-longer : (known ss : List Situation) → length known ≤ length (grown known ss)
 grown-longer known ss = omega (arith, ap length (grown-unseen known ss), length-append known (unseen known ss))
+
+-- The situations known stay, and those found come behind them.
+pub grown-front : (ks ss : List Situation) (i : ℕ) (d : Situation) → i < length ks → getD (grown ks ss) i d ≡ getD ks i d
+grown-front ks ss i d h = ap (λ l. getD l i d) (grown-unseen ks ss) ∙ List·getD-append ks (unseen ks ss) d i h
 
 -- What is found among the known ones stays found as they grow, and what they grow by is found.
 found-before : (known ss : List Situation) (t : Situation) → found known t ≡ true → found (known ++ ss) t ≡ true

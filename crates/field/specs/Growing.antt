@@ -25,6 +25,7 @@ use Rattle.field.specs.Situation.{Situation, freeFrom, situation}
 use Rattle.field.specs.Slot.{flagsOf, keyOf, keyBytes, slotBytes, struckAt}
 use Rattle.field.specs.Successors.{Outcome, pastLimit, leads, select, permitted, answers, moves, successors}
 use Rattle.field.specs.TakingUp.{ListAt, EntriesAt}
+use Rattle.field.specs.declared.explore.Added.{Added}
 use Rattle.field.specs.declared.explore.Growth.{Growth}
 use Rattle.field.specs.declared.explore.Growth.the-variants.{Full, Known}
 
@@ -94,6 +95,25 @@ pub record AddIs (capacity : ℕ) (work : List ℕ) (known : ℕ) (key : List �
   pub keeps : (n : ℕ) → r ≡ Known n → KeepsStruck work known n work′
   pub is : (arities : List ℕ) (s : Situation) → Fitting arities s → key ≡ keyOf s → Puts arities capacity work known [] (s ∷ []) r work′
 
+-- One of the known situations is s, and it is struck out.
+pub record Gone (work : List ℕ) (ks : List Situation) (s : Situation) : Type 0 where
+  pub number : ℕ
+  pub inside : number < length ks
+  pub is : (d : Situation) → getD ks number d ≡ s
+  pub struck : getD work (struckAt number) 0 ≡ 0 → ⊥
+
+-- Where nothing that was looked at is left, nothing has changed.
+pub record Unchanged (work : List ℕ) (known : ℕ) (r : Added) (work′ : List ℕ) : Type 0 where
+  pub growth : r .left ≡ false → r .growth ≡ Known known
+  pub area : r .left ≡ false → work′ ≡ work
+
+-- One situation, and whether it is left.
+pub record AddedIs (capacity : ℕ) (work : List ℕ) (known : ℕ) (key : List ℕ) (r : Added) (work′ : List ℕ) : Type 0 where
+  pub added : AddIs capacity work known key (r .growth) work′
+  pub same : Unchanged work known r work′
+  pub gone : r .left ≡ false → (arities : List ℕ) (s : Situation) → Fitting arities s → key ≡ keyOf s
+      → (ks : List Situation) → Knows arities capacity work known ks → Gone work ks s
+
 -- The names G and the apart pairs D of the situation taken up, as flags.
 pub record Flagged (free apart G : List ℕ) (D : Pairs) : Type 0 where
   pub names : HasNames free G
@@ -122,6 +142,17 @@ pub record GrowsAnswer (arities free apart : List ℕ) (second : Bool) (area : L
       → All (Proper nameCount arities) (answered second G D s (t ∷ []))
       → Puts arities capacity work known before (answered second G D s (t ∷ [])) r work′
 
+-- and whether it is left
+pub record AnswerIs (arities free apart : List ℕ) (second : Bool) (area : List ℕ) (at : ℕ) (others : List ℕ) (place capacity : ℕ) (work : List ℕ)
+    (known : ℕ) (r : Added) (work′ : List ℕ) : Type 0 where
+  pub grown : GrowsAnswer arities free apart second area at others place capacity work known (r .growth) work′
+  pub same : Unchanged work known r work′
+  pub gone : r .left ≡ false → (G : List ℕ) (D : Pairs) (s t : ListedStep) → Flagged free apart G D
+      → EntryAt area at s → InScope nameCount arities 0 (s .result)
+      → EntryAt others place t → InScope nameCount arities 0 (t .result) → Rewritten t
+      → All (Proper nameCount arities) (answered second G D s (t ∷ []))
+      → (ks : List Situation) → Knows arities capacity work known ks → All (Gone work ks) (answered second G D s (t ∷ []))
+
 -- Every answer to it, where none before `first` answers.
 pub record GrowsAnswers (arities free apart : List ℕ) (second : Bool) (area : List ℕ) (at : ℕ) (others : List ℕ) (first count capacity : ℕ) (work : List ℕ)
     (known : ℕ) (r : Growth) (work′ : List ℕ) : Type 0 where
@@ -135,6 +166,18 @@ pub record GrowsAnswers (arities free apart : List ℕ) (second : Bool) (area : 
       → All (Proper nameCount arities) (answered second G D s ts)
       → Puts arities capacity work known before (answered second G D s ts) r work′
 
+-- and whether one of them is left
+pub record AnswersAre (arities free apart : List ℕ) (second : Bool) (area : List ℕ) (at : ℕ) (others : List ℕ) (first count capacity : ℕ) (work : List ℕ)
+    (known : ℕ) (r : Added) (work′ : List ℕ) : Type 0 where
+  pub grown : GrowsAnswers arities free apart second area at others first count capacity work known (r .growth) work′
+  pub same : Unchanged work known r work′
+  pub gone : r .left ≡ false → (G : List ℕ) (D : Pairs) (s : ListedStep) (ts : List ListedStep) → Flagged free apart G D
+      → EntryAt area at s → InScope nameCount arities 0 (s .result)
+      → ListAt arities others count ts
+      → select (answers nameCount s) (take first ts) ≡ []
+      → All (Proper nameCount arities) (answered second G D s ts)
+      → (ks : List Situation) → Knows arities capacity work known ks → All (Gone work ks) (answered second G D s ts)
+
 -- The first of `count` steps that answers the one at `at`, or `count`.
 pub record FirstAnswerIs (area : List ℕ) (at : ℕ) (others : List ℕ) (count r : ℕ) : Type 0 where
   pub within : r ≤ count
@@ -146,9 +189,14 @@ pub record FirstAnswerIs (area : List ℕ) (at : ℕ) (others : List ℕ) (count
 unfoldable pub moved : Bool → List ℕ → Pairs → List ListedStep → List ListedStep → List (List Situation)
 moved second G D ss ts = moves nameCount (placed second) (freeFrom G 0 nameCount) D ss ts
 
--- Of the situation of number `taken` the moves ms were looked at: it is struck out if one of them has no answer. The others keep their bytes.
-pub record Strikes (taken : ℕ) (ms : List (List Situation)) (work : List ℕ) (known n : ℕ) (work′ : List ℕ) : Type 0 where
-  pub here : getD work′ (struckAt taken) 0 ≡ cond (unanswered ms) 1 (getD work (struckAt taken) 0)
+-- Of the situation of number `taken` the moves ms were looked at: it is struck out if one of them has no answer, and it is only if all answers of one
+-- lead to situations that were struck out before. The others keep their bytes.
+pub record Strikes (arities : List ℕ) (capacity taken : ℕ) (before : List Situation) (ms : List (List Situation)) (work : List ℕ) (known n : ℕ)
+    (work′ : List ℕ) : Type 0 where
+  pub must : unanswered ms ≡ true → getD work′ (struckAt taken) 0 ≡ 0 → ⊥
+  pub stays : (getD work (struckAt taken) 0 ≡ 0 → ⊥) → getD work′ (struckAt taken) 0 ≡ 0 → ⊥
+  pub why : (ks : List Situation) → Knows arities capacity work known ks → AllFound ks before → getD work (struckAt taken) 0 ≡ 0
+      → (getD work′ (struckAt taken) 0 ≡ 0 → ⊥) → (w : List Situation) × (w ∈ ms) × All (Gone work ks) w
   pub others : (i : ℕ) → i < known → (i ≡ taken → ⊥) → getD work′ (struckAt i) 0 ≡ getD work (struckAt i) 0
   pub fresh : (i : ℕ) → known ≤ i → i < n → getD work′ (struckAt i) 0 ≡ 0
 
@@ -156,7 +204,7 @@ pub record Strikes (taken : ℕ) (ms : List (List Situation)) (work : List ℕ) 
 pub record LeadsAfter (arities : List ℕ) (capacity taken : ℕ) (before : List Situation) (ms : List (List Situation)) (work : List ℕ) (known : ℕ) (r : Growth)
     (work′ : List ℕ) : Type 0 where
   pub puts : Puts arities capacity work known before (together ms) r work′
-  pub strikes : (n : ℕ) → r ≡ Known n → Strikes taken ms work known n work′
+  pub strikes : (n : ℕ) → r ≡ Known n → Strikes arities capacity taken before ms work known n work′
 
 -- the same, whatever is known
 abbrev pub Leads : List ℕ → ℕ → ℕ → List (List Situation) → List ℕ → ℕ → Growth → List ℕ → Type 0

@@ -1,16 +1,18 @@
 -- The situations found, in the slots of the work area, and what exploration promises.
-use mathlib.Core.Path.{_≡_}
+use mathlib.Core.Bool.{true}
 use mathlib.Core.List.{List, map}
+use mathlib.Core.Path.{_≡_}
 use Prim.Native.Nat.{ℕ, _*_, _<_, _≤_}
 use lib.ListN.{length, getD, drop}
 use Rattle.terms.specs.Answer.{result}
 use Rattle.terms.specs.Question.{Question, checkOf}
+use Rattle.candidates.specs.Lists.{_∈_, All}
 use Rattle.field.specs.Chains.{Chained}
 use Rattle.field.specs.Exploration.{unanswered, Row, Exploration, incomplete, explored, fieldOf}
 use Rattle.field.specs.Key.{SituationAt}
 use Rattle.field.specs.Setting.{settingOf}
 use Rattle.field.specs.Situation.{Situation, startOf}
-use Rattle.field.specs.Slot.{flag, slotBytes, struckAt}
+use Rattle.field.specs.Slot.{slotBytes, struckAt}
 use Rattle.field.specs.declared.explore.Explored.{Explored}
 use Rattle.field.specs.declared.explore.Explored.the-variants.{Incomplete, Field}
 
@@ -18,9 +20,15 @@ use Rattle.field.specs.declared.explore.Explored.the-variants.{Incomplet
 pub record SlotsHold (work : List ℕ) (known : List Situation) : Type 0 where
   pub held : (i : ℕ) (d : Situation) → i < length known → SituationAt work (slotBytes * i) (getD known i d)
 
--- Exactly the situations with a permitted step that has no answer at all are struck out; strike-out (crate verdict) goes on from there.
+-- A situation with a permitted step that has no answer at all is struck out. One that is struck out has a permitted step whose answers, if any, all
+-- lead to situations of smaller numbers that are struck out. Strike-out (crate verdict) goes on from there.
+pub record StruckAt (work : List ℕ) (rs : List Row) (i : ℕ) (wants : List (List Situation)) : Type 0 where
+  pub must : unanswered wants ≡ true → getD work (struckAt i) 0 ≡ 0 → ⊥
+  pub why : (getD work (struckAt i) 0 ≡ 0 → ⊥)
+      → (w : List Situation) × (w ∈ wants) × All (λ t. (j : ℕ) × (j < i) × ((d : Row) → getD rs j d .self ≡ t) × (getD work (struckAt j) 0 ≡ 0 → ⊥)) w
+
 unfoldable pub StruckFirst : List ℕ → List Row → Type 0
-StruckFirst work rs = (i : ℕ) (d : Row) → i < length rs → getD work (struckAt i) 0 ≡ flag (unanswered (getD rs i d .wants))
+StruckFirst work rs = (i : ℕ) (d : Row) → i < length rs → StruckAt work rs i (getD rs i d .wants)
 
 -- The answer: the field's size, and its situations in the slots; where it is incomplete, the area within the capacity is not determined, and
 -- judge clears it.

@@ -2,7 +2,9 @@
 -- the search's own use.
 use mathlib.Core.Bool.{Bool, true, false}
 use mathlib.Core.List.{List, _∷_, _++_, map}
+use mathlib.Core.Path.{_≡_}
 use Prim.Native.Nat.{ℕ, _+_, _-_, _*_}
+use lib.Dec.{eqb}
 use lib.ListN.{length, getD, replicate}
 use Rattle.calculus.specs.Cond.{Pairs}
 use Rattle.calculus.specs.Term.{Term}
@@ -53,3 +55,6 @@ slotBytes = 256
 -- The byte of slot i behind its key: 0 while the situation is left, 1 once it is struck out.
 abbrev pub struckAt : ℕ → ℕ
 struckAt i = slotBytes * i + keyBytes
+
+unfoldable pub LeftAtIs : List ℕ → ℕ → Bool → Type 0
+LeftAtIs work i r = r ≡ eqb (getD work (struckAt i) 0) 0

@@ -6,7 +6,7 @@ ghost use Rattle.candidates.specs.Tally.{tallySize, BodiesTallied};
 ghost use Rattle.steps.specs.Limits.{stepBytes, mostSteps};
 ghost use Rattle.steps.specs.Rows.{rowBytes, mostRows};
 ghost use Rattle.field.specs.Chains.{LinkIs};
-ghost use Rattle.field.specs.Growing.{slotWith, AddIs, GrowsAnswer, GrowsAnswers, FirstAnswerIs, GrowsStep, GrowsSide, GrowsSides, GrowIs};
+ghost use Rattle.field.specs.Growing.{slotWith, AddedIs, AnswerIs, AnswersAre, FirstAnswerIs, GrowsStep, GrowsSide, GrowsSides, GrowIs};
 ghost use Rattle.field.specs.Holding.{ExploreIs};
 ghost use Rattle.field.specs.ListArea.{Labelled};
 ghost use Rattle.field.specs.Slot.{keyBytes, slotBytes};
@@ -19,6 +19,7 @@ use crate::entries::trivial;
 use crate::find::Found;
 use crate::find::KEY_BYTES;
 use crate::find::SLOT_BYTES;
+use crate::find::left_at;
 use crate::pairs::PAIR_COUNT;
 use crate::pairs::permitted;
 use crate::results::successor;
@@ -41,6 +42,12 @@ pub enum Growth {
     Known(usize),
 }
 
+// The growth, and whether a situation that was looked at is left: not struck out so far.
+pub struct Added {
+    pub growth: Growth,
+    pub left: bool,
+}
+
 // Writes the key into slot `i` and chains it; the byte behind the key says that the situation is left.
 fn put(work: &mut [u8], capacity: usize, i: usize, key: &[u8])
     requires { ⌜ (i < capacity) × (capacity ≤ 4096) × (slotBytes * capacity ≤ length (now work)) × (keyBytes ≤ length (now key)) ⌝ }
@@ -53,25 +60,37 @@ fn put(work: &mut [u8], capacity: usize, i: usize, key: &[u8])
 }
 
 // Puts the situation with this key behind the known ones if it is new.
-fn add(work: &mut [u8], capacity: usize, known: usize, key: &[u8]) -> Growth
+fn add(work: &mut [u8], capacity: usize, known: usize, key: &[u8]) -> Added
     requires { ⌜ (1 ≤ capacity) × (known ≤ capacity) × (capacity ≤ 4096) × (slotBytes * capacity ≤ length (now work)) × (keyBytes ≤ length (now key)) ⌝ }
-    ensures { λ r. ⌜ AddIs capacity (now (work .entry)) known (now (key .entry)) r (now (work .exit)) ⌝ }
+    ensures { λ r. ⌜ AddedIs capacity (now (work .entry)) known (now (key .entry)) r (now (work .exit)) ⌝ }
 {
     let place = find_chained(work, capacity, known, key);
     match place {
-        Found::At(_) => Growth::Known(known),
+        Found::At(i) => {
+            let left = left_at(work, i);
+            Added {
+                growth: Growth::Known(known),
+                left,
+            }
+        }
         Found::Nothing => {
             if known == capacity {
-                return Growth::Full;
+                return Added {
+                    growth: Growth::Full,
+                    left: true,
+                };
             }
             put(work, capacity, known, key);
-            Growth::Known(known + 1)
+            Added {
+                growth: Growth::Known(known + 1),
+                left: true,
+            }
         }
     }
 }
 
 // What the step at `place` of the other side leads to, if it answers the one at `at`. A step of the second side and an answer with the same header
-// lead where the first side's step led, with the two exchanged.
+// lead where the first side's step led, with the two exchanged: that situation is not looked for, and counts as left.
 fn grow_answer(
     arities: &[u8],
     free: &[u8],
@@ -84,23 +103,29 @@ fn grow_answer(
     work: &mut [u8],
     capacity: usize,
     known: usize,
-) -> Growth
+) -> Added
     requires { ⌜ (1 ≤ capacity) × (known ≤ capacity) × (capacity ≤ 4096) × (slotBytes * capacity ≤ length (now work)) × (at + stepBytes ≤ length (now area)) × (place + stepBytes ≤ length (now others)) ⌝ }
-    ensures { λ r. ⌜ GrowsAnswer (now (arities .entry)) (now (free .entry)) apart second (now (area .entry)) at (now (others .entry)) place capacity (now (work .entry)) known r (now (work .exit)) ⌝ }
+    ensures { λ r. ⌜ AnswerIs (now (arities .entry)) (now (free .entry)) apart second (now (area .entry)) at (now (others .entry)) place capacity (now (work .entry)) known r (now (work .exit)) ⌝ }
 {
     if !answers(area, at, others, place) {
-        return Growth::Known(known);
+        return Added {
+            growth: Growth::Known(known),
+            left: false,
+        };
     }
     if second {
         if same_header(area, at, others, place) {
-            return Growth::Known(known);
+            return Added {
+                growth: Growth::Known(known),
+                left: true,
+            };
         }
     }
     let key = successor(arities, free, apart, second, area, at, others, place);
     add(work, capacity, known, &key)
 }
 
-// What every answer of the other side, which has `count` steps, leads to; none before `first` answers.
+// What every answer of the other side, which has `count` steps, leads to, and whether one of those situations is left; none before `first` answers.
 fn grow_answers(
     arities: &[u8],
     free: &[u8],
@@ -114,14 +139,15 @@ fn grow_answers(
     work: &mut [u8],
     capacity: usize,
     known: usize,
-) -> Growth
+) -> Added
     requires { ⌜ (1 ≤ capacity) × (known ≤ capacity) × (capacity ≤ 4096) × (slotBytes * capacity ≤ length (now work)) × (at + stepBytes ≤ length (now area)) × (first ≤ count) × (count ≤ mostSteps) × (mostSteps * stepBytes ≤ length (now others)) ⌝ }
-    ensures { λ r. ⌜ GrowsAnswers (now (arities .entry)) (now (free .entry)) apart second (now (area .entry)) at (now (others .entry)) first count capacity (now (work .entry)) known r (now (work .exit)) ⌝ }
+    ensures { λ r. ⌜ AnswersAre (now (arities .entry)) (now (free .entry)) apart second (now (area .entry)) at (now (others .entry)) first count capacity (now (work .entry)) known r (now (work .exit)) ⌝ }
 {
     let mut so_far = known;
+    let mut left = false;
     let mut j = first;
     while j < count {
-        let growth = grow_answer(
+        let added = grow_answer(
             arities,
             free,
             apart,
@@ -134,13 +160,21 @@ fn grow_answers(
             capacity,
             so_far,
         );
+        let growth = added.growth;
         let Growth::Known(n) = growth else {
-            return Growth::Full;
+            return Added {
+                growth: Growth::Full,
+                left: true,
+            };
         };
         so_far = n;
+        left = left | added.left;
         j += 1;
     }
-    Growth::Known(so_far)
+    Added {
+        growth: Growth::Known(so_far),
+        left,
+    }
 }
 
 // The first of the other side's `count` steps that answers the one at `at`, or `count` if none does.
@@ -158,8 +192,8 @@ fn first_answer(area: &[u8], at: usize, others: &[u8], count: usize) -> usize
     count
 }
 
-// What the step at `at` of the situation in slot `taken` leads to, if it is permitted. Where no answer is there, none is ever left: the situation
-// is struck out. All answers to a step without a condition have its header.
+// What the step at `at` of the situation in slot `taken` leads to, if it is permitted. Where no answer is there, or all lead to situations that are
+// struck out, none is ever left: the situation is struck out. All answers to a step without a condition have its header.
 fn grow_step(
     arities: &[u8],
     free: &[u8],
@@ -190,7 +224,7 @@ fn grow_step(
             return Growth::Known(known);
         }
     }
-    grow_answers(
+    let added = grow_answers(
         arities,
         free,
         apart,
@@ -203,7 +237,12 @@ fn grow_step(
         work,
         capacity,
         known,
-    )
+    );
+    if added.left {
+        return added.growth;
+    }
+    work[SLOT_BYTES * taken + KEY_BYTES] = 1;
+    Growth::Known(known)
 }
 
 // What every permitted step of one side, which has `steps` of them, leads to.

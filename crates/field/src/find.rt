@@ -1,8 +1,9 @@
 // The slots of the work area: whether one holds a situation.
-ghost use Prim.Native.Nat.{_+_, _≤_};
+ghost use Prim.Native.Nat.{_+_, _<_, _≤_};
 ghost use lib.ListN.{length};
 ghost use Rattle.field.specs.Key.{SameKeyIs};
-ghost use Rattle.field.specs.Slot.{keyBytes};
+ghost use Rattle.field.specs.Slot.{keyBytes, struckAt, LeftAtIs};
+use terms::bytes::get;
 
 pub const KEY_BYTES: usize = 241;
 
@@ -29,4 +30,12 @@ pub enum Found {
     // the number of the slot
     At(usize),
     Nothing,
+}
+
+// Whether situation `i` is left: the byte behind its key is 0, and 1 once it is struck out.
+pub fn left_at(work: &[u8], i: usize) -> bool
+    requires { ⌜ struckAt i < length (now work) ⌝ }
+    ensures { λ r. ⌜ LeftAtIs (now (work .entry)) i r ⌝ }
+{
+    get(work, SLOT_BYTES * i + KEY_BYTES) == 0
 }

@@ -20,7 +20,7 @@ use Rattle.field.specs.Holding.{SlotsHold, StruckFirst, Explores, ExploreIs}
 use Rattle.field.specs.Key.{keyAt}
 use Rattle.field.specs.Setting.{Setting, settingOf}
 use Rattle.field.specs.Situation.{Situation, sameSituation, startOf}
-use Rattle.field.specs.Slot.{slotBytes, flag, struckAt}
+use Rattle.field.specs.Slot.{slotBytes, struckAt}
 use Rattle.field.specs.Successors.{leads, successors}
 use Rattle.field.specs.declared.explore.Explored.{Explored}
 use Rattle.field.specs.declared.explore.Explored.the-variants.{Incomplete, Field}
@@ -120,15 +120,14 @@ module _ (question : List ℕ) (q : Question) (accepted : checkOf question ≡ r
   -- a situation with a permitted step that has no answer is struck out
   struck-unanswered : (i : ℕ) (d : Situation) (ms : List (List Situation)) → i < length rs → successors S (getD (selves rs) i d) ≡ leads ms
       → unanswered ms ≡ true → getD work (struckAt i) 0 ≡ 0 → ⊥
-  unfolding StruckFirst flag
-  struck-unanswered i d ms h e u z =
+  unfolding StruckFirst
+  struck-unanswered i d ms h e u =
       let q : Row = record { self = d; wants = [] } in
       let r : Row = getD rs i q in
       let l = within r (getD-∈ rs i q h) in
       let t : successors S (r .self) ≡ leads ms = ap (successors S) (sym (List·getD-map (λ (r : Row). r .self) rs i q)) ∙ e in
       let w : r .wants ≡ ms = cc in
-      let o : _≡_ {A = ℕ} 0 1 = sym z ∙ first i q h ∙ ap flag (ap unanswered w ∙ u) in
-      omega arith
+      first i q h .must (ap unanswered w ∙ u)
 
   searching : Searching question capacity work (length rs)
   unfolding settingOf

@@ -16,14 +16,14 @@ use Rattle.field.specs.Exploration.{found}
 use Rattle.field.specs.Key.{SituationAt, keyAt, FoundIs}
 use Rattle.field.specs.Leading.{leading, SuccessorIs}
 use Rattle.field.specs.Situation.{Situation, freeFrom}
-use Rattle.field.specs.Slot.{keyOf, keyBytes, slotBytes, struckAt}
+use Rattle.field.specs.Slot.{keyOf, keyBytes, slotBytes, struckAt, LeftAtIs}
 use Rattle.field.specs.declared.find.Found.{Found}
 use Rattle.field.specs.declared.find.Found.the-variants.{At, Nothing}
 use Rattle.field.proofs.Unseen.{∈-found, found-∈}
 use Rattle.field.proofs.Members.{getD-∈, ∈-number}
 use Rattle.field.proofs.GrowingLaws.{whole-key}
 use Rattle.field.proofs.KeysDiffer.{slot-key}
-use Rattle.verdict.specs.Striking.{leftOf, marks, Standing, LeftAtIs, leftAt, LeftIs, isAt, AnswerLeftIs}
+use Rattle.verdict.specs.Striking.{leftOf, marks, Standing, leftAt, LeftIs, isAt, AnswerLeftIs}
 use Rattle.verdict.proofs.Living.{living-at, at-living}
 use Rattle.verdict.proofs.Marks.{length-marks, marks-at}
 

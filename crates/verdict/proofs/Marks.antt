@@ -8,8 +8,8 @@ use Prim.Native.Nat.{ℕ, zero, suc, _+_, _*_, _<_, _≤_}
 use lib.ListN.{length, getD, set, length-set}
 use lib.Seq.{getD-set-same, getD-set-other, ext-getD}
 use borrow.Author.Tests.{eqb-true}
-use Rattle.field.specs.Slot.{slotBytes, struckAt}
-use Rattle.verdict.specs.Striking.{marksFrom, marks, zeros, LeftAtIs}
+use Rattle.field.specs.Slot.{slotBytes, struckAt, LeftAtIs}
+use Rattle.verdict.specs.Striking.{marksFrom, marks, zeros}
 use Rattle.verdict.proofs.Living.{struck-fewer}
 
 length-marksFrom : (work : List ℕ) (i n : ℕ) → length (marksFrom work i n) ≡ n

@@ -9,10 +9,9 @@ use borrow.Author.Count.{below-more}
 use lib.ListN.{length, getD, set, replicate, getD-replicate}
 use lib.Seq.{drop-set-lt, getD-set-same, getD-set-other}
 use Rattle.field.specs.Chains.{putNumber}
-use Rattle.field.specs.Slot.{slotBytes, struckAt}
+use Rattle.field.specs.Slot.{slotBytes, struckAt, LeftAtIs}
 use Rattle.field.proofs.ChainLaws.{length-put, byte-put, size-put, size-same}
 use Rattle.verdict.specs.Notes.{notedCount, notePlace, noteAt, Has, Numbers, WithIs, SpareOnly, NoteIs, ClearsNotes, RestsIs}
-use Rattle.verdict.specs.Striking.{LeftAtIs}
 use Rattle.verdict.specs.declared.relied.Relied.{Relied}
 use Rattle.verdict.proofs.Marks.{left-zero}
 use Rattle.verdict.proofs.Rounds.{true-not-false}

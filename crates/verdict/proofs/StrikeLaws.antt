@@ -11,18 +11,20 @@ use lib.Seq.{drop-set-lt, getD-set-other, ext-getD}
 use borrow.Author.Tests.{eqb-false}
 use Rattle.calculus.specs.Term.{nil}
 use Rattle.candidates.specs.Lists.{_∈_}
+use Rattle.candidates.proofs.Membership.{all-imp}
 use Rattle.field.specs.Exploration.{unanswered, Row}
 use Rattle.field.specs.Holding.{StruckFirst}
 use Rattle.field.specs.Setting.{settingOf}
 use Rattle.field.specs.Situation.{Situation}
-use Rattle.field.specs.Slot.{slotBytes, struckAt}
+use Rattle.field.specs.Slot.{keyOf, slotBytes, struckAt, LeftAtIs}
 use Rattle.field.specs.Successors.{leads, successors}
 use Rattle.field.specs.declared.find.Found.{Found}
 use Rattle.field.specs.declared.find.Found.the-variants.{At, Nothing}
+use Rattle.field.proofs.KeysDiffer.{slot-key}
 use Rattle.field.proofs.Run.{selves}
 use Rattle.field.proofs.Members.{getD-∈}
 use Rattle.verdict.specs.Notes.{SpareOnly, NoteIs, RestsIs}
-use Rattle.verdict.specs.Striking.{marks, living, zeros, leftOf, LeftAtIs, Searching, SurvivesIs, ExaminedIs, AllNoted, Strikes, none-struck, one-struck, notes-changed, StrikesOne, AllSurvive, Run, PassIs, FirstStruckIs, StartSurvivesIs, blockSlots, blockSize, turned}
+use Rattle.verdict.specs.Striking.{marks, living, zeros, leftOf, Searching, SurvivesIs, ExaminedIs, AllNoted, Strikes, none-struck, one-struck, notes-changed, StrikesOne, AllSurvive, Run, PassIs, FirstStruckIs, StartSurvivesIs, blockSlots, blockSize, turned}
 use Rattle.verdict.specs.Verdict.{allAnswered}
 use Rattle.verdict.specs.declared.strike.Answered.{Answered}
 use Rattle.verdict.proofs.AnyOrder.{StrikesTo, all-left}
@@ -324,17 +326,32 @@ module _ (question : List ℕ) (capacity count : ℕ) where
               let g = f .field in
               all-within (g .known) ms u (g .closed (getD (g .known) i d) (getD-∈ (g .known) i d (omega (arith, g .number))) ms l)
 
--- Over the rows of the field, from a work area in which exactly those with a permitted step that has no answer are struck out.
+-- Over the rows of the field, from a work area in which those are struck out that exploration strikes out.
 module _ (question : List ℕ) (capacity : ℕ) (work : List ℕ) (rs : List Row) (f : Searching question capacity work (length rs)) (those : f .field .known ≡ selves rs)
     (room : slotBytes * length rs ≤ length work)
     (rows : (r : Row) → r ∈ rs → successors (settingOf (f .field .read .bodies)) (r .self) ≡ leads (r .wants))
     (first : StruckFirst work rs) where
+  -- equal situations have one number
+  number-once : (i j : ℕ) (d : Situation) → i < length rs → j < length rs → getD (selves rs) i d ≡ getD (selves rs) j d → i ≡ j
+  number-once i j d h k e =
+      let st = f .field .standing in
+      let n : length (f .field .known) ≡ length rs = f .field .number in
+      let same : getD (f .field .known) i d ≡ getD (f .field .known) j d = ap (λ l. getD l i d) those ∙ e ∙ sym (ap (λ l. getD l j d) those) in
+      st .once i j (omega arith) (omega arith)
+      (slot-key work i (getD (f .field .known) i d) (st .held i d (omega arith)) ∙ ap keyOf same
+      ∙ sym (slot-key work j (getD (f .field .known) j d) (st .held j d (omega arith))))
+
   struck-at-first : StrikesTo rs (leftOf work (selves rs))
   unfolding StruckFirst
   struck-at-first =
       let n : length (selves rs) ≡ length rs = length-map rs (λ (r : Row). r .self) in
-      strikes-flagged rs [] (marks work (length (selves rs))) rs (length-marks work (length (selves rs)) ∙ n) (λ q m. m)
-      (λ i d h. marks-at work (length (selves rs)) i 0 (omega arith) ∙ first i d h) all-left
+      let fs : List ℕ = marks work (length (selves rs)) in
+      let flag : (i : ℕ) → i < length rs → getD fs i 0 ≡ getD work (struckAt i) 0 = λ i h. marks-at work (length (selves rs)) i 0 (omega arith) in
+      strikes-flagged rs fs (length-marks work (length (selves rs)) ∙ n)
+      (λ s t i j. f .field .standing .exact s t (subst (λ l. s ∈ l) (sym those) i) (subst (λ l. t ∈ l) (sym those) j)) number-once
+      (λ i d h g.
+      let (w, m, a) = first i d h .why (λ z. g (flag i h ∙ z)) in
+      (w, m, all-imp _ _ w (λ t (j, l, is, o). (j, l, is, λ z. o (sym (flag j (omega arith)) ∙ z))) a))
 
   pub strikes-to : {v : List ℕ} → Strikes question capacity (length rs) work v → StrikesTo rs (leftOf v (f .field .known))
   unfolding still field-kept SurvivesIs

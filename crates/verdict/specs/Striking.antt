@@ -61,9 +61,6 @@ pub record Standing (capacity : ℕ) (work : List ℕ) (known : List Situation) 
   pub chained : Chained capacity work (length known)
   pub exact : (s t : Situation) → s ∈ known → t ∈ known → sameSituation s t ≡ true → s ≡ t
 
-unfoldable pub LeftAtIs : List ℕ → ℕ → Bool → Type 0
-LeftAtIs work i r = r ≡ eqb (getD work (struckAt i) 0) 0
-
 -- slot i, if it is left
 unfoldable pub leftAt : List ℕ → ℕ → Found
 leftAt work i = cond (eqb (getD work (struckAt i) 0) 0) (At i) Nothing

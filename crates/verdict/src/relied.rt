@@ -4,9 +4,9 @@ ghost use Prim.Native.Nat.{_+_, _*_, _<_, _≤_};
 ghost use lib.ListN.{length};
 ghost use Rattle.field.specs.Slot.{slotBytes};
 ghost use Rattle.verdict.specs.Notes.{Numbers, WithIs, NoteIs, RestsIs, ClearsNotes};
-use crate::strike::left_at;
 use field::chains::put_number;
 use field::find::SLOT_BYTES;
+use field::find::left_at;
 use terms::frame::size_at;
 
 // How many numbers are noted, two bytes each, and where they begin in a slot.

@@ -9,7 +9,7 @@ ghost use Rattle.steps.specs.Limits.{stepBytes};
 ghost use Rattle.steps.specs.Rows.{rowBytes, mostRows};
 ghost use Rattle.verdict.specs.Judge.{greatestCapacity};
 ghost use Rattle.verdict.specs.Notes.{Numbers};
-ghost use Rattle.verdict.specs.Striking.{LeftAtIs, LeftIs, AnswerLeftIs, SideAnsweredIs, ExaminedIs, AllNoted, StrikesOne, Run, PassIs, FirstStruckIs, StartSurvivesIs, blockSize, turned};
+ghost use Rattle.verdict.specs.Striking.{LeftIs, AnswerLeftIs, SideAnsweredIs, ExaminedIs, AllNoted, StrikesOne, Run, PassIs, FirstStruckIs, StartSurvivesIs, blockSize, turned};
 use crate::relied::Relied;
 use crate::relied::clear_notes;
 use crate::relied::note;
@@ -20,7 +20,9 @@ use candidates::bodies::arities_of;
 use field::chains::find_chained;
 use field::entries::answers;
 use field::find::Found;
+use field::find::KEY_BYTES;
 use field::find::SLOT_BYTES;
+use field::find::left_at;
 use field::pairs::PAIR_COUNT;
 use field::pairs::permitted;
 use field::results::successor;
@@ -29,19 +31,8 @@ use field::taking::take_up;
 use steps::limits::STEP_BYTES;
 use terms::bytes::get;
 
-// The byte of a slot behind its key: 0 while the situation is left, 1 once it is struck out.
-const STRUCK: usize = 241;
-
 // How many slots a pass settles before it goes on.
 const BLOCK: usize = 64;
-
-// Whether situation `i` is left.
-pub fn left_at(work: &[u8], i: usize) -> bool
-    requires { ⌜ struckAt i < length (now work) ⌝ }
-    ensures { λ r. ⌜ LeftAtIs (now (work .entry)) i r ⌝ }
-{
-    get(work, SLOT_BYTES * i + STRUCK) == 0
-}
 
 // The slot of the situation with this key, of the first `count`, if it is left.
 fn find_left(work: &[u8], capacity: usize, count: usize, key: &[u8]) -> Found
@@ -263,7 +254,7 @@ fn strike_one(
         note(work, i, relied);
         return false;
     }
-    work[SLOT_BYTES * i + STRUCK] = 1;
+    work[SLOT_BYTES * i + KEY_BYTES] = 1;
     true
 }
 

@@ -1,7 +1,7 @@
 -- `field::explore::grow_answer` meets its contract. Assumes nothing.
 use native.Mathlib.Omega.{arith}
 use borrow.Author.Tests.{not-true, not-false}
-use Rattle.field.proofs.GrowingLaws.{answer-none, answer-mirrored, answer-added}
+use Rattle.field.proofs.GrowingLaws.{no-answer-left, answer-left, answer-mirrored, answer-looked}
 use borrow.Author.Needs.{needs}
 use Rattle.field.proofs.explore.grow_answer.Statement.{statement}
 use Rattle.field.proofs.explore.grow_answer.Tie as tie
@@ -10,13 +10,13 @@ answers-requires : tie.Need-answers-requires
 answers-requires c κs = search needs
 
 returns : tie.Need-returns
-returns c = answer-none _ _ _ _ _ _ _ _ _ _ _ (omega arith) (rw (not-true (c .before .answers .result) (c .if1 .taken)) at (c .before .answers .ensures))
+returns c = no-answer-left _ _ _ _ _ _ _ _ _ _ _ (omega arith) (rw (not-true (c .before .answers .result) (c .if1 .taken)) at (c .before .answers .ensures))
 
 same-header-requires : tie.Need-same-header-requires
 same-header-requires c κs = search needs
 
 returns-2 : tie.Need-returns-2
-returns-2 c = answer-mirrored _ _ _ _ _ _ _ _ _ _ _ (omega arith) (rw (not-false (c .before .before .before .before .answers .result) (c .before .before .before .if1 .left)) at (c .before .before .before .before .answers .ensures)) (c .before .before .if2 .taken) _ (c .before .same-header .ensures) (c .if3 .taken)
+returns-2 c = answer-left _ _ _ _ _ _ _ _ _ _ _ _ _ (answer-mirrored _ _ _ _ _ _ _ _ _ _ _ (omega arith) (rw (not-false (c .before .before .before .before .answers .result) (c .before .before .before .if1 .left)) at (c .before .before .before .before .answers .ensures)) (c .before .before .if2 .taken) _ (c .before .same-header .ensures) (c .if3 .taken))
 
 successor-requires : tie.Need-successor-requires
 successor-requires c κs = search needs
@@ -31,7 +31,7 @@ same-length : tie.Need-same-length
 same-length c = search needs
 
 returns-3 : tie.Need-returns-3
-returns-3 c = answer-added _ _ _ _ _ _ _ _ _ _ _ (rw (not-false (c .before .before .before .before .before .before .before .before .answers .result) (c .before .before .before .before .before .before .before .if1 .left)) at (c .before .before .before .before .before .before .before .before .answers .ensures)) _ (c .before .before .before .before .before .successor .ensures) _ _ (c .before .before .add .ensures)
+returns-3 c = answer-looked _ _ _ _ _ _ _ _ _ _ _ (rw (not-false (c .before .before .before .before .before .before .before .before .answers .result) (c .before .before .before .before .before .before .before .if1 .left)) at (c .before .before .before .before .before .before .before .before .answers .ensures)) _ (c .before .before .before .before .before .successor .ensures) _ _ (c .before .before .add .ensures)
 
 pub grow-answer-spec : {M : Type 1} → statement M
 grow-answer-spec =

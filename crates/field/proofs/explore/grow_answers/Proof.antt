@@ -3,20 +3,21 @@ use native.Mathlib.Omega.{arith}
 use mathlib.Core.Path.{_≡_, refl}
 use Prim.Native.Nat.{_-_, _≤_}
 use lib.ListN.{length}
-use Rattle.field.proofs.GrowingLaws.{Answers, answers-start, answers-next, answers-full, answers-end}
+use Rattle.field.proofs.GrowingLaws.{Answers, answers-start, answers-next, answers-full, Looked, looked-start, looked-next, looked-full, looked-end}
 use borrow.Author.Needs.{needs}
 use Rattle.field.proofs.explore.grow_answers.Statement.{statement}
 use Rattle.field.proofs.explore.grow_answers.Tie as tie
 
 abbrev Inv-loop : tie.InvT-loop
-Inv-loop arities free apart second area at others first count work₀ capacity known so-far₀ j₀ work so-far j =
+Inv-loop arities free apart second area at others first count work₀ capacity known so-far₀ left₀ j₀ work so-far left j =
     (j ≤ count) × (length work ≡ length work₀) × (so-far ≤ capacity) × Answers arities free apart second area at others first count capacity work₀ known work so-far j
+    × Looked arities free apart second area at others first count capacity work₀ known work so-far j left
 
 abbrev μ-loop : tie.MeasureT-loop
-μ-loop arities free apart second area at others first count work₀ capacity known so-far₀ j₀ work so-far j = count - j
+μ-loop arities free apart second area at others first count work₀ capacity known so-far₀ left₀ j₀ work so-far left j = count - j
 
 loop-holds : tie.Need-loop-holds Inv-loop μ-loop
-loop-holds c = (search needs, search needs, search needs, answers-start _ _ _ _ _ _ _ _ _ _ _ _ (omega arith))
+loop-holds c = (search needs, search needs, search needs, answers-start _ _ _ _ _ _ _ _ _ _ _ _ (omega arith), looked-start _ _ _ _ _ _ _ _ _ _ _ _)
 
 mul-grow-answer : tie.Need-mul-grow-answer Inv-loop μ-loop
 mul-grow-answer c = search needs
@@ -34,7 +35,7 @@ same-length : tie.Need-same-length Inv-loop μ-loop
 same-length c = search needs
 
 returns : tie.Need-returns Inv-loop μ-loop
-returns c = answers-full _ _ _ _ _ _ _ _ _ _ _ _ _ _ _ _ (c .before .before .before .before .before .before .before .loop .inv .3) (c .before .before .before .before .before .before .loop-test .taken) (rw (c .enum-told .given .1) at (c .before .before .before .before .grow-answer .ensures))
+returns c = looked-full _ _ _ _ _ _ _ _ _ _ _ _ _ (answers-full _ _ _ _ _ _ _ _ _ _ _ _ _ _ _ _ (c .before .before .before .before .before .before .before .loop .inv .3) (c .before .before .before .before .before .before .loop-test .taken) (rw (c .enum-told .given .1) at (c .before .before .before .before .grow-answer .ensures .grown)))
 
 add-j : tie.Need-add-j Inv-loop μ-loop
 add-j c = search needs
@@ -44,14 +45,19 @@ loop-less c = search needs
 
 loop-again : tie.Need-loop-again Inv-loop μ-loop
 loop-again c =
-    let g = rw (c .before .growth .given .1) at (c .before .before .before .before .before .grow-answer .ensures) in
-    (search needs, search needs, g .grows .within _ refl .1, answers-next _ _ _ _ _ _ _ _ _ _ _ _ _ _ _ _ _ (c .before .before .before .before .before .before .before .before .loop .inv .3) (c .before .before .before .before .before .before .before .loop-test .taken) g)
+    let g = rw (c .before .before .growth .given .1) at (c .before .before .before .before .before .before .grow-answer .ensures .grown) in (
+      search needs,
+      search needs,
+      g .grows .within _ refl .1,
+      answers-next _ _ _ _ _ _ _ _ _ _ _ _ _ _ _ _ _ (c .before .before .before .before .before .before .before .before .before .loop .inv .3) (c .before .before .before .before .before .before .before .before .loop-test .taken) g,
+      looked-next _ _ _ _ _ _ _ _ _ _ _ _ _ _ _ (c .before .before .before .before .before .before .before .before .before .loop .left) (c .before .before .before .before .before .before .grow-answer .result) _ _ (c .before .before .before .before .before .before .before .before .before .loop .inv .4) (c .before .before .before .before .before .before .before .before .loop-test .taken) (c .before .before .growth .given .1) (c .before .before .before .before .before .before .grow-answer .ensures),
+    )
 
 same-length-2 : tie.Need-same-length-2 Inv-loop μ-loop
 same-length-2 c = search needs
 
 returns-2 : tie.Need-returns-2 Inv-loop μ-loop
-returns-2 c = answers-end _ _ _ _ _ _ _ _ _ _ _ _ _ _ _ (c .before .loop .inv .3) (omega arith)
+returns-2 c = looked-end _ _ _ _ _ _ _ _ _ _ _ _ _ _ _ _ (c .before .loop .inv .3) (c .before .loop .inv .4) (omega arith)
 
 pub grow-answers-spec : {M : Type 1} → statement M
 grow-answers-spec =

@@ -1,10 +1,10 @@
--- `verdict::strike::left_at` meets its contract. Assumes nothing.
+-- `field::find::left_at` meets its contract. Assumes nothing.
 use mathlib.Core.Path.{ap}
 use lib.Dec.{eqb}
-use Rattle.verdict.specs.Striking.{LeftAtIs}
+use Rattle.field.specs.Slot.{LeftAtIs}
 use borrow.Author.Needs.{needs}
-use Rattle.verdict.proofs.strike.left_at.Statement.{statement}
-use Rattle.verdict.proofs.strike.left_at.Tie as tie
+use Rattle.field.proofs.find.left_at.Statement.{statement}
+use Rattle.field.proofs.find.left_at.Tie as tie
 
 mul-get : tie.Need-mul-get
 mul-get c = search needs
