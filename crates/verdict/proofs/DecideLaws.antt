@@ -2,8 +2,9 @@
 use mathlib.Core.Bool.{Bool, true, false, cond}
 use mathlib.Core.List.{List, []}
 use mathlib.Core.Path.{_≡_, refl, sym, ap, _∙_, subst}
+use native.Mathlib.Decide.{ℕ-discrete}
 use native.Mathlib.Omega.{arith}
-use Prim.Native.Nat.{ℕ, _*_, _<_, _≤_}
+use Prim.Native.Nat.{ℕ, zero, suc, _*_, _<_, _≤_}
 use lib.Dec.{eqb}
 use lib.ListN.{length, getD, length-map, List·getD-map}
 use borrow.Author.Tests.{eq-eqb, ne-eqb}
@@ -29,16 +30,18 @@ use Rattle.field.proofs.Link.{SettingFor}
 use Rattle.field.proofs.Proper.{Proper, same-equal}
 use Rattle.field.proofs.QuestionField.{question-setting, start-proper}
 use Rattle.field.proofs.Run.{selves}
+use Rattle.field.proofs.SuccessorsLinked.{successors-linked}
 use Rattle.field.proofs.Unseen.{∈-found}
 use Rattle.field.proofs.Members.{getD-∈}
 use Rattle.field.proofs.KeysDiffer.{key-equal, slot-key}
 use Rattle.verdict.specs.Judging.{judgedAnswer, DecidesIs}
-use Rattle.verdict.specs.Striking.{leftOf, marks, Standing, Searching, SurvivesIs, Strikes, AllSurvive, StartSurvivesIs}
+use Rattle.verdict.specs.Striking.{leftOf, marks, Standing, EqualParts, LeadsToEqual, Searching, SurvivesIs, Strikes, AllSurvive, StartSurvivesIs}
 use Rattle.verdict.specs.Verdict.{same, different, decided, allAnswered, verdictOf}
 use Rattle.verdict.specs.declared.judge.Judged.{Judged}
 use Rattle.verdict.specs.declared.judge.Judged.the-variants.{Unsettled, Same, Different}
 use Rattle.verdict.proofs.AnyOrder.{StrikesTo, NoneToStrike, survivors-left, same-found}
 use Rattle.verdict.proofs.ByNumber.{distinct-number}
+use Rattle.verdict.proofs.EqualParts.{some-equal}
 use Rattle.verdict.proofs.FieldKept.{field-kept}
 use Rattle.verdict.proofs.FieldRows.{FieldRows, good-rows, explored-rows, rows-field}
 use Rattle.verdict.proofs.LeftLaws.{left-found}
@@ -46,7 +49,7 @@ use Rattle.verdict.proofs.Living.{living-at}
 use Rattle.verdict.proofs.Marks.{marks-at}
 use Rattle.verdict.proofs.RelatedVerdicts.{question-defines}
 use Rattle.verdict.proofs.Rounds.{true-not-false, survivors, found-survives}
-use Rattle.verdict.proofs.StrikeLaws.{still, strikes-rest, strikes-to}
+use Rattle.verdict.proofs.StrikeLaws.{still, still-with, strikes-rest, strikes-to}
 
 -- The explored field of an accepted question in the slots.
 module _ (question : List ℕ) (q : Question) (accepted : checkOf question ≡ result q) (capacity : ℕ) (rs : List Row)
@@ -129,6 +132,44 @@ module _ (question : List ℕ) (q : Question) (accepted : checkOf question ≡ r
       let w : r .wants ≡ ms = cc in
       first i q h .must (ap unanswered w ∙ u)
 
+  -- one with equal parts leads to such, and is left
+  leads-equal : (s : Situation) → s ∈ selves rs → EqualParts s → LeadsToEqual q s
+  leads-equal s m e =
+      let (r, j, d) = row-of S (startOf q) rs (rows .within) s m in
+      record {
+        wants = r .wants;
+        leading = d;
+        some = λ w k. some-equal Δ S s w e (successors-linked Δ S (q .arities) setting s (those .proper s m) .given (r .wants) d .each w k);
+      }
+
+  -- by the numbers below k: a struck one would lead to equal parts that are struck out and have a smaller number
+  left-below : (k i : ℕ) → i < k → (d : Situation) → i < length rs → EqualParts (getD (selves rs) i d) → getD work (struckAt i) 0 ≡ 0
+  unfolding StruckFirst
+  left-below zero i l d h e = absurd (omega arith)
+  left-below (suc k) i l d h e = go (ℕ-discrete (getD work (struckAt i) 0) 0) (λ j m. left-below k j (omega arith))
+    where
+      o : Row
+      o = record { self = d; wants = [] }
+
+      go : Dec (getD work (struckAt i) 0 ≡ 0)
+          → ((j : ℕ) → j < i → (d : Situation) → j < length rs → EqualParts (getD (selves rs) j d) → getD work (struckAt j) 0 ≡ 0)
+          → getD work (struckAt i) 0 ≡ 0
+      go (yes z) ih = z
+      go (no z) ih =
+          let r : Row = getD rs i o in
+          let x = leads-equal (getD (selves rs) i d) (getD-∈ (selves rs) i d (omega (arith, count))) e in
+          let t : successors S (getD (selves rs) i d) ≡ leads (r .wants) =
+          ap (successors S) (List·getD-map (λ (r : Row). r .self) rs i o) ∙ within r (getD-∈ rs i o h) in
+          let same : r .wants ≡ x .wants = cc (x .leading) in
+          let (w, m, a) = first i o h .why z in
+          let (u, n, p) = x .some w (subst (λ ms. w ∈ ms) same m) in
+          let (j, b, is, gone) = all-∈ _ w a u n in
+          let there : getD (selves rs) j d ≡ u = List·getD-map (λ (r : Row). r .self) rs j o ∙ is o in
+          absurd (gone (ih j b d (omega arith) (subst EqualParts (sym there) p)))
+
+  left-equal : (i : ℕ) (d : Situation) → i < length rs → EqualParts (getD (selves rs) i d) → getD work (struckAt i) 0 ≡ 0
+  left-equal i d h e = left-below (length rs) i h d h e
+
   searching : Searching question capacity work (length rs)
   unfolding settingOf
   searching = record {
@@ -142,8 +183,10 @@ module _ (question : List ℕ) (q : Question) (accepted : checkOf question ≡ r
       second = λ s m. those .proper s m .second;
       distinction = λ s m. those .proper s m .distinction;
       closed = leads-within;
+      equal = leads-equal;
     };
     struck = struck-unanswered;
+    equal = left-equal;
   }
 
   start-here : getD (selves rs) 0 (startOf q) ≡ startOf q
@@ -162,11 +205,11 @@ module _ (question : List ℕ) (q : Question) (accepted : checkOf question ≡ r
 
     -- the byte of slot 0
     start-left : found (leftOf v (selves rs)) (startOf q) ≡ eqb (getD v (struckAt 0) 0) 0
-    unfolding search still field-kept searching
+    unfolding search still still-with field-kept searching
     start-left = left-found v (selves rs) (search .field .standing) 0 (startOf q) (startOf q) some start-here
 
     none-to-strike : AllSurvive question capacity v (length rs) → NoneToStrike rs (leftOf v (selves rs))
-    unfolding AllSurvive SurvivesIs search still field-kept searching
+    unfolding AllSurvive SurvivesIs search still still-with field-kept searching
     none-to-strike a = record { answers = each }
       where
         each : (r : Row) → r ∈ rs → r .self ∈ leftOf v (selves rs) → allAnswered (leftOf v (selves rs)) (r .wants) ≡ true

@@ -75,6 +75,7 @@ module _ (question : List ℕ) (capacity count : ℕ) where
     second = f .second;
     distinction = f .distinction;
     closed = f .closed;
+    equal = f .equal;
   }
 
   relies-kept : {v u : List ℕ} (i : ℕ) (H G : ℕ → Type 0) → SameField v u → ((j : ℕ) → H j → G j) → Relies question capacity v count i H
@@ -150,6 +151,7 @@ module _ (question : List ℕ) (capacity count : ℕ) where
     searching-back f = record {
       field = field-kept (same-back (spare-same v u s)) (f .field);
       struck = λ i d ms h e a z. f .struck i d ms h e a (spare-mark i ∙ z);
+      equal = λ i d h e. sym (spare-mark i) ∙ f .equal i d h e;
     }
 
     pub spare-left : (known : List Situation) → leftOf u known ≡ leftOf v known

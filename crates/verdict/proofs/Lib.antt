@@ -4,6 +4,7 @@ pub mod Completeness
 pub mod DecideLaws
 pub mod DecidedField
 pub mod EntriesKeep
+pub mod EqualParts
 pub mod FieldKept
 pub mod FieldRows
 pub mod JudgeLaws

@@ -24,11 +24,12 @@ use Rattle.field.proofs.KeysDiffer.{slot-key}
 use Rattle.field.proofs.Run.{selves}
 use Rattle.field.proofs.Members.{getD-∈}
 use Rattle.verdict.specs.Notes.{SpareOnly, NoteIs, RestsIs}
-use Rattle.verdict.specs.Striking.{marks, living, zeros, leftOf, Searching, SurvivesIs, ExaminedIs, AllNoted, Strikes, none-struck, one-struck, notes-changed, StrikesOne, AllSurvive, Run, PassIs, FirstStruckIs, StartSurvivesIs, blockSlots, blockSize, turned}
+use Rattle.verdict.specs.Striking.{marks, living, zeros, leftOf, EqualParts, Searching, SurvivesIs, ExaminedIs, AllNoted, EqualPartsIs, Strikes, none-struck, one-struck, notes-changed, StrikesOne, AllSurvive, Run, PassIs, FirstStruckIs, StartSurvivesIs, blockSlots, blockSize, turned}
 use Rattle.verdict.specs.Verdict.{allAnswered}
 use Rattle.verdict.specs.declared.strike.Answered.{Answered}
 use Rattle.verdict.proofs.AnyOrder.{StrikesTo, all-left}
 use Rattle.verdict.proofs.AnyOrder as order
+use Rattle.verdict.proofs.EqualParts.{equal-survives, equal-bytes}
 use Rattle.verdict.proofs.FieldKept.{SameField, same-none, same-then, struck-same, spare-same, field-kept, noted-struck, noted-one, rests-survives, spare-mark, spare-left, survives-kept}
 use Rattle.verdict.proofs.Living.{struck-either, struck-within, all-living}
 use Rattle.verdict.proofs.Marks.{length-marks, marks-at, marks-kept, marks-set, zeros-fewer}
@@ -122,13 +123,34 @@ module _ (question : List ℕ) (capacity count : ℕ) where
       go (no k) gone = gone (sym (getD-set-other v (struckAt i) (struckAt j) 1 0 (λ q. k (omega arith))) ∙ e)
   strikes-gone j (notes-changed {v} {u} t c) h e = strikes-gone j t h (sym (spare-mark question capacity count v u c j) ∙ e)
 
-  -- the field stays in the work area
-  unfoldable pub still : {work v : List ℕ} → Strikes question capacity count work v → Searching question capacity work count → Searching question capacity v count
+  -- The field stays in the work area, and those with equal parts are left: none of them was struck out, since it survived.
+  unfoldable pub still-with : {work v : List ℕ} → Strikes question capacity count work v → (f : Searching question capacity work count)
+      → ((i : ℕ) (d : Situation) → i < count → EqualParts (getD (f .field .known) i d) → getD v (struckAt i) 0 ≡ 0) → Searching question capacity v count
   unfolding field-kept
-  still s f = record {
+  still-with s f equal = record {
     field = field-kept question capacity count (strikes-same s) (f .field);
     struck = λ i d ms h e u. strikes-gone i s (f .struck i d ms h e u);
+    equal = equal;
   }
+
+  pub equal-kept : {work v : List ℕ} → Strikes question capacity count work v → (f : Searching question capacity work count) (i : ℕ) (d : Situation) → i < count
+      → EqualParts (getD (f .field .known) i d) → getD v (struckAt i) 0 ≡ 0
+  unfolding still-with field-kept SurvivesIs
+  equal-kept none-struck f i d h e = f .equal i d h e
+  equal-kept (one-struck {v} t j l z x) f i d h e = go (ℕ-discrete j i) (λ i d h e. equal-kept t f i d h e)
+    where
+      go : Dec (j ≡ i) → ((i : ℕ) (d : Situation) → i < count → EqualParts (getD (f .field .known) i d) → getD v (struckAt i) 0 ≡ 0)
+          → getD (set v (struckAt j) 1) (struckAt i) 0 ≡ 0
+      go (yes k) left =
+          let q = f .field .equal (getD (f .field .known) i d) (getD-∈ (f .field .known) i d (omega (arith, f .field .number))) e in
+          let g = still-with t f left in
+          true-not-false (equal-survives question capacity count v g i d h e (q .wants) (q .leading))
+          (sym (subst (λ i. SurvivesIs question capacity v count i false) k x g d (q .wants) (q .leading)))
+      go (no k) left = getD-set-other v (struckAt j) (struckAt i) 1 0 (λ q. k (omega arith)) ∙ left i d h e
+  equal-kept (notes-changed {v} {u} t c) f i d h e = spare-mark question capacity count v u c i ∙ equal-kept t f i d h e
+
+  unfoldable pub still : {work v : List ℕ} → Strikes question capacity count work v → Searching question capacity work count → Searching question capacity v count
+  still s f = still-with s f (λ i d h e. equal-kept s f i d h e)
 
   -- strike_one
   module _ (work : List ℕ) (i : ℕ) (n : AllNoted question capacity work count) where
@@ -144,6 +166,17 @@ module _ (question : List ℕ) (capacity count : ℕ) where
     resting-kept r h s e = record {
       struck = λ q. true-not-false q refl;
       kept = λ q. (spare-none count work, λ z. rests-survives question capacity count work i r h n s e);
+      noted = n;
+    }
+
+    pub equal-stays : (r : Bool) → i < count → EqualPartsIs work i r → r ≡ true → StrikesOne question capacity work count i false work
+    unfolding SurvivesIs
+    equal-stays r h p e = record {
+      struck = λ q. true-not-false q refl;
+      kept = λ q. (
+        spare-none count work,
+        λ z f d ms l. sym (equal-survives question capacity count work f i d h (equal-bytes question capacity count work f i d h p e) ms l),
+      );
       noted = n;
     }
 
@@ -354,7 +387,7 @@ module _ (question : List ℕ) (capacity : ℕ) (work : List ℕ) (rs : List Row
       (w, m, all-imp _ _ w (λ t (j, l, is, o). (j, l, is, λ z. o (sym (flag j (omega arith)) ∙ z))) a))
 
   pub strikes-to : {v : List ℕ} → Strikes question capacity (length rs) work v → StrikesTo rs (leftOf v (f .field .known))
-  unfolding still field-kept SurvivesIs
+  unfolding still still-with field-kept SurvivesIs
   strikes-to none-struck =
       subst (λ k. StrikesTo rs (leftOf work k)) (sym those) struck-at-first
   strikes-to (one-struck {v} t i h z d) =

@@ -8,7 +8,7 @@ use lib.ListN.{length, getD, set, take}
 use Rattle.calculus.specs.Cond.{Pairs}
 use Rattle.calculus.specs.Distinction.{Irr}
 use Rattle.terms.specs.Answer.{result}
-use Rattle.terms.specs.Encoding.{InScope}
+use Rattle.terms.specs.Encoding.{encode, InScope}
 use Rattle.terms.specs.Limits.{nameCount}
 use Rattle.terms.specs.Question.{Question, checkOf}
 use Rattle.candidates.specs.Lists.{_∈_}
@@ -119,7 +119,17 @@ pub record SideAnsweredIs (arities : List ℕ) (capacity : ℕ) (work : List ℕ
   pub relies : r .all ≡ true → Few (r .relied) → (p : Side arities capacity work count free apart second area n others m)
       → ReliesOn (Has (r .relied)) (p .known) (sideMoves p)
 
--- The field of an accepted question in the work area: its situations lead to each other only.
+-- Both parts are the same term.
+abbrev pub EqualParts : Situation → Type 0
+EqualParts s = s .first ≡ s .second
+
+-- Each permitted step of s has an answer that leads to equal parts.
+pub record LeadsToEqual (q : Question) (s : Situation) : Type 0 where
+  pub wants : List (List Situation)
+  pub leading : successors (settingOf (q .bodies)) s ≡ leads wants
+  pub some : (w : List Situation) → w ∈ wants → (t : Situation) × (t ∈ w) × EqualParts t
+
+-- The field of an accepted question in the work area: its situations lead to each other only, and those with equal parts to such.
 pub record FieldIn (question : List ℕ) (capacity : ℕ) (work : List ℕ) (count : ℕ) : Type 0 where
   pub read : Question
   pub accepted : checkOf question ≡ result read
@@ -131,16 +141,18 @@ pub record FieldIn (question : List ℕ) (capacity : ℕ) (work : List ℕ) (cou
   pub distinction : (s : Situation) → s ∈ known → Irr (s .apart)
   pub closed : (s : Situation) → s ∈ known → (ms : List (List Situation)) → successors (settingOf (read .bodies)) s ≡ leads ms
       → (w : List Situation) → w ∈ ms → (t : Situation) → t ∈ w → t ∈ known
+  pub equal : (s : Situation) → s ∈ known → EqualParts s → LeadsToEqual read s
 
 -- Situation i leads to ms.
 abbrev pub LeadsTo : {question : List ℕ} {capacity : ℕ} {work : List ℕ} {count : ℕ} → FieldIn question capacity work count → ℕ → Situation → List (List Situation) → Type 0
 LeadsTo f i d ms = successors (settingOf (f .read .bodies)) (getD (f .known) i d) ≡ leads ms
 
--- Those with a permitted step that has no answer at all are struck out.
+-- Those with a permitted step that has no answer at all are struck out, and those with equal parts are left.
 pub record Searching (question : List ℕ) (capacity : ℕ) (work : List ℕ) (count : ℕ) : Type 0 where
   pub field : FieldIn question capacity work count
   pub struck : (i : ℕ) (d : Situation) (ms : List (List Situation)) → i < count → LeadsTo field i d ms → unanswered ms ≡ true
       → getD work (struckAt i) 0 ≡ 0 → ⊥
+  pub equal : (i : ℕ) (d : Situation) → i < count → EqualParts (getD (field .known) i d) → getD work (struckAt i) 0 ≡ 0
 
 -- Whether each permitted step of situation i is answered by those left.
 unfoldable pub SurvivesIs : List ℕ → ℕ → List ℕ → ℕ → ℕ → Bool → Type 0
@@ -169,6 +181,10 @@ pub data Strikes (question : List ℕ) (capacity count : ℕ) (work : List ℕ) 
   one-struck : {v : List ℕ} → Strikes question capacity count work v → (i : ℕ) → i < count → getD v (struckAt i) 0 ≡ 0 → SurvivesIs question capacity v count i false
       → Strikes question capacity count work (set v (struckAt i) 1)
   notes-changed : {v u : List ℕ} → Strikes question capacity count work v → SpareOnly count v u → Strikes question capacity count work u
+
+-- A test that is met says that the bytes of the two parts in slot i are the same.
+unfoldable pub EqualPartsIs : List ℕ → ℕ → Bool → Type 0
+EqualPartsIs work i r = r ≡ true → (s : Situation) → SituationAt work (slotBytes * i) s → encode 0 (s .first) ≡ encode 0 (s .second)
 
 -- Situation i is struck out, or it is not to be struck out.
 pub record StrikesOne (question : List ℕ) (capacity : ℕ) (work : List ℕ) (count i : ℕ) (r : Bool) (work′ : List ℕ) : Type 0 where

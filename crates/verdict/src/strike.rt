@@ -9,7 +9,7 @@ ghost use Rattle.steps.specs.Limits.{stepBytes};
 ghost use Rattle.steps.specs.Rows.{rowBytes, mostRows};
 ghost use Rattle.verdict.specs.Judge.{greatestCapacity};
 ghost use Rattle.verdict.specs.Notes.{Numbers};
-ghost use Rattle.verdict.specs.Striking.{LeftIs, AnswerLeftIs, SideAnsweredIs, ExaminedIs, AllNoted, StrikesOne, Run, PassIs, FirstStruckIs, StartSurvivesIs, blockSize, turned};
+ghost use Rattle.verdict.specs.Striking.{LeftIs, AnswerLeftIs, SideAnsweredIs, ExaminedIs, AllNoted, EqualPartsIs, StrikesOne, Run, PassIs, FirstStruckIs, StartSurvivesIs, blockSize, turned};
 use crate::relied::Relied;
 use crate::relied::clear_notes;
 use crate::relied::note;
@@ -23,9 +23,12 @@ use field::find::Found;
 use field::find::KEY_BYTES;
 use field::find::SLOT_BYTES;
 use field::find::left_at;
+use field::list_area::same_part;
 use field::pairs::PAIR_COUNT;
 use field::pairs::permitted;
 use field::results::successor;
+use field::slots::first_part;
+use field::slots::second_part;
 use field::taking::Lists;
 use field::taking::take_up;
 use steps::limits::STEP_BYTES;
@@ -213,8 +216,19 @@ fn survives(
     }
 }
 
+// Whether the two parts of situation `i` are equal. Every step then is answered by itself, which leads to equal parts again: such situations survive.
+fn equal_parts(work: &[u8], i: usize) -> bool
+    requires { ⌜ slotBytes * (i + 1) ≤ length (now work) ⌝ }
+    ensures { λ r. ⌜ EqualPartsIs (now (work .entry)) i r ⌝ }
+{
+    let at = SLOT_BYTES * i;
+    let first = first_part(work, at);
+    let second = second_part(work, at);
+    same_part(first, second)
+}
+
 // Strikes out situation `i` if it is left and does not survive; whether it did. It is not examined while all that it relied on when it last survived
-// is left.
+// is left, nor if its parts are equal.
 fn strike_one(
     question: &[u8],
     bodies: &[u32],
@@ -234,6 +248,9 @@ fn strike_one(
         return false;
     }
     if rests(work, count, i) {
+        return false;
+    }
+    if equal_parts(work, i) {
         return false;
     }
     let answered = survives(
