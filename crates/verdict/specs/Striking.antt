@@ -129,7 +129,7 @@ pub record LeadsToEqual (q : Question) (s : Situation) : Type 0 where
   pub leading : successors (settingOf (q .bodies)) s ≡ leads wants
   pub some : (w : List Situation) → w ∈ wants → (t : Situation) × (t ∈ w) × EqualParts t
 
--- The field of an accepted question in the work area: its situations lead to each other only, and those with equal parts to such.
+-- The field of an accepted question in the work area: its situations lead to each other only, and those with equal parts, step by step, to such.
 pub record FieldIn (question : List ℕ) (capacity : ℕ) (work : List ℕ) (count : ℕ) : Type 0 where
   pub read : Question
   pub accepted : checkOf question ≡ result read
