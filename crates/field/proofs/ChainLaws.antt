@@ -1,5 +1,5 @@
 -- The chains of the buckets: a key is found along them, and what keeps them. Assumes nothing.
-use mathlib.Core.Path.{_≡_, refl, sym, ap, _∙_}
+use mathlib.Core.Path.{_≡_, refl, sym, ap, subst, _∙_}
 use mathlib.Core.Bool.{Bool, true, false, cond}
 use mathlib.Core.List.{List}
 use mathlib.Core.Logic.{⊎-elim}
@@ -8,7 +8,6 @@ use native.Mathlib.Decide.{decLt}
 use native.Mathlib.Nat.{eq-or-lt-of-le, mod-lt}
 use native.Mathlib.Numerals.{add-one}
 use native.Mathlib.Omega.{arith}
-use borrow.Author.Count.{below-more}
 use borrow.Author.Tests.{eqb-true, eqb-false, eq-eqb, ne-eqb}
 use lib.Dec.{eqb}
 use lib.ListN.{length, getD, take, drop, set, length-set, length-take, length-drop}
@@ -16,7 +15,7 @@ use lib.Seq.{sets, length-sets, take-take, getD-set-same, getD-set-other, drop-s
 use Rattle.terms.specs.FieldPlaces.{sizeAt}
 use Rattle.terms.proofs.Stores.{span, getD-span}
 use Rattle.steps.proofs.Moves.{getD-before, getD-behind}
-use Rattle.field.specs.Chains.{wordAt, folded, mixed, rounds, roundsTo, spread, bucketOf, bucketAt, BucketIs, headPlace, linkPlace, headAt, nextAt, putNumber, lastWith, lastIn, Chained, KeepsKeys, Clears, LinkIs, FindsIn}
+use Rattle.field.specs.Chains.{wordAt, folded, mixed, rounds, roundsTo, spread, bucketOf, bucketAt, BucketIs, headPlace, linkPlace, headAt, nextAt, putNumber, lastWith, lastIn, Chained, KeepsKeys, LinkIs, FindsIn}
 use Rattle.field.specs.Key.{keyAt, SameKeyIs, FoundIs}
 use Rattle.field.specs.Slot.{keyBytes, slotBytes}
 use Rattle.field.specs.declared.find.Found.the-variants.{At, Nothing}
@@ -165,40 +164,53 @@ module _ (f : ℕ → ℕ) where
           rw (← z) (eqb-true (f n) b q)
       go false q more = more (sym (last-other n b (eqb-false (f n) b q)) ∙ e)
 
+  -- where there is none, there is none before
+  last-below : (n m b : ℕ) → m ≤ n → lastWith f n b ≡ 0 → (j : ℕ) → lastWith f m b ≡ suc j → ⊥
+  last-below n m b h e j q = last-behind n b j (omega arith) (omega (arith, last-le m b)) (last-is m b j q)
+
 last-same : (f g : ℕ → ℕ) (n b : ℕ) → ((i : ℕ) → i < n → g i ≡ f i) → lastWith g n b ≡ lastWith f n b
 unfolding lastWith
 last-same f g zero b so = refl
 last-same f g (suc n) b so = rw (so n (omega arith), last-same f g n b (λ i l. so i (omega arith)))
 
--- The search along a chain: what is left of it, and none of the slots passed has the key.
+-- The search along a chain: what is left of it, if anything, and none of the slots passed has the key.
 module _ (capacity : ℕ) (work : List ℕ) (count : ℕ) (key : List ℕ) where
+  abbrev sought : ℕ
+  sought = bucketOf capacity (take keyBytes key)
+
   abbrev pub Searching : ℕ → ℕ → Type 0
   Searching link left =
       Chained capacity work count
-      → (link ≡ lastIn capacity work left (bucketOf capacity (take keyBytes key)))
-      × ((j : ℕ) → left ≤ j → j < count → keyAt work j ≡ take keyBytes key → ⊥)
+      → ((j : ℕ) → lastIn capacity work left sought ≡ suc j → link ≡ suc j) × ((j : ℕ) → left ≤ j → j < count → keyAt work j ≡ take keyBytes key → ⊥)
 
   pub search-start : (b link : ℕ) → BucketIs capacity (take keyBytes key) b → link ≡ headAt work b → Searching link count
-  search-start b link B e C = (e ∙ C .heads b (B .within) ∙ ap (lastIn capacity work count) (B .is), λ j l k. absurd (omega arith))
+  search-start b link B e C =
+      (λ j q. e ∙ C .heads b (B .within) j (ap (lastIn capacity work count) (B .is) ∙ q), λ j l k. absurd (omega arith))
 
-  not-found : (Chained capacity work count → FoundIs work count key Nothing) → FindsIn capacity work count key Nothing
-  not-found f = record { within = λ i e. let z : _≡_ {A = ℕ} 0 1 = cc in absurd (omega arith); is = f }
+  -- no slot of the bucket comes before `left`
+  search-over : (left : ℕ) → (Chained capacity work count → (j : ℕ) → lastIn capacity work left sought ≡ suc j → ⊥)
+      → (Chained capacity work count → (j : ℕ) → left ≤ j → j < count → keyAt work j ≡ take keyBytes key → ⊥) → FindsIn capacity work count key Nothing
+  unfolding FoundIs lastIn bucketAt
+  search-over left none passed = record {
+    within = λ i e. let z : _≡_ {A = ℕ} 0 1 = cc in absurd (omega arith);
+    is = λ C j l e. go C j l e (decLt j left);
+  }
+    where
+      zero-last : Chained capacity work count → (n : ℕ) → lastWith (bucketAt capacity work) left sought ≡ n → lastWith (bucketAt capacity work) left sought ≡ 0
+      zero-last C zero q = q
+      zero-last C (suc n) q = absurd (none C n q)
+
+      go : Chained capacity work count → (j : ℕ) → j < count → keyAt work j ≡ take keyBytes key → Dec (j < left) → ⊥
+      go C j l e (yes m) = last-behind (bucketAt capacity work) left sought j (omega (arith, zero-last C _ refl)) m (ap (bucketOf capacity) e)
+      go C j l e (no m) = passed C j (omega arith) l e
 
   pub search-end : (link left : ℕ) → link ≤ 0 → Searching link left → FindsIn capacity work count key Nothing
-  unfolding FoundIs lastIn bucketAt
-  search-end link left h so = not-found none
-    where
-      none : Chained capacity work count → FoundIs work count key Nothing
-      none C j l e = go (decLt j left)
-        where
-          go : Dec (j < left) → ⊥
-          go (yes m) = last-behind (bucketAt capacity work) left (bucketOf capacity (take keyBytes key)) j (omega (arith, so C .0)) m (ap (bucketOf capacity) e)
-          go (no m) = so C .1 j (omega arith) l e
+  search-end link left h so = search-over left (λ C j q. omega (arith, so C .0 j q)) (λ C. so C .1)
 
+  -- the link is that of no slot before `left`
   pub search-broken : (link left : ℕ) → left < link → Searching link left → FindsIn capacity work count key Nothing
   unfolding lastIn
-  search-broken link left h so =
-      not-found (λ C. absurd (omega (arith, so C .0, last-le (bucketAt capacity work) left (bucketOf capacity (take keyBytes key)))))
+  search-broken link left h so = search-over left (λ C j q. omega (arith, so C .0 j q, q, last-le (bucketAt capacity work) left sought)) (λ C. so C .1)
 
   pub search-found : (left : ℕ) (r : Bool) → left < count → r ≡ true → SameKeyIs work (slotBytes * left) key r → FindsIn capacity work count key (At left)
   search-found left r l q h = record { within = λ i e. let z : left ≡ i = cc in omega arith; is = λ C. found-at work count key left r l q h }
@@ -206,26 +218,27 @@ module _ (capacity : ℕ) (work : List ℕ) (count : ℕ) (key : List ℕ) where
   pub search-next : (link left : ℕ) (r : Bool) (next : ℕ) → 0 < link → link ≤ left → left ≤ count → r ≡ false
       → SameKeyIs work (slotBytes * (link - 1)) key r → next ≡ nextAt work (link - 1) → Searching link left → Searching next (link - 1)
   unfolding lastIn bucketAt
-  search-next link left r next pos h lc q same e so C = (e ∙ C .nexts (link - 1) (omega arith) ∙ ap (lastIn capacity work (link - 1)) here, passed)
+  search-next link left r next pos h lc q same e so C = go (lastWith (bucketAt capacity work) left sought) refl
     where
-      β : ℕ
-      β = bucketOf capacity (take keyBytes key)
-
-      at : lastWith (bucketAt capacity work) left β ≡ suc (link - 1)
-      at = sym (so C .0) ∙ omega arith
-
-      here : bucketAt capacity work (link - 1) ≡ β
-      here = last-is (bucketAt capacity work) left β (link - 1) at
-
-      passed : (j : ℕ) → link - 1 ≤ j → j < count → keyAt work j ≡ take keyBytes key → ⊥
-      passed j l m k = go (decLt j left)
+      -- the slots from this one on, if none behind it before `left` is in the bucket
+      passed : lastWith (bucketAt capacity work) left sought ≤ link → (j : ℕ) → link - 1 ≤ j → j < count → keyAt work j ≡ take keyBytes key → ⊥
+      passed few j l m k = go (decLt j left)
         where
           go : Dec (j < left) → ⊥
           go (yes n) =
               ⊎-elim (λ (z : link - 1 ≡ j). other-slot work key (link - 1) r q same (ap (keyAt work) z ∙ k))
-              (λ n′. last-behind (bucketAt capacity work) left β j (omega (arith, at)) n (ap (bucketOf capacity) k))
+              (λ n′. last-behind (bucketAt capacity work) left sought j (omega arith) n (ap (bucketOf capacity) k))
               (eq-or-lt-of-le {n = link - 1} {m = j} l)
           go (no n) = so C .1 j (omega arith) m k
+
+      go : (n : ℕ) → lastWith (bucketAt capacity work) left sought ≡ n
+          → ((j : ℕ) → lastIn capacity work (link - 1) sought ≡ suc j → next ≡ suc j)
+          × ((j : ℕ) → link - 1 ≤ j → j < count → keyAt work j ≡ take keyBytes key → ⊥)
+      go zero z = (λ j d. absurd (last-below (bucketAt capacity work) left (link - 1) sought (omega arith) z j d), passed (omega arith))
+      go (suc n) z =
+          let at : link ≡ suc n = so C .0 n z in
+          let here : bucketAt capacity work (link - 1) ≡ sought = last-is (bucketAt capacity work) left sought (link - 1) (z ∙ omega arith) in
+          (λ j d. e ∙ C .nexts (link - 1) (omega arith) j (ap (lastIn capacity work (link - 1)) here ∙ d), passed (omega arith))
 
 -- What the keys and the links of an area are, another has.
 key-kept : (work work′ : List ℕ) (i : ℕ) → length work′ ≡ length work
@@ -250,10 +263,10 @@ module _ (capacity : ℕ) (work work′ : List ℕ) where
       → ((i j : ℕ) → 242 ≤ j → j < 246 → getD work′ (slotBytes * i + j) 0 ≡ getD work (slotBytes * i + j) 0) → Chained capacity work count
       → Chained capacity work′ count
   chained-kept count keys links C = record {
-    heads = λ b l. size 242 b (omega arith) (omega arith) ∙ C .heads b l ∙ sym (last-kept count b keys);
-    nexts = λ i l.
-        size 244 i (omega arith) (omega arith) ∙ C .nexts i l ∙ sym (last-kept i (bucketAt capacity work i) (λ k m. keys k (omega arith)))
-        ∙ ap (lastIn capacity work′ i) (sym (bucket-kept i (keys i l)));
+    heads = λ b l j e. size 242 b (omega arith) (omega arith) ∙ C .heads b l j (sym (last-kept count b keys) ∙ e);
+    nexts = λ i l j e.
+        size 244 i (omega arith) (omega arith)
+        ∙ C .nexts i l j (sym (last-kept i (bucketAt capacity work i) (λ k m. keys k (omega arith))) ∙ ap (lastIn capacity work′ i) (sym (bucket-kept i (keys i l))) ∙ e);
   }
     where
       size : (j i : ℕ) → 242 ≤ j → j + 1 < 246 → sizeAt work′ (slotBytes * i + j) ≡ sizeAt work (slotBytes * i + j)
@@ -307,26 +320,10 @@ keeps-put capacity work₀ work b j n h lo hi K =
 pub keeps-key : (capacity : ℕ) (work work′ : List ℕ) → KeepsKeys capacity work work′ → (i : ℕ) → keyAt work′ i ≡ keyAt work i
 keeps-key capacity work work′ K i = key-kept work work′ i (K .len) (λ j l. K .slots i j (omega arith))
 
--- Emptying the buckets one by one.
-abbrev pub Clearing : ℕ → List ℕ → List ℕ → ℕ → Type 0
-Clearing capacity work₀ work b = KeepsKeys capacity work₀ work × ((k : ℕ) → k < b → headAt work k ≡ 0)
-
-pub clear-start : (capacity : ℕ) (work : List ℕ) → Clearing capacity work work 0
-clear-start capacity work = (keeps-none capacity work, λ k l. absurd (omega arith))
-
-pub clear-next : (capacity : ℕ) (work₀ work : List ℕ) (b : ℕ) → b < capacity → slotBytes * capacity ≤ length work₀ → (work′ : List ℕ)
-    → work′ ≡ putNumber work (headPlace b) 0 → Clearing capacity work₀ work b → Clearing capacity work₀ work′ (b + 1)
-clear-next capacity work₀ work b h l work′ e K = rw e (
-  keeps-put capacity work₀ work b 242 0 h (omega arith) (omega arith) (K .0),
-  below-more _ b (λ k m. head-other work b k 0 (λ z. omega arith) ∙ K .1 k m) (size-put work (headPlace b) 0 (omega (arith, K .0 .len))),
-)
-
-pub clear-end : (capacity : ℕ) (work work′ : List ℕ) (b : ℕ) → capacity ≤ b → Clearing capacity work work′ b → Clears capacity work work′
+-- At first there is nothing to chain.
+pub chained-none : (capacity : ℕ) (work : List ℕ) → Chained capacity work 0
 unfolding lastIn lastWith
-clear-end capacity work work′ b h K = record {
-  chained = record { heads = λ k l. K .1 k (omega arith); nexts = λ i l. absurd (omega arith) };
-  keeps = K .0;
-}
+chained-none capacity work = record { heads = λ b l j e. absurd (omega arith); nexts = λ i l. absurd (omega arith) }
 
 -- A slot put at the head of its bucket.
 module _ (capacity : ℕ) (work : List ℕ) (i b : ℕ) (l : i < capacity) (small : capacity ≤ 4096) (fits : slotBytes * capacity ≤ length work)
@@ -352,26 +349,33 @@ module _ (capacity : ℕ) (work : List ℕ) (i b : ℕ) (l : i < capacity) (smal
   unfolding bucketAt
   own-bucket = sym (B .is)
 
-  linked-head : (C : Chained capacity work i) (c : ℕ) → c < capacity → (t : Bool) → eqb c b ≡ t → headAt work′ c ≡ lastIn capacity work (suc i) c
+  linked-head : (C : Chained capacity work i) (c : ℕ) → c < capacity → (j : ℕ) → lastIn capacity work (suc i) c ≡ suc j → (t : Bool) → eqb c b ≡ t
+      → headAt work′ c ≡ suc j
   unfolding lastIn
-  linked-head C c m true q = rw (eqb-true c b q) (size-put work₁ (headPlace b) (i + 1) (omega (arith, B .within, length-put work (linkPlace i) (headAt work b))) ∙ add-one i ∙ sym (last-here (bucketAt capacity work) i b own-bucket))
-  linked-head C c m false q =
+  linked-head C c m j e true q =
+      let z : c ≡ b = eqb-true c b q in
+      let n : suc i ≡ suc j = sym (last-here (bucketAt capacity work) i c (own-bucket ∙ sym z)) ∙ e in
+      rw z (size-put work₁ (headPlace b) (i + 1) (omega (arith, B .within, length-put work (linkPlace i) (headAt work b))) ∙ add-one i ∙ n)
+  linked-head C c m j e false q =
       let n : c ≡ b → ⊥ = eqb-false c b q in
-      head-other work₁ b c (i + 1) n ∙ head-link work i c (headAt work b) ∙ C .heads c m
-      ∙ sym (last-other (bucketAt capacity work) i c (λ e. n (sym e ∙ own-bucket)))
+      head-other work₁ b c (i + 1) n ∙ head-link work i c (headAt work b)
+      ∙ C .heads c m j (sym (last-other (bucketAt capacity work) i c (λ e. n (sym e ∙ own-bucket))) ∙ e)
 
-  linked-next : (C : Chained capacity work i) (k : ℕ) → k < i + 1 → (t : Bool) → eqb k i ≡ t → nextAt work′ k ≡ lastIn capacity work k (bucketAt capacity work k)
-  linked-next C k m true q =
-      rw (eqb-true k i q) (link-head work₁ b i (i + 1) ∙ size-put work (linkPlace i) (headAt work b) (omega arith) ∙ C .heads b (B .within) ∙ ap (lastIn capacity work i) (sym own-bucket))
-  linked-next C k m false q =
+  linked-next : (C : Chained capacity work i) (k : ℕ) → k < i + 1 → (j : ℕ) → lastIn capacity work k (bucketAt capacity work k) ≡ suc j → (t : Bool) → eqb k i ≡ t
+      → nextAt work′ k ≡ suc j
+  linked-next C k m j e true q =
+      let z : k ≡ i = eqb-true k i q in
+      let at : lastIn capacity work i b ≡ suc j = ap (lastIn capacity work i) (sym own-bucket) ∙ subst (λ n. lastIn capacity work n (bucketAt capacity work n) ≡ suc j) z e in
+      ap (nextAt work′) z ∙ link-head work₁ b i (i + 1) ∙ size-put work (linkPlace i) (headAt work b) (omega arith) ∙ C .heads b (B .within) j at
+  linked-next C k m j e false q =
       let n : k ≡ i → ⊥ = eqb-false k i q in
-      link-head work₁ b k (i + 1) ∙ link-other work i k (headAt work b) n ∙ C .nexts k (omega arith)
+      link-head work₁ b k (i + 1) ∙ link-other work i k (headAt work b) n ∙ C .nexts k (omega arith) j e
 
   linked : LinkIs capacity work i work′
   linked = record {
     chained = λ C. record {
-      heads = λ c m. linked-head C c m (eqb c b) refl ∙ sym (linked-last (suc i) c) ∙ ap (λ n. lastIn capacity work′ n c) (sym (add-one i));
-      nexts = λ k m. linked-next C k m (eqb k i) refl ∙ sym (linked-last k (bucketAt capacity work k)) ∙ ap (lastIn capacity work′ k) (sym (linked-bucket k));
+      heads = λ c m j e. linked-head C c m j (sym (linked-last (suc i) c) ∙ ap (λ n. lastIn capacity work′ n c) (sym (add-one i)) ∙ e) (eqb c b) refl;
+      nexts = λ k m j e. linked-next C k m j (sym (linked-last k (bucketAt capacity work k)) ∙ ap (lastIn capacity work′ k) (sym (linked-bucket k)) ∙ e) (eqb k i) refl;
     };
     keeps = linked-keeps;
   }

@@ -18,7 +18,7 @@ use Rattle.candidates.specs.Bodies.{AritiesIs}
 use Rattle.candidates.specs.Lists.{_∈_, All}
 use Rattle.candidates.proofs.Membership.{∈-all, all-∈, all-imp}
 use Rattle.candidates.proofs.QuestionDefinitions.{definitions}
-use Rattle.field.specs.Chains.{Clears, LinkIs}
+use Rattle.field.specs.Chains.{LinkIs}
 use Rattle.field.specs.Exploration.{together, unanswered, Row, incomplete, explored, fieldOf}
 use Rattle.field.specs.Growing.{Proper, Fitting, grown, Knows, GrowsTo, Puts, slotWith, Gone, Flagged, moved, Strikes, Leads, GrowsSides, Follows, GrowIs}
 use Rattle.field.specs.Holding.{StruckFirst, Explores, ExploreIs}
@@ -34,6 +34,7 @@ use Rattle.field.specs.declared.explore.Growth.{Growth}
 use Rattle.field.specs.declared.explore.Growth.the-variants.{Full, Known}
 use Rattle.field.specs.declared.taking.Lists.the-variants.{Past, Listed}
 use Rattle.field.specs.declared.taking.TakenUp.{TakenUp}
+use Rattle.field.proofs.ChainLaws.{chained-none}
 use Rattle.field.proofs.Explored.{explored-leads}
 use Rattle.field.proofs.FieldIsSmallest.{invariant}
 use Rattle.field.proofs.Growth.{grown-front, Exploring, exploring-start, exploring-past, exploring-full, exploring-on, exploring-end}
@@ -304,9 +305,9 @@ module _ (question : List ℕ) (capacity : ℕ) (work₀ : List ℕ) where
 
 -- The start in the first slot.
 module _ (question : List ℕ) (capacity : ℕ) (some : 1 ≤ capacity) (work : List ℕ) (room : slotBytes * capacity ≤ length work) (key : List ℕ)
-    (long : keyBytes ≤ length key) (clear : List ℕ) (C : Clears capacity work clear) (work₀ : List ℕ) (L : LinkIs capacity (slotWith clear 0 key) 0 work₀) where
-  slot : slotBytes * 0 + slotBytes ≤ length clear
-  slot = omega (arith, C .keeps .len)
+    (long : keyBytes ≤ length key) (work₀ : List ℕ) (L : LinkIs capacity (slotWith work 0 key) 0 work₀) where
+  slot : slotBytes * 0 + slotBytes ≤ length work
+  slot = omega arith
 
   pub explorers-start : StartIs question key → Explorers question capacity work₀ work₀ 1 0
   unfolding StartIs
@@ -314,20 +315,20 @@ module _ (question : List ℕ) (capacity : ℕ) (some : 1 ≤ capacity) (work : 
     rest = refl;
     is = λ q a.
         let f = start-fitting question q a in
-        let none : Knows (q .arities) capacity clear 0 [] =
-        record { count = refl; fitting = tt; slots = record { held = λ i d k. absurd (omega arith) }; chained = C .chained } in
+        let none : Knows (q .arities) capacity work 0 [] =
+        record { count = refl; fitting = tt; slots = record { held = λ i d k. absurd (omega arith) }; chained = chained-none capacity work } in
         record {
           ks = startOf q ∷ [];
           exploring = exploring-start (settingOf (q .bodies)) capacity (startOf q) some;
-          knows = knows-more clear key 0 slot long (q .arities) capacity [] none (startOf q) f (whole-key key (startOf q) (f .fits) (S q a)) work₀ L;
+          knows = knows-more work key 0 slot long (q .arities) capacity [] none (startOf q) f (whole-key key (startOf q) (f .fits) (S q a)) work₀ L;
           struck = λ i ms h. absurd (omega arith);
-          left = slot-struck clear key 0 slot long capacity work₀ L .fresh;
+          left = slot-struck work key 0 slot long capacity work₀ L .fresh;
         };
   }
 
   pub explored-from : (r : Explored) (work′ : List ℕ) → ExploreIs question capacity work₀ r work′ → ExploreIs question capacity work r work′
   explored-from r work′ x = record {
-    rest = x .rest ∙ slot-rest clear key 0 slot long capacity some work₀ L ∙ C .keeps .rest;
+    rest = x .rest ∙ slot-rest work key 0 slot long capacity some work₀ L;
     within = x .within;
     is = x .is;
     chained = x .chained;

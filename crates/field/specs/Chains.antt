@@ -1,6 +1,7 @@
 -- Finding a situation in the work area without going over all of it. The slots are spread over as many buckets as there may be slots. Bytes 242
 -- and 243 of slot b are the head of bucket b, the last slot in it; bytes 244 and 245 of slot i are the slot before i in its bucket. Both are numbers
--- of slots plus 1, and 0 stands for none.
+-- of slots plus 1. Where a bucket has no slot, or none before i, they say nothing, so that nothing need be emptied at first: a search that goes on
+-- there comes to slots of smaller and smaller numbers, or to a number that is none, and finds no key that is not there.
 use mathlib.Core.Path.{_≡_}
 use mathlib.Core.Bool.{cond}
 use mathlib.Core.List.{List}
@@ -90,20 +91,16 @@ lastWith f (suc n) b = cond (eqb (f n) b) (suc n) (lastWith f n b)
 unfoldable pub lastIn : ℕ → List ℕ → ℕ → ℕ → ℕ
 lastIn capacity work n b = lastWith (bucketAt capacity work) n b
 
--- Heads and links are those of the first `count` slots.
+-- Heads and links are those of the first `count` slots, where there is one.
 pub record Chained (capacity : ℕ) (work : List ℕ) (count : ℕ) : Type 0 where
-  pub heads : (b : ℕ) → b < capacity → headAt work b ≡ lastIn capacity work count b
-  pub nexts : (i : ℕ) → i < count → nextAt work i ≡ lastIn capacity work i (bucketAt capacity work i)
+  pub heads : (b : ℕ) → b < capacity → (j : ℕ) → lastIn capacity work count b ≡ suc j → headAt work b ≡ suc j
+  pub nexts : (i : ℕ) → i < count → (j : ℕ) → lastIn capacity work i (bucketAt capacity work i) ≡ suc j → nextAt work i ≡ suc j
 
 -- The keys, the bytes behind them and what lies behind the slots are as they were.
 pub record KeepsKeys (capacity : ℕ) (work work′ : List ℕ) : Type 0 where
   pub len : length work′ ≡ length work
   pub slots : (i j : ℕ) → j < 242 → getD work′ (slotBytes * i + j) 0 ≡ getD work (slotBytes * i + j) 0
   pub rest : drop (slotBytes * capacity) work′ ≡ drop (slotBytes * capacity) work
-
-pub record Clears (capacity : ℕ) (work work′ : List ℕ) : Type 0 where
-  pub chained : Chained capacity work′ 0
-  pub keeps : KeepsKeys capacity work work′
 
 -- Slot i comes behind those chained already.
 pub record LinkIs (capacity : ℕ) (work : List ℕ) (i : ℕ) (work′ : List ℕ) : Type 0 where

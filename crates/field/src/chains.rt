@@ -2,7 +2,7 @@
 ghost use mathlib.Core.Path.{_≡_};
 ghost use Prim.Native.Nat.{_+_, _*_, _<_, _≤_};
 ghost use lib.ListN.{length, take};
-ghost use Rattle.field.specs.Chains.{roundsTo, spread, WordIs, MixIs, RoundsIs, putNumber, BucketIs, Clears, LinkIs, FindsIn};
+ghost use Rattle.field.specs.Chains.{roundsTo, spread, WordIs, MixIs, RoundsIs, putNumber, BucketIs, LinkIs, FindsIn};
 ghost use Rattle.field.specs.Slot.{keyBytes, slotBytes};
 use crate::find::Found;
 use crate::find::KEY_BYTES;
@@ -97,18 +97,6 @@ pub fn put_number(work: &mut [u8], at: usize, n: usize)
 {
     work[at] = (n / 256) as u8;
     work[at + 1] = (n % 256) as u8;
-}
-
-// Empties every bucket.
-pub fn clear_heads(work: &mut [u8], capacity: usize)
-    requires { ⌜ slotBytes * capacity ≤ length (now work) ⌝ }
-    ensures { λ _. ⌜ Clears capacity (now (work .entry)) (now (work .exit)) ⌝ }
-{
-    let mut b = 0;
-    while b < capacity {
-        put_number(work, SLOT_BYTES * b + HEAD, 0);
-        b += 1;
-    }
 }
 
 // Puts slot `i`, which has just got its key, at the head of its bucket.

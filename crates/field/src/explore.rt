@@ -10,7 +10,6 @@ ghost use Rattle.field.specs.Growing.{slotWith, AddedIs, AnswerIs, Answe
 ghost use Rattle.field.specs.Holding.{ExploreIs};
 ghost use Rattle.field.specs.ListArea.{Labelled};
 ghost use Rattle.field.specs.Slot.{keyBytes, slotBytes};
-use crate::chains::clear_heads;
 use crate::chains::find_chained;
 use crate::chains::link;
 use crate::entries::answers;
@@ -401,7 +400,6 @@ pub fn explore(
     requires { ⌜ (1 ≤ capacity) × (capacity ≤ 4096) × (slotBytes * capacity ≤ length (now work)) × BodiesTallied (now question) (now bodies) × (length (now numbers) ≡ tallySize) × (rowBytes * mostRows ≤ length (now rows)) × Labelled (now question) (now firsts) × Labelled (now question) (now seconds) ⌝ }
     ensures { λ r. ⌜ ExploreIs (now (question .entry)) capacity (now (work .entry)) r (now (work .exit)) × Labelled (now (question .entry)) (now (firsts .exit)) × Labelled (now (question .entry)) (now (seconds .exit)) ⌝ }
 {
-    clear_heads(work, capacity);
     let key = start_key(question);
     put(work, capacity, 0, &key);
     let mut known = 1;

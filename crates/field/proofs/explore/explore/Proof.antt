@@ -1,6 +1,5 @@
 -- `field::explore::explore` meets its contract. Assumes nothing.
 use native.Mathlib.Omega.{arith}
-use borrow.Author.Needs.{needs}
 use mathlib.Core.Path.{_≡_, refl}
 use Prim.Native.Nat.{_*_, _-_, _≤_}
 use lib.ListN.{length}
@@ -8,6 +7,7 @@ use Rattle.candidates.specs.Tally.{tallySize}
 use Rattle.steps.specs.Rows.{rowBytes, mostRows}
 use Rattle.field.specs.ListArea.{Labelled}
 use Rattle.field.proofs.ExploringLaws.{Explorers, explorers-start, explorers-next, explorers-full, explorers-end, explored-from}
+use borrow.Author.Needs.{needs}
 use Rattle.field.proofs.explore.explore.Statement.{statement}
 use Rattle.field.proofs.explore.explore.Tie as tie
 
@@ -19,9 +19,6 @@ Inv-loop question bodies numbers₀ rows₀ firsts₀ seconds₀ work₀ capacit
 
 abbrev μ-loop : tie.MeasureT-loop
 μ-loop question bodies numbers₀ rows₀ firsts₀ seconds₀ work₀ capacity known₀ taken₀ numbers rows firsts seconds work known taken = capacity - taken
-
-clear-heads-requires : tie.Need-clear-heads-requires Inv-loop μ-loop
-clear-heads-requires c κs = search needs
 
 start-key-requires : tie.Need-start-key-requires Inv-loop μ-loop
 start-key-requires c κs = search needs
@@ -40,9 +37,9 @@ loop-holds c = (
   search needs,
   search needs,
   search needs,
-  c .before .before .before .before .before .before .before .before .before .before .before .before .before .before .before .before .before .pre .6,
-  c .before .before .before .before .before .before .before .before .before .before .before .before .before .before .before .before .before .pre .7,
-  explorers-start _ _ (c .before .before .before .before .before .before .before .before .before .before .before .before .before .before .before .before .before .pre .0) _ (c .before .before .before .before .before .before .before .before .before .before .before .before .before .before .before .before .before .pre .2) _ (omega arith) _ (c .before .before .before .before .before .before .before .before .clear-heads .ensures) _ (c .before .before .put .ensures) (c .before .before .before .before .before .start-key .ensures),
+  c .before .before .before .before .before .before .before .before .before .before .before .before .before .pre .6,
+  c .before .before .before .before .before .before .before .before .before .before .before .before .before .pre .7,
+  explorers-start _ _ (c .before .before .before .before .before .before .before .before .before .before .before .before .before .pre .0) _ (c .before .before .before .before .before .before .before .before .before .before .before .before .before .pre .2) _ (omega arith) _ (c .before .before .put .ensures) (c .before .before .before .before .before .start-key .ensures),
   refl,
   refl,
   refl,
@@ -53,9 +50,9 @@ grow-requires : tie.Need-grow-requires Inv-loop μ-loop
 grow-requires c κs = (
   c .before .before .before .before .before .loop-test .taken,
   c .before .before .before .before .before .before .loop .inv .2,
-  c .before .before .before .before .before .before .before .before .before .before .before .before .before .before .before .before .before .before .before .before .before .before .before .before .pre .1,
-  omega (arith, c .before .before .before .before .before .before .before .before .before .before .before .before .before .before .before .before .before .before .before .before .before .before .before .before .pre .2, c .before .before .before .before .before .before .loop .inv .3),
-  c .before .before .before .before .before .before .before .before .before .before .before .before .before .before .before .before .before .before .before .before .before .before .before .before .pre .3,
+  c .before .before .before .before .before .before .before .before .before .before .before .before .before .before .before .before .before .before .before .before .pre .1,
+  omega (arith, c .before .before .before .before .before .before .before .before .before .before .before .before .before .before .before .before .before .before .before .before .pre .2, c .before .before .before .before .before .before .loop .inv .3),
+  c .before .before .before .before .before .before .before .before .before .before .before .before .before .before .before .before .before .before .before .before .pre .3,
   c .before .before .before .before .before .before .loop .inv .4,
   c .before .before .before .before .before .before .loop .inv .5,
   c .before .before .before .before .before .before .loop .inv .6,
@@ -85,19 +82,19 @@ same-length-5 c = search needs
 
 returns : tie.Need-returns Inv-loop μ-loop
 returns c = (
-  explored-from _ _ (c .before .before .before .before .before .before .before .before .before .before .before .before .before .before .before .before .before .before .before .before .before .before .before .before .before .before .before .before .before .before .before .before .before .before .before .before .before .pre .0) _ (c .before .before .before .before .before .before .before .before .before .before .before .before .before .before .before .before .before .before .before .before .before .before .before .before .before .before .before .before .before .before .before .before .before .before .before .before .before .pre .2) _ (omega arith) _ (c .before .before .before .before .before .before .before .before .before .before .before .before .before .before .before .before .before .before .before .before .before .before .before .before .before .before .before .before .clear-heads .ensures) _ (c .before .before .before .before .before .before .before .before .before .before .before .before .before .before .before .before .before .before .before .before .before .before .put .ensures) _ _ (explorers-full _ _ _ _ _ _ (c .before .before .before .before .before .before .before .before .before .before .before .before .before .before .before .before .before .before .before .loop .inv .8) (c .before .before .before .before .before .before .before .before .before .before .before .before .before .before .before .before .before .before .loop-test .taken) _ (rw (c .enum-told .given .1) at (c .before .before .before .before .before .before .before .before .before .before .before .before .grow .ensures .0))),
+  explored-from _ _ (c .before .before .before .before .before .before .before .before .before .before .before .before .before .before .before .before .before .before .before .before .before .before .before .before .before .before .before .before .before .before .before .before .before .pre .0) _ (c .before .before .before .before .before .before .before .before .before .before .before .before .before .before .before .before .before .before .before .before .before .before .before .before .before .before .before .before .before .before .before .before .before .pre .2) _ (omega arith) _ (c .before .before .before .before .before .before .before .before .before .before .before .before .before .before .before .before .before .before .before .before .before .before .put .ensures) _ _ (explorers-full _ _ _ _ _ _ (c .before .before .before .before .before .before .before .before .before .before .before .before .before .before .before .before .before .before .before .loop .inv .8) (c .before .before .before .before .before .before .before .before .before .before .before .before .before .before .before .before .before .before .loop-test .taken) _ (rw (c .enum-told .given .1) at (c .before .before .before .before .before .before .before .before .before .before .before .before .grow .ensures .0))),
   c .before .before .before .before .before .before .before .before .before .before .before .before .grow .ensures .1,
   c .before .before .before .before .before .before .before .before .before .before .before .before .grow .ensures .2,
 )
 
 add-taken : tie.Need-add-taken Inv-loop μ-loop
-add-taken c = omega (arith, c .before .before .before .before .before .before .before .before .before .before .before .before .before .before .before .before .before .before .before .loop-test .taken, c .before .before .before .before .before .before .before .before .before .before .before .before .before .before .before .before .before .before .before .before .loop .inv .2, c .before .before .before .before .before .before .before .before .before .before .before .before .before .before .before .before .before .before .before .before .before .before .before .before .before .before .before .before .before .before .before .before .before .before .before .before .before .before .pre .1)
+add-taken c = omega (arith, c .before .before .before .before .before .before .before .before .before .before .before .before .before .before .before .before .before .before .before .loop-test .taken, c .before .before .before .before .before .before .before .before .before .before .before .before .before .before .before .before .before .before .before .before .loop .inv .2, c .before .before .before .before .before .before .before .before .before .before .before .before .before .before .before .before .before .before .before .before .before .before .before .before .before .before .before .before .before .before .before .before .before .before .pre .1)
 
 loop-less : tie.Need-loop-less Inv-loop μ-loop
 loop-less c = search needs
 
 loop-again : tie.Need-loop-again Inv-loop μ-loop
-loop-again c =
+loop-again c = 
     let g = rw (c .before .growth .given .1) at (c .before .before .before .before .before .before .before .before .before .before .before .before .before .grow .ensures .0) in
     let b = g .grows .within _ refl in (
       omega (arith, b .0, c .before .before .before .before .before .before .before .before .before .before .before .before .before .before .before .before .before .before .before .loop-test .taken),
@@ -132,7 +129,7 @@ same-length-10 c = search needs
 
 returns-2 : tie.Need-returns-2 Inv-loop μ-loop
 returns-2 c = (
-  explored-from _ _ (c .before .before .before .before .before .before .before .before .before .before .before .before .before .before .before .before .before .before .before .pre .0) _ (c .before .before .before .before .before .before .before .before .before .before .before .before .before .before .before .before .before .before .before .pre .2) _ (omega arith) _ (c .before .before .before .before .before .before .before .before .before .before .clear-heads .ensures) _ (c .before .before .before .before .put .ensures) _ _ (explorers-end _ _ _ _ _ _ (c .before .loop .inv .8) (omega arith) (omega arith) (omega arith)),
+  explored-from _ _ (c .before .before .before .before .before .before .before .before .before .before .before .before .before .before .before .pre .0) _ (c .before .before .before .before .before .before .before .before .before .before .before .before .before .before .before .pre .2) _ (omega arith) _ (c .before .before .before .before .put .ensures) _ _ (explorers-end _ _ _ _ _ _ (c .before .loop .inv .8) (omega arith) (omega arith) (omega arith)),
   c .before .loop .inv .6,
   c .before .loop .inv .7,
 )
@@ -143,7 +140,6 @@ explore-spec =
     (tie.spec
     Inv-loop
     μ-loop
-    clear-heads-requires
     start-key-requires
     slice-aggregate-put
     put-requires
