@@ -5,16 +5,15 @@ use mathlib.Core.Logic.{_⊎_, inl, inr, ⊎-elim}
 use mathlib.Core.Path.{_≡_, refl, sym, _∙_, ap, subst}
 use native.Mathlib.Omega.{arith}
 use borrow.Author.Tests.{eqb-true, eqb-false, eq-eqb, ne-eqb, ltb-true, ltb-false, leb-true}
-use Prim.Native.Nat.{ℕ, _+_, _-_, _<_, _≤_}
+use Prim.Native.Nat.{ℕ, _+_, _<_, _≤_}
 use lib.Dec.{eqb, ltb, leb}
-use lib.ListN.{length, getD, take, drop, length-append, take-append-drop}
-use lib.Seq.{ext-getD, take-at}
+use lib.ListN.{length, getD, drop, length-append}
 use Rattle.calculus.specs.Term.{Term, nil, tau, inp, out, bout, mat, sum, par, res, call, ren}
 use Rattle.terms.specs.Answer.{result}
 use Rattle.terms.specs.Encoding.{nameByte, encode, InScope}
 use Rattle.terms.specs.Limits.{nameCount}
 use Rattle.terms.specs.Question.{Question, checkOf}
-use Rattle.terms.proofs.Stores.{span, length-span, getD-span, getD-front}
+use Rattle.terms.proofs.Stores.{getD-front}
 use Rattle.candidates.specs.LabelWalk.{slotAt, HasSlots}
 use Rattle.candidates.specs.Bodies.{AritiesIs, bodyOf}
 use Rattle.candidates.specs.Lists.{_∈_, Among}
@@ -28,7 +27,7 @@ use Rattle.candidates.proofs.Membership.{∈-left, ∈-right, ∈-map, ∈-mapp
 use Rattle.candidates.proofs.TwoSides.{at-left, at-right}
 use Rattle.steps.specs.Deciding.{decided, Again}
 use Rattle.steps.specs.Rows.{isTrivial, isFailing, Piece, plus, match, branch, Pieces, Offers, behindPiece, RepeatedIs}
-use Rattle.steps.specs.Same.{SameIs}
+use Rattle.steps.specs.Same.{SameBranchIs}
 use Rattle.steps.proofs.DecidingLaws.{decided-trivial, decided-failing, again-one, again-more, again-as}
 use Rattle.steps.proofs.RaisedMeetings.{bound-slot, slot-one}
 
@@ -89,11 +88,11 @@ module _ (s args : List ℕ) (inner depth p : ℕ) where
 -- Its names are one, or one of them is restricted.
 module _ (free D : ℕ) (σ : ℕ → ℕ) (s args : List ℕ) (inner depth : ℕ) (few : free ≤ nameCount) (has : HasSlots free D args inner depth σ) (arities : List ℕ)
     (a b : ℕ) (P : Term) (at : ℕ) (rest : List ℕ) (scope : InScope free arities D (mat a b P)) (st : drop at s ≡ encode D (mat a b P) ++ rest) where
-  first-slot : (slotAt args inner depth (getD s (at + 1) 0) ≡ slotOf nameCount depth (σ a)) × (σ a < depth + nameCount)
+  pub first-slot : (slotAt args inner depth (getD s (at + 1) 0) ≡ slotOf nameCount depth (σ a)) × (σ a < depth + nameCount)
   unfolding InScope encode
   first-slot = slot-read free D args inner depth σ few has s at 1 a (scope .0) (getD-front s at (encode D (mat a b P)) rest 1 st (omega arith)) _ refl
 
-  second-slot : (slotAt args inner depth (getD s (at + 2) 0) ≡ slotOf nameCount depth (σ b)) × (σ b < depth + nameCount)
+  pub second-slot : (slotAt args inner depth (getD s (at + 2) 0) ≡ slotOf nameCount depth (σ b)) × (σ b < depth + nameCount)
   unfolding InScope encode
   second-slot = slot-read free D args inner depth σ few has s at 2 b (scope .1) (getD-front s at (encode D (mat a b P)) rest 2 st (omega arith)) _ refl
 
@@ -270,10 +269,10 @@ module _ (question s t args : List ℕ) (inner depth root at : ℕ) where
             moved l (p + length (encode D B)) (e ∙ simp (ne-eqb (getD s p 0) 6 (k .0), k .1) (T .is q p free D B (k .3 .0) ok (k .2) (k .3 .1))) (k .5)
 
     -- a branch at p that is the same
-    pub repeated-found : (arities : List ℕ) → AritiesIs question arities → (n : ℕ) → 0 < n → SameIs s p at arities args inner depth n
+    pub repeated-found : (arities : List ℕ) → AritiesIs question arities → SameBranchIs s p at arities args inner depth true
         → getD s p 0 ≡ getD s at 0 → RepeatedIs question s args inner depth root at true
     unfolding Pieces AritiesIs
-    repeated-found arities A n some S b = record {
+    repeated-found arities A S b = record {
       is = λ q calls free D σ P rest before _ ok few has scope st z u o.
           let (l, k) = ahead q calls free D σ before ok o in
           go q calls free D σ P rest before (A q ok) few has scope st z u l k;
@@ -287,10 +286,11 @@ module _ (question s t args : List ℕ) (inner depth root at : ℕ) where
         go q calls free D σ P rest before a few has scope st z u [] k = absurd (omega arith)
         go q calls free D σ P rest before a few has scope st z u (plus ∷ l) k = absurd (z (sym b ∙ k .0))
         go q calls free D σ P rest before a few has scope st z u (match ∷ l) k =
-            let e : true ≡ false = sym (k .0) ∙ S .trivial some ∙ u in
+            let e : true ≡ false = sym (k .0) ∙ S .trivial refl ∙ u in
             let w : _≡_ {A = ℕ} 0 1 = cc in absurd (omega arith)
         go q calls free D σ P rest before a few has scope st z u (branch B ∷ l) k =
-            let e : ren σ P ≡ ren σ B = S .is some free D σ P B (record {
+            λ c m.
+            let (x, i, e) = S .is refl (bodyOf (q .bodies)) calls free D σ P B (record {
               few = few;
               has = has;
               scope = subst (λ (xs : List ℕ). InScope free xs D P) (sym a) scope;
@@ -299,5 +299,5 @@ module _ (question s t args : List ℕ) (inner depth root at : ℕ) where
               stands = st;
               more = k .3 .0;
               stands-too = k .3 .1;
-            }) .1 in
-            subst (λ (Q : Term). (c : Candidate) → c ∈ visible (bodyOf (q .bodies)) calls Q → Again depth c before) (sym e) (k .4)
+            }) c m in
+            again-as depth c x before e (k .4 x i)

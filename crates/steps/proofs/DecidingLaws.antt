@@ -1,7 +1,7 @@
 -- Candidates whose matches are decided where they stand: the rules keep them, and they are listed as the candidates themselves are.
 -- Assumes nothing.
 use borrow.Author.Tests.{eqb-true, eqb-false, eq-eqb, ne-eqb, ltb-true, ltb-false, lt-ltb, le-ltb}
-use mathlib.Core.Bool.{Bool, true, false, cond, not, _&&_, _||_, or-true, or-assoc}
+use mathlib.Core.Bool.{Bool, true, false, cond, not, _&&_, _||_, or-true, or-assoc, or-comm}
 use mathlib.Core.List.{List, [], _∷_, _++_, map}
 use mathlib.Core.Logic.{_⊎_, inl, inr, ⊎-elim}
 use mathlib.Core.Path.{_≡_, refl, sym, _∙_, ap, ap₂}
@@ -9,40 +9,100 @@ use native.Mathlib.Omega.{arith}
 use Prim.Native.Nat.{ℕ, zero, suc, _+_, _<_}
 use lib.Dec.{eqb, ltb}
 use Rattle.calculus.specs.Abstraction.{Act, tauA, inpA, outA, boutA}
-use Rattle.calculus.specs.Cond.{Cond, mapP, cls, nontrivial}
+use Rattle.calculus.specs.Cond.{Cond, mapP, Unif, cls, _~_}
 use Rattle.calculus.specs.Term.{Term, ren, _•_}
-use Rattle.calculus.proofs.Canonical.{nontrivial-~}
-use Rattle.calculus.proofs.Conditions.{cls-~}
+use Rattle.calculus.proofs.Conditions.{E2, cls-~}
 use Rattle.candidates.specs.Lists.{_∈_, Among}
 use Rattle.candidates.specs.Raw.{Candidate, step, blocked, matching, leftSteps, rightSteps, meet, communication, spares, sparesRestricted, outside, restrictedAction, restricted}
 use Rattle.candidates.proofs.Membership.{∈-left, ∈-right, ∈-either, ∈-map}
 use Rattle.candidates.proofs.Numbering.{not-met}
 use Rattle.candidates.proofs.Premises.{never}
 use Rattle.steps.specs.Contexts.{Frame, leftOf, rightOf, beneath, raised, restrictions, levelIn}
-use Rattle.steps.specs.Deciding.{failing, fails, decided, Again}
+use Rattle.steps.specs.Deciding.{failing, fails, ordered, settled, decided, Again}
 use Rattle.steps.specs.Listed.{namesFrom, classesOf, kindOf, channelOf, objectOf, listedAs, canonStep}
 use Rattle.steps.specs.Walking.{Trivial, stepAction}
 
--- Decided once is decided.
-fails-nontrivial : (d : ℕ) (M : Cond) → fails d (nontrivial M) ≡ fails d M
-unfolding nontrivial fails failing
-fails-nontrivial d [] = refl
-fails-nontrivial d (p ∷ M) = go (eqb (p .0) (p .1)) refl (fails-nontrivial d M)
+-- What is asked of two names, whichever stands first.
+pub eqb-turned : (a b : ℕ) → eqb b a ≡ eqb a b
+eqb-turned a b = go (eqb a b) refl
   where
-    go : (t : Bool) → eqb (p .0) (p .1) ≡ t → fails d (nontrivial M) ≡ fails d M
-        → fails d (cond t (nontrivial M) (p ∷ nontrivial M)) ≡ ((not (eqb (p .0) (p .1)) && (ltb (p .0) d || ltb (p .1) d)) || fails d M)
-    go true t e = e ∙ ap (λ (t : Bool). (not t && (ltb (p .0) d || ltb (p .1) d)) || fails d M) (sym t)
-    go false t e = ap (λ (f : Bool). failing d (p .0) (p .1) || f) e
+    go : (t : Bool) → eqb a b ≡ t → eqb b a ≡ t
+    go true t = eq-eqb b a (sym (eqb-true a b t))
+    go false t = ne-eqb b a (λ e. eqb-false a b t (sym e))
 
-nontrivial-twice : (M : Cond) → nontrivial (nontrivial M) ≡ nontrivial M
-unfolding nontrivial
-nontrivial-twice [] = refl
-nontrivial-twice (p ∷ M) = go (eqb (p .0) (p .1)) refl (nontrivial-twice M)
+failing-turned : (d a b : ℕ) → failing d b a ≡ failing d a b
+unfolding failing
+failing-turned d a b = λ i. not (eqb-turned a b i) && or-comm (ltb b d) (ltb a d) i
+
+spares-turned : (a b : ℕ) → spares b a ≡ spares a b
+unfolding spares
+spares-turned zero zero = refl
+spares-turned zero (suc b) = refl
+spares-turned (suc a) zero = refl
+spares-turned (suc a) (suc b) = refl
+
+-- So the order is free: what holds of a match and of its names in the other order holds of the ordered one.
+module _ (p : ℕ × ℕ) where
+  ordered-either : (C : ℕ × ℕ → Type 0) → C p → C (p .1, p .0) → C (ordered p)
+  unfolding ordered
+  ordered-either C x y = go (ltb (p .1) (p .0))
+    where
+      go : (t : Bool) → C (cond t (p .1, p .0) p)
+      go true = y
+      go false = x
+
+  eqb-ordered : eqb (ordered p .0) (ordered p .1) ≡ eqb (p .0) (p .1)
+  eqb-ordered = ordered-either (λ q. eqb (q .0) (q .1) ≡ eqb (p .0) (p .1)) refl (eqb-turned (p .0) (p .1))
+
+  failing-ordered : (d : ℕ) → failing d (ordered p .0) (ordered p .1) ≡ failing d (p .0) (p .1)
+  failing-ordered d = ordered-either (λ q. failing d (q .0) (q .1) ≡ failing d (p .0) (p .1)) refl (failing-turned d (p .0) (p .1))
+
+  spares-ordered : spares (ordered p .0) (ordered p .1) ≡ spares (p .0) (p .1)
+  spares-ordered = ordered-either (λ q. spares (q .0) (q .1) ≡ spares (p .0) (p .1)) refl (spares-turned (p .0) (p .1))
+
+  ordered-twice : ordered (ordered p) ≡ ordered p
+  unfolding ordered
+  ordered-twice = go (ltb (p .1) (p .0)) refl
+    where
+      go : (t : Bool) → ltb (p .1) (p .0) ≡ t → ordered (cond t (p .1, p .0) p) ≡ cond t (p .1, p .0) p
+      go true t = let h = ltb-true (p .1) (p .0) t in ap (λ (t : Bool). cond t (p .0, p .1) (p .1, p .0)) (le-ltb (p .0) (p .1) (omega arith))
+      go false t = ap (λ (t : Bool). cond t (p .1, p .0) p) t
+
+ordered-turned : (a b : ℕ) → ordered (a, b) ≡ ordered (b, a)
+unfolding ordered
+ordered-turned a b = go (ltb b a) refl (ltb a b) refl
   where
-    go : (t : Bool) → eqb (p .0) (p .1) ≡ t → nontrivial (nontrivial M) ≡ nontrivial M
-        → nontrivial (cond t (nontrivial M) (p ∷ nontrivial M)) ≡ cond t (nontrivial M) (p ∷ nontrivial M)
+    go : (t : Bool) → ltb b a ≡ t → (u : Bool) → ltb a b ≡ u → _≡_ {A = ℕ × ℕ} (cond t (b, a) (a, b)) (cond u (a, b) (b, a))
+    go true t true u = let h = ltb-true b a t in let k = ltb-true a b u in absurd (omega arith)
+    go true t false u = refl
+    go false t true u = refl
+    go false t false u =
+        let h = ltb-false b a t in
+        let k = ltb-false a b u in
+        let e : a ≡ b = omega arith in
+        λ i. (e i, sym e i)
+
+-- Decided once is decided.
+fails-settled : (d : ℕ) (M : Cond) → fails d (settled M) ≡ fails d M
+unfolding settled fails failing
+fails-settled d [] = refl
+fails-settled d (p ∷ M) = go (eqb (p .0) (p .1)) refl (fails-settled d M)
+  where
+    go : (t : Bool) → eqb (p .0) (p .1) ≡ t → fails d (settled M) ≡ fails d M
+        → fails d (cond t (settled M) (ordered p ∷ settled M)) ≡ ((not (eqb (p .0) (p .1)) && (ltb (p .0) d || ltb (p .1) d)) || fails d M)
+    go true t e = e ∙ ap (λ (t : Bool). (not t && (ltb (p .0) d || ltb (p .1) d)) || fails d M) (sym t)
+    go false t e = ap₂ (λ (s f : Bool). s || f) (failing-ordered p d) e
+
+settled-twice : (M : Cond) → settled (settled M) ≡ settled M
+unfolding settled
+settled-twice [] = refl
+settled-twice (p ∷ M) = go (eqb (p .0) (p .1)) refl (settled-twice M)
+  where
+    go : (t : Bool) → eqb (p .0) (p .1) ≡ t → settled (settled M) ≡ settled M
+        → settled (cond t (settled M) (ordered p ∷ settled M)) ≡ cond t (settled M) (ordered p ∷ settled M)
     go true t e = e
-    go false t e = ap (λ (t : Bool). cond t (nontrivial (nontrivial M)) (p ∷ nontrivial (nontrivial M))) t ∙ ap (λ (N : Cond). p ∷ N) e
+    go false t e =
+        ap (λ (t : Bool). cond t (settled (settled M)) (ordered (ordered p) ∷ settled (settled M))) (eqb-ordered p ∙ t) ∙ (λ i. ordered-twice p i ∷ e i)
 
 -- Of two conditions together.
 fails-++ : (d : ℕ) (M N : Cond) → fails d (M ++ N) ≡ (fails d M || fails d N)
@@ -51,15 +111,15 @@ fails-++ d [] N = refl
 fails-++ d (p ∷ M) N =
     ap (λ (f : Bool). failing d (p .0) (p .1) || f) (fails-++ d M N) ∙ sym (or-assoc (failing d (p .0) (p .1)) (fails d M) (fails d N))
 
-nontrivial-++ : (M N : Cond) → nontrivial (M ++ N) ≡ nontrivial M ++ nontrivial N
-unfolding nontrivial
-nontrivial-++ [] N = refl
-nontrivial-++ (p ∷ M) N = go (eqb (p .0) (p .1)) (nontrivial-++ M N)
+settled-++ : (M N : Cond) → settled (M ++ N) ≡ settled M ++ settled N
+unfolding settled
+settled-++ [] N = refl
+settled-++ (p ∷ M) N = go (eqb (p .0) (p .1)) (settled-++ M N)
   where
-    go : (t : Bool) → nontrivial (M ++ N) ≡ nontrivial M ++ nontrivial N
-        → cond t (nontrivial (M ++ N)) (p ∷ nontrivial (M ++ N)) ≡ cond t (nontrivial M) (p ∷ nontrivial M) ++ nontrivial N
+    go : (t : Bool) → settled (M ++ N) ≡ settled M ++ settled N
+        → cond t (settled (M ++ N)) (ordered p ∷ settled (M ++ N)) ≡ cond t (settled M) (ordered p ∷ settled M) ++ settled N
     go true e = e
-    go false e = ap (λ (N : Cond). p ∷ N) e
+    go false e = ap (λ (N : Cond). ordered p ∷ N) e
 
 -- Outside a restriction.
 eqb-suc : (a b : ℕ) → eqb (suc a) (suc b) ≡ eqb a b
@@ -88,6 +148,17 @@ failing-zero d b =
       (λ i. not (ne-eqb (suc b) 0 (λ e. omega arith) i) && (ltb (suc b) (1 + d) || z i)) ∙ or-true (ltb (suc b) (1 + d)),
     )
 
+abbrev lower : ℕ × ℕ → ℕ × ℕ
+lower p = (outside (p .0), outside (p .1))
+
+ordered-outside : (a b : ℕ) → ordered (a, b) ≡ lower (ordered (suc a, suc b))
+unfolding ordered outside
+ordered-outside a b = go (ltb b a) refl
+  where
+    go : (t : Bool) → ltb b a ≡ t → _≡_ {A = ℕ × ℕ} (cond t (b, a) (a, b)) (lower (cond (ltb (suc b) (suc a)) (suc b, suc a) (suc a, suc b)))
+    go true t = let h = ltb-true b a t in sym (ap (λ (t : Bool). lower (cond t (suc b, suc a) (suc a, suc b))) (lt-ltb (suc b) (suc a) (omega arith)))
+    go false t = let h = ltb-false b a t in sym (ap (λ (t : Bool). lower (cond t (suc b, suc a) (suc a, suc b))) (le-ltb (suc b) (suc a) (omega arith)))
+
 -- A condition that spares the restricted name says the same outside; another one fails.
 failing-same : (d a : ℕ) → failing d a a ≡ false
 unfolding failing
@@ -95,10 +166,10 @@ failing-same d a = λ i. not (eq-eqb a a refl i) && (ltb a d || ltb a d)
 
 module _ (d : ℕ) where
   abbrev Spared : Cond → Type 0
-  Spared M = (fails d (mapP outside M) ≡ fails (1 + d) M) × (nontrivial (mapP outside M) ≡ mapP outside (nontrivial M))
+  Spared M = (fails d (mapP outside M) ≡ fails (1 + d) M) × (settled (mapP outside M) ≡ mapP outside (settled M))
 
   spared : (M : Cond) → sparesRestricted M ≡ true → Spared M
-  unfolding sparesRestricted spares fails nontrivial outside
+  unfolding sparesRestricted spares fails settled outside
   spared [] e = (refl, refl)
   spared ((zero, zero) ∷ M) e =
       let (f, n) = spared M e in ((λ i. (failing-same d 0 ∙ sym (failing-same (1 + d) 0)) i || f i), n)
@@ -107,12 +178,12 @@ module _ (d : ℕ) where
   spared ((suc a, suc b) ∷ M) e =
       let (f, n) = spared M e in ((λ i. sym (failing-suc d a b) i || f i), go (eqb a b) (eqb-suc a b) n)
     where
-      go : (t : Bool) → eqb (suc a) (suc b) ≡ t → nontrivial (mapP outside M) ≡ mapP outside (nontrivial M)
-          → cond t (nontrivial (mapP outside M)) ((a, b) ∷ nontrivial (mapP outside M))
-          ≡ mapP outside (cond (eqb (suc a) (suc b)) (nontrivial M) ((suc a, suc b) ∷ nontrivial M))
-      go true t n = n ∙ ap (λ (t : Bool). mapP outside (cond t (nontrivial M) ((suc a, suc b) ∷ nontrivial M))) (sym t)
+      go : (t : Bool) → eqb (suc a) (suc b) ≡ t → settled (mapP outside M) ≡ mapP outside (settled M)
+          → cond t (settled (mapP outside M)) (ordered (a, b) ∷ settled (mapP outside M))
+          ≡ mapP outside (cond (eqb (suc a) (suc b)) (settled M) (ordered (suc a, suc b) ∷ settled M))
+      go true t n = n ∙ ap (λ (t : Bool). mapP outside (cond t (settled M) (ordered (suc a, suc b) ∷ settled M))) (sym t)
       go false t n =
-          ap (λ (N : Cond). (a, b) ∷ N) n ∙ ap (λ (t : Bool). mapP outside (cond t (nontrivial M) ((suc a, suc b) ∷ nontrivial M))) (sym t)
+          (λ i. ordered-outside a b i ∷ n i) ∙ ap (λ (t : Bool). mapP outside (cond t (settled M) (ordered (suc a, suc b) ∷ settled M))) (sym t)
 
   unspared : (M : Cond) → sparesRestricted M ≡ false → fails (1 + d) M ≡ true
   unfolding sparesRestricted spares fails
@@ -123,27 +194,31 @@ module _ (d : ℕ) where
   unspared ((suc a, suc b) ∷ M) e =
       ap (λ (f : Bool). failing (1 + d) (suc a) (suc b) || f) (unspared M e) ∙ or-true (failing (1 + d) (suc a) (suc b))
 
-spares-nontrivial : (M : Cond) → sparesRestricted M ≡ true → sparesRestricted (nontrivial M) ≡ true
-unfolding sparesRestricted nontrivial
-spares-nontrivial [] e = refl
-spares-nontrivial (p ∷ M) e = go (spares (p .0) (p .1)) refl e (eqb (p .0) (p .1)) (spares-nontrivial M)
+spares-settled : (M : Cond) → sparesRestricted M ≡ true → sparesRestricted (settled M) ≡ true
+unfolding sparesRestricted settled
+spares-settled [] e = refl
+spares-settled (p ∷ M) e = go (spares (p .0) (p .1)) refl e (eqb (p .0) (p .1)) (spares-settled M)
   where
-    go : (s : Bool) → spares (p .0) (p .1) ≡ s → (s && sparesRestricted M) ≡ true → (t : Bool) → (sparesRestricted M ≡ true → sparesRestricted (nontrivial M) ≡ true)
-        → sparesRestricted (cond t (nontrivial M) (p ∷ nontrivial M)) ≡ true
+    go : (s : Bool) → spares (p .0) (p .1) ≡ s → (s && sparesRestricted M) ≡ true → (t : Bool) → (sparesRestricted M ≡ true → sparesRestricted (settled M) ≡ true)
+        → sparesRestricted (cond t (settled M) (ordered p ∷ settled M)) ≡ true
     go true s e true f = f e
-    go true s e false f = ap (λ (s : Bool). s && sparesRestricted (nontrivial M)) s ∙ f e
+    go true s e false f = ap (λ (s : Bool). s && sparesRestricted (settled M)) (spares-ordered p ∙ s) ∙ f e
     go false s e t f = let z : _≡_ {A = ℕ} 0 1 = cc in absurd (omega arith)
+
+-- The candidate beneath a match with its smaller name first.
+abbrev asking : ℕ → ℕ → Candidate → Candidate
+asking a b = matching (ordered (a, b) .0) (ordered (a, b) .1)
 
 -- [Match]: what is asked is decided at once.
 unfoldable pub judged : ℕ → ℕ → ℕ → Candidate → Candidate
-judged d a b c = cond (eqb a b) c (cond (ltb a d || ltb b d) blocked (matching a b c))
+judged d a b c = cond (eqb a b) c (cond (ltb a d || ltb b d) blocked (asking a b c))
 
 pub decided-matching : (d a b : ℕ) (c : Candidate) → decided d (matching a b c) ≡ judged d a b (decided d c)
-unfolding decided fails failing nontrivial matching judged
+unfolding decided fails failing settled matching judged
 decided-matching d a b (step M α A) = go (eqb a b) (ltb a d || ltb b d) (fails d M)
   where
-    go : (t u f : Bool) → cond ((not t && u) || f) blocked (step (cond t (nontrivial M) ((a, b) ∷ nontrivial M)) α A)
-        ≡ cond t (cond f blocked (step (nontrivial M) α A)) (cond u blocked (matching a b (cond f blocked (step (nontrivial M) α A))))
+    go : (t u f : Bool) → cond ((not t && u) || f) blocked (step (cond t (settled M) (ordered (a, b) ∷ settled M)) α A)
+        ≡ cond t (cond f blocked (step (settled M) α A)) (cond u blocked (asking a b (cond f blocked (step (settled M) α A))))
     go true u f = refl
     go false true f = refl
     go false false true = refl
@@ -159,12 +234,21 @@ pub judged-blocked : (d a b : ℕ) → judged d a b blocked ≡ blocked
 unfolding decided matching
 judged-blocked d a b = sym (decided-matching d a b blocked)
 
+-- Its names may stand in either order.
+judged-turned : (d a b : ℕ) (c : Candidate) → judged d a b c ≡ judged d b a c
+unfolding judged
+judged-turned d a b c = λ i.
+    cond (eqb-turned b a i) c (cond (or-comm (ltb a d) (ltb b d) i) blocked (matching (ordered-turned a b i .0) (ordered-turned a b i .1) c))
+
+pub decided-turned : (d a b : ℕ) (c : Candidate) → decided d (matching a b c) ≡ decided d (matching b a c)
+decided-turned d a b c = decided-matching d a b c ∙ judged-turned d a b (decided d c) ∙ sym (decided-matching d b a c)
+
 -- [Par]
 pub decided-left : (d : ℕ) (Q : Term) (c : Candidate) → decided d (leftSteps Q c) ≡ leftSteps Q (decided d c)
 unfolding decided leftSteps
 decided-left d Q (step M α A) = go (fails d M)
   where
-    go : (f : Bool) → cond f blocked (leftSteps Q (step (nontrivial M) α A)) ≡ leftSteps Q (cond f blocked (step (nontrivial M) α A))
+    go : (f : Bool) → cond f blocked (leftSteps Q (step (settled M) α A)) ≡ leftSteps Q (cond f blocked (step (settled M) α A))
     go true = refl
     go false = refl
 decided-left d Q blocked = refl
@@ -173,7 +257,7 @@ pub decided-right : (d : ℕ) (P : Term) (c : Candidate) → decided d (rightSte
 unfolding decided rightSteps
 decided-right d P (step M α A) = go (fails d M)
   where
-    go : (f : Bool) → cond f blocked (rightSteps P (step (nontrivial M) α A)) ≡ rightSteps P (cond f blocked (step (nontrivial M) α A))
+    go : (f : Bool) → cond f blocked (rightSteps P (step (settled M) α A)) ≡ rightSteps P (cond f blocked (step (settled M) α A))
     go true = refl
     go false = refl
 decided-right d P blocked = refl
@@ -183,7 +267,7 @@ stays : (f : Bool) → blocked ≡ cond f blocked blocked
 stays true = refl
 stays false = refl
 
-decided-action : (d : ℕ) (M : Cond) (α : Act) (A : Term) → decided d (restrictedAction M α A) ≡ cond (fails d M) blocked (restrictedAction (nontrivial M) α A)
+decided-action : (d : ℕ) (M : Cond) (α : Act) (A : Term) → decided d (restrictedAction M α A) ≡ cond (fails d M) blocked (restrictedAction (settled M) α A)
 unfolding decided restrictedAction
 decided-action d M tauA A = refl
 decided-action d M (inpA zero) A = stays (fails d M)
@@ -199,13 +283,13 @@ unfolding decided restricted
 decided-restricted d (step M α A) = go (sparesRestricted M) refl (fails (1 + d) M) refl
   where
     go : (s : Bool) → sparesRestricted M ≡ s → (f : Bool) → fails (1 + d) M ≡ f
-        → decided d (cond s (restrictedAction (mapP outside M) α A) blocked) ≡ restricted (cond f blocked (step (nontrivial M) α A))
-    go true s true f = decided-action d (mapP outside M) α A ∙ ap (λ (f : Bool). cond f blocked (restrictedAction (nontrivial (mapP outside M)) α A)) (spared d M s .0 ∙ f)
+        → decided d (cond s (restrictedAction (mapP outside M) α A) blocked) ≡ restricted (cond f blocked (step (settled M) α A))
+    go true s true f = decided-action d (mapP outside M) α A ∙ ap (λ (f : Bool). cond f blocked (restrictedAction (settled (mapP outside M)) α A)) (spared d M s .0 ∙ f)
     go true s false f =
         decided-action d (mapP outside M) α A
-        ∙ ap (λ (f : Bool). cond f blocked (restrictedAction (nontrivial (mapP outside M)) α A)) (spared d M s .0 ∙ f)
+        ∙ ap (λ (f : Bool). cond f blocked (restrictedAction (settled (mapP outside M)) α A)) (spared d M s .0 ∙ f)
         ∙ ap (λ (N : Cond). restrictedAction N α A) (spared d M s .1)
-        ∙ ap (λ (t : Bool). cond t (restrictedAction (mapP outside (nontrivial M)) α A) blocked) (sym (spares-nontrivial M s))
+        ∙ ap (λ (t : Bool). cond t (restrictedAction (mapP outside (settled M)) α A) blocked) (sym (spares-settled M s))
     go false s true f = refl
     go false s false f = let z : true ≡ false = sym (unspared d M s) ∙ f in let y : _≡_ {A = ℕ} 0 1 = cc in absurd (omega arith)
 decided-restricted d blocked = refl
@@ -242,20 +326,20 @@ meet-cases S s t (boutA a) A (outA b z) B = s
 meet-cases S s t (boutA a) A (boutA b) B = s
 
 pub decided-communication : (d : ℕ) (s t : Candidate) → decided d (communication s t) ≡ decided d (communication (decided d s) (decided d t))
-unfolding decided communication fails nontrivial
+unfolding decided communication fails settled
 decided-communication d (step M α A) (step N β B) =
     meet-cases (λ (F : Cond → Cond → Candidate). decided d (F M N) ≡ decided d (both F (fails d M) (fails d N))) (none (fails d M) (fails d N)) one α A β B
     ∙ ap (decided d) (apart (fails d M) (fails d N))
   where
     both : (Cond → Cond → Candidate) → Bool → Bool → Candidate
-    both F f g = cond f blocked (cond g blocked (F (nontrivial M) (nontrivial N)))
+    both F f g = cond f blocked (cond g blocked (F (settled M) (settled N)))
 
     none : (f g : Bool) → blocked ≡ decided d (cond f blocked (cond g blocked blocked))
     none true g = refl
     none false true = refl
     none false false = refl
 
-    apart : (f g : Bool) → both (λ M N. meet M α A N β B) f g ≡ communication (cond f blocked (step (nontrivial M) α A)) (cond g blocked (step (nontrivial N) β B))
+    apart : (f g : Bool) → both (λ M N. meet M α A N β B) f g ≡ communication (cond f blocked (step (settled M) α A)) (cond g blocked (step (settled N) β B))
     apart true g = refl
     apart false true = refl
     apart false false = refl
@@ -265,22 +349,22 @@ decided-communication d (step M α A) (step N β B) =
       where
         -- by the rest of the condition
         asks : Bool → Cond → Candidate
-        asks f X = cond (failing d a b || f) blocked (step (cond (eqb a b) X ((a, b) ∷ X)) tauA C)
+        asks f X = cond (failing d a b || f) blocked (step (cond (eqb a b) X (ordered (a, b) ∷ X)) tauA C)
 
-        blocks : fails d (M ++ N) ≡ true → asks (fails d (M ++ N)) (nontrivial (M ++ N)) ≡ blocked
+        blocks : fails d (M ++ N) ≡ true → asks (fails d (M ++ N)) (settled (M ++ N)) ≡ blocked
         blocks e =
-            (λ i. cond (failing d a b || e i) blocked (step (cond (eqb a b) (nontrivial (M ++ N)) ((a, b) ∷ nontrivial (M ++ N))) tauA C))
-            ∙ ap (λ (t : Bool). cond t blocked (step (cond (eqb a b) (nontrivial (M ++ N)) ((a, b) ∷ nontrivial (M ++ N))) tauA C)) (or-true (failing d a b))
+            (λ i. cond (failing d a b || e i) blocked (step (cond (eqb a b) (settled (M ++ N)) (ordered (a, b) ∷ settled (M ++ N))) tauA C))
+            ∙ ap (λ (t : Bool). cond t blocked (step (cond (eqb a b) (settled (M ++ N)) (ordered (a, b) ∷ settled (M ++ N))) tauA C)) (or-true (failing d a b))
 
         go : (f : Bool) → fails d M ≡ f → (g : Bool) → fails d N ≡ g
-            → asks (fails d (M ++ N)) (nontrivial (M ++ N)) ≡ decided d (both (λ M N. step ((a, b) ∷ (M ++ N)) tauA C) f g)
+            → asks (fails d (M ++ N)) (settled (M ++ N)) ≡ decided d (both (λ M N. step ((a, b) ∷ (M ++ N)) tauA C) f g)
         go true f g h = blocks (fails-++ d M N ∙ ap (λ (t : Bool). t || fails d N) f)
         go false f true g = blocks (fails-++ d M N ∙ ap₂ (λ (s t : Bool). s || t) f g)
         go false f false g =
             ap₂ asks
-            (fails-++ d M N ∙ ap₂ (λ (s t : Bool). s || t) (sym (fails-nontrivial d M)) (sym (fails-nontrivial d N)) ∙ sym (fails-++ d (nontrivial M) (nontrivial N)))
-            (nontrivial-++ M N ∙ ap₂ (λ (X Y : Cond). X ++ Y) (sym (nontrivial-twice M)) (sym (nontrivial-twice N)) ∙ sym (nontrivial-++ (nontrivial M) (nontrivial N)))
-decided-communication d (step M α A) blocked = ap (decided d) (sym (not-met (cond (fails d M) blocked (step (nontrivial M) α A))))
+            (fails-++ d M N ∙ ap₂ (λ (s t : Bool). s || t) (sym (fails-settled d M)) (sym (fails-settled d N)) ∙ sym (fails-++ d (settled M) (settled N)))
+            (settled-++ M N ∙ ap₂ (λ (X Y : Cond). X ++ Y) (sym (settled-twice M)) (sym (settled-twice N)) ∙ sym (settled-++ (settled M) (settled N)))
+decided-communication d (step M α A) blocked = ap (decided d) (sym (not-met (cond (fails d M) blocked (step (settled M) α A))))
 decided-communication d blocked t = refl
 
 -- A candidate that is a step with these classes.
@@ -289,17 +373,38 @@ pub record Like (c : Candidate) (N : Cond) (α : Act) (A : Term) : Type 0 where
   pub is : c ≡ step condition α A
   pub same : cls condition ≡ cls N
 
-same-classes : (M : Cond) → cls M ≡ cls (nontrivial M)
-same-classes M = sym (cls-~ (nontrivial M) M (nontrivial-~ M))
+unif-settled : (f : ℕ → ℕ) (M : Cond) → Unif f M → Unif f (settled M)
+unfolding settled
+unif-settled f [] u = tt
+unif-settled f (p ∷ M) u = go (eqb (p .0) (p .1)) (unif-settled f M (u .1))
+  where
+    go : (t : Bool) → Unif f (settled M) → Unif f (cond t (settled M) (ordered p ∷ settled M))
+    go true v = v
+    go false v = (ordered-either p (λ q. f (q .0) ≡ f (q .1)) (u .0) (sym (u .0)), v)
+
+of-unif-settled : (f : ℕ → ℕ) (M : Cond) → Unif f (settled M) → Unif f M
+unfolding settled
+of-unif-settled f [] u = tt
+of-unif-settled f (p ∷ M) u = go (eqb (p .0) (p .1)) refl u (λ v. of-unif-settled f M v)
+  where
+    go : (t : Bool) → eqb (p .0) (p .1) ≡ t → Unif f (cond t (settled M) (ordered p ∷ settled M)) → (Unif f (settled M) → Unif f M) → Unif f (p ∷ M)
+    go true t u r = (ap f (eqb-true (p .0) (p .1) t), r u)
+    go false t u r = (ordered-either p (λ q. f (q .0) ≡ f (q .1) → f (p .0) ≡ f (p .1)) (λ e. e) (λ e. sym e) (u .0), r (u .1))
+
+settled-~ : (M : Cond) → settled M ~ M
+settled-~ M = (of-unif-settled (cls (settled M)) M (E2 (settled M)), unif-settled (cls M) M (E2 M))
+
+same-classes : (M : Cond) → cls M ≡ cls (settled M)
+same-classes M = sym (cls-~ (settled M) M (settled-~ M))
 
 pub decided-step : (d : ℕ) (c : Candidate) (N : Cond) (α : Act) (A : Term) → decided d c ≡ step N α A → Like c N α A
 unfolding decided
 decided-step d (step M β B) N α A e = go (fails d M) e
   where
-    go : (f : Bool) → cond f blocked (step (nontrivial M) β B) ≡ step N α A → Like (step M β B) N α A
+    go : (f : Bool) → cond f blocked (step (settled M) β B) ≡ step N α A → Like (step M β B) N α A
     go true e = never N α A e
     go false e =
-        let k : nontrivial M ≡ N = cc in
+        let k : settled M ≡ N = cc in
         let p : β ≡ α = cc in
         let q : B ≡ A = cc in
         record { condition = M; is = ap₂ (step M) p q; same = same-classes M ∙ ap cls k }
@@ -316,17 +421,17 @@ fails-none (p ∷ M) =
     go true = refl
     go false = refl
 
-decided-outside : (M : Cond) (α : Act) (A : Term) → decided 0 (step M α A) ≡ step (nontrivial M) α A
+decided-outside : (M : Cond) (α : Act) (A : Term) → decided 0 (step M α A) ≡ step (settled M) α A
 unfolding decided
-decided-outside M α A = ap (λ (f : Bool). cond f blocked (step (nontrivial M) α A)) (fails-none M)
+decided-outside M α A = ap (λ (f : Bool). cond f blocked (step (settled M) α A)) (fails-none M)
 
 pub like-of : (c : Candidate) (N : Cond) (α : Act) (A : Term) → decided 0 c ≡ decided 0 (step N α A) → Like c N α A
 like-of c N α A e =
-    let l = decided-step 0 c (nontrivial N) α A (e ∙ decided-outside N α A) in
+    let l = decided-step 0 c (settled N) α A (e ∙ decided-outside N α A) in
     record { condition = l .condition; is = l .is; same = l .same ∙ sym (same-classes N) }
 
 pub outside-blocked : (c : Candidate) → decided 0 c ≡ blocked → c ≡ blocked
-outside-blocked (step M α A) e = never (nontrivial M) α A (sym e ∙ decided-outside M α A)
+outside-blocked (step M α A) e = never (settled M) α A (sym e ∙ decided-outside M α A)
 outside-blocked blocked e = refl
 
 pub like-trivial : (M N : Cond) → cls M ≡ cls N → Trivial N → Trivial M
@@ -389,7 +494,7 @@ module _ (d a b : ℕ) (same : a ≡ b) where
   pub decided-trivial : (c : Candidate) → decided d (matching a b c) ≡ decided d c
   unfolding judged
   decided-trivial c =
-      decided-matching d a b c ∙ ap (λ (t : Bool). cond t (decided d c) (cond (ltb a d || ltb b d) blocked (matching a b (decided d c)))) (eq-eqb a b same)
+      decided-matching d a b c ∙ ap (λ (t : Bool). cond t (decided d c) (cond (ltb a d || ltb b d) blocked (asking a b (decided d c)))) (eq-eqb a b same)
 
   pub again-trivial : (c : Candidate) (before cs : List Candidate) → Again d c (before ++ cs) → Again d (matching a b c) (before ++ map (matching a b) cs)
   unfolding Again
@@ -403,7 +508,7 @@ module _ (d a b : ℕ) (same : a ≡ b) where
 pub decided-failing : (d a b : ℕ) → (a ≡ b → ⊥) → (a < d) ⊎ (b < d) → (c : Candidate) → decided d (matching a b c) ≡ blocked
 unfolding judged
 decided-failing d a b n h c =
-    decided-matching d a b c ∙ (λ i. cond (ne-eqb a b n i) (decided d c) (cond (one h i) blocked (matching a b (decided d c))))
+    decided-matching d a b c ∙ (λ i. cond (ne-eqb a b n i) (decided d c) (cond (one h i) blocked (asking a b (decided d c))))
   where
     one : (a < d) ⊎ (b < d) → (ltb a d || ltb b d) ≡ true
     one (inl h) = ap (λ (t : Bool). t || ltb b d) (lt-ltb a d h)

@@ -1,4 +1,5 @@
 pub mod ArrangeLaws
+pub mod BranchLaws
 pub mod ByteOrder
 pub mod CanonBytes
 pub mod CanonSteps

@@ -32,7 +32,7 @@ pub record WellListed (names wide : ℕ) (arities : List ℕ) (s : ListedStep) :
 
 module _ (wide : ℕ) (few : wide ≤ 128) (arities : List ℕ) where
   -- a term in scope is read back from bytes that begin with its own
-  pub reads-once : (D : ℕ) (P Q : Term) (us vs : List ℕ) → InScope wide arities D P → InScope wide arities D Q → encode D P ++ us ≡ encode D Q ++ vs → P ≡ Q
+  reads-once : (D : ℕ) (P Q : Term) (us vs : List ℕ) → InScope wide arities D P → InScope wide arities D Q → encode D P ++ us ≡ encode D Q ++ vs → P ≡ Q
   reads-once D P Q us vs g h e =
       let n : ℕ = length (encode D P) + length (encode D Q) in
       let p : readTerm wide arities n D (encode D P ++ us) ≡ result (P, us) = read-encoded wide few arities D P g n (omega arith) us in

@@ -23,7 +23,7 @@ use Rattle.candidates.proofs.Membership.{∈-left, ∈-right, ∈-nth, take-map
 use Rattle.candidates.proofs.NameSlots.{slot-inner}
 use Rattle.candidates.proofs.Numbering.{nth-matching, nth-leftSteps, nth-rightSteps, nth-restricted}
 use Rattle.candidates.proofs.SlotLaws.{slot-restricted, slot-outside}
-use Rattle.steps.specs.Deciding.{decided, Again}
+use Rattle.steps.specs.Deciding.{ordered, decided, Again}
 use Rattle.steps.specs.Rows.{rowBytes, kindAt, channelAt, objectAt, actionKind, rowAction, Does, Outlined, Row, RowsBehind, Rows, Matched, RowsKept}
 use Rattle.steps.proofs.DecidingLaws.{judged, judged-blocked, decided-matching, decided-left, decided-right, decided-restricted, decided-trivial, again-more, again-by, again-trivial}
 
@@ -210,12 +210,12 @@ module _ (d kind channel object : ℕ) where
   -- [Match]: it asks nothing, or fails, or is one of the condition
   outlined-judged : 3 < kind → (a b : ℕ) (c : Candidate) → Outlined d c kind channel object → Outlined d (judged d a b c) kind channel object
   unfolding matching judged
-  outlined-judged m a b c O = go (eqb a b) (ltb a d || ltb b d)
+  outlined-judged m a b c O = go (eqb a b) (ltb a d || ltb b d) (ordered (a, b) .0) (ordered (a, b) .1)
     where
-      go : (t u : Bool) → Outlined d (cond t c (cond u blocked (matching a b c))) kind channel object
-      go true u = O
-      go false true = record { known = O .known; inner = λ h. refl; acts = λ h. inl (m, refl) }
-      go false false = record {
+      go : (t u : Bool) (a b : ℕ) → Outlined d (cond t c (cond u blocked (matching a b c))) kind channel object
+      go true u a b = O
+      go false true a b = record { known = O .known; inner = λ h. refl; acts = λ h. inl (m, refl) }
+      go false false a b = record {
         known = O .known;
         inner = λ h. ap (matching a b) (O .inner h);
         acts = λ h. ⊎-elim (λ p. inl (p .0, ap (matching a b) (p .1)))

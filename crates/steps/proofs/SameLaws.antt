@@ -1,5 +1,4 @@
 -- Two terms whose fronts and subterms are the same by the slots of their names are one term once these are read. Assumes nothing.
-use borrow.Author.Tests.{eqb-true}
 use mathlib.Core.Bool.{Bool, true, false, cond}
 use mathlib.Core.List.{List, [], _∷_, _++_, map, append-assoc, append-nil}
 use mathlib.Core.Logic.{⊎-elim}
@@ -16,15 +15,13 @@ use Rattle.terms.specs.Limits.{nameCount}
 use Rattle.terms.specs.Shape.{fixedBytes, ownNames, binders, subterms, frontBytes, fixedAt, namesAt, bindersAt, partsAt, ShapeIs}
 use Rattle.terms.specs.declared.shape.Shape.{Shape}
 use Rattle.terms.proofs.NameTables.{liftBy}
-use Rattle.terms.proofs.Shapes.{encodeAll, encode-parts, at-most-two, fixed-ren, names-ren, subterms-ren, length-ren, front-of, AllInScope, names-scope, subterms-scope, shape-fixed, shape-names, shape-binds, shape-parts, span-fixed, span-names, length-front}
+use Rattle.terms.proofs.Shapes.{encodeAll, encode-parts, at-most-two, fixed-ren, names-ren, subterms-ren, length-ren, front-of, AllInScope, names-scope, subterms-scope, shape-names, shape-binds, shape-parts, span-fixed, span-names, length-front}
 use Rattle.terms.proofs.Stores.{span, length-span, getD-span, getD-map}
 use Rattle.candidates.specs.LabelWalk.{slotAt, HasSlots}
-use Rattle.candidates.specs.Slots.{slotOf}
 use Rattle.candidates.proofs.ArgumentSlots.{slots-lift}
 use Rattle.candidates.proofs.CallLaws.{name-within}
 use Rattle.candidates.proofs.FrontLaws.{behind}
 use Rattle.steps.specs.Entries.{Alike}
-use Rattle.steps.specs.Rows.{isTrivial}
 use Rattle.steps.specs.Same.{SameNames, SameFront, Both, SameIs}
 use Rattle.steps.proofs.RaisedMeetings.{slot-one}
 
@@ -118,7 +115,7 @@ module _ (s : List ℕ) (p at : ℕ) (arities args : List ℕ) (inner depth : �
   Same r = SameIs s p at arities args inner depth r
 
   pub same-not : Same 0
-  same-not = record { inside = omega arith; trivial = λ h. absurd (omega arith); is = λ h. absurd (omega arith) }
+  same-not = record { inside = omega arith; first = λ h. absurd (omega arith); is = λ h. absurd (omega arith) }
 
   -- Equal fronts: h is the shape of both.
   module _ (before : p < at) (h : Shape) (is : ShapeIs s at arities h) (F : SameFront s args inner depth p at (h .fixed) (h .names)) where
@@ -142,32 +139,6 @@ module _ (s : List ℕ) (p at : ℕ) (arities args : List ℕ) (inner depth : �
             let two : 1 < h .fixed = omega (arith, is .fixed ∙ ap (λ (t : Bool). cond t 2 1) t) in
             ap (namesAt arities (getD s at 0)) (sym (F .bytes 1 two))
         go false t = rw t
-
-    same-trivial : isTrivial s args inner depth p ≡ isTrivial s args inner depth at
-    unfolding isTrivial fixedAt namesAt
-    same-trivial = go (eqb (getD s at 0) 5) refl
-      where
-        slotOn : ℕ → ℕ → ℕ
-        slotOn p k = slotAt args inner depth (getD s (p + k) 0)
-
-        name : (j k : ℕ) → j < h .names → k ≡ h .fixed + j → slotOn p k ≡ slotOn at k
-        name j k l e =
-            let x : p + k ≡ p + h .fixed + j = omega arith in
-            let y : at + h .fixed + j ≡ at + k = omega arith in
-            ap (λ (n : ℕ). slotAt args inner depth (getD s n 0)) x ∙ F .names-are j l ∙ ap (λ (n : ℕ). slotAt args inner depth (getD s n 0)) y
-
-        go : (t : Bool) → eqb (getD s at 0) 5 ≡ t
-            → cond (eqb (getD s p 0) 5) (eqb (slotOn p 1) (slotOn p 2)) false ≡ cond (eqb (getD s at 0) 5) (eqb (slotOn at 1) (slotOn at 2)) false
-        go true t =
-            let five = eqb-true (getD s at 0) 5 t in
-            let one : h .fixed ≡ 1 = is .fixed ∙ ap fixedAt five in
-            let two : h .names ≡ 2 = is .names ∙ ap (λ (t : ℕ). namesAt arities t (getD s (at + 1) 0)) five in
-            let e = name 0 1 (omega arith) (omega arith) in
-            let f = name 1 2 (omega arith) (omega arith) in
-            λ i. cond (eqb (first-byte i) 5) (eqb (e i) (f i)) false
-        go false t =
-            ap (λ (b : Bool). cond b (eqb (slotOn p 1) (slotOn p 2)) false) (ap (λ (t : ℕ). eqb t 5) first-byte ∙ t)
-            ∙ sym (ap (λ (b : Bool). cond b (eqb (slotOn at 1) (slotOn at 2)) false) t)
 
     -- of the two terms
     module _ (free D : ℕ) (σ : ℕ → ℕ) (P B : Term) (x : Both s p at arities args inner depth free D σ P B) where
@@ -320,7 +291,7 @@ module _ (s : List ℕ) (p at : ℕ) (arities args : List ℕ) (inner depth : �
     pub same-none : h .parts ≡ 0 → Same (h .fixed + h .names)
     same-none z = record {
       inside = let i = F .inside in omega arith;
-      trivial = λ _. same-trivial;
+      first = λ _. first-byte;
       is = λ _ free D σ P B x. none-beneath free D σ P B x z;
     }
 
@@ -329,7 +300,7 @@ module _ (s : List ℕ) (p at : ℕ) (arities args : List ℕ) (inner depth : �
       pub same-one : h .parts ≡ 1 → Same (h .fixed + h .names + e)
       same-one z = record {
         inside = let i = F .inside in let j = S .inside in omega arith;
-        trivial = λ _. same-trivial;
+        first = λ _. first-byte;
         is = λ _ free D σ P B x. one-beneath free D σ P B x e some S z;
       }
 
@@ -338,6 +309,6 @@ module _ (s : List ℕ) (p at : ℕ) (arities args : List ℕ) (inner depth : �
           → Same (h .fixed + h .names + e + f)
       same-two z o f more T = record {
         inside = let i = F .inside in let j = S .inside in let k = T .inside in omega arith;
-        trivial = λ _. same-trivial;
+        first = λ _. first-byte;
         is = λ _ free D σ P B x. two-beneath free D σ P B x e some S z o f more T;
       }

@@ -1,12 +1,17 @@
--- Two terms of the same bytes that are one term once their names are read: what the walk of both at once promises.
+-- Two terms that stand in the same bytes and are one once their names are read: what the walk of both at once promises.
 use mathlib.Core.Path.{_≡_}
+use mathlib.Core.Bool.{Bool, true}
 use mathlib.Core.List.{List, _++_}
+use mathlib.Core.Logic.{_⊎_}
 use Prim.Native.Nat.{ℕ, _+_, _<_, _≤_, max}
 use lib.ListN.{length, getD, drop}
 use Rattle.calculus.specs.Term.{Term, ren}
 use Rattle.terms.specs.Encoding.{encode, InScope}
 use Rattle.terms.specs.Limits.{nameCount}
 use Rattle.candidates.specs.LabelWalk.{slotAt, HasSlots}
+use Rattle.candidates.specs.Lists.{_∈_}
+use Rattle.candidates.specs.Raw.{Candidate, visible}
+use Rattle.steps.specs.Deciding.{decided}
 use Rattle.steps.specs.Entries.{Alike}
 use Rattle.steps.specs.Rows.{isTrivial}
 
@@ -34,6 +39,18 @@ pub record Both (s : List ℕ) (p at : ℕ) (arities args : List ℕ) (inner dep
 -- The length of the term at `at`, if the one at p is the same; 0 says nothing.
 pub record SameIs (s : List ℕ) (p at : ℕ) (arities args : List ℕ) (inner depth r : ℕ) : Type 0 where
   pub inside : at + r ≤ max at (length s)
-  pub trivial : 0 < r → isTrivial s args inner depth p ≡ isTrivial s args inner depth at
+  pub first : 0 < r → getD s p 0 ≡ getD s at 0
   pub is : 0 < r → (free D : ℕ) (σ : ℕ → ℕ) (P B : Term) → Both s p at arities args inner depth free D σ P B
       → (r ≡ length (encode D P)) × (ren σ P ≡ ren σ B)
+
+-- The matches at p and at `at` are of the same two names, in one order or the other.
+unfoldable pub SameMatch : (s args : List ℕ) (inner depth p at : ℕ) → Type 0
+SameMatch s args inner depth p at =
+    let slotOn : ℕ → ℕ → ℕ = λ p k. slotAt args inner depth (getD s (p + k) 0) in
+    ((slotOn p 1 ≡ slotOn at 1) × (slotOn p 2 ≡ slotOn at 2)) ⊎ ((slotOn p 1 ≡ slotOn at 2) × (slotOn p 2 ≡ slotOn at 1))
+
+-- Each visible candidate of the term at `at` is one of the term at p but for what is decided.
+pub record SameBranchIs (s : List ℕ) (p at : ℕ) (arities args : List ℕ) (inner depth : ℕ) (r : Bool) : Type 0 where
+  pub trivial : r ≡ true → isTrivial s args inner depth p ≡ isTrivial s args inner depth at
+  pub is : r ≡ true → (body : ℕ → Term) (calls free D : ℕ) (σ : ℕ → ℕ) (P B : Term) → Both s p at arities args inner depth free D σ P B
+      → (c : Candidate) → c ∈ visible body calls (ren σ P) → (b : Candidate) × (b ∈ visible body calls (ren σ B)) × (decided depth c ≡ decided depth b)

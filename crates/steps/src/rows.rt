@@ -8,7 +8,8 @@ ghost use Rattle.candidates.specs.LabelWalk.{Within};
 ghost use Rattle.candidates.specs.Slots.{slotCount};
 ghost use Rattle.candidates.specs.Tally.{EndsInside, TallyIs, EndsTallied, BodiesTallied};
 ghost use Rattle.steps.specs.Rows.{rowBytes, mostRows, PutRowIs, prefixKind, PrefixRowIs, PutRepeatedIs, rootOf, isTrivial, isFailing, behindPiece, RepeatedIs, ScanIs, QuietIs};
-use crate::same::same_term;
+use crate::same::MATCH;
+use crate::same::same_branch;
 use candidates::bodies::arities_of;
 use candidates::bodies::body_of;
 use candidates::bodies::call_at;
@@ -32,9 +33,7 @@ pub const REPEATED: u8 = 4;
 // Added to the kind of a row whose candidate stands beneath a match of two free names: the row does not say its condition.
 pub const MATCHED: u8 = 4;
 
-// The bytes of a match and of a choice.
-const MATCH: u8 = 5;
-
+// The byte of a choice.
 const CHOICE: u8 = 6;
 
 // No part has more visible candidates.
@@ -171,7 +170,8 @@ fn behind_piece(
     end_at(tally, p)
 }
 
-// Whether the term at `at` is equal to an earlier branch of its choice, which begins at `root`: by the slots of their names.
+// Whether the term at `at` is equal to an earlier branch of its choice, which begins at `root`: by the slots of their names, those of a match
+// above it in either order.
 fn is_repeated(
     question: &[u8],
     src: &[u8],
@@ -190,8 +190,7 @@ fn is_repeated(
     while p < at {
         // A byte 06 and another form differ at once.
         if src[p] == t {
-            let n = same_term(src, p, at, arities_of(question), args, inner, depth);
-            if 0 < n {
+            if same_branch(src, p, at, arities_of(question), args, inner, depth) {
                 return true;
             }
         }

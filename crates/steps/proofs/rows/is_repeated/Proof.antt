@@ -1,4 +1,6 @@
 -- `steps::rows::is_repeated` meets its contract. Assumes nothing.
+use mathlib.Core.Path.{subst}
+use Rattle.steps.specs.Same.{SameBranchIs}
 use borrow.Author.Needs.{needs}
 use native.Mathlib.Omega.{arith}
 use Prim.Native.Nat.{_-_}
@@ -13,43 +15,33 @@ Inv-loop question src tally root at args inner depth t p₀ p = EndsTallied ques
 abbrev μ-loop : tie.MeasureT-loop
 μ-loop question src tally root at args inner depth t p₀ p = at - p
 
--- src/rows.rt:188:13
 shared-slice-read-t : tie.Need-shared-slice-read-t Inv-loop μ-loop
 shared-slice-read-t c = search needs
 
--- src/rows.rt:190:5
 loop-holds : tie.Need-loop-holds Inv-loop μ-loop
 loop-holds c = let a = c .before .before .before .before .before .args in let q = c .before .before .before .before .before .pre in λ T. ahead-start (a .question .now) (a .src .now) (a .tally .now) (a .args .now) (a .inner) (a .depth) (a .root) (a .at)
 
--- src/rows.rt:192:12
 shared-slice-read-if1 : tie.Need-shared-slice-read-if1 Inv-loop μ-loop
 shared-slice-read-if1 c = omega (arith, c .before .loop-test .taken, c .before .before .before .before .before .before .before .before .pre .0)
 
--- src/rows.rt:193:43
 arities-of-requires : tie.Need-arities-of-requires Inv-loop μ-loop
 arities-of-requires c κs = search needs
 
--- src/rows.rt:193:17
-same-term-requires : tie.Need-same-term-requires Inv-loop μ-loop
-same-term-requires c κs = let a = c .before .before .before .before .before .before .before .before .before .before .args in let q = c .before .before .before .before .before .before .before .before .before .before .pre in (c .before .before .before .loop-test .taken, q .2, q .3)
+same-branch-requires : tie.Need-same-branch-requires Inv-loop μ-loop
+same-branch-requires c κs = let a = c .before .before .before .before .before .before .before .before .before .before .args in let q = c .before .before .before .before .before .before .before .before .before .before .pre in (c .before .before .before .loop-test .taken, q .2, q .3)
 
--- src/rows.rt:195:17
 returns : tie.Need-returns Inv-loop μ-loop
-returns c = let a = c .before .before .before .before .before .before .before .before .before .before .before .before .args in let q = c .before .before .before .before .before .before .before .before .before .before .before .before .pre in λ T. repeated-found (a .question .now) (a .src .now) (a .tally .now) (a .args .now) (a .inner) (a .depth) (a .root) (a .at) T (c .before .before .before .before .before .before .loop .p) (c .before .before .before .before .before .loop-test .taken) (c .before .before .before .before .before .before .loop .inv T) (c .before .before .arities-of .result .now) (c .before .before .arities-of .ensures) (c .before .same-term .result) (c .if2 .taken) (c .before .same-term .ensures) (c .before .before .before .if1 .taken)
+returns c = let a = c .before .before .before .before .before .before .before .before .before .before .before .before .args in let q = c .before .before .before .before .before .before .before .before .before .before .before .before .pre in λ T. repeated-found (a .question .now) (a .src .now) (a .tally .now) (a .args .now) (a .inner) (a .depth) (a .root) (a .at) T (c .before .before .before .before .before .before .loop .p) (c .before .before .before .before .before .loop-test .taken) (c .before .before .before .before .before .before .loop .inv T) (c .before .before .arities-of .result .now) (c .before .before .arities-of .ensures) (subst (SameBranchIs (a .src .now) (c .before .before .before .before .before .before .loop .p) (a .at) (c .before .before .arities-of .result .now) (a .args .now) (a .inner) (a .depth)) (c .if2 .taken) (c .before .same-branch .ensures)) (c .before .before .before .if1 .taken)
 
--- src/rows.rt:198:9
 behind-piece-requires : tie.Need-behind-piece-requires Inv-loop μ-loop
 behind-piece-requires c κs = let a = c .before .before .before .before .before .before .before .before .before .args in let q = c .before .before .before .before .before .before .before .before .before .pre in let r = q .3 in (omega (arith, c .before .before .loop-test .taken, q .0), q .2, omega arith)
 
--- src/rows.rt:190:5
 loop-less : tie.Need-loop-less Inv-loop μ-loop
 loop-less c = let a = c .before .before .before .before .before .before .before .before .before .before .args in let q = c .before .before .before .before .before .before .before .before .before .before .pre in let h = behind-on (a .src .now) (a .tally .now) (a .args .now) (a .inner) (a .depth) (c .before .before .before .before .loop .p) (q .1) (omega (arith, c .before .before .before .loop-test .taken, q .0)) in omega (arith, c .before .before .before .loop-test .taken, c .behind-piece .ensures)
 
--- src/rows.rt:190:5
 loop-again : tie.Need-loop-again Inv-loop μ-loop
 loop-again c = let a = c .before .before .before .before .before .before .before .before .before .before .args in let q = c .before .before .before .before .before .before .before .before .before .before .pre in λ T. ahead-next (a .question .now) (a .src .now) (a .tally .now) (a .args .now) (a .inner) (a .depth) (a .root) (a .at) T (c .before .before .before .before .loop .p) (c .before .before .before .loop-test .taken) (c .before .before .before .before .loop .inv T) (c .behind-piece .result) (c .behind-piece .ensures)
 
--- src/rows.rt:175:1
 returns-2 : tie.Need-returns-2 Inv-loop μ-loop
 returns-2 c = let a = c .before .before .before .before .before .before .before .args in let q = c .before .before .before .before .before .before .before .pre in λ T. repeated-none (a .question .now) (a .src .now) (a .tally .now) (a .args .now) (a .inner) (a .depth) (a .root) (a .at)
 
@@ -63,7 +55,7 @@ is-repeated-spec =
     loop-holds
     shared-slice-read-if1
     arities-of-requires
-    same-term-requires
+    same-branch-requires
     returns
     behind-piece-requires
     loop-less

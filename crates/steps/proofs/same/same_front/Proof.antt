@@ -8,39 +8,30 @@ use borrow.Author.Needs.{needs}
 use Rattle.steps.proofs.same.same_front.Statement.{statement}
 use Rattle.steps.proofs.same.same_front.Tie as tie
 
--- src/same.rt:54:29
 add-room : tie.Need-add-room
 add-room c = search needs
 
--- src/same.rt:54:9
 room-requires : tie.Need-room-requires
 room-requires c κs = search needs
 
--- src/same.rt:55:9
 returns : tie.Need-returns
 returns c = λ e. let z : _≡_ {A = ℕ} 0 1 = cc in absurd (omega arith)
 
--- src/same.rt:57:9
 alike-requires : tie.Need-alike-requires
 alike-requires c κs = let a = c .before .before .before .before .args in let r = leb-true (a .at + (a .fixed + a .names)) (length (a .src .now)) (sym (c .before .room .ensures) ∙ not-false _ (c .if1 .left)) in (omega arith, omega arith)
 
--- src/same.rt:58:9
 returns-2 : tie.Need-returns-2
 returns-2 c = λ e. let z : _≡_ {A = ℕ} 0 1 = cc in absurd (omega arith)
 
--- src/same.rt:62:9
 add-same-names : tie.Need-add-same-names
 add-same-names c = let a = c .before .before .before .before .before .before .args in let r = leb-true (a .at + (a .fixed + a .names)) (length (a .src .now)) (sym (c .before .before .before .room .ensures) ∙ not-false _ (c .before .before .if1 .left)) in omega arith
 
--- src/same.rt:63:9
 add-same-names-2 : tie.Need-add-same-names-2
 add-same-names-2 c = let a = c .before .before .before .before .before .before .args in let r = leb-true (a .at + (a .fixed + a .names)) (length (a .src .now)) (sym (c .before .before .before .room .ensures) ∙ not-false _ (c .before .before .if1 .left)) in omega arith
 
--- src/same.rt:60:5
 same-names-requires : tie.Need-same-names-requires
 same-names-requires c κs = let a = c .before .before .before .before .before .before .args in let r = leb-true (a .at + (a .fixed + a .names)) (length (a .src .now)) (sym (c .before .before .before .room .ensures) ∙ not-false _ (c .before .before .if1 .left)) in (omega arith, omega arith, search needs, search needs)
 
--- src/same.rt:41:1
 returns-3 : tie.Need-returns-3
 returns-3 c = let a = c .before .before .before .before .before .before .before .args in let r = leb-true (a .at + (a .fixed + a .names)) (length (a .src .now)) (sym (c .before .before .before .before .room .ensures) ∙ not-false _ (c .before .before .before .if1 .left)) in λ e. record { inside = r; bytes = c .before .before .alike .ensures .0 (not-false _ (c .before .if2 .left)); names-are = c .same-names .ensures e }
 

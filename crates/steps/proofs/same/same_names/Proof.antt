@@ -14,51 +14,39 @@ Inv-loop src p at n args inner depth j₀ j = (j ≤ n) × SameNames src args in
 abbrev μ-loop : tie.MeasureT-loop
 μ-loop src p at n args inner depth j₀ j = n - j
 
--- src/same.rt:29:5
 loop-holds : tie.Need-loop-holds Inv-loop μ-loop
 loop-holds c = (search needs, λ j h. absurd (omega arith))
 
--- src/same.rt:30:26
 add-slot : tie.Need-add-slot Inv-loop μ-loop
 add-slot c = search needs
 
--- src/same.rt:30:22
 shared-slice-read-slot : tie.Need-shared-slice-read-slot Inv-loop μ-loop
 shared-slice-read-slot c = search needs
 
--- src/same.rt:30:13
 slot-requires : tie.Need-slot-requires Inv-loop μ-loop
 slot-requires c κs = search needs
 
--- src/same.rt:31:26
 add-slot-2 : tie.Need-add-slot-2 Inv-loop μ-loop
 add-slot-2 c = search needs
 
--- src/same.rt:31:22
 shared-slice-read-slot-2 : tie.Need-shared-slice-read-slot-2 Inv-loop μ-loop
 shared-slice-read-slot-2 c = search needs
 
--- src/same.rt:31:13
 slot-requires-2 : tie.Need-slot-requires-2 Inv-loop μ-loop
 slot-requires-2 c κs = search needs
 
--- src/same.rt:33:13
 returns : tie.Need-returns Inv-loop μ-loop
 returns c = λ e. let z : _≡_ {A = ℕ} 0 1 = cc in absurd (omega arith)
 
--- src/same.rt:35:9
 add-j : tie.Need-add-j Inv-loop μ-loop
 add-j c = search needs
 
--- src/same.rt:29:5
 loop-less : tie.Need-loop-less Inv-loop μ-loop
 loop-less c = search needs
 
--- src/same.rt:29:5
 loop-again : tie.Need-loop-again Inv-loop μ-loop
 loop-again c = let a = c .before .before .before .before .before .before .before .before .before .args in (search needs, names-more (a .src .now) (a .args .now) (a .inner) (a .depth) (a .p) (a .at) (c .before .before .before .before .before .before .loop .j) (c .before .before .before .before .before .before .loop .inv .1) (sym (c .before .before .before .slot .ensures) ∙ c .if1 .left ∙ c .before .slot2 .ensures))
 
--- src/same.rt:16:1
 returns-2 : tie.Need-returns-2 Inv-loop μ-loop
 returns-2 c = let a = c .before .before .before .before .args in let e : c .before .loop .j ≡ a .n = omega (arith, c .before .loop .inv .0, c .loop-test .left) in λ _. subst (λ (k : ℕ). SameNames (a .src .now) (a .args .now) (a .inner) (a .depth) (a .p) (a .at) k) e (c .before .loop .inv .1)
 
