@@ -136,22 +136,11 @@ octet-is fs k a b c d e f g h ia ib ic id ie jf ig ih D q =
       ih .is (small (8 * k + 7)),
     ))
 
--- the byte of eight flags that are not set
-word-none : (fs : List ℕ) (at w : ℕ) → w ≡ wordAt fs at → w ≡ 0
+-- four flags that are not set
+pub word-none : (fs : List ℕ) (at w : ℕ) → w ≡ wordAt fs at → w ≡ 0
     → (getD fs at 0 ≡ 0) × (getD fs (at + 1) 0 ≡ 0) × (getD fs (at + 2) 0 ≡ 0) × (getD fs (at + 3) 0 ≡ 0)
 unfolding wordAt
 word-none fs at w e z = (omega arith, omega arith, omega arith, omega arith)
-
-pub octet-none : (fs : List ℕ) (k low high : ℕ) → WordIs fs (8 * k) low → WordIs fs (8 * k + 4) high → low + high ≡ 0 → OctetIs fs k 0
-unfolding OctetIs octet
-octet-none fs k low high l h z D q =
-    let (a, b, c, d) = word-none fs (8 * k) low (l .is) (omega arith) in
-    let (e, f, g, i) = word-none fs (8 * k + 4) high (h .is) (omega arith) in
-    let n : 8 * k + 0 ≡ 8 * k = omega arith in
-    let r : 8 * k + 5 ≡ 8 * k + 4 + 1 = omega arith in
-    let s : 8 * k + 6 ≡ 8 * k + 4 + 2 = omega arith in
-    let t : 8 * k + 7 ≡ 8 * k + 4 + 3 = omega arith in
-    rw (n, r, s, t, a, b, c, d, e, f, g, i)
 
 -- Fifteen octets.
 pub length-packed : (fs : List ℕ) → length (packed fs) ≡ octets

@@ -8,6 +8,7 @@ pub mod ExploringLaws
 pub mod FieldIsSmallest
 pub mod GrowingLaws
 pub mod Growth
+pub mod KeptFlags
 pub mod KeptListLaws
 pub mod KeptPairs
 pub mod KeyLaws

@@ -14,7 +14,6 @@ use Rattle.steps.specs.Listed.{namesFrom}
 use Rattle.field.specs.PairFlags.{pairCount, pairAt, FirstIs, SecondIs, NumberIs}
 use Rattle.field.specs.Situation.{pairsOf}
 use Rattle.field.specs.Slot.{allPairs}
-use Rattle.field.specs.Update.{rowCount}
 
 -- A test of all numbers below n.
 every : ℕ → (ℕ → Bool) → Bool
@@ -87,39 +86,6 @@ module _ (k : ℕ) (h : k < pairCount) where
 -- no pair stands twice
 pub pair-once : (j k : ℕ) → j < pairCount → k < pairCount → pairAt j .0 ≡ pairAt k .0 → pairAt j .1 ≡ pairAt k .1 → j ≡ k
 pair-once j k l m p q = sym (own-number j l) ∙ ap₂ numbered p q ∙ own-number k m
-
--- the row of a name: the pairs of which it is the smaller one
-rightRow : ℕ → Bool
-rightRow a = leb (getD rows a 0 + (rowCount - a)) pairCount && eqb (getD rows a 0 + (rowCount - a)) (getD rows (a + 1) 0)
-
-all-rows : every rowCount rightRow ≡ true
-unfolding every rightRow rows
-all-rows = refl
-
-pub rows-start : 0 ≡ getD rows 0 0
-unfolding rows
-rows-start = refl
-
-pub rows-end : (a k : ℕ) → a ≡ rowCount → k ≡ getD rows a 0 → k ≡ pairCount
-unfolding rows
-rows-end a k e q = q ∙ ap (λ b. getD rows b 0) e
-
-module _ (a k : ℕ) (h : a < rowCount) (q : k ≡ getD rows a 0) where
-  right-row : (leb (getD rows a 0 + (rowCount - a)) pairCount ≡ true) × (eqb (getD rows a 0 + (rowCount - a)) (getD rows (a + 1) 0) ≡ true)
-  unfolding rightRow
-  right-row =
-      both-true (leb (getD rows a 0 + (rowCount - a)) pairCount) (eqb (getD rows a 0 + (rowCount - a)) (getD rows (a + 1) 0)) (every-at rowCount rightRow all-rows a h)
-
-  pub row-inside : k + (rowCount - a) ≤ pairCount
-  row-inside = omega (arith, leb-true (getD rows a 0 + (rowCount - a)) pairCount (right-row .0))
-
-  pub row-end : k + (rowCount - a) ≡ getD rows (a + 1) 0
-  row-end = omega (arith, eqb-true (getD rows a 0 + (rowCount - a)) (getD rows (a + 1) 0) (right-row .1))
-
-  pub in-row : (i : ℕ) → i < rowCount - a → NumberIs a (a + 1 + i) (k + i)
-  in-row i l =
-      let e : getD rows a 0 + (a + 1 + i - a - 1) ≡ k + i = omega arith in
-      rw e at (number-right a (a + 1 + i) (omega arith) (omega arith))
 
 pub length-pairs : length allPairs ≡ pairCount
 unfolding allPairs pairsOf namesFrom

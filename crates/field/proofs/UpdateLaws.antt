@@ -14,8 +14,6 @@ use Rattle.calculus.specs.Free.{fn}
 use Rattle.calculus.specs.OpenBisimulation.{times}
 use Rattle.terms.specs.Limits.{nameCount}
 use Rattle.terms.specs.Operations.{holdsApart}
-use Rattle.terms.proofs.Filling.{Filling}
-use Rattle.terms.proofs.Stores.{sets-more, run-whole}
 use Rattle.steps.specs.Listed.{ListedStep, namesFrom, classIn}
 use Rattle.field.specs.Entry.{EntryAt, ClassOfIs, TrivialIs}
 use Rattle.field.specs.NameFlags.{HasNames}
@@ -23,12 +21,12 @@ use Rattle.field.specs.PairFlags.{pairCount, pairAt, AddsPair, NoneApart
 use Rattle.field.specs.Situation.{freeFrom, pairsOf, situation}
 use Rattle.field.specs.Slot.{allPairs, flag, flagsOf}
 use Rattle.field.specs.Successors.{extrudedBy, updatedBy}
-use Rattle.field.specs.Update.{AddsIfFree, AddsRow, AddsExtruded, AddsRewritten, RewritesPairs, UpdatedIs, rowCount, ifFree, keptRow, KeptIs}
+use Rattle.field.specs.Update.{AddsIfFree, AddsRow, AddsExtruded, AddsRewritten, RewritesPairs, UpdatedIs, ifFree, keptFlag, keptFlags, KeptIs}
 use Rattle.field.proofs.EntryLaws.{entry-kind, entry-object}
 use Rattle.field.proofs.KeptPairs.{keep-drop, situation-kept, kept-holds, flags-rewritten, none-rewritten}
 use Rattle.field.proofs.PairLaws.{length-flags, flag-at, flags-are}
-use Rattle.field.proofs.PairTables.{rows, pair-ordered, pair-below, row-inside, in-row, length-pairs}
-use Rattle.field.proofs.Runs.{length-mapped, mapped-at, fill-run, fill-past}
+use Rattle.field.proofs.PairTables.{pair-ordered, pair-below, length-pairs}
+use Rattle.field.proofs.Runs.{length-mapped, mapped-at}
 
 -- no flag is set at first
 pub no-pairs : replicate pairCount 0 ≡ flagsOf []
@@ -189,67 +187,16 @@ updated-none flags free area at more a r n q G D s h e f =
     let m : more ≡ flagsOf E = a G D s h e f in
     flags-are [] more (ap length m ∙ length-flags E) (n q) ∙ none-rewritten area at s f E (λ k l. pair-off more k l E m (n q k l))
 
--- A flag of a name that is free, or not.
-pub free-not : (free v : ℕ) → free ≡ 0 → ifFree free v ≡ 0
-unfolding ifFree
-free-not free v z = rw (eq-eqb free 0 z)
+-- The flags of the pairs of which both names are free.
+pub kept-at : (flags free : List ℕ) (i : ℕ) → i < pairCount → getD (keptFlags flags free) i 0 ≡ keptFlag flags free i
+unfolding keptFlags
+kept-at flags free i h = mapped-at (keptFlag flags free) pairCount i h
 
-pub free-so : (free v : ℕ) → (free ≡ 0 → ⊥) → ifFree free v ≡ v
-unfolding ifFree
-free-so free v z = rw (ne-eqb free 0 z)
-
--- A row of pairs, as the code makes it.
-kept-row-at : (flags free : List ℕ) (a k i : ℕ) → i < rowCount - a
-    → getD (keptRow flags free a k) i 0 ≡ ifFree (getD free (a + 1 + i) 0) (getD flags (k + i) 0)
-unfolding keptRow
-kept-row-at flags free a k i h = mapped-at (λ j. ifFree (getD free (a + 1 + j) 0) (getD flags (k + j) 0)) (rowCount - a) i h
-
-length-kept-row : (flags free : List ℕ) (a k : ℕ) → length (keptRow flags free a k) ≡ rowCount - a
-unfolding keptRow
-length-kept-row flags free a k = length-mapped (λ j. ifFree (getD free (a + 1 + j) 0) (getD flags (k + j) 0)) (rowCount - a)
-
-pub kept-row-next : (flags free new₀ : List ℕ) (a k : ℕ) (new : List ℕ) (i b : ℕ) → i < rowCount - a → new ≡ sets new₀ k (take i (keptRow flags free a k))
-    → b ≡ ifFree (getD free (a + 1 + i) 0) (getD flags (k + i) 0) → set new (k + i) b ≡ sets new₀ k (take (i + 1) (keptRow flags free a k))
-kept-row-next flags free new₀ a k new i b h so e =
-    let v : b ≡ getD (keptRow flags free a k) i 0 = e ∙ sym (kept-row-at flags free a k i h) in
-    rw (so, v) (sets-more new₀ (keptRow flags free a k) k i (omega (arith, length-kept-row flags free a k)))
-
-pub kept-row-whole : (flags free new₀ : List ℕ) (a k : ℕ) (new : List ℕ) (i : ℕ) → rowCount - a ≤ i → new ≡ sets new₀ k (take i (keptRow flags free a k))
-    → new ≡ sets new₀ k (keptRow flags free a k)
-kept-row-whole flags free new₀ a k new i h so = run-whole new₀ (keptRow flags free a k) k i new (omega (arith, length-kept-row flags free a k)) so
-
--- The flag of pair k, if both names are free.
-unfoldable pub keptFlag : List ℕ → List ℕ → ℕ → ℕ
-keptFlag flags free k = ifFree (getD free (pairAt k .0) 0) (ifFree (getD free (pairAt k .1) 0) (getD flags k 0))
-
-module _ (flags free new₀ new : List ℕ) (a k : ℕ) (l : a < rowCount) (q : k ≡ getD rows a 0) (n : new₀ ≡ replicate pairCount 0)
-    (F : Filling (keptFlag flags free) new₀ new k) where
-  pub row-none : getD free a 0 ≡ 0 → Filling (keptFlag flags free) new₀ new (k + (rowCount - a))
-  unfolding keptFlag ifFree
-  row-none z = fill-past (keptFlag flags free) new₀ new k (rowCount - a) same F
-    where
-      same : (i : ℕ) → i < rowCount - a → getD new₀ (k + i) 0 ≡ keptFlag flags free (k + i)
-      same i h =
-          rw (n, in-row a k l q i h .first, z) (getD-replicate pairCount (k + i) 0 0 (omega (arith, row-inside a k l q)))
-
-  pub row-kept : (getD free a 0 ≡ 0 → ⊥) → Filling (keptFlag flags free) new₀ (sets new k (keptRow flags free a k)) (k + (rowCount - a))
-  unfolding keptFlag ifFree
-  row-kept z =
-      let m = length-kept-row flags free a k in
-      rw (← m)
-      (fill-run (keptFlag flags free) new₀ new k (keptRow flags free a k) (omega (arith, ap length n, length-replicate {A = ℕ} pairCount 0, row-inside a k l q, m))
-      (λ i h. kept-row-at flags free a k i (omega (arith, m)) ∙ own i (omega (arith, m))) F)
-    where
-      own : (i : ℕ) → i < rowCount - a → ifFree (getD free (a + 1 + i) 0) (getD flags (k + i) 0) ≡ keptFlag flags free (k + i)
-      own i h =
-          let b = in-row a k l q i h in
-          rw (b .first, b .second, ne-eqb (getD free a 0) 0 z)
-
--- All of them.
-pub kept-is : (flags free new₀ new : List ℕ) (k : ℕ) → length new₀ ≡ pairCount → k ≡ pairCount → Filling (keptFlag flags free) new₀ new k → KeptIs flags free new
-unfolding KeptIs keptFlag ifFree HasNames flag
-kept-is flags free new₀ new k n e F P Q E h f =
-    flags-are (keep test allPairs) new (F .len ∙ n) (λ i l. F .done i (omega arith) ∙ at i l) ∙ ap flagsOf (situation-kept P Q E)
+pub kept-is : (flags free : List ℕ) → KeptIs flags free (keptFlags flags free)
+unfolding KeptIs keptFlags keptFlag ifFree HasNames flag
+kept-is flags free P Q E h f =
+    flags-are (keep test allPairs) (keptFlags flags free) (length-mapped (keptFlag flags free) pairCount) (λ i l. kept-at flags free i l ∙ at i l)
+    ∙ ap flagsOf (situation-kept P Q E)
   where
     G : List ℕ
     G = fn P ++ fn Q

@@ -2,7 +2,7 @@
 use mathlib.Core.Path.{_≡_}
 use mathlib.Core.Bool.{cond}
 use mathlib.Core.List.{List, [], _∷_, _++_, map}
-use Prim.Native.Nat.{ℕ, _+_, _-_}
+use Prim.Native.Nat.{ℕ}
 use lib.Dec.{eqb}
 use lib.ListN.{getD}
 use Rattle.calculus.specs.Cond.{Pairs, mapP}
@@ -15,7 +15,7 @@ use Rattle.terms.specs.Operations.{holdsApart}
 use Rattle.steps.specs.Listed.{ListedStep, namesFrom, classIn}
 use Rattle.field.specs.Entry.{EntryAt}
 use Rattle.field.specs.NameFlags.{HasNames}
-use Rattle.field.specs.PairFlags.{pairAt}
+use Rattle.field.specs.PairFlags.{pairCount, pairAt}
 use Rattle.field.specs.Situation.{freeFrom, situation}
 use Rattle.field.specs.Slot.{flagsOf}
 use Rattle.field.specs.Successors.{extrudedBy, updatedBy}
@@ -53,17 +53,16 @@ UpdatedIs flags free area at r =
     (G : List ℕ) (D : Pairs) (s : ListedStep) → HasNames free G → flags ≡ flagsOf D → EntryAt area at s
     → r ≡ flagsOf (updatedBy (freeFrom G 0 nameCount) D s)
 
--- how many names are the smaller one of a pair
-abbrev pub rowCount : ℕ
-rowCount = 15
-
 -- a flag if the name is free, else 0
 unfoldable pub ifFree : ℕ → ℕ → ℕ
 ifFree free v = cond (eqb free 0) 0 v
 
--- the flags from k on, of the pairs of which a is the smaller name, without those of which the larger one is not free
-unfoldable pub keptRow : List ℕ → List ℕ → ℕ → ℕ → List ℕ
-keptRow flags free a k = map (λ i. ifFree (getD free (a + 1 + i) 0) (getD flags (k + i) 0)) (namesFrom 0 (rowCount - a))
+-- the flag of pair k, if both its names are free
+unfoldable pub keptFlag : List ℕ → List ℕ → ℕ → ℕ
+keptFlag flags free k = ifFree (getD free (pairAt k .0) 0) (ifFree (getD free (pairAt k .1) 0) (getD flags k 0))
+
+unfoldable pub keptFlags : List ℕ → List ℕ → List ℕ
+keptFlags flags free = map (keptFlag flags free) (namesFrom 0 pairCount)
 
 -- Those of E are kept of which each name is free in at least one part.
 unfoldable pub KeptIs : List ℕ → List ℕ → List ℕ → Type 0

@@ -17,7 +17,6 @@ use crate::slots::OCTETS;
 use crate::slots::PART_BYTES;
 use crate::slots::pack;
 use crate::slots::part_at;
-use crate::update::kept;
 use crate::update::updated;
 use terms::bytes::copy;
 use terms::limits::NAME_COUNT;
@@ -98,8 +97,7 @@ pub fn complete(key: &mut [u8], arities: &[u8], apart: [u8; PAIR_COUNT])
         return;
     }
     let free = free_of_parts(key, arities);
-    let flags = kept(&apart, &free);
-    pack(&flags, key, BITS);
+    pack(&apart, &free, key, BITS);
 }
 
 // The key of the situation that the answer at `place` to the step at `at` leads to; `second`: the second side makes the step.

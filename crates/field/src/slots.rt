@@ -6,8 +6,11 @@ ghost use lib.Seq.{sets};
 ghost use Rattle.field.specs.Key.{PartIs, FirstPartIs, SecondPartIs, ApartFlagsIs, BitIs, OctetIs, Packs, bitsOf, Unpacks};
 ghost use Rattle.field.specs.PairFlags.{pairCount};
 ghost use Rattle.field.specs.Slot.{octets, keyBytes};
+ghost use Rattle.field.specs.Update.{keptFlags};
 use crate::chains::word;
 use crate::pairs::PAIR_COUNT;
+use crate::pairs::first_of;
+use crate::pairs::second_of;
 use terms::bytes::get;
 
 // A part and its length.
@@ -46,42 +49,51 @@ pub fn second_part(area: &[u8], at: usize) -> &[u8]
     part_at(area, at + PART_BYTES)
 }
 
-// Flag `i` as a bit.
-fn flag_bit(flags: &[u8], i: usize) -> u8
-    requires { ⌜ i < length (now flags) ⌝ }
-    ensures { λ r. ⌜ BitIs (now (flags .entry)) i r ⌝ }
+// Pair `i` as a bit, if both names are free.
+fn kept_bit(flags: &[u8], free: &[u8], i: usize) -> u8
+    requires { ⌜ (i < pairCount) × (length (now flags) ≡ pairCount) ⌝ }
+    ensures { λ r. ⌜ BitIs (keptFlags (now (flags .entry)) (now (free .entry))) i r ⌝ }
 {
-    if flags[i] == 0 { 0 } else { 1 }
+    if flags[i] == 0 {
+        return 0;
+    }
+    if get(free, first_of(i)) == 0 {
+        return 0;
+    }
+    if get(free, second_of(i)) == 0 {
+        return 0;
+    }
+    1
 }
 
-// Eight flags in a byte, the lowest bit first. Most often none of them is set.
-fn octet(flags: &[u8], k: usize) -> u8
+// Eight pairs in a byte, the lowest bit first, those of which both names are free. Most often none of them is apart.
+fn octet(flags: &[u8], free: &[u8], k: usize) -> u8
     requires { ⌜ (k < octets) × (length (now flags) ≡ pairCount) ⌝ }
-    ensures { λ r. ⌜ OctetIs (now (flags .entry)) k r ⌝ }
+    ensures { λ r. ⌜ OctetIs (keptFlags (now (flags .entry)) (now (free .entry))) k r ⌝ }
 {
     let i = 8 * k;
     if word(flags, i) + word(flags, i + 4) == 0 {
         return 0;
     }
-    let low = flag_bit(flags, i)
-        + 2 * flag_bit(flags, i + 1)
-        + 4 * flag_bit(flags, i + 2)
-        + 8 * flag_bit(flags, i + 3);
-    let high = flag_bit(flags, i + 4)
-        + 2 * flag_bit(flags, i + 5)
-        + 4 * flag_bit(flags, i + 6)
-        + 8 * flag_bit(flags, i + 7);
+    let low = kept_bit(flags, free, i)
+        + 2 * kept_bit(flags, free, i + 1)
+        + 4 * kept_bit(flags, free, i + 2)
+        + 8 * kept_bit(flags, free, i + 3);
+    let high = kept_bit(flags, free, i + 4)
+        + 2 * kept_bit(flags, free, i + 5)
+        + 4 * kept_bit(flags, free, i + 6)
+        + 8 * kept_bit(flags, free, i + 7);
     low + 16 * high
 }
 
-// Writes the flags as bits from `put` on.
-pub fn pack(flags: &[u8], out: &mut [u8], put: usize)
+// Writes the pairs of which both names are free as bits from `put` on.
+pub fn pack(flags: &[u8], free: &[u8], out: &mut [u8], put: usize)
     requires { ⌜ (length (now flags) ≡ pairCount) × (put + octets ≤ length (now out)) ⌝ }
-    ensures { λ _. ⌜ Packs (now (flags .entry)) (now (out .entry)) put (now (out .exit)) ⌝ }
+    ensures { λ _. ⌜ Packs (keptFlags (now (flags .entry)) (now (free .entry))) (now (out .entry)) put (now (out .exit)) ⌝ }
 {
     let mut k = 0;
     while k < OCTETS {
-        let b = octet(flags, k);
+        let b = octet(flags, free, k);
         out[put + k] = b;
         k += 1;
     }

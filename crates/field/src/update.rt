@@ -1,11 +1,10 @@
-// The apart pairs after a step: Definition 15, and cut to the names that are free.
+// The apart pairs after a step: Definition 15.
 ghost use mathlib.Core.Path.{_≡_};
-ghost use Prim.Native.Nat.{_+_, _-_, _<_, _≤_};
-ghost use lib.ListN.{length, replicate};
-ghost use lib.Seq.{sets};
+ghost use Prim.Native.Nat.{_<_, _≤_};
+ghost use lib.ListN.{length};
 ghost use Rattle.terms.specs.Limits.{nameCount};
 ghost use Rattle.field.specs.PairFlags.{pairCount};
-ghost use Rattle.field.specs.Update.{AddsIfFree, AddsRow, AddsExtruded, AddsRewritten, RewritesPairs, UpdatedIs, rowCount, ifFree, keptRow, KeptIs};
+ghost use Rattle.field.specs.Update.{AddsIfFree, AddsRow, AddsExtruded, AddsRewritten, RewritesPairs, UpdatedIs};
 use crate::entries::KIND;
 use crate::entries::OBJECT;
 use crate::entries::class_of;
@@ -17,9 +16,6 @@ use crate::pairs::none_apart;
 use crate::pairs::second_of;
 use terms::bytes::get;
 use terms::limits::NAME_COUNT;
-
-// The last name is the smaller one of no pair.
-const ROW_COUNT: usize = 15;
 
 // Holds `x` and `n` apart if `n` is free.
 fn mark_if_free(flags: &mut [u8], free: &[u8], x: usize, n: usize)
@@ -96,52 +92,5 @@ pub fn updated(apart: [u8; PAIR_COUNT], free: &[u8], area: &[u8], at: usize) -> 
     }
     let mut new = [0u8; PAIR_COUNT];
     rewrite(&more, area, at, &mut new);
-    new
-}
-
-// A flag if the name is free, else 0.
-fn if_free(free: u8, flag: u8) -> u8
-    ensures { λ r. ⌜ r ≡ ifFree free flag ⌝ }
-{
-    if free == 0 { 0 } else { flag }
-}
-
-// Puts the pairs of the free name `a`, whose flags begin at `k`, to the new ones if the larger name is free too.
-fn keep_row(flags: &[u8], free: &[u8], a: usize, k: usize, new: &mut [u8])
-    requires { ⌜ (a < rowCount) × (k + (rowCount - a) ≤ pairCount) × (length (now flags) ≡ pairCount) × (length (now free) ≡ nameCount) × (length (now new) ≡ pairCount) ⌝ }
-    ensures { λ _. ⌜ now (new .exit) ≡ sets (now (new .entry)) k (keptRow (now (flags .entry)) (now (free .entry)) a k) ⌝ }
-{
-    let n = ROW_COUNT - a;
-    let mut i = 0;
-    while i < n {
-        let b = if_free(free[a + 1 + i], flags[k + i]);
-        new[k + i] = b;
-        i += 1;
-    }
-}
-
-// The pairs of which both names are free; the rows of the others stay 0.
-fn cut(flags: &[u8], free: &[u8], new: &mut [u8])
-    requires { ⌜ (length (now flags) ≡ pairCount) × (length (now free) ≡ nameCount) × (now new ≡ replicate pairCount 0) ⌝ }
-    ensures { λ _. ⌜ KeptIs (now (flags .entry)) (now (free .entry)) (now (new .exit)) ⌝ }
-{
-    let mut k = 0;
-    let mut a = 0;
-    while a < ROW_COUNT {
-        if free[a] != 0 {
-            keep_row(flags, free, a, k, new);
-        }
-        k += ROW_COUNT - a;
-        a += 1;
-    }
-}
-
-// The apart pairs of a situation: those of which each name is free in at least one part.
-pub fn kept(flags: &[u8], free: &[u8]) -> [u8; PAIR_COUNT]
-    requires { ⌜ (length (now flags) ≡ pairCount) × (length (now free) ≡ nameCount) ⌝ }
-    ensures { λ r. ⌜ KeptIs (now (flags .entry)) (now (free .entry)) r ⌝ }
-{
-    let mut new = [0u8; PAIR_COUNT];
-    cut(flags, free, &mut new);
     new
 }

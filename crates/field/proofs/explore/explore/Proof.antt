@@ -94,7 +94,7 @@ loop-less : tie.Need-loop-less Inv-loop μ-loop
 loop-less c = search needs
 
 loop-again : tie.Need-loop-again Inv-loop μ-loop
-loop-again c = 
+loop-again c =
     let g = rw (c .before .growth .given .1) at (c .before .before .before .before .before .before .before .before .before .before .before .before .before .grow .ensures .0) in
     let b = g .grows .within _ refl in (
       omega (arith, b .0, c .before .before .before .before .before .before .before .before .before .before .before .before .before .before .before .before .before .before .before .loop-test .taken),

@@ -1,5 +1,6 @@
 -- `field::results::complete` meets its contract. Assumes nothing.
 use Rattle.field.proofs.LeadingLaws.{completes, completes-none}
+use Rattle.field.proofs.UpdateLaws.{kept-is}
 use borrow.Author.Needs.{needs}
 use Rattle.field.proofs.results.complete.Statement.{statement}
 use Rattle.field.proofs.results.complete.Tie as tie
@@ -25,17 +26,11 @@ returns c = completes-none _ _ _ _ _ (c .before .before .before .before .before 
 free-of-parts-requires : tie.Need-free-of-parts-requires
 free-of-parts-requires c κs = search needs
 
-slice-aggregate-kept : tie.Need-slice-aggregate-kept
-slice-aggregate-kept c = search needs
-
-slice-aggregate-kept-2 : tie.Need-slice-aggregate-kept-2
-slice-aggregate-kept-2 c = search needs
-
-kept-requires : tie.Need-kept-requires
-kept-requires c κs = search needs
-
 slice-aggregate-pack : tie.Need-slice-aggregate-pack
 slice-aggregate-pack c = search needs
+
+slice-aggregate-pack-2 : tie.Need-slice-aggregate-pack-2
+slice-aggregate-pack-2 c = search needs
 
 pack-requires : tie.Need-pack-requires
 pack-requires c κs = search needs
@@ -44,7 +39,7 @@ same-length-2 : tie.Need-same-length-2
 same-length-2 c = search needs
 
 returns-2 : tie.Need-returns-2
-returns-2 c = completes _ _ _ _ _ _ (c .before .before .before .before .before .before .before .before .free-of-parts .ensures) (c .before .before .before .before .before .kept .ensures) (c .before .before .pack .ensures)
+returns-2 c = completes _ _ _ _ _ _ (c .before .before .before .before .before .before .free-of-parts .ensures) (kept-is _ _) (c .before .before .pack .ensures)
 
 pub complete-spec : {M : Type 1} → statement M
 complete-spec =
@@ -57,10 +52,8 @@ complete-spec =
     same-length
     returns
     free-of-parts-requires
-    slice-aggregate-kept
-    slice-aggregate-kept-2
-    kept-requires
     slice-aggregate-pack
+    slice-aggregate-pack-2
     pack-requires
     same-length-2
     returns-2)

@@ -1,5 +1,7 @@
 -- `field::slots::octet` meets its contract. Assumes nothing.
-use Rattle.field.proofs.KeyLaws.{octet-none, octet-is}
+use native.Mathlib.Omega.{arith}
+use Rattle.field.proofs.KeptFlags.{octet-none}
+use Rattle.field.proofs.KeyLaws.{octet-is}
 use borrow.Author.Needs.{needs}
 use Rattle.field.proofs.slots.octet.Statement.{statement}
 use Rattle.field.proofs.slots.octet.Tie as tie
@@ -20,16 +22,16 @@ add-if1 : tie.Need-add-if1
 add-if1 c = search needs
 
 returns : tie.Need-returns
-returns c = octet-none _ _ _ _ (c .before .before .word .ensures) (c .before .word2 .ensures) (c .if1 .taken)
+returns c = octet-none _ _ _ _ _ (omega arith) (c .before .before .word .ensures) (c .before .word2 .ensures) (c .if1 .taken)
 
-flag-bit-requires : tie.Need-flag-bit-requires
-flag-bit-requires c κs = search needs
+kept-bit-requires : tie.Need-kept-bit-requires
+kept-bit-requires c κs = search needs
 
-add-flag-bit : tie.Need-add-flag-bit
-add-flag-bit c = search needs
+add-kept-bit : tie.Need-add-kept-bit
+add-kept-bit c = search needs
 
-flag-bit-requires-2 : tie.Need-flag-bit-requires-2
-flag-bit-requires-2 c κs = search needs
+kept-bit-requires-2 : tie.Need-kept-bit-requires-2
+kept-bit-requires-2 c κs = search needs
 
 mul-low : tie.Need-mul-low
 mul-low c = search needs
@@ -37,11 +39,11 @@ mul-low c = search needs
 add-low : tie.Need-add-low
 add-low c = search needs
 
-add-flag-bit-2 : tie.Need-add-flag-bit-2
-add-flag-bit-2 c = search needs
+add-kept-bit-2 : tie.Need-add-kept-bit-2
+add-kept-bit-2 c = search needs
 
-flag-bit-requires-3 : tie.Need-flag-bit-requires-3
-flag-bit-requires-3 c κs = search needs
+kept-bit-requires-3 : tie.Need-kept-bit-requires-3
+kept-bit-requires-3 c κs = search needs
 
 mul-low-2 : tie.Need-mul-low-2
 mul-low-2 c = search needs
@@ -49,11 +51,11 @@ mul-low-2 c = search needs
 add-low-2 : tie.Need-add-low-2
 add-low-2 c = search needs
 
-add-flag-bit-3 : tie.Need-add-flag-bit-3
-add-flag-bit-3 c = search needs
+add-kept-bit-3 : tie.Need-add-kept-bit-3
+add-kept-bit-3 c = search needs
 
-flag-bit-requires-4 : tie.Need-flag-bit-requires-4
-flag-bit-requires-4 c κs = search needs
+kept-bit-requires-4 : tie.Need-kept-bit-requires-4
+kept-bit-requires-4 c κs = search needs
 
 mul-low-3 : tie.Need-mul-low-3
 mul-low-3 c = search needs
@@ -61,17 +63,17 @@ mul-low-3 c = search needs
 add-low-3 : tie.Need-add-low-3
 add-low-3 c = search needs
 
-add-flag-bit-4 : tie.Need-add-flag-bit-4
-add-flag-bit-4 c = search needs
+add-kept-bit-4 : tie.Need-add-kept-bit-4
+add-kept-bit-4 c = search needs
 
-flag-bit-requires-5 : tie.Need-flag-bit-requires-5
-flag-bit-requires-5 c κs = search needs
+kept-bit-requires-5 : tie.Need-kept-bit-requires-5
+kept-bit-requires-5 c κs = search needs
 
-add-flag-bit-5 : tie.Need-add-flag-bit-5
-add-flag-bit-5 c = search needs
+add-kept-bit-5 : tie.Need-add-kept-bit-5
+add-kept-bit-5 c = search needs
 
-flag-bit-requires-6 : tie.Need-flag-bit-requires-6
-flag-bit-requires-6 c κs = search needs
+kept-bit-requires-6 : tie.Need-kept-bit-requires-6
+kept-bit-requires-6 c κs = search needs
 
 mul-high : tie.Need-mul-high
 mul-high c = search needs
@@ -79,11 +81,11 @@ mul-high c = search needs
 add-high : tie.Need-add-high
 add-high c = search needs
 
-add-flag-bit-6 : tie.Need-add-flag-bit-6
-add-flag-bit-6 c = search needs
+add-kept-bit-6 : tie.Need-add-kept-bit-6
+add-kept-bit-6 c = search needs
 
-flag-bit-requires-7 : tie.Need-flag-bit-requires-7
-flag-bit-requires-7 c κs = search needs
+kept-bit-requires-7 : tie.Need-kept-bit-requires-7
+kept-bit-requires-7 c κs = search needs
 
 mul-high-2 : tie.Need-mul-high-2
 mul-high-2 c = search needs
@@ -91,11 +93,11 @@ mul-high-2 c = search needs
 add-high-2 : tie.Need-add-high-2
 add-high-2 c = search needs
 
-add-flag-bit-7 : tie.Need-add-flag-bit-7
-add-flag-bit-7 c = search needs
+add-kept-bit-7 : tie.Need-add-kept-bit-7
+add-kept-bit-7 c = search needs
 
-flag-bit-requires-8 : tie.Need-flag-bit-requires-8
-flag-bit-requires-8 c κs = search needs
+kept-bit-requires-8 : tie.Need-kept-bit-requires-8
+kept-bit-requires-8 c κs = search needs
 
 mul-high-3 : tie.Need-mul-high-3
 mul-high-3 c = search needs
@@ -110,7 +112,7 @@ add-result : tie.Need-add-result
 add-result c = search needs
 
 returns-2 : tie.Need-returns-2
-returns-2 c = octet-is _ _ _ _ _ _ _ _ _ _ (c .before .before .before .before .before .before .before .flag-bit .ensures) (c .before .before .before .before .before .before .flag-bit2 .ensures) (c .before .before .before .before .before .flag-bit3 .ensures) (c .before .before .before .before .flag-bit4 .ensures) (c .before .before .before .flag-bit5 .ensures) (c .before .before .flag-bit6 .ensures) (c .before .flag-bit7 .ensures) (c .flag-bit8 .ensures)
+returns-2 c = octet-is _ _ _ _ _ _ _ _ _ _ (c .before .before .before .before .before .before .before .kept-bit .ensures) (c .before .before .before .before .before .before .kept-bit2 .ensures) (c .before .before .before .before .before .kept-bit3 .ensures) (c .before .before .before .before .kept-bit4 .ensures) (c .before .before .before .kept-bit5 .ensures) (c .before .before .kept-bit6 .ensures) (c .before .kept-bit7 .ensures) (c .kept-bit8 .ensures)
 
 pub octet-spec : {M : Type 1} → statement M
 octet-spec =
@@ -122,31 +124,31 @@ octet-spec =
     word-requires-2
     add-if1
     returns
-    flag-bit-requires
-    add-flag-bit
-    flag-bit-requires-2
+    kept-bit-requires
+    add-kept-bit
+    kept-bit-requires-2
     mul-low
     add-low
-    add-flag-bit-2
-    flag-bit-requires-3
+    add-kept-bit-2
+    kept-bit-requires-3
     mul-low-2
     add-low-2
-    add-flag-bit-3
-    flag-bit-requires-4
+    add-kept-bit-3
+    kept-bit-requires-4
     mul-low-3
     add-low-3
-    add-flag-bit-4
-    flag-bit-requires-5
-    add-flag-bit-5
-    flag-bit-requires-6
+    add-kept-bit-4
+    kept-bit-requires-5
+    add-kept-bit-5
+    kept-bit-requires-6
     mul-high
     add-high
-    add-flag-bit-6
-    flag-bit-requires-7
+    add-kept-bit-6
+    kept-bit-requires-7
     mul-high-2
     add-high-2
-    add-flag-bit-7
-    flag-bit-requires-8
+    add-kept-bit-7
+    kept-bit-requires-8
     mul-high-3
     add-high-3
     mul-result

@@ -1,19 +1,20 @@
 -- `field::slots::pack` meets its contract. Assumes nothing.
 use native.Mathlib.Omega.{arith}
-use borrow.Author.Needs.{needs}
 use mathlib.Core.Path.{_≡_, refl}
 use Prim.Native.Nat.{_-_, _≤_}
 use lib.ListN.{length}
 use Rattle.field.specs.Slot.{octets}
+use Rattle.field.specs.Update.{keptFlags}
 use Rattle.field.proofs.KeyLaws.{Packing, packing-next, packing-whole}
+use borrow.Author.Needs.{needs}
 use Rattle.field.proofs.slots.pack.Statement.{statement}
 use Rattle.field.proofs.slots.pack.Tie as tie
 
 abbrev Inv-loop : tie.InvT-loop
-Inv-loop flags out₀ put k₀ out k = (k ≤ octets) × (length out ≡ length out₀) × Packing flags out₀ put out k
+Inv-loop flags free out₀ put k₀ out k = (k ≤ octets) × (length out ≡ length out₀) × Packing (keptFlags flags free) out₀ put out k
 
 abbrev μ-loop : tie.MeasureT-loop
-μ-loop flags out₀ put k₀ out k = octets - k
+μ-loop flags free out₀ put k₀ out k = octets - k
 
 loop-holds : tie.Need-loop-holds Inv-loop μ-loop
 loop-holds c = (search needs, search needs, λ D e. refl)
