@@ -56,18 +56,6 @@ module _ (names : ℕ) (P Q : Term) (below : (n : ℕ) → Either n P Q → n < 
   new-free f =
       missing-new (fn P ++ fn Q) 0 names (λ m i. let l = below m (fn→either m P Q i) in omega arith) (either→fn (newName names P Q) P Q f)
 
-  -- It is the one behind the names exactly if all of them are free.
-  pub all-free : (newName names P Q ≡ names) ↔ ((n : ℕ) → n < names → Either n P Q)
-  unfolding newName
-  all-free = (
-    λ e n l. fn→either n P Q (missing-none (fn P ++ fn Q) 0 names (let z : 0 + names ≡ names = omega arith in e ∙ sym z) n (omega arith) (omega arith)),
-    λ h. go h (decLt (newName names P Q) names),
-  )
-    where
-      go : ((n : ℕ) → n < names → Either n P Q) → Dec (newName names P Q < names) → newName names P Q ≡ names
-      go h (yes l) = absurd (new-free (h (newName names P Q) l))
-      go h (no l) = let w = new-within in omega arith
-
 -- The new name of a proper situation is away from it.
 pub new-away : (names : ℕ) (arities : List ℕ) (s : Situation) → Proper names arities s
     → AwayFrom (newName names (s .first) (s .second)) (s .first) (s .second) (s .apart)

@@ -1,12 +1,12 @@
 -- The list of the classes of the names below a number is the condition, where that matches no other names. Assumes nothing.
 use mathlib.Core.List.{map}
-use mathlib.Core.Path.{_≡_, refl, sym, _∙_, ap, fun-ext, subst}
+use mathlib.Core.Path.{_≡_, refl, sym, _∙_, ap, fun-ext}
 use native.Mathlib.Decide.{ℕ-discrete, decLt}
 use native.Mathlib.Omega.{arith}
 use Prim.Native.Nat.{ℕ, zero, suc, _+_, _<_, _≤_}
 use lib.ListN.{length, getD, length-map, List·getD-eq-default}
-use Rattle.calculus.specs.Cond.{Cond, Unif, cls, _~_}
-use Rattle.calculus.proofs.Conditions.{E1, E2, E4, Occ, cls-~}
+use Rattle.calculus.specs.Cond.{Cond, cls}
+use Rattle.calculus.proofs.Conditions.{E1, E4, Occ}
 use Rattle.steps.specs.Listed.{namesFrom, classesOf, classIn}
 
 length-names : (n k : ℕ) → length (namesFrom n k) ≡ k
@@ -54,14 +54,3 @@ class-at names M w n = go (decLt n names)
 -- to rewrite by the list is to rewrite by the condition
 pub class-list : (names : ℕ) (M : Cond) → Within names M → classIn (classesOf names M) ≡ cls M
 class-list names M w = fun-ext (class-at names M w)
-
-pub same-classes : (names : ℕ) (M N : Cond) → M ~ N → classesOf names M ≡ classesOf names N
-unfolding classesOf
-same-classes names M N s = ap (λ f. map f (namesFrom 0 names)) (cls-~ M N s)
-
-same-cls : (M N : Cond) → cls M ≡ cls N → M ~ N
-same-cls M N e = (subst (λ f. Unif f N) (sym e) (E2 N), subst (λ f. Unif f M) e (E2 M))
-
-pub classes-determine : (names : ℕ) (M N : Cond) → Within names M → Within names N → classesOf names M ≡ classesOf names N → M ~ N
-classes-determine names M N v w e =
-    same-cls M N (sym (class-list names M v) ∙ ap classIn e ∙ class-list names N w)

@@ -42,14 +42,6 @@ level-before d (leftOf Q ∷ K) = omega (arith, level-before d K, length-append 
 level-before d (rightOf P ∷ K) = omega (arith, level-before d K, length-append (beforeIn d K) (7 ∷ encode (levelIn d K) P))
 level-before d (beneath ∷ K) = omega (arith, level-before d K, length-append (beforeIn d K) (8 ∷ []))
 
--- The restrictions that stand around the frames are added to those within.
-pub level-from : (d : ℕ) (K : List Frame) → levelIn d K ≡ restrictions K + d
-unfolding levelIn
-level-from d [] = omega arith
-level-from d (leftOf Q ∷ K) = level-from d K
-level-from d (rightOf P ∷ K) = level-from d K
-level-from d (beneath ∷ K) = omega (arith, level-from d K)
-
 -- What is blocked stays so.
 pub raised-blocked : (K : List Frame) → raised K blocked ≡ blocked
 unfolding raised leftSteps rightSteps restricted
@@ -152,26 +144,6 @@ module _ {arities : List ℕ} {body : ℕ → Term} {P : Term} {K : List Frame} 
         visibly = numbered-beneath body false (visible body 1 P) K first C (p .visibly);
         silently = numbered-beneath body true (silent body 1 P) K number C (p .silently);
       }
-
-  -- The communications of a parallel, by their numbers among the part's silent candidates.
-  pub placed-meeting : {L R : Term} → Placed arities body P K (par L R) at depth first number → (v w : ℕ)
-      → v < length (visible body 1 L) → w < length (visible body 1 R)
-      → getD (silent body 1 P) (number + (length (silent body 1 L) + length (silent body 1 R)) + (v * length (visible body 1 R) + w)) blocked
-      ≡ raised K (communication (getD (visible body 1 L) v blocked) (getD (visible body 1 R) w blocked))
-  unfolding candidates
-  placed-meeting {L} {R} p v w hv hw =
-      let vs = visible body 1 L in
-      let ws = visible body 1 R in
-      let a = length (silent body 1 L) in
-      let b = length (silent body 1 R) in
-      let j = v * length ws + w in
-      let S = sides-par body true 1 L R in
-      let c : length (communications vs ws) ≡ length vs * length ws = length-communications vs ws in
-      let in-range : j < length vs * length ws = omega (arith, suc-mul v (length ws), mul-le-mul-right {m = suc v} {n = length vs} (length ws) (omega arith)) in
-      let e : number + (a + b) + j ≡ number + (a + (b + j)) = omega arith in
-      ap (λ (k : ℕ). getD (silent body 1 P) k blocked) e
-      ∙ p .silently .is (a + (b + j)) (omega (arith, S .len))
-      ∙ ap (raised K) (S .third j ∙ nth-communication vs ws v w hv hw)
 
   -- There are at least as many bytes before the term as restrictions around it.
   pub placed-depth : {C : Term} → Placed arities body P K C at depth first number → depth ≤ at
