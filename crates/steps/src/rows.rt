@@ -1,5 +1,6 @@
 // The visible candidates of a term in a table of rows, found on one walk of the term's bytes beneath restriction, choice, parallel, match and call,
 // in the order of crates/candidates/specs/Raw. And whether the term's silent candidates have no condition.
+ghost use mathlib.Core.Bool.{true};
 ghost use mathlib.Core.Path.{_≡_};
 ghost use Prim.Native.Nat.{ℕ, _+_, _-_, _*_, _≤_, _<_};
 ghost use lib.ListN.{length, getD};
@@ -35,6 +36,8 @@ pub const MATCHED: u8 = 4;
 
 // The byte of a choice.
 const CHOICE: u8 = 6;
+
+const CALL: u8 = 9;
 
 // No part has more visible candidates.
 pub const MOST_ROWS: usize = 1056;
@@ -170,6 +173,38 @@ fn behind_piece(
     end_at(tally, p)
 }
 
+// Whether the terms at `p` and at `at` begin with the same bytes as far as no renaming changes them: the first, and a call's number.
+fn begin_alike(src: &[u8], p: usize, at: usize) -> bool
+    requires { ⌜ (p < at) × (at ≤ length (now src) + 3) ⌝ }
+{
+    let t = get(src, at);
+    if get(src, p) != t {
+        return false;
+    }
+    if t != CALL {
+        return true;
+    }
+    get(src, p + 1) == get(src, at + 1)
+}
+
+// Whether the branches at `p` and at `at` may be the same: they begin alike, and what follows a prefix does. Most that differ differ here.
+fn may_be_same(src: &[u8], p: usize, at: usize) -> bool
+    requires { ⌜ (p < at) × (at < length (now src)) ⌝ }
+    ensures { λ r. ⌜ (r ≡ true → getD (now (src .entry)) p 0 ≡ getD (now (src .entry)) at 0) ⌝ }
+{
+    let t = src[at];
+    if src[p] != t {
+        return false;
+    }
+    if t == 3 {
+        return begin_alike(src, p + 3, at + 3);
+    }
+    if t < MATCH {
+        return begin_alike(src, p + 2, at + 2);
+    }
+    true
+}
+
 // Whether the term at `at` is equal to an earlier branch of its choice, which begins at `root`: by the slots of their names, those of a match
 // above it in either order.
 fn is_repeated(
@@ -185,11 +220,9 @@ fn is_repeated(
     requires { ⌜ (at < length (now src)) × EndsInside (now src) (now tally) × (inner ≤ depth) × (nameCount + depth + (length (now src) - at) ≤ slotCount) ⌝ }
     ensures { λ r. ⌜ (EndsTallied (now (question .entry)) (now (src .entry)) (now (tally .entry)) → RepeatedIs (now (question .entry)) (now (src .entry)) (now (args .entry)) inner depth root at r) ⌝ }
 {
-    let t = src[at];
     let mut p = root;
     while p < at {
-        // A byte 06 and another form differ at once.
-        if src[p] == t {
+        if may_be_same(src, p, at) {
             if same_branch(src, p, at, arities_of(question), args, inner, depth) {
                 return true;
             }

@@ -31,6 +31,11 @@ pub fn all() -> Vec<Workload> {
         judging("blocked", "985 raw steps, of which 6 are not blocked", full(blocked())),
         judging("far-end", "a ten-bit counter: all is alike until it overflows", full(far_end())),
         judging("ladder", "a counter: each value is alike if the one below is", full(ladder())),
+        judging(
+            "countdown",
+            "two counters: each value is alike if the one below is",
+            full(countdown()),
+        ),
         judging("worst", "80,829 raw steps, all blocked", full(worst(0, WORST))),
         judging("worst-repeated", "143,444 raw steps, all blocked", full(worst(0, REPEATED))),
         judging("worst-16", "69,324 raw steps in each of 16 situations", full(worst(2, WORST))),
@@ -293,6 +298,34 @@ fn ladder() -> Fields {
     components.push(choice(&[chosen(0), chosen(1)]));
     let part = restricted((DIGITS + 1).into(), grouped_right(&components));
     let apart = vec![0, 1, 0, 2, 1, 2];
+    Fields { apart, ..question(definitions, part.clone(), part) }
+}
+
+/// Two counters of sixteen values that can be told to count up or down, without digits. Each puts
+/// out a name while it is 0, and one of them first chooses by a silent step which of two that is. If
+/// both sides choose the same, all is alike. If they do not, each situation differs because of one
+/// that was taken up before it, and that one is a single step away.
+fn countdown() -> Fields {
+    const VALUES: u8 = 16;
+    // Parameters are the channel on which the counter is told to count, 81, and the name that it
+    // puts out, 80.
+    let up = |next: u8| vec![0x02, 0x81, 0x09, next, 0x82, 0x81];
+    let down = |next: u8| vec![0x03, 0x81, 0x81, 0x09, next, 0x81, 0x80];
+    let counter = |value: u8| {
+        let body = match value {
+            0 => choice(&[up(1), vec![0x03, 0x80, 0x80, 0x09, 0, 0x81, 0x80]]),
+            value if value + 1 == VALUES => down(value - 1),
+            value => choice(&[up(value + 1), down(value - 1)]),
+        };
+        definition(2, &body)
+    };
+    let chosen = |name: u8| [&[0x01], &call(0, &[2, name])[..]].concat();
+    let part = grouped_right(&[choice(&[chosen(0), chosen(1)]), call(0, &[3, 4])]);
+    let names = 0..5u8;
+    let apart =
+        names.clone().flat_map(|a| names.clone().filter(move |&b| a < b).flat_map(move |b| [a, b]));
+    let apart = apart.collect();
+    let definitions = (0..VALUES).map(counter).collect();
     Fields { apart, ..question(definitions, part.clone(), part) }
 }
 

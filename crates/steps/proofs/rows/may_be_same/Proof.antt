@@ -1,0 +1,60 @@
+-- `steps::rows::may_be_same` meets its contract. Assumes nothing.
+use mathlib.Core.Path.{_≡_}
+use native.Mathlib.Omega.{arith}
+use Prim.Native.Nat.{ℕ}
+use borrow.Author.Needs.{needs}
+use Rattle.steps.proofs.rows.may_be_same.Statement.{statement}
+use Rattle.steps.proofs.rows.may_be_same.Tie as tie
+
+shared-slice-read-t : tie.Need-shared-slice-read-t
+shared-slice-read-t c = search needs
+
+shared-slice-read-if1 : tie.Need-shared-slice-read-if1
+shared-slice-read-if1 c = omega (arith, c .before .before .before .pre)
+
+returns : tie.Need-returns
+returns c = λ e. let z : _≡_ {A = ℕ} 0 1 = cc in absurd (omega arith)
+
+add-begin-alike : tie.Need-add-begin-alike
+add-begin-alike c = search needs
+
+add-begin-alike-2 : tie.Need-add-begin-alike-2
+add-begin-alike-2 c = search needs
+
+begin-alike-requires : tie.Need-begin-alike-requires
+begin-alike-requires c κs = (omega (arith, c .before .before .before .before .before .pre), omega (arith, c .before .before .before .before .before .pre))
+
+returns-2 : tie.Need-returns-2
+returns-2 c = λ e. c .before .before .if1 .left
+
+add-begin-alike-3 : tie.Need-add-begin-alike-3
+add-begin-alike-3 c = search needs
+
+add-begin-alike-4 : tie.Need-add-begin-alike-4
+add-begin-alike-4 c = search needs
+
+begin-alike-requires-2 : tie.Need-begin-alike-requires-2
+begin-alike-requires-2 c κs = (omega (arith, c .before .before .before .before .before .before .pre), omega (arith, c .before .before .before .before .before .before .pre))
+
+returns-3 : tie.Need-returns-3
+returns-3 c = λ e. c .before .before .before .if1 .left
+
+returns-4 : tie.Need-returns-4
+returns-4 c = λ e. c .before .before .if1 .left
+
+pub may-be-same-spec : {M : Type 1} → statement M
+may-be-same-spec =
+    tie.close
+    (tie.spec
+    shared-slice-read-t
+    shared-slice-read-if1
+    returns
+    add-begin-alike
+    add-begin-alike-2
+    begin-alike-requires
+    returns-2
+    add-begin-alike-3
+    add-begin-alike-4
+    begin-alike-requires-2
+    returns-3
+    returns-4)
