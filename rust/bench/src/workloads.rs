@@ -30,7 +30,16 @@ pub fn all() -> Vec<Workload> {
         judging("wide", "37 components, 5 of them with two states", full(wide())),
         judging("blocked", "985 raw steps, of which 6 are not blocked", full(blocked())),
         judging("far-end", "a ten-bit counter: all is alike until it overflows", full(far_end())),
-        judging("ladder", "a counter: each value is alike if the one below is", full(ladder())),
+        judging(
+            "ladder",
+            "a counter: each value is alike if the one below is",
+            full(ladder(2, 10, 0)),
+        ),
+        judging(
+            "ladder-wide",
+            "a ladder beside 4 components with two states",
+            full(ladder(1, 8, 4)),
+        ),
         judging(
             "countdown",
             "two counters: each value is alike if the one below is",
@@ -124,6 +133,12 @@ fn grouped_right(components: &[Vec<u8>]) -> Vec<u8> {
 /// Beneath this many restrictions.
 fn restricted(count: usize, part: Vec<u8>) -> Vec<u8> {
     [vec![0x08; count], part].concat()
+}
+
+/// An apart list of all pairs of these names.
+fn all_apart(names: std::ops::Range<u8>) -> Vec<u8> {
+    let end = names.end;
+    names.flat_map(|a| (a + 1..end).flat_map(move |b| [a, b])).collect()
 }
 
 fn turned(components: &[Vec<u8>]) -> Vec<Vec<u8>> {
@@ -260,29 +275,27 @@ fn far_end() -> Fields {
 ///
 /// An input on its own channel tells a digit to count up and an output to count down. At its
 /// highest value a digit that is told to count up first tells the next to do so, and at 0 one that
-/// is told to count down first tells the next to do so.
-fn ladder() -> Fields {
-    const RADIX: u8 = 10;
+/// is told to count down first tells the next to do so. There are so many digits with `radix` values
+/// before the last; components with two states beside them make each situation rely on more others.
+fn ladder(digits: u8, radix: u8, components_beside: u8) -> Fields {
     const LAST_RADIX: u8 = 6;
-    // How many digits there are before the last.
-    const DIGITS: u8 = 2;
     // Parameters are the digit's own channel, 81, and that of the next, 80.
     let up = |next: u8| vec![0x02, 0x81, 0x09, next, 0x82, 0x81];
     let down = |next: u8| vec![0x03, 0x81, 0x81, 0x09, next, 0x81, 0x80];
     let digit = |value: u8| {
         let up = match value + 1 {
-            next if next == RADIX => vec![0x02, 0x81, 0x03, 0x81, 0x81, 0x09, 0, 0x82, 0x81],
+            next if next == radix => vec![0x02, 0x81, 0x03, 0x81, 0x81, 0x09, 0, 0x82, 0x81],
             next => up(next),
         };
         let down = match value {
-            0 => vec![0x03, 0x81, 0x81, 0x02, 0x80, 0x09, RADIX - 1, 0x82, 0x81],
+            0 => vec![0x03, 0x81, 0x81, 0x02, 0x80, 0x09, radix - 1, 0x82, 0x81],
             value => down(value - 1),
         };
         definition(2, &choice(&[up, down]))
     };
     // Parameters of the last digit are its own channel, 81, and the name that it puts out, 80.
     let last_digit = |value: u8| {
-        let number = RADIX + value;
+        let number = radix + value;
         let body = match value {
             0 => choice(&[up(number + 1), vec![0x03, 0x80, 0x80, 0x09, number, 0x81, 0x80]]),
             value if value + 1 == LAST_RADIX => down(number - 1),
@@ -290,15 +303,21 @@ fn ladder() -> Fields {
         };
         definition(2, &body)
     };
-    let definitions = (0..RADIX).map(digit).chain((0..LAST_RADIX).map(last_digit)).collect();
+    let mut definitions: Vec<Definition> =
+        (0..radix).map(digit).chain((0..LAST_RADIX).map(last_digit)).collect();
+    let first_state = radix + LAST_RADIX;
+    if components_beside > 0 {
+        definitions.extend(two_states(first_state, first_state + 1));
+    }
     // Restricted are the channel of the start, 80, and those of the digits behind the first.
-    let chosen = |name: u8| vec![0x01, 0x03, 0x80, 0x80, 0x09, RADIX, 0x80 + DIGITS, name];
+    let chosen = |name: u8| vec![0x01, 0x03, 0x80, 0x80, 0x09, radix, 0x80 + digits, name];
     let mut components = vec![vec![0x02, 0x80, 0x09, 0x00, 0x02, 0x82]];
-    components.extend((1..DIGITS).map(|place| call(0, &[0x80 + place, 0x81 + place])));
+    components.extend((1..digits).map(|place| call(0, &[0x80 + place, 0x81 + place])));
     components.push(choice(&[chosen(0), chosen(1)]));
-    let part = restricted((DIGITS + 1).into(), grouped_right(&components));
-    let apart = vec![0, 1, 0, 2, 1, 2];
-    Fields { apart, ..question(definitions, part.clone(), part) }
+    let names = 0..3 + components_beside;
+    components.extend((3..names.end).map(|name| call(first_state, &[name])));
+    let part = restricted((digits + 1).into(), grouped_right(&components));
+    Fields { apart: all_apart(names), ..question(definitions, part.clone(), part) }
 }
 
 /// Two counters of sixteen values that can be told to count up or down, without digits. Each puts
@@ -321,12 +340,8 @@ fn countdown() -> Fields {
     };
     let chosen = |name: u8| [&[0x01], &call(0, &[2, name])[..]].concat();
     let part = grouped_right(&[choice(&[chosen(0), chosen(1)]), call(0, &[3, 4])]);
-    let names = 0..5u8;
-    let apart =
-        names.clone().flat_map(|a| names.clone().filter(move |&b| a < b).flat_map(move |b| [a, b]));
-    let apart = apart.collect();
     let definitions = (0..VALUES).map(counter).collect();
-    Fields { apart, ..question(definitions, part.clone(), part) }
+    Fields { apart: all_apart(0..5), ..question(definitions, part.clone(), part) }
 }
 
 /// How many inputs and new-name outputs a body can offer within its 112 bytes: with different
