@@ -61,6 +61,7 @@ pub fn all() -> Vec<Workload> {
         listing("list-matches", "16,384 raw silent steps, 64 distinct", different_matches()),
         listing("list-unmet", "48,400 raw silent steps beneath a match that fails", unmet()),
         listing("list-equated", "16,384 raw silent steps beneath a match, 64 distinct", equated()),
+        listing("list-chained", "8,100 raw silent steps beneath matches, 81 distinct", chained()),
         listing("list-alike", "1,452 raw silent steps, 121 distinct", alike()),
     ]
 }
@@ -417,6 +418,25 @@ fn equated() -> Fields {
         definition(4, &choice(&branches))
     };
     let calls = |k: u8| vec![call(k, &[0x00, 0x00, 0x01, 0x01]); 8];
+    let part = grouped_left(&[calls(0), calls(1)].concat());
+    question(vec![body(INPUT[0]), body(NEW_OUTPUT[0])], part, vec![0x00])
+}
+
+/// Nine calls that offer inputs and nine that offer outputs, all on one free name and each beneath
+/// ten different chains of matches that make the same three names one.
+fn chained() -> Fields {
+    let [ab, bc, ca] = [[0x05, 0x82, 0x81], [0x05, 0x81, 0x80], [0x05, 0x80, 0x82]];
+    let two =
+        [[ab, bc], [bc, ab], [ab, ca], [ca, ab], [bc, ca], [ca, bc]].map(|chain| chain.concat());
+    let three =
+        [[ab, bc, ca], [ab, ca, bc], [bc, ab, ca], [bc, ca, ab]].map(|chain| chain.concat());
+    let body = |kind: u8| {
+        let chains = two.iter().chain(&three);
+        let branches: Vec<Vec<u8>> =
+            chains.map(|chain| prefixed(chain, &[kind, 0x82, 0x00])).collect();
+        definition(3, &choice(&branches))
+    };
+    let calls = |k: u8| vec![call(k, &[0, 1, 2]); 9];
     let part = grouped_left(&[calls(0), calls(1)].concat());
     question(vec![body(INPUT[0]), body(NEW_OUTPUT[0])], part, vec![0x00])
 }
