@@ -13,6 +13,7 @@ use Rattle.calculus.specs.Definitions.{at}
 use Rattle.calculus.specs.Term.{Term, call, ren}
 use Rattle.terms.specs.Answer.{result}
 use Rattle.terms.specs.Encoding.{nameByte, encode, InScope, NamesInScope}
+use Rattle.terms.specs.FieldPlaces.{fieldPlace}
 use Rattle.terms.specs.Limits.{nameCount, tableNames, greatestArity, longestTerm}
 use Rattle.terms.specs.Question.{Question, checkOf}
 use Rattle.terms.proofs.Answers.{Every}
@@ -136,14 +137,15 @@ module _ (question : List ℕ) (q : Question) (ok : checkOf question ≡ result 
   few-parameters = each-below greatestArity (q .arities) (well .parameters) k
 
 -- A call, and whether it may be opened.
-pub opening-is : (question s : List ℕ) (at calls : ℕ) (arities body : List ℕ) (k n : ℕ) (may : Bool) → AritiesIs question arities → BodyIs question k body
-    → k ≡ getD s (at + 1) 0 → n ≡ getD arities k 0 → MayOpenIs calls k n (length body) may
-    → OpeningIs question s at calls (record { allowed = may; definition = k; arity = n; end = at + 2 + n })
+pub opening-is : (question s : List ℕ) (at calls : ℕ) (arities body : List ℕ) (k n place : ℕ) (may : Bool) → AritiesIs question arities → BodyIs question k body
+    → k ≡ getD s (at + 1) 0 → n ≡ getD arities k 0 → place ≡ fieldPlace question k → MayOpenIs calls k n (length body) may
+    → OpeningIs question s at calls (record { allowed = may; definition = k; arity = n; end = at + 2 + n; place = place })
 unfolding AritiesIs
-opening-is question s at calls arities body k n may ar B ek en M = record {
+opening-is question s at calls arities body k n place may ar B ek en there M = record {
   definition = ek;
   arity = λ q ok. en ∙ ap (λ (l : List ℕ). getD l k 0) (ar q ok);
   end = refl;
+  place = there;
   may = λ t. let m = M .may t in (m .0, m .1, subst (λ (l : List ℕ). length l ≤ longestTerm) (B .piece) (m .2), m .3);
   not = λ t q ok l. go t q ok l calls refl;
 }

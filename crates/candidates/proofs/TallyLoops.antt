@@ -1,9 +1,10 @@
 -- The tally filled from the last byte to the first, and the tallies of the bodies from the first definition to the last. Assumes nothing.
 use mathlib.Core.Path.{_≡_, refl, sym, ap, subst, _∙_}
-use mathlib.Core.Bool.{Bool, true, false}
+use mathlib.Core.Bool.{Bool, true, false, cond}
 use mathlib.Core.List.{List, [], _++_, reverse, append-nil}
 use mathlib.Core.Logic.{⊎-elim}
-use Prim.Native.Nat.{ℕ, _+_, _-_, _*_, _<_, _≤_}
+use Prim.Native.Nat.{ℕ, zero, suc, _+_, _-_, _*_, _<_, _≤_}
+use native.Mathlib.Decide.{ℕ-discrete}
 use native.Mathlib.Nat.{eq-or-lt-of-le, mul-le-mul}
 use native.Mathlib.Omega.{arith}
 use lib.ListN.{length, getD, set, take, drop, replicate, getD-replicate, length-set, length-append, length-drop, List·getD-append, List·getD-eq-default, length-replicate}
@@ -14,7 +15,7 @@ use borrow.Author.Tests.{eqb-true, eqb-false, leb-true, leb-false}
 use Rattle.calculus.specs.Term.{Term, call}
 use Rattle.terms.specs.Answer.{result}
 use Rattle.terms.specs.Encoding.{encode, InScope}
-use Rattle.terms.specs.FieldPlaces.{fieldAt, fieldPlace}
+use Rattle.terms.specs.FieldPlaces.{definitionsOf, sizeAt, afterField, fieldAt, fieldPlace}
 use Rattle.terms.specs.Limits.{longestTerm, mostDefinitions}
 use Rattle.terms.specs.Question.{Question, checkOf}
 use Rattle.terms.proofs.FramingLaws.{Bytes}
@@ -22,7 +23,7 @@ use Rattle.terms.proofs.WellFormed.{accepted-well-formed}
 use Rattle.candidates.specs.Bodies.{AritiesIs, BodyIs, OpeningIs, bodyOf}
 use Rattle.candidates.specs.Passing.{candidates}
 use Rattle.candidates.specs.Raw.{visible, silent}
-use Rattle.candidates.specs.Tally.{tallySize, bodyTallies, visibleAt, silentAt, endAt, TallyIs, bodyTally, visibleCall, silentCall, Few, FewCalls, TalliedBelow, BodiesTallied}
+use Rattle.candidates.specs.Tally.{tallySize, bodyTallies, visibleAt, silentAt, endAt, TallyIs, bodyTally, visibleCall, silentCall, Few, FewCalls, placeIn, smallPlace, TalliedBelow, PlacesBelow, BodiesTallied}
 use Rattle.candidates.specs.Tallying.{CallsAre, EntryIs, entryAt, Filled}
 use Rattle.candidates.specs.declared.bodies.Opening.{Opening}
 use Rattle.candidates.specs.declared.tally.Entry.{Entry}
@@ -267,6 +268,72 @@ module _ (question t : List ℕ) (k : ℕ) (N : TalliedBelow question k t) (body
           (subst (TallyIs question body 0) new-tally (tally-is question body arities (zeros 1) piece 0 A (λ q c. none-are 1 (q .arities) (bodyOf (q .bodies))) F)))
           (λ i h m. subst (TallyIs question (fieldAt question (fieldPlace question i)) 0) (same-tally i h) (N .are i h m));
     }
+
+-- The place of a body put into its tally.
+tally-same : (question s : List ℕ) (calls : ℕ) (t t′ : List ℕ) → length s ≤ longestTerm → ((i : ℕ) → i < 336 → getD t′ i 0 ≡ getD t i 0)
+    → TallyIs question s calls t → TallyIs question s calls t′
+unfolding visibleAt silentAt endAt
+tally-same question s calls t t′ few same T = record {
+  on = λ i h. rw (same (longestTerm + longestTerm + i) (omega arith)) (T .on i h);
+  is = λ q i free D σ P rest c g e.
+      let h = stands s i D P rest e in
+      let (a, b, d) = T .is q i free D σ P rest c g e in
+      (same i (omega arith) ∙ a, same (longestTerm + i) (omega arith) ∙ b, same (longestTerm + longestTerm + i) (omega arith) ∙ d);
+}
+
+module _ (question t : List ℕ) (k : ℕ) (inside : k < mostDefinitions) (N : TalliedBelow question mostDefinitions t) (L : PlacesBelow question k t) where
+  placed-other : (v i : ℕ) → (i ≡ placeIn k → ⊥) → getD (set t (placeIn k) v) i 0 ≡ getD t i 0
+  placed-other v i h = getD-set-other t (placeIn k) i v 0 h
+
+  pub placed-tallied : (v : ℕ) → TalliedBelow question mostDefinitions (set t (placeIn k) v)
+  unfolding FewCalls Few visibleCall silentCall visibleAt silentAt
+  placed-tallied v = record {
+    size = length-set t (placeIn k) v ∙ N .size;
+    few = (N .few .0, λ j. rw (placed-other v (tallySize * j) (λ z. omega arith), placed-other v (longestTerm + tallySize * j) (λ z. omega arith)) (N .few .1 j));
+    are = λ j h m.
+        tally-same question (fieldAt question (fieldPlace question j)) 0 (bodyTally t j) (bodyTally (set t (placeIn k) v) j) m
+        (λ i l. at-tally (set t (placeIn k) v) j i (omega arith) ∙ placed-other v (tallySize * j + i) (λ z. omega arith) ∙ sym (at-tally t j i (omega arith)))
+        (N .are j h m);
+  }
+
+  pub placed-more : (place : ℕ) → place ≡ fieldPlace question k → PlacesBelow question (k + 1) (set t (placeIn k) place)
+  unfolding PlacesBelow
+  placed-more place e j h l = go (ℕ-discrete j k)
+    where
+      go : Dec (j ≡ k) → getD (set t (placeIn k) place) (placeIn j) 0 ≡ fieldPlace question j
+      go (yes z) = rw z (getD-set-same t (placeIn k) place 0 (omega (arith, N .size)) ∙ e)
+      go (no z) = placed-other place (placeIn j) (λ y. z (omega arith)) ∙ L j (omega arith) l
+
+  pub placed-large : (place : ℕ) → place ≡ fieldPlace question k → smallPlace ≤ place → PlacesBelow question (k + 1) t
+  unfolding PlacesBelow
+  placed-large place e far j h l = go (ℕ-discrete j k)
+    where
+      go : Dec (j ≡ k) → getD t (placeIn j) 0 ≡ fieldPlace question j
+      go (yes z) = absurd (omega (arith, e, far, subst (λ i. fieldPlace question i < smallPlace) z l))
+      go (no z) = L j (omega arith) l
+
+pub all-placed : (question t : List ℕ) → TalliedBelow question mostDefinitions t → PlacesBelow question mostDefinitions t → BodiesTallied question t
+all-placed question t N L = record { size = N .size; few = N .few; are = N .are; places = L }
+
+pub no-place : (question t : List ℕ) → PlacesBelow question 0 t
+unfolding PlacesBelow
+no-place question t j h l = absurd (omega arith)
+
+-- Places are not far behind the question.
+place-below : (question : List ℕ) (k : ℕ) → fieldPlace question k ≤ 2 + definitionsOf question + length question
+unfolding fieldPlace afterField
+place-below question zero = omega arith
+place-below question (suc k) = go (leb (fieldPlace question k + (sizeAt question (fieldPlace question k) + 2)) (length question)) refl
+  where
+    go : (b : Bool) → leb (fieldPlace question k + (sizeAt question (fieldPlace question k) + 2)) (length question) ≡ b
+        → cond b (fieldPlace question k + (sizeAt question (fieldPlace question k) + 2)) (length question + 1) ≤ 2 + definitionsOf question + length question
+    go true e = omega (arith, leb-true (fieldPlace question k + (sizeAt question (fieldPlace question k) + 2)) (length question) e)
+    go false e = omega arith
+
+pub place-there : (question t : List ℕ) (k : ℕ) → BodiesTallied question t → k < mostDefinitions → definitionsOf question < 256 → length question + 258 < smallPlace
+    → getD t (placeIn k) 0 ≡ fieldPlace question k
+unfolding PlacesBelow
+place-there question t k N h d l = N .places k h (omega (arith, place-below question k))
 
 -- The numbers of a call are those of its body.
 pub calls-are : (question t : List ℕ) → Bytes question → BodiesTallied question t → (q : Question) → checkOf question ≡ result q → CallsAre (q .arities) (bodyOf (q .bodies)) 1 t

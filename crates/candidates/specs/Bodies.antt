@@ -32,6 +32,7 @@ pub record OpeningIs (question s : List ℕ) (at calls : ℕ) (r : Opening) : Ty
   pub definition : r .definition ≡ getD s (at + 1) 0
   pub arity : (q : Question) → checkOf question ≡ result q → r .arity ≡ getD (q .arities) (r .definition) 0
   pub end : r .end ≡ at + 2 + r .arity
+  pub place : r .place ≡ fieldPlace question (r .definition)
   pub may : r .allowed ≡ true → (0 < calls) × (r .arity ≤ greatestArity) × (length (fieldAt question (fieldPlace question (r .definition))) ≤ longestTerm)
       × (r .definition < mostDefinitions)
   pub not : r .allowed ≡ false → (q : Question) → checkOf question ≡ result q → r .definition < length (q .arities) → calls ≡ 0

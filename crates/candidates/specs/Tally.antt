@@ -12,12 +12,19 @@ use Rattle.terms.specs.Question.{Question, checkOf}
 use Rattle.candidates.specs.Bodies.{bodyOf}
 use Rattle.candidates.specs.Raw.{visible, silent}
 
--- Three numbers for each place, and the tallies of all bodies one behind the other.
+-- Three numbers for each place, and one more; and the tallies of all bodies one behind the other.
 abbrev pub tallySize : ℕ
-tallySize = 336
+tallySize = 337
 
 abbrev pub bodyTallies : ℕ
-bodyTallies = 5376
+bodyTallies = 5392
+
+-- In the tally of body k the last number says where the field of the body begins, if that is a small number.
+abbrev pub placeIn : ℕ → ℕ
+placeIn k = tallySize * k + 336
+
+abbrev pub smallPlace : ℕ
+smallPlace = 65536
 
 unfoldable pub visibleAt : List ℕ → ℕ → ℕ
 visibleAt t at = getD t at 0
@@ -77,6 +84,14 @@ pub record TalliedBelow (question : List ℕ) (n : ℕ) (t : List ℕ) : Type 0 
   pub are : (k : ℕ) → k < n → length (fieldAt question (fieldPlace question k)) ≤ longestTerm
       → TallyIs question (fieldAt question (fieldPlace question k)) 0 (bodyTally t k)
 
--- The bodies of all definitions are.
-abbrev pub BodiesTallied : List ℕ → List ℕ → Type 0
-BodiesTallied question t = TalliedBelow question mostDefinitions t
+-- The places of the definitions below n are there.
+unfoldable pub PlacesBelow : List ℕ → ℕ → List ℕ → Type 0
+PlacesBelow question n t = (k : ℕ) → k < n → fieldPlace question k < smallPlace → getD t (placeIn k) 0 ≡ fieldPlace question k
+
+-- The bodies of all definitions are tallied, and their places are there.
+pub record BodiesTallied (question t : List ℕ) : Type 0 where
+  pub size : length t ≡ bodyTallies
+  pub few : FewCalls longestTerm t
+  pub are : (k : ℕ) → k < mostDefinitions → length (fieldAt question (fieldPlace question k)) ≤ longestTerm
+      → TallyIs question (fieldAt question (fieldPlace question k)) 0 (bodyTally t k)
+  pub places : PlacesBelow question mostDefinitions t

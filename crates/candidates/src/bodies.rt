@@ -4,10 +4,11 @@ ghost use Prim.Native.Nat.{ℕ, _<_};
 ghost use lib.ListN.{length};
 ghost use Rattle.terms.specs.FieldPlaces.{fieldPlace};
 ghost use Rattle.candidates.specs.Bodies.{AritiesIs, BodyIs, MayOpenIs, OpeningIs};
+ghost use Rattle.candidates.specs.Tally.{BodiesTallied};
+use crate::tally::place_of;
 use terms::bytes::get;
 use terms::frame::arities;
 use terms::frame::field_at;
-use terms::frame::field_place;
 use terms::limits::GREATEST_ARITY;
 use terms::limits::LONGEST_TERM;
 use terms::limits::MOST_DEFINITIONS;
@@ -24,13 +25,6 @@ pub fn body_at(question: &[u8], place: usize) -> &[u8]
     ensures { λ r. ⌜ ((k : ℕ) → place ≡ fieldPlace (now (question .entry)) k → BodyIs (now (question .entry)) k (now r)) ⌝ }
 {
     field_at(question, place)
-}
-
-// The body of definition `k`.
-pub fn body_of(question: &[u8], k: usize) -> &[u8]
-    ensures { λ r. ⌜ BodyIs (now (question .entry)) k (now r) ⌝ }
-{
-    body_at(question, field_place(question, k))
 }
 
 // Whether a call may be opened: one is left to open, and its definition keeps within the limits of an accepted question.
@@ -52,27 +46,30 @@ fn may_open(calls: usize, definition: usize, arity: usize, size: usize) -> bool
     true
 }
 
-// A call: its definition and how many names it has, where it ends, and whether it may be opened.
+// A call: its definition and how many names it has, where it ends, whether it may be opened, and where the field of its body begins.
 pub struct Opening {
     pub allowed: bool,
     pub definition: usize,
     pub arity: usize,
     pub end: usize,
+    pub place: usize,
 }
 
 // The call at `at`, where so many calls may be opened one within the other.
-pub fn call_at(question: &[u8], src: &[u8], at: usize, calls: usize) -> Opening
-    requires { ⌜ at < length (now src) ⌝ }
+pub fn call_at(question: &[u8], bodies: &[u32], src: &[u8], at: usize, calls: usize) -> Opening
+    requires { ⌜ (at < length (now src)) × BodiesTallied (now question) (now bodies) ⌝ }
     ensures { λ r. ⌜ OpeningIs (now (question .entry)) (now (src .entry)) at calls r ⌝ }
 {
     let k = get(src, at + 1) as usize;
     let n = get(arities_of(question), k) as usize;
-    let body = body_of(question, k);
+    let place = place_of(question, bodies, k);
+    let body = body_at(question, place);
     let allowed = may_open(calls, k, n, body.len());
     Opening {
         allowed,
         definition: k,
         arity: n,
         end: at + 2 + n,
+        place,
     }
 }

@@ -9,7 +9,7 @@ ghost use Rattle.candidates.specs.Slots.{slotCount};
 ghost use Rattle.candidates.specs.Tally.{TallyIs, BodiesTallied};
 use crate::action::Action;
 use crate::action::Label;
-use crate::bodies::body_of;
+use crate::bodies::body_at;
 use crate::bodies::call_at;
 use crate::pass::middle_of;
 use crate::rules::communication;
@@ -278,7 +278,7 @@ fn nth_call(
     requires { ⌜ (at < length (now src)) × (8 < getD (now src) at 0) × Within (now src) at inner depth calls × BodiesTallied (now question) (now bodies) ⌝ }
     ensures { λ r. ⌜ NthIs (now (question .entry)) (now (src .entry)) at i silent (now (args .entry)) inner depth calls r ⌝ }
 {
-    let o = call_at(question, src, at, calls);
+    let o = call_at(question, bodies, src, at, calls);
     if !o.allowed {
         return Label::blocked();
     }
@@ -286,7 +286,7 @@ fn nth_call(
         return Label::blocked();
     }
     let given = arguments(src, at + 2, o.arity, args, inner, depth);
-    let body = body_of(question, o.definition);
+    let body = body_at(question, o.place);
     let within = body_tally(bodies, o.definition);
     nth(
         question,

@@ -9,7 +9,7 @@ ghost use Rattle.candidates.specs.Branching.{BranchIs};
 ghost use Rattle.candidates.specs.Names.{mostBinders};
 ghost use Rattle.candidates.specs.Passing.{nothingSent, PrefixIs, opensAt, leavingAt, returnedAt, PassIs, MiddleIs};
 ghost use Rattle.candidates.specs.Tally.{EndsInside, TallyIs, BodiesTallied};
-use crate::bodies::body_of;
+use crate::bodies::body_at;
 use crate::bodies::call_at;
 use crate::names::slot_of;
 use crate::tally::body_tally;
@@ -163,12 +163,12 @@ fn pass_call(
     requires { ⌜ (at < length (now src)) × (8 < getD (now src) at 0) × (length (now src) ≤ longestTerm) × (binders ≤ at + greatestArity) × (calls ≤ 1) × BodiesTallied (now question) (now bodies) ⌝ }
     ensures { λ r. ⌜ PassIs (now (question .entry)) (now (src .entry)) at binders calls false i r ⌝ }
 {
-    let o = call_at(question, src, at, calls);
+    let o = call_at(question, bodies, src, at, calls);
     let n = o.arity;
     if !o.allowed {
         return silent();
     }
-    let body = body_of(question, o.definition);
+    let body = body_at(question, o.place);
     let numbers = body_tally(bodies, o.definition);
     let p = pass(question, bodies, body, numbers, 0, n, calls - 1, i);
     returned(p, src, at + 2, binders)

@@ -11,7 +11,7 @@ ghost use Rattle.candidates.specs.Names.{mostBinders, nameSlots, Kept};
 ghost use Rattle.candidates.specs.Results.{numbered, resting, visibly, beneath, sending, closing, inside, opening, SplitIs, StoreIs, TermIs, ExtrudedIs, WriteIs, Room, Writing, meetingPlan, PlanIs};
 ghost use Rattle.candidates.specs.Tally.{TallyIs, EndsTallied, BodiesTallied};
 use crate::bodies::arities_of;
-use crate::bodies::body_of;
+use crate::bodies::body_at;
 use crate::bodies::call_at;
 use crate::names::called;
 use crate::names::renaming;
@@ -524,13 +524,13 @@ fn write_call(
     requires { ⌜ (at < length (now src)) × (8 < getD (now src) at 0) × (task .still ≡ false) × (task .calls ≤ 1) × (length (now src) ≤ longestTerm) × (binders ≤ at + greatestArity) × Room (task .levels) (now out) put × BodiesTallied (now question) (now bodies) ⌝ }
     ensures { λ r. ⌜ WriteIs (now (question .entry)) (now (src .entry)) at binders (now (names .entry)) task (now (out .entry)) put r (now (out .exit)) ⌝ }
 {
-    let o = call_at(question, src, at, task.calls);
+    let o = call_at(question, bodies, src, at, task.calls);
     let n = o.arity;
     if !o.allowed {
         return out.len() + 1;
     }
     let inner = enter(task);
-    let body = body_of(question, o.definition);
+    let body = body_at(question, o.place);
     let numbers = body_tally(bodies, o.definition);
     let mut given = called(src, at + 2, n, binders, names);
     write(

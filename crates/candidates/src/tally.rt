@@ -4,7 +4,7 @@ ghost use Prim.Native.Nat.{_+_, _<_, _≤_};
 ghost use lib.ListN.{length, getD};
 ghost use Rattle.terms.specs.FieldPlaces.{fieldPlace};
 ghost use Rattle.terms.specs.Limits.{longestTerm, mostDefinitions};
-ghost use Rattle.candidates.specs.Tally.{tallySize, bodyTallies, visibleAt, silentAt, endAt, TallyIs, FewCalls, bodyTally, TalliedBelow, BodiesTallied};
+ghost use Rattle.candidates.specs.Tally.{tallySize, bodyTallies, visibleAt, silentAt, endAt, TallyIs, FewCalls, bodyTally, TalliedBelow, PlacesBelow, BodiesTallied};
 ghost use Rattle.candidates.specs.Tallying.{numberAt, EntryIs, talliedEntry, prefixEntry, callEntry, choiceEntry, parallelEntry, Small, Filled};
 use crate::bodies::arities_of;
 use crate::bodies::body_at;
@@ -15,11 +15,17 @@ use terms::frame::field_place;
 use terms::limits::LONGEST_TERM;
 use terms::limits::MOST_DEFINITIONS;
 
-// Three times the longest term: at each place the visible candidates, the silent ones, and the end.
-pub const TALLY: usize = 336;
+// Three times the longest term, at each place the visible candidates, the silent ones, and the end; and one number more.
+pub const TALLY: usize = 337;
 
 // A tally for each definition.
-pub const BODY_TALLIES: usize = 5376;
+pub const BODY_TALLIES: usize = 5392;
+
+// The last number of a body's tally: where its field begins in the question.
+const PLACE: usize = 336;
+
+// No accepted question has a place from here on.
+const SMALL_PLACE: usize = 65536;
 
 // The number at `i` behind `from`, and 0 past the end.
 fn number(list: &[u32], from: usize, i: usize) -> usize
@@ -207,6 +213,30 @@ fn tally_body(question: &[u8], k: usize, place: usize, bodies: &mut [u32])
     fill(body, arities_of(question), &none, &mut bodies[from..end]);
 }
 
+// Puts the place of body `k` into its tally, if it is small.
+fn put_place(question: &[u8], bodies: &mut [u32], k: usize, place: usize)
+    requires { ⌜ (k < mostDefinitions) × TalliedBelow (now question) mostDefinitions (now bodies) × PlacesBelow (now question) k (now bodies) × (place ≡ fieldPlace (now question) k) ⌝ }
+    ensures { λ _. ⌜ TalliedBelow (now (question .entry)) mostDefinitions (now (bodies .exit)) × PlacesBelow (now (question .entry)) (k + 1) (now (bodies .exit)) ⌝ }
+{
+    if place < SMALL_PLACE {
+        bodies[TALLY * k + PLACE] = place as u32;
+    }
+}
+
+// Puts the places of the bodies into their tallies, found on one way along the question.
+fn put_places(question: &[u8], bodies: &mut [u32])
+    requires { ⌜ TalliedBelow (now question) mostDefinitions (now bodies) ⌝ }
+    ensures { λ _. ⌜ BodiesTallied (now (question .entry)) (now (bodies .exit)) ⌝ }
+{
+    let mut place = field_place(question, 0);
+    let mut k = 0;
+    while k < MOST_DEFINITIONS {
+        put_place(question, bodies, k, place);
+        place = after_field(question, place);
+        k += 1;
+    }
+}
+
 // The tallies of the bodies of all definitions, one behind the other.
 pub fn body_tallies(question: &[u8]) -> [u32; BODY_TALLIES]
     ensures { λ r. ⌜ BodiesTallied (now (question .entry)) r ⌝ }
@@ -219,7 +249,22 @@ pub fn body_tallies(question: &[u8]) -> [u32; BODY_TALLIES]
         place = after_field(question, place);
         k += 1;
     }
+    put_places(question, &mut bodies);
     bodies
+}
+
+// The place of the body of definition `k`.
+pub fn place_of(question: &[u8], bodies: &[u32], k: usize) -> usize
+    requires { ⌜ BodiesTallied (now question) (now bodies) ⌝ }
+    ensures { λ r. ⌜ r ≡ fieldPlace (now (question .entry)) k ⌝ }
+{
+    if MOST_DEFINITIONS <= k {
+        return field_place(question, k);
+    }
+    if SMALL_PLACE <= question.len() + 258 {
+        return field_place(question, k);
+    }
+    number(bodies, TALLY * k, PLACE)
 }
 
 // The tally of the body of definition `k`.

@@ -12,7 +12,7 @@ ghost use Rattle.steps.specs.Rows.{rowBytes, mostRows, PutRowIs, prefixK
 use crate::same::MATCH;
 use crate::same::same_branch;
 use candidates::bodies::arities_of;
-use candidates::bodies::body_of;
+use candidates::bodies::body_at;
 use candidates::bodies::call_at;
 use candidates::label::arguments;
 use candidates::label::slot;
@@ -269,7 +269,7 @@ fn scan_call(
     requires { ⌜ (at < length (now src)) × (8 < getD (now src) at 0) × Within (now src) at inner depth calls × BodiesTallied (now question) (now bodies) × (n ≤ mostRows + 1) × (rowBytes * mostRows ≤ length (now rows)) ⌝ }
     ensures { λ r. ⌜ ((root : ℕ) → ScanIs (now (question .entry)) (now (src .entry)) root at asked (now (args .entry)) inner depth calls n (now (rows .entry)) r (now (rows .exit))) ⌝ }
 {
-    let o = call_at(question, src, at, calls);
+    let o = call_at(question, bodies, src, at, calls);
     if !o.allowed {
         return n;
     }
@@ -277,7 +277,7 @@ fn scan_call(
         return n;
     }
     let given = arguments(src, at + 2, o.arity, args, inner, depth);
-    let body = body_of(question, o.definition);
+    let body = body_at(question, o.place);
     let within = body_tally(bodies, o.definition);
     scan(
         question,
@@ -438,11 +438,11 @@ fn quiet_call(question: &[u8], bodies: &[u32], src: &[u8], at: usize, calls: usi
     requires { ⌜ (at < length (now src)) × (8 < getD (now src) at 0) × (calls ≤ 1) × BodiesTallied (now question) (now bodies) ⌝ }
     ensures { λ r. ⌜ QuietIs (now (question .entry)) (now (src .entry)) at calls r ⌝ }
 {
-    let o = call_at(question, src, at, calls);
+    let o = call_at(question, bodies, src, at, calls);
     if !o.allowed {
         return true;
     }
-    let body = body_of(question, o.definition);
+    let body = body_at(question, o.place);
     let within = body_tally(bodies, o.definition);
     quiet(question, bodies, body, within, 0, calls - 1)
 }

@@ -1,6 +1,6 @@
 -- `candidates::bodies::call_at` meets its contract. Assumes nothing.
-use borrow.Author.Needs.{needs}
 use Rattle.candidates.proofs.CallLaws.{opening-is}
+use borrow.Author.Needs.{needs}
 use Rattle.candidates.proofs.bodies.call_at.Statement.{statement}
 use Rattle.candidates.proofs.bodies.call_at.Tie as tie
 
@@ -22,21 +22,24 @@ get-requires-2 c κs = search needs
 cast-n : tie.Need-cast-n
 cast-n c = search needs
 
-body-of-requires : tie.Need-body-of-requires
-body-of-requires c κs = search needs
+place-of-requires : tie.Need-place-of-requires
+place-of-requires c κs = c .before .before .before .before .before .before .pre .1
+
+body-at-requires : tie.Need-body-at-requires
+body-at-requires c κs = search needs
 
 may-open-requires : tie.Need-may-open-requires
 may-open-requires c κs = search needs
 
-add-t10 : tie.Need-add-t10
-add-t10 c = search needs
-
 add-t12 : tie.Need-add-t12
 add-t12 c = search needs
 
+add-t14 : tie.Need-add-t14
+add-t14 c = search needs
+
 returns : tie.Need-returns
-returns c = let a = c .before .before .before .before .before .before .before .args in
-    opening-is (a .question .now) (a .src .now) (a .at) (a .calls) (c .before .before .before .arities-of .result .now) (c .before .body-of .result .now) (c .before .before .before .before .get .result) (c .before .before .get2 .result) (c .may-open .result) (c .before .before .before .arities-of .ensures) (c .before .body-of .ensures) (c .before .before .before .before .get .ensures) (c .before .before .get2 .ensures) (c .may-open .ensures)
+returns c = let a = c .before .before .before .before .before .before .before .before .before .args in
+    opening-is (a .question .now) (a .src .now) (a .at) (a .calls) (c .before .before .before .before .arities-of .result .now) (c .before .body-at .result .now) (c .before .before .before .before .before .get .result) (c .before .before .before .get2 .result) (c .before .before .place-of .result) (c .may-open .result) (c .before .before .before .before .arities-of .ensures) (c .before .body-at .ensures _ (c .before .before .place-of .ensures)) (c .before .before .before .before .before .get .ensures) (c .before .before .before .get2 .ensures) (c .before .before .place-of .ensures) (c .may-open .ensures)
 
 pub call-at-spec : {M : Type 1} → statement M
 call-at-spec =
@@ -48,8 +51,9 @@ call-at-spec =
     arities-of-requires
     get-requires-2
     cast-n
-    body-of-requires
+    place-of-requires
+    body-at-requires
     may-open-requires
-    add-t10
     add-t12
+    add-t14
     returns)

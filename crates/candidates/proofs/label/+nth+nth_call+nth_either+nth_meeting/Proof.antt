@@ -26,7 +26,7 @@ use Rattle.candidates.proofs.label.nth_meeting.Reads as nth-meeting
 use Rattle.candidates.proofs.label.nth_meeting.Kinds as nth-meeting-kinds
 use Rattle.candidates.proofs.label.+nth+nth_call+nth_either+nth_meeting.Lts-nth_meeting as nth-meeting-lts
 use Rattle.candidates.proofs.action.Label.blocked.Reads as blocked-reads
-use Rattle.candidates.proofs.bodies.body_of.Reads as body-of-reads
+use Rattle.candidates.proofs.bodies.body_at.Reads as body-at-reads
 use Rattle.candidates.proofs.bodies.call_at.Reads as call-at-reads
 use Rattle.candidates.proofs.label.arguments.Reads as arguments-reads
 use Rattle.candidates.proofs.label.nth_prefix.Reads as nth-prefix-reads
@@ -86,7 +86,7 @@ abbrev nth-claims : ℕ → nth-lts.Claims
 nth-claims t = (blocked-reads.Asked, blocked-reads.Learnt, nth-prefix-reads.Asked, nth-prefix-reads.Learnt, nth-call-below t, nth-call.Post, restrictions-at-reads.Asked, restrictions-at-reads.Learnt, past-reads.Asked, past-reads.Learnt, nth-either-below t, nth-either.Post, nth-below t, nth.Post, outside-of-reads.Asked, outside-of-reads.Learnt)
 
 abbrev nth-call-claims : ℕ → nth-call-lts.Claims
-nth-call-claims t = (call-at-reads.Asked, call-at-reads.Learnt, blocked-reads.Asked, blocked-reads.Learnt, arguments-reads.Asked, arguments-reads.Learnt, body-of-reads.Asked, body-of-reads.Learnt, body-tally-reads.Asked, body-tally-reads.Learnt, nth-below t, nth.Post)
+nth-call-claims t = (call-at-reads.Asked, call-at-reads.Learnt, blocked-reads.Asked, blocked-reads.Learnt, arguments-reads.Asked, arguments-reads.Learnt, body-at-reads.Asked, body-at-reads.Learnt, body-tally-reads.Asked, body-tally-reads.Learnt, nth-below t, nth.Post)
 
 abbrev nth-either-claims : ℕ → nth-either-lts.Claims
 nth-either-claims t = (middle-of-reads.Asked, middle-of-reads.Learnt, number-at-reads.Asked, number-at-reads.Learnt, nth-below t, nth.Post, nth-meeting-below t, nth-meeting.Post)
@@ -177,8 +177,8 @@ nth-call-add-arguments t c = search needs
 nth-call-arguments-requires : (t : ℕ) → nth-call-lts.Need-arguments-requires (nth-call-claims t) (nth-call-at t) nth-call.Post
 nth-call-arguments-requires t c κs = let m = c .before .before .before .before .call-at .ensures .may (not-false _ (c .before .before .if1 .left)) in let w = c .before .before .before .before .before .before .before .before .before .pre .1 .2 .room in (omega (arith, c .if2 .left, c .before .before .before .before .call-at .ensures .end), m .1, c .before .before .before .before .before .before .before .before .before .pre .1 .2 .outer, omega arith)
 
-nth-call-body-of-requires : (t : ℕ) → nth-call-lts.Need-body-of-requires (nth-call-claims t) (nth-call-at t) nth-call.Post
-nth-call-body-of-requires t c κs = search needs
+nth-call-body-at-requires : (t : ℕ) → nth-call-lts.Need-body-at-requires (nth-call-claims t) (nth-call-at t) nth-call.Post
+nth-call-body-at-requires t c κs = search needs
 
 nth-call-body-tally-requires : (t : ℕ) → nth-call-lts.Need-body-tally-requires (nth-call-claims t) (nth-call-at t) nth-call.Post
 nth-call-body-tally-requires t c κs = (c .before .before .before .before .before .before .call-at .ensures .may (not-false _ (c .before .before .before .before .if1 .left)) .3, c .before .before .before .before .before .before .before .before .before .before .before .pre .1 .3 .size)
@@ -190,10 +190,10 @@ nth-call-sub-nth : (t : ℕ) → nth-call-lts.Need-sub-nth (nth-call-claims t) (
 nth-call-sub-nth t c = let m = c .before .before .before .before .before .before .before .before .call-at .ensures .may (not-false _ (c .before .before .before .before .before .before .if1 .left)) in omega (arith, m)
 
 nth-call-nth-requires : (t : ℕ) → nth-call-lts.Need-nth-requires (nth-call-claims t) (nth-call-at t) nth-call.Post
-nth-call-nth-requires t c κs = let a = c .before .before .before .before .before .before .before .before .before .before .before .before .before .args in let m = c .before .before .before .before .before .before .before .before .call-at .ensures .may (not-false _ (c .before .before .before .before .before .before .if1 .left)) in let b : length (c .before .before .body-of .result .now) ≤ longestTerm = omega (arith, m, ap length (c .before .before .body-of .ensures .piece)) in (weight-body (a .calls) (length (a .src .now)) (a .at) (length (c .before .before .body-of .result .now)) t 2 (c .before .before .before .before .before .before .before .before .before .before .before .before .before .pre .0) (m .0) b, (room-body (a .src .now) (a .at) (a .inner) (a .depth) (a .calls) (c .before .before .body-of .result .now) (c .before .before .before .before .before .before .before .before .before .before .before .before .before .pre .1 .2) (m .0) b, called-tally (a .question .now) (a .bodies .now) (a .src .now) (a .at) (a .calls) (c .before .before .before .before .before .before .before .before .before .before .before .before .before .pre .1 .3) (c .before .before .before .before .before .before .before .before .call-at .result) (c .before .before .before .before .before .before .before .before .call-at .ensures) (not-false _ (c .before .before .before .before .before .before .if1 .left)) (c .before .before .before .before .before .before .before .before .before .before .before .before .before .pre .1 .2 .once) (c .before .before .body-of .result .now) (c .before .before .body-of .ensures) (c .before .body-tally .result .now) (c .before .body-tally .ensures) _ refl, c .before .before .before .before .before .before .before .before .before .before .before .before .before .pre .1 .3))
+nth-call-nth-requires t c κs = let a = c .before .before .before .before .before .before .before .before .before .before .before .before .before .args in let m = c .before .before .before .before .before .before .before .before .call-at .ensures .may (not-false _ (c .before .before .before .before .before .before .if1 .left)) in let b : length (c .before .before .body-at .result .now) ≤ longestTerm = omega (arith, m, ap length ((c .before .before .body-at .ensures (c .before .before .before .before .before .before .before .before .call-at .result .definition) (c .before .before .before .before .before .before .before .before .call-at .ensures .place)) .piece)) in (weight-body (a .calls) (length (a .src .now)) (a .at) (length (c .before .before .body-at .result .now)) t 2 (c .before .before .before .before .before .before .before .before .before .before .before .before .before .pre .0) (m .0) b, (room-body (a .src .now) (a .at) (a .inner) (a .depth) (a .calls) (c .before .before .body-at .result .now) (c .before .before .before .before .before .before .before .before .before .before .before .before .before .pre .1 .2) (m .0) b, called-tally (a .question .now) (a .bodies .now) (a .src .now) (a .at) (a .calls) (c .before .before .before .before .before .before .before .before .before .before .before .before .before .pre .1 .3) (c .before .before .before .before .before .before .before .before .call-at .result) (c .before .before .before .before .before .before .before .before .call-at .ensures) (not-false _ (c .before .before .before .before .before .before .if1 .left)) (c .before .before .before .before .before .before .before .before .before .before .before .before .before .pre .1 .2 .once) (c .before .before .body-at .result .now) (c .before .before .body-at .ensures (c .before .before .before .before .before .before .before .before .call-at .result .definition) (c .before .before .before .before .before .before .before .before .call-at .ensures .place)) (c .before .body-tally .result .now) (c .before .body-tally .ensures) _ refl, c .before .before .before .before .before .before .before .before .before .before .before .before .before .pre .1 .3))
 
 nth-call-returns-3 : (t : ℕ) → nth-call-lts.Need-returns-3 (nth-call-claims t) (nth-call-at t) nth-call.Post
-nth-call-returns-3 t c = let a = c .before .before .before .before .before .before .before .before .before .before .before .before .before .before .args in let m = c .before .before .before .before .before .before .before .before .before .call-at .ensures .may (not-false _ (c .before .before .before .before .before .before .before .if1 .left)) in nth-called (a .question .now) (a .src .now) (a .at) (a .i) (a .silent) (a .args .now) (a .inner) (a .depth) (a .calls) (c .before .before .before .before .before .before .before .before .before .before .before .before .before .before .pre .1 .1) (c .before .before .before .before .before .before .before .before .before .call-at .result) (c .before .before .before .before .before .before .before .before .before .call-at .ensures) _ (m .0) (c .before .before .before .body-of .result .now) (c .before .before .before .body-of .ensures) (c .before .before .before .before .arguments .result) (c .before .before .before .before .arguments .ensures) (c .nth .ensures)
+nth-call-returns-3 t c = let a = c .before .before .before .before .before .before .before .before .before .before .before .before .before .before .args in let m = c .before .before .before .before .before .before .before .before .before .call-at .ensures .may (not-false _ (c .before .before .before .before .before .before .before .if1 .left)) in nth-called (a .question .now) (a .src .now) (a .at) (a .i) (a .silent) (a .args .now) (a .inner) (a .depth) (a .calls) (c .before .before .before .before .before .before .before .before .before .before .before .before .before .before .pre .1 .1) (c .before .before .before .before .before .before .before .before .before .call-at .result) (c .before .before .before .before .before .before .before .before .before .call-at .ensures) _ (m .0) (c .before .before .before .body-at .result .now) (c .before .before .before .body-at .ensures (c .before .before .before .before .before .before .before .before .before .call-at .result .definition) (c .before .before .before .before .before .before .before .before .before .call-at .ensures .place)) (c .before .before .before .before .arguments .result) (c .before .before .before .before .arguments .ensures) (c .nth .ensures)
 
 nth-either-middle-of-requires : (t : ℕ) → nth-either-lts.Need-middle-of-requires (nth-either-claims t) (nth-either-at t) nth-either.Post
 nth-either-middle-of-requires t c κs = (c .before .before .before .before .before .pre .1 .0, c .before .before .before .before .before .pre .1 .3 .short)
@@ -304,8 +304,8 @@ pub +nth+nth-call+nth-either+nth-meeting-spec : {M : Type 1} → statement M
       blocked-reads.Learnt,
       arguments-reads.Asked,
       arguments-reads.Learnt,
-      body-of-reads.Asked,
-      body-of-reads.Learnt,
+      body-at-reads.Asked,
+      body-at-reads.Learnt,
       body-tally-reads.Asked,
       body-tally-reads.Learnt,
       nth-below t,
@@ -320,7 +320,7 @@ pub +nth+nth-call+nth-either+nth-meeting-spec : {M : Type 1} → statement M
     (nth-call-returns-2 t)
     (nth-call-add-arguments t)
     (nth-call-arguments-requires t)
-    (nth-call-body-of-requires t)
+    (nth-call-body-at-requires t)
     (nth-call-body-tally-requires t)
     (nth-call-slice-aggregate-nth t)
     (nth-call-sub-nth t)

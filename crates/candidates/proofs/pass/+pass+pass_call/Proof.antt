@@ -21,7 +21,7 @@ use Rattle.candidates.proofs.pass.+pass+pass_call.Lts-pass as pass-lts
 use Rattle.candidates.proofs.pass.pass_call.Reads as pass-call
 use Rattle.candidates.proofs.pass.pass_call.Kinds as pass-call-kinds
 use Rattle.candidates.proofs.pass.+pass+pass_call.Lts-pass_call as pass-call-lts
-use Rattle.candidates.proofs.bodies.body_of.Reads as body-of-reads
+use Rattle.candidates.proofs.bodies.body_at.Reads as body-at-reads
 use Rattle.candidates.proofs.bodies.call_at.Reads as call-at-reads
 use Rattle.candidates.proofs.pass.leaving.Reads as leaving-reads
 use Rattle.candidates.proofs.pass.branch_of.Reads as branch-of-reads
@@ -57,7 +57,7 @@ abbrev pass-claims : ℕ → pass-lts.Claims
 pass-claims t = (silent-reads.Asked, silent-reads.Learnt, get-reads.Asked, get-reads.Learnt, pass-prefix-reads.Asked, pass-prefix-reads.Learnt, pass-below t, pass.Post, leaving-reads.Asked, leaving-reads.Learnt, pass-call-below t, pass-call.Post, branch-of-reads.Asked, branch-of-reads.Learnt, visible-at-reads.Asked, visible-at-reads.Learnt, middle-of-reads.Asked, middle-of-reads.Learnt)
 
 abbrev pass-call-claims : ℕ → pass-call-lts.Claims
-pass-call-claims t = (call-at-reads.Asked, call-at-reads.Learnt, silent-reads.Asked, silent-reads.Learnt, body-of-reads.Asked, body-of-reads.Learnt, body-tally-reads.Asked, body-tally-reads.Learnt, pass-below t, pass.Post, returned-reads.Asked, returned-reads.Learnt)
+pass-call-claims t = (call-at-reads.Asked, call-at-reads.Learnt, silent-reads.Asked, silent-reads.Learnt, body-at-reads.Asked, body-at-reads.Learnt, body-tally-reads.Asked, body-tally-reads.Learnt, pass-below t, pass.Post, returned-reads.Asked, returned-reads.Learnt)
 
 pass-silent-requires : (t : ℕ) → pass-lts.Need-silent-requires (pass-claims t) (pass-at t) pass.Post
 pass-silent-requires t c κs = search needs
@@ -150,7 +150,7 @@ unfolding numberAt
 pass-returns-9 t c = let a = c .before .before .before .before .before .before .before .before .before .before .before .before .before .before .before .before .before .args in rw (c .silent2 .ensures) (pass-met (a .question .now) (a .src .now) (a .at) (a .binders) (a .calls) false (a .i) (a .tally .now) (c .before .before .before .before .before .before .before .before .before .before .before .before .before .before .before .before .before .pre .1 .3) (omega (arith, c .before .before .before .before .before .before .before .before .before .before .before .get .ensures, c .before .before .before .before .before .before .before .before .before .before .if2 .left, c .before .before .before .before .before .before .before .before .before .if3 .left, c .before .before .before .before .before .before .before .before .if4 .left, c .before .before .before .before .before .before .before .if5 .left), omega (arith, c .before .before .before .before .before .before .before .before .before .before .before .get .ensures, c .before .before .before .before .before .before .before .before .before .before .if2 .left, c .before .before .before .before .before .before .before .before .before .if3 .left, c .before .before .before .before .before .before .before .before .if4 .left, c .before .before .before .before .before .before .before .if5 .left)) (c .before .before .before .middle-of .result) (c .before .before .before .middle-of .ensures) (subst (λ (n : ℕ). n ≤ a .i) (c .before .before .before .before .before .visible-at .ensures) (c .before .before .before .before .if7 .left)) _ (ap (λ (n : ℕ). a .i - n) (c .before .before .before .before .before .visible-at .ensures)) (subst (λ (n : ℕ). n ≤ a .i - c .before .before .before .before .before .visible-at .result) (c .before .before .visible-at2 .ensures) (c .before .if8 .left)))
 
 pass-call-call-at-requires : (t : ℕ) → pass-call-lts.Need-call-at-requires (pass-call-claims t) (pass-call-at t) pass-call.Post
-pass-call-call-at-requires t c κs = c .before .before .before .pre .1 .0
+pass-call-call-at-requires t c κs = (c .before .before .before .pre .1 .0, c .before .before .before .pre .1 .5)
 
 pass-call-silent-requires : (t : ℕ) → pass-call-lts.Need-silent-requires (pass-call-claims t) (pass-call-at t) pass-call.Post
 pass-call-silent-requires t c κs = search needs
@@ -158,8 +158,8 @@ pass-call-silent-requires t c κs = search needs
 pass-call-returns : (t : ℕ) → pass-call-lts.Need-returns (pass-call-claims t) (pass-call-at t) pass-call.Post
 pass-call-returns t c = let a = c .before .before .before .before .before .before .before .args in rw (c .silent .ensures) (pass-closed (a .question .now) (a .src .now) (a .at) (a .binders) (a .calls) false (a .i) (c .before .before .before .before .before .before .before .pre .1 .1) (c .before .before .before .call-at .result .definition) (c .before .before .before .call-at .result .arity) (c .before .before .before .call-at .ensures .definition) (c .before .before .before .call-at .ensures .arity) (c .before .before .before .call-at .ensures .not (not-true _ (c .before .if1 .taken))))
 
-pass-call-body-of-requires : (t : ℕ) → pass-call-lts.Need-body-of-requires (pass-call-claims t) (pass-call-at t) pass-call.Post
-pass-call-body-of-requires t c κs = search needs
+pass-call-body-at-requires : (t : ℕ) → pass-call-lts.Need-body-at-requires (pass-call-claims t) (pass-call-at t) pass-call.Post
+pass-call-body-at-requires t c κs = search needs
 
 pass-call-body-tally-requires : (t : ℕ) → pass-call-lts.Need-body-tally-requires (pass-call-claims t) (pass-call-at t) pass-call.Post
 pass-call-body-tally-requires t c κs = (c .before .before .before .call-at .ensures .may (not-false _ (c .before .if1 .left)) .3, c .before .before .before .before .before .before .before .pre .1 .5 .size)
@@ -168,7 +168,7 @@ pass-call-sub-pass : (t : ℕ) → pass-call-lts.Need-sub-pass (pass-call-claims
 pass-call-sub-pass t c = let m = c .before .before .before .before .call-at .ensures .may (not-false _ (c .before .before .if1 .left)) in omega (arith, m)
 
 pass-call-pass-requires : (t : ℕ) → pass-call-lts.Need-pass-requires (pass-call-claims t) (pass-call-at t) pass-call.Post
-pass-call-pass-requires t c κs = let a = c .before .before .before .before .before .before .before .before .args in let m = c .before .before .before .before .call-at .ensures .may (not-false _ (c .before .before .if1 .left)) in (omega (arith, c .before .before .before .before .before .before .before .before .pre .0, c .before .before .before .before .before .before .before .before .pre .1 .0, m, ap length (c .before .body-of .ensures .piece)), (omega (arith, m, ap length (c .before .body-of .ensures .piece)), omega (arith, m), omega (arith, c .before .before .before .before .before .before .before .before .pre .1 .4), called-tally (a .question .now) (a .bodies .now) (a .src .now) (a .at) (a .calls) (c .before .before .before .before .before .before .before .before .pre .1 .5) (c .before .before .before .before .call-at .result) (c .before .before .before .before .call-at .ensures) (not-false _ (c .before .before .if1 .left)) (c .before .before .before .before .before .before .before .before .pre .1 .4) (c .before .body-of .result .now) (c .before .body-of .ensures) (c .body-tally .result .now) (c .body-tally .ensures) _ refl, c .before .before .before .before .before .before .before .before .pre .1 .5))
+pass-call-pass-requires t c κs = let a = c .before .before .before .before .before .before .before .before .args in let m = c .before .before .before .before .call-at .ensures .may (not-false _ (c .before .before .if1 .left)) in (omega (arith, c .before .before .before .before .before .before .before .before .pre .0, c .before .before .before .before .before .before .before .before .pre .1 .0, m, ap length ((c .before .body-at .ensures (c .before .before .before .before .call-at .result .definition) (c .before .before .before .before .call-at .ensures .place)) .piece)), (omega (arith, m, ap length ((c .before .body-at .ensures (c .before .before .before .before .call-at .result .definition) (c .before .before .before .before .call-at .ensures .place)) .piece)), omega (arith, m), omega (arith, c .before .before .before .before .before .before .before .before .pre .1 .4), called-tally (a .question .now) (a .bodies .now) (a .src .now) (a .at) (a .calls) (c .before .before .before .before .before .before .before .before .pre .1 .5) (c .before .before .before .before .call-at .result) (c .before .before .before .before .call-at .ensures) (not-false _ (c .before .before .if1 .left)) (c .before .before .before .before .before .before .before .before .pre .1 .4) (c .before .body-at .result .now) (c .before .body-at .ensures (c .before .before .before .before .call-at .result .definition) (c .before .before .before .before .call-at .ensures .place)) (c .body-tally .result .now) (c .body-tally .ensures) _ refl, c .before .before .before .before .before .before .before .before .pre .1 .5))
 
 pass-call-add-returned : (t : ℕ) → pass-call-lts.Need-add-returned (pass-call-claims t) (pass-call-at t) pass-call.Post
 pass-call-add-returned t c = omega (arith, c .before .before .before .before .before .before .before .before .before .pre .1)
@@ -177,7 +177,7 @@ pass-call-returned-requires : (t : ℕ) → pass-call-lts.Need-returned-requires
 pass-call-returned-requires t c κs = (omega (arith, c .before .before .before .before .before .before .before .before .before .pre .1 .0, c .before .before .before .before .before .before .before .before .before .pre .1 .2, c .before .before .before .before .before .before .before .before .before .pre .1 .3), omega (arith, c .before .before .before .before .before .before .before .before .before .pre .1 .0, c .before .before .before .before .before .before .before .before .before .pre .1 .2), c .pass .ensures .slot)
 
 pass-call-returns-2 : (t : ℕ) → pass-call-lts.Need-returns-2 (pass-call-claims t) (pass-call-at t) pass-call.Post
-pass-call-returns-2 t c = let a = c .before .before .before .before .before .before .before .before .before .before .args in let m = c .before .before .before .before .before .before .call-at .ensures .may (not-false _ (c .before .before .before .before .if1 .left)) in rw (c .returned .ensures) (pass-opened (a .question .now) (a .src .now) (a .at) (a .binders) (a .calls) false (a .i) (c .before .before .before .before .before .before .before .before .before .before .pre .1 .1) (c .before .before .before .before .before .before .call-at .result .definition) (c .before .before .before .before .before .before .call-at .result .arity) (c .before .before .before .before .before .before .call-at .ensures .definition) (c .before .before .before .before .before .before .call-at .ensures .arity) (c .before .before .before .body-of .result .now) (c .before .before .before .body-of .ensures) (omega (arith, c .before .before .before .before .before .before .before .before .before .before .pre .1 .0, c .before .before .before .before .before .before .before .before .before .before .pre .1 .2, c .before .before .before .before .before .before .before .before .before .before .pre .1 .3)) (a .calls - 1) (omega (arith, m)) (c .before .pass .result) (c .before .pass .ensures))
+pass-call-returns-2 t c = let a = c .before .before .before .before .before .before .before .before .before .before .args in let m = c .before .before .before .before .before .before .call-at .ensures .may (not-false _ (c .before .before .before .before .if1 .left)) in rw (c .returned .ensures) (pass-opened (a .question .now) (a .src .now) (a .at) (a .binders) (a .calls) false (a .i) (c .before .before .before .before .before .before .before .before .before .before .pre .1 .1) (c .before .before .before .before .before .before .call-at .result .definition) (c .before .before .before .before .before .before .call-at .result .arity) (c .before .before .before .before .before .before .call-at .ensures .definition) (c .before .before .before .before .before .before .call-at .ensures .arity) (c .before .before .before .body-at .result .now) (c .before .before .before .body-at .ensures (c .before .before .before .before .before .before .call-at .result .definition) (c .before .before .before .before .before .before .call-at .ensures .place)) (omega (arith, c .before .before .before .before .before .before .before .before .before .before .pre .1 .0, c .before .before .before .before .before .before .before .before .before .before .pre .1 .2, c .before .before .before .before .before .before .before .before .before .before .pre .1 .3)) (a .calls - 1) (omega (arith, m)) (c .before .pass .result) (c .before .pass .ensures))
 
 pub +pass+pass-call-spec : {M : Type 1} → statement M
 +pass+pass-call-spec = close μ-pass μ-pass-call (λ t. pass-lts.spec (pass-claims t)
@@ -218,7 +218,7 @@ pub +pass+pass-call-spec : {M : Type 1} → statement M
     (pass-call-call-at-requires t)
     (pass-call-silent-requires t)
     (pass-call-returns t)
-    (pass-call-body-of-requires t)
+    (pass-call-body-at-requires t)
     (pass-call-body-tally-requires t)
     (pass-call-sub-pass t)
     (pass-call-pass-requires t)

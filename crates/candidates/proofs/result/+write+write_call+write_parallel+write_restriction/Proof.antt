@@ -28,7 +28,7 @@ use Rattle.candidates.proofs.result.+write+write_call+write_parallel+wr
 use Rattle.candidates.proofs.result.write_restriction.Reads as write-restriction
 use Rattle.candidates.proofs.result.write_restriction.Kinds as write-restriction-kinds
 use Rattle.candidates.proofs.result.+write+write_call+write_parallel+write_restriction.Lts-write_restriction as write-restriction-lts
-use Rattle.candidates.proofs.bodies.body_of.Reads as body-of-reads
+use Rattle.candidates.proofs.bodies.body_at.Reads as body-at-reads
 use Rattle.candidates.proofs.bodies.call_at.Reads as call-at-reads
 use Rattle.candidates.proofs.names.called.Reads as called-reads
 use Rattle.candidates.proofs.pass.branch_of.Reads as branch-of-reads
@@ -107,7 +107,7 @@ abbrev write-claims : ℕ → write-lts.Claims
 write-claims t = (write-term-reads.Asked, write-term-reads.Learnt, get-reads.Asked, get-reads.Learnt, write-prefix-reads.Asked, write-prefix-reads.Learnt, write-below t, write.Post, branch-of-reads.Asked, branch-of-reads.Learnt, with-number-reads.Asked, with-number-reads.Learnt, write-parallel-below t, write-parallel.Post, write-restriction-below t, write-restriction.Post, write-call-below t, write-call.Post)
 
 abbrev write-call-claims : ℕ → write-call-lts.Claims
-write-call-claims t = (call-at-reads.Asked, call-at-reads.Learnt, enter-reads.Asked, enter-reads.Learnt, body-of-reads.Asked, body-of-reads.Learnt, body-tally-reads.Asked, body-tally-reads.Learnt, called-reads.Asked, called-reads.Learnt, write-below t, write.Post)
+write-call-claims t = (call-at-reads.Asked, call-at-reads.Learnt, enter-reads.Asked, enter-reads.Learnt, body-at-reads.Asked, body-at-reads.Learnt, body-tally-reads.Asked, body-tally-reads.Learnt, called-reads.Asked, called-reads.Learnt, write-below t, write.Post)
 
 abbrev write-parallel-claims : ℕ → write-parallel-lts.Claims
 write-parallel-claims t = (plan-of-reads.Asked, plan-of-reads.Learnt, open-pair-reads.Asked, open-pair-reads.Learnt, write-below t, write.Post)
@@ -218,7 +218,7 @@ write-returns-8 : (t : ℕ) → write-lts.Need-returns-8 (write-claims t) (write
 write-returns-8 t c = let a = c .before .before .before .before .before .before .before .before .before .before .before .before .before .before .before .before .before .before .before .args in (c .before .before .write-call .ensures, kept-all (a .binders) (a .names .now))
 
 write-call-call-at-requires : (t : ℕ) → write-call-lts.Need-call-at-requires (write-call-claims t) (write-call-at t) write-call.Post
-write-call-call-at-requires t c κs = c .before .before .before .before .before .pre .1 .0
+write-call-call-at-requires t c κs = (c .before .before .before .before .before .pre .1 .0, c .before .before .before .before .before .pre .1 .7)
 
 write-call-add-result : (t : ℕ) → write-call-lts.Need-add-result (write-call-claims t) (write-call-at t) write-call.Post
 write-call-add-result t c = search needs
@@ -229,8 +229,8 @@ write-call-returns t c = let a = c .before .before .before .before .before .befo
 write-call-enter-requires : (t : ℕ) → write-call-lts.Need-enter-requires (write-call-claims t) (write-call-at t) write-call.Post
 write-call-enter-requires t c κs = let m = c .before .before .call-at .ensures .may (not-false _ (c .if1 .left)) in m .0
 
-write-call-body-of-requires : (t : ℕ) → write-call-lts.Need-body-of-requires (write-call-claims t) (write-call-at t) write-call.Post
-write-call-body-of-requires t c κs = search needs
+write-call-body-at-requires : (t : ℕ) → write-call-lts.Need-body-at-requires (write-call-claims t) (write-call-at t) write-call.Post
+write-call-body-at-requires t c κs = search needs
 
 write-call-body-tally-requires : (t : ℕ) → write-call-lts.Need-body-tally-requires (write-call-claims t) (write-call-at t) write-call.Post
 write-call-body-tally-requires t c κs = (c .before .before .before .before .call-at .ensures .may (not-false _ (c .before .before .if1 .left)) .3, c .before .before .before .before .before .before .before .before .before .before .pre .1 .7 .size)
@@ -245,13 +245,13 @@ write-call-slice-aggregate-write : (t : ℕ) → write-call-lts.Need-slice-aggre
 write-call-slice-aggregate-write t c = search needs
 
 write-call-write-requires : (t : ℕ) → write-call-lts.Need-write-requires (write-call-claims t) (write-call-at t) write-call.Post
-write-call-write-requires t c κs = let a = c .before .before .before .before .before .before .before .before .before .before .before .before .before .before .args in let m = c .before .before .before .before .before .before .before .before .call-at .ensures .may (not-false _ (c .before .before .before .before .before .before .if1 .left)) in let k : c .before .before .before .before .before .enter .result .calls ≡ a .task .calls - 1 = ap (λ (t : Task). t .calls) (c .before .before .before .before .before .enter .ensures) in let l : c .before .before .before .before .before .enter .result .levels ≡ a .task .levels = ap (λ (t : Task). t .levels) (c .before .before .before .before .before .enter .ensures) in let b = ap length (c .before .before .before .before .body-of .ensures .piece) in (omega (arith, c .before .before .before .before .before .before .before .before .before .before .before .before .before .before .pre .0, c .before .before .before .before .before .before .before .before .before .before .before .before .before .before .pre .1 .0, m, k, b), (omega (arith, m, b), omega (arith, m), omega (arith, k, c .before .before .before .before .before .before .before .before .before .before .before .before .before .before .pre .1 .3), search needs, (omega (arith, l, c .before .before .before .before .before .before .before .before .before .before .before .before .before .before .pre .1 .6), c .before .before .before .before .before .before .before .before .before .before .before .before .before .before .pre .1 .6 .1), called-tally (a .question .now) (a .bodies .now) (a .src .now) (a .at) (a .task .calls) (c .before .before .before .before .before .before .before .before .before .before .before .before .before .before .pre .1 .7) (c .before .before .before .before .before .before .before .before .call-at .result) (c .before .before .before .before .before .before .before .before .call-at .ensures) (not-false _ (c .before .before .before .before .before .before .if1 .left)) (c .before .before .before .before .before .before .before .before .before .before .before .before .before .before .pre .1 .3) (c .before .before .before .before .body-of .result .now) (c .before .before .before .before .body-of .ensures) (c .before .before .before .body-tally .result .now) (c .before .before .before .body-tally .ensures) _ k, c .before .before .before .before .before .before .before .before .before .before .before .before .before .before .pre .1 .7))
+write-call-write-requires t c κs = let a = c .before .before .before .before .before .before .before .before .before .before .before .before .before .before .args in let m = c .before .before .before .before .before .before .before .before .call-at .ensures .may (not-false _ (c .before .before .before .before .before .before .if1 .left)) in let k : c .before .before .before .before .before .enter .result .calls ≡ a .task .calls - 1 = ap (λ (t : Task). t .calls) (c .before .before .before .before .before .enter .ensures) in let l : c .before .before .before .before .before .enter .result .levels ≡ a .task .levels = ap (λ (t : Task). t .levels) (c .before .before .before .before .before .enter .ensures) in let b = ap length ((c .before .before .before .before .body-at .ensures (c .before .before .before .before .before .before .before .before .call-at .result .definition) (c .before .before .before .before .before .before .before .before .call-at .ensures .place)) .piece) in (omega (arith, c .before .before .before .before .before .before .before .before .before .before .before .before .before .before .pre .0, c .before .before .before .before .before .before .before .before .before .before .before .before .before .before .pre .1 .0, m, k, b), (omega (arith, m, b), omega (arith, m), omega (arith, k, c .before .before .before .before .before .before .before .before .before .before .before .before .before .before .pre .1 .3), search needs, (omega (arith, l, c .before .before .before .before .before .before .before .before .before .before .before .before .before .before .pre .1 .6), c .before .before .before .before .before .before .before .before .before .before .before .before .before .before .pre .1 .6 .1), called-tally (a .question .now) (a .bodies .now) (a .src .now) (a .at) (a .task .calls) (c .before .before .before .before .before .before .before .before .before .before .before .before .before .before .pre .1 .7) (c .before .before .before .before .before .before .before .before .call-at .result) (c .before .before .before .before .before .before .before .before .call-at .ensures) (not-false _ (c .before .before .before .before .before .before .if1 .left)) (c .before .before .before .before .before .before .before .before .before .before .before .before .before .before .pre .1 .3) (c .before .before .before .before .body-at .result .now) (c .before .before .before .before .body-at .ensures (c .before .before .before .before .before .before .before .before .call-at .result .definition) (c .before .before .before .before .before .before .before .before .call-at .ensures .place)) (c .before .before .before .body-tally .result .now) (c .before .before .before .body-tally .ensures) _ k, c .before .before .before .before .before .before .before .before .before .before .before .before .before .before .pre .1 .7))
 
 write-call-same-length : (t : ℕ) → write-call-lts.Need-same-length (write-call-claims t) (write-call-at t) write-call.Post
 write-call-same-length t c = search needs
 
 write-call-returns-2 : (t : ℕ) → write-call-lts.Need-returns-2 (write-call-claims t) (write-call-at t) write-call.Post
-write-call-returns-2 t c = let a = c .before .before .before .before .before .before .before .before .before .before .before .before .before .before .before .before .before .before .args in let m = c .before .before .before .before .before .before .before .before .before .before .before .before .call-at .ensures .may (not-false _ (c .before .before .before .before .before .before .before .before .before .before .if1 .left)) in write-opened (a .question .now) (a .src .now) (a .at) (a .binders) (a .names .now) (a .task) (c .before .before .before .before .before .before .before .before .before .before .before .before .before .before .before .before .before .before .pre .1 .2) (a .out .now) (a .put) (c .before .before .before .before .before .before .before .before .before .before .before .before .before .before .before .before .before .before .pre .1 .1) (c .before .before .before .before .before .before .before .before .before .before .before .before .call-at .result) (c .before .before .before .before .before .before .before .before .before .before .before .before .call-at .ensures) (c .before .before .before .before .before .before .before .before .body-of .result .now) (c .before .before .before .before .before .before .before .before .body-of .ensures) (a .task .calls - 1) (omega (arith, m)) (c .before .before .before .before .before .before .before .before .before .enter .result) (c .before .before .before .before .before .before .before .before .before .enter .ensures) (c .before .before .before .before .before .before .called .result) (c .before .before .before .before .before .before .called .ensures) (c .before .before .before .write .result) _ (c .before .before .before .write .ensures .0)
+write-call-returns-2 t c = let a = c .before .before .before .before .before .before .before .before .before .before .before .before .before .before .before .before .before .before .args in let m = c .before .before .before .before .before .before .before .before .before .before .before .before .call-at .ensures .may (not-false _ (c .before .before .before .before .before .before .before .before .before .before .if1 .left)) in write-opened (a .question .now) (a .src .now) (a .at) (a .binders) (a .names .now) (a .task) (c .before .before .before .before .before .before .before .before .before .before .before .before .before .before .before .before .before .before .pre .1 .2) (a .out .now) (a .put) (c .before .before .before .before .before .before .before .before .before .before .before .before .before .before .before .before .before .before .pre .1 .1) (c .before .before .before .before .before .before .before .before .before .before .before .before .call-at .result) (c .before .before .before .before .before .before .before .before .before .before .before .before .call-at .ensures) (c .before .before .before .before .before .before .before .before .body-at .result .now) (c .before .before .before .before .before .before .before .before .body-at .ensures (c .before .before .before .before .before .before .before .before .before .before .before .before .call-at .result .definition) (c .before .before .before .before .before .before .before .before .before .before .before .before .call-at .ensures .place)) (a .task .calls - 1) (omega (arith, m)) (c .before .before .before .before .before .before .before .before .before .enter .result) (c .before .before .before .before .before .before .before .before .before .enter .ensures) (c .before .before .before .before .before .before .called .result) (c .before .before .before .before .before .before .called .ensures) (c .before .before .before .write .result) _ (c .before .before .before .write .ensures .0)
 
 write-parallel-plan-of-requires : (t : ℕ) → write-parallel-lts.Need-plan-of-requires (write-parallel-claims t) (write-parallel-at t) write-parallel.Post
 write-parallel-plan-of-requires t c κs = (c .before .before .before .before .before .before .before .pre .1 .3 .0, c .before .before .before .before .before .before .before .pre .1 .0, c .before .before .before .before .before .before .before .pre .1 .3 .1, omega (arith, c .before .before .before .before .before .before .before .pre .1 .3 .4), c .before .before .before .before .before .before .before .pre .1 .2, c .before .before .before .before .before .before .before .pre .1 .3 .2, c .before .before .before .before .before .before .before .pre .1 .3 .5, c .before .before .before .before .before .before .before .pre .1 .3 .6)
@@ -410,7 +410,7 @@ pub +write+write-call+write-parallel+write-restriction-spec :
     (write-call-add-result t)
     (write-call-returns t)
     (write-call-enter-requires t)
-    (write-call-body-of-requires t)
+    (write-call-body-at-requires t)
     (write-call-body-tally-requires t)
     (write-call-add-called t)
     (write-call-called-requires t)

@@ -3,11 +3,11 @@ use mathlib.Core.Path.{_≡_, refl, ap, subst, _∙_}
 use Prim.Native.Nat.{ℕ, _-_, _≤_}
 use native.Mathlib.Numerals.{add-one}
 use native.Mathlib.Omega.{arith}
-use borrow.Author.Needs.{needs}
 use Rattle.terms.specs.FieldPlaces.{afterField, fieldPlace}
 use Rattle.terms.specs.Limits.{mostDefinitions}
 use Rattle.candidates.specs.Tally.{TalliedBelow}
 use Rattle.candidates.proofs.TallyLoops.{tallied-none}
+use borrow.Author.Needs.{needs}
 use Rattle.candidates.proofs.tally.body_tallies.Statement.{statement}
 use Rattle.candidates.proofs.tally.body_tallies.Tie as tie
 
@@ -42,8 +42,14 @@ loop-again : tie.Need-loop-again Inv-loop μ-loop
 unfolding fieldPlace
 loop-again c = (omega (arith, c .before .before .before .before .loop-test .taken), c .before .before .tally-body .ensures, rw add-one (c .after-field .ensures ∙ ap (afterField _) (c .before .before .before .before .before .loop .inv .2)))
 
+slice-aggregate-put-places : tie.Need-slice-aggregate-put-places Inv-loop μ-loop
+slice-aggregate-put-places c = search needs
+
+put-places-requires : tie.Need-put-places-requires Inv-loop μ-loop
+put-places-requires c κs = subst (λ (k : ℕ). TalliedBelow (c .before .before .before .before .before .args .question .now) k (c .before .before .loop .bodies)) (omega (arith, c .before .before .loop .inv .0, c .before .loop-test .left)) (c .before .before .loop .inv .1)
+
 returns : tie.Need-returns Inv-loop μ-loop
-returns c = subst (λ (k : ℕ). TalliedBelow (c .before .before .before .before .args .question .now) k (c .before .loop .bodies)) (omega (arith, c .before .loop .inv .0, c .loop-test .left)) (c .before .loop .inv .1)
+returns c = c .before .put-places .ensures
 
 pub body-tallies-spec : {M : Type 1} → statement M
 body-tallies-spec =
@@ -59,4 +65,6 @@ body-tallies-spec =
     add-k
     loop-less
     loop-again
+    slice-aggregate-put-places
+    put-places-requires
     returns)

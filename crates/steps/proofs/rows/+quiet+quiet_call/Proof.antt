@@ -18,7 +18,7 @@ use Rattle.steps.proofs.rows.+quiet+quiet_call.Lts-quiet as quiet-lts
 use Rattle.steps.proofs.rows.quiet_call.Reads as quiet-call
 use Rattle.steps.proofs.rows.quiet_call.Kinds as quiet-call-kinds
 use Rattle.steps.proofs.rows.+quiet+quiet_call.Lts-quiet_call as quiet-call-lts
-use Rattle.candidates.proofs.bodies.body_of.Reads as body-of-reads
+use Rattle.candidates.proofs.bodies.body_at.Reads as body-at-reads
 use Rattle.candidates.proofs.bodies.call_at.Reads as call-at-reads
 use Rattle.candidates.proofs.pass.middle_of.Reads as middle-of-reads
 use Rattle.candidates.proofs.tally.body_tally.Reads as body-tally-reads
@@ -50,7 +50,7 @@ abbrev quiet-claims : ℕ → quiet-lts.Claims
 quiet-claims t = (silent-at-reads.Asked, silent-at-reads.Learnt, quiet-below t, quiet.Post, quiet-call-below t, quiet-call.Post, middle-of-reads.Asked, middle-of-reads.Learnt)
 
 abbrev quiet-call-claims : ℕ → quiet-call-lts.Claims
-quiet-call-claims t = (call-at-reads.Asked, call-at-reads.Learnt, body-of-reads.Asked, body-of-reads.Learnt, body-tally-reads.Asked, body-tally-reads.Learnt, quiet-below t, quiet.Post)
+quiet-call-claims t = (call-at-reads.Asked, call-at-reads.Learnt, body-at-reads.Asked, body-at-reads.Learnt, body-tally-reads.Asked, body-tally-reads.Learnt, quiet-below t, quiet.Post)
 
 quiet-returns : (t : ℕ) → quiet-lts.Need-returns (quiet-claims t) (quiet-at t) quiet.Post
 quiet-returns t c = let a = c .before .before .before .before .before .args in let p = c .before .before .before .before .before .pre in quiet-none (a .question .now) (a .src .now) (a .at) (a .calls) _ (c .if1 .taken)
@@ -109,8 +109,8 @@ quiet-call-call-at-requires t c κs = search needs
 quiet-call-returns : (t : ℕ) → quiet-call-lts.Need-returns (quiet-call-claims t) (quiet-call-at t) quiet-call.Post
 quiet-call-returns t c = let a = c .before .before .before .before .before .before .args in let p = c .before .before .before .before .before .before .pre in quiet-closed (a .question .now) (a .src .now) (a .at) (a .calls) _ (p .1 .1) (c .before .before .call-at .result) (c .before .before .call-at .ensures) (not-true _ (c .if1 .taken))
 
-quiet-call-body-of-requires : (t : ℕ) → quiet-call-lts.Need-body-of-requires (quiet-call-claims t) (quiet-call-at t) quiet-call.Post
-quiet-call-body-of-requires t c κs = search needs
+quiet-call-body-at-requires : (t : ℕ) → quiet-call-lts.Need-body-at-requires (quiet-call-claims t) (quiet-call-at t) quiet-call.Post
+quiet-call-body-at-requires t c κs = search needs
 
 quiet-call-body-tally-requires : (t : ℕ) → quiet-call-lts.Need-body-tally-requires (quiet-call-claims t) (quiet-call-at t) quiet-call.Post
 quiet-call-body-tally-requires t c κs = let m = c .before .before .before .call-at .ensures .may (not-false _ (c .before .if1 .left)) in (m .3, c .before .before .before .before .before .before .before .pre .1 .3 .size)
@@ -119,10 +119,10 @@ quiet-call-sub-quiet : (t : ℕ) → quiet-call-lts.Need-sub-quiet (quiet-call-c
 quiet-call-sub-quiet t c = let m = c .before .before .before .before .call-at .ensures .may (not-false _ (c .before .before .if1 .left)) in omega (arith, m)
 
 quiet-call-quiet-requires : (t : ℕ) → quiet-call-lts.Need-quiet-requires (quiet-call-claims t) (quiet-call-at t) quiet-call.Post
-quiet-call-quiet-requires t c κs = let a = c .before .before .before .before .before .before .before .before .args in let p = c .before .before .before .before .before .before .before .before .pre in let m = c .before .before .before .before .call-at .ensures .may (not-false _ (c .before .before .if1 .left)) in let b : length (c .before .body-of .result .now) ≤ longestTerm = omega (arith, m, ap length (c .before .body-of .ensures .piece)) in (weight-body (a .calls) (length (a .src .now)) (a .at) (length (c .before .body-of .result .now)) t 2 (p .0) (m .0) b, (b, omega (arith, p .1 .2), called-tally (a .question .now) (a .bodies .now) (a .src .now) (a .at) (a .calls) (p .1 .3) (c .before .before .before .before .call-at .result) (c .before .before .before .before .call-at .ensures) (not-false _ (c .before .before .if1 .left)) (p .1 .2) (c .before .body-of .result .now) (c .before .body-of .ensures) (c .body-tally .result .now) (c .body-tally .ensures) _ refl, p .1 .3))
+quiet-call-quiet-requires t c κs = let a = c .before .before .before .before .before .before .before .before .args in let p = c .before .before .before .before .before .before .before .before .pre in let m = c .before .before .before .before .call-at .ensures .may (not-false _ (c .before .before .if1 .left)) in let b : length (c .before .body-at .result .now) ≤ longestTerm = omega (arith, m, ap length ((c .before .body-at .ensures (c .before .before .before .before .call-at .result .definition) (c .before .before .before .before .call-at .ensures .place)) .piece)) in (weight-body (a .calls) (length (a .src .now)) (a .at) (length (c .before .body-at .result .now)) t 2 (p .0) (m .0) b, (b, omega (arith, p .1 .2), called-tally (a .question .now) (a .bodies .now) (a .src .now) (a .at) (a .calls) (p .1 .3) (c .before .before .before .before .call-at .result) (c .before .before .before .before .call-at .ensures) (not-false _ (c .before .before .if1 .left)) (p .1 .2) (c .before .body-at .result .now) (c .before .body-at .ensures (c .before .before .before .before .call-at .result .definition) (c .before .before .before .before .call-at .ensures .place)) (c .body-tally .result .now) (c .body-tally .ensures) _ refl, p .1 .3))
 
 quiet-call-returns-2 : (t : ℕ) → quiet-call-lts.Need-returns-2 (quiet-call-claims t) (quiet-call-at t) quiet-call.Post
-quiet-call-returns-2 t c = let a = c .before .before .before .before .before .before .before .before .before .args in let p = c .before .before .before .before .before .before .before .before .before .pre in let m = c .before .before .before .before .before .call-at .ensures .may (not-false _ (c .before .before .before .if1 .left)) in quiet-called (a .question .now) (a .src .now) (a .at) (a .calls) _ (p .1 .1) (c .before .before .before .before .before .call-at .result) (c .before .before .before .before .before .call-at .ensures) (m .0) (c .before .before .body-of .result .now) (c .before .before .body-of .ensures) (c .quiet .ensures)
+quiet-call-returns-2 t c = let a = c .before .before .before .before .before .before .before .before .before .args in let p = c .before .before .before .before .before .before .before .before .before .pre in let m = c .before .before .before .before .before .call-at .ensures .may (not-false _ (c .before .before .before .if1 .left)) in quiet-called (a .question .now) (a .src .now) (a .at) (a .calls) _ (p .1 .1) (c .before .before .before .before .before .call-at .result) (c .before .before .before .before .before .call-at .ensures) (m .0) (c .before .before .body-at .result .now) (c .before .before .body-at .ensures (c .before .before .before .before .before .call-at .result .definition) (c .before .before .before .before .before .call-at .ensures .place)) (c .quiet .ensures)
 
 pub +quiet+quiet-call-spec : {M : Type 1} → statement M
 +quiet+quiet-call-spec = close μ-quiet μ-quiet-call (λ t. quiet-lts.spec (
@@ -157,8 +157,8 @@ pub +quiet+quiet-call-spec : {M : Type 1} → statement M
     λ t. quiet-call-lts.spec (
       call-at-reads.Asked,
       call-at-reads.Learnt,
-      body-of-reads.Asked,
-      body-of-reads.Learnt,
+      body-at-reads.Asked,
+      body-at-reads.Learnt,
       body-tally-reads.Asked,
       body-tally-reads.Learnt,
       quiet-below t,
@@ -168,7 +168,7 @@ pub +quiet+quiet-call-spec : {M : Type 1} → statement M
     quiet-call.Post
     (quiet-call-call-at-requires t)
     (quiet-call-returns t)
-    (quiet-call-body-of-requires t)
+    (quiet-call-body-at-requires t)
     (quiet-call-body-tally-requires t)
     (quiet-call-sub-quiet t)
     (quiet-call-quiet-requires t)

@@ -20,7 +20,7 @@ use Rattle.steps.proofs.rows.+scan+scan_call.Lts-scan as scan-lts
 use Rattle.steps.proofs.rows.scan_call.Reads as scan-call
 use Rattle.steps.proofs.rows.scan_call.Kinds as scan-call-kinds
 use Rattle.steps.proofs.rows.+scan+scan_call.Lts-scan_call as scan-call-lts
-use Rattle.candidates.proofs.bodies.body_of.Reads as body-of-reads
+use Rattle.candidates.proofs.bodies.body_at.Reads as body-at-reads
 use Rattle.candidates.proofs.bodies.call_at.Reads as call-at-reads
 use Rattle.candidates.proofs.label.arguments.Reads as arguments-reads
 use Rattle.candidates.proofs.pass.middle_of.Reads as middle-of-reads
@@ -57,7 +57,7 @@ abbrev scan-claims : ℕ → scan-lts.Claims
 scan-claims t = (is-trivial-reads.Asked, is-trivial-reads.Learnt, scan-below t, scan.Post, adds-nothing-reads.Asked, adds-nothing-reads.Learnt, visible-at-reads.Asked, visible-at-reads.Learnt, put-repeated-reads.Asked, put-repeated-reads.Learnt, scan-prefix-reads.Asked, scan-prefix-reads.Learnt, scan-call-below t, scan-call.Post, middle-of-reads.Asked, middle-of-reads.Learnt, root-of-reads.Asked, root-of-reads.Learnt)
 
 abbrev scan-call-claims : ℕ → scan-call-lts.Claims
-scan-call-claims t = (call-at-reads.Asked, call-at-reads.Learnt, arguments-reads.Asked, arguments-reads.Learnt, body-of-reads.Asked, body-of-reads.Learnt, body-tally-reads.Asked, body-tally-reads.Learnt, scan-below t, scan.Post)
+scan-call-claims t = (call-at-reads.Asked, call-at-reads.Learnt, arguments-reads.Asked, arguments-reads.Learnt, body-at-reads.Asked, body-at-reads.Learnt, body-tally-reads.Asked, body-tally-reads.Learnt, scan-below t, scan.Post)
 
 scan-returns : (t : ℕ) → scan-lts.Need-returns (scan-claims t) (scan-at t) scan.Post
 scan-returns t c = let a = c .before .before .before .before .before .before .before .args in let p = c .before .before .before .before .before .before .before .pre in scan-none (a .question .now) (a .src .now) (a .root) (a .at) (a .asked) (a .args .now) (a .inner) (a .depth) (a .calls) (a .n) (a .rows .now) (p .1 .3) (c .if1 .taken)
@@ -194,8 +194,8 @@ scan-call-add-arguments t c = search needs
 scan-call-arguments-requires : (t : ℕ) → scan-call-lts.Need-arguments-requires (scan-call-claims t) (scan-call-at t) scan-call.Post
 scan-call-arguments-requires t c κs = let a = c .before .before .before .before .before .before .before .before .before .before .args in let p = c .before .before .before .before .before .before .before .before .before .before .pre in let m = c .before .before .before .before .call-at .ensures .may (not-false _ (c .before .before .if1 .left)) in let w = p .1 .2 .room in (omega (arith, c .if2 .left, c .before .before .before .before .call-at .ensures .end), m .1, p .1 .2 .outer, omega arith)
 
-scan-call-body-of-requires : (t : ℕ) → scan-call-lts.Need-body-of-requires (scan-call-claims t) (scan-call-at t) scan-call.Post
-scan-call-body-of-requires t c κs = search needs
+scan-call-body-at-requires : (t : ℕ) → scan-call-lts.Need-body-at-requires (scan-call-claims t) (scan-call-at t) scan-call.Post
+scan-call-body-at-requires t c κs = search needs
 
 scan-call-body-tally-requires : (t : ℕ) → scan-call-lts.Need-body-tally-requires (scan-call-claims t) (scan-call-at t) scan-call.Post
 scan-call-body-tally-requires t c κs = let m = c .before .before .before .before .before .before .call-at .ensures .may (not-false _ (c .before .before .before .before .if1 .left)) in (m .3, c .before .before .before .before .before .before .before .before .before .before .before .before .pre .1 .3 .size)
@@ -207,13 +207,13 @@ scan-call-sub-scan : (t : ℕ) → scan-call-lts.Need-sub-scan (scan-call-claims
 scan-call-sub-scan t c = let m = c .before .before .before .before .before .before .before .before .call-at .ensures .may (not-false _ (c .before .before .before .before .before .before .if1 .left)) in omega (arith, m)
 
 scan-call-scan-requires : (t : ℕ) → scan-call-lts.Need-scan-requires (scan-call-claims t) (scan-call-at t) scan-call.Post
-scan-call-scan-requires t c κs = let a = c .before .before .before .before .before .before .before .before .before .before .before .before .before .before .before .args in let p = c .before .before .before .before .before .before .before .before .before .before .before .before .before .before .before .pre in let m = c .before .before .before .before .before .before .before .before .before .call-at .ensures .may (not-false _ (c .before .before .before .before .before .before .before .if1 .left)) in let b : length (c .before .before .before .body-of .result .now) ≤ longestTerm = omega (arith, m, ap length (c .before .before .before .body-of .ensures .piece)) in (weight-body (a .calls) (length (a .src .now)) (a .at) (length (c .before .before .before .body-of .result .now)) t 2 (p .0) (m .0) b, (room-body (a .src .now) (a .at) (a .inner) (a .depth) (a .calls) (c .before .before .before .body-of .result .now) (p .1 .2) (m .0) b, called-tally (a .question .now) (a .bodies .now) (a .src .now) (a .at) (a .calls) (p .1 .3) (c .before .before .before .before .before .before .before .before .before .call-at .result) (c .before .before .before .before .before .before .before .before .before .call-at .ensures) (not-false _ (c .before .before .before .before .before .before .before .if1 .left)) (p .1 .2 .once) (c .before .before .before .body-of .result .now) (c .before .before .before .body-of .ensures) (c .before .before .body-tally .result .now) (c .before .before .body-tally .ensures) _ refl, p .1 .3, p .1 .4, p .1 .5))
+scan-call-scan-requires t c κs = let a = c .before .before .before .before .before .before .before .before .before .before .before .before .before .before .before .args in let p = c .before .before .before .before .before .before .before .before .before .before .before .before .before .before .before .pre in let m = c .before .before .before .before .before .before .before .before .before .call-at .ensures .may (not-false _ (c .before .before .before .before .before .before .before .if1 .left)) in let b : length (c .before .before .before .body-at .result .now) ≤ longestTerm = omega (arith, m, ap length ((c .before .before .before .body-at .ensures (c .before .before .before .before .before .before .before .before .before .call-at .result .definition) (c .before .before .before .before .before .before .before .before .before .call-at .ensures .place)) .piece)) in (weight-body (a .calls) (length (a .src .now)) (a .at) (length (c .before .before .before .body-at .result .now)) t 2 (p .0) (m .0) b, (room-body (a .src .now) (a .at) (a .inner) (a .depth) (a .calls) (c .before .before .before .body-at .result .now) (p .1 .2) (m .0) b, called-tally (a .question .now) (a .bodies .now) (a .src .now) (a .at) (a .calls) (p .1 .3) (c .before .before .before .before .before .before .before .before .before .call-at .result) (c .before .before .before .before .before .before .before .before .before .call-at .ensures) (not-false _ (c .before .before .before .before .before .before .before .if1 .left)) (p .1 .2 .once) (c .before .before .before .body-at .result .now) (c .before .before .before .body-at .ensures (c .before .before .before .before .before .before .before .before .before .call-at .result .definition) (c .before .before .before .before .before .before .before .before .before .call-at .ensures .place)) (c .before .before .body-tally .result .now) (c .before .before .body-tally .ensures) _ refl, p .1 .3, p .1 .4, p .1 .5))
 
 scan-call-same-length : (t : ℕ) → scan-call-lts.Need-same-length (scan-call-claims t) (scan-call-at t) scan-call.Post
 scan-call-same-length t c = search needs
 
 scan-call-returns-3 : (t : ℕ) → scan-call-lts.Need-returns-3 (scan-call-claims t) (scan-call-at t) scan-call.Post
-scan-call-returns-3 t c = λ root. let a = c .before .before .before .before .before .before .before .before .before .before .before .before .before .before .before .before .before .before .args in let p = c .before .before .before .before .before .before .before .before .before .before .before .before .before .before .before .before .before .before .pre in let m = c .before .before .before .before .before .before .before .before .before .before .before .before .call-at .ensures .may (not-false _ (c .before .before .before .before .before .before .before .before .before .before .if1 .left)) in scan-called (a .question .now) (a .src .now) root (a .at) (a .asked) (a .args .now) (a .inner) (a .depth) (a .calls) (a .n) (a .rows .now) (p .1 .1) (c .before .before .before .before .before .before .before .before .before .before .before .before .call-at .result) (c .before .before .before .before .before .before .before .before .before .before .before .before .call-at .ensures) (m .0) (c .before .before .before .before .before .before .body-of .result .now) (c .before .before .before .before .before .before .body-of .ensures) (c .before .before .before .before .before .before .before .arguments .result) (c .before .before .before .before .before .before .before .arguments .ensures) _ _ (c .before .before .scan .ensures)
+scan-call-returns-3 t c = λ root. let a = c .before .before .before .before .before .before .before .before .before .before .before .before .before .before .before .before .before .before .args in let p = c .before .before .before .before .before .before .before .before .before .before .before .before .before .before .before .before .before .before .pre in let m = c .before .before .before .before .before .before .before .before .before .before .before .before .call-at .ensures .may (not-false _ (c .before .before .before .before .before .before .before .before .before .before .if1 .left)) in scan-called (a .question .now) (a .src .now) root (a .at) (a .asked) (a .args .now) (a .inner) (a .depth) (a .calls) (a .n) (a .rows .now) (p .1 .1) (c .before .before .before .before .before .before .before .before .before .before .before .before .call-at .result) (c .before .before .before .before .before .before .before .before .before .before .before .before .call-at .ensures) (m .0) (c .before .before .before .before .before .before .body-at .result .now) (c .before .before .before .before .before .before .body-at .ensures (c .before .before .before .before .before .before .before .before .before .before .before .before .call-at .result .definition) (c .before .before .before .before .before .before .before .before .before .before .before .before .call-at .ensures .place)) (c .before .before .before .before .before .before .before .arguments .result) (c .before .before .before .before .before .before .before .arguments .ensures) _ _ (c .before .before .scan .ensures)
 
 pub +scan+scan-call-spec : {M : Type 1} → statement M
 +scan+scan-call-spec = close μ-scan μ-scan-call (λ t. scan-lts.spec (scan-claims t)
@@ -264,8 +264,8 @@ pub +scan+scan-call-spec : {M : Type 1} → statement M
       call-at-reads.Learnt,
       arguments-reads.Asked,
       arguments-reads.Learnt,
-      body-of-reads.Asked,
-      body-of-reads.Learnt,
+      body-at-reads.Asked,
+      body-at-reads.Learnt,
       body-tally-reads.Asked,
       body-tally-reads.Learnt,
       scan-below t,
@@ -278,7 +278,7 @@ pub +scan+scan-call-spec : {M : Type 1} → statement M
     (scan-call-returns-2 t)
     (scan-call-add-arguments t)
     (scan-call-arguments-requires t)
-    (scan-call-body-of-requires t)
+    (scan-call-body-at-requires t)
     (scan-call-body-tally-requires t)
     (scan-call-slice-aggregate-scan t)
     (scan-call-sub-scan t)

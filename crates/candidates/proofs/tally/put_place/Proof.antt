@@ -1,0 +1,43 @@
+-- `candidates::tally::put_place` meets its contract. Assumes nothing.
+use native.Mathlib.Omega.{arith}
+use Rattle.candidates.proofs.TallyLoops.{placed-tallied, placed-more, placed-large}
+use borrow.Author.Needs.{needs}
+use Rattle.candidates.proofs.tally.put_place.Statement.{statement}
+use Rattle.candidates.proofs.tally.put_place.Tie as tie
+
+cast-bodies : tie.Need-cast-bodies
+cast-bodies c = omega (arith, c .if1 .taken)
+
+mul-bodies : tie.Need-mul-bodies
+mul-bodies c = search needs
+
+add-bodies : tie.Need-add-bodies
+add-bodies c = search needs
+
+mul-bodies-2 : tie.Need-mul-bodies-2
+mul-bodies-2 c = search needs
+
+slice-write-bodies : tie.Need-slice-write-bodies
+slice-write-bodies c = omega (arith, c .before .pre .0, c .before .pre .1 .size)
+
+same-length : tie.Need-same-length
+same-length c = search needs
+
+returns : tie.Need-returns
+returns c = (placed-tallied _ _ _ (c .before .pre .0) (c .before .pre .1) (c .before .pre .2) _, placed-more _ _ _ (c .before .pre .0) (c .before .pre .1) (c .before .pre .2) _ (c .before .pre .3))
+
+returns-2 : tie.Need-returns-2
+returns-2 c = (c .before .pre .1, placed-large _ _ _ (c .before .pre .0) (c .before .pre .1) (c .before .pre .2) _ (c .before .pre .3) (omega (arith, c .if1 .left)))
+
+pub put-place-spec : {M : Type 1} → statement M
+put-place-spec =
+    tie.close
+    (tie.spec
+    cast-bodies
+    mul-bodies
+    add-bodies
+    mul-bodies-2
+    slice-write-bodies
+    same-length
+    returns
+    returns-2)
