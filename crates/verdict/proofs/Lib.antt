@@ -1,4 +1,5 @@
 pub mod AnyOrder
+pub mod BlockLaws
 pub mod ByNumber
 pub mod Completeness
 pub mod DecideLaws

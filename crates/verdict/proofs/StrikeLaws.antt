@@ -24,11 +24,12 @@ use Rattle.field.proofs.KeysDiffer.{slot-key}
 use Rattle.field.proofs.Run.{selves}
 use Rattle.field.proofs.Members.{getD-∈}
 use Rattle.verdict.specs.Notes.{SpareOnly, NoteIs, RestsIs}
-use Rattle.verdict.specs.Striking.{marks, living, zeros, leftOf, EqualParts, Searching, SurvivesIs, ExaminedIs, AllNoted, EqualPartsIs, Strikes, none-struck, one-struck, notes-changed, StrikesOne, AllSurvive, Run, PassIs, FirstStruckIs, StartSurvivesIs, blockSlots, blockSize, turned}
+use Rattle.verdict.specs.Striking.{marks, living, zeros, leftOf, EqualParts, Searching, SurvivesIs, ExaminedIs, AllNoted, EqualPartsIs, Strikes, none-struck, one-struck, notes-changed, StrikesOne, AllSurvive, Run, PassIs, FirstStruckIs, StartSurvivesIs, blockSlots, turned}
 use Rattle.verdict.specs.Verdict.{allAnswered}
 use Rattle.verdict.specs.declared.strike.Answered.{Answered}
 use Rattle.verdict.proofs.AnyOrder.{StrikesTo, all-left}
 use Rattle.verdict.proofs.AnyOrder as order
+use Rattle.verdict.proofs.BlockLaws.{Blocks, block-of, in-block}
 use Rattle.verdict.proofs.EqualParts.{equal-survives, equal-bytes}
 use Rattle.verdict.proofs.FieldKept.{SameField, same-none, same-then, struck-same, spare-same, field-kept, noted-struck, noted-one, rests-survives, spare-mark, spare-left, survives-kept}
 use Rattle.verdict.proofs.Living.{struck-either, struck-within, all-living}
@@ -75,13 +76,6 @@ turned-twice false count i h = refl
 -- The situations of those of the n parts that a pass has taken up while i wait.
 unfoldable pub TakenUp : Bool → ℕ → (ℕ → ℕ → Type 0) → ℕ → ℕ → Type 0
 TakenUp rising n Part i j = (k : ℕ) × (k < n) × (i ≤ turned rising n k) × Part k j
-
--- Parts of one slot, and of one block.
-abbrev pub Slots : ℕ → ℕ → ℕ → Type 0
-Slots from k = Run (from + k) 1
-
-abbrev pub Blocks : ℕ → ℕ → ℕ → Type 0
-Blocks count k = Run (blockSlots * k) (blockSize count (blockSlots * k))
 
 module _ (question : List ℕ) (capacity count : ℕ) where
   pub strikes-then : {work v u : List ℕ} → Strikes question capacity count work v → Strikes question capacity count v u → Strikes question capacity count work u
@@ -298,16 +292,14 @@ module _ (question : List ℕ) (capacity count : ℕ) where
             let e′ : t ≡ m = at ∙ ap (turned rising n) e ∙ turned-twice rising n m l in
             inr (subst (λ m. Part m j) (sym e′) x)
 
-  -- strike_run, strike_pass
-  pub run-passed : (rising : Bool) {work u : List ℕ} {r : Bool} (from size i : ℕ) → i ≡ 0 → PassIs question capacity work count (TakenUp rising size (Slots from) i) r u
-      → PassIs question capacity work count (Run from size) r u
+  -- strike_blocks
+  pub blocks-passed : (rising : Bool) {work u : List ℕ} {r : Bool} (from size level b n i : ℕ) → b ≡ blockSlots level → n ≡ (size + b - 1) / b → i ≡ 0
+      → PassIs question capacity work count (TakenUp rising n (Blocks from size b) i) r u → PassIs question capacity work count (Run from size) r u
   unfolding TakenUp
-  run-passed rising from size i e = pass-within (Run from size) (λ j h m. (j - from, omega arith, omega arith, (omega arith, omega arith)))
-
-  pub blocks-passed : (rising : Bool) {work u : List ℕ} {r : Bool} (n i : ℕ) → n ≡ (count + blockSlots - 1) / blockSlots → i ≡ 0
-      → PassIs question capacity work count (TakenUp rising n (Blocks count) i) r u → PassIs question capacity work count (Run 0 count) r u
-  unfolding TakenUp
-  blocks-passed rising n i e z = pass-within (Run 0 count) (λ j h m. (j / blockSlots, omega arith, omega arith, (omega arith, omega arith)))
+  blocks-passed rising from size level b n i w e z =
+      pass-within (Run from size) (λ j h m.
+      let (k, below, least, most) = block-of level size b (j - from) w (omega arith) in
+      (k, rw e below, omega arith, in-block from size b (b * k) j (m .0) (m .1) least most))
 
   pub pass-all : {v u : List ℕ} {r : Bool} → PassIs question capacity v count (Run 0 count) r u → r ≡ false → AllSurvive question capacity u count
   unfolding AllSurvive

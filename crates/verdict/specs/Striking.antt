@@ -204,12 +204,9 @@ turned rising count i = cond rising (count - 1 - i) i
 abbrev pub Run : ℕ → ℕ → ℕ → Type 0
 Run from size = λ j. (from ≤ j) × (j < from + size)
 
--- A pass settles a block before it goes on.
-abbrev pub blockSlots : ℕ
-blockSlots = 64
-
-abbrev pub blockSize : ℕ → ℕ → ℕ
-blockSize count from = min blockSlots (count - from)
+-- How many slots a block of each level has. A pass settles a block, by passes over the blocks of the level below, before it goes on.
+unfoldable pub blockSlots : ℕ → ℕ
+blockSlots level = cond (eqb level 0) 1 (cond (eqb level 1) 16 256)
 
 -- One pass over the situations in H, or several: whether any was struck out. If none was, only notes are changed, and those in H that are left
 -- survive.

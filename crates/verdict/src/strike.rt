@@ -1,6 +1,6 @@
 // Strike-out over the situations of the field, in place: document 01, "The field and the verdict".
 ghost use mathlib.Core.Path.{_≡_};
-ghost use Prim.Native.Nat.{_+_, _*_, _<_, _≤_};
+ghost use Prim.Native.Nat.{_+_, _-_, _*_, _<_, _≤_, min};
 ghost use lib.ListN.{length};
 ghost use Rattle.field.specs.ListArea.{Labelled};
 ghost use Rattle.field.specs.Slot.{keyBytes, slotBytes, struckAt};
@@ -9,7 +9,7 @@ ghost use Rattle.steps.specs.Limits.{stepBytes};
 ghost use Rattle.steps.specs.Rows.{rowBytes, mostRows};
 ghost use Rattle.verdict.specs.Judge.{greatestCapacity};
 ghost use Rattle.verdict.specs.Notes.{Numbers};
-ghost use Rattle.verdict.specs.Striking.{LeftIs, AnswerLeftIs, SideAnsweredIs, ExaminedIs, AllNoted, EqualPartsIs, StrikesOne, Run, PassIs, FirstStruckIs, StartSurvivesIs, blockSize, turned};
+ghost use Rattle.verdict.specs.Striking.{LeftIs, AnswerLeftIs, SideAnsweredIs, ExaminedIs, AllNoted, EqualPartsIs, StrikesOne, Run, PassIs, FirstStruckIs, StartSurvivesIs, blockSlots, turned};
 use crate::relied::Relied;
 use crate::relied::clear_notes;
 use crate::relied::note;
@@ -34,8 +34,8 @@ use field::taking::take_up;
 use steps::limits::STEP_BYTES;
 use terms::bytes::get;
 
-// How many slots a pass settles before it goes on.
-const BLOCK: usize = 64;
+// The level of the largest blocks.
+const LARGEST_BLOCKS: usize = 2;
 
 // The slot of the situation with this key, of the first `count`, if it is left.
 fn find_left(work: &[u8], capacity: usize, count: usize, key: &[u8]) -> Found
@@ -286,8 +286,32 @@ fn turn(rising: bool, count: usize, i: usize) -> usize
     i
 }
 
-// One pass over the `size` situations from `from` on, the last one first or the first one; whether it struck any out.
-fn strike_run(
+// How many slots a block has: blocks of one slot, of 16, and of 256 that have 16 of those.
+fn width(level: usize) -> usize
+    ensures { λ r. ⌜ r ≡ blockSlots level ⌝ }
+{
+    if level == 0 {
+        return 1;
+    }
+    if level == 1 {
+        return 16;
+    }
+    256
+}
+
+// How many of the slots before `end` belong to the block of this width that begins at `from`.
+fn block_size(end: usize, from: usize, width: usize) -> usize
+    requires { ⌜ from < end ⌝ }
+    ensures { λ r. ⌜ r ≡ min width (end - from) ⌝ }
+{
+    if end - from < width {
+        return end - from;
+    }
+    width
+}
+
+// One pass over the `size` situations from `from` on, block by block, from the last to the first or the other way round; whether it struck any out.
+fn strike_blocks(
     question: &[u8],
     bodies: &[u32],
     work: &mut [u8],
@@ -295,6 +319,7 @@ fn strike_run(
     count: usize,
     from: usize,
     size: usize,
+    level: usize,
     numbers: &mut [u32],
     rows: &mut [u8],
     firsts: &mut [u8],
@@ -304,21 +329,27 @@ fn strike_run(
     requires { ⌜ (from + size ≤ count) × (count ≤ capacity) × (slotBytes * capacity ≤ length (now work)) × BodiesTallied (now question) (now bodies) × (length (now numbers) ≡ tallySize) × (rowBytes * mostRows ≤ length (now rows)) × Labelled (now question) (now firsts) × Labelled (now question) (now seconds) × (capacity ≤ greatestCapacity) × AllNoted (now question) capacity (now work) count ⌝ }
     ensures { λ r. ⌜ PassIs (now (question .entry)) capacity (now (work .entry)) count (Run from size) r (now (work .exit)) × Labelled (now (question .entry)) (now (firsts .exit)) × Labelled (now (question .entry)) (now (seconds .exit)) ⌝ }
 {
+    let block = width(level);
+    let blocks = (size + block - 1) / block;
     let mut struck = false;
-    let mut i = size;
+    let mut i = blocks;
     while 0 < i {
         i -= 1;
-        if strike_one(
+        let at = from + block * turn(rising, blocks, i);
+        if settle(
             question,
             bodies,
             work,
             capacity,
             count,
-            from + turn(rising, size, i),
+            at,
+            block_size(from + size, at, block),
+            level,
             numbers,
             rows,
             firsts,
             seconds,
+            rising,
         ) {
             struck = true;
         }
@@ -327,7 +358,8 @@ fn strike_run(
 }
 
 // Passes over one block by turns of direction until one strikes out none of it; whether any was struck out. Situations that fail because of each
-// other lie near each other mostly, so that the rest of the field is not gone over for each.
+// other lie near each other mostly, so that the rest of the field is not gone over for each: a block is settled before the next, and within it the
+// smaller ones are.
 fn settle(
     question: &[u8],
     bodies: &[u32],
@@ -336,19 +368,34 @@ fn settle(
     count: usize,
     from: usize,
     size: usize,
+    level: usize,
     numbers: &mut [u32],
     rows: &mut [u8],
     firsts: &mut [u8],
     seconds: &mut [u8],
     rising: bool,
 ) -> bool
-    requires { ⌜ (from + size ≤ count) × (count ≤ capacity) × (slotBytes * capacity ≤ length (now work)) × BodiesTallied (now question) (now bodies) × (length (now numbers) ≡ tallySize) × (rowBytes * mostRows ≤ length (now rows)) × Labelled (now question) (now firsts) × Labelled (now question) (now seconds) × (capacity ≤ greatestCapacity) × AllNoted (now question) capacity (now work) count ⌝ }
+    requires { ⌜ (from + size ≤ count) × (count ≤ capacity) × (slotBytes * capacity ≤ length (now work)) × BodiesTallied (now question) (now bodies) × (length (now numbers) ≡ tallySize) × (rowBytes * mostRows ≤ length (now rows)) × Labelled (now question) (now firsts) × Labelled (now question) (now seconds) × (capacity ≤ greatestCapacity) × AllNoted (now question) capacity (now work) count × (level ≡ 0 → size ≡ 1) ⌝ }
     ensures { λ r. ⌜ PassIs (now (question .entry)) capacity (now (work .entry)) count (Run from size) r (now (work .exit)) × Labelled (now (question .entry)) (now (firsts .exit)) × Labelled (now (question .entry)) (now (seconds .exit)) ⌝ }
 {
+    if level == 0 {
+        return strike_one(
+            question,
+            bodies,
+            work,
+            capacity,
+            count,
+            from,
+            numbers,
+            rows,
+            firsts,
+            seconds,
+        );
+    }
     let mut struck = false;
     let mut up = rising;
     loop {
-        if !strike_run(
+        if !strike_blocks(
             question,
             bodies,
             work,
@@ -356,6 +403,7 @@ fn settle(
             count,
             from,
             size,
+            level - 1,
             numbers,
             rows,
             firsts,
@@ -367,59 +415,6 @@ fn settle(
         struck = true;
         up = !up;
     }
-}
-
-// How many of the `count` slots belong to the block that begins at `from`.
-fn block_size(count: usize, from: usize) -> usize
-    requires { ⌜ from < count ⌝ }
-    ensures { λ r. ⌜ r ≡ blockSize count from ⌝ }
-{
-    if count - from < BLOCK {
-        return count - from;
-    }
-    BLOCK
-}
-
-// One pass over all situations block by block, from the last to the first or the other way round; whether it struck any out.
-fn strike_pass(
-    question: &[u8],
-    bodies: &[u32],
-    work: &mut [u8],
-    capacity: usize,
-    count: usize,
-    numbers: &mut [u32],
-    rows: &mut [u8],
-    firsts: &mut [u8],
-    seconds: &mut [u8],
-    rising: bool,
-) -> bool
-    requires { ⌜ (count ≤ capacity) × (slotBytes * capacity ≤ length (now work)) × BodiesTallied (now question) (now bodies) × (length (now numbers) ≡ tallySize) × (rowBytes * mostRows ≤ length (now rows)) × Labelled (now question) (now firsts) × Labelled (now question) (now seconds) × (capacity ≤ greatestCapacity) × AllNoted (now question) capacity (now work) count ⌝ }
-    ensures { λ r. ⌜ PassIs (now (question .entry)) capacity (now (work .entry)) count (Run 0 count) r (now (work .exit)) × Labelled (now (question .entry)) (now (firsts .exit)) × Labelled (now (question .entry)) (now (seconds .exit)) ⌝ }
-{
-    let blocks = (count + BLOCK - 1) / BLOCK;
-    let mut struck = false;
-    let mut i = blocks;
-    while 0 < i {
-        i -= 1;
-        let from = BLOCK * turn(rising, blocks, i);
-        if settle(
-            question,
-            bodies,
-            work,
-            capacity,
-            count,
-            from,
-            block_size(count, from),
-            numbers,
-            rows,
-            firsts,
-            seconds,
-            rising,
-        ) {
-            struck = true;
-        }
-    }
-    struck
 }
 
 // Passes until one strikes out none or the start is struck out; whether the start is left. Situations fail because of ones that were found later or
@@ -443,12 +438,15 @@ fn survives_passes(
     let mut up = rising;
     let mut again = true;
     while again {
-        again = strike_pass(
+        again = strike_blocks(
             question,
             bodies,
             work,
             capacity,
             count,
+            0,
+            count,
+            LARGEST_BLOCKS,
             numbers,
             rows,
             firsts,

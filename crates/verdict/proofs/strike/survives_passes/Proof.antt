@@ -34,8 +34,9 @@ clear-notes-requires c κs = omega (arith, c .before .before .before .before .be
 loop-holds : tie.Need-loop-holds Inv-loop μ-loop
 loop-holds c = (refl, search needs, search needs, c .before .before .before .before .before .before .before .before .before .before .before .pre .6, c .before .before .before .before .before .before .before .before .before .before .before .pre .7, none-struck, λ q. true-not-false refl q, refl, refl, refl, refl, noted-none _ _ _ _ _ (c .before .before .clear-notes .ensures))
 
-strike-pass-requires : tie.Need-strike-pass-requires Inv-loop μ-loop
-strike-pass-requires c κs = (
+strike-blocks-requires : tie.Need-strike-blocks-requires Inv-loop μ-loop
+strike-blocks-requires c κs = (
+  omega arith,
   c .before .before .before .before .before .before .before .before .before .before .before .before .before .before .before .before .before .before .pre .1,
   omega (arith, c .before .before .before .before .before .before .before .before .before .before .before .before .before .before .before .before .before .before .pre .2, c .before .before .before .before .before .before .loop .inv .0, c .before .before .before .before .before .before .before .before .before .clear-notes .kept),
   c .before .before .before .before .before .before .before .before .before .before .before .before .before .before .before .before .before .before .pre .3,
@@ -48,43 +49,43 @@ strike-pass-requires c κs = (
 )
 
 left-at-requires : tie.Need-left-at-requires Inv-loop μ-loop
-left-at-requires c κs = omega (arith, c .before .before .before .before .before .before .before .before .before .before .before .before .before .before .before .before .before .before .before .before .before .before .before .before .before .before .before .before .before .before .pre .0, c .before .before .before .before .before .before .before .before .before .before .before .before .before .before .before .before .before .before .before .before .before .before .before .before .before .before .before .before .before .before .pre .1, c .before .before .before .before .before .before .before .before .before .before .before .before .before .before .before .before .before .before .before .before .before .before .before .before .before .before .before .before .before .before .pre .2, c .before .before .before .before .before .before .before .before .before .before .before .before .before .before .before .before .before .before .loop .inv .0, c .before .before .before .before .before .before .before .before .before .before .before .before .before .before .before .before .before .before .before .before .before .clear-notes .kept, c .before .before .before .before .before .before .before .before .before .before .before .strike-pass .kept)
+left-at-requires c κs = omega (arith, c .before .before .before .before .before .before .before .before .before .before .before .before .before .before .before .before .before .before .before .before .before .before .before .before .before .before .before .before .before .before .pre .0, c .before .before .before .before .before .before .before .before .before .before .before .before .before .before .before .before .before .before .before .before .before .before .before .before .before .before .before .before .before .before .pre .1, c .before .before .before .before .before .before .before .before .before .before .before .before .before .before .before .before .before .before .before .before .before .before .before .before .before .before .before .before .before .before .pre .2, c .before .before .before .before .before .before .before .before .before .before .before .before .before .before .before .before .before .before .loop .inv .0, c .before .before .before .before .before .before .before .before .before .before .before .before .before .before .before .before .before .before .before .before .before .clear-notes .kept, c .before .before .before .before .before .before .before .before .before .before .before .strike-blocks .kept)
 
 same-length : tie.Need-same-length Inv-loop μ-loop
-same-length c = omega (arith, c .before .before .before .before .before .before .before .before .before .before .before .before .before .before .before .before .before .before .before .before .loop .inv .7, c .before .before .before .before .before .before .before .before .before .before .before .before .before .strike-pass .kept)
+same-length c = omega (arith, c .before .before .before .before .before .before .before .before .before .before .before .before .before .before .before .before .before .before .before .before .loop .inv .7, c .before .before .before .before .before .before .before .before .before .before .before .before .before .strike-blocks .kept)
 
 same-length-2 : tie.Need-same-length-2 Inv-loop μ-loop
-same-length-2 c = omega (arith, c .before .before .before .before .before .before .before .before .before .before .before .before .before .before .before .before .before .before .before .before .loop .inv .8, c .before .before .before .before .before .before .before .before .before .before .before .before .before .strike-pass .kept)
+same-length-2 c = omega (arith, c .before .before .before .before .before .before .before .before .before .before .before .before .before .before .before .before .before .before .before .before .loop .inv .8, c .before .before .before .before .before .before .before .before .before .before .before .before .before .strike-blocks .kept)
 
 same-length-3 : tie.Need-same-length-3 Inv-loop μ-loop
-same-length-3 c = omega (arith, c .before .before .before .before .before .before .before .before .before .before .before .before .before .before .before .before .before .before .before .before .loop .inv .9, c .before .before .before .before .before .before .before .before .before .before .before .before .before .strike-pass .kept)
+same-length-3 c = omega (arith, c .before .before .before .before .before .before .before .before .before .before .before .before .before .before .before .before .before .before .before .before .loop .inv .9, c .before .before .before .before .before .before .before .before .before .before .before .before .before .strike-blocks .kept)
 
 same-length-4 : tie.Need-same-length-4 Inv-loop μ-loop
-same-length-4 c = omega (arith, c .before .before .before .before .before .before .before .before .before .before .before .before .before .before .before .before .before .before .before .before .loop .inv .10, c .before .before .before .before .before .before .before .before .before .before .before .before .before .strike-pass .kept)
+same-length-4 c = omega (arith, c .before .before .before .before .before .before .before .before .before .before .before .before .before .before .before .before .before .before .before .before .loop .inv .10, c .before .before .before .before .before .before .before .before .before .before .before .before .before .strike-blocks .kept)
 
 same-length-5 : tie.Need-same-length-5 Inv-loop μ-loop
-same-length-5 c = omega (arith, c .before .before .before .before .before .before .before .before .before .before .before .before .before .before .before .before .before .before .before .before .loop .inv .0, c .before .before .before .before .before .before .before .before .before .before .before .before .before .strike-pass .kept, c .before .before .before .before .before .before .before .before .before .before .before .before .before .before .before .before .before .before .before .before .before .before .before .clear-notes .kept)
+same-length-5 c = omega (arith, c .before .before .before .before .before .before .before .before .before .before .before .before .before .before .before .before .before .before .before .before .loop .inv .0, c .before .before .before .before .before .before .before .before .before .before .before .before .before .strike-blocks .kept, c .before .before .before .before .before .before .before .before .before .before .before .before .before .before .before .before .before .before .before .before .before .before .before .clear-notes .kept)
 
 returns : tie.Need-returns Inv-loop μ-loop
-returns c = start-goes _ _ _ _ _ _ _ _ (strikes-then _ _ _ (notes-changed none-struck (c .before .before .before .before .before .before .before .before .before .before .before .before .before .before .before .before .before .before .before .before .before .before .before .clear-notes .ensures .spare)) (c .before .before .before .before .before .before .before .before .before .before .before .before .before .before .before .before .before .before .before .before .loop .inv .5)) (c .before .before .before .before .before .before .before .before .before .before .before .before .before .strike-pass .ensures .0) (c .before .left-at .ensures) (not-true _ (c .if1 .taken))
+returns c = start-goes _ _ _ _ _ _ _ _ (strikes-then _ _ _ (notes-changed none-struck (c .before .before .before .before .before .before .before .before .before .before .before .before .before .before .before .before .before .before .before .before .before .before .before .clear-notes .ensures .spare)) (c .before .before .before .before .before .before .before .before .before .before .before .before .before .before .before .before .before .before .before .before .loop .inv .5)) (c .before .before .before .before .before .before .before .before .before .before .before .before .before .strike-blocks .ensures .0) (c .before .left-at .ensures) (not-true _ (c .if1 .taken))
 
 loop-less : tie.Need-loop-less Inv-loop μ-loop
-loop-less c = pass-less _ _ _ _ _ _ _ (omega (arith, c .before .before .before .before .before .before .before .before .before .before .before .before .before .before .before .before .before .before .before .before .before .before .before .before .before .before .before .before .before .before .before .before .pre .1, c .before .before .before .before .before .before .before .before .before .before .before .before .before .before .before .before .before .before .before .before .before .before .before .before .before .before .before .before .before .before .before .before .pre .2, c .before .before .before .before .before .before .before .before .before .before .before .before .before .before .before .before .before .before .before .before .loop .inv .0, c .before .before .before .before .before .before .before .before .before .before .before .before .before .before .before .before .before .before .before .before .before .before .before .clear-notes .kept)) (c .before .before .before .before .before .before .before .before .before .before .before .before .before .before .before .before .before .before .before .loop-test .taken) (c .before .before .before .before .before .before .before .before .before .before .before .before .before .strike-pass .ensures .0)
+loop-less c = pass-less _ _ _ _ _ _ _ (omega (arith, c .before .before .before .before .before .before .before .before .before .before .before .before .before .before .before .before .before .before .before .before .before .before .before .before .before .before .before .before .before .before .before .before .pre .1, c .before .before .before .before .before .before .before .before .before .before .before .before .before .before .before .before .before .before .before .before .before .before .before .before .before .before .before .before .before .before .before .before .pre .2, c .before .before .before .before .before .before .before .before .before .before .before .before .before .before .before .before .before .before .before .before .loop .inv .0, c .before .before .before .before .before .before .before .before .before .before .before .before .before .before .before .before .before .before .before .before .before .before .before .clear-notes .kept)) (c .before .before .before .before .before .before .before .before .before .before .before .before .before .before .before .before .before .before .before .loop-test .taken) (c .before .before .before .before .before .before .before .before .before .before .before .before .before .strike-blocks .ensures .0)
 
 loop-again : tie.Need-loop-again Inv-loop μ-loop
 loop-again c = (
-  omega (arith, c .before .before .before .before .before .before .before .before .before .before .before .before .before .before .before .before .before .before .before .before .loop .inv .0, c .before .before .before .before .before .before .before .before .before .before .before .before .before .strike-pass .kept),
-  omega (arith, c .before .before .before .before .before .before .before .before .before .before .before .before .before .before .before .before .before .before .before .before .loop .inv .1, c .before .before .before .before .before .before .before .before .before .before .before .before .before .strike-pass .kept),
-  omega (arith, c .before .before .before .before .before .before .before .before .before .before .before .before .before .before .before .before .before .before .before .before .loop .inv .2, c .before .before .before .before .before .before .before .before .before .before .before .before .before .strike-pass .kept),
-  c .before .before .before .before .before .before .before .before .before .before .before .before .before .strike-pass .ensures .1,
-  c .before .before .before .before .before .before .before .before .before .before .before .before .before .strike-pass .ensures .2,
-  strikes-then _ _ _ (c .before .before .before .before .before .before .before .before .before .before .before .before .before .before .before .before .before .before .before .before .loop .inv .5) (c .before .before .before .before .before .before .before .before .before .before .before .before .before .strike-pass .ensures .0 .strikes),
-  λ q. (left-zero _ _ _ (c .before .left-at .ensures) (not-false _ (c .if1 .left)), pass-all _ _ _ (c .before .before .before .before .before .before .before .before .before .before .before .before .before .strike-pass .ensures .0) q),
-  omega (arith, c .before .before .before .before .before .before .before .before .before .before .before .before .before .before .before .before .before .before .before .before .loop .inv .7, c .before .before .before .before .before .before .before .before .before .before .before .before .before .strike-pass .kept),
-  omega (arith, c .before .before .before .before .before .before .before .before .before .before .before .before .before .before .before .before .before .before .before .before .loop .inv .8, c .before .before .before .before .before .before .before .before .before .before .before .before .before .strike-pass .kept),
-  omega (arith, c .before .before .before .before .before .before .before .before .before .before .before .before .before .before .before .before .before .before .before .before .loop .inv .9, c .before .before .before .before .before .before .before .before .before .before .before .before .before .strike-pass .kept),
-  omega (arith, c .before .before .before .before .before .before .before .before .before .before .before .before .before .before .before .before .before .before .before .before .loop .inv .10, c .before .before .before .before .before .before .before .before .before .before .before .before .before .strike-pass .kept),
-  c .before .before .before .before .before .before .before .before .before .before .before .before .before .strike-pass .ensures .0 .noted,
+  omega (arith, c .before .before .before .before .before .before .before .before .before .before .before .before .before .before .before .before .before .before .before .before .loop .inv .0, c .before .before .before .before .before .before .before .before .before .before .before .before .before .strike-blocks .kept),
+  omega (arith, c .before .before .before .before .before .before .before .before .before .before .before .before .before .before .before .before .before .before .before .before .loop .inv .1, c .before .before .before .before .before .before .before .before .before .before .before .before .before .strike-blocks .kept),
+  omega (arith, c .before .before .before .before .before .before .before .before .before .before .before .before .before .before .before .before .before .before .before .before .loop .inv .2, c .before .before .before .before .before .before .before .before .before .before .before .before .before .strike-blocks .kept),
+  c .before .before .before .before .before .before .before .before .before .before .before .before .before .strike-blocks .ensures .1,
+  c .before .before .before .before .before .before .before .before .before .before .before .before .before .strike-blocks .ensures .2,
+  strikes-then _ _ _ (c .before .before .before .before .before .before .before .before .before .before .before .before .before .before .before .before .before .before .before .before .loop .inv .5) (c .before .before .before .before .before .before .before .before .before .before .before .before .before .strike-blocks .ensures .0 .strikes),
+  λ q. (left-zero _ _ _ (c .before .left-at .ensures) (not-false _ (c .if1 .left)), pass-all _ _ _ (c .before .before .before .before .before .before .before .before .before .before .before .before .before .strike-blocks .ensures .0) q),
+  omega (arith, c .before .before .before .before .before .before .before .before .before .before .before .before .before .before .before .before .before .before .before .before .loop .inv .7, c .before .before .before .before .before .before .before .before .before .before .before .before .before .strike-blocks .kept),
+  omega (arith, c .before .before .before .before .before .before .before .before .before .before .before .before .before .before .before .before .before .before .before .before .loop .inv .8, c .before .before .before .before .before .before .before .before .before .before .before .before .before .strike-blocks .kept),
+  omega (arith, c .before .before .before .before .before .before .before .before .before .before .before .before .before .before .before .before .before .before .before .before .loop .inv .9, c .before .before .before .before .before .before .before .before .before .before .before .before .before .strike-blocks .kept),
+  omega (arith, c .before .before .before .before .before .before .before .before .before .before .before .before .before .before .before .before .before .before .before .before .loop .inv .10, c .before .before .before .before .before .before .before .before .before .before .before .before .before .strike-blocks .kept),
+  c .before .before .before .before .before .before .before .before .before .before .before .before .before .strike-blocks .ensures .0 .noted,
 )
 
 same-length-6 : tie.Need-same-length-6 Inv-loop μ-loop
@@ -113,7 +114,7 @@ survives-passes-spec =
     μ-loop
     clear-notes-requires
     loop-holds
-    strike-pass-requires
+    strike-blocks-requires
     left-at-requires
     same-length
     same-length-2
