@@ -1,6 +1,6 @@
 -- Branches that are the same but for the order of two matched names have the same candidates but for what is decided. Assumes nothing.
-use borrow.Author.Tests.{eq-eqb, ltb-true}
-use mathlib.Core.Bool.{Bool, false, cond}
+use borrow.Author.Tests.{eq-eqb, ne-eqb, eqb-true, eqb-false, ltb-true}
+use mathlib.Core.Bool.{Bool, true, false, cond}
 use mathlib.Core.List.{List, [], _∷_, _++_}
 use mathlib.Core.Logic.{inl, inr, ⊎-elim}
 use mathlib.Core.Path.{_≡_, refl, sym, _∙_, ap, subst}
@@ -21,7 +21,7 @@ use Rattle.steps.specs.Deciding.{decided}
 use Rattle.steps.specs.Rows.{isTrivial}
 use Rattle.steps.specs.Same.{Both, SameIs, SameMatch, SameBranchIs}
 use Rattle.steps.proofs.ChoiceLaws.{other-trivial, first-slot, second-slot}
-use Rattle.steps.proofs.DecidingLaws.{judged, eqb-turned, decided-matching, decided-turned}
+use Rattle.steps.proofs.DecidingLaws.{decided-matching, decided-turned}
 use Rattle.steps.proofs.RaisedMeetings.{slot-one}
 
 -- Two matches by the slots of their names.
@@ -34,6 +34,13 @@ module _ (s args : List ℕ) (inner depth p at a b u v : ℕ) (first : a ≡ slo
   pub match-turned : a ≡ v → b ≡ u → SameMatch s args inner depth p at
   unfolding SameMatch
   match-turned e f = inr (sym first ∙ e ∙ fourth, sym second ∙ f ∙ third)
+
+eqb-turned : (a b : ℕ) → eqb b a ≡ eqb a b
+eqb-turned a b = go (eqb a b) refl
+  where
+    go : (t : Bool) → eqb a b ≡ t → eqb b a ≡ t
+    go true t = eq-eqb b a (sym (eqb-true a b t))
+    go false t = ne-eqb b a (λ e. eqb-false a b t (sym e))
 
 module _ (s : List ℕ) (p at : ℕ) (arities args : List ℕ) (inner depth : ℕ) where
   abbrev Branch : Bool → Type 0
@@ -110,7 +117,7 @@ module _ (s : List ℕ) (p at : ℕ) (arities args : List ℕ) (inner depth : �
           let (z, j, f) = again y i in (
             matching (σ a′) (σ b′) z,
             ∈-map (matching (σ a′) (σ b′)) z (visible body calls (ren σ B)) j,
-            ap (decided depth) e ∙ decided-matching depth (σ a) (σ b) y ∙ ap (judged depth (σ a) (σ b)) f ∙ sym (decided-matching depth (σ a) (σ b) z) ∙ turned z,
+            ap (decided depth) e ∙ decided-matching depth (σ a) (σ b) y ∙ ap (λ (c : Candidate). decided depth (matching (σ a) (σ b) c)) f ∙ sym (decided-matching depth (σ a) (σ b) z) ∙ turned z,
           )
 
     pub branch-match : (r : Bool) → SameBranchIs s (p + 3) (at + 3) arities args inner depth r → Branch r

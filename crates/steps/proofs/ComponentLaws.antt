@@ -32,7 +32,7 @@ use Rattle.steps.specs.Walking.{rowOpens, rowObject, Unopened, Trivial, 
 use Rattle.steps.specs.declared.listed.ActionBytes.{ActionBytes}
 use Rattle.steps.proofs.CollectLaws.{put-blocked, Progresses, progress-start, progress-step, progress-again, progress-done, progress-passed}
 use Rattle.steps.proofs.ContextLaws.{raised-blocked, placed-bytes}
-use Rattle.steps.proofs.DecidingLaws.{decided-raised, Like, decided-step, outside-blocked, like-trivial, like-action, again-by}
+use Rattle.steps.proofs.DecidingLaws.{decided-raised, Like, decided-step, like-of, outside-blocked, like-trivial, like-action, again-raised}
 use Rattle.steps.proofs.RowLaws.{row-act, plain-step, outlined-left, outlined-right, outlined-restricted}
 use Rattle.steps.proofs.StepEntries.{slot-name, same-action}
 
@@ -125,12 +125,12 @@ module _ (question part : List ℕ) (at depth : ℕ) (rows : List ℕ) (first j 
         outlined-raised K (decided depth c) kind channel object (subst (λ (d : ℕ). Outlined d (decided depth c) kind channel object) (sym e) (inside c row))
 
     pub row-blocked : nameCount ≤ channel → count ≤ mostSteps → Takes count area
-    unfolding PutIs
+    unfolding PutIs decided
     row-blocked h few = record {
       over = λ e. absurd (new (at-kind ∙ e));
       is = λ q P l K C number p _ _ row.
           let c = getD (visible (bodyOf (q .bodies)) 1 C) j blocked in
-          let e : raised K c ≡ blocked = outside-blocked (raised K c) (decided-raised K depth (p .level) c ∙ outside K c (p .level) row .inner (omega arith)) in
+          let e : raised K c ≡ blocked = outside-blocked (raised K c) (decided-raised K depth (p .level) c ∙ ap (decided 0) (outside K c (p .level) row .inner (omega arith))) in
           subst (λ d. PutIs d x area count count area) (sym e) (λ found s. put-blocked area x count found s few);
     }
 
@@ -145,7 +145,7 @@ module _ (question part : List ℕ) (at depth : ℕ) (rows : List ℕ) (first j 
       taken : (K : List Frame) (c : Candidate) → restrictions K ≡ depth → Row depth c rows (first + j) → Taken K c
       taken K c level row =
           let (α, A, e, a, b) = plain-step 0 kind channel object (raised K (decided depth c)) few (outside K c level row) (omega arith) in
-          record { action = α; result = A; acts = a; like = decided-step 0 (raised K c) [] α A (decided-raised K depth level c ∙ e) }
+          record { action = α; result = A; acts = a; like = like-of (raised K c) [] α A (decided-raised K depth level c ∙ ap (decided 0) e) }
 
       placed : (kind ≡ 2 → object < nameCount) → (action : ActionBytes)
           → (0 < kind → (α : Act) → actionOf 0 α ≡ rowAction 0 kind channel object → action ≡ stepAction x [] α)
@@ -256,7 +256,7 @@ module _ (question part : List ℕ) (at depth : ℕ) (rows : List ℕ) (first la
         earlier f =
             subst (λ c. Again 0 c (take j (map (raised K) vs))) (sym (nth-raised K vs j))
             (subst (λ cs. Again 0 (raised K (getD vs j blocked)) cs) (sym (take-map (raised K) j vs))
-            (again-by 0 depth (raised K) (raised K) (decided-raised K depth (p .level)) (raised-blocked K) (getD vs j blocked) (take j vs) (R j (omega arith) .1 f)))
+            (again-raised K depth (p .level) (getD vs j blocked) (take j vs) (R j (omega arith) .1 f)))
 
       pub rows-next : m ≤ mostSteps → RowsGo (j + 1) m area′
       rows-next h q P l K C number p e R = test (eqb (kindAt rows (first + j)) 4) refl

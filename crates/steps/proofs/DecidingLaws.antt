@@ -1,108 +1,103 @@
 -- Candidates whose matches are decided where they stand: the rules keep them, and they are listed as the candidates themselves are.
 -- Assumes nothing.
 use borrow.Author.Tests.{eqb-true, eqb-false, eq-eqb, ne-eqb, ltb-true, ltb-false, lt-ltb, le-ltb}
-use mathlib.Core.Bool.{Bool, true, false, cond, not, _&&_, _||_, or-true, or-assoc, or-comm}
+use mathlib.Core.Bool.{Bool, true, false, cond, not, _&&_, _||_, or-true, or-assoc}
 use mathlib.Core.List.{List, [], _∷_, _++_, map}
 use mathlib.Core.Logic.{_⊎_, inl, inr, ⊎-elim}
 use mathlib.Core.Path.{_≡_, refl, sym, _∙_, ap, ap₂}
 use native.Mathlib.Omega.{arith}
-use Prim.Native.Nat.{ℕ, zero, suc, _+_, _<_}
+use Prim.Native.Nat.{ℕ, zero, suc, _+_, _<_, min}
 use lib.Dec.{eqb, ltb}
 use Rattle.calculus.specs.Abstraction.{Act, tauA, inpA, outA, boutA}
-use Rattle.calculus.specs.Cond.{Cond, mapP, Unif, cls, _~_}
+use Rattle.calculus.specs.Cond.{Cond, mapP, Unif, cls, _▷_, _~_, canonical}
 use Rattle.calculus.specs.Term.{Term, ren, _•_}
-use Rattle.calculus.proofs.Conditions.{E2, cls-~}
+use Rattle.calculus.proofs.Canonical.{canonical-~, canonical-cls, canonical-same}
+use Rattle.calculus.proofs.Conditions.{E2, ▷-all, ~-sym, mapP-~, Unif-++, Unif-left, Unif-right}
 use Rattle.candidates.specs.Lists.{_∈_, Among}
 use Rattle.candidates.specs.Raw.{Candidate, step, blocked, matching, leftSteps, rightSteps, meet, communication, spares, sparesRestricted, outside, restrictedAction, restricted}
 use Rattle.candidates.proofs.Membership.{∈-left, ∈-right, ∈-either, ∈-map}
 use Rattle.candidates.proofs.Numbering.{not-met}
 use Rattle.candidates.proofs.Premises.{never}
 use Rattle.steps.specs.Contexts.{Frame, leftOf, rightOf, beneath, raised, restrictions, levelIn}
-use Rattle.steps.specs.Deciding.{failing, fails, ordered, settled, decided, Again}
+use Rattle.steps.specs.Deciding.{failing, fails, decided, Again}
 use Rattle.steps.specs.Listed.{namesFrom, classesOf, kindOf, channelOf, objectOf, listedAs, canonStep}
 use Rattle.steps.specs.Walking.{Trivial, stepAction}
+use Rattle.steps.proofs.ContextLaws.{raised-blocked}
 
--- What is asked of two names, whichever stands first.
-pub eqb-turned : (a b : ℕ) → eqb b a ≡ eqb a b
-eqb-turned a b = go (eqb a b) refl
-  where
-    go : (t : Bool) → eqb a b ≡ t → eqb b a ≡ t
-    go true t = eq-eqb b a (sym (eqb-true a b t))
-    go false t = ne-eqb b a (λ e. eqb-false a b t (sym e))
-
-failing-turned : (d a b : ℕ) → failing d b a ≡ failing d a b
+-- A condition fails unless it holds where all free names are one.
+failing-not : (d a b : ℕ) → min a d ≡ min b d → failing d a b ≡ false
 unfolding failing
-failing-turned d a b = λ i. not (eqb-turned a b i) && or-comm (ltb b d) (ltb a d) i
-
-spares-turned : (a b : ℕ) → spares b a ≡ spares a b
-unfolding spares
-spares-turned zero zero = refl
-spares-turned zero (suc b) = refl
-spares-turned (suc a) zero = refl
-spares-turned (suc a) (suc b) = refl
-
--- So the order is free: what holds of a match and of its names in the other order holds of the ordered one.
-module _ (p : ℕ × ℕ) where
-  ordered-either : (C : ℕ × ℕ → Type 0) → C p → C (p .1, p .0) → C (ordered p)
-  unfolding ordered
-  ordered-either C x y = go (ltb (p .1) (p .0))
-    where
-      go : (t : Bool) → C (cond t (p .1, p .0) p)
-      go true = y
-      go false = x
-
-  eqb-ordered : eqb (ordered p .0) (ordered p .1) ≡ eqb (p .0) (p .1)
-  eqb-ordered = ordered-either (λ q. eqb (q .0) (q .1) ≡ eqb (p .0) (p .1)) refl (eqb-turned (p .0) (p .1))
-
-  failing-ordered : (d : ℕ) → failing d (ordered p .0) (ordered p .1) ≡ failing d (p .0) (p .1)
-  failing-ordered d = ordered-either (λ q. failing d (q .0) (q .1) ≡ failing d (p .0) (p .1)) refl (failing-turned d (p .0) (p .1))
-
-  spares-ordered : spares (ordered p .0) (ordered p .1) ≡ spares (p .0) (p .1)
-  spares-ordered = ordered-either (λ q. spares (q .0) (q .1) ≡ spares (p .0) (p .1)) refl (spares-turned (p .0) (p .1))
-
-  ordered-twice : ordered (ordered p) ≡ ordered p
-  unfolding ordered
-  ordered-twice = go (ltb (p .1) (p .0)) refl
-    where
-      go : (t : Bool) → ltb (p .1) (p .0) ≡ t → ordered (cond t (p .1, p .0) p) ≡ cond t (p .1, p .0) p
-      go true t = let h = ltb-true (p .1) (p .0) t in ap (λ (t : Bool). cond t (p .0, p .1) (p .1, p .0)) (le-ltb (p .0) (p .1) (omega arith))
-      go false t = ap (λ (t : Bool). cond t (p .1, p .0) p) t
-
-ordered-turned : (a b : ℕ) → ordered (a, b) ≡ ordered (b, a)
-unfolding ordered
-ordered-turned a b = go (ltb b a) refl (ltb a b) refl
+failing-not d a b e = go (eqb a b) refl (ltb a d) refl (ltb b d) refl
   where
-    go : (t : Bool) → ltb b a ≡ t → (u : Bool) → ltb a b ≡ u → _≡_ {A = ℕ × ℕ} (cond t (b, a) (a, b)) (cond u (a, b) (b, a))
-    go true t true u = let h = ltb-true b a t in let k = ltb-true a b u in absurd (omega arith)
-    go true t false u = refl
-    go false t true u = refl
-    go false t false u =
-        let h = ltb-false b a t in
-        let k = ltb-false a b u in
-        let e : a ≡ b = omega arith in
-        λ i. (e i, sym e i)
+    go : (t : Bool) → eqb a b ≡ t → (u : Bool) → ltb a d ≡ u → (v : Bool) → ltb b d ≡ v → (not t && (u || v)) ≡ false
+    go true t u h v k = refl
+    go false t true h v k = let n = eqb-false a b t in let l = ltb-true a d h in absurd (n (omega arith))
+    go false t false h true k = let n = eqb-false a b t in let l = ltb-true b d k in absurd (n (omega arith))
+    go false t false h false k = refl
+
+not-failing : (d a b : ℕ) → failing d a b ≡ false → min a d ≡ min b d
+unfolding failing
+not-failing d a b = go (eqb a b) refl (ltb a d) refl (ltb b d) refl
+  where
+    go : (t : Bool) → eqb a b ≡ t → (u : Bool) → ltb a d ≡ u → (v : Bool) → ltb b d ≡ v → (not t && (u || v)) ≡ false → min a d ≡ min b d
+    go true t u h v k e = ap (λ (n : ℕ). min n d) (eqb-true a b t)
+    go false t true h v k e = let z : _≡_ {A = ℕ} 0 1 = cc in absurd (omega arith)
+    go false t false h true k e = let z : _≡_ {A = ℕ} 0 1 = cc in absurd (omega arith)
+    go false t false h false k e = let l = ltb-false a d h in let m = ltb-false b d k in omega arith
+
+holds-fails : (d : ℕ) (M : Cond) → Unif (λ n. min n d) M → fails d M ≡ false
+unfolding fails
+holds-fails d [] u = refl
+holds-fails d (p ∷ M) u = ap₂ (λ (s t : Bool). s || t) (failing-not d (p .0) (p .1) (u .0)) (holds-fails d M (u .1))
+
+fails-holds : (d : ℕ) (M : Cond) → fails d M ≡ false → Unif (λ n. min n d) M
+unfolding fails
+fails-holds d [] e = tt
+fails-holds d (p ∷ M) e = go (failing d (p .0) (p .1)) refl e (fails-holds d M)
+  where
+    go : (t : Bool) → failing d (p .0) (p .1) ≡ t → (t || fails d M) ≡ false → (fails d M ≡ false → Unif (λ n. min n d) M) → Unif (λ n. min n d) (p ∷ M)
+    go true t e h = let z : _≡_ {A = ℕ} 0 1 = cc in absurd (omega arith)
+    go false t e h = (not-failing d (p .0) (p .1) t, h e)
+
+-- So conditions that imply each other are decided alike.
+fails-~ : (d : ℕ) (M N : Cond) → M ~ N → fails d M ≡ fails d N
+fails-~ d M N e = go (fails d M) refl (fails d N) refl
+  where
+    kept : (M N : Cond) → M ▷ N → fails d M ≡ false → fails d N ≡ true → ⊥
+    kept M N i f g =
+        let h : true ≡ false = sym g ∙ holds-fails d N (▷-all (λ n. min n d) M N i (fails-holds d M f)) in
+        let z : _≡_ {A = ℕ} 0 1 = cc in absurd (omega arith)
+
+    go : (f : Bool) → fails d M ≡ f → (g : Bool) → fails d N ≡ g → f ≡ g
+    go true f true g = refl
+    go true f false g = absurd (kept N M (e .1) g f)
+    go false f true g = absurd (kept M N (e .0) f g)
+    go false f false g = refl
+
+pub decided-~ : (d : ℕ) (M N : Cond) → M ~ N → (α : Act) (A : Term) → decided d (step M α A) ≡ decided d (step N α A)
+unfolding decided
+decided-~ d M N e α A = λ i. cond (fails-~ d M N e i) blocked (step (canonical-same M N e i) α A)
+
+pub decided-fails : (d : ℕ) (M : Cond) → fails d M ≡ true → (α : Act) (A : Term) → decided d (step M α A) ≡ blocked
+unfolding decided
+decided-fails d M f α A = ap (λ (f : Bool). cond f blocked (step (canonical M) α A)) f
+
+-- By the matches of one that fails or not: what is to be shown of a rule that takes a candidate and the decided one.
+pub by-fails : (d : ℕ) (C : Candidate → Type 0) (M : Cond) (α : Act) (A : Term) → (fails d M ≡ true → C blocked) → (fails d M ≡ false → C (step (canonical M) α A))
+    → C (decided d (step M α A))
+unfolding decided
+by-fails d C M α A x y = go (fails d M) refl
+  where
+    go : (f : Bool) → fails d M ≡ f → C (cond f blocked (step (canonical M) α A))
+    go true f = x f
+    go false f = y f
 
 -- Decided once is decided.
-fails-settled : (d : ℕ) (M : Cond) → fails d (settled M) ≡ fails d M
-unfolding settled fails failing
-fails-settled d [] = refl
-fails-settled d (p ∷ M) = go (eqb (p .0) (p .1)) refl (fails-settled d M)
-  where
-    go : (t : Bool) → eqb (p .0) (p .1) ≡ t → fails d (settled M) ≡ fails d M
-        → fails d (cond t (settled M) (ordered p ∷ settled M)) ≡ ((not (eqb (p .0) (p .1)) && (ltb (p .0) d || ltb (p .1) d)) || fails d M)
-    go true t e = e ∙ ap (λ (t : Bool). (not t && (ltb (p .0) d || ltb (p .1) d)) || fails d M) (sym t)
-    go false t e = ap₂ (λ (s f : Bool). s || f) (failing-ordered p d) e
-
-settled-twice : (M : Cond) → settled (settled M) ≡ settled M
-unfolding settled
-settled-twice [] = refl
-settled-twice (p ∷ M) = go (eqb (p .0) (p .1)) refl (settled-twice M)
-  where
-    go : (t : Bool) → eqb (p .0) (p .1) ≡ t → settled (settled M) ≡ settled M
-        → settled (cond t (settled M) (ordered p ∷ settled M)) ≡ cond t (settled M) (ordered p ∷ settled M)
-    go true t e = e
-    go false t e =
-        ap (λ (t : Bool). cond t (settled (settled M)) (ordered (ordered p) ∷ settled (settled M))) (eqb-ordered p ∙ t) ∙ (λ i. ordered-twice p i ∷ e i)
+pub decided-twice : (d : ℕ) (c : Candidate) → decided d c ≡ decided d (decided d c)
+unfolding decided
+decided-twice d (step M α A) = by-fails d (λ (c : Candidate). decided d (step M α A) ≡ decided d c) M α A
+    (λ f. decided-fails d M f α A) (λ f. decided-~ d M (canonical M) (~-sym (canonical M) M (canonical-~ M)) α A)
+decided-twice d blocked = refl
 
 -- Of two conditions together.
 fails-++ : (d : ℕ) (M N : Cond) → fails d (M ++ N) ≡ (fails d M || fails d N)
@@ -111,15 +106,11 @@ fails-++ d [] N = refl
 fails-++ d (p ∷ M) N =
     ap (λ (f : Bool). failing d (p .0) (p .1) || f) (fails-++ d M N) ∙ sym (or-assoc (failing d (p .0) (p .1)) (fails d M) (fails d N))
 
-settled-++ : (M N : Cond) → settled (M ++ N) ≡ settled M ++ settled N
-unfolding settled
-settled-++ [] N = refl
-settled-++ (p ∷ M) N = go (eqb (p .0) (p .1)) (settled-++ M N)
-  where
-    go : (t : Bool) → settled (M ++ N) ≡ settled M ++ settled N
-        → cond t (settled (M ++ N)) (ordered p ∷ settled (M ++ N)) ≡ cond t (settled M) (ordered p ∷ settled M) ++ settled N
-    go true e = e
-    go false e = ap (λ (N : Cond). ordered p ∷ N) e
+together-▷ : (p : ℕ × ℕ) (M N M′ N′ : Cond) → M ▷ M′ → N ▷ N′ → (p ∷ (M ++ N)) ▷ (p ∷ (M′ ++ N′))
+together-▷ p M N M′ N′ i j =
+    let f = cls (p ∷ (M ++ N)) in
+    let (x, y) = E2 (p ∷ (M ++ N)) in
+    (x, Unif-++ f M′ N′ (▷-all f M M′ i (Unif-left f M N y)) (▷-all f N N′ j (Unif-right f M N y)))
 
 -- Outside a restriction.
 eqb-suc : (a b : ℕ) → eqb (suc a) (suc b) ≡ eqb a b
@@ -148,42 +139,15 @@ failing-zero d b =
       (λ i. not (ne-eqb (suc b) 0 (λ e. omega arith) i) && (ltb (suc b) (1 + d) || z i)) ∙ or-true (ltb (suc b) (1 + d)),
     )
 
-abbrev lower : ℕ × ℕ → ℕ × ℕ
-lower p = (outside (p .0), outside (p .1))
-
-ordered-outside : (a b : ℕ) → ordered (a, b) ≡ lower (ordered (suc a, suc b))
-unfolding ordered outside
-ordered-outside a b = go (ltb b a) refl
-  where
-    go : (t : Bool) → ltb b a ≡ t → _≡_ {A = ℕ × ℕ} (cond t (b, a) (a, b)) (lower (cond (ltb (suc b) (suc a)) (suc b, suc a) (suc a, suc b)))
-    go true t = let h = ltb-true b a t in sym (ap (λ (t : Bool). lower (cond t (suc b, suc a) (suc a, suc b))) (lt-ltb (suc b) (suc a) (omega arith)))
-    go false t = let h = ltb-false b a t in sym (ap (λ (t : Bool). lower (cond t (suc b, suc a) (suc a, suc b))) (le-ltb (suc b) (suc a) (omega arith)))
-
--- A condition that spares the restricted name says the same outside; another one fails.
-failing-same : (d a : ℕ) → failing d a a ≡ false
-unfolding failing
-failing-same d a = λ i. not (eq-eqb a a refl i) && (ltb a d || ltb a d)
-
+-- A condition that spares the restricted name fails outside if it does here; another one fails.
 module _ (d : ℕ) where
-  abbrev Spared : Cond → Type 0
-  Spared M = (fails d (mapP outside M) ≡ fails (1 + d) M) × (settled (mapP outside M) ≡ mapP outside (settled M))
-
-  spared : (M : Cond) → sparesRestricted M ≡ true → Spared M
-  unfolding sparesRestricted spares fails settled outside
-  spared [] e = (refl, refl)
-  spared ((zero, zero) ∷ M) e =
-      let (f, n) = spared M e in ((λ i. (failing-same d 0 ∙ sym (failing-same (1 + d) 0)) i || f i), n)
+  spared : (M : Cond) → sparesRestricted M ≡ true → fails d (mapP outside M) ≡ fails (1 + d) M
+  unfolding sparesRestricted spares fails outside
+  spared [] e = refl
+  spared ((zero, zero) ∷ M) e = λ i. (failing-not d 0 0 refl ∙ sym (failing-not (1 + d) 0 0 refl)) i || spared M e i
   spared ((zero, suc b) ∷ M) e = let z : _≡_ {A = ℕ} 0 1 = cc in absurd (omega arith)
   spared ((suc a, zero) ∷ M) e = let z : _≡_ {A = ℕ} 0 1 = cc in absurd (omega arith)
-  spared ((suc a, suc b) ∷ M) e =
-      let (f, n) = spared M e in ((λ i. sym (failing-suc d a b) i || f i), go (eqb a b) (eqb-suc a b) n)
-    where
-      go : (t : Bool) → eqb (suc a) (suc b) ≡ t → settled (mapP outside M) ≡ mapP outside (settled M)
-          → cond t (settled (mapP outside M)) (ordered (a, b) ∷ settled (mapP outside M))
-          ≡ mapP outside (cond (eqb (suc a) (suc b)) (settled M) (ordered (suc a, suc b) ∷ settled M))
-      go true t n = n ∙ ap (λ (t : Bool). mapP outside (cond t (settled M) (ordered (suc a, suc b) ∷ settled M))) (sym t)
-      go false t n =
-          (λ i. ordered-outside a b i ∷ n i) ∙ ap (λ (t : Bool). mapP outside (cond t (settled M) (ordered (suc a, suc b) ∷ settled M))) (sym t)
+  spared ((suc a, suc b) ∷ M) e = λ i. sym (failing-suc d a b) i || spared M e i
 
   unspared : (M : Cond) → sparesRestricted M ≡ false → fails (1 + d) M ≡ true
   unfolding sparesRestricted spares fails
@@ -194,61 +158,38 @@ module _ (d : ℕ) where
   unspared ((suc a, suc b) ∷ M) e =
       ap (λ (f : Bool). failing (1 + d) (suc a) (suc b) || f) (unspared M e) ∙ or-true (failing (1 + d) (suc a) (suc b))
 
-spares-settled : (M : Cond) → sparesRestricted M ≡ true → sparesRestricted (settled M) ≡ true
-unfolding sparesRestricted settled
-spares-settled [] e = refl
-spares-settled (p ∷ M) e = go (spares (p .0) (p .1)) refl e (eqb (p .0) (p .1)) (spares-settled M)
+  spares-not-failing : (M : Cond) → fails (1 + d) M ≡ false → sparesRestricted M ≡ true
+  spares-not-failing M f = go (sparesRestricted M) refl
+    where
+      go : (s : Bool) → sparesRestricted M ≡ s → s ≡ true
+      go true s = refl
+      go false s = let z : true ≡ false = sym (unspared M s) ∙ f in let y : _≡_ {A = ℕ} 0 1 = cc in absurd (omega arith)
+
+-- [Match]
+pub decided-matching : (d a b : ℕ) (c : Candidate) → decided d (matching a b c) ≡ decided d (matching a b (decided d c))
+unfolding decided fails matching
+decided-matching d a b (step M α A) = by-fails d (λ (c : Candidate). decided d (matching a b (step M α A)) ≡ decided d (matching a b c)) M α A
+    (λ f. decided-fails d ((a, b) ∷ M) (ap (λ (f : Bool). failing d a b || f) f ∙ or-true (failing d a b)) α A)
+    (λ f. decided-~ d ((a, b) ∷ M) ((a, b) ∷ canonical M) (cons-▷ M (canonical M) (canonical-~ M .1), cons-▷ (canonical M) M (canonical-~ M .0)) α A)
   where
-    go : (s : Bool) → spares (p .0) (p .1) ≡ s → (s && sparesRestricted M) ≡ true → (t : Bool) → (sparesRestricted M ≡ true → sparesRestricted (settled M) ≡ true)
-        → sparesRestricted (cond t (settled M) (ordered p ∷ settled M)) ≡ true
-    go true s e true f = f e
-    go true s e false f = ap (λ (s : Bool). s && sparesRestricted (settled M)) (spares-ordered p ∙ s) ∙ f e
-    go false s e t f = let z : _≡_ {A = ℕ} 0 1 = cc in absurd (omega arith)
-
--- The candidate beneath a match with its smaller name first.
-abbrev asking : ℕ → ℕ → Candidate → Candidate
-asking a b = matching (ordered (a, b) .0) (ordered (a, b) .1)
-
--- [Match]: what is asked is decided at once.
-unfoldable pub judged : ℕ → ℕ → ℕ → Candidate → Candidate
-judged d a b c = cond (eqb a b) c (cond (ltb a d || ltb b d) blocked (asking a b c))
-
-pub decided-matching : (d a b : ℕ) (c : Candidate) → decided d (matching a b c) ≡ judged d a b (decided d c)
-unfolding decided fails failing settled matching judged
-decided-matching d a b (step M α A) = go (eqb a b) (ltb a d || ltb b d) (fails d M)
-  where
-    go : (t u f : Bool) → cond ((not t && u) || f) blocked (step (cond t (settled M) (ordered (a, b) ∷ settled M)) α A)
-        ≡ cond t (cond f blocked (step (settled M) α A)) (cond u blocked (asking a b (cond f blocked (step (settled M) α A))))
-    go true u f = refl
-    go false true f = refl
-    go false false true = refl
-    go false false false = refl
-decided-matching d a b blocked = go (eqb a b) (ltb a d || ltb b d)
-  where
-    go : (t u : Bool) → blocked ≡ cond t blocked (cond u blocked blocked)
-    go true u = refl
-    go false true = refl
-    go false false = refl
-
-pub judged-blocked : (d a b : ℕ) → judged d a b blocked ≡ blocked
-unfolding decided matching
-judged-blocked d a b = sym (decided-matching d a b blocked)
-
--- Its names may stand in either order.
-judged-turned : (d a b : ℕ) (c : Candidate) → judged d a b c ≡ judged d b a c
-unfolding judged
-judged-turned d a b c = λ i.
-    cond (eqb-turned b a i) c (cond (or-comm (ltb a d) (ltb b d) i) blocked (matching (ordered-turned a b i .0) (ordered-turned a b i .1) c))
+    cons-▷ : (M N : Cond) → M ▷ N → ((a, b) ∷ M) ▷ ((a, b) ∷ N)
+    cons-▷ M N i = let (x, y) = E2 ((a, b) ∷ M) in (x, ▷-all (cls ((a, b) ∷ M)) M N i y)
+decided-matching d a b blocked = refl
 
 pub decided-turned : (d a b : ℕ) (c : Candidate) → decided d (matching a b c) ≡ decided d (matching b a c)
-decided-turned d a b c = decided-matching d a b c ∙ judged-turned d a b (decided d c) ∙ sym (decided-matching d b a c)
+unfolding decided matching
+decided-turned d a b (step M α A) = decided-~ d ((a, b) ∷ M) ((b, a) ∷ M) (turned a b, turned b a) α A
+  where
+    turned : (a b : ℕ) → ((a, b) ∷ M) ▷ ((b, a) ∷ M)
+    turned a b = let (x, y) = E2 ((a, b) ∷ M) in (sym x, y)
+decided-turned d a b blocked = refl
 
 -- [Par]
 pub decided-left : (d : ℕ) (Q : Term) (c : Candidate) → decided d (leftSteps Q c) ≡ leftSteps Q (decided d c)
 unfolding decided leftSteps
 decided-left d Q (step M α A) = go (fails d M)
   where
-    go : (f : Bool) → cond f blocked (leftSteps Q (step (settled M) α A)) ≡ leftSteps Q (cond f blocked (step (settled M) α A))
+    go : (f : Bool) → cond f blocked (leftSteps Q (step (canonical M) α A)) ≡ leftSteps Q (cond f blocked (step (canonical M) α A))
     go true = refl
     go false = refl
 decided-left d Q blocked = refl
@@ -257,7 +198,7 @@ pub decided-right : (d : ℕ) (P : Term) (c : Candidate) → decided d (rightSte
 unfolding decided rightSteps
 decided-right d P (step M α A) = go (fails d M)
   where
-    go : (f : Bool) → cond f blocked (rightSteps P (step (settled M) α A)) ≡ rightSteps P (cond f blocked (step (settled M) α A))
+    go : (f : Bool) → cond f blocked (rightSteps P (step (canonical M) α A)) ≡ rightSteps P (cond f blocked (step (canonical M) α A))
     go true = refl
     go false = refl
 decided-right d P blocked = refl
@@ -267,7 +208,7 @@ stays : (f : Bool) → blocked ≡ cond f blocked blocked
 stays true = refl
 stays false = refl
 
-decided-action : (d : ℕ) (M : Cond) (α : Act) (A : Term) → decided d (restrictedAction M α A) ≡ cond (fails d M) blocked (restrictedAction (settled M) α A)
+decided-action : (d : ℕ) (M : Cond) (α : Act) (A : Term) → decided d (restrictedAction M α A) ≡ cond (fails d M) blocked (restrictedAction (canonical M) α A)
 unfolding decided restrictedAction
 decided-action d M tauA A = refl
 decided-action d M (inpA zero) A = stays (fails d M)
@@ -278,34 +219,40 @@ decided-action d M (outA (suc a) (suc b)) A = refl
 decided-action d M (boutA zero) A = stays (fails d M)
 decided-action d M (boutA (suc a)) A = refl
 
-pub decided-restricted : (d : ℕ) (c : Candidate) → decided d (restricted c) ≡ restricted (decided (1 + d) c)
+pub decided-restricted : (d : ℕ) (c : Candidate) → decided d (restricted c) ≡ decided d (restricted (decided (1 + d) c))
 unfolding decided restricted
-decided-restricted d (step M α A) = go (sparesRestricted M) refl (fails (1 + d) M) refl
+decided-restricted d (step M α A) = by-fails (1 + d) (λ (c : Candidate). decided d (restricted (step M α A)) ≡ decided d (restricted c)) M α A
+    (λ f. blocks f (sparesRestricted M) refl)
+    (λ f.
+    let g : fails (1 + d) (canonical M) ≡ false = fails-~ (1 + d) (canonical M) M (canonical-~ M) ∙ f in
+    let O = mapP-~ outside M (canonical M) (~-sym (canonical M) M (canonical-~ M)) in
+    ap (λ (s : Bool). decided d (cond s (restrictedAction (mapP outside M) α A) blocked)) (spares-not-failing d M f)
+    ∙ decided-action d (mapP outside M) α A
+    ∙ (λ i. cond (fails-~ d (mapP outside M) (mapP outside (canonical M)) O i) blocked (restrictedAction (canonical-same (mapP outside M) (mapP outside (canonical M)) O i) α A))
+    ∙ sym (decided-action d (mapP outside (canonical M)) α A)
+    ∙ ap (λ (s : Bool). decided d (cond s (restrictedAction (mapP outside (canonical M)) α A) blocked)) (sym (spares-not-failing d (canonical M) g)))
   where
-    go : (s : Bool) → sparesRestricted M ≡ s → (f : Bool) → fails (1 + d) M ≡ f
-        → decided d (cond s (restrictedAction (mapP outside M) α A) blocked) ≡ restricted (cond f blocked (step (settled M) α A))
-    go true s true f = decided-action d (mapP outside M) α A ∙ ap (λ (f : Bool). cond f blocked (restrictedAction (settled (mapP outside M)) α A)) (spared d M s .0 ∙ f)
-    go true s false f =
+    blocks : fails (1 + d) M ≡ true → (s : Bool) → sparesRestricted M ≡ s → decided d (cond s (restrictedAction (mapP outside M) α A) blocked) ≡ blocked
+    blocks f true s =
         decided-action d (mapP outside M) α A
-        ∙ ap (λ (f : Bool). cond f blocked (restrictedAction (settled (mapP outside M)) α A)) (spared d M s .0 ∙ f)
-        ∙ ap (λ (N : Cond). restrictedAction N α A) (spared d M s .1)
-        ∙ ap (λ (t : Bool). cond t (restrictedAction (mapP outside (settled M)) α A) blocked) (sym (spares-settled M s))
-    go false s true f = refl
-    go false s false f = let z : true ≡ false = sym (unspared d M s) ∙ f in let y : _≡_ {A = ℕ} 0 1 = cc in absurd (omega arith)
+        ∙ ap (λ (f : Bool). cond f blocked (restrictedAction (canonical (mapP outside M)) α A)) (spared d M s ∙ f)
+    blocks f false s = refl
 decided-restricted d blocked = refl
 
 -- All the restrictions around a term.
-raised-decided : (K : List Frame) (c : Candidate) → decided 0 (raised K c) ≡ raised K (decided (restrictions K) c)
+raised-decided : (K : List Frame) (c : Candidate) → decided 0 (raised K c) ≡ decided 0 (raised K (decided (restrictions K) c))
 unfolding raised levelIn
-raised-decided [] c = refl
-raised-decided (leftOf Q ∷ K) c = raised-decided K (leftSteps Q c) ∙ ap (raised K) (decided-left (restrictions K) Q c)
-raised-decided (rightOf P ∷ K) c = raised-decided K (rightSteps P c) ∙ ap (raised K) (decided-right (restrictions K) P c)
+raised-decided [] c = decided-twice 0 c
+raised-decided (leftOf Q ∷ K) c = raised-decided K (leftSteps Q c) ∙ ap (λ (c : Candidate). decided 0 (raised K c)) (decided-left (restrictions K) Q c)
+raised-decided (rightOf P ∷ K) c = raised-decided K (rightSteps P c) ∙ ap (λ (c : Candidate). decided 0 (raised K c)) (decided-right (restrictions K) P c)
 raised-decided (beneath ∷ K) c =
     let e : 1 + restrictions K ≡ suc (restrictions K) = omega arith in
-    raised-decided K (restricted c) ∙ ap (raised K) (decided-restricted (restrictions K) c) ∙ ap (λ (d : ℕ). raised K (restricted (decided d c))) e
+    raised-decided K (restricted c) ∙ ap (λ (c : Candidate). decided 0 (raised K c)) (decided-restricted (restrictions K) c)
+    ∙ sym (raised-decided K (restricted (decided (1 + restrictions K) c)))
+    ∙ ap (λ (d : ℕ). decided 0 (raised K (restricted (decided d c)))) e
 
-pub decided-raised : (K : List Frame) (d : ℕ) → restrictions K ≡ d → (c : Candidate) → decided 0 (raised K c) ≡ raised K (decided d c)
-decided-raised K d e c = raised-decided K c ∙ ap (λ (d : ℕ). raised K (decided d c)) e
+pub decided-raised : (K : List Frame) (d : ℕ) → restrictions K ≡ d → (c : Candidate) → decided 0 (raised K c) ≡ decided 0 (raised K (decided d c))
+decided-raised K d e c = raised-decided K c ∙ ap (λ (d : ℕ). decided 0 (raised K (decided d c))) e
 
 -- [Com] and [Close]: what is to be shown of a communication, by its two conditions.
 meet-cases : (S : (Cond → Cond → Candidate) → Type 0) → S (λ M N. blocked) → ((a b : ℕ) (C : Term) → S (λ M N. step ((a, b) ∷ (M ++ N)) tauA C))
@@ -326,45 +273,25 @@ meet-cases S s t (boutA a) A (outA b z) B = s
 meet-cases S s t (boutA a) A (boutA b) B = s
 
 pub decided-communication : (d : ℕ) (s t : Candidate) → decided d (communication s t) ≡ decided d (communication (decided d s) (decided d t))
-unfolding decided communication fails settled
+unfolding decided communication fails
 decided-communication d (step M α A) (step N β B) =
-    meet-cases (λ (F : Cond → Cond → Candidate). decided d (F M N) ≡ decided d (both F (fails d M) (fails d N))) (none (fails d M) (fails d N)) one α A β B
-    ∙ ap (decided d) (apart (fails d M) (fails d N))
+    by-fails d (λ (s : Candidate). decided d (meet M α A N β B) ≡ decided d (communication s (decided d (step N β B)))) M α A
+    (λ f. blocks (fails-++ d M N ∙ ap (λ (t : Bool). t || fails d N) f))
+    (λ f. by-fails d (λ (t : Candidate). decided d (meet M α A N β B) ≡ decided d (communication (step (canonical M) α A) t)) N β B
+    (λ g. blocks (fails-++ d M N ∙ ap₂ (λ (s t : Bool). s || t) f g)) (λ g. same))
   where
-    both : (Cond → Cond → Candidate) → Bool → Bool → Candidate
-    both F f g = cond f blocked (cond g blocked (F (settled M) (settled N)))
+    blocks : fails d (M ++ N) ≡ true → decided d (meet M α A N β B) ≡ blocked
+    blocks f = meet-cases (λ (F : Cond → Cond → Candidate). decided d (F M N) ≡ blocked) refl
+        (λ a b C. decided-fails d ((a, b) ∷ (M ++ N)) (ap (λ (f : Bool). failing d a b || f) f ∙ or-true (failing d a b)) tauA C) α A β B
 
-    none : (f g : Bool) → blocked ≡ decided d (cond f blocked (cond g blocked blocked))
-    none true g = refl
-    none false true = refl
-    none false false = refl
-
-    apart : (f g : Bool) → both (λ M N. meet M α A N β B) f g ≡ communication (cond f blocked (step (settled M) α A)) (cond g blocked (step (settled N) β B))
-    apart true g = refl
-    apart false true = refl
-    apart false false = refl
-
-    one : (a b : ℕ) (C : Term) → decided d (step ((a, b) ∷ (M ++ N)) tauA C) ≡ decided d (both (λ M N. step ((a, b) ∷ (M ++ N)) tauA C) (fails d M) (fails d N))
-    one a b C = go (fails d M) refl (fails d N) refl
-      where
-        -- by the rest of the condition
-        asks : Bool → Cond → Candidate
-        asks f X = cond (failing d a b || f) blocked (step (cond (eqb a b) X (ordered (a, b) ∷ X)) tauA C)
-
-        blocks : fails d (M ++ N) ≡ true → asks (fails d (M ++ N)) (settled (M ++ N)) ≡ blocked
-        blocks e =
-            (λ i. cond (failing d a b || e i) blocked (step (cond (eqb a b) (settled (M ++ N)) (ordered (a, b) ∷ settled (M ++ N))) tauA C))
-            ∙ ap (λ (t : Bool). cond t blocked (step (cond (eqb a b) (settled (M ++ N)) (ordered (a, b) ∷ settled (M ++ N))) tauA C)) (or-true (failing d a b))
-
-        go : (f : Bool) → fails d M ≡ f → (g : Bool) → fails d N ≡ g
-            → asks (fails d (M ++ N)) (settled (M ++ N)) ≡ decided d (both (λ M N. step ((a, b) ∷ (M ++ N)) tauA C) f g)
-        go true f g h = blocks (fails-++ d M N ∙ ap (λ (t : Bool). t || fails d N) f)
-        go false f true g = blocks (fails-++ d M N ∙ ap₂ (λ (s t : Bool). s || t) f g)
-        go false f false g =
-            ap₂ asks
-            (fails-++ d M N ∙ ap₂ (λ (s t : Bool). s || t) (sym (fails-settled d M)) (sym (fails-settled d N)) ∙ sym (fails-++ d (settled M) (settled N)))
-            (settled-++ M N ∙ ap₂ (λ (X Y : Cond). X ++ Y) (sym (settled-twice M)) (sym (settled-twice N)) ∙ sym (settled-++ (settled M) (settled N)))
-decided-communication d (step M α A) blocked = ap (decided d) (sym (not-met (cond (fails d M) blocked (step (settled M) α A))))
+    same : decided d (meet M α A N β B) ≡ decided d (meet (canonical M) α A (canonical N) β B)
+    same =
+        let m = canonical-~ M in
+        let n = canonical-~ N in
+        meet-cases (λ (F : Cond → Cond → Candidate). decided d (F M N) ≡ decided d (F (canonical M) (canonical N))) refl
+        (λ a b C. decided-~ d ((a, b) ∷ (M ++ N)) ((a, b) ∷ (canonical M ++ canonical N))
+        (together-▷ (a, b) M N (canonical M) (canonical N) (m .1) (n .1), together-▷ (a, b) (canonical M) (canonical N) M N (m .0) (n .0)) tauA C) α A β B
+decided-communication d (step M α A) blocked = ap (decided d) (sym (not-met (cond (fails d M) blocked (step (canonical M) α A))))
 decided-communication d blocked t = refl
 
 -- A candidate that is a step with these classes.
@@ -373,38 +300,17 @@ pub record Like (c : Candidate) (N : Cond) (α : Act) (A : Term) : Type 0 where
   pub is : c ≡ step condition α A
   pub same : cls condition ≡ cls N
 
-unif-settled : (f : ℕ → ℕ) (M : Cond) → Unif f M → Unif f (settled M)
-unfolding settled
-unif-settled f [] u = tt
-unif-settled f (p ∷ M) u = go (eqb (p .0) (p .1)) (unif-settled f M (u .1))
-  where
-    go : (t : Bool) → Unif f (settled M) → Unif f (cond t (settled M) (ordered p ∷ settled M))
-    go true v = v
-    go false v = (ordered-either p (λ q. f (q .0) ≡ f (q .1)) (u .0) (sym (u .0)), v)
-
-of-unif-settled : (f : ℕ → ℕ) (M : Cond) → Unif f (settled M) → Unif f M
-unfolding settled
-of-unif-settled f [] u = tt
-of-unif-settled f (p ∷ M) u = go (eqb (p .0) (p .1)) refl u (λ v. of-unif-settled f M v)
-  where
-    go : (t : Bool) → eqb (p .0) (p .1) ≡ t → Unif f (cond t (settled M) (ordered p ∷ settled M)) → (Unif f (settled M) → Unif f M) → Unif f (p ∷ M)
-    go true t u r = (ap f (eqb-true (p .0) (p .1) t), r u)
-    go false t u r = (ordered-either p (λ q. f (q .0) ≡ f (q .1) → f (p .0) ≡ f (p .1)) (λ e. e) (λ e. sym e) (u .0), r (u .1))
-
-settled-~ : (M : Cond) → settled M ~ M
-settled-~ M = (of-unif-settled (cls (settled M)) M (E2 (settled M)), unif-settled (cls M) M (E2 M))
-
-same-classes : (M : Cond) → cls M ≡ cls (settled M)
-same-classes M = sym (cls-~ (settled M) M (settled-~ M))
+same-classes : (M : Cond) → cls M ≡ cls (canonical M)
+same-classes M = sym (canonical-cls M)
 
 pub decided-step : (d : ℕ) (c : Candidate) (N : Cond) (α : Act) (A : Term) → decided d c ≡ step N α A → Like c N α A
 unfolding decided
 decided-step d (step M β B) N α A e = go (fails d M) e
   where
-    go : (f : Bool) → cond f blocked (step (settled M) β B) ≡ step N α A → Like (step M β B) N α A
+    go : (f : Bool) → cond f blocked (step (canonical M) β B) ≡ step N α A → Like (step M β B) N α A
     go true e = never N α A e
     go false e =
-        let k : settled M ≡ N = cc in
+        let k : canonical M ≡ N = cc in
         let p : β ≡ α = cc in
         let q : B ≡ A = cc in
         record { condition = M; is = ap₂ (step M) p q; same = same-classes M ∙ ap cls k }
@@ -421,17 +327,17 @@ fails-none (p ∷ M) =
     go true = refl
     go false = refl
 
-decided-outside : (M : Cond) (α : Act) (A : Term) → decided 0 (step M α A) ≡ step (settled M) α A
+decided-outside : (M : Cond) (α : Act) (A : Term) → decided 0 (step M α A) ≡ step (canonical M) α A
 unfolding decided
-decided-outside M α A = ap (λ (f : Bool). cond f blocked (step (settled M) α A)) (fails-none M)
+decided-outside M α A = ap (λ (f : Bool). cond f blocked (step (canonical M) α A)) (fails-none M)
 
 pub like-of : (c : Candidate) (N : Cond) (α : Act) (A : Term) → decided 0 c ≡ decided 0 (step N α A) → Like c N α A
 like-of c N α A e =
-    let l = decided-step 0 c (settled N) α A (e ∙ decided-outside N α A) in
+    let l = decided-step 0 c (canonical N) α A (e ∙ decided-outside N α A) in
     record { condition = l .condition; is = l .is; same = l .same ∙ sym (same-classes N) }
 
 pub outside-blocked : (c : Candidate) → decided 0 c ≡ blocked → c ≡ blocked
-outside-blocked (step M α A) e = never (settled M) α A (sym e ∙ decided-outside M α A)
+outside-blocked (step M α A) e = never (canonical M) α A (sym e ∙ decided-outside M α A)
 outside-blocked blocked e = refl
 
 pub like-trivial : (M N : Cond) → cls M ≡ cls N → Trivial N → Trivial M
@@ -449,7 +355,7 @@ like-action x M N e (boutA a) = λ i. record { kind = 3; channel = e i a; object
 module _ (K : List Frame) (d : ℕ) (level : restrictions K ≡ d) (s t : Candidate) where
   decided-met : decided 0 (raised K (communication s t)) ≡ decided 0 (raised K (communication (decided d s) (decided d t)))
   decided-met =
-      decided-raised K d level (communication s t) ∙ ap (raised K) (decided-communication d s t)
+      decided-raised K d level (communication s t) ∙ ap (λ (c : Candidate). decided 0 (raised K c)) (decided-communication d s t)
       ∙ sym (decided-raised K d level (communication (decided d s) (decided d t)))
 
   pub met-like : (N : Cond) (α : Act) (A : Term) → raised K (communication (decided d s) (decided d t)) ≡ step N α A → Like (raised K (communication s t)) N α A
@@ -484,6 +390,10 @@ unfolding Again
 again-by d d₁ f g k z c cs (inl e) = inl (k c ∙ ap g e ∙ z)
 again-by d d₁ f g k z c cs (inr (b, m, e)) = inr (f b, ∈-map f b cs m, k c ∙ ap g e ∙ sym (k b))
 
+pub again-raised : (K : List Frame) (d : ℕ) → restrictions K ≡ d → (c : Candidate) (cs : List Candidate) → Again d c cs → Again 0 (raised K c) (map (raised K) cs)
+unfolding decided
+again-raised K d level = again-by 0 d (raised K) (λ (c : Candidate). decided 0 (raised K c)) (decided-raised K d level) (ap (decided 0) (raised-blocked K))
+
 pub again-as : (d : ℕ) (c b : Candidate) (cs : List Candidate) → decided d c ≡ decided d b → Again d b cs → Again d c cs
 unfolding Again
 again-as d c b cs e (inl f) = inl (e ∙ f)
@@ -492,9 +402,9 @@ again-as d c b cs e (inr (a, m, f)) = inr (a, m, e ∙ f)
 -- A match of a name with itself.
 module _ (d a b : ℕ) (same : a ≡ b) where
   pub decided-trivial : (c : Candidate) → decided d (matching a b c) ≡ decided d c
-  unfolding judged
-  decided-trivial c =
-      decided-matching d a b c ∙ ap (λ (t : Bool). cond t (decided d c) (cond (ltb a d || ltb b d) blocked (asking a b (decided d c)))) (eq-eqb a b same)
+  unfolding decided matching
+  decided-trivial (step M α A) = decided-~ d ((a, b) ∷ M) M (E2 ((a, b) ∷ M) .1, (ap (cls M) same, E2 M)) α A
+  decided-trivial blocked = refl
 
   pub again-trivial : (c : Candidate) (before cs : List Candidate) → Again d c (before ++ cs) → Again d (matching a b c) (before ++ map (matching a b) cs)
   unfolding Again
@@ -506,10 +416,11 @@ module _ (d a b : ℕ) (same : a ≡ b) where
 
 -- One of a restricted name with another.
 pub decided-failing : (d a b : ℕ) → (a ≡ b → ⊥) → (a < d) ⊎ (b < d) → (c : Candidate) → decided d (matching a b c) ≡ blocked
-unfolding judged
-decided-failing d a b n h c =
-    decided-matching d a b c ∙ (λ i. cond (ne-eqb a b n i) (decided d c) (cond (one h i) blocked (asking a b (decided d c))))
+unfolding decided matching fails failing
+decided-failing d a b n h (step M α A) =
+    decided-fails d ((a, b) ∷ M) (λ i. (not (ne-eqb a b n i) && one h i) || fails d M) α A
   where
     one : (a < d) ⊎ (b < d) → (ltb a d || ltb b d) ≡ true
     one (inl h) = ap (λ (t : Bool). t || ltb b d) (lt-ltb a d h)
     one (inr h) = ap (λ (t : Bool). ltb a d || t) (lt-ltb b d h) ∙ or-true (ltb a d)
+decided-failing d a b n h blocked = refl

@@ -34,7 +34,7 @@ use Rattle.steps.specs.Rows.{kindAt, channelAt, objectAt, Row, RowsBehin
 use Rattle.steps.specs.Walking.{MeetsIs}
 use Rattle.steps.proofs.CollectLaws.{put-blocked, collect-none, collect-then, collect-over, collect-again, Progresses, progress-start, progress-step, progress-again, progress-done, progress-passed}
 use Rattle.steps.proofs.ContextLaws.{raised-blocked}
-use Rattle.steps.proofs.DecidingLaws.{decided-raised, decided-communication, met-blocked, again-by}
+use Rattle.steps.proofs.DecidingLaws.{decided-communication, met-blocked, again-by, again-raised}
 use Rattle.steps.proofs.MeetLaws.{meets-new, pair-apart}
 
 -- The communications of s with each of ts, as candidates of the whole.
@@ -169,7 +169,7 @@ module _ (question part : List ℕ) (at depth number x : ℕ) (rows : List ℕ) 
           let l : take i (met K s ts) ≡ met K s (take i ts) = take-map (raised K) i (map (communication s) ts) ∙ ap (map (raised K)) (take-map (communication s) i ts) in
           subst (λ d. Again 0 d (take i (met K s ts))) (sym (nth-met K s ts i))
           (subst (λ cs. Again 0 (raised K (communication s t)) cs) (sym l)
-          (again-by 0 depth (raised K) (raised K) (decided-raised K depth (c .placed .level)) (raised-blocked K) (communication s t) (map (communication s) (take i ts)) (again-right depth s t (take i ts) m)))
+          (again-raised K depth (c .placed .level) (communication s t) (map (communication s) (take i ts)) (again-right depth s t (take i ts) m)))
 
     pair-next : n ≤ mostSteps → w < last → mayMeet (kindAt rows row) (channelAt rows row) (kindAt rows w) (channelAt rows w) ≡ false
         → Paired (w + 1) n area
@@ -368,7 +368,7 @@ module _ (question part : List ℕ) (at depth number before x : ℕ) (rows : Lis
                 (λ d i.
                 let (y, m, g) = ∈-mapped (raised K) d (map (communication (getD lefts (row - first) blocked)) rights) i in
                 subst (λ d. Again 0 d (all K rights (take (row - first) lefts))) (sym g)
-                (again-by 0 depth (raised K) (raised K) (decided-raised K depth (c .placed .level)) (raised-blocked K) y (communications (take (row - first) lefts) rights)
+                (again-raised K depth (c .placed .level) y (communications (take (row - first) lefts) rights)
                 (again-left depth rights (take (row - first) lefts) (getD lefts (row - first) blocked) (earlier-row f) y m)))))
             go false b =
                 collect-then (all K rights (take (row - first) lefts)) (met K (getD lefts (row - first) blocked) rights) x area₀ count n area (so-far q P K L R c .1) few r area′

@@ -1,6 +1,6 @@
 -- What the row of a candidate says: of its action, outside a restriction, beside another term; and rows that are kept. Assumes nothing.
 use mathlib.Core.Path.{_≡_, refl, sym, ap, ap₂, subst, _∙_}
-use mathlib.Core.Bool.{Bool, true, false, cond, _&&_, _||_}
+use mathlib.Core.Bool.{Bool, true, false, cond, _&&_}
 use mathlib.Core.List.{List, [], _∷_, _++_, map, append-assoc}
 use mathlib.Core.Logic.{_⊎_, inl, inr, ⊎-elim}
 use Prim.Native.Nat.{ℕ, zero, suc, _+_, _-_, _*_, _<_, _≤_}
@@ -10,7 +10,7 @@ use lib.Seq.{getD-append-add, take-append-le, take-append-add}
 use lib.Dec.{eqb, ltb}
 use borrow.Author.Tests.{eqb-true, eqb-false, ltb-true, ltb-false, lt-ltb, le-ltb}
 use Rattle.calculus.specs.Abstraction.{Act, tauA, inpA, outA, boutA, swap, weak}
-use Rattle.calculus.specs.Cond.{Cond, mapP}
+use Rattle.calculus.specs.Cond.{Cond, mapP, canonical, matchesBelow, above}
 use Rattle.calculus.specs.Term.{Term, par, res, ren}
 use Rattle.terms.specs.Limits.{nameCount}
 use Rattle.candidates.specs.Labels.{actionOf, ActionBelow}
@@ -23,9 +23,9 @@ use Rattle.candidates.proofs.Membership.{∈-left, ∈-right, ∈-nth, take-map
 use Rattle.candidates.proofs.NameSlots.{slot-inner}
 use Rattle.candidates.proofs.Numbering.{nth-matching, nth-leftSteps, nth-rightSteps, nth-restricted}
 use Rattle.candidates.proofs.SlotLaws.{slot-restricted, slot-outside}
-use Rattle.steps.specs.Deciding.{ordered, decided, Again}
+use Rattle.steps.specs.Deciding.{fails, decided, Again}
 use Rattle.steps.specs.Rows.{rowBytes, kindAt, channelAt, objectAt, actionKind, rowAction, Does, Outlined, Row, RowsBehind, Rows, Matched, RowsKept}
-use Rattle.steps.proofs.DecidingLaws.{judged, judged-blocked, decided-matching, decided-left, decided-right, decided-restricted, decided-trivial, again-more, again-by, again-trivial}
+use Rattle.steps.proofs.DecidingLaws.{by-fails, decided-matching, decided-left, decided-right, decided-restricted, decided-trivial, again-more, again-by, again-trivial}
 
 -- The action of a row.
 module _ (d kind channel object : ℕ) where
@@ -207,21 +207,45 @@ module _ (d kind channel object : ℕ) where
         (O .acts h);
   }
 
-  -- [Match]: it asks nothing, or fails, or is one of the condition
-  outlined-judged : 3 < kind → (a b : ℕ) (c : Candidate) → Outlined d c kind channel object → Outlined d (judged d a b c) kind channel object
-  unfolding matching judged
-  outlined-judged m a b c O = go (eqb a b) (ltb a d || ltb b d) (ordered (a, b) .0) (ordered (a, b) .1)
+  -- [Match]
+  outlined-matching : 3 < kind → (a b : ℕ) (c : Candidate) → Outlined d c kind channel object → Outlined d (matching a b c) kind channel object
+  unfolding matching
+  outlined-matching m a b c O = record {
+    known = O .known;
+    inner = λ h. ap (matching a b) (O .inner h);
+    acts = λ h. ⊎-elim (λ p. inl (p .0, ap (matching a b) (p .1)))
+        (λ D. inr (record { condition = (a, b) ∷ D .condition; action = D .action; result = D .result; is = ap (matching a b) (D .is); plain = λ few. absurd (omega arith); acts = D .acts; below = D .below }))
+        (O .acts h);
+  }
+
+  -- without a match nothing is decided
+  plain-fails : {c : Candidate} (D : Does d kind channel object c) → fails d (D .condition) ≡ true → 3 < kind
+  unfolding fails
+  plain-fails D f = go (ltb 3 kind) refl
     where
-      go : (t u : Bool) (a b : ℕ) → Outlined d (cond t c (cond u blocked (matching a b c))) kind channel object
-      go true u a b = O
-      go false true a b = record { known = O .known; inner = λ h. refl; acts = λ h. inl (m, refl) }
-      go false false a b = record {
-        known = O .known;
-        inner = λ h. ap (matching a b) (O .inner h);
-        acts = λ h. ⊎-elim (λ p. inl (p .0, ap (matching a b) (p .1)))
-            (λ D. inr (record { condition = (a, b) ∷ D .condition; action = D .action; result = D .result; is = ap (matching a b) (D .is); plain = λ few. absurd (omega arith); acts = D .acts; below = D .below }))
-            (O .acts h);
-      }
+      go : (t : Bool) → ltb 3 kind ≡ t → 3 < kind
+      go true t = ltb-true 3 kind t
+      go false t =
+          let e : true ≡ false = sym f ∙ ap (fails d) (D .plain (ltb-false 3 kind t)) in
+          let z : _≡_ {A = ℕ} 0 1 = cc in absurd (omega arith)
+
+  plain-form : {c : Candidate} (D : Does d kind channel object c) → kind ≤ 3 → canonical (D .condition) ≡ []
+  unfolding canonical matchesBelow above
+  plain-form D few = ap canonical (D .plain few)
+
+  -- What is decided later keeps the action, and blocks a candidate only beneath a match.
+  outlined-decided : (c : Candidate) → Outlined d c kind channel object → Outlined d (decided d c) kind channel object
+  unfolding decided
+  outlined-decided c O = record {
+    known = O .known;
+    inner = λ h. ap (decided d) (O .inner h);
+    acts = λ h. ⊎-elim (λ p. inl (p .0, ap (decided d) (p .1))) (λ D.
+        subst (λ (c : Candidate). ((3 < kind) × (c ≡ blocked)) ⊎ Does d kind channel object c) (sym (ap (decided d) (D .is)))
+        (by-fails d (λ (c : Candidate). ((3 < kind) × (c ≡ blocked)) ⊎ Does d kind channel object c) (D .condition) (D .action) (D .result)
+        (λ f. inl (plain-fails D f, refl))
+        (λ f. inr (record { condition = canonical (D .condition); action = D .action; result = D .result; is = refl; plain = plain-form D; acts = D .acts; below = D .below }))))
+        (O .acts h);
+  }
 
 -- The rows of a list of candidates, behind others.
 module _ (rows : List ℕ) (n d : ℕ) where
@@ -291,14 +315,17 @@ module _ (rows : List ℕ) (n d : ℕ) where
   rows-right P cs = by-rule d (rightSteps P) (rightSteps P) (decided-right d P) refl cs (λ j h. outlined-right d _ _ _ P) (nth-rightSteps P cs)
 
   pub rows-restricted : (cs : List Candidate) → Rows (1 + d) cs rows n → Rows d (map restricted cs) rows n
-  unfolding restricted
-  rows-restricted cs = by-rule (1 + d) restricted restricted (decided-restricted d) refl cs (λ j h. outlined-restricted d _ _ _) (nth-restricted cs)
+  unfolding restricted decided
+  rows-restricted cs =
+      by-rule (1 + d) restricted (λ (c : Candidate). decided d (restricted c)) (decided-restricted d) refl cs
+      (λ j h c O. outlined-decided d _ _ _ (restricted c) (outlined-restricted d _ _ _ c O)) (nth-restricted cs)
 
   -- [Match]
   pub rows-matching : (a b : ℕ) (cs : List Candidate) → Matched (length cs) rows n → Rows d cs rows n → Rows d (map (matching a b) cs) rows n
-  unfolding Matched
+  unfolding Matched matching decided
   rows-matching a b cs u =
-      by-rule d (matching a b) (judged d a b) (decided-matching d a b) (judged-blocked d a b) cs (λ j h. outlined-judged d _ _ _ (u j h) a b) (nth-matching a b cs)
+      by-rule d (matching a b) (λ (c : Candidate). decided d (matching a b c)) (decided-matching d a b) refl cs
+      (λ j h c O. outlined-decided d _ _ _ (matching a b c) (outlined-matching d _ _ _ (u j h) a b c O)) (nth-matching a b cs)
 
   -- a match of a name with itself
   pub rows-trivial : (a b : ℕ) → a ≡ b → (before cs : List Candidate) → RowsBehind before d cs rows n → RowsBehind before d (map (matching a b) cs) rows n

@@ -11,6 +11,7 @@ use lib.Seq.{getD-set-same, getD-set-other}
 use lib.Dec.{ltb}
 use borrow.Author.Tests.{ltb-true, ltb-false, lt-ltb, le-ltb, eq-eqb, ne-eqb}
 use Rattle.calculus.specs.Abstraction.{Act, inpA, outA, boutA}
+use Rattle.calculus.specs.Cond.{canonical, matchesBelow, above}
 use Rattle.calculus.specs.Term.{Term, inp, out, bout, sum, par, res, call, lift, ren}
 use Rattle.terms.specs.Answer.{result}
 use Rattle.terms.specs.Encoding.{nameByte, encode, InScope}
@@ -33,7 +34,7 @@ use Rattle.candidates.proofs.FrontLaws.{stands, behind}
 use Rattle.candidates.proofs.SlotLaws.{slot-below}
 use Rattle.candidates.proofs.TwoSides.{at-left}
 use Rattle.candidates.proofs.TwoSides as two
-use Rattle.steps.specs.Deciding.{fails, settled, decided}
+use Rattle.steps.specs.Deciding.{fails, decided}
 use Rattle.steps.specs.Rows.{rowBytes, mostRows, kindAt, channelAt, objectAt, actionKind, rowAction, Outlined, Row, RowsBehind, Rows, Matched, RowsKept, PutRowIs, PutRepeatedIs, sentSlot, prefixKind, PrefixRowIs, isTrivial, Offers, rootOf, RepeatedIs, ScanIs}
 use Rattle.steps.proofs.ChoiceLaws.{trivial-slots, trivial-names, offers-alone, offers-left, offers-beneath, offers-right}
 use Rattle.steps.proofs.RowLaws.{row-input, row-output, row-new, rows-again, rows-more, rows-append, rows-matching, rows-trivial, rows-par, rows-res, kind-kept, rows-kept, matched-kept, kept-all, kept-then}
@@ -183,7 +184,7 @@ module _ (d kind channel object : ℕ) (rows : List ℕ) (n : ℕ) (k : kindAt r
 -- The candidate of a visible prefix.
 module _ (d kind channel object : ℕ) (α : Act) (A : Term) (some : 0 < kind) (below : channel < nameCount + d) (e : actionOf d α ≡ rowAction d (actionKind kind) channel object) (b : ActionBelow (d + nameCount) α) where
   outlined : Outlined d (decided d (step [] α A)) kind channel object
-  unfolding decided fails settled
+  unfolding decided fails canonical matchesBelow above
   outlined = record {
     known = some;
     inner = λ h. absurd (omega arith);
