@@ -1,132 +1,226 @@
--- Branches that are the same but for the order of two matched names have the same candidates but for what is decided. Assumes nothing.
-use borrow.Author.Tests.{eq-eqb, ne-eqb, eqb-true, eqb-false, ltb-true}
+-- Branches that are the same but for how their matches make one condition have the same candidates but for what is decided. Assumes nothing.
+use borrow.Author.Tests.{eqb-true, lt-ltb, le-ltb, ltb-true, ltb-false}
 use mathlib.Core.Bool.{Bool, true, false, cond}
 use mathlib.Core.List.{List, [], _∷_, _++_}
-use mathlib.Core.Logic.{inl, inr, ⊎-elim}
+use mathlib.Core.Logic.{⊎-elim}
 use mathlib.Core.Path.{_≡_, refl, sym, _∙_, ap, subst}
+use native.Mathlib.Nat.{eq-or-lt-of-le}
 use native.Mathlib.Omega.{arith}
-use Prim.Native.Nat.{ℕ, _+_}
+use Prim.Native.Nat.{ℕ, zero, suc, _+_, _-_, _*_, _<_, _≤_}
 use lib.Dec.{eqb, ltb}
-use lib.ListN.{getD}
-use Rattle.calculus.specs.Term.{Term, mat, ren}
+use lib.ListN.{getD, drop}
+use Rattle.calculus.specs.Abstraction.{Act}
+use Rattle.calculus.specs.Cond.{Cond, mapP, Unif, cls, _▷_, _~_}
+use Rattle.calculus.specs.Term.{Term, ren}
+use Rattle.calculus.proofs.Conditions.{E2, ▷-all, ~-refl, mapP-▷}
 use Rattle.terms.specs.Encoding.{nameByte, encode, InScope}
 use Rattle.terms.specs.Limits.{nameCount}
-use Rattle.candidates.specs.LabelWalk.{slotAt}
+use Rattle.candidates.specs.Conditions.{MergedIs}
+use Rattle.candidates.specs.LabelWalk.{slotAt, HasSlots}
 use Rattle.candidates.specs.Lists.{_∈_}
-use Rattle.candidates.specs.Raw.{Candidate, matching, visible, visibleOf}
+use Rattle.candidates.specs.Raw.{Candidate, step, blocked, matching, visible, visibleOf}
+use Rattle.candidates.specs.Slots.{slotOf, slotCount, HasSlotClasses, Below}
 use Rattle.candidates.proofs.CandidateForms.{tag-at, only-mat}
 use Rattle.candidates.proofs.FrontLaws.{behind}
 use Rattle.candidates.proofs.Membership.{∈-map, ∈-mapped}
+use Rattle.candidates.proofs.NameSlots.{slot-bound, slot-free}
 use Rattle.steps.specs.Deciding.{decided}
-use Rattle.steps.specs.Rows.{isTrivial}
-use Rattle.steps.specs.Same.{Both, SameIs, SameMatch, SameBranchIs}
-use Rattle.steps.proofs.ChoiceLaws.{other-trivial, first-slot, second-slot}
-use Rattle.steps.proofs.DecidingLaws.{decided-matching, decided-turned}
-use Rattle.steps.proofs.RaisedMeetings.{slot-one}
+use Rattle.steps.specs.Same.{SameIs, ChainIs, chain, HoldsIs, SameBranchIs}
+use Rattle.steps.proofs.ChoiceLaws.{first-slot, second-slot}
+use Rattle.steps.proofs.DecidingLaws.{decided-~}
 
--- Two matches by the slots of their names.
-module _ (s args : List ℕ) (inner depth p at a b u v : ℕ) (first : a ≡ slotAt args inner depth (getD s (p + 1) 0)) (second : b ≡ slotAt args inner depth (getD s (p + 2) 0))
-    (third : u ≡ slotAt args inner depth (getD s (at + 1) 0)) (fourth : v ≡ slotAt args inner depth (getD s (at + 2) 0)) where
-  pub match-same : a ≡ u → b ≡ v → SameMatch s args inner depth p at
-  unfolding SameMatch
-  match-same e f = inl (sym first ∙ e ∙ third, sym second ∙ f ∙ fourth)
+-- A candidate beneath the matches of a condition, the last of them outermost.
+asked : Cond → Candidate → Candidate
+asked [] x = x
+asked (p ∷ M) x = asked M (matching (p .0) (p .1) x)
 
-  pub match-turned : a ≡ v → b ≡ u → SameMatch s args inner depth p at
-  unfolding SameMatch
-  match-turned e f = inr (sym first ∙ e ∙ fourth, sym second ∙ f ∙ third)
+onto : Cond → Cond → Cond
+onto [] L = L
+onto (p ∷ M) L = onto M (p ∷ L)
 
-eqb-turned : (a b : ℕ) → eqb b a ≡ eqb a b
-eqb-turned a b = go (eqb a b) refl
-  where
-    go : (t : Bool) → eqb a b ≡ t → eqb b a ≡ t
-    go true t = eq-eqb b a (sym (eqb-true a b t))
-    go false t = ne-eqb b a (λ e. eqb-false a b t (sym e))
+asked-step : (M L : Cond) (α : Act) (A : Term) → asked M (step L α A) ≡ step (onto M L) α A
+unfolding asked onto matching
+asked-step [] L α A = refl
+asked-step (p ∷ M) L α A = asked-step M (p ∷ L) α A
+
+asked-blocked : (M : Cond) → asked M blocked ≡ blocked
+unfolding asked matching
+asked-blocked [] = refl
+asked-blocked (p ∷ M) = asked-blocked M
+
+unif-onto : (f : ℕ → ℕ) (M L : Cond) → Unif f M → Unif f L → Unif f (onto M L)
+unfolding onto
+unif-onto f [] L u v = v
+unif-onto f (p ∷ M) L u v = unif-onto f M (p ∷ L) (u .1) (u .0, v)
+
+of-unif-onto : (f : ℕ → ℕ) (M L : Cond) → Unif f (onto M L) → Unif f M × Unif f L
+unfolding onto
+of-unif-onto f [] L u = (tt, u)
+of-unif-onto f (p ∷ M) L u = let (x, y) = of-unif-onto f M (p ∷ L) u in ((y .0, x), y .1)
+
+onto-▷ : (M N L : Cond) → M ▷ N → onto M L ▷ onto N L
+onto-▷ M N L i =
+    let f = cls (onto M L) in
+    let (x, y) = of-unif-onto f M L (E2 (onto M L)) in
+    unif-onto f N L (▷-all f M N i x) y
+
+asked-same : (d : ℕ) (M N : Cond) → M ~ N → (x : Candidate) → decided d (asked M x) ≡ decided d (asked N x)
+asked-same d M N e (step L α A) =
+    ap (decided d) (asked-step M L α A) ∙ decided-~ d (onto M L) (onto N L) (onto-▷ M N L (e .0), onto-▷ N M L (e .1)) α A
+    ∙ ap (decided d) (sym (asked-step N L α A))
+asked-same d M N e blocked = ap (decided d) (asked-blocked M ∙ sym (asked-blocked N))
+
+-- Conditions on names imply each other if they do on the slots of the names: a slot has one name.
+module _ (d : ℕ) where
+  nameOf : ℕ → ℕ
+  nameOf t = cond (ltb t nameCount) (t + d) (nameCount + d - 1 - t)
+
+  name-of-slot : (n : ℕ) → n < d + nameCount → nameOf (slotOf nameCount d n) ≡ n
+  unfolding nameOf
+  name-of-slot n h = go (ltb n d) refl
+    where
+      go : (t : Bool) → ltb n d ≡ t → cond (ltb (slotOf nameCount d n) nameCount) (slotOf nameCount d n + d) (nameCount + d - 1 - slotOf nameCount d n) ≡ n
+      go true t =
+          let l = ltb-true n d t in
+          let e = slot-bound nameCount d n l in
+          ap (λ (t : Bool). cond t (slotOf nameCount d n + d) (nameCount + d - 1 - slotOf nameCount d n)) (le-ltb (slotOf nameCount d n) nameCount (omega arith)) ∙ omega arith
+      go false t =
+          let l = ltb-false n d t in
+          let e = slot-free nameCount d n l in
+          ap (λ (t : Bool). cond t (slotOf nameCount d n + d) (nameCount + d - 1 - slotOf nameCount d n)) (lt-ltb (slotOf nameCount d n) nameCount (omega arith)) ∙ omega arith
+
+  abbrev onSlots : Cond → Cond
+  onSlots M = mapP (slotOf nameCount d) M
+
+  names-of-slots : (M : Cond) → Below (d + nameCount) M → mapP nameOf (onSlots M) ≡ M
+  unfolding Below
+  names-of-slots [] b = refl
+  names-of-slots (p ∷ M) b = λ i. (name-of-slot (p .0) (b .0) i, name-of-slot (p .1) (b .1) i) ∷ names-of-slots M (b .2) i
+
+  slots-▷ : (M N : Cond) → Below (d + nameCount) M → Below (d + nameCount) N → onSlots M ▷ onSlots N → M ▷ N
+  slots-▷ M N b c i =
+      subst (λ (M : Cond). M ▷ N) (names-of-slots M b)
+      (subst (λ (N : Cond). mapP nameOf (onSlots M) ▷ N) (names-of-slots N c) (mapP-▷ nameOf (onSlots M) (onSlots N) i))
+
+-- One match more.
+pub chain-longer : (s : List ℕ) (at n q : ℕ) → q ≡ at + 3 * n → getD s q 0 ≡ 5 → ((j : ℕ) → j < n → getD s (at + 3 * j) 0 ≡ 5)
+    → (j : ℕ) → j < n + 1 → getD s (at + 3 * j) 0 ≡ 5
+chain-longer s at n q e five before j h = ⊎-elim
+    (λ z. ap (λ (k : ℕ). getD s (at + 3 * k) 0) z ∙ ap (λ (k : ℕ). getD s k 0) (sym e) ∙ five) (before j) (eq-or-lt-of-le {n = j} {m = n} (omega arith))
+
+module _ (s args : List ℕ) (inner depth p j : ℕ) (x u y v : ℕ) (first : x ≡ getD s (p + 3 * j + 1) 0) (at-first : u ≡ slotAt args inner depth x)
+    (second : y ≡ getD s (p + 3 * j + 2) 0) (at-second : v ≡ slotAt args inner depth y) where
+  chain-more : (u, v) ∷ chain s args inner depth p j ≡ chain s args inner depth p (j + 1)
+  unfolding chain
+  chain-more =
+      let e : suc j ≡ j + 1 = omega arith in
+      (λ i. ((at-first ∙ ap (slotAt args inner depth) first) i, (at-second ∙ ap (slotAt args inner depth) second) i) ∷ chain s args inner depth p j)
+      ∙ ap (chain s args inner depth p) e
+
+  pub classes-more : (c r : List ℕ) → MergedIs c u v r → HasSlotClasses c (chain s args inner depth p j) → HasSlotClasses r (chain s args inner depth p (j + 1))
+  unfolding MergedIs
+  classes-more c r m h = subst (HasSlotClasses r) chain-more (m (chain s args inner depth p j) h)
+
+  pub holds-more : (c : List ℕ) → u < slotCount → v < slotCount → getD c u 0 ≡ getD c v 0 → HoldsIs c s args inner depth p j → HoldsIs c s args inner depth p (j + 1)
+  unfolding HoldsIs HasSlotClasses
+  holds-more c a b e h M k = subst (λ (N : Cond). M ▷ N) chain-more (sym (k u a) ∙ e ∙ k v b, h M k)
+
+-- The term beneath n matches, and the candidates by its own.
+module _ (body : ℕ → Term) (calls : ℕ) (arities : List ℕ) (free D : ℕ) (σ : ℕ → ℕ) (s args : List ℕ) (inner depth : ℕ) (few : free ≤ nameCount) (has : HasSlots free D args inner depth σ)
+    (at : ℕ) (P : Term) (rest : List ℕ) where
+  record Peeled (n : ℕ) : Type 0 where
+    condition : Cond
+    below : Below (depth + nameCount) condition
+    slots : mapP (slotOf nameCount depth) condition ≡ chain s args inner depth at n
+    term : Term
+    scope : InScope free arities D term
+    stands : drop (at + 3 * n) s ≡ encode D term ++ rest
+    from : (c : Candidate) → c ∈ visible body calls (ren σ P) → (x : Candidate) × (x ∈ visible body calls (ren σ term)) × (c ≡ asked condition x)
+    to : (x : Candidate) → x ∈ visible body calls (ren σ term) → asked condition x ∈ visible body calls (ren σ P)
+
+  peel-more : (n : ℕ) → getD s (at + 3 * n) 0 ≡ 5 → Peeled n → Peeled (suc n)
+  unfolding Below chain encode InScope asked visible visibleOf
+  peel-more n five Q =
+      only-mat (λ (T : Term). InScope free arities D T → drop (at + 3 * n) s ≡ encode D T ++ rest
+      → ((c : Candidate) → c ∈ visible body calls (ren σ P) → (x : Candidate) × (x ∈ visible body calls (ren σ T)) × (c ≡ asked (Q .condition) x))
+      → ((x : Candidate) → x ∈ visible body calls (ren σ T) → asked (Q .condition) x ∈ visible body calls (ren σ P)) → Peeled (suc n))
+      (λ a b T scope st from to.
+      let f = first-slot free D σ s args inner depth few has arities a b T (at + 3 * n) rest scope st in
+      let g = second-slot free D σ s args inner depth few has arities a b T (at + 3 * n) rest scope st in
+      let e : at + 3 * suc n ≡ at + 3 * n + 3 = omega arith in
+      record {
+        condition = (σ a, σ b) ∷ Q .condition;
+        below = (f .1, g .1, Q .below);
+        slots = λ i. (sym (f .0) i, sym (g .0) i) ∷ Q .slots i;
+        term = T;
+        scope = scope .2;
+        stands = ap (λ (k : ℕ). drop k s) e ∙ behind s (at + 3 * n) 3 (5 ∷ nameByte D a ∷ nameByte D b ∷ []) (encode D T ++ rest) st refl;
+        from = λ c m.
+            let (x, i, k) = from c m in
+            let (y, j, l) = ∈-mapped (matching (σ a) (σ b)) x (visible body calls (ren σ T)) i in
+            (y, j, k ∙ ap (asked (Q .condition)) l);
+        to = λ y j. to (matching (σ a) (σ b) y) (∈-map (matching (σ a) (σ b)) y (visible body calls (ren σ T)) j);
+      })
+      (Q .term) (sym (tag-at s (at + 3 * n) D (Q .term) rest (Q .stands)) ∙ five) (Q .scope) (Q .stands) (Q .from) (Q .to)
+
+  peel : InScope free arities D P → drop at s ≡ encode D P ++ rest → (n : ℕ) → ((j : ℕ) → j < n → getD s (at + 3 * j) 0 ≡ 5) → Peeled n
+  unfolding Below chain asked
+  peel scope st zero five =
+      let e : at + 3 * 0 ≡ at = omega arith in
+      record {
+        condition = [];
+        below = tt;
+        slots = refl;
+        term = P;
+        scope = scope;
+        stands = ap (λ (k : ℕ). drop k s) e ∙ st;
+        from = λ c m. (c, m, refl);
+        to = λ c m. m;
+      }
+  peel scope st (suc n) five = peel-more n (five n (omega arith)) (peel scope st n (λ j h. five j (omega arith)))
 
 module _ (s : List ℕ) (p at : ℕ) (arities args : List ℕ) (inner depth : ℕ) where
   abbrev Branch : Bool → Type 0
   Branch r = SameBranchIs s p at arities args inner depth r
 
-  -- what is to be shown of two terms
-  abbrev Repeats : (body : ℕ → Term) (calls : ℕ) (σ : ℕ → ℕ) (P B : Term) → Type 0
-  Repeats body calls σ P B =
-      (c : Candidate) → c ∈ visible body calls (ren σ P) → (b : Candidate) × (b ∈ visible body calls (ren σ B)) × (decided depth c ≡ decided depth b)
-
   pub branch-not : Branch false
-  branch-not = record {
-    trivial = λ e. let z : _≡_ {A = ℕ} 0 1 = cc in absurd (omega arith);
-    is = λ e. let z : _≡_ {A = ℕ} 0 1 = cc in absurd (omega arith);
-  }
+  branch-not = record { is = λ e. let z : _≡_ {A = ℕ} 0 1 = cc in absurd (omega arith) }
 
-  -- the same term, no match
-  pub branch-term : (getD s at 0 ≡ 5 → ⊥) → (n : ℕ) → SameIs s p at arities args inner depth n → Branch (ltb 0 n)
-  branch-term other n S = record {
-    trivial = λ e. other-trivial s args inner depth p (λ z. other (sym (S .first (ltb-true 0 n e)) ∙ z)) ∙ sym (other-trivial s args inner depth at other);
-    is = λ e body calls free D σ P B x c m.
-        (c, subst (λ (Q : Term). c ∈ visible body calls Q) (S .is (ltb-true 0 n e) free D σ P B x .1) m, refl);
-  }
-
-  -- beneath a match
-  module _ (five : getD s at 0 ≡ 5) (five-too : getD s p 0 ≡ 5) (same : SameMatch s args inner depth p at) where
-    match-trivial : isTrivial s args inner depth p ≡ isTrivial s args inner depth at
-    unfolding isTrivial SameMatch
-    match-trivial =
-        ap (λ (t : Bool). cond t (eqb (on p 1) (on p 2)) false) (eq-eqb (getD s p 0) 5 five-too)
-        ∙ ⊎-elim (λ e. λ i. eqb (e .0 i) (e .1 i)) (λ e. (λ i. eqb (e .0 i) (e .1 i)) ∙ eqb-turned (on at 1) (on at 2)) same
-        ∙ sym (ap (λ (t : Bool). cond t (eqb (on at 1) (on at 2)) false) (eq-eqb (getD s at 0) 5 five))
-      where
-        on : ℕ → ℕ → ℕ
-        on p k = slotAt args inner depth (getD s (p + k) 0)
-
-    module _ (body : ℕ → Term) (calls free D : ℕ) (σ : ℕ → ℕ) (a b : ℕ) (P : Term) (a′ b′ : ℕ) (B : Term)
-        (x : Both s p at arities args inner depth free D σ (mat a b P) (mat a′ b′ B)) where
-      beneath : Both s (p + 3) (at + 3) arities args inner depth free D σ P B
-      unfolding InScope encode
-      beneath = record {
-        few = x .few;
-        has = x .has;
-        scope = x .scope .2;
-        scope-too = x .scope-too .2;
-        rest = x .rest;
-        stands = behind s at 3 (5 ∷ nameByte D a ∷ nameByte D b ∷ []) (encode D P ++ x .rest) (x .stands) refl;
-        more = x .more;
-        stands-too = behind s p 3 (5 ∷ nameByte D a′ ∷ nameByte D b′ ∷ []) (encode D B ++ x .more) (x .stands-too) refl;
-      }
-
-      turned : (c : Candidate) → decided depth (matching (σ a) (σ b) c) ≡ decided depth (matching (σ a′) (σ b′) c)
-      unfolding SameMatch
-      turned c =
-          let f = first-slot free D σ s args inner depth (x .few) (x .has) arities a b P at (x .rest) (x .scope) (x .stands) in
-          let g = second-slot free D σ s args inner depth (x .few) (x .has) arities a b P at (x .rest) (x .scope) (x .stands) in
-          let f′ = first-slot free D σ s args inner depth (x .few) (x .has) arities a′ b′ B p (x .more) (x .scope-too) (x .stands-too) in
-          let g′ = second-slot free D σ s args inner depth (x .few) (x .has) arities a′ b′ B p (x .more) (x .scope-too) (x .stands-too) in
-          ⊎-elim
-          (λ e.
-          let u = slot-one nameCount depth (σ a) (σ a′) (f .1) (f′ .1) (sym (f .0) ∙ sym (e .0) ∙ f′ .0) in
-          let v = slot-one nameCount depth (σ b) (σ b′) (g .1) (g′ .1) (sym (g .0) ∙ sym (e .1) ∙ g′ .0) in
-          λ i. decided depth (matching (u i) (v i) c))
-          (λ e.
-          let u = slot-one nameCount depth (σ b) (σ a′) (g .1) (f′ .1) (sym (g .0) ∙ sym (e .0) ∙ f′ .0) in
-          let v = slot-one nameCount depth (σ a) (σ b′) (f .1) (g′ .1) (sym (f .0) ∙ sym (e .1) ∙ g′ .0) in
-          decided-turned depth (σ a) (σ b) c ∙ (λ i. decided depth (matching (u i) (v i) c)))
-          same
-
-      match-again : Repeats body calls σ P B → Repeats body calls σ (mat a b P) (mat a′ b′ B)
-      unfolding visible visibleOf
-      match-again again c m =
-          let (y, i, e) = ∈-mapped (matching (σ a) (σ b)) c (visible body calls (ren σ P)) m in
-          let (z, j, f) = again y i in (
-            matching (σ a′) (σ b′) z,
-            ∈-map (matching (σ a′) (σ b′)) z (visible body calls (ren σ B)) j,
-            ap (decided depth) e ∙ decided-matching depth (σ a) (σ b) y ∙ ap (λ (c : Candidate). decided depth (matching (σ a) (σ b) c)) f ∙ sym (decided-matching depth (σ a) (σ b) z) ∙ turned z,
-          )
-
-    pub branch-match : (r : Bool) → SameBranchIs s (p + 3) (at + 3) arities args inner depth r → Branch r
-    branch-match r S = record {
-      trivial = λ _. match-trivial;
+  -- the same term beneath matches that make the same condition
+  module _ (m n : ℕ) (above-p : ChainIs s p m) (above-at : ChainIs s at n) (k : ℕ) (some : (k ≡ 0 → ⊥)) (S : SameIs s (p + 3 * m) (at + 3 * n) arities args inner depth k) where
+    pub branch-same : (r : Bool) → (r ≡ true → chain s args inner depth p m ~ chain s args inner depth at n) → Branch r
+    branch-same r same = record {
       is = λ e body calls free D σ P B x.
-          only-mat (λ (P : Term). Both s p at arities args inner depth free D σ P B → Repeats body calls σ P B)
-          (λ a b P x. only-mat (λ (B : Term). Both s p at arities args inner depth free D σ (mat a b P) B → Repeats body calls σ (mat a b P) B)
-          (λ a′ b′ B x. match-again body calls free D σ a b P a′ b′ B x (S .is e body calls free D σ P B (beneath body calls free D σ a b P a′ b′ B x)))
-          B (sym (tag-at s p D B (x .more) (x .stands-too)) ∙ five-too) x)
-          P (sym (tag-at s at D P (x .rest) (x .stands)) ∙ five) x;
+          let Q = peel body calls arities free D σ s args inner depth (x .few) (x .has) at P (x .rest) (x .scope) (x .stands) n (above-at .matches) in
+          let C = peel body calls arities free D σ s args inner depth (x .few) (x .has) p B (x .more) (x .scope-too) (x .stands-too) m (above-p .matches) in
+          let (_, one) = S .is (omega arith) free D σ (Q .term) (C .term) (record {
+            few = x .few;
+            has = x .has;
+            scope = Q .scope;
+            scope-too = C .scope;
+            rest = x .rest;
+            stands = Q .stands;
+            more = x .more;
+            stands-too = C .stands;
+          }) in
+          let (i, j) = same e in
+          let back : Q .condition ▷ C .condition =
+          slots-▷ depth (Q .condition) (C .condition) (Q .below) (C .below)
+          (subst (λ (M : Cond). M ▷ mapP (slotOf nameCount depth) (C .condition)) (sym (Q .slots)) (subst (λ (M : Cond). chain s args inner depth at n ▷ M) (sym (C .slots)) j)) in
+          let forth : C .condition ▷ Q .condition =
+          slots-▷ depth (C .condition) (Q .condition) (C .below) (Q .below)
+          (subst (λ (M : Cond). M ▷ mapP (slotOf nameCount depth) (Q .condition)) (sym (C .slots)) (subst (λ (M : Cond). chain s args inner depth p m ▷ M) (sym (Q .slots)) i)) in
+          λ c l.
+          let (y, h, q) = Q .from c l in (
+            asked (C .condition) y,
+            C .to y (subst (λ (T : Term). y ∈ visible body calls T) one h),
+            ap (decided depth) q ∙ asked-same depth (Q .condition) (C .condition) (back, forth) y,
+          );
     }
+
+    -- no match
+    pub branch-plain : n ≡ 0 → Branch (eqb m 0)
+    unfolding chain
+    branch-plain z = branch-same (eqb m 0) (λ e.
+        subst (λ (m : ℕ). chain s args inner depth p m ~ chain s args inner depth at n) (sym (eqb-true m 0 e))
+        (subst (λ (n : ℕ). chain s args inner depth p 0 ~ chain s args inner depth at n) (sym z) (~-refl [])))

@@ -270,9 +270,9 @@ module _ (question s t args : List ℕ) (inner depth root at : ℕ) where
 
     -- a branch at p that is the same
     pub repeated-found : (arities : List ℕ) → AritiesIs question arities → SameBranchIs s p at arities args inner depth true
-        → getD s p 0 ≡ getD s at 0 → RepeatedIs question s args inner depth root at true
+        → getD s p 0 ≡ getD s at 0 → isTrivial s args inner depth p ≡ false → RepeatedIs question s args inner depth root at true
     unfolding Pieces AritiesIs
-    repeated-found arities A S b = record {
+    repeated-found arities A S b f = record {
       is = λ q calls free D σ P rest before _ ok few has scope st z u o.
           let (l, k) = ahead q calls free D σ before ok o in
           go q calls free D σ P rest before (A q ok) few has scope st z u l k;
@@ -286,7 +286,7 @@ module _ (question s t args : List ℕ) (inner depth root at : ℕ) where
         go q calls free D σ P rest before a few has scope st z u [] k = absurd (omega arith)
         go q calls free D σ P rest before a few has scope st z u (plus ∷ l) k = absurd (z (sym b ∙ k .0))
         go q calls free D σ P rest before a few has scope st z u (match ∷ l) k =
-            let e : true ≡ false = sym (k .0) ∙ S .trivial refl ∙ u in
+            let e : true ≡ false = sym (k .0) ∙ f in
             let w : _≡_ {A = ℕ} 0 1 = cc in absurd (omega arith)
         go q calls free D σ P rest before a few has scope st z u (branch B ∷ l) k =
             λ c m.

@@ -78,11 +78,11 @@ pub decided-~ : (d : ℕ) (M N : Cond) → M ~ N → (α : Act) (A : Term) → d
 unfolding decided
 decided-~ d M N e α A = λ i. cond (fails-~ d M N e i) blocked (step (canonical-same M N e i) α A)
 
-pub decided-fails : (d : ℕ) (M : Cond) → fails d M ≡ true → (α : Act) (A : Term) → decided d (step M α A) ≡ blocked
+decided-fails : (d : ℕ) (M : Cond) → fails d M ≡ true → (α : Act) (A : Term) → decided d (step M α A) ≡ blocked
 unfolding decided
 decided-fails d M f α A = ap (λ (f : Bool). cond f blocked (step (canonical M) α A)) f
 
--- By the matches of one that fails or not: what is to be shown of a rule that takes a candidate and the decided one.
+-- What is to be shown of a decided candidate, by whether its matches fail.
 pub by-fails : (d : ℕ) (C : Candidate → Type 0) (M : Cond) (α : Act) (A : Term) → (fails d M ≡ true → C blocked) → (fails d M ≡ false → C (step (canonical M) α A))
     → C (decided d (step M α A))
 unfolding decided
@@ -93,7 +93,7 @@ by-fails d C M α A x y = go (fails d M) refl
     go false f = y f
 
 -- Decided once is decided.
-pub decided-twice : (d : ℕ) (c : Candidate) → decided d c ≡ decided d (decided d c)
+decided-twice : (d : ℕ) (c : Candidate) → decided d c ≡ decided d (decided d c)
 unfolding decided
 decided-twice d (step M α A) = by-fails d (λ (c : Candidate). decided d (step M α A) ≡ decided d c) M α A
     (λ f. decided-fails d M f α A) (λ f. decided-~ d M (canonical M) (~-sym (canonical M) M (canonical-~ M)) α A)
@@ -175,14 +175,6 @@ decided-matching d a b (step M α A) = by-fails d (λ (c : Candidate). decided d
     cons-▷ : (M N : Cond) → M ▷ N → ((a, b) ∷ M) ▷ ((a, b) ∷ N)
     cons-▷ M N i = let (x, y) = E2 ((a, b) ∷ M) in (x, ▷-all (cls ((a, b) ∷ M)) M N i y)
 decided-matching d a b blocked = refl
-
-pub decided-turned : (d a b : ℕ) (c : Candidate) → decided d (matching a b c) ≡ decided d (matching b a c)
-unfolding decided matching
-decided-turned d a b (step M α A) = decided-~ d ((a, b) ∷ M) ((b, a) ∷ M) (turned a b, turned b a) α A
-  where
-    turned : (a b : ℕ) → ((a, b) ∷ M) ▷ ((b, a) ∷ M)
-    turned a b = let (x, y) = E2 ((a, b) ∷ M) in (sym x, y)
-decided-turned d a b blocked = refl
 
 -- [Par]
 pub decided-left : (d : ℕ) (Q : Term) (c : Candidate) → decided d (leftSteps Q c) ≡ leftSteps Q (decided d c)

@@ -1,19 +1,19 @@
 -- Two terms that stand in the same bytes and are one once their names are read: what the walk of both at once promises.
 use mathlib.Core.Path.{_≡_}
 use mathlib.Core.Bool.{Bool, true}
-use mathlib.Core.List.{List, _++_}
-use mathlib.Core.Logic.{_⊎_}
-use Prim.Native.Nat.{ℕ, _+_, _<_, _≤_, max}
+use mathlib.Core.List.{List, [], _∷_, _++_}
+use Prim.Native.Nat.{ℕ, zero, suc, _+_, _*_, _<_, _≤_, max}
 use lib.ListN.{length, getD, drop}
+use Rattle.calculus.specs.Cond.{Cond, _▷_}
 use Rattle.calculus.specs.Term.{Term, ren}
 use Rattle.terms.specs.Encoding.{encode, InScope}
 use Rattle.terms.specs.Limits.{nameCount}
 use Rattle.candidates.specs.LabelWalk.{slotAt, HasSlots}
 use Rattle.candidates.specs.Lists.{_∈_}
 use Rattle.candidates.specs.Raw.{Candidate, visible}
+use Rattle.candidates.specs.Slots.{HasSlotClasses}
 use Rattle.steps.specs.Deciding.{decided}
 use Rattle.steps.specs.Entries.{Alike}
-use Rattle.steps.specs.Rows.{isTrivial}
 
 -- The n name bytes at p and those at `at` stand for the same names, by their slots.
 abbrev pub SameNames : (s args : List ℕ) (inner depth p at n : ℕ) → Type 0
@@ -43,14 +43,22 @@ pub record SameIs (s : List ℕ) (p at : ℕ) (arities args : List ℕ) (inner d
   pub is : 0 < r → (free D : ℕ) (σ : ℕ → ℕ) (P B : Term) → Both s p at arities args inner depth free D σ P B
       → (r ≡ length (encode D P)) × (ren σ P ≡ ren σ B)
 
--- The matches at p and at `at` are of the same two names, in one order or the other.
-unfoldable pub SameMatch : (s args : List ℕ) (inner depth p at : ℕ) → Type 0
-SameMatch s args inner depth p at =
-    let slotOn : ℕ → ℕ → ℕ = λ p k. slotAt args inner depth (getD s (p + k) 0) in
-    ((slotOn p 1 ≡ slotOn at 1) × (slotOn p 2 ≡ slotOn at 2)) ⊎ ((slotOn p 1 ≡ slotOn at 2) × (slotOn p 2 ≡ slotOn at 1))
+-- From `at` on stand n matches, one beneath the other.
+pub record ChainIs (s : List ℕ) (at n : ℕ) : Type 0 where
+  pub inside : at + 3 * n ≤ max at (length s + 2)
+  pub matches : (j : ℕ) → j < n → getD s (at + 3 * j) 0 ≡ 5
+
+-- Their condition, over the slots of their names, the last match first.
+unfoldable pub chain : (s args : List ℕ) (inner depth at n : ℕ) → Cond
+chain s args inner depth at zero = []
+chain s args inner depth at (suc n) =
+    (slotAt args inner depth (getD s (at + 3 * n + 1) 0), slotAt args inner depth (getD s (at + 3 * n + 2) 0)) ∷ chain s args inner depth at n
+
+-- The condition that the array has implies them.
+unfoldable pub HoldsIs : (classes s args : List ℕ) (inner depth at n : ℕ) → Type 0
+HoldsIs classes s args inner depth at n = (M : Cond) → HasSlotClasses classes M → M ▷ chain s args inner depth at n
 
 -- Each visible candidate of the term at `at` is one of the term at p but for what is decided.
 pub record SameBranchIs (s : List ℕ) (p at : ℕ) (arities args : List ℕ) (inner depth : ℕ) (r : Bool) : Type 0 where
-  pub trivial : r ≡ true → isTrivial s args inner depth p ≡ isTrivial s args inner depth at
   pub is : r ≡ true → (body : ℕ → Term) (calls free D : ℕ) (σ : ℕ → ℕ) (P B : Term) → Both s p at arities args inner depth free D σ P B
       → (c : Candidate) → c ∈ visible body calls (ren σ P) → (b : Candidate) × (b ∈ visible body calls (ren σ B)) × (decided depth c ≡ decided depth b)

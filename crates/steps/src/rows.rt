@@ -1,6 +1,6 @@
 // The visible candidates of a term in a table of rows, found on one walk of the term's bytes beneath restriction, choice, parallel, match and call,
 // in the order of crates/candidates/specs/Raw. And whether the term's silent candidates have no condition.
-ghost use mathlib.Core.Bool.{true};
+ghost use mathlib.Core.Bool.{true, false};
 ghost use mathlib.Core.Path.{_≡_};
 ghost use Prim.Native.Nat.{ℕ, _+_, _-_, _*_, _≤_, _<_};
 ghost use lib.ListN.{length, getD};
@@ -187,10 +187,11 @@ fn begin_alike(src: &[u8], p: usize, at: usize) -> bool
     get(src, p + 1) == get(src, at + 1)
 }
 
-// Whether the branches at `p` and at `at` may be the same: they begin alike, and what follows a prefix does. Most that differ differ here.
-fn may_be_same(src: &[u8], p: usize, at: usize) -> bool
-    requires { ⌜ (p < at) × (at < length (now src)) ⌝ }
-    ensures { λ r. ⌜ (r ≡ true → getD (now (src .entry)) p 0 ≡ getD (now (src .entry)) at 0) ⌝ }
+// Whether the branches at `p` and at `at` may be the same: they begin alike, and what follows a prefix does. Most that differ differ here. A match of
+// a name with itself is no branch.
+fn may_be_same(src: &[u8], p: usize, at: usize, args: &[u8], inner: usize, depth: usize) -> bool
+    requires { ⌜ (p < at) × (at < length (now src)) × (inner ≤ depth) × (nameCount + depth ≤ slotCount) ⌝ }
+    ensures { λ r. ⌜ (r ≡ true → (getD (now (src .entry)) p 0 ≡ getD (now (src .entry)) at 0) × (isTrivial (now (src .entry)) (now (args .entry)) inner depth p ≡ false)) ⌝ }
 {
     let t = src[at];
     if src[p] != t {
@@ -202,11 +203,11 @@ fn may_be_same(src: &[u8], p: usize, at: usize) -> bool
     if t < MATCH {
         return begin_alike(src, p + 2, at + 2);
     }
-    true
+    !is_trivial(src, p, args, inner, depth)
 }
 
-// Whether the term at `at` is equal to an earlier branch of its choice, which begins at `root`: by the slots of their names, those of a match
-// above it in either order.
+// Whether the term at `at` is equal to an earlier branch of its choice, which begins at `root`: by the slots of their names, and its matches
+// make the same condition.
 fn is_repeated(
     question: &[u8],
     src: &[u8],
@@ -222,7 +223,7 @@ fn is_repeated(
 {
     let mut p = root;
     while p < at {
-        if may_be_same(src, p, at) {
+        if may_be_same(src, p, at, args, inner, depth) {
             if same_branch(src, p, at, arities_of(question), args, inner, depth) {
                 return true;
             }

@@ -1,13 +1,16 @@
 // Whether two terms that stand in the same bytes are one once their names are read: a walk of both at once. Names are compared by their slots, so
-// two parameters that stand for one name are the same; a name bound within has a slot of its own.
+// two parameters that stand for one name are the same; a name bound within has a slot of its own. The matches above two branches are compared by the
+// conditions that they make.
 ghost use mathlib.Core.Path.{_≡_};
 ghost use mathlib.Core.Bool.{true};
-ghost use Prim.Native.Nat.{_+_, _-_, _≤_, _<_};
+ghost use Prim.Native.Nat.{_+_, _-_, _*_, _≤_, _<_};
 ghost use lib.ListN.{length};
+ghost use Rattle.calculus.specs.Cond.{_~_};
 ghost use Rattle.terms.specs.Limits.{nameCount};
-ghost use Rattle.candidates.specs.Slots.{slotCount};
-ghost use Rattle.steps.specs.Same.{SameNames, SameFront, SameIs, SameMatch, SameBranchIs};
+ghost use Rattle.candidates.specs.Slots.{slotCount, HasSlotClasses};
+ghost use Rattle.steps.specs.Same.{SameNames, SameFront, SameIs, ChainIs, chain, HoldsIs, SameBranchIs};
 use crate::listed::alike;
+use candidates::condition::Condition;
 use candidates::label::slot;
 use terms::bytes::get;
 use terms::bytes::room;
@@ -108,25 +111,96 @@ fn same_term(
     m + f
 }
 
-// Whether the matches at `p` and at `at` are of the same two names, in either order.
-fn same_match(src: &[u8], p: usize, at: usize, args: &[u8], inner: usize, depth: usize) -> bool
-    requires { ⌜ (p < at) × (at < length (now src)) × (inner ≤ depth) × (nameCount + depth ≤ slotCount) ⌝ }
-    ensures { λ r. ⌜ (r ≡ true → SameMatch (now (src .entry)) (now (args .entry)) inner depth p at) ⌝ }
+// The number of matches that stand one beneath the other from `at` on.
+fn chain_length(src: &[u8], at: usize) -> usize
+    ensures { λ r. ⌜ ChainIs (now (src .entry)) at r ⌝ }
 {
-    let a = slot(get(src, p + 1), args, inner, depth);
-    let b = slot(get(src, p + 2), args, inner, depth);
-    let u = slot(get(src, at + 1), args, inner, depth);
-    let v = slot(get(src, at + 2), args, inner, depth);
-    if a == u {
-        return b == v;
+    let mut n = 0;
+    let mut q = at;
+    while q < src.len() {
+        if src[q] != MATCH {
+            return n;
+        }
+        n += 1;
+        q += 3;
     }
-    if a == v {
-        return b == u;
-    }
-    false
+    n
 }
 
-// Whether the branch at `at` adds no step to the one at `p`: they are the same, but that the names of a match above may stand in either order.
+// The condition that the `n` matches from `p` on make.
+fn chain_condition(
+    src: &[u8],
+    p: usize,
+    n: usize,
+    args: &[u8],
+    inner: usize,
+    depth: usize,
+) -> Condition
+    requires { ⌜ (p + 3 * n ≤ length (now src) + 2) × (inner ≤ depth) × (nameCount + depth ≤ slotCount) ⌝ }
+    ensures { λ r. ⌜ HasSlotClasses (r .class) (chain (now (src .entry)) (now (args .entry)) inner depth p n) ⌝ }
+{
+    let mut c = Condition::empty();
+    let mut j = 0;
+    while j < n {
+        let q = p + 3 * j;
+        let u = slot(get(src, q + 1), args, inner, depth);
+        let v = slot(get(src, q + 2), args, inner, depth);
+        c = c.merge(u, v);
+        j += 1;
+    }
+    c
+}
+
+// Whether the condition `c` makes the `n` matches from `p` on true.
+fn chain_holds(
+    c: Condition,
+    src: &[u8],
+    p: usize,
+    n: usize,
+    args: &[u8],
+    inner: usize,
+    depth: usize,
+) -> bool
+    requires { ⌜ (p + 3 * n ≤ length (now src) + 2) × (inner ≤ depth) × (nameCount + depth ≤ slotCount) ⌝ }
+    ensures { λ r. ⌜ (r ≡ true → HoldsIs (c .class) (now (src .entry)) (now (args .entry)) inner depth p n) ⌝ }
+{
+    let class = c.class;
+    let mut j = 0;
+    while j < n {
+        let q = p + 3 * j;
+        let u = slot(get(src, q + 1), args, inner, depth);
+        let v = slot(get(src, q + 2), args, inner, depth);
+        if class[u as usize] != class[v as usize] {
+            return false;
+        }
+        j += 1;
+    }
+    true
+}
+
+// Whether the `m` matches from `p` on and the `n` from `at` on make the same condition.
+fn same_condition(
+    src: &[u8],
+    p: usize,
+    m: usize,
+    at: usize,
+    n: usize,
+    args: &[u8],
+    inner: usize,
+    depth: usize,
+) -> bool
+    requires { ⌜ (p + 3 * m ≤ length (now src) + 2) × (at + 3 * n ≤ length (now src) + 2) × (inner ≤ depth) × (nameCount + depth ≤ slotCount) ⌝ }
+    ensures { λ r. ⌜ (r ≡ true → chain (now (src .entry)) (now (args .entry)) inner depth p m ~ chain (now (src .entry)) (now (args .entry)) inner depth at n) ⌝ }
+{
+    let first = chain_condition(src, p, m, args, inner, depth);
+    if !chain_holds(first, src, at, n, args, inner, depth) {
+        return false;
+    }
+    let second = chain_condition(src, at, n, args, inner, depth);
+    chain_holds(second, src, p, m, args, inner, depth)
+}
+
+// Whether the branch at `at` adds no step to the one at `p`: they are the same, but that their matches may make one condition in different ways.
 pub fn same_branch(
     src: &[u8],
     p: usize,
@@ -139,18 +213,19 @@ pub fn same_branch(
     requires { ⌜ (p < at) × (inner ≤ depth) × (nameCount + depth + (length (now src) - at) ≤ slotCount) ⌝ }
     ensures { λ r. ⌜ SameBranchIs (now (src .entry)) p at (now (arities .entry)) (now (args .entry)) inner depth r ⌝ }
 {
-    if src.len() <= at {
+    let m = chain_length(src, p);
+    let n = chain_length(src, at);
+    let behind = p + 3 * m;
+    let end = at + 3 * n;
+    if end <= behind {
         return false;
     }
-    if src[at] != MATCH {
-        let n = same_term(src, p, at, arities, args, inner, depth);
-        return 0 < n;
-    }
-    if src[p] != MATCH {
+    // what stands beneath differs more often than the conditions, and takes less to compare
+    if same_term(src, behind, end, arities, args, inner, depth) == 0 {
         return false;
     }
-    if !same_match(src, p, at, args, inner, depth) {
-        return false;
+    if n == 0 {
+        return m == 0;
     }
-    same_branch(src, p + 3, at + 3, arities, args, inner, depth)
+    same_condition(src, p, m, at, n, args, inner, depth)
 }

@@ -19,7 +19,7 @@ loop-holds : tie.Need-loop-holds Inv-loop μ-loop
 loop-holds c = let a = c .before .before .before .before .args in let q = c .before .before .before .before .pre in λ T. ahead-start (a .question .now) (a .src .now) (a .tally .now) (a .args .now) (a .inner) (a .depth) (a .root) (a .at)
 
 may-be-same-requires : tie.Need-may-be-same-requires Inv-loop μ-loop
-may-be-same-requires c κs = (c .loop-test .taken, c .before .before .before .before .before .before .pre .0)
+may-be-same-requires c κs = let q = c .before .before .before .before .before .before .pre in let r = q .3 in (c .loop-test .taken, q .0, q .2, omega arith)
 
 arities-of-requires : tie.Need-arities-of-requires Inv-loop μ-loop
 arities-of-requires c κs = search needs
@@ -28,7 +28,7 @@ same-branch-requires : tie.Need-same-branch-requires Inv-loop μ-loop
 same-branch-requires c κs = let a = c .before .before .before .before .before .before .before .before .before .args in let q = c .before .before .before .before .before .before .before .before .before .pre in (c .before .before .before .loop-test .taken, q .2, q .3)
 
 returns : tie.Need-returns Inv-loop μ-loop
-returns c = let a = c .before .before .before .before .before .before .before .before .before .before .before .args in let q = c .before .before .before .before .before .before .before .before .before .before .before .pre in λ T. repeated-found (a .question .now) (a .src .now) (a .tally .now) (a .args .now) (a .inner) (a .depth) (a .root) (a .at) T (c .before .before .before .before .before .before .loop .p) (c .before .before .before .before .before .loop-test .taken) (c .before .before .before .before .before .before .loop .inv T) (c .before .before .arities-of .result .now) (c .before .before .arities-of .ensures) (subst (SameBranchIs (a .src .now) (c .before .before .before .before .before .before .loop .p) (a .at) (c .before .before .arities-of .result .now) (a .args .now) (a .inner) (a .depth)) (c .if2 .taken) (c .before .same-branch .ensures)) (c .before .before .before .before .may-be-same .ensures (c .before .before .before .if1 .taken))
+returns c = let a = c .before .before .before .before .before .before .before .before .before .before .before .args in let m = c .before .before .before .before .may-be-same .ensures (c .before .before .before .if1 .taken) in λ T. repeated-found (a .question .now) (a .src .now) (a .tally .now) (a .args .now) (a .inner) (a .depth) (a .root) (a .at) T (c .before .before .before .before .before .before .loop .p) (c .before .before .before .before .before .loop-test .taken) (c .before .before .before .before .before .before .loop .inv T) (c .before .before .arities-of .result .now) (c .before .before .arities-of .ensures) (subst (SameBranchIs (a .src .now) (c .before .before .before .before .before .before .loop .p) (a .at) (c .before .before .arities-of .result .now) (a .args .now) (a .inner) (a .depth)) (c .if2 .taken) (c .before .same-branch .ensures)) (m .0) (m .1)
 
 behind-piece-requires : tie.Need-behind-piece-requires Inv-loop μ-loop
 behind-piece-requires c κs = let a = c .before .before .before .before .before .before .before .before .args in let q = c .before .before .before .before .before .before .before .before .pre in let r = q .3 in (omega (arith, c .before .before .loop-test .taken, q .0), q .2, omega arith)

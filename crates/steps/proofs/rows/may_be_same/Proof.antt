@@ -1,7 +1,9 @@
 -- `steps::rows::may_be_same` meets its contract. Assumes nothing.
-use mathlib.Core.Path.{_≡_}
+use mathlib.Core.Path.{_≡_, sym, _∙_}
+use borrow.Author.Tests.{not-true}
 use native.Mathlib.Omega.{arith}
 use Prim.Native.Nat.{ℕ}
+use Rattle.steps.proofs.ChoiceLaws.{other-trivial}
 use borrow.Author.Needs.{needs}
 use Rattle.steps.proofs.rows.may_be_same.Statement.{statement}
 use Rattle.steps.proofs.rows.may_be_same.Tie as tie
@@ -10,7 +12,7 @@ shared-slice-read-t : tie.Need-shared-slice-read-t
 shared-slice-read-t c = search needs
 
 shared-slice-read-if1 : tie.Need-shared-slice-read-if1
-shared-slice-read-if1 c = omega (arith, c .before .before .before .pre)
+shared-slice-read-if1 c = omega (arith, c .before .before .before .before .pre)
 
 returns : tie.Need-returns
 returns c = λ e. let z : _≡_ {A = ℕ} 0 1 = cc in absurd (omega arith)
@@ -22,10 +24,10 @@ add-begin-alike-2 : tie.Need-add-begin-alike-2
 add-begin-alike-2 c = search needs
 
 begin-alike-requires : tie.Need-begin-alike-requires
-begin-alike-requires c κs = (omega (arith, c .before .before .before .before .before .pre), omega (arith, c .before .before .before .before .before .pre))
+begin-alike-requires c κs = (omega (arith, c .before .before .before .before .before .before .pre), omega (arith, c .before .before .before .before .before .before .pre))
 
 returns-2 : tie.Need-returns-2
-returns-2 c = λ e. c .before .before .if1 .left
+returns-2 c = let f = c .before .before .if1 .left in let t = c .before .if2 .taken in λ e. (f, other-trivial (c .before .before .before .before .before .before .before .args .src .now) (c .before .before .before .before .before .before .before .args .args .now) (c .before .before .before .before .before .before .before .args .inner) (c .before .before .before .before .before .before .before .args .depth) (c .before .before .before .before .before .before .before .args .p) (λ z. omega arith))
 
 add-begin-alike-3 : tie.Need-add-begin-alike-3
 add-begin-alike-3 c = search needs
@@ -34,13 +36,16 @@ add-begin-alike-4 : tie.Need-add-begin-alike-4
 add-begin-alike-4 c = search needs
 
 begin-alike-requires-2 : tie.Need-begin-alike-requires-2
-begin-alike-requires-2 c κs = (omega (arith, c .before .before .before .before .before .before .pre), omega (arith, c .before .before .before .before .before .before .pre))
+begin-alike-requires-2 c κs = (omega (arith, c .before .before .before .before .before .before .before .pre), omega (arith, c .before .before .before .before .before .before .before .pre))
 
 returns-3 : tie.Need-returns-3
-returns-3 c = λ e. c .before .before .before .if1 .left
+returns-3 c = let f = c .before .before .before .if1 .left in let t = c .before .if3 .taken in λ e. (f, other-trivial (c .before .before .before .before .before .before .before .before .args .src .now) (c .before .before .before .before .before .before .before .before .args .args .now) (c .before .before .before .before .before .before .before .before .args .inner) (c .before .before .before .before .before .before .before .before .args .depth) (c .before .before .before .before .before .before .before .before .args .p) (λ z. omega arith))
+
+is-trivial-requires : tie.Need-is-trivial-requires
+is-trivial-requires c κs = (omega (arith, c .before .before .before .before .before .before .before .pre), c .before .before .before .before .before .before .before .pre .2, c .before .before .before .before .before .before .before .pre .3)
 
 returns-4 : tie.Need-returns-4
-returns-4 c = λ e. c .before .before .if1 .left
+returns-4 c = λ e. (c .before .before .before .if1 .left, sym (c .is-trivial .ensures) ∙ not-true _ e)
 
 pub may-be-same-spec : {M : Type 1} → statement M
 may-be-same-spec =
@@ -57,4 +62,5 @@ may-be-same-spec =
     add-begin-alike-4
     begin-alike-requires-2
     returns-3
+    is-trivial-requires
     returns-4)
