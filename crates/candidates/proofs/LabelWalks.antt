@@ -360,6 +360,9 @@ weight-on c l a b t j h k m = omega arith
 pub weight-part : (c l a t j : ℕ) → 4 * (c + (l - a)) + suc j ≡ t → 4 * (c + (l - a)) + j < t
 weight-part c l a t j h = omega arith
 
+pub weight-down : (c l a b t j : ℕ) → 4 * (c + (l - a)) + 3 ≡ t → a ≤ b → j < 3 → 4 * (c + (l - b)) + j < t
+weight-down c l a b t j h k m = omega arith
+
 pub weight-body : (c l a b t j : ℕ) → 4 * (c * 113 + (l - a)) + j ≡ t → 0 < c → b ≤ longestTerm → 4 * ((c - 1) * 113 + (b - 0)) + 3 < t
 weight-body c l a b t j h k m = omega arith
 

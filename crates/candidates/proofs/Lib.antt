@@ -21,6 +21,7 @@ pub mod Restriction
 pub mod RestrictionRuns
 pub mod ResultLaws
 pub mod Scope
+pub mod SideLaws
 pub mod SilentSteps
 pub mod SlotLaws
 pub mod TallyLaws

@@ -39,7 +39,7 @@ module _ (s : List ℕ) (at k : ℕ) (l : at ≤ k) (m : k ≤ max at (length s)
   run-whole z = record { inside = omega arith; are = E .are; ended = λ h g. absurd (omega arith) }
 
 -- where none is found the byte is not 8
-pub run-none : (s : List ℕ) (at k : ℕ) → RestrictionsIs s at k → k ≡ 0 → at < length s → getD s at 0 ≡ 8 → ⊥
+run-none : (s : List ℕ) (at k : ℕ) → RestrictionsIs s at k → k ≡ 0 → at < length s → getD s at 0 ≡ 8 → ⊥
 run-none s at k R z h g = let m : at + k ≡ at = omega arith in R .ended (omega arith) (ap (λ (m : ℕ). getD s m 0) m ∙ g)
 
 -- Of `count` restrictions from `depth` on all but `left` are left.
@@ -76,13 +76,21 @@ leaving-all label depth count left r z L = record {
 }
 
 -- What stands beneath: past a match, past restrictions, or neither.
-pub past-none : (t k : ℕ) → pastOf t k ≡ 0 → (t ≡ 5 → ⊥) × (k ≡ 0)
+past-none : (t k : ℕ) → pastOf t k ≡ 0 → (t ≡ 5 → ⊥) × (k ≡ 0)
 unfolding pastOf
 past-none t k z = go (eqb t 5) refl z
   where
     go : (b : Bool) → eqb t 5 ≡ b → cond b 3 k ≡ 0 → (t ≡ 5 → ⊥) × (k ≡ 0)
     go true e h = absurd (omega arith)
     go false e h = (eqb-false t 5 e, h)
+
+-- not neither, if the form is no prefix, choice, parallel or call
+pub past-some : (s : List ℕ) (at k : ℕ) → RestrictionsIs s at k → at < length s → 5 ≤ getD s at 0 → getD s at 0 ≤ 8 → (5 < getD s at 0 → getD s at 0 < 8 → ⊥)
+    → pastOf (getD s at 0) k ≡ 0 → ⊥
+past-some s at k R h l m one z =
+    let n = past-none (getD s at 0) k z in
+    let e : getD s at 0 ≡ 8 → ⊥ = run-none s at k R (n .1) h in
+    one (omega (arith, n .0)) (omega arith)
 
 pub past-most : (t k : ℕ) → pastOf t k ≤ k + 3
 unfolding pastOf

@@ -16,9 +16,11 @@ use Rattle.candidates.specs.Bodies.{bodyOf}
 use Rattle.candidates.specs.Passing.{candidates}
 use Rattle.candidates.specs.Raw.{blocked, communications, visible}
 use Rattle.candidates.specs.Slots.{slotOf, slotCount}
+use Rattle.candidates.specs.Tally.{TallyIs}
 use Rattle.candidates.specs.declared.action.Action.{Action}
 use Rattle.candidates.specs.declared.action.Action.the-variants.{Silent, Input, Output, NewOutput}
 use Rattle.candidates.specs.declared.action.Label.{Label}
+use Rattle.candidates.specs.declared.label.Side.{Side}
 
 -- The slot of a name byte beneath `inner` restrictions of these bytes, `depth` in all: a free name, one of those restrictions, or a parameter,
 -- which stands for the slot of the call's name. Parameters are counted from the innermost.
@@ -75,6 +77,23 @@ pub record MeetingIs (question s : List ℕ) (at middle i : ℕ) (args : List �
       → drop middle s ≡ encode D Q ++ rest
       → i < length (communications (visible (bodyOf (q .bodies)) calls (ren σ P)) (visible (bodyOf (q .bodies)) calls (ren σ Q)))
       → Labels depth (getD (communications (visible (bodyOf (q .bodies)) calls (ren σ P)) (visible (bodyOf (q .bodies)) calls (ren σ Q))) i blocked) r
+
+-- The label of the candidate of this number of the term at `at` is that of the other number of the term at b.
+unfoldable pub Leads : (s t : List ℕ) (at number : ℕ) (silently : Bool) (b n : ℕ) → Type 0
+Leads s t at number silently b n =
+    (question args : List ℕ) (inner depth calls : ℕ) (r : Label) → TallyIs question s calls t
+    → NthIs question s b n silently args inner depth calls r
+    → NthIs question s at number silently args inner depth calls r
+
+-- Where the candidate of this number is found beneath choices and parallels: at one term, or among the communications of a parallel.
+pub record SideIs (s t : List ℕ) (at number : ℕ) (silently : Bool) (r : Side) : Type 0 where
+  pub on : at ≤ r .at
+  pub one : r .middle ≡ 0 → r .at < length s → 5 < getD s (r .at) 0 → getD s (r .at) 0 < 8 → ⊥
+  pub is : r .middle ≡ 0 → Leads s t at number silently (r .at) (r .number)
+  pub inside : 0 < r .middle → (r .at < length s) × (r .at < r .middle)
+  pub met : 0 < r .middle → (question args : List ℕ) (inner depth calls : ℕ) (l : Label) → TallyIs question s calls t
+      → MeetingIs question s (r .at) (r .middle) (r .number) args inner depth calls l
+      → NthIs question s at number silently args inner depth calls l
 
 -- So many restrictions stand at `at` one within the other, and no other beneath them.
 pub record RestrictionsIs (s : List ℕ) (at r : ℕ) : Type 0 where

@@ -3,10 +3,10 @@
 ghost use mathlib.Core.Path.{_≡_};
 ghost use Prim.Native.Nat.{_+_, _≤_, _<_};
 ghost use lib.ListN.{length, getD};
-ghost use Rattle.terms.specs.Limits.{nameCount, greatestArity};
-ghost use Rattle.candidates.specs.LabelWalk.{slotAt, ArgumentsIs, prefixAction, PrefixLabelIs, RestrictionsIs, LeavesIs, pastOf, OutsideOfIs, Within, NthIs, MeetingIs};
+ghost use Rattle.terms.specs.Limits.{nameCount, greatestArity, longestTerm};
+ghost use Rattle.candidates.specs.LabelWalk.{slotAt, ArgumentsIs, prefixAction, PrefixLabelIs, RestrictionsIs, LeavesIs, pastOf, OutsideOfIs, Within, NthIs, MeetingIs, SideIs};
 ghost use Rattle.candidates.specs.Slots.{slotCount};
-ghost use Rattle.candidates.specs.Tally.{TallyIs, BodiesTallied};
+ghost use Rattle.candidates.specs.Tally.{EndsInside, TallyIs, BodiesTallied};
 use crate::action::Action;
 use crate::action::Label;
 use crate::bodies::body_at;
@@ -145,6 +145,62 @@ fn outside_of(
     leave(label, depth, count)
 }
 
+// Where a candidate is found beneath choices and parallels, and its number there: at a term of another form, or, where `middle` is not 0, among the
+// communications of the parallel whose right side stands at `middle`.
+pub struct Side {
+    pub at: usize,
+    pub number: usize,
+    pub middle: usize,
+}
+
+// From the term at `at` down to where its candidate number `i` is found: no label is held on the way. The left side's candidates come first,
+// then the right side's, and then the communications.
+fn side_of(src: &[u8], tally: &[u32], at: usize, i: usize, silent: bool) -> Side
+    requires { ⌜ (length (now src) ≤ longestTerm) × EndsInside (now src) (now tally) ⌝ }
+    ensures { λ r. ⌜ SideIs (now (src .entry)) (now (tally .entry)) at i silent r ⌝ }
+{
+    let mut b = at;
+    let mut n = i;
+    while b < src.len() {
+        let t = src[b];
+        if t < 6 {
+            return Side {
+                at: b,
+                number: n,
+                middle: 0,
+            };
+        }
+        if 7 < t {
+            return Side {
+                at: b,
+                number: n,
+                middle: 0,
+            };
+        }
+        let left = number_at(tally, b + 1, silent);
+        if n < left {
+            b += 1;
+        } else {
+            n -= left;
+            let middle = middle_of(src, tally, b);
+            let right = number_at(tally, middle, silent);
+            if right <= n {
+                return Side {
+                    at: b,
+                    number: n - right,
+                    middle,
+                };
+            }
+            b = middle;
+        }
+    }
+    Side {
+        at: b,
+        number: n,
+        middle: 0,
+    }
+}
+
 // The communications of the two sides of the parallel at `at`: their numbers are those of the left side's visible candidates times the number
 // of the right side's, and those.
 fn nth_meeting(
@@ -194,72 +250,6 @@ fn nth_meeting(
         calls,
     );
     communication(p, q)
-}
-
-// The choice or parallel at `at`: the left side's candidates, then the right side's, and then the communications.
-fn nth_either(
-    question: &[u8],
-    bodies: &[u32],
-    src: &[u8],
-    tally: &[u32],
-    at: usize,
-    i: usize,
-    silent: bool,
-    args: &[u8],
-    inner: usize,
-    depth: usize,
-    calls: usize,
-) -> Label
-    requires { ⌜ (at < length (now src)) × (5 < getD (now src) at 0) × (getD (now src) at 0 < 8) × Within (now src) at inner depth calls × TallyIs (now question) (now src) calls (now tally) × BodiesTallied (now question) (now bodies) ⌝ }
-    ensures { λ r. ⌜ NthIs (now (question .entry)) (now (src .entry)) at i silent (now (args .entry)) inner depth calls r ⌝ }
-{
-    let middle = middle_of(src, tally, at);
-    let left = number_at(tally, at + 1, silent);
-    if i < left {
-        return nth(
-            question,
-            bodies,
-            src,
-            tally,
-            at + 1,
-            i,
-            silent,
-            args,
-            inner,
-            depth,
-            calls,
-        );
-    }
-    let j = i - left;
-    let right = number_at(tally, middle, silent);
-    if j < right {
-        return nth(
-            question,
-            bodies,
-            src,
-            tally,
-            middle,
-            j,
-            silent,
-            args,
-            inner,
-            depth,
-            calls,
-        );
-    }
-    nth_meeting(
-        question,
-        bodies,
-        src,
-        tally,
-        at,
-        middle,
-        j - right,
-        args,
-        inner,
-        depth,
-        calls,
-    )
 }
 
 // The call at `at`: the candidates of the body, while calls are left to open.
@@ -321,20 +311,39 @@ pub fn nth(
     requires { ⌜ Within (now src) at inner depth calls × TallyIs (now question) (now src) calls (now tally) × BodiesTallied (now question) (now bodies) ⌝ }
     ensures { λ r. ⌜ NthIs (now (question .entry)) (now (src .entry)) at i silent (now (args .entry)) inner depth calls r ⌝ }
 {
-    if src.len() <= at {
+    let p = side_of(src, tally, at, i, silent);
+    let b = p.at;
+    let n = p.number;
+    let middle = p.middle;
+    if 0 < middle {
+        return nth_meeting(
+            question,
+            bodies,
+            src,
+            tally,
+            b,
+            middle,
+            n,
+            args,
+            inner,
+            depth,
+            calls,
+        );
+    }
+    if src.len() <= b {
         return Label::blocked();
     }
-    let t = src[at];
+    let t = src[b];
     if t < 5 {
-        return nth_prefix(src, at, args, inner, depth);
+        return nth_prefix(src, b, args, inner, depth);
     }
     if 8 < t {
         return nth_call(
             question,
             bodies,
             src,
-            at,
-            i,
+            b,
+            n,
             silent,
             args,
             inner,
@@ -342,35 +351,19 @@ pub fn nth(
             calls,
         );
     }
-    let k = restrictions_at(src, at);
-    let n = past(t, k);
-    if n == 0 {
-        return nth_either(
-            question,
-            bodies,
-            src,
-            tally,
-            at,
-            i,
-            silent,
-            args,
-            inner,
-            depth,
-            calls,
-        );
-    }
-    let p = nth(
+    let k = restrictions_at(src, b);
+    let label = nth(
         question,
         bodies,
         src,
         tally,
-        at + n,
-        i,
+        b + past(t, k),
+        n,
         silent,
         args,
         inner + k,
         depth + k,
         calls,
     );
-    outside_of(p, src, at, k, args, inner, depth)
+    outside_of(label, src, b, k, args, inner, depth)
 }
