@@ -8,14 +8,11 @@ use lib.ListN.{length, getD, drop}
 use lib.Seq.{getD-append-add}
 use Rattle.calculus.specs.Term.{Term, sum, ren}
 use Rattle.terms.specs.Encoding.{encode, InScope}
-use Rattle.candidates.specs.Branching.{HasAt, Reaches, BranchIs}
+use Rattle.candidates.specs.Branching.{HasAt, Reaches}
 use Rattle.candidates.specs.Bodies.{bodyOf}
-use Rattle.candidates.specs.Passing.{candidates, PassIs, MiddleIs}
+use Rattle.candidates.specs.Passing.{candidates, MiddleIs}
 use Rattle.candidates.specs.Raw.{Candidate, blocked}
-use Rattle.candidates.specs.Tally.{TallyIs}
 use Rattle.candidates.specs.Tallying.{numberAt}
-use Rattle.candidates.specs.declared.pass.Branch.{Branch}
-use Rattle.candidates.specs.declared.pass.Passed.{Passed}
 use Rattle.candidates.proofs.CandidateForms.{candidates-sum, tag-at, only-sum}
 use Rattle.candidates.proofs.TwoSides.{sides-sum, at-left, number-is, behind}
 
@@ -68,14 +65,3 @@ module _ (s t : List ℕ) (at : ℕ) (silently : Bool) (number : ℕ) where
               ∙ ap (λ (i : ℕ). getD (cs (sum L M)) i blocked) i ∙ e;
         })
         (A .term) (sym (tag-at s b D (A .term) (A .rest) (A .stands)) ∙ g) (A .scope) (A .stands) (A .candidate)
-
--- What the action of the choice's candidate does, from what it does in the branch.
-pub pass-branch : (question s : List ℕ) (at D calls : ℕ) (t : Bool) (i : ℕ) (tally : List ℕ) → TallyIs question s calls tally
-    → (b : Branch) → BranchIs s tally at t i b → (r : Passed) → PassIs question s (b .at) D calls t (b .number) r → PassIs question s at D calls t i r
-unfolding Reaches
-pass-branch question s at D calls t i tally T b B r R = record {
-  slot = R .slot;
-  does = λ q free σ P rest ok few scope st M α A e.
-      let H = B .is question calls T q free D σ P rest ok scope st in
-      R .does q free σ (H .term) (H .rest) ok few (H .scope) (H .stands) M α A (H .candidate ∙ e);
-}

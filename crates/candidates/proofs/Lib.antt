@@ -24,6 +24,7 @@ pub mod Scope
 pub mod SideLaws
 pub mod SilentSteps
 pub mod SlotLaws
+pub mod SourceLaws
 pub mod TallyLaws
 pub mod TallyLoops
 pub mod TwoSides

@@ -1,5 +1,5 @@
 -- The side of choices and parallels that has a candidate: from each form to the side whose candidate it is, or to its communications. Assumes nothing.
-use mathlib.Core.Path.{_≡_, refl, ap, sym, subst, _∙_}
+use mathlib.Core.Path.{_≡_, refl}
 use mathlib.Core.Bool.{Bool, true, false}
 use mathlib.Core.List.{List}
 use Prim.Native.Nat.{ℕ, _+_, _-_, _<_, _≤_}
@@ -7,13 +7,11 @@ use native.Mathlib.Omega.{arith}
 use lib.Dec.{leb}
 use lib.ListN.{length, getD}
 use borrow.Author.Tests.{leb-true, leb-false}
-use Rattle.candidates.specs.LabelWalk.{MeetingIs, NthIs, Leads, SideIs}
+use Rattle.candidates.specs.LabelWalk.{Leads, SideIs}
 use Rattle.candidates.specs.Passing.{MiddleIs}
 use Rattle.candidates.specs.Tally.{endAt}
 use Rattle.candidates.specs.Tallying.{numberAt}
-use Rattle.candidates.specs.declared.label.Side.{Side}
 use Rattle.candidates.proofs.LabelWalks.{nth-left, nth-right, nth-met}
-use Rattle.candidates.proofs.TwoSides.{middle-past}
 
 -- The right side stands somewhere, whatever the bytes are.
 record Middle (s t : List ℕ) (at : ℕ) : Type 0 where

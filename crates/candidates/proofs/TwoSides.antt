@@ -1,16 +1,15 @@
 -- The candidates of a choice or a parallel by their numbers: those of the left side come first, then those of the right side, then the
 -- communications. A tally says how many they are. Assumes nothing.
-use mathlib.Core.Path.{_≡_, refl, sym, ap, subst, _∙_}
+use mathlib.Core.Path.{_≡_, refl, sym, ap, _∙_}
 use mathlib.Core.Bool.{Bool, true, false}
 use mathlib.Core.List.{List, [], _∷_, _++_, map, append-assoc, append-nil}
-use Prim.Native.Nat.{ℕ, _+_, _-_, _/_, _%_, _<_, _≤_}
-use native.Mathlib.Nat.{div-add-mod', mod-lt}
+use Prim.Native.Nat.{ℕ, _+_, _-_, _<_, _≤_}
 use native.Mathlib.Omega.{arith}
-use lib.Dec.{leb}
+use lib.Dec.{leb, ltb}
 use lib.ListN.{length, getD, drop, length-append, length-drop, length-map, List·getD-append}
 use lib.Seq.{drop-drop, drop-append-seam, getD-append-add}
-use borrow.Author.Tests.{leb-true, leb-false}
-use Rattle.calculus.specs.Abstraction.{Act, tauA}
+use borrow.Author.Tests.{leb-true, leb-false, ltb-true, ltb-false}
+use Rattle.calculus.specs.Abstraction.{Act}
 use Rattle.calculus.specs.Cond.{Cond}
 use Rattle.calculus.specs.Term.{Term, sum, par, ren}
 use Rattle.terms.specs.Answer.{result}
@@ -18,13 +17,13 @@ use Rattle.terms.specs.Encoding.{encode, InScope}
 use Rattle.terms.specs.Question.{Question, checkOf}
 use Rattle.terms.proofs.ReadEncoded.{encode-some}
 use Rattle.candidates.specs.Bodies.{bodyOf}
-use Rattle.candidates.specs.Passing.{candidates, Does, PassIs, MiddleIs, nothingSent}
-use Rattle.candidates.specs.Raw.{Candidate, step, blocked, leftSteps, rightSteps, communications}
+use Rattle.candidates.specs.Passing.{candidates, Does, PassIs, MiddleIs}
+use Rattle.candidates.specs.Raw.{Candidate, step, blocked, leftSteps, rightSteps}
 use Rattle.candidates.specs.Tally.{EndsInside, TallyIs}
 use Rattle.candidates.specs.Tallying.{numberAt}
 use Rattle.candidates.specs.declared.pass.Passed.{Passed}
 use Rattle.candidates.proofs.CandidateForms.{candidates-sum, candidates-par, meetings, tag-at, only-two}
-use Rattle.candidates.proofs.Numbering.{nth-leftSteps, nth-rightSteps, meeting-at}
+use Rattle.candidates.proofs.Numbering.{nth-leftSteps, nth-rightSteps}
 use Rattle.candidates.proofs.Premises.{never, Step, left-of, right-of}
 
 -- A candidate with this action.
@@ -136,15 +135,11 @@ module _ (question s : List ℕ) (calls : ℕ) (tally : List ℕ) (T : TallyIs q
     pub right-number : (silently : Bool) → numberAt tally m silently ≡ length (candidates silently (bodyOf (q .bodies)) calls (ren σ Q))
     right-number silently = number-is question s calls tally T silently q m free D σ Q rest ok sq behind
 
--- A communication is silent.
-silent-meeting : (ss ts : List Candidate) (k : ℕ) (M : Cond) (α : Act) (A : Term) → getD (communications ss ts) k blocked ≡ step M α A → α ≡ tauA
-silent-meeting ss ts k M α A e =
-    meeting-at ss ts k (k / length ts) (k % length ts) (λ l. (sym (div-add-mod' k (length ts)), mod-lt k l)) M α A e .silent
-
-meeting-silent : (body : ℕ → Term) (t : Bool) (n : ℕ) (P Q : Term) (k : ℕ) (M : Cond) (α : Act) (A : Term)
-    → getD (meetings body t n P Q) k blocked ≡ step M α A → α ≡ tauA
-meeting-silent body true n P Q k M α A e = silent-meeting (candidates false body n P) (candidates false body n Q) k M α A e
-meeting-silent body false n P Q k M α A e = never M α A e
+-- No visible candidate is a communication.
+unmet : (body : ℕ → Term) (t : Bool) → t ≡ false → (n : ℕ) (P Q : Term) (k : ℕ) (M : Cond) (α : Act) (A : Term)
+    → getD (meetings body t n P Q) k blocked ≡ step M α A → ⊥
+unmet body true v n P Q k M α A e = let z : _≡_ {A = ℕ} 0 1 = cc in omega arith
+unmet body false v n P Q k M α A e = never M α A e
 
 -- What the action of the candidate number i does, from what it does on its side.
 module _ (question s : List ℕ) (at D calls : ℕ) (t : Bool) (i : ℕ) (tally : List ℕ) (T : TallyIs question s calls tally)
@@ -175,7 +170,7 @@ module _ (question s : List ℕ) (at D calls : ℕ) (t : Bool) (i : ℕ) (tally 
   }
 
   module _ (m : ℕ) (N : MiddleIs s tally at m) (l : numberAt tally (at + 1) t ≤ i) (j : ℕ) (J : j ≡ i - numberAt tally (at + 1) t) where
-    pub pass-right : j < numberAt tally m t → (r : Passed) → PassIs question s m D calls t j r → PassIs question s at D calls t i r
+    pass-right : j < numberAt tally m t → (r : Passed) → PassIs question s m D calls t j r → PassIs question s at D calls t i r
     unfolding encode InScope
     pass-right h r R = record {
       slot = R .slot;
@@ -198,11 +193,11 @@ module _ (question s : List ℕ) (at D calls : ℕ) (t : Bool) (i : ℕ) (tally 
           P (omega (arith, two)) (omega (arith, two)) scope st e;
     }
 
-    -- Behind the candidates of both sides stand communications.
-    pub pass-met : numberAt tally m t ≤ j → PassIs question s at D calls t i nothingSent
-    unfolding encode InScope Does
-    pass-met h = record {
-      slot = omega arith;
+    -- Behind the visible candidates of both sides stands none.
+    pass-over : t ≡ false → numberAt tally m t ≤ j → (r : Passed) → r .object < 256 → PassIs question s at D calls t i r
+    unfolding encode InScope
+    pass-over v h r slot = record {
+      slot = slot;
       does = λ q free σ P rest ok few scope st M α A e.
           let b = tag-at s at D P rest st in
           let past : (f g : Candidate → Candidate) (P Q : Term) (cs more : List Candidate)
@@ -214,11 +209,17 @@ module _ (question s : List ℕ) (at D calls : ℕ) (t : Bool) (i : ℕ) (tally 
           let k = right-number question s calls tally T at m N q free D σ P Q rest ok sp sq st t in
           let w : i ≡ length (candidates t (bodyOf (q .bodies)) calls (ren σ P)) + (length (candidates t (bodyOf (q .bodies)) calls (ren σ Q)) + (j - numberAt tally m t)) = omega arith in
           sym (S .third (j - numberAt tally m t)) ∙ ap (λ (k : ℕ). getD cs k blocked) (sym w) ∙ e in
-          only-two (Shows M α A q free σ rest nothingSent)
+          only-two (Shows M α A q free σ rest r)
           (λ P Q scope st e. never M α A (past (λ c. c) (λ c. c) P Q _ _ (sides-sum (bodyOf (q .bodies)) t calls (ren σ P) (ren σ Q)) (scope .0) (scope .1) (at-left D s at P Q rest 6 st) e))
-          (λ P Q scope st e. subst (λ (β : Act). Does free D σ β 0 0)
-          (sym (meeting-silent (bodyOf (q .bodies)) t calls (ren σ P) (ren σ Q) (j - numberAt tally m t) M α A
+          (λ P Q scope st e. absurd (unmet (bodyOf (q .bodies)) t v calls (ren σ P) (ren σ Q) (j - numberAt tally m t) M α A
           (past (leftSteps (ren σ Q)) (rightSteps (ren σ P)) P Q _ _ (sides-par (bodyOf (q .bodies)) t calls (ren σ P) (ren σ Q)) (scope .0) (scope .1) (at-left D s at P Q rest 7 st) e)))
-          refl)
           P (omega (arith, two)) (omega (arith, two)) scope st e;
     }
+
+    -- A visible candidate that is not the left side's is the right side's.
+    pub pass-rest : t ≡ false → (r : Passed) → PassIs question s m D calls t j r → PassIs question s at D calls t i r
+    pass-rest v r R = go (ltb j (numberAt tally m t)) refl
+      where
+        go : (b : Bool) → ltb j (numberAt tally m t) ≡ b → PassIs question s at D calls t i r
+        go true e = pass-right (ltb-true j (numberAt tally m t) e) r R
+        go false e = pass-over v (omega (arith, ltb-false j (numberAt tally m t) e)) r (R .slot)

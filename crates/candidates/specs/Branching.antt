@@ -1,6 +1,6 @@
--- Where the branch of a choice stands that has a candidate of the choice: what the function that goes down to it promises.
+-- Where the term stands that has a candidate of a term above it: what the functions that go down to it promise.
 use mathlib.Core.Path.{_≡_}
-use mathlib.Core.Bool.{Bool}
+use mathlib.Core.Bool.{Bool, false}
 use mathlib.Core.List.{List, _++_}
 use Prim.Native.Nat.{ℕ, _<_, _≤_}
 use lib.ListN.{length, getD, drop}
@@ -9,10 +9,11 @@ use Rattle.terms.specs.Answer.{result}
 use Rattle.terms.specs.Encoding.{encode, InScope}
 use Rattle.terms.specs.Question.{Question, checkOf}
 use Rattle.candidates.specs.Bodies.{bodyOf}
-use Rattle.candidates.specs.Passing.{candidates}
+use Rattle.candidates.specs.Passing.{candidates, PassIs}
 use Rattle.candidates.specs.Raw.{Candidate, blocked}
 use Rattle.candidates.specs.Tally.{TallyIs}
 use Rattle.candidates.specs.declared.pass.Branch.{Branch}
+use Rattle.candidates.specs.declared.pass.Passed.{Passed}
 
 -- A term stands at `at` whose candidate of this number is c, if σ puts names for those of the bytes.
 pub record HasAt (q : Question) (s : List ℕ) (silently : Bool) (calls free D : ℕ) (σ : ℕ → ℕ) (c : Candidate) (at number : ℕ) : Type 0 where
@@ -36,3 +37,16 @@ pub record BranchIs (s t : List ℕ) (at : ℕ) (silently : Bool) (number : ℕ)
   pub on : at ≤ r .at
   pub past : at < length s → getD s at 0 ≡ 6 → at < r .at
   pub is : Reaches s t at silently number (r .at) (r .number)
+
+-- The action of the visible candidate of this number of the term at `at` does what that of the other number of the term at b does.
+unfoldable pub Acts : (s t : List ℕ) (at number b n : ℕ) → Type 0
+Acts s t at number b n =
+    (question : List ℕ) (D calls : ℕ) (r : Passed) → TallyIs question s calls t
+    → PassIs question s b D calls false n r
+    → PassIs question s at D calls false number r
+
+-- Beneath matches, choices and parallels.
+pub record SourceIs (s t : List ℕ) (at number : ℕ) (r : Branch) : Type 0 where
+  pub on : at ≤ r .at
+  pub ended : r .at < length s → 4 < getD s (r .at) 0 → getD s (r .at) 0 < 8 → ⊥
+  pub is : Acts s t at number (r .at) (r .number)

@@ -5,7 +5,7 @@ ghost use mathlib.Core.Bool.{false};
 ghost use Prim.Native.Nat.{_+_, _-_, _≤_, _<_};
 ghost use lib.ListN.{length, getD};
 ghost use Rattle.terms.specs.Limits.{tableNames, greatestArity, longestTerm};
-ghost use Rattle.candidates.specs.Branching.{BranchIs};
+ghost use Rattle.candidates.specs.Branching.{BranchIs, SourceIs};
 ghost use Rattle.candidates.specs.Names.{mostBinders};
 ghost use Rattle.candidates.specs.Passing.{nothingSent, PrefixIs, opensAt, leavingAt, returnedAt, PassIs, MiddleIs};
 ghost use Rattle.candidates.specs.Tally.{EndsInside, TallyIs, BodiesTallied};
@@ -122,7 +122,7 @@ pub fn middle_of(src: &[u8], tally: &[u32], at: usize) -> usize
     end_at(tally, left)
 }
 
-// A branch of a choice, and the number of a candidate there.
+// A term beneath another, and the number of a candidate there.
 pub struct Branch {
     pub at: usize,
     pub number: usize,
@@ -145,6 +145,36 @@ pub fn branch_of(src: &[u8], tally: &[u32], at: usize, silently: bool, number: u
         } else {
             n -= left;
             b = middle_of(src, tally, b);
+        }
+    }
+    Branch { at: b, number: n }
+}
+
+// From the term at `at` down to the one whose visible candidate has the action of this one: a match, a choice and a parallel keep it.
+fn source_of(src: &[u8], tally: &[u32], at: usize, number: usize) -> Branch
+    requires { ⌜ (length (now src) ≤ longestTerm) × EndsInside (now src) (now tally) ⌝ }
+    ensures { λ r. ⌜ SourceIs (now (src .entry)) (now (tally .entry)) at number r ⌝ }
+{
+    let mut b = at;
+    let mut n = number;
+    while b < src.len() {
+        let t = src[b];
+        if t < 5 {
+            return Branch { at: b, number: n };
+        }
+        if 7 < t {
+            return Branch { at: b, number: n };
+        }
+        if t == 5 {
+            b += 3;
+        } else {
+            let left = visible_at(tally, b + 1);
+            if n < left {
+                b += 1;
+            } else {
+                n -= left;
+                b = middle_of(src, tally, b);
+            }
         }
     }
     Branch { at: b, number: n }
@@ -188,36 +218,19 @@ pub fn pass(
     requires { ⌜ (length (now src) ≤ longestTerm) × (binders ≤ at + greatestArity) × (calls ≤ 1) × TallyIs (now question) (now src) calls (now tally) × BodiesTallied (now question) (now bodies) ⌝ }
     ensures { λ r. ⌜ PassIs (now (question .entry)) (now (src .entry)) at binders calls false i r ⌝ }
 {
-    if src.len() <= at {
+    let source = source_of(src, tally, at, i);
+    let b = source.at;
+    let n = source.number;
+    if src.len() <= b {
         return silent();
     }
-    let t = get(src, at);
+    let t = src[b];
     if t < 5 {
-        return pass_prefix(src, at, binders);
-    }
-    if t == 5 {
-        return pass(question, bodies, src, tally, at + 3, binders, calls, i);
+        return pass_prefix(src, b, binders);
     }
     if t == 8 {
-        let p = pass(question, bodies, src, tally, at + 1, binders + 1, calls, i);
+        let p = pass(question, bodies, src, tally, b + 1, binders + 1, calls, n);
         return leaving(p, binders);
     }
-    if 8 < t {
-        return pass_call(question, bodies, src, at, binders, calls, i);
-    }
-    if t == 6 {
-        let b = branch_of(src, tally, at, false, i);
-        let n = b.number;
-        return pass(question, bodies, src, tally, b.at, binders, calls, n);
-    }
-    let left = visible_at(tally, at + 1);
-    if i < left {
-        return pass(question, bodies, src, tally, at + 1, binders, calls, i);
-    }
-    let middle = middle_of(src, tally, at);
-    let j = i - left;
-    if j < visible_at(tally, middle) {
-        return pass(question, bodies, src, tally, middle, binders, calls, j);
-    }
-    silent()
+    pass_call(question, bodies, src, b, binders, calls, n)
 }

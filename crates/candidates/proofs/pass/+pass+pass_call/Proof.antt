@@ -1,19 +1,17 @@
 -- `candidates::pass::pass` and `pass_call` meet their contracts. The measure: the bytes left, and 113 for each call that may be opened. Assumes nothing.
 use Rattle.candidates.proofs.TallyLoops.{called-tally}
 use mathlib.Core.Bool.{false}
-use mathlib.Core.Path.{refl, sym, ap, subst, _∙_}
-use Prim.Native.Nat.{ℕ, _+_, _-_, _*_, _<_, _≤_}
+use mathlib.Core.Path.{refl, ap}
+use Prim.Native.Nat.{ℕ, _+_, _-_, _*_, _<_}
 use native.Mathlib.Omega.{arith}
-use lib.ListN.{length}
+use lib.ListN.{length, getD}
 use borrow.Author.Needs.{needs}
 use borrow.Author.Tests.{not-true, not-false}
 use borrow.Fn.Kinds.{In}
 use borrow.Fn.PlainCycle.{Measures, is, falls, and}
-use Rattle.terms.proofs.bytes.get.Reads as get-reads
-use Rattle.candidates.specs.Tallying.{numberAt}
-use Rattle.candidates.proofs.BranchLaws.{pass-branch}
-use Rattle.candidates.proofs.TwoSides.{middle-on, pass-left, pass-right, pass-met}
-use Rattle.candidates.proofs.PassLaws.{pass-none, pass-prefix, pass-mat, pass-res}
+use Rattle.candidates.specs.Branching.{Acts}
+use Rattle.candidates.proofs.PassLaws.{pass-none, pass-prefix, pass-res}
+use Rattle.candidates.proofs.SourceLaws.{far-byte}
 use Rattle.candidates.proofs.CallLaws.{pass-closed, pass-opened}
 use Rattle.candidates.proofs.pass.pass.Reads as pass
 use Rattle.candidates.proofs.pass.pass.Kinds as pass-kinds
@@ -24,12 +22,10 @@ use Rattle.candidates.proofs.pass.+pass+pass_call.Lts-pass_call as pass
 use Rattle.candidates.proofs.bodies.body_at.Reads as body-at-reads
 use Rattle.candidates.proofs.bodies.call_at.Reads as call-at-reads
 use Rattle.candidates.proofs.pass.leaving.Reads as leaving-reads
-use Rattle.candidates.proofs.pass.branch_of.Reads as branch-of-reads
-use Rattle.candidates.proofs.pass.middle_of.Reads as middle-of-reads
 use Rattle.candidates.proofs.pass.pass_prefix.Reads as pass-prefix-reads
 use Rattle.candidates.proofs.pass.returned.Reads as returned-reads
 use Rattle.candidates.proofs.pass.silent.Reads as silent-reads
-use Rattle.candidates.proofs.tally.visible_at.Reads as visible-at-reads
+use Rattle.candidates.proofs.pass.source_of.Reads as source-of-reads
 use Rattle.candidates.proofs.tally.body_tally.Reads as body-tally-reads
 use Rattle.candidates.proofs.pass.+pass+pass_call.{statement}
 use Rattle.candidates.proofs.pass.+pass+pass_call.Tie.{close}
@@ -54,100 +50,57 @@ pass-call-below t =
     and 3 pass-call-kinds.ps (falls 3 pass-call-kinds.ps _<_ μ-pass-call t) pass-call.Pre
 
 abbrev pass-claims : ℕ → pass-lts.Claims
-pass-claims t = (silent-reads.Asked, silent-reads.Learnt, get-reads.Asked, get-reads.Learnt, pass-prefix-reads.Asked, pass-prefix-reads.Learnt, pass-below t, pass.Post, leaving-reads.Asked, leaving-reads.Learnt, pass-call-below t, pass-call.Post, branch-of-reads.Asked, branch-of-reads.Learnt, visible-at-reads.Asked, visible-at-reads.Learnt, middle-of-reads.Asked, middle-of-reads.Learnt)
+pass-claims t = (source-of-reads.Asked, source-of-reads.Learnt, silent-reads.Asked, silent-reads.Learnt, pass-prefix-reads.Asked, pass-prefix-reads.Learnt, pass-below t, pass.Post, leaving-reads.Asked, leaving-reads.Learnt, pass-call-below t, pass-call.Post)
 
 abbrev pass-call-claims : ℕ → pass-call-lts.Claims
 pass-call-claims t = (call-at-reads.Asked, call-at-reads.Learnt, silent-reads.Asked, silent-reads.Learnt, body-at-reads.Asked, body-at-reads.Learnt, body-tally-reads.Asked, body-tally-reads.Learnt, pass-below t, pass.Post, returned-reads.Asked, returned-reads.Learnt)
+
+pass-source-of-requires : (t : ℕ) → pass-lts.Need-source-of-requires (pass-claims t) (pass-at t) pass.Post
+pass-source-of-requires t c κs = (c .before .before .before .before .pre .1 .0, c .before .before .before .before .pre .1 .3 .on)
 
 pass-silent-requires : (t : ℕ) → pass-lts.Need-silent-requires (pass-claims t) (pass-at t) pass.Post
 pass-silent-requires t c κs = search needs
 
 pass-returns : (t : ℕ) → pass-lts.Need-returns (pass-claims t) (pass-at t) pass.Post
-pass-returns t c = let a = c .before .before .before .before .before .before .args in rw (c .silent .ensures) (pass-none (a .question .now) (a .src .now) (a .at) (a .binders) (a .calls) false (a .i) (c .before .if1 .taken))
+unfolding Acts
+pass-returns t c = let a = c .before .before .before .before .before .before .before .args in let p = c .before .before .source-of .result in let S = c .before .before .source-of .ensures in S .is (a .question .now) (a .binders) (a .calls) _ (c .before .before .before .before .before .before .before .pre .1 .3) (rw (c .silent .ensures) (pass-none (a .question .now) (a .src .now) (p .at) (a .binders) (a .calls) false (p .number) (c .before .if1 .taken)))
 
-pass-get-requires : (t : ℕ) → pass-lts.Need-get-requires (pass-claims t) (pass-at t) pass.Post
-pass-get-requires t c κs = search needs
+pass-shared-slice-read-t : (t : ℕ) → pass-lts.Need-shared-slice-read-t (pass-claims t) (pass-at t) pass.Post
+pass-shared-slice-read-t t c = search needs
 
 pass-pass-prefix-requires : (t : ℕ) → pass-lts.Need-pass-prefix-requires (pass-claims t) (pass-at t) pass.Post
-pass-pass-prefix-requires t c κs = (c .before .before .if1 .left, omega (arith, c .before .get .ensures, c .if2 .taken), omega (arith, c .before .before .before .before .before .before .before .pre .1 .0, c .before .before .before .before .before .before .before .pre .1 .1, c .before .before .if1 .left))
+pass-pass-prefix-requires t c κs = (c .before .before .if1 .left, c .if2 .taken, omega (arith, c .before .before .before .before .before .before .before .before .pre .1 .0, c .before .before .before .before .before .before .before .before .pre .1 .1, c .before .before .if1 .left))
 
 pass-returns-2 : (t : ℕ) → pass-lts.Need-returns-2 (pass-claims t) (pass-at t) pass.Post
-pass-returns-2 t c = let a = c .before .before .before .before .before .before .before .before .args in pass-prefix (a .question .now) (a .src .now) (a .at) (a .binders) (a .calls) false (a .i) (omega (arith, c .before .before .get .ensures, c .before .if2 .taken)) (c .pass-prefix .result) (c .pass-prefix .ensures)
+unfolding Acts
+pass-returns-2 t c = let a = c .before .before .before .before .before .before .before .before .before .args in let p = c .before .before .before .before .source-of .result in let S = c .before .before .before .before .source-of .ensures in S .is (a .question .now) (a .binders) (a .calls) _ (c .before .before .before .before .before .before .before .before .before .pre .1 .3) (pass-prefix (a .question .now) (a .src .now) (p .at) (a .binders) (a .calls) false (p .number) (c .before .if2 .taken) (c .pass-prefix .result) (c .pass-prefix .ensures))
 
 pass-add-pass : (t : ℕ) → pass-lts.Need-add-pass (pass-claims t) (pass-at t) pass.Post
-pass-add-pass t c = search needs
-
-pass-pass-requires : (t : ℕ) → pass-lts.Need-pass-requires (pass-claims t) (pass-at t) pass.Post
-pass-pass-requires t c κs = (omega (arith, c .before .before .before .before .before .before .before .before .pre .0, c .before .before .before .if1 .left), (c .before .before .before .before .before .before .before .before .pre .1 .0, omega (arith, c .before .before .before .before .before .before .before .before .pre .1 .1, c .before .before .before .if1 .left), c .before .before .before .before .before .before .before .before .pre .1 .2, c .before .before .before .before .before .before .before .before .pre .1 .3, c .before .before .before .before .before .before .before .before .pre .1 .4))
-
-pass-returns-3 : (t : ℕ) → pass-lts.Need-returns-3 (pass-claims t) (pass-at t) pass.Post
-pass-returns-3 t c = let a = c .before .before .before .before .before .before .before .before .before .args in pass-mat (a .question .now) (a .src .now) (a .at) (a .binders) (a .calls) false (a .i) (c .pass .result) (sym (c .before .before .before .get .ensures) ∙ c .before .if3 .taken) (c .pass .ensures)
+pass-add-pass t c = omega (arith, c .before .before .before .before .before .before .before .before .before .pre .1 .0, c .before .before .before .if1 .left)
 
 pass-add-pass-2 : (t : ℕ) → pass-lts.Need-add-pass-2 (pass-claims t) (pass-at t) pass.Post
-pass-add-pass-2 t c = search needs
+pass-add-pass-2 t c = omega (arith, c .before .before .before .before .before .before .before .before .before .pre .1 .0, c .before .before .before .before .before .before .before .before .before .pre .1 .1, c .before .before .before .if1 .left, c .before .before .before .before .source-of .ensures .on)
 
-pass-add-pass-3 : (t : ℕ) → pass-lts.Need-add-pass-3 (pass-claims t) (pass-at t) pass.Post
-pass-add-pass-3 t c = omega (arith, c .before .before .before .before .before .before .before .before .before .pre .1 .0, c .before .before .before .before .before .before .before .before .before .pre .1 .1, c .before .before .before .before .if1 .left)
-
-pass-pass-requires-2 : (t : ℕ) → pass-lts.Need-pass-requires-2 (pass-claims t) (pass-at t) pass.Post
-pass-pass-requires-2 t c κs = (omega (arith, c .before .before .before .before .before .before .before .before .before .pre .0, c .before .before .before .before .if1 .left), (c .before .before .before .before .before .before .before .before .before .pre .1 .0, omega (arith, c .before .before .before .before .before .before .before .before .before .pre .1 .1, c .before .before .before .before .if1 .left), c .before .before .before .before .before .before .before .before .before .pre .1 .2, c .before .before .before .before .before .before .before .before .before .pre .1 .3, c .before .before .before .before .before .before .before .before .before .pre .1 .4))
+pass-pass-requires : (t : ℕ) → pass-lts.Need-pass-requires (pass-claims t) (pass-at t) pass.Post
+pass-pass-requires t c κs = (omega (arith, c .before .before .before .before .before .before .before .before .before .pre .0, c .before .before .before .if1 .left, c .before .before .before .before .source-of .ensures .on), (c .before .before .before .before .before .before .before .before .before .pre .1 .0, omega (arith, c .before .before .before .before .before .before .before .before .before .pre .1 .1, c .before .before .before .before .source-of .ensures .on), c .before .before .before .before .before .before .before .before .before .pre .1 .2, c .before .before .before .before .before .before .before .before .before .pre .1 .3, c .before .before .before .before .before .before .before .before .before .pre .1 .4))
 
 pass-leaving-requires : (t : ℕ) → pass-lts.Need-leaving-requires (pass-claims t) (pass-at t) pass.Post
-pass-leaving-requires t c κs = omega (arith, c .before .before .before .before .before .before .before .before .before .before .pre .1 .0, c .before .before .before .before .before .before .before .before .before .before .pre .1 .1, c .before .before .before .before .before .if1 .left)
+pass-leaving-requires t c κs = omega (arith, c .before .before .before .before .before .before .before .before .before .before .pre .1 .0, c .before .before .before .before .before .before .before .before .before .before .pre .1 .1, c .before .before .before .before .if1 .left, c .before .before .before .before .before .source-of .ensures .on)
 
-pass-returns-4 : (t : ℕ) → pass-lts.Need-returns-4 (pass-claims t) (pass-at t) pass.Post
-pass-returns-4 t c = let a = c .before .before .before .before .before .before .before .before .before .before .before .args in rw (c .leaving .ensures) (pass-res (a .question .now) (a .src .now) (a .at) (a .binders) (a .calls) false (a .i) (c .before .pass2 .result) (sym (c .before .before .before .before .before .get .ensures) ∙ c .before .before .if4 .taken) (c .before .pass2 .ensures))
+pass-returns-3 : (t : ℕ) → pass-lts.Need-returns-3 (pass-claims t) (pass-at t) pass.Post
+unfolding Acts
+pass-returns-3 t c = let a = c .before .before .before .before .before .before .before .before .before .before .before .args in let p = c .before .before .before .before .before .before .source-of .result in let S = c .before .before .before .before .before .before .source-of .ensures in S .is (a .question .now) (a .binders) (a .calls) _ (c .before .before .before .before .before .before .before .before .before .before .before .pre .1 .3) (rw (c .leaving .ensures) (pass-res (a .question .now) (a .src .now) (p .at) (a .binders) (a .calls) false (p .number) (c .before .pass .result) (c .before .before .if3 .taken) (c .before .pass .ensures)))
 
 pass-pass-call-requires : (t : ℕ) → pass-lts.Need-pass-call-requires (pass-claims t) (pass-at t) pass.Post
-pass-pass-call-requires t c κs = (omega (arith, c .before .before .before .before .before .before .before .before .before .before .pre .0), (c .before .before .before .before .before .if1 .left, omega (arith, c .before .before .before .before .get .ensures, c .if5 .taken), c .before .before .before .before .before .before .before .before .before .before .pre .1 .0, c .before .before .before .before .before .before .before .before .before .before .pre .1 .1, c .before .before .before .before .before .before .before .before .before .before .pre .1 .2, c .before .before .before .before .before .before .before .before .before .before .pre .1 .4))
+pass-pass-call-requires t c κs =
+    let p = c .before .before .before .before .source-of .result in
+    let S = c .before .before .before .before .source-of .ensures in
+    let call : 8 < getD (c .before .before .before .before .before .before .before .before .before .args .src .now) (p .at) 0 = far-byte (getD (c .before .before .before .before .before .before .before .before .before .args .src .now) (p .at) 0) (c .before .if2 .left) (c .if3 .left) (S .ended (c .before .before .before .if1 .left)) in
+    (omega (arith, c .before .before .before .before .before .before .before .before .before .pre .0, S .on), (c .before .before .before .if1 .left, call, c .before .before .before .before .before .before .before .before .before .pre .1 .0, omega (arith, c .before .before .before .before .before .before .before .before .before .pre .1 .1, c .before .before .before .before .source-of .ensures .on), c .before .before .before .before .before .before .before .before .before .pre .1 .2, c .before .before .before .before .before .before .before .before .before .pre .1 .4))
 
-pass-returns-5 : (t : ℕ) → pass-lts.Need-returns-5 (pass-claims t) (pass-at t) pass.Post
-pass-returns-5 t c = c .pass-call .ensures
-
-pass-branch-of-requires : (t : ℕ) → pass-lts.Need-branch-of-requires (pass-claims t) (pass-at t) pass.Post
-pass-branch-of-requires t c κs = (c .before .before .before .before .before .before .before .before .before .before .before .pre .1 .0, c .before .before .before .before .before .before .before .before .before .before .before .pre .1 .3 .on)
-
-pass-pass-requires-3 : (t : ℕ) → pass-lts.Need-pass-requires-3 (pass-claims t) (pass-at t) pass.Post
-pass-pass-requires-3 t c κs = let h = c .branch-of .ensures .past (c .before .before .before .before .before .before .before .if1 .left) (sym (c .before .before .before .before .before .before .get .ensures) ∙ c .before .if6 .taken) in (omega (arith, c .before .before .before .before .before .before .before .before .before .before .before .before .pre .0, c .before .before .before .before .before .before .before .if1 .left, h), (c .before .before .before .before .before .before .before .before .before .before .before .before .pre .1 .0, omega (arith, c .before .before .before .before .before .before .before .before .before .before .before .before .pre .1 .1, h), c .before .before .before .before .before .before .before .before .before .before .before .before .pre .1 .2, c .before .before .before .before .before .before .before .before .before .before .before .before .pre .1 .3, c .before .before .before .before .before .before .before .before .before .before .before .before .pre .1 .4))
-
-pass-returns-6 : (t : ℕ) → pass-lts.Need-returns-6 (pass-claims t) (pass-at t) pass.Post
-pass-returns-6 t c = let a = c .before .before .before .before .before .before .before .before .before .before .before .before .before .args in pass-branch (a .question .now) (a .src .now) (a .at) (a .binders) (a .calls) false (a .i) (a .tally .now) (c .before .before .before .before .before .before .before .before .before .before .before .before .before .pre .1 .3) (c .before .branch-of .result) (c .before .branch-of .ensures) (c .pass3 .result) (c .pass3 .ensures)
-
-pass-add-visible-at : (t : ℕ) → pass-lts.Need-add-visible-at (pass-claims t) (pass-at t) pass.Post
-pass-add-visible-at t c = search needs
-
-pass-visible-at-requires : (t : ℕ) → pass-lts.Need-visible-at-requires (pass-claims t) (pass-at t) pass.Post
-pass-visible-at-requires t c κs = search needs
-
-pass-add-pass-4 : (t : ℕ) → pass-lts.Need-add-pass-4 (pass-claims t) (pass-at t) pass.Post
-pass-add-pass-4 t c = search needs
-
-pass-pass-requires-4 : (t : ℕ) → pass-lts.Need-pass-requires-4 (pass-claims t) (pass-at t) pass.Post
-pass-pass-requires-4 t c κs = (omega (arith, c .before .before .before .before .before .before .before .before .before .before .before .before .before .pre .0, c .before .before .before .before .before .before .before .before .if1 .left), (c .before .before .before .before .before .before .before .before .before .before .before .before .before .pre .1 .0, omega (arith, c .before .before .before .before .before .before .before .before .before .before .before .before .before .pre .1 .1, c .before .before .before .before .before .before .before .before .if1 .left), c .before .before .before .before .before .before .before .before .before .before .before .before .before .pre .1 .2, c .before .before .before .before .before .before .before .before .before .before .before .before .before .pre .1 .3, c .before .before .before .before .before .before .before .before .before .before .before .before .before .pre .1 .4))
-
-pass-returns-7 : (t : ℕ) → pass-lts.Need-returns-7 (pass-claims t) (pass-at t) pass.Post
-unfolding numberAt
-pass-returns-7 t c = let a = c .before .before .before .before .before .before .before .before .before .before .before .before .before .before .args in pass-left (a .question .now) (a .src .now) (a .at) (a .binders) (a .calls) false (a .i) (a .tally .now) (c .before .before .before .before .before .before .before .before .before .before .before .before .before .before .pre .1 .3) (omega (arith, c .before .before .before .before .before .before .before .before .get .ensures, c .before .before .before .before .before .before .before .if2 .left, c .before .before .before .before .before .before .if3 .left, c .before .before .before .before .before .if4 .left, c .before .before .before .before .if5 .left), omega (arith, c .before .before .before .before .before .before .before .before .get .ensures, c .before .before .before .before .before .before .before .if2 .left, c .before .before .before .before .before .before .if3 .left, c .before .before .before .before .before .if4 .left, c .before .before .before .before .if5 .left)) (subst (λ (n : ℕ). a .i < n) (c .before .before .visible-at .ensures) (c .before .if7 .taken)) (c .pass4 .result) (c .pass4 .ensures)
-
-pass-middle-of-requires : (t : ℕ) → pass-lts.Need-middle-of-requires (pass-claims t) (pass-at t) pass.Post
-pass-middle-of-requires t c κs = (c .before .before .before .before .before .before .before .before .if1 .left, c .before .before .before .before .before .before .before .before .before .before .before .before .before .pre .1 .0)
-
-pass-visible-at-requires-2 : (t : ℕ) → pass-lts.Need-visible-at-requires-2 (pass-claims t) (pass-at t) pass.Post
-pass-visible-at-requires-2 t c κs = search needs
-
-pass-pass-requires-5 : (t : ℕ) → pass-lts.Need-pass-requires-5 (pass-claims t) (pass-at t) pass.Post
-pass-pass-requires-5 t c κs = let a = c .before .before .before .before .before .before .before .before .before .before .before .before .before .before .before .before .args in let h = middle-on (a .question .now) (a .src .now) (a .calls) (a .tally .now) (c .before .before .before .before .before .before .before .before .before .before .before .before .before .before .before .before .pre .1 .3) (a .at) (c .before .before .middle-of .result) (c .before .before .middle-of .ensures) (c .before .before .before .before .before .before .before .before .before .before .before .if1 .left) in (omega (arith, c .before .before .before .before .before .before .before .before .before .before .before .before .before .before .before .before .pre .0, c .before .before .before .before .before .before .before .before .before .before .before .if1 .left, h), (c .before .before .before .before .before .before .before .before .before .before .before .before .before .before .before .before .pre .1 .0, omega (arith, c .before .before .before .before .before .before .before .before .before .before .before .before .before .before .before .before .pre .1 .1, c .before .before .before .before .before .before .before .before .before .before .before .if1 .left, h), c .before .before .before .before .before .before .before .before .before .before .before .before .before .before .before .before .pre .1 .2, c .before .before .before .before .before .before .before .before .before .before .before .before .before .before .before .before .pre .1 .3, c .before .before .before .before .before .before .before .before .before .before .before .before .before .before .before .before .pre .1 .4))
-
-pass-returns-8 : (t : ℕ) → pass-lts.Need-returns-8 (pass-claims t) (pass-at t) pass.Post
-unfolding numberAt
-pass-returns-8 t c = let a = c .before .before .before .before .before .before .before .before .before .before .before .before .before .before .before .before .before .args in pass-right (a .question .now) (a .src .now) (a .at) (a .binders) (a .calls) false (a .i) (a .tally .now) (c .before .before .before .before .before .before .before .before .before .before .before .before .before .before .before .before .before .pre .1 .3) (omega (arith, c .before .before .before .before .before .before .before .before .before .before .before .get .ensures, c .before .before .before .before .before .before .before .before .before .before .if2 .left, c .before .before .before .before .before .before .before .before .before .if3 .left, c .before .before .before .before .before .before .before .before .if4 .left, c .before .before .before .before .before .before .before .if5 .left), omega (arith, c .before .before .before .before .before .before .before .before .before .before .before .get .ensures, c .before .before .before .before .before .before .before .before .before .before .if2 .left, c .before .before .before .before .before .before .before .before .before .if3 .left, c .before .before .before .before .before .before .before .before .if4 .left, c .before .before .before .before .before .before .before .if5 .left)) (c .before .before .before .middle-of .result) (c .before .before .before .middle-of .ensures) (subst (λ (n : ℕ). n ≤ a .i) (c .before .before .before .before .before .visible-at .ensures) (c .before .before .before .before .if7 .left)) _ (ap (λ (n : ℕ). a .i - n) (c .before .before .before .before .before .visible-at .ensures)) (subst (λ (n : ℕ). a .i - c .before .before .before .before .before .visible-at .result < n) (c .before .before .visible-at2 .ensures) (c .before .if8 .taken)) (c .pass5 .result) (c .pass5 .ensures)
-
-pass-silent-requires-2 : (t : ℕ) → pass-lts.Need-silent-requires-2 (pass-claims t) (pass-at t) pass.Post
-pass-silent-requires-2 t c κs = search needs
-
-pass-returns-9 : (t : ℕ) → pass-lts.Need-returns-9 (pass-claims t) (pass-at t) pass.Post
-unfolding numberAt
-pass-returns-9 t c = let a = c .before .before .before .before .before .before .before .before .before .before .before .before .before .before .before .before .before .args in rw (c .silent2 .ensures) (pass-met (a .question .now) (a .src .now) (a .at) (a .binders) (a .calls) false (a .i) (a .tally .now) (c .before .before .before .before .before .before .before .before .before .before .before .before .before .before .before .before .before .pre .1 .3) (omega (arith, c .before .before .before .before .before .before .before .before .before .before .before .get .ensures, c .before .before .before .before .before .before .before .before .before .before .if2 .left, c .before .before .before .before .before .before .before .before .before .if3 .left, c .before .before .before .before .before .before .before .before .if4 .left, c .before .before .before .before .before .before .before .if5 .left), omega (arith, c .before .before .before .before .before .before .before .before .before .before .before .get .ensures, c .before .before .before .before .before .before .before .before .before .before .if2 .left, c .before .before .before .before .before .before .before .before .before .if3 .left, c .before .before .before .before .before .before .before .before .if4 .left, c .before .before .before .before .before .before .before .if5 .left)) (c .before .before .before .middle-of .result) (c .before .before .before .middle-of .ensures) (subst (λ (n : ℕ). n ≤ a .i) (c .before .before .before .before .before .visible-at .ensures) (c .before .before .before .before .if7 .left)) _ (ap (λ (n : ℕ). a .i - n) (c .before .before .before .before .before .visible-at .ensures)) (subst (λ (n : ℕ). n ≤ a .i - c .before .before .before .before .before .visible-at .result) (c .before .before .visible-at2 .ensures) (c .before .if8 .left)))
+pass-returns-4 : (t : ℕ) → pass-lts.Need-returns-4 (pass-claims t) (pass-at t) pass.Post
+unfolding Acts
+pass-returns-4 t c = let a = c .before .before .before .before .before .before .before .before .before .before .args in let p = c .before .before .before .before .before .source-of .result in let S = c .before .before .before .before .before .source-of .ensures in S .is (a .question .now) (a .binders) (a .calls) _ (c .before .before .before .before .before .before .before .before .before .before .pre .1 .3) (c .pass-call .ensures)
 
 pass-call-call-at-requires : (t : ℕ) → pass-call-lts.Need-call-at-requires (pass-call-claims t) (pass-call-at t) pass-call.Post
 pass-call-call-at-requires t c κs = (c .before .before .before .pre .1 .0, c .before .before .before .pre .1 .5)
@@ -183,35 +136,19 @@ pub +pass+pass-call-spec : {M : Type 1} → statement M
 +pass+pass-call-spec = close μ-pass μ-pass-call (λ t. pass-lts.spec (pass-claims t)
     (pass-at t)
     pass.Post
+    (pass-source-of-requires t)
     (pass-silent-requires t)
     (pass-returns t)
-    (pass-get-requires t)
+    (pass-shared-slice-read-t t)
     (pass-pass-prefix-requires t)
     (pass-returns-2 t)
     (pass-add-pass t)
-    (pass-pass-requires t)
-    (pass-returns-3 t)
     (pass-add-pass-2 t)
-    (pass-add-pass-3 t)
-    (pass-pass-requires-2 t)
+    (pass-pass-requires t)
     (pass-leaving-requires t)
-    (pass-returns-4 t)
+    (pass-returns-3 t)
     (pass-pass-call-requires t)
-    (pass-returns-5 t)
-    (pass-branch-of-requires t)
-    (pass-pass-requires-3 t)
-    (pass-returns-6 t)
-    (pass-add-visible-at t)
-    (pass-visible-at-requires t)
-    (pass-add-pass-4 t)
-    (pass-pass-requires-4 t)
-    (pass-returns-7 t)
-    (pass-middle-of-requires t)
-    (pass-visible-at-requires-2 t)
-    (pass-pass-requires-5 t)
-    (pass-returns-8 t)
-    (pass-silent-requires-2 t)
-    (pass-returns-9 t))
+    (pass-returns-4 t))
     λ t. pass-call-lts.spec (pass-call-claims t)
     (pass-call-at t)
     pass-call.Post
