@@ -1,17 +1,17 @@
 -- The tables of pairs, by computing. Assumes nothing.
 use mathlib.Core.Path.{_≡_, refl, sym, ap, ap₂, _∙_}
 use mathlib.Core.Bool.{Bool, true, _&&_, _||_}
-use mathlib.Core.List.{List, [], _∷_, map}
+use mathlib.Core.List.{List, [], _∷_}
 use Prim.Native.Nat.{ℕ, zero, suc, _+_, _-_, _<_, _≤_}
 use native.Mathlib.Decide.{ℕ-discrete}
 use native.Mathlib.Omega.{arith}
-use lib.ListN.{length, getD, List·getD-map}
+use lib.ListN.{length, getD}
 use lib.Dec.{ltb, leb, eqb}
 use borrow.Author.Tests.{ltb-true, leb-true, eqb-true, lt-leb}
 use Rattle.terms.specs.Limits.{nameCount}
 use Rattle.terms.proofs.Answers.{both-true}
 use Rattle.steps.specs.Listed.{namesFrom}
-use Rattle.field.specs.PairFlags.{pairCount, pairAt, FirstIs, SecondIs, NumberIs}
+use Rattle.field.specs.PairFlags.{pairCount, pairAt, FirstIs, SecondIs, PairOfIs, NumberIs}
 use Rattle.field.specs.Situation.{pairsOf}
 use Rattle.field.specs.Slot.{allPairs}
 
@@ -91,15 +91,31 @@ pub length-pairs : length allPairs ≡ pairCount
 unfolding allPairs pairsOf namesFrom
 length-pairs = refl
 
--- the tables of the smaller and of the larger names
-pub firsts : (k : ℕ) → k < pairCount → FirstIs k (getD (map (λ p. p .0) allPairs) k 0)
-unfolding pairAt
-firsts k h =
-    let e = List·getD-map (λ (p : ℕ × ℕ). p .0) allPairs k (0, 0) in
-    record { is = e; below = rw e (omega (arith, pair-ordered k h, pair-below k h)) }
+-- the pairs of the next smaller name
+rightRow : ℕ → Bool
+rightRow a = eqb (getD rows (a + 1) 0) (getD rows a 0 + (15 - a))
 
-pub seconds : (k : ℕ) → k < pairCount → SecondIs k (getD (map (λ p. p .1) allPairs) k 0)
-unfolding pairAt
-seconds k h =
-    let e = List·getD-map (λ (p : ℕ × ℕ). p .1) allPairs k (0, 0) in
-    record { is = e; below = rw e (omega (arith, pair-below k h)) }
+all-rows : every 15 rightRow ≡ true
+unfolding every rightRow rows
+all-rows = refl
+
+pub row-next : (a : ℕ) → a < 15 → getD rows (a + 1) 0 ≡ getD rows a 0 + (15 - a)
+unfolding rightRow
+row-next a h = eqb-true (getD rows (a + 1) 0) (getD rows a 0 + (15 - a)) (every-at 15 rightRow all-rows a h)
+
+pub row-last : (a : ℕ) → a ≡ 15 → getD rows a 0 ≡ 120
+unfolding rows
+row-last a e = rw e refl
+
+pub row-first : getD rows 0 0 ≡ 0
+unfolding rows
+row-first = refl
+
+pub pair-right : (k a left : ℕ) → k ≡ getD rows a 0 + left → left < 15 - a → PairOfIs k (record { first = a; second = a + 1 + left })
+pair-right k a left e h =
+    let n = number-right a (a + 1 + left) (omega arith) (omega arith) in
+    let i : getD rows a 0 + (a + 1 + left - a - 1) ≡ k = omega (arith, e) in
+    record {
+      first = record { is = sym (rw i at (n .first)); below = omega arith };
+      second = record { is = sym (rw i at (n .second)); below = omega arith };
+    }

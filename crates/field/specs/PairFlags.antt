@@ -13,6 +13,7 @@ use Rattle.steps.specs.Listed.{ListedStep, classIn}
 use Rattle.field.specs.Entry.{EntryAt}
 use Rattle.field.specs.Slot.{allPairs, flagsOf}
 use Rattle.field.specs.Successors.{permitted}
+use Rattle.field.specs.declared.pairs.Pair.{Pair}
 
 abbrev pub pairCount : ℕ
 pairCount = 120
@@ -28,6 +29,10 @@ pub record FirstIs (k r : ℕ) : Type 0 where
 pub record SecondIs (k r : ℕ) : Type 0 where
   pub is : r ≡ pairAt k .1
   pub below : r < nameCount
+
+pub record PairOfIs (k : ℕ) (r : Pair) : Type 0 where
+  pub first : FirstIs k (r .first)
+  pub second : SecondIs k (r .second)
 
 pub record NumberIs (a b r : ℕ) : Type 0 where
   pub below : r < pairCount

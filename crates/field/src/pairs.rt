@@ -3,7 +3,7 @@ ghost use mathlib.Core.Path.{_≡_};
 ghost use Prim.Native.Nat.{_<_, _≤_};
 ghost use lib.ListN.{length};
 ghost use Rattle.terms.specs.Limits.{nameCount};
-ghost use Rattle.field.specs.PairFlags.{pairCount, FirstIs, SecondIs, NumberIs, AddsPair, NoneApartIs, MergesIs, PermittedIs};
+ghost use Rattle.field.specs.PairFlags.{pairCount, PairOfIs, NumberIs, AddsPair, NoneApartIs, MergesIs, PermittedIs};
 use crate::entries::class_of;
 use crate::entries::trivial;
 use terms::bytes::get;
@@ -11,253 +11,7 @@ use terms::limits::NAME_COUNT;
 
 pub const PAIR_COUNT: usize = 120;
 
-// The smaller name of each pair.
-const FIRST: [u8; PAIR_COUNT] = [
-    0,
-    0,
-    0,
-    0,
-    0,
-    0,
-    0,
-    0,
-    0,
-    0,
-    0,
-    0,
-    0,
-    0,
-    0,
-    1,
-    1,
-    1,
-    1,
-    1,
-    1,
-    1,
-    1,
-    1,
-    1,
-    1,
-    1,
-    1,
-    1,
-    2,
-    2,
-    2,
-    2,
-    2,
-    2,
-    2,
-    2,
-    2,
-    2,
-    2,
-    2,
-    2,
-    3,
-    3,
-    3,
-    3,
-    3,
-    3,
-    3,
-    3,
-    3,
-    3,
-    3,
-    3,
-    4,
-    4,
-    4,
-    4,
-    4,
-    4,
-    4,
-    4,
-    4,
-    4,
-    4,
-    5,
-    5,
-    5,
-    5,
-    5,
-    5,
-    5,
-    5,
-    5,
-    5,
-    6,
-    6,
-    6,
-    6,
-    6,
-    6,
-    6,
-    6,
-    6,
-    7,
-    7,
-    7,
-    7,
-    7,
-    7,
-    7,
-    7,
-    8,
-    8,
-    8,
-    8,
-    8,
-    8,
-    8,
-    9,
-    9,
-    9,
-    9,
-    9,
-    9,
-    10,
-    10,
-    10,
-    10,
-    10,
-    11,
-    11,
-    11,
-    11,
-    12,
-    12,
-    12,
-    13,
-    13,
-    14,
-];
-
-// The larger one.
-const SECOND: [u8; PAIR_COUNT] = [
-    1,
-    2,
-    3,
-    4,
-    5,
-    6,
-    7,
-    8,
-    9,
-    10,
-    11,
-    12,
-    13,
-    14,
-    15,
-    2,
-    3,
-    4,
-    5,
-    6,
-    7,
-    8,
-    9,
-    10,
-    11,
-    12,
-    13,
-    14,
-    15,
-    3,
-    4,
-    5,
-    6,
-    7,
-    8,
-    9,
-    10,
-    11,
-    12,
-    13,
-    14,
-    15,
-    4,
-    5,
-    6,
-    7,
-    8,
-    9,
-    10,
-    11,
-    12,
-    13,
-    14,
-    15,
-    5,
-    6,
-    7,
-    8,
-    9,
-    10,
-    11,
-    12,
-    13,
-    14,
-    15,
-    6,
-    7,
-    8,
-    9,
-    10,
-    11,
-    12,
-    13,
-    14,
-    15,
-    7,
-    8,
-    9,
-    10,
-    11,
-    12,
-    13,
-    14,
-    15,
-    8,
-    9,
-    10,
-    11,
-    12,
-    13,
-    14,
-    15,
-    9,
-    10,
-    11,
-    12,
-    13,
-    14,
-    15,
-    10,
-    11,
-    12,
-    13,
-    14,
-    15,
-    11,
-    12,
-    13,
-    14,
-    15,
-    12,
-    13,
-    14,
-    15,
-    13,
-    14,
-    15,
-    14,
-    15,
-    15,
-];
+const LAST_NAME: usize = 15;
 
 // Where the pairs begin whose smaller name is the index.
 const ROWS: [u8; NAME_COUNT] = [
@@ -279,18 +33,28 @@ const ROWS: [u8; NAME_COUNT] = [
     120,
 ];
 
-pub fn first_of(k: usize) -> usize
-    requires { ⌜ k < pairCount ⌝ }
-    ensures { λ r. ⌜ FirstIs k r ⌝ }
-{
-    FIRST[k] as usize
+// The names of a pair, the smaller one first.
+pub struct Pair {
+    pub first: usize,
+    pub second: usize,
 }
 
-pub fn second_of(k: usize) -> usize
+// The names of pair `k`. The pairs of each smaller name stand together, and of each next name there is one less: to go along them takes less than a
+// table, which would be made anew at each call.
+pub fn pair_of(k: usize) -> Pair
     requires { ⌜ k < pairCount ⌝ }
-    ensures { λ r. ⌜ SecondIs k r ⌝ }
+    ensures { λ r. ⌜ PairOfIs k r ⌝ }
 {
-    SECOND[k] as usize
+    let mut a = 0;
+    let mut left = k;
+    while LAST_NAME - a <= left {
+        left -= LAST_NAME - a;
+        a += 1;
+    }
+    Pair {
+        first: a,
+        second: a + 1 + left,
+    }
 }
 
 // The number of the pair of `a` and `b`.
@@ -354,7 +118,8 @@ fn merges(apart: &[u8], k: usize, area: &[u8], at: usize) -> bool
     if get(apart, k) == 0 {
         return false;
     }
-    class_of(area, at, first_of(k)) == class_of(area, at, second_of(k))
+    let p = pair_of(k);
+    class_of(area, at, p.first) == class_of(area, at, p.second)
 }
 
 // Whether the step's condition respects the apart pairs.

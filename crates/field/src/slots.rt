@@ -9,8 +9,7 @@ ghost use Rattle.field.specs.Slot.{octets, keyBytes};
 ghost use Rattle.field.specs.Update.{keptFlags};
 use crate::chains::word;
 use crate::pairs::PAIR_COUNT;
-use crate::pairs::first_of;
-use crate::pairs::second_of;
+use crate::pairs::pair_of;
 use terms::bytes::get;
 
 // A part and its length.
@@ -57,10 +56,11 @@ fn kept_bit(flags: &[u8], free: &[u8], i: usize) -> u8
     if flags[i] == 0 {
         return 0;
     }
-    if get(free, first_of(i)) == 0 {
+    let p = pair_of(i);
+    if get(free, p.first) == 0 {
         return 0;
     }
-    if get(free, second_of(i)) == 0 {
+    if get(free, p.second) == 0 {
         return 0;
     }
     1

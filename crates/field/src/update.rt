@@ -10,10 +10,9 @@ use crate::entries::OBJECT;
 use crate::entries::class_of;
 use crate::entries::trivial;
 use crate::pairs::PAIR_COUNT;
-use crate::pairs::first_of;
 use crate::pairs::mark_pair;
 use crate::pairs::none_apart;
-use crate::pairs::second_of;
+use crate::pairs::pair_of;
 use terms::bytes::get;
 use terms::limits::NAME_COUNT;
 
@@ -60,8 +59,9 @@ fn mark_rewritten(flags: &[u8], k: usize, area: &[u8], at: usize, new: &mut [u8]
     if get(flags, k) == 0 {
         return;
     }
-    let a = class_of(area, at, first_of(k));
-    let b = class_of(area, at, second_of(k));
+    let p = pair_of(k);
+    let a = class_of(area, at, p.first);
+    let b = class_of(area, at, p.second);
     mark_pair(new, a, b);
 }
 

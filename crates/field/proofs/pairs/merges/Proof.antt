@@ -12,20 +12,17 @@ get-requires c κs = search needs
 returns : tie.Need-returns
 returns c = merges-none _ _ _ _ (search needs) (sym (c .before .get .ensures) ∙ c .if1 .taken)
 
-first-of-requires : tie.Need-first-of-requires
-first-of-requires c κs = search needs
+pair-of-requires : tie.Need-pair-of-requires
+pair-of-requires c κs = search needs
 
 class-of-requires : tie.Need-class-of-requires
 class-of-requires c κs = search needs
-
-second-of-requires : tie.Need-second-of-requires
-second-of-requires c κs = search needs
 
 class-of-requires-2 : tie.Need-class-of-requires-2
 class-of-requires-2 c κs = search needs
 
 returns-2 : tie.Need-returns-2
-returns-2 c = merges-classes _ (c .before .before .before .before .before .before .before .before .args .k) _ _ (search needs) (c .before .before .class-of .result) (c .class-of2 .result) (λ z. c .before .before .before .before .if1 .left (c .before .before .before .before .before .get .ensures ∙ z)) (rw (← c .before .before .before .first-of .ensures .is) (c .before .before .class-of .ensures)) (rw (← c .before .second-of .ensures .is) (c .class-of2 .ensures))
+returns-2 c = merges-classes _ (c .before .before .before .before .before .before .before .args .k) _ _ (search needs) (c .before .class-of .result) (c .class-of2 .result) (λ z. c .before .before .before .if1 .left (c .before .before .before .before .get .ensures ∙ z)) (rw (← c .before .before .pair-of .ensures .first .is) (c .before .class-of .ensures)) (rw (← c .before .before .pair-of .ensures .second .is) (c .class-of2 .ensures))
 
 pub merges-spec : {M : Type 1} → statement M
 merges-spec =
@@ -33,8 +30,7 @@ merges-spec =
     (tie.spec
     get-requires
     returns
-    first-of-requires
+    pair-of-requires
     class-of-requires
-    second-of-requires
     class-of-requires-2
     returns-2)

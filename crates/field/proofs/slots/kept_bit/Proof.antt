@@ -11,26 +11,23 @@ shared-slice-read-if1 c = search needs
 returns : tie.Need-returns
 returns c = bit-off _ _ _ (c .before .before .before .before .pre .0) (c .if1 .taken)
 
-first-of-requires : tie.Need-first-of-requires
-first-of-requires c κs = search needs
+pair-of-requires : tie.Need-pair-of-requires
+pair-of-requires c κs = search needs
 
 get-requires : tie.Need-get-requires
 get-requires c κs = search needs
 
 returns-2 : tie.Need-returns-2
-returns-2 c = bit-first _ _ _ (c .before .before .before .before .before .before .before .pre .0) _ (c .before .before .first-of .ensures) (sym (c .before .get .ensures) ∙ c .if2 .taken)
-
-second-of-requires : tie.Need-second-of-requires
-second-of-requires c κs = search needs
+returns-2 c = bit-first _ _ _ (c .before .before .before .before .before .before .before .pre .0) _ (c .before .before .pair-of .ensures .first) (sym (c .before .get .ensures) ∙ c .if2 .taken)
 
 get-requires-2 : tie.Need-get-requires-2
 get-requires-2 c κs = search needs
 
 returns-3 : tie.Need-returns-3
-returns-3 c = bit-second _ _ _ (c .before .before .before .before .before .before .before .before .before .before .pre .0) _ (c .before .before .before .before .before .first-of .ensures) _ (c .before .before .second-of .ensures) (sym (c .before .get2 .ensures) ∙ c .if3 .taken)
+returns-3 c = bit-second _ _ _ (c .before .before .before .before .before .before .before .before .before .pre .0) _ (c .before .before .before .before .pair-of .ensures .first) _ (c .before .before .before .before .pair-of .ensures .second) (sym (c .before .get2 .ensures) ∙ c .if3 .taken)
 
 returns-4 : tie.Need-returns-4
-returns-4 c = bit-on _ _ _ (c .before .before .before .before .before .before .before .before .before .before .pre .0) _ (c .before .before .before .before .before .first-of .ensures) _ (c .before .before .second-of .ensures) (c .before .before .before .before .before .before .if1 .left) (λ z. c .before .before .before .if2 .left (c .before .before .before .before .get .ensures ∙ z)) (λ z. c .if3 .left (c .before .get2 .ensures ∙ z))
+returns-4 c = bit-on _ _ _ (c .before .before .before .before .before .before .before .before .before .pre .0) _ (c .before .before .before .before .pair-of .ensures .first) _ (c .before .before .before .before .pair-of .ensures .second) (c .before .before .before .before .before .if1 .left) (λ z. c .before .before .if2 .left (c .before .before .before .get .ensures ∙ z)) (λ z. c .if3 .left (c .before .get2 .ensures ∙ z))
 
 pub kept-bit-spec : {M : Type 1} → statement M
 kept-bit-spec =
@@ -38,10 +35,9 @@ kept-bit-spec =
     (tie.spec
     shared-slice-read-if1
     returns
-    first-of-requires
+    pair-of-requires
     get-requires
     returns-2
-    second-of-requires
     get-requires-2
     returns-3
     returns-4)

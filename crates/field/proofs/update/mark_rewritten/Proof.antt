@@ -12,14 +12,11 @@ get-requires c κs = search needs
 returns : tie.Need-returns
 returns c = rewritten-not _ _ (search needs) _ _ _ (sym (c .before .get .ensures) ∙ c .if1 .taken)
 
-first-of-requires : tie.Need-first-of-requires
-first-of-requires c κs = search needs
+pair-of-requires : tie.Need-pair-of-requires
+pair-of-requires c κs = search needs
 
 class-of-requires : tie.Need-class-of-requires
 class-of-requires c κs = search needs
-
-second-of-requires : tie.Need-second-of-requires
-second-of-requires c κs = search needs
 
 class-of-requires-2 : tie.Need-class-of-requires-2
 class-of-requires-2 c κs = search needs
@@ -31,7 +28,7 @@ same-length : tie.Need-same-length
 same-length c = search needs
 
 returns-2 : tie.Need-returns-2
-returns-2 c = rewritten-pair _ (c .before .before .before .before .before .before .before .before .before .before .before .before .before .args .k) (search needs) (c .before .before .before .before .before .before .before .before .before .before .before .before .before .args .area .now) (c .before .before .before .before .before .before .before .before .before .before .before .before .before .args .at) _ (λ z. c .before .before .before .before .before .before .before .before .if1 .left (c .before .before .before .before .before .before .before .before .before .get .ensures ∙ z)) (c .before .before .before .before .before .before .class-of .result) (c .before .before .before .before .class-of2 .result) (rw (← c .before .before .before .before .before .before .before .first-of .ensures .is) (c .before .before .before .before .before .before .class-of .ensures)) (rw (← c .before .before .before .before .before .second-of .ensures .is) (c .before .before .before .before .class-of2 .ensures)) _ (c .before .before .mark-pair .ensures)
+returns-2 c = rewritten-pair _ (c .before .before .before .before .before .before .before .before .before .before .before .before .args .k) (search needs) (c .before .before .before .before .before .before .before .before .before .before .before .before .args .area .now) (c .before .before .before .before .before .before .before .before .before .before .before .before .args .at) _ (λ z. c .before .before .before .before .before .before .before .if1 .left (c .before .before .before .before .before .before .before .before .get .ensures ∙ z)) (c .before .before .before .before .before .class-of .result) (c .before .before .before .before .class-of2 .result) (rw (← c .before .before .before .before .before .before .pair-of .ensures .first .is) (c .before .before .before .before .before .class-of .ensures)) (rw (← c .before .before .before .before .before .before .pair-of .ensures .second .is) (c .before .before .before .before .class-of2 .ensures)) _ (c .before .before .mark-pair .ensures)
 
 pub mark-rewritten-spec : {M : Type 1} → statement M
 mark-rewritten-spec =
@@ -39,9 +36,8 @@ mark-rewritten-spec =
     (tie.spec
     get-requires
     returns
-    first-of-requires
+    pair-of-requires
     class-of-requires
-    second-of-requires
     class-of-requires-2
     mark-pair-requires
     same-length
