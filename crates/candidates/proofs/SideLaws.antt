@@ -7,7 +7,7 @@ use native.Mathlib.Omega.{arith}
 use lib.Dec.{leb}
 use lib.ListN.{length, getD}
 use borrow.Author.Tests.{leb-true, leb-false}
-use Rattle.candidates.specs.LabelWalk.{Leads, SideIs}
+use Rattle.candidates.specs.LabelWalk.{Leads, singleSide, SideIs}
 use Rattle.candidates.specs.Passing.{MiddleIs}
 use Rattle.candidates.specs.Tally.{endAt}
 use Rattle.candidates.specs.Tallying.{numberAt}
@@ -31,7 +31,7 @@ module _ (s t : List ℕ) (at number : ℕ) (silently : Bool) where
   lead-start question args inner depth calls r T N = N
 
   module _ (b n : ℕ) (on : at ≤ b) (L : Leads s t at number silently b n) where
-    pub side-one : (b < length s → 5 < getD s b 0 → getD s b 0 < 8 → ⊥) → SideIs s t at number silently (record { at = b; number = n; middle = 0 })
+    pub side-one : (b < length s → 5 < getD s b 0 → getD s b 0 < 8 → ⊥) → SideIs s t at number silently (singleSide b n)
     side-one one = record { on = on; one = λ z. one; is = λ z. L; inside = λ z. absurd (omega arith); met = λ z. absurd (omega arith) }
 
     module _ (l : 5 < getD s b 0) (g : getD s b 0 < 8) where

@@ -85,6 +85,10 @@ Leads s t at number silently b n =
     → NthIs question s b n silently args inner depth calls r
     → NthIs question s at number silently args inner depth calls r
 
+-- the answer that the code builds for one term
+abbrev pub singleSide : ℕ → ℕ → Side
+singleSide at number = record { at = at; number = number; middle = 0 }
+
 -- Where the candidate of this number is found beneath choices and parallels: at one term, or among the communications of a parallel.
 pub record SideIs (s t : List ℕ) (at number : ℕ) (silently : Bool) (r : Side) : Type 0 where
   pub on : at ≤ r .at

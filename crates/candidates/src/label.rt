@@ -4,7 +4,7 @@ ghost use mathlib.Core.Path.{_≡_};
 ghost use Prim.Native.Nat.{_+_, _≤_, _<_};
 ghost use lib.ListN.{length, getD};
 ghost use Rattle.terms.specs.Limits.{nameCount, greatestArity, longestTerm};
-ghost use Rattle.candidates.specs.LabelWalk.{slotAt, ArgumentsIs, prefixAction, PrefixLabelIs, RestrictionsIs, LeavesIs, pastOf, OutsideOfIs, Within, NthIs, MeetingIs, SideIs};
+ghost use Rattle.candidates.specs.LabelWalk.{slotAt, ArgumentsIs, prefixAction, PrefixLabelIs, RestrictionsIs, LeavesIs, pastOf, OutsideOfIs, Within, NthIs, MeetingIs, singleSide, SideIs};
 ghost use Rattle.candidates.specs.Slots.{slotCount};
 ghost use Rattle.candidates.specs.Tally.{EndsInside, TallyIs, BodiesTallied};
 use crate::action::Action;
@@ -153,6 +153,17 @@ pub struct Side {
     pub middle: usize,
 }
 
+// At the one term at `at`.
+fn single(at: usize, number: usize) -> Side
+    ensures { λ r. ⌜ r ≡ singleSide at number ⌝ }
+{
+    Side {
+        at,
+        number,
+        middle: 0,
+    }
+}
+
 // From the term at `at` down to where its candidate number `i` is found: no label is held on the way. The left side's candidates come first,
 // then the right side's, and then the communications.
 fn side_of(src: &[u8], tally: &[u32], at: usize, i: usize, silent: bool) -> Side
@@ -164,18 +175,10 @@ fn side_of(src: &[u8], tally: &[u32], at: usize, i: usize, silent: bool) -> Side
     while b < src.len() {
         let t = src[b];
         if t < 6 {
-            return Side {
-                at: b,
-                number: n,
-                middle: 0,
-            };
+            return single(b, n);
         }
         if 7 < t {
-            return Side {
-                at: b,
-                number: n,
-                middle: 0,
-            };
+            return single(b, n);
         }
         let left = number_at(tally, b + 1, silent);
         if n < left {
@@ -194,11 +197,7 @@ fn side_of(src: &[u8], tally: &[u32], at: usize, i: usize, silent: bool) -> Side
             b = middle;
         }
     }
-    Side {
-        at: b,
-        number: n,
-        middle: 0,
-    }
+    single(b, n)
 }
 
 // The communications of the two sides of the parallel at `at`: their numbers are those of the left side's visible candidates times the number

@@ -22,11 +22,17 @@ loop-holds c = (omega arith, lead-start _ _ _ _ _)
 shared-slice-read-t : tie.Need-shared-slice-read-t Inv-loop μ-loop
 shared-slice-read-t c = search needs
 
+single-requires : tie.Need-single-requires Inv-loop μ-loop
+single-requires c κs = search needs
+
 returns : tie.Need-returns Inv-loop μ-loop
-returns c = side-one (c .before .before .before .before .before .before .args .src .now) (c .before .before .before .before .before .before .args .tally .now) (c .before .before .before .before .before .before .args .at) (c .before .before .before .before .before .before .args .i) (c .before .before .before .before .before .before .args .silent) (c .before .before .before .loop .b) (c .before .before .before .loop .n) (c .before .before .before .loop .inv .0) (c .before .before .before .loop .inv .1) (λ h l g. omega (arith, c .if1 .taken))
+returns c = rw (c .single .ensures) (side-one (c .before .before .before .before .before .before .before .args .src .now) (c .before .before .before .before .before .before .before .args .tally .now) (c .before .before .before .before .before .before .before .args .at) (c .before .before .before .before .before .before .before .args .i) (c .before .before .before .before .before .before .before .args .silent) (c .before .before .before .before .loop .b) (c .before .before .before .before .loop .n) (c .before .before .before .before .loop .inv .0) (c .before .before .before .before .loop .inv .1) (λ h l g. omega (arith, c .before .if1 .taken)))
+
+single-requires-2 : tie.Need-single-requires-2 Inv-loop μ-loop
+single-requires-2 c κs = search needs
 
 returns-2 : tie.Need-returns-2 Inv-loop μ-loop
-returns-2 c = side-one (c .before .before .before .before .before .before .before .args .src .now) (c .before .before .before .before .before .before .before .args .tally .now) (c .before .before .before .before .before .before .before .args .at) (c .before .before .before .before .before .before .before .args .i) (c .before .before .before .before .before .before .before .args .silent) (c .before .before .before .before .loop .b) (c .before .before .before .before .loop .n) (c .before .before .before .before .loop .inv .0) (c .before .before .before .before .loop .inv .1) (λ h l g. omega (arith, c .if2 .taken))
+returns-2 c = rw (c .single2 .ensures) (side-one (c .before .before .before .before .before .before .before .before .args .src .now) (c .before .before .before .before .before .before .before .before .args .tally .now) (c .before .before .before .before .before .before .before .before .args .at) (c .before .before .before .before .before .before .before .before .args .i) (c .before .before .before .before .before .before .before .before .args .silent) (c .before .before .before .before .before .loop .b) (c .before .before .before .before .before .loop .n) (c .before .before .before .before .before .loop .inv .0) (c .before .before .before .before .before .loop .inv .1) (λ h l g. omega (arith, c .before .if2 .taken)))
 
 add-number-at : tie.Need-add-number-at Inv-loop μ-loop
 add-number-at c = search needs
@@ -58,8 +64,11 @@ loop-less-2 c = omega (arith, c .before .before .before .before .before .before 
 loop-again-2 : tie.Need-loop-again-2 Inv-loop μ-loop
 loop-again-2 c = (omega (arith, c .before .before .before .before .before .before .before .before .before .loop .inv .0, middle-past (c .before .before .before .before .before .before .before .before .before .before .before .before .args .src .now) (c .before .before .before .before .before .before .before .before .before .before .before .before .args .tally .now) (c .before .before .before .before .before .before .before .before .before .before .before .before .pre .1) (c .before .before .before .before .before .before .before .before .before .loop .b) (c .before .before .middle-of .result) (c .before .before .middle-of .ensures) (c .before .before .before .before .before .before .before .before .loop-test .taken)), lead-right (c .before .before .before .before .before .before .before .before .before .before .before .before .args .src .now) (c .before .before .before .before .before .before .before .before .before .before .before .before .args .tally .now) (c .before .before .before .before .before .before .before .before .before .before .before .before .args .at) (c .before .before .before .before .before .before .before .before .before .before .before .before .args .i) (c .before .before .before .before .before .before .before .before .before .before .before .before .args .silent) (c .before .before .before .before .before .before .before .before .before .loop .b) (c .before .before .before .before .before .before .before .before .before .loop .n) (c .before .before .before .before .before .before .before .before .before .loop .inv .0) (c .before .before .before .before .before .before .before .before .before .loop .inv .1) (omega (arith, c .before .before .before .before .before .before .if1 .left)) (omega (arith, c .before .before .before .before .before .if2 .left)) (c .before .before .middle-of .result) (c .before .before .middle-of .ensures) (omega (arith, c .before .before .before .before .number-at .ensures, c .before .before .before .if3 .left)) _ (ap (λ (n : ℕ). c .before .before .before .before .before .before .before .before .before .loop .n - n) (c .before .before .before .before .number-at .ensures)) (rw (c .before .number-at2 .ensures) at (c .if4 .left)))
 
+single-requires-3 : tie.Need-single-requires-3 Inv-loop μ-loop
+single-requires-3 c κs = search needs
+
 returns-4 : tie.Need-returns-4 Inv-loop μ-loop
-returns-4 c = side-one (c .before .before .before .before .args .src .now) (c .before .before .before .before .args .tally .now) (c .before .before .before .before .args .at) (c .before .before .before .before .args .i) (c .before .before .before .before .args .silent) (c .before .loop .b) (c .before .loop .n) (c .before .loop .inv .0) (c .before .loop .inv .1) (λ h l g. omega (arith, c .loop-test .left))
+returns-4 c = rw (c .single3 .ensures) (side-one (c .before .before .before .before .before .args .src .now) (c .before .before .before .before .before .args .tally .now) (c .before .before .before .before .before .args .at) (c .before .before .before .before .before .args .i) (c .before .before .before .before .before .args .silent) (c .before .before .loop .b) (c .before .before .loop .n) (c .before .before .loop .inv .0) (c .before .before .loop .inv .1) (λ h l g. omega (arith, c .before .loop-test .left)))
 
 pub side-of-spec : {M : Type 1} → statement M
 side-of-spec =
@@ -69,7 +78,9 @@ side-of-spec =
     μ-loop
     loop-holds
     shared-slice-read-t
+    single-requires
     returns
+    single-requires-2
     returns-2
     add-number-at
     number-at-requires
@@ -81,4 +92,5 @@ side-of-spec =
     returns-3
     loop-less-2
     loop-again-2
+    single-requires-3
     returns-4)
