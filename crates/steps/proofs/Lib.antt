@@ -32,6 +32,7 @@ pub mod QuietWalks
 pub mod RaisedMeetings
 pub mod RawComplete
 pub mod RawSound
+pub mod ResultScope
 pub mod RowLaws
 pub mod RowWalks
 pub mod SameLaws

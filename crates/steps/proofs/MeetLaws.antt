@@ -236,10 +236,13 @@ module _ (K : List Frame) (d : ℕ) (level : restrictions K ≡ d) (s t : Candid
         let n : v .name ≡ u .name = slot-one nameCount d (v .name) (u .name) (v .below) (u .below) (v .slot ∙ sym e ∙ sym (u .slot)) in
         record { name = u .name; result = C; own = f ∙ (λ i. step ((u .name, n i) ∷ []) tauA C); outer = b; whole = B; is = g }
 
+    pub merged-inside : (c₁ ≡ c₂ → ⊥) → c₂ < nameCount + d
+    merged-inside n = let (g₁, g₂) = is-mergeable c₁ c₂ (opposite .1) n in omega arith
+
     pub pair-merged : (c₁ ≡ c₂ → ⊥) → (B : Term) × (raised K (communication s t) ≡ step ((c₁, c₂) ∷ []) tauA B)
     pair-merged n =
         let (g₁, g₂) = is-mergeable c₁ c₂ (opposite .1) n in
-        let h : c₂ < nameCount + d = omega arith in
+        let h : c₂ < nameCount + d = merged-inside n in
         let u = first-of h in
         let v = second-of h in
         let (C, f) = meeting h in

@@ -14,6 +14,7 @@ use Rattle.calculus.proofs.Renaming.{ren-id}
 use Rattle.terms.specs.Limits.{nameCount}
 use Rattle.terms.proofs.Answers.{both-true}
 use Rattle.candidates.specs.Labels.{actionOf, ActionBelow}
+use Rattle.candidates.specs.Names.{OwnNames}
 use Rattle.candidates.specs.Passing.{candidates}
 use Rattle.candidates.specs.Raw.{Candidate, step, meet, communication}
 use Rattle.candidates.specs.Results.{receiving}
@@ -21,15 +22,16 @@ use Rattle.candidates.specs.Slots.{slotOf}
 use Rattle.steps.specs.Collecting.{PutIs}
 use Rattle.steps.specs.Contexts.{Frame, raised, restrictions}
 use Rattle.steps.specs.Deciding.{decided}
-use Rattle.steps.specs.Locating.{Unextruded, TakeMetIs}
+use Rattle.steps.specs.Locating.{Unextruded, Classed, TakeMetIs}
 use Rattle.steps.specs.Meeting.{mayMeet, senderOf, sendsFree, Unblocked, PairIs}
 use Rattle.steps.specs.PartLister.{candidatesOf, TakeIs}
 use Rattle.steps.specs.Rows.{actionKind, rowAction, Outlined}
 use Rattle.steps.specs.Walking.{Trivial, stepAction, PutPlacedIs, PutClassedIs}
 use Rattle.steps.specs.declared.meet.Side.{Side}
 use Rattle.steps.proofs.DecidingLaws.{decided-step, met-like, like-trivial}
-use Rattle.steps.proofs.MeetLaws.{trivial-match, opposite, pair-same, pair-merged}
+use Rattle.steps.proofs.MeetLaws.{trivial-match, opposite, pair-same, merged-inside, pair-merged}
 use Rattle.steps.proofs.MetLaws.{From, raised-from, unopened-of}
+use Rattle.steps.proofs.ResultScope.{silent-scope}
 use Rattle.steps.proofs.RowLaws.{row-act, plain-step}
 
 -- The kind of a row that stands beneath no match.
@@ -150,26 +152,32 @@ module _ (question part : List ℕ) (at depth number : ℕ) (a b : Side) (j x : 
           (T .is q P lists (S .condition) tauA B (p .silently .is j h ∙ ap (raised K) f ∙ S .is) (λ n h. is n h ∙ (λ i. sym (S .same) i n)) refl);
     }
 
-    pub pair-met : a .channel ≡ b .channel → (from : Side) → from ≡ senderOf a b → sendsFree depth from ≡ true
-        → TakeMetIs question part at depth (a .number) (b .number) (from .object) area count r area′ → PairIs question part at depth number a b j x area count r area′
+    -- As [Com] of two components in their places, whatever their condition is.
+    met-of : (from : Side) → from ≡ senderOf a b → sendsFree depth from ≡ true → (merges : Bool) (class : List ℕ)
+        → TakeMetIs question part at depth (a .number) (b .number) (from .object) merges class area count r area′
+        → ((K : List Frame) → restrictions K ≡ depth → (s t : Candidate) → Unblocked depth (decided depth s) (a .kind) (a .channel) (a .object)
+        → Outlined depth (decided depth t) (b .kind) (b .channel) (b .object) → mayMeet (a .kind) (a .channel) (b .kind) (b .channel) ≡ true
+        → (M : Cond) × (W : Term) × (raised K (communication s t) ≡ step M tauA W) × Classed merges class M × (b .channel < nameCount + depth))
+        → PairIs question part at depth number a b j x area count r area′
     unfolding Unblocked senderOf sendsFree
-    pair-met e from is free₀ T₀ = record {
+    met-of from is free₀ merges class T₀ whole = record {
       is = λ q P lists K L R first p s t hv es hw et left right m h f.
           let free = subst (λ (d : Side). eqb (d .kind) 2 && ltb (d .object) (nameCount + depth) ≡ true) is free₀ in
-          let T = subst (λ (d : Side). TakeMetIs question part at depth (a .number) (b .number) (d .object) area count r area′) is T₀ in
+          let T = subst (λ (d : Side). TakeMetIs question part at depth (a .number) (b .number) (d .object) merges class area count r area′) is T₀ in
           let (o, w) = left in
-          let S = on-one e K (p .level) s t left right m in
-          let F = S .from in
+          let (M, W, ws, classed, inside) = whole K (p .level) s t left right m in
+          let F = raised-from K (communication s t) M tauA W ws in
           let turned = rw (plain-kind (a .kind) k, plain-kind (b .kind) l) at (opposite K depth (p .level) (decided depth s) (decided depth t) (a .kind) (a .channel) (a .object) (b .kind) (b .channel) (b .object) o w right k l m .0) in
           let (α, A, d, g, n₁) = plain-step depth (a .kind) (a .channel) (a .object) (decided depth s) k o w in
-          let (β, B, u, v, n₂) = plain-step depth (b .kind) (b .channel) (b .object) (decided depth t) l right (omega arith) in
+          let (β, B, u, v, n₂) = plain-step depth (b .kind) (b .channel) (b .object) (decided depth t) l right inside in
           let one = decided-step depth s [] α A d in
           let two = decided-step depth t [] β B u in
           let C = com-of (eqb (a .kind) 1) refl turned α A β B g v n₁ n₂ free in
           let result = C .meets (one .condition) (two .condition) (F .condition) (F .action) (F .result) ((λ i. communication (sym (one .is) i) (sym (two .is) i)) ∙ F .own) in
-          subst (λ c. PutIs c x area count r area′) (sym (S .is))
+          let scope = silent-scope question q P (lists .accepted) (lists .scope) (number + j) (omega (arith, p .silently .inside)) M W (p .silently .is j h ∙ ap (raised K) f ∙ ws) in
+          subst (λ c. PutIs c x area count r area′) (sym ws)
           (T .is q P x lists K L R first number p hv hw (one .condition) α A (sym es ∙ one .is) (C .left) (two .condition) β B (sym et ∙ two .is) (C .right) (C .y) (C .sent) (C .below)
-          (F .condition) (S .condition) (S .whole) ((λ i. raised K (step (F .condition) (sym (result .0) i) (sym (result .1) i))) ∙ F .is) (S .asks));
+          (F .condition) M W ((λ i. raised K (step (F .condition) (sym (result .0) i) (sym (result .1) i))) ∙ F .is) classed scope);
     }
       where
         com-of : (c : Bool) → eqb (a .kind) 1 ≡ c → eqb (b .kind) 1 ≡ not c → (α : Act) (A : Term) (β : Act) (B : Term)
@@ -182,3 +190,23 @@ module _ (question part : List ℕ) (at depth number : ℕ) (a b : Side) (j x : 
         com-of false i t α A β B g v n₁ n₂ z =
             let (y, o) = both-true (eqb (a .kind) 2) (ltb (a .object) (nameCount + depth)) z in
             com-right a b depth α A β B g v (eqb-true (a .kind) 2 y) (eqb-true (b .kind) 1 t) (ltb-true (a .object) (nameCount + depth) o) n₁
+
+    pub pair-met : a .channel ≡ b .channel → (from : Side) → from ≡ senderOf a b → sendsFree depth from ≡ true → (class : List ℕ) → OwnNames 0 class
+        → TakeMetIs question part at depth (a .number) (b .number) (from .object) false class area count r area′
+        → PairIs question part at depth number a b j x area count r area′
+    unfolding OwnNames Trivial Unblocked
+    pair-met e from is free class own T =
+        met-of from is free false class T (λ K level s t left right m.
+        let S = on-one e K level s t left right m in
+        (S .condition, S .whole, S .is, record { classes = λ n h. own n (omega arith) ∙ sym (S .asks n); trivial = λ z. S .asks }, omega (arith, e, left .1)))
+
+    pub pair-merging : (a .channel ≡ b .channel → ⊥) → (from : Side) → from ≡ senderOf a b → sendsFree depth from ≡ true
+        → (class : List ℕ) → ((n : ℕ) → n < nameCount → getD class n 0 ≡ join (a .channel) (b .channel) n)
+        → TakeMetIs question part at depth (a .number) (b .number) (from .object) true class area count r area′
+        → PairIs question part at depth number a b j x area count r area′
+    unfolding Unblocked cls
+    pair-merging n from is free class joined T =
+        met-of from is free true class T (λ K level s t (o, w) right m.
+        let (B, e) = pair-merged K depth level (decided depth s) (decided depth t) (a .kind) (a .channel) (a .object) (b .kind) (b .channel) (b .object) o w right k l m n in
+        let S = met-like K depth level s t ((a .channel, b .channel) ∷ []) tauA B e in
+        (S .condition, B, S .is, record { classes = λ n h. joined n h ∙ (λ i. sym (S .same) i n); trivial = λ z. let n : _≡_ {A = ℕ} 0 1 = cc in absurd (omega arith) }, merged-inside K depth level (decided depth s) (decided depth t) (a .kind) (a .channel) (a .object) (b .kind) (b .channel) (b .object) o w right k l m n))

@@ -266,11 +266,11 @@ module _ (question part tally : List ℕ) (T : TallyIs question part 1 tally) (a
       is = ap (encode 0) e ∙ bytes X Y;
     }
 
-  pub met-taken : (new : ℕ) → new ≡ tableSlot object → (area : List ℕ) (count r : ℕ) (area′ : List ℕ)
-      → PutMetIs question part left right new area count r area′ → TakeMetIs question part at depth v w object area count r area′
+  pub met-taken : (new : ℕ) → new ≡ tableSlot object → (merges : Bool) (class area : List ℕ) (count r : ℕ) (area′ : List ℕ)
+      → PutMetIs question part left right new merges class area count r area′ → TakeMetIs question part at depth v w object merges class area count r area′
   unfolding Leads Unopened receiving
-  met-taken new slot area count r area′ put = record {
-    is = λ q P x lists K L R first number p hv hw M₁ α A ea ua M₂ β B eb ub y sent below N₁ M W e t.
+  met-taken new slot merges class area count r area′ put = record {
+    is = λ q P x lists K L R first number p hv hw M₁ α A ea ua M₂ β B eb ub y sent below N₁ M W e c scope.
         let h = subst (λ (n : ℕ). HasNew depth n y) (sym slot) (new-sent depth y object sent below) in
         let pl = placed-left p in
         let pr = placed-right p in
@@ -288,5 +288,5 @@ module _ (question part tally : List ℕ) (T : TallyIs question part 1 tally) (a
         let whole : W ≡ fill K (par (fill (l .frames) (ren (receiving (l .name) (λ n. n) (l .action)) (l .result))) (fill (r .frames) (ren (receiving (r .name) (λ n. n) (r .action)) (r .result)))) =
         sym (ren-id W) ∙ filled-result K M tauA W 0 N₁ tauA (par one-side other-side) e tt ∙ ap (fill K) (ren-id (par one-side other-side))
         ∙ ap₂ (λ (C D : Term). fill K (par C D)) (l .filled) (r .filled) in
-        put .is q x M W (lists .accepted) t (holes q P x lists K L R first number p α A β B y new l r ends W whole);
+        put .is q x M W (lists .accepted) c scope (holes q P x lists K L R first number p α A β B y new l r ends W whole);
   }

@@ -2,23 +2,30 @@
 use borrow.Author.Tests.{leb-true, leb-false}
 use mathlib.Core.Bool.{Bool, true, false}
 use mathlib.Core.List.{List}
-use mathlib.Core.Path.{_≡_, refl, sym, _∙_, ap, ap₂}
+use mathlib.Core.Path.{_≡_, refl, sym, _∙_, ap, ap₂, subst}
 use native.Mathlib.Omega.{arith}
 use Prim.Native.Nat.{ℕ, _+_, _<_, _≤_}
 use lib.Dec.{leb}
-use lib.ListN.{length, take}
+use lib.ListN.{length, take, drop}
 use Rattle.calculus.specs.Abstraction.{Act, tauA, inpA, outA, boutA}
-use Rattle.calculus.specs.Cond.{Cond}
+use Rattle.calculus.specs.Cond.{Cond, cls}
+use Rattle.calculus.specs.Term.{ren}
+use Rattle.calculus.proofs.Conditions.{cls-le}
 use Rattle.calculus.proofs.Renaming.{ren-id}
-use Rattle.terms.specs.Encoding.{encode}
+use Rattle.terms.specs.Encoding.{encode, InScope}
 use Rattle.terms.specs.Limits.{nameCount, longestTerm}
+use Rattle.terms.specs.Renaming.{RenameIs}
+use Rattle.terms.proofs.NameTables.{represents-free}
+use Rattle.terms.proofs.Shapes.{length-ren}
+use Rattle.terms.proofs.Stores.{sets-start}
+use Rattle.candidates.specs.Bodies.{AritiesIs}
 use Rattle.candidates.specs.Names.{OwnNames}
 use Rattle.candidates.specs.Results.{receiving}
 use Rattle.steps.specs.Collecting.{PutIs}
 use Rattle.steps.specs.Entries.{InsertIs}
 use Rattle.steps.specs.EntryBytes.{entryBytes}
 use Rattle.steps.specs.Limits.{mostSteps}
-use Rattle.steps.specs.Listed.{kindOf, channelOf, objectOf, canonStep, resultBytes}
+use Rattle.steps.specs.Listed.{kindOf, channelOf, objectOf, listedAs, canonStep, resultBytes}
 use Rattle.steps.specs.Locating.{MetResultIs, PutMetIs}
 use Rattle.steps.specs.PartLister.{ResultIs}
 use Rattle.steps.specs.Walking.{Trivial, PlacedResultIs, stepAction, PutResultIs, PutPlacedIs, PutClassedIs}
@@ -91,12 +98,36 @@ placed-put question part at depth silently j action x area count r area′ out r
       p .is out x M α A size (w .is q P l K C first number M α A raises t) (λ k h. own k (omega arith) ∙ sym (t k)) acts;
 }
 
-pub met-put : (question part : List ℕ) (left right : Located) (new : ℕ) (area : List ℕ) (count r : ℕ) (area′ out result class : List ℕ) (n : ℕ)
-    → length out ≡ longestTerm → OwnNames 0 class → MetResultIs question part left right new out n result
-    → PutResultIs class (record { kind = 0; channel = 0; object = 0 }) result n area count r area′ → PutMetIs question part left right new area count r area′
-unfolding OwnNames Trivial receiving stepAction
-met-put question part left right new area count r area′ out result class n size own w p = record {
-  is = λ q x M A ok t H.
-      let e : resultBytes (canonStep nameCount x M tauA A) ≡ encode 0 A = trivial-result x M tauA A t ∙ ap (encode 0) (ren-id A) in
-      p .is out x M tauA A size (rw e (w .is q (encode 0 A) ok H)) (λ k h. own k (omega arith) ∙ sym (t k)) refl;
-}
+module _ (question part : List ℕ) (left right : Located) (new : ℕ) (class area : List ℕ) (count r : ℕ) (area′ out result : List ℕ) (n : ℕ)
+    (size : length out ≡ longestTerm) (w : MetResultIs question part left right new out n result) where
+  pub met-put : PutResultIs class (record { kind = 0; channel = 0; object = 0 }) result n area count r area′
+      → PutMetIs question part left right new false class area count r area′
+  unfolding receiving stepAction
+  met-put p = record {
+    is = λ q x M A ok c scope H.
+        let e : resultBytes (canonStep nameCount x M tauA A) ≡ encode 0 A = trivial-result x M tauA A (c .trivial refl) ∙ ap (encode 0) (ren-id A) in
+        p .is out x M tauA A size (rw e (w .is q (encode 0 A) ok H)) (c .classes) refl;
+  }
+
+  -- Names are merged where the result stands.
+  pub met-merged : (arities : List ℕ) → AritiesIs question arities → (m : ℕ) (merged : List ℕ) → RenameIs result 0 arities class out 0 m merged
+      → PutResultIs class (record { kind = 0; channel = 0; object = 0 }) merged n area count r area′ → PutMetIs question part left right new true class area count r area′
+  unfolding stepAction canonStep listedAs resultBytes RenameIs AritiesIs
+  met-merged arities ar m merged R p = record {
+    is = λ q x M A ok c scope H.
+        let v = w .is q (encode 0 A) ok H in
+        let same : length (encode 0 (ren (cls M) A)) ≡ length (encode 0 A) = length-ren 0 0 (cls M) A in
+        p .is out x M tauA A size
+        (record {
+          fits = λ h.
+              let f = v .fits (omega (arith, same)) in (
+                omega (arith, f .0, same),
+                R nameCount 0 0 (cls M) A (drop (length (encode 0 A)) out) (omega arith)
+                    (represents-free class (cls M) (λ k l. (c .classes k l, omega (arith, cls-le M k))))
+                    (subst (λ (l : List ℕ). InScope nameCount l 0 A) (sym (ar q ok)) scope)
+                    (f .1 ∙ sets-start out (encode 0 A) (omega (arith, same))) (omega (arith, same, size)) (omega (arith, same)) .1,
+              );
+          over = λ h. v .over (omega (arith, same));
+        })
+        (c .classes) refl;
+  }

@@ -1,13 +1,13 @@
 -- The component of a term that makes a visible candidate, and a communication of two components, whose results are written between copies of
 -- the part: what the functions that do so promise.
 use mathlib.Core.Path.{_≡_}
-use mathlib.Core.Bool.{cond}
+use mathlib.Core.Bool.{Bool, false, cond}
 use mathlib.Core.List.{List, _++_}
 use Prim.Native.Nat.{ℕ, _+_, _<_, _≤_}
 use lib.Dec.{leb}
 use lib.ListN.{length, getD, drop}
 use Rattle.calculus.specs.Abstraction.{Act, tauA, inpA, outA, boutA}
-use Rattle.calculus.specs.Cond.{Cond}
+use Rattle.calculus.specs.Cond.{Cond, cls}
 use Rattle.calculus.specs.Term.{Term, par, ren}
 use Rattle.terms.specs.Answer.{result}
 use Rattle.terms.specs.Encoding.{encode, InScope}
@@ -96,9 +96,14 @@ pub record Holes (q : Question) (part : List ℕ) (left right : Located) (new : 
 pub record MetResultIs (question part : List ℕ) (left right : Located) (new : ℕ) (out : List ℕ) (r : ℕ) (out′ : List ℕ) : Type 0 where
   pub is : (q : Question) (bytes : List ℕ) → checkOf question ≡ result q → Holes q part left right new bytes → Written out 0 bytes r out′
 
--- A communication whose result has those bytes, put into the list.
-pub record PutMetIs (question part : List ℕ) (left right : Located) (new : ℕ) (area : List ℕ) (count r : ℕ) (area′ : List ℕ) : Type 0 where
-  pub is : (q : Question) (x : ℕ) (M : Cond) (A : Term) → checkOf question ≡ result q → Trivial M
+-- The classes of a condition, and whether it merges any names.
+pub record Classed (merges : Bool) (class : List ℕ) (M : Cond) : Type 0 where
+  pub classes : (n : ℕ) → n < nameCount → getD class n 0 ≡ cls M n
+  pub trivial : merges ≡ false → Trivial M
+
+-- A communication whose result has those bytes but for the names that its condition merges, put into the list.
+pub record PutMetIs (question part : List ℕ) (left right : Located) (new : ℕ) (merges : Bool) (class area : List ℕ) (count r : ℕ) (area′ : List ℕ) : Type 0 where
+  pub is : (q : Question) (x : ℕ) (M : Cond) (A : Term) → checkOf question ≡ result q → Classed merges class M → InScope nameCount (q .arities) 0 A
       → Holes q part left right new (encode 0 A) → PutIs (step M tauA A) x area count r area′
 
 -- No name is extruded.
@@ -113,7 +118,7 @@ unfoldable pub tableSlot : ℕ → ℕ
 tableSlot slot = cond (leb slot 15) slot (slot + 1)
 
 -- [Com]: the communication of the visible candidates number v and w of the sides of the parallel at `at`, where the name in a row's slot is sent.
-pub record TakeMetIs (question part : List ℕ) (at depth v w object : ℕ) (area : List ℕ) (count r : ℕ) (area′ : List ℕ) : Type 0 where
+pub record TakeMetIs (question part : List ℕ) (at depth v w object : ℕ) (merges : Bool) (class area : List ℕ) (count r : ℕ) (area′ : List ℕ) : Type 0 where
   pub is : (q : Question) (P : Term) (x : ℕ) → Lists question part x q P
       → (K : List Frame) (L R : Term) (first number : ℕ)
       → Placed (q .arities) (bodyOf (q .bodies)) P K (par L R) at depth first number
@@ -123,5 +128,5 @@ pub record TakeMetIs (question part : List ℕ) (at depth v w object : ℕ) (are
       → (M₂ : Cond) (β : Act) (B : Term) → getD (visible (bodyOf (q .bodies)) 1 R) w blocked ≡ step M₂ β B → Unextruded β
       → (y : ℕ) → slotOf nameCount depth y ≡ object → y < depth + nameCount
       → (N M : Cond) (W : Term)
-      → raised K (step N tauA (par (ren (receiving y (λ n. n) α) A) (ren (receiving y (λ n. n) β) B))) ≡ step M tauA W → Trivial M
-      → PutIs (step M tauA W) x area count r area′
+      → raised K (step N tauA (par (ren (receiving y (λ n. n) α) A) (ren (receiving y (λ n. n) β) B))) ≡ step M tauA W → Classed merges class M
+      → InScope nameCount (q .arities) 0 W → PutIs (step M tauA W) x area count r area′

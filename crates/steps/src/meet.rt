@@ -2,7 +2,7 @@
 ghost use mathlib.Core.Path.{_≡_};
 ghost use Prim.Native.Nat.{_+_, _*_, _≤_, _<_};
 ghost use lib.ListN.{length};
-ghost use Rattle.terms.specs.Limits.{longestTerm};
+ghost use Rattle.terms.specs.Limits.{nameCount, longestTerm};
 ghost use Rattle.candidates.specs.Tally.{TallyIs, BodiesTallied};
 ghost use Rattle.steps.specs.Limits.{mostSteps, listRoom};
 ghost use Rattle.steps.specs.Locating.{tableSlot, TakeMetIs};
@@ -19,6 +19,7 @@ use crate::put::put_placed;
 use crate::rows::MATCHED;
 use crate::rows::REPEATED;
 use crate::rows::ROW_BYTES;
+use crate::splice::own_names;
 use candidates::pass::middle_of;
 use terms::limits::NAME_COUNT;
 use terms::tables::merging;
@@ -155,7 +156,7 @@ fn table_slot(slot: u8) -> u8
 }
 
 // Puts the communication of the visible candidates number `v` and `w` of the sides of the parallel at `at` into the list, where `object` is the slot of
-// the name that is sent and nothing is extruded.
+// the name that is sent and nothing is extruded. `class` are the classes of its condition, if that merges names.
 fn take_met(
     question: &[u8],
     bodies: &[u32],
@@ -166,17 +167,31 @@ fn take_met(
     v: usize,
     w: usize,
     object: u8,
+    merges: bool,
+    class: &[u8],
     area: &mut [u8],
     count: usize,
 ) -> usize
-    requires { ⌜ (count ≤ mostSteps) × (listRoom ≤ length (now area)) × (length (now part) ≤ longestTerm) × TallyIs (now question) (now part) 1 (now tally) × BodiesTallied (now question) (now bodies) × (depth ≤ at) × (at < length (now part)) × (object < 255) ⌝ }
-    ensures { λ r. ⌜ TakeMetIs (now (question .entry)) (now (part .entry)) at depth v w object (now (area .entry)) count r (now (area .exit)) ⌝ }
+    requires { ⌜ (count ≤ mostSteps) × (listRoom ≤ length (now area)) × (length (now part) ≤ longestTerm) × TallyIs (now question) (now part) 1 (now tally) × BodiesTallied (now question) (now bodies) × (depth ≤ at) × (at < length (now part)) × (object < 255) × (nameCount ≤ length (now class)) ⌝ }
+    ensures { λ r. ⌜ TakeMetIs (now (question .entry)) (now (part .entry)) at depth v w object merges (now (class .entry)) (now (area .entry)) count r (now (area .exit)) ⌝ }
 {
     let left = locate(part, tally, at + 1, depth, v);
     let middle = middle_of(part, tally, at);
     let right = locate(part, tally, middle, depth, w);
     let new = table_slot(object);
-    put_met(question, bodies, part, tally, left, right, new, area, count)
+    put_met(
+        question,
+        bodies,
+        part,
+        tally,
+        left,
+        right,
+        new,
+        merges,
+        class,
+        area,
+        count,
+    )
 }
 
 // Puts the communication of two candidates on one channel into the list.
@@ -200,6 +215,7 @@ fn take_same(
     let from = sender(a, b);
     if sends_free(from, depth) {
         let object = from.object;
+        let class = own_names(0);
         return take_met(
             question,
             bodies,
@@ -210,6 +226,8 @@ fn take_same(
             a.number,
             b.number,
             object,
+            false,
+            &class,
             area,
             count,
         );
@@ -228,6 +246,66 @@ fn take_same(
         depth,
         true,
         j,
+        action,
+        x,
+        area,
+        count,
+    )
+}
+
+// Puts the communication of two candidates on two channels, which its condition merges, into the list; `number` is that of the parallel's first
+// silent candidate.
+fn take_merging(
+    question: &[u8],
+    bodies: &[u32],
+    part: &[u8],
+    tally: &[u32],
+    at: usize,
+    depth: usize,
+    number: usize,
+    a: Side,
+    b: Side,
+    j: usize,
+    x: u8,
+    area: &mut [u8],
+    count: usize,
+) -> usize
+    requires { ⌜ (count ≤ mostSteps) × (listRoom ≤ length (now area)) × (length (now part) ≤ longestTerm) × TallyIs (now question) (now part) 1 (now tally) × BodiesTallied (now question) (now bodies) × (depth ≤ at) × (at < length (now part)) × (number + j ≤ mostNumbers + mostNumbers) × (a .kind ≤ 3) × (b .kind ≤ 3) × (a .channel ≡ b .channel → ⊥) ⌝ }
+    ensures { λ r. ⌜ PairIs (now (question .entry)) (now (part .entry)) at depth number a b j x (now (area .entry)) count r (now (area .exit)) ⌝ }
+{
+    let class = merging(a.channel, b.channel);
+    let from = sender(a, b);
+    if sends_free(from, depth) {
+        let object = from.object;
+        return take_met(
+            question,
+            bodies,
+            part,
+            tally,
+            at,
+            depth,
+            a.number,
+            b.number,
+            object,
+            true,
+            &class,
+            area,
+            count,
+        );
+    }
+    let action = ActionBytes {
+        kind: 0,
+        channel: 0,
+        object: 0,
+    };
+    put_classed(
+        question,
+        bodies,
+        part,
+        tally,
+        true,
+        number + j,
+        &class,
         action,
         x,
         area,
@@ -278,21 +356,17 @@ fn take_pair(
             count,
         );
     }
-    let class = merging(a.channel, b.channel);
-    let action = ActionBytes {
-        kind: 0,
-        channel: 0,
-        object: 0,
-    };
-    put_classed(
+    take_merging(
         question,
         bodies,
         part,
         tally,
-        true,
-        i,
-        &class,
-        action,
+        at,
+        depth,
+        number,
+        a,
+        b,
+        j,
         x,
         area,
         count,

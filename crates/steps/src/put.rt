@@ -16,12 +16,14 @@ use crate::locate::Located;
 use crate::splice::own_names;
 use crate::splice::write_met;
 use crate::splice::write_placed;
+use candidates::bodies::arities_of;
 use candidates::names::NAME_SLOTS;
 use candidates::result::Task;
 use candidates::result::write;
 use terms::bytes::copy;
 use terms::limits::LONGEST_TERM;
 use terms::limits::NAME_COUNT;
+use terms::rename::rename;
 
 // What the names are written as in a result: each as its class. The new name's slot has itself.
 fn result_names(class: &[u8]) -> [u8; NAME_SLOTS]
@@ -159,7 +161,8 @@ pub fn put_placed(
     put_result(&class, action, &result, n, area, count)
 }
 
-// Puts the communication of two components into the list, one of which receives the name in the slot `new`: [Com]. Its condition merges nothing.
+// Puts the communication of two components into the list, one of which receives the name in the slot `new`: [Com]. `class` are the classes of its
+// condition; where that merges names, they are merged where the result stands.
 pub fn put_met(
     question: &[u8],
     bodies: &[u32],
@@ -168,19 +171,25 @@ pub fn put_met(
     left: Located,
     right: Located,
     new: u8,
+    merges: bool,
+    class: &[u8],
     area: &mut [u8],
     count: usize,
 ) -> usize
-    requires { ⌜ (count ≤ mostSteps) × (listRoom ≤ length (now area)) × (length (now part) ≤ longestTerm) × (left .depth ≤ left .at) × (left .at ≤ length (now part)) × (right .depth ≤ right .at) × (right .at ≤ length (now part)) × TallyIs (now question) (now part) 1 (now tally) × BodiesTallied (now question) (now bodies) ⌝ }
-    ensures { λ r. ⌜ PutMetIs (now (question .entry)) (now (part .entry)) left right new (now (area .entry)) count r (now (area .exit)) ⌝ }
+    requires { ⌜ (count ≤ mostSteps) × (listRoom ≤ length (now area)) × (length (now part) ≤ longestTerm) × (left .depth ≤ left .at) × (left .at ≤ length (now part)) × (right .depth ≤ right .at) × (right .at ≤ length (now part)) × TallyIs (now question) (now part) 1 (now tally) × BodiesTallied (now question) (now bodies) × (nameCount ≤ length (now class)) ⌝ }
+    ensures { λ r. ⌜ PutMetIs (now (question .entry)) (now (part .entry)) left right new merges (now (class .entry)) (now (area .entry)) count r (now (area .exit)) ⌝ }
 {
     let mut result = [0u8; LONGEST_TERM];
     let n = write_met(question, bodies, part, tally, left, right, new, &mut result);
-    let class = own_names(0);
     let action = ActionBytes {
         kind: 0,
         channel: 0,
         object: 0,
     };
-    put_result(&class, action, &result, n, area, count)
+    if !merges {
+        return put_result(class, action, &result, n, area, count);
+    }
+    let mut merged = [0u8; LONGEST_TERM];
+    rename(&result, 0, arities_of(question), class, &mut merged, 0);
+    put_result(class, action, &merged, n, area, count)
 }

@@ -1,6 +1,6 @@
 -- `steps::meet::take_pair` meets its contract. Assumes nothing.
 use Rattle.steps.specs.Meeting.{SamePairIs}
-use Rattle.steps.proofs.MeetPairs.{pair-taken, pair-classed}
+use Rattle.steps.proofs.MeetPairs.{pair-taken}
 use native.Mathlib.Omega.{arith}
 use borrow.Author.Needs.{needs}
 use Rattle.steps.proofs.meet.take_pair.Statement.{statement}
@@ -37,20 +37,14 @@ returns-3 : tie.Need-returns-3
 unfolding SamePairIs
 returns-3 c = c .before .before .take-same .ensures (c .before .before .before .before .before .before .before .before .before .before .before .before .before .before .before .before .args .number)
 
-merging-requires : tie.Need-merging-requires
-merging-requires c κs = search needs
-
-slice-aggregate-put-classed : tie.Need-slice-aggregate-put-classed
-slice-aggregate-put-classed c = search needs
-
-put-classed-requires : tie.Need-put-classed-requires
-put-classed-requires c κs = search needs
+take-merging-requires : tie.Need-take-merging-requires
+take-merging-requires c κs = (c .before .before .before .before .before .before .before .before .before .before .before .before .before .pre .0, c .before .before .before .before .before .before .before .before .before .before .before .before .before .pre .1, c .before .before .before .before .before .before .before .before .before .before .before .before .before .pre .2, c .before .before .before .before .before .before .before .before .before .before .before .before .before .pre .3, c .before .before .before .before .before .before .before .before .before .before .before .before .before .pre .4, c .before .before .before .before .before .before .before .before .before .before .before .before .before .pre .5, c .before .before .before .before .before .before .before .before .before .before .before .before .before .pre .6, c .before .before .before .before .before .before .before .before .before .before .before .before .before .pre .7, omega (arith, c .before .before .before .before .before .before .if1 .left), omega (arith, c .before .before .before .before .if2 .left), c .before .if3 .left)
 
 same-length-4 : tie.Need-same-length-4
 same-length-4 c = search needs
 
 returns-4 : tie.Need-returns-4
-returns-4 c = pair-classed (c .before .before .before .before .before .before .before .before .before .before .before .before .before .before .before .before .before .before .args .question .now) (c .before .before .before .before .before .before .before .before .before .before .before .before .before .before .before .before .before .before .args .part .now) (c .before .before .before .before .before .before .before .before .before .before .before .before .before .before .before .before .before .before .args .at) (c .before .before .before .before .before .before .before .before .before .before .before .before .before .before .before .before .before .before .args .depth) (c .before .before .before .before .before .before .before .before .before .before .before .before .before .before .before .before .before .before .args .number) (c .before .before .before .before .before .before .before .before .before .before .before .before .before .before .before .before .before .before .args .a) (c .before .before .before .before .before .before .before .before .before .before .before .before .before .before .before .before .before .before .args .b) (c .before .before .before .before .before .before .before .before .before .before .before .before .before .before .before .before .before .before .args .j) (c .before .before .before .before .before .before .before .before .before .before .before .before .before .before .before .before .before .before .args .x) (c .before .before .before .before .before .before .before .before .before .before .before .before .before .before .before .before .before .before .args .area .now) (c .before .before .before .before .before .before .before .before .before .before .before .before .before .before .before .before .before .before .args .count) (c .before .before .put-classed .result) _ (omega (arith, c .before .before .before .before .before .before .before .before .before .before .before .if1 .left)) (omega (arith, c .before .before .before .before .before .before .before .before .before .if2 .left)) (c .before .before .before .before .before .before .if3 .left) _ (c .before .before .before .before .before .merging .ensures) (c .before .before .put-classed .ensures)
+returns-4 c = c .before .before .take-merging .ensures
 
 pub take-pair-spec : {M : Type 1} → statement M
 take-pair-spec =
@@ -66,8 +60,6 @@ take-pair-spec =
     take-same-requires
     same-length-3
     returns-3
-    merging-requires
-    slice-aggregate-put-classed
-    put-classed-requires
+    take-merging-requires
     same-length-4
     returns-4)
