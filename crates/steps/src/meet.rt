@@ -276,7 +276,7 @@ fn take_merging(
     let class = merging(a.channel, b.channel);
     let from = sender(a, b);
     if sends_free(from, depth) {
-        let object = from.object;
+        let sent = from.object;
         return take_met(
             question,
             bodies,
@@ -286,7 +286,7 @@ fn take_merging(
             depth,
             a.number,
             b.number,
-            object,
+            sent,
             true,
             &class,
             area,
