@@ -1,10 +1,10 @@
-//! The deepest walks that were found, each called on a stack of 288 KiB.
+//! The deepest walks that were found, each called on a stack of 352 KiB.
 
 use exchange::{Answer, SITUATION_BYTES, STEPS, STEP_BYTES};
 use generate::Fields;
 use std::thread;
 
-const STACK_BYTES: usize = 288 * 1024;
+const STACK_BYTES: usize = 352 * 1024;
 const CAPACITY: usize = 16;
 
 /// Repeats the first bytes, then ends with the others.
