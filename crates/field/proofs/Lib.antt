@@ -6,7 +6,6 @@ pub mod EntryLaws
 pub mod Explored
 pub mod ExploringLaws
 pub mod FieldIsSmallest
-pub mod FourPairs
 pub mod GrowingLaws
 pub mod Growth
 pub mod KeptFlags

@@ -2,7 +2,7 @@
 use mathlib.Core.Path.{_≡_}
 use mathlib.Core.Bool.{Bool, true, _&&_}
 use mathlib.Core.List.{List, _∷_}
-use Prim.Native.Nat.{ℕ, _+_, _<_, _≤_}
+use Prim.Native.Nat.{ℕ, _<_}
 use lib.ListN.{getD}
 use lib.Dec.{eqb}
 use Rattle.calculus.specs.Cond.{Pairs}
@@ -46,11 +46,6 @@ AddsPair flags a b flags′ = (D : Pairs) → flags ≡ flagsOf D → flags′ �
 -- A test that is met says that no flag is set.
 unfoldable pub NoneApartIs : List ℕ → Bool → Type 0
 NoneApartIs flags r = r ≡ true → (k : ℕ) → k < pairCount → getD flags k 0 ≡ 0
-
--- No flag of the four pairs from k on is set.
-pub record NoneOfFour (flags : List ℕ) (k : ℕ) : Type 0 where
-  pub inside : k + 4 ≤ pairCount
-  pub none : (j : ℕ) → j < 4 → getD flags (k + j) 0 ≡ 0
 
 -- whether pair k is held apart and merged
 unfoldable pub MergesIs : List ℕ → ℕ → List ℕ → ℕ → Bool → Type 0

@@ -1,11 +1,9 @@
 // Sets of apart pairs as one flag a pair of names, in the order 0-1, 0-2 up to 14-15.
-ghost use mathlib.Core.Bool.{true};
 ghost use mathlib.Core.Path.{_≡_};
 ghost use Prim.Native.Nat.{_<_, _≤_};
 ghost use lib.ListN.{length};
 ghost use Rattle.terms.specs.Limits.{nameCount};
-ghost use Rattle.field.specs.PairFlags.{pairCount, PairOfIs, NumberIs, AddsPair, NoneApartIs, NoneOfFour, MergesIs, PermittedIs};
-use crate::chains::word;
+ghost use Rattle.field.specs.PairFlags.{pairCount, PairOfIs, NumberIs, AddsPair, NoneApartIs, MergesIs, PermittedIs};
 use crate::entries::class_of;
 use crate::entries::trivial;
 use terms::bytes::get;
@@ -112,20 +110,6 @@ pub fn none_apart(flags: &[u8]) -> bool
     none
 }
 
-// Whether none of the four pairs from `k` on is apart. Most often few are.
-fn none_of_four(flags: &[u8], k: usize) -> bool
-    requires { ⌜ k < pairCount ⌝ }
-    ensures { λ r. ⌜ (r ≡ true → NoneOfFour (now (flags .entry)) k) ⌝ }
-{
-    if PAIR_COUNT < k + 4 {
-        return false;
-    }
-    if flags.len() < k + 4 {
-        return false;
-    }
-    word(flags, k) == 0
-}
-
 // Whether pair `k` is apart and the step's condition merges it.
 fn merges(apart: &[u8], k: usize, area: &[u8], at: usize) -> bool
     requires { ⌜ (k < pairCount) × (at ≤ length (now area)) ⌝ }
@@ -151,14 +135,10 @@ pub fn permitted(apart: &[u8], area: &[u8], at: usize) -> bool
     }
     let mut k = 0;
     while k < PAIR_COUNT {
-        if none_of_four(apart, k) {
-            k += 4;
-        } else {
-            if merges(apart, k, area, at) {
-                return false;
-            }
-            k += 1;
+        if merges(apart, k, area, at) {
+            return false;
         }
+        k += 1;
     }
     true
 }

@@ -1,10 +1,9 @@
 -- `field::pairs::permitted` meets its contract. Assumes nothing.
 use native.Mathlib.Omega.{arith}
+use borrow.Author.Needs.{needs}
 use Prim.Native.Nat.{_-_, _≤_}
 use Rattle.field.specs.PairFlags.{pairCount}
-use Rattle.field.proofs.FourPairs.{respected-four}
 use Rattle.field.proofs.PairLaws.{Respected, respected-next, merged-found, permitted-trivial, permitted-none, none-merged}
-use borrow.Author.Needs.{needs}
 use Rattle.field.proofs.pairs.permitted.Statement.{statement}
 use Rattle.field.proofs.pairs.permitted.Tie as tie
 
@@ -29,32 +28,20 @@ returns-2 c = permitted-none _ _ _ _ (c .before .none-apart .ensures) (c .if2 .t
 loop-holds : tie.Need-loop-holds Inv-loop μ-loop
 loop-holds c = (search needs, λ D s e f j h. absurd (omega arith))
 
-none-of-four-requires : tie.Need-none-of-four-requires Inv-loop μ-loop
-none-of-four-requires c κs = omega (arith, c .loop-test .taken)
-
-add-k : tie.Need-add-k Inv-loop μ-loop
-add-k c = omega (arith, c .before .none-of-four .ensures (c .if3 .taken) .inside)
-
-loop-less : tie.Need-loop-less Inv-loop μ-loop
-loop-less c = omega (arith, c .before .before .loop-test .taken)
-
-loop-again : tie.Need-loop-again Inv-loop μ-loop
-loop-again c = let n = c .before .none-of-four .ensures (c .if3 .taken) in (omega (arith, n .inside), respected-four _ _ _ _ n (c .before .before .before .loop .inv .1))
-
 merges-requires : tie.Need-merges-requires Inv-loop μ-loop
 merges-requires c κs = search needs
 
 returns-3 : tie.Need-returns-3 Inv-loop μ-loop
-returns-3 c = merged-found _ _ _ _ (rw (c .if4 .taken) at (c .before .merges .ensures))
+returns-3 c = merged-found _ _ _ _ (rw (c .if3 .taken) at (c .before .merges .ensures))
 
-add-k-2 : tie.Need-add-k-2 Inv-loop μ-loop
-add-k-2 c = search needs
+add-k : tie.Need-add-k Inv-loop μ-loop
+add-k c = search needs
 
-loop-less-2 : tie.Need-loop-less-2 Inv-loop μ-loop
-loop-less-2 c = search needs
+loop-less : tie.Need-loop-less Inv-loop μ-loop
+loop-less c = search needs
 
-loop-again-2 : tie.Need-loop-again-2 Inv-loop μ-loop
-loop-again-2 c = (search needs, respected-next _ _ _ _ (rw (c .if4 .left) at (c .before .merges .ensures)) (c .before .before .before .before .before .loop .inv .1))
+loop-again : tie.Need-loop-again Inv-loop μ-loop
+loop-again c = (search needs, respected-next _ _ _ _ (rw (c .if3 .left) at (c .before .merges .ensures)) (c .before .before .before .loop .inv .1))
 
 returns-4 : tie.Need-returns-4 Inv-loop μ-loop
 returns-4 c = none-merged _ _ _ _ (c .loop-test .left) (c .before .loop .inv .1)
@@ -70,13 +57,9 @@ permitted-spec =
     none-apart-requires
     returns-2
     loop-holds
-    none-of-four-requires
+    merges-requires
+    returns-3
     add-k
     loop-less
     loop-again
-    merges-requires
-    returns-3
-    add-k-2
-    loop-less-2
-    loop-again-2
     returns-4)
