@@ -62,6 +62,11 @@ pub fn all() -> Vec<Workload> {
         listing("list-unmet", "48,400 raw silent steps beneath a match that fails", unmet()),
         listing("list-equated", "16,384 raw silent steps beneath a match, 64 distinct", equated()),
         listing("list-chained", "8,100 raw silent steps beneath matches, 81 distinct", chained()),
+        listing(
+            "list-conditions",
+            "8,100 raw silent steps beneath matches, few distinct",
+            conditions(),
+        ),
         listing("list-alike", "1,452 raw silent steps, 121 distinct", alike()),
     ]
 }
@@ -439,6 +444,25 @@ fn chained() -> Fields {
     let calls = |k: u8| vec![call(k, &[0, 1, 2]); 9];
     let part = grouped_left(&[calls(0), calls(1)].concat());
     question(vec![body(INPUT[0]), body(NEW_OUTPUT[0])], part, vec![0x00])
+}
+
+/// Nine calls that offer inputs and nine that offer outputs, in ten branches with different
+/// conditions or channels each. Every branch goes on as its call, so that most results are equal.
+fn conditions() -> Fields {
+    let [a, b, c] = [0x82, 0x81, 0x80];
+    let [ab, bc, ca] = [[0x05, a, b], [0x05, b, c], [0x05, c, a]];
+    let body = |k: u8, kind: u8| {
+        let again = call(k, &[a + 1, b + 1, c + 1]);
+        let beneath =
+            |matches: &[u8], channel: u8| prefixed(matches, &prefixed(&[kind, channel], &again));
+        let on_each = |pair: [u8; 3]| [a, b, c].map(|channel| beneath(&pair, channel));
+        let mut branches = [ab, bc, ca].map(on_each).concat();
+        branches.push(beneath(&[ab, bc].concat(), a));
+        definition(3, &choice(&branches))
+    };
+    let calls = |k: u8| vec![call(k, &[0, 1, 2]); 9];
+    let part = grouped_left(&[calls(0), calls(1)].concat());
+    question(vec![body(0, INPUT[0]), body(1, NEW_OUTPUT[0])], part, vec![0x00])
 }
 
 /// Eleven calls that receive a name in 12 branches and go on with calls that differ in which of
