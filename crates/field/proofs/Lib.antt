@@ -25,6 +25,7 @@ pub mod MoveLaws
 pub mod NameFlagLaws
 pub mod NameLimit
 pub mod NewNames
+pub mod NotedLaws
 pub mod OneSide
 pub mod PairLaws
 pub mod PairTables

@@ -10,6 +10,7 @@ use Rattle.candidates.specs.Lists.{_∈_, All}
 use Rattle.field.specs.Chains.{Chained}
 use Rattle.field.specs.Exploration.{unanswered, Row, Exploration, incomplete, explored, fieldOf}
 use Rattle.field.specs.Key.{SituationAt}
+use Rattle.field.specs.Noted.{notedCount, noteAt, SoleIn}
 use Rattle.field.specs.Setting.{settingOf}
 use Rattle.field.specs.Situation.{Situation, startOf}
 use Rattle.field.specs.Slot.{slotBytes, struckAt}
@@ -29,6 +30,10 @@ pub record StruckAt (work : List ℕ) (rs : List Row) (i : ℕ) (wants : List (L
 
 unfoldable pub StruckFirst : List ℕ → List Row → Type 0
 StruckFirst work rs = (i : ℕ) (d : Row) → i < length rs → StruckAt work rs i (getD rs i d .wants)
+
+-- What is noted in a slot is the only answer to a permitted step of its situation.
+unfoldable pub SoleNoted : List ℕ → List Row → Type 0
+SoleNoted work rs = (i k : ℕ) (d : Row) → i < length rs → k < notedCount → SoleIn (map (λ t. t .self) rs) (getD rs i d .wants) (noteAt work i k)
 
 -- The answer: the field's size, and its situations in the slots; where it is incomplete, the area within the capacity is not determined, and
 -- judge clears it.

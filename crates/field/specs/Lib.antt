@@ -8,6 +8,7 @@ pub mod Key
 pub mod Leading
 pub mod ListArea
 pub mod NameFlags
+pub mod Noted
 pub mod PairFlags
 pub mod Resulting
 pub mod Setting

@@ -6,6 +6,7 @@ pub mod find;
 pub mod kept_lists;
 pub mod list_area;
 pub mod names;
+pub mod notes;
 pub mod pairs;
 pub mod results;
 pub mod slots;
