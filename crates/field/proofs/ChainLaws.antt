@@ -17,6 +17,7 @@ use Rattle.terms.proofs.Stores.{span, getD-span}
 use Rattle.steps.proofs.Moves.{getD-before, getD-behind}
 use Rattle.field.specs.Chains.{wordAt, folded, mixed, rounds, roundsTo, spread, bucketOf, bucketAt, BucketIs, headPlace, linkPlace, headAt, nextAt, putNumber, lastWith, lastIn, Chained, KeepsKeys, LinkIs, FindsIn}
 use Rattle.field.specs.Key.{keyAt, SameKeyIs, FoundIs}
+use Rattle.field.specs.Noted.{notedCount, notePlace, noteAt}
 use Rattle.field.specs.Slot.{keyBytes, slotBytes}
 use Rattle.field.specs.declared.find.Found.the-variants.{At, Nothing}
 use Rattle.field.proofs.KeyLaws.{found-at, other-slot}
@@ -317,6 +318,23 @@ keeps-put capacity work₀ work b j n h lo hi K =
       rest = drop-set-lt (slotBytes * capacity) (set work p (n / 256)) (p + 1) (n % 256) (omega arith) ∙ drop-set-lt (slotBytes * capacity) work p (n / 256) (omega arith) ∙ K .rest;
     }
 
+-- and the notes, if it stands before them
+places-differ : (i j b c : ℕ) → b < c → c < 256 → slotBytes * i + b ≡ slotBytes * j + c → ⊥
+places-differ i j b c l h e = go (decLt j i)
+  where
+    go : Dec (j < i) → ⊥
+    go (yes k) = omega arith
+    go (no k) = omega arith
+
+note-put : (work : List ℕ) (b at n j k : ℕ) → at < 245 → k < notedCount → noteAt (putNumber work (slotBytes * b + at) n) j k ≡ noteAt work j k
+note-put work b at n j k h g =
+    let p : ℕ = slotBytes * b + at in
+    size-same work (putNumber work p n) (notePlace j k)
+    (byte-put work p n (notePlace j k) (λ z. places-differ b j at (246 + 2 * k) (omega arith) (omega arith) (omega arith))
+    (λ z. places-differ b j (at + 1) (246 + 2 * k) (omega arith) (omega arith) (omega arith)))
+    (byte-put work p n (notePlace j k + 1) (λ z. places-differ b j at (247 + 2 * k) (omega arith) (omega arith) (omega arith))
+    (λ z. places-differ b j (at + 1) (247 + 2 * k) (omega arith) (omega arith) (omega arith)))
+
 pub keeps-key : (capacity : ℕ) (work work′ : List ℕ) → KeepsKeys capacity work work′ → (i : ℕ) → keyAt work′ i ≡ keyAt work i
 keeps-key capacity work work′ K i = key-kept work work′ i (K .len) (λ j l. K .slots i j (omega arith))
 
@@ -338,6 +356,10 @@ module _ (capacity : ℕ) (work : List ℕ) (i b : ℕ) (l : i < capacity) (smal
   linked-keeps =
       keeps-put capacity work work₁ b 242 (i + 1) (B .within) (omega arith) (omega arith)
       (keeps-put capacity work work i 244 (headAt work b) l (omega arith) (omega arith) (keeps-none capacity work))
+
+  linked-notes : (j k : ℕ) → k < notedCount → noteAt work′ j k ≡ noteAt work j k
+  linked-notes j k g =
+      note-put work₁ b 242 (i + 1) j k (omega arith) g ∙ note-put work i 244 (headAt work b) j k (omega arith) g
 
   linked-last : (n c : ℕ) → lastIn capacity work′ n c ≡ lastIn capacity work n c
   linked-last n c = last-kept capacity work work′ n c (λ k m. keeps-key capacity work work′ linked-keeps k)
@@ -378,6 +400,7 @@ module _ (capacity : ℕ) (work : List ℕ) (i b : ℕ) (l : i < capacity) (smal
       nexts = λ k m j e. linked-next C k m j (sym (linked-last k (bucketAt capacity work k)) ∙ ap (lastIn capacity work′ k) (sym (linked-bucket k)) ∙ e) (eqb k i) refl;
     };
     keeps = linked-keeps;
+    notes = linked-notes;
   }
 
 -- as the code does it

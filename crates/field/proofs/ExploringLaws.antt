@@ -1,6 +1,7 @@
 -- A situation taken up, and exploration over all of them. Assumes nothing.
 use mathlib.Core.Bool.{true, false}
 use mathlib.Core.List.{List, [], _∷_, _++_, map}
+use mathlib.Core.Logic.{_⊎_, inl, inr}
 use mathlib.Core.Path.{_≡_, refl, sym, _∙_, ap, subst}
 use native.Mathlib.Decide.{ℕ-discrete, decLt}
 use native.Mathlib.Omega.{arith}
@@ -21,8 +22,9 @@ use Rattle.candidates.proofs.QuestionDefinitions.{definitions}
 use Rattle.field.specs.Chains.{LinkIs}
 use Rattle.field.specs.Exploration.{together, unanswered, Row, incomplete, explored, fieldOf}
 use Rattle.field.specs.Growing.{Proper, Fitting, grown, Knows, GrowsTo, Puts, slotWith, Gone, Flagged, moved, Strikes, Leads, GrowsSides, Follows, GrowIs}
-use Rattle.field.specs.Holding.{StruckFirst, Explores, ExploreIs}
+use Rattle.field.specs.Holding.{StruckFirst, SoleNoted, Explores, ExploreIs}
 use Rattle.field.specs.Leading.{placed, StartIs}
+use Rattle.field.specs.Noted.{notedCount, noteAt, ClearsSlot, Stands, SoleIn}
 use Rattle.field.specs.Setting.{Setting, settingOf}
 use Rattle.field.specs.Situation.{Situation, freeIn, situation, startOf}
 use Rattle.field.specs.Slot.{keyBytes, slotBytes, struckAt}
@@ -38,11 +40,11 @@ use Rattle.field.proofs.ChainLaws.{chained-none}
 use Rattle.field.proofs.Explored.{explored-leads}
 use Rattle.field.proofs.FieldIsSmallest.{invariant}
 use Rattle.field.proofs.Growth.{grown-front, Exploring, exploring-start, exploring-past, exploring-full, exploring-on, exploring-end}
-use Rattle.field.proofs.GrowingLaws.{grows-full, whole-key}
+use Rattle.field.proofs.GrowingLaws.{sole-more, grows-full, whole-key}
 use Rattle.field.proofs.Members.{getD-∈, getD-within}
 use Rattle.field.proofs.QuestionField.{question-setting, start-proper}
 use Rattle.field.proofs.Reached.{together-leads}
-use Rattle.field.proofs.SlotWriting.{slot-rest, slot-struck, knows-more}
+use Rattle.field.proofs.SlotWriting.{slot-rest, slot-struck, knows-noted, knows-more}
 
 -- What a proper situation of an accepted question leads to is proper.
 module _ (question : List ℕ) (q : Question) (accepted : checkOf question ≡ result q) where
@@ -142,10 +144,35 @@ pub record Explorer (q : Question) (capacity : ℕ) (work : List ℕ) (known tak
   pub struck : (i : ℕ) (ms : List (List Situation)) → i < taken → successors (settingOf (q .bodies)) (getD ks i (startOf q)) ≡ leads ms
       → StruckBy work ks i ms
   pub left : (i : ℕ) → taken ≤ i → i < known → getD work (struckAt i) 0 ≡ 0
+  pub sole : (i k : ℕ) (ms : List (List Situation)) → i < taken → k < notedCount → successors (settingOf (q .bodies)) (getD ks i (startOf q)) ≡ leads ms
+      → SoleIn ks ms (noteAt work i k)
+
+-- Nothing is noted in the slot that is taken up next.
+explorer-cleared : (q : Question) (capacity : ℕ) (work : List ℕ) (known taken : ℕ) (work′ : List ℕ) → ClearsSlot work taken work′
+    → Explorer q capacity work known taken → Explorer q capacity work′ known taken
+explorer-cleared q capacity work known taken work′ c y = record {
+  ks = y .ks;
+  exploring = y .exploring;
+  knows = knows-noted (q .arities) capacity work known (y .ks) (taken + 1) work′ (c .spare) (y .knows);
+  struck = λ i ms h e.
+      let x = y .struck i ms h e in
+      record {
+        must = λ u z. x .must u (sym (mark i) ∙ z);
+        why = λ g.
+            let (w, m, a) = x .why (λ z. g (mark i ∙ z)) in
+            (w, m, all-imp (Below work (y .ks) i) (Below work′ (y .ks) i) w (λ t (j, l, is, gone). (j, l, is, λ z. gone (sym (mark j) ∙ z))) a);
+      };
+  left = λ i h l. mark i ∙ y .left i h l;
+  sole = λ i k ms h g e. subst (SoleIn (y .ks) ms) (sym (c .others i (λ z. omega arith) k g)) (y .sole i k ms h g e);
+}
+  where
+    mark : (i : ℕ) → getD work′ (struckAt i) 0 ≡ getD work (struckAt i) 0
+    mark i = c .spare .slots i 241 (omega arith)
 
 -- One more is taken up.
 module _ (q : Question) (capacity : ℕ) (work : List ℕ) (known taken : ℕ) (y : Explorer q capacity work known taken) (waits : taken < known)
     (ms : List (List Situation)) (e : successors (settingOf (q .bodies)) (getD (y .ks) taken (startOf q)) ≡ leads ms)
+    (empty : (k : ℕ) → k < notedCount → noteAt work taken k ≡ 0)
     (n : ℕ) (few : n ≤ capacity) (more : known ≤ n) (work′ : List ℕ) (f : Leads (q .arities) capacity taken ms work known (Known n) work′) where
   abbrev all : List Situation
   all = grown (y .ks) (together ms)
@@ -210,6 +237,30 @@ module _ (q : Question) (capacity : ℕ) (work : List ℕ) (known taken : ℕ) (
       go (yes b) = steps .others i b (λ z. omega arith) ∙ y .left i (omega arith) b
       go (no b) = steps .fresh i (omega arith) l
 
+  sole-taken : (k : ℕ) → k < notedCount → SoleIn all ms (noteAt work′ taken k)
+  unfolding SoleIn
+  sole-taken k g j e = go (steps .sole (y .ks) (y .knows) tt k g)
+    where
+      go : (noteAt work′ taken k ≡ noteAt work taken k) ⊎ SoleIn all ms (noteAt work′ taken k) → (w : List Situation) × (w ∈ ms) × All (Stands all j) w
+      go (inl z) = absurd (omega (arith, e, z, empty k g))
+      go (inr x) = x j e
+
+  sole-now : (i k : ℕ) (ns : List (List Situation)) → i < taken + 1 → k < notedCount → successors (settingOf (q .bodies)) (getD all i (startOf q)) ≡ leads ns
+      → SoleIn all ns (noteAt work′ i k)
+  sole-now i k ns h g l = go (ℕ-discrete i taken)
+    where
+      there : successors (settingOf (q .bodies)) (getD (y .ks) i (startOf q)) ≡ leads ns
+      there = ap (successors (settingOf (q .bodies))) (sym (front i (startOf q) (omega arith))) ∙ l
+
+      go : Dec (i ≡ taken) → SoleIn all ns (noteAt work′ i k)
+      go (yes d) =
+          let t : successors (settingOf (q .bodies)) (getD (y .ks) taken (startOf q)) ≡ leads ns =
+          subst (λ j. successors (settingOf (q .bodies)) (getD (y .ks) j (startOf q)) ≡ leads ns) d there in
+          let z : ms ≡ ns = cc in
+          rw (d, ← z) (sole-taken k g)
+      go (no d) =
+          subst (SoleIn all ns) (sym (steps .notes i k (omega arith) d g)) (sole-more (y .ks) (together ms) ns (noteAt work i k) (y .sole i k ns (omega arith) g there))
+
   explorer-next : Explorer q capacity work′ n (taken + 1)
   explorer-next = record {
     ks = all;
@@ -218,6 +269,7 @@ module _ (q : Question) (capacity : ℕ) (work : List ℕ) (known taken : ℕ) (
     knows = knows-all;
     struck = struck-now;
     left = left-now;
+    sole = sole-now;
   }
 
 -- all rows, once all are taken up
@@ -245,15 +297,35 @@ struck-first q capacity work known taken y rs m e s i d h =
     self : (j : ℕ) (c : Row) → getD rs j c .self ≡ getD (y .ks) j (c .self)
     self j c = sym (List·getD-map (λ (r : Row). r .self) rs j c) ∙ ap (λ l. getD l j (c .self)) s
 
+sole-noted : (q : Question) (capacity : ℕ) (work : List ℕ) (known taken : ℕ) (y : Explorer q capacity work known taken) (rs : List Row) → length rs ≤ taken
+    → fieldOf (settingOf (q .bodies)) capacity (startOf q) ≡ explored rs → map (λ r. r .self) rs ≡ y .ks → SoleNoted work rs
+unfolding SoleNoted
+sole-noted q capacity work known taken y rs m e s i k d h g =
+    let S : Setting = settingOf (q .bodies) in
+    let r : Row = getD rs i d in
+    let there : getD (y .ks) i (startOf q) ≡ r .self =
+    getD-within (y .ks) i (startOf q) (d .self) (omega (arith, ap length s, length-map rs (λ (r : Row). r .self)))
+    ∙ sym (sym (List·getD-map (λ (r : Row). r .self) rs i d) ∙ ap (λ l. getD l i (d .self)) s) in
+    subst (λ ks. SoleIn ks (r .wants) (noteAt work i k)) (sym s)
+    (y .sole i k (r .wants) (omega arith) g
+    (ap (successors S) there ∙ all-∈ (λ r. successors S (r .self) ≡ leads (r .wants)) rs (explored-leads S (startOf q) capacity rs e) r (getD-∈ rs i d h)))
+
 module _ (question : List ℕ) (capacity : ℕ) (work₀ : List ℕ) where
   pub record Explorers (work : List ℕ) (known taken : ℕ) : Type 0 where
     pub rest : drop (slotBytes * capacity) work ≡ drop (slotBytes * capacity) work₀
     pub is : (q : Question) → checkOf question ≡ result q → Explorer q capacity work known taken
 
+  pub explorers-cleared : (work : List ℕ) (known taken : ℕ) (work′ : List ℕ) → taken < capacity → ClearsSlot work taken work′ → Explorers work known taken
+      → Explorers work′ known taken
+  explorers-cleared work known taken work′ h c x = record {
+    rest = c .spare .rest capacity (omega arith) ∙ x .rest;
+    is = λ q a. explorer-cleared q capacity work known taken work′ c (x .is q a);
+  }
+
   module _ (work : List ℕ) (known taken : ℕ) (x : Explorers work known taken) (waits : taken < known) (work′ : List ℕ) where
-    pub explorers-next : (n : ℕ) → GrowIs question taken capacity work known (Known n) work′ → Explorers work′ n (taken + 1)
+    pub explorers-next : ((k : ℕ) → k < notedCount → noteAt work taken k ≡ 0) → (n : ℕ) → GrowIs question taken capacity work known (Known n) work′ → Explorers work′ n (taken + 1)
     unfolding Follows
-    explorers-next n g = record {
+    explorers-next empty n g = record {
       rest = g .grows .rest ∙ x .rest;
       is = λ q a.
           let y = x .is q a in
@@ -265,7 +337,7 @@ module _ (question : List ℕ) (capacity : ℕ) (work₀ : List ℕ) where
         next q y pastLimit e f = let z : _≡_ {A = ℕ} 0 1 = cc in absurd (omega arith)
         next q y (leads ms) e f =
             let w = g .grows .within n refl in
-            explorer-next q capacity work known taken y waits ms e n (w .1) (w .0) work′ f
+            explorer-next q capacity work known taken y waits ms e empty n (w .1) (w .0) work′ f
 
     pub explorers-full : GrowIs question taken capacity work known Full work′ → ExploreIs question capacity work₀ Incomplete work′
     unfolding Explores Follows Puts GrowsTo
@@ -301,7 +373,7 @@ module _ (question : List ℕ) (capacity : ℕ) (work₀ : List ℕ) where
           let m : known ≡ length (z .rows) = omega (arith, z .count, y .knows .count) in
           let e = exploring-end (settingOf (q .bodies)) capacity (startOf q) (y .ks) z in
           let selves = z .selves ∙ take-all (length (y .ks)) (y .ks) (omega arith) in
-          rw e (ap Field m, rw selves (y .knows .slots), struck-first q capacity work known taken y (z .rows) (omega arith) e selves)
+          rw e (ap Field m, rw selves (y .knows .slots), struck-first q capacity work known taken y (z .rows) (omega arith) e selves, sole-noted q capacity work known taken y (z .rows) (omega arith) e selves)
 
 -- The start in the first slot.
 module _ (question : List ℕ) (capacity : ℕ) (some : 1 ≤ capacity) (work : List ℕ) (room : slotBytes * capacity ≤ length work) (key : List ℕ)
@@ -322,6 +394,7 @@ module _ (question : List ℕ) (capacity : ℕ) (some : 1 ≤ capacity) (work : 
           exploring = exploring-start (settingOf (q .bodies)) capacity (startOf q) some;
           knows = knows-more work key 0 slot long (q .arities) capacity [] none (startOf q) f (whole-key key (startOf q) (f .fits) (S q a)) work₀ L;
           struck = λ i ms h. absurd (omega arith);
+          sole = λ i k ms h. absurd (omega arith);
           left = slot-struck work key 0 slot long capacity work₀ L .fresh;
         };
   }

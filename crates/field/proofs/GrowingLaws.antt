@@ -1,14 +1,15 @@
 -- The known situations grow: by one, by what the answers to a step lead to, by what the steps of a side lead to. Assumes nothing.
-use mathlib.Core.Bool.{Bool, true, false, _||_}
+use mathlib.Core.Bool.{Bool, true, false, cond, _||_}
 use mathlib.Core.List.{List, [], _∷_, _++_, map, append-nil}
-use mathlib.Core.Logic.{inl}
+use mathlib.Core.Logic.{_⊎_, inl, inr}
 use mathlib.Core.Path.{_≡_, refl, sym, _∙_, ap, ap₂, subst}
 use native.Mathlib.Decide.{ℕ-discrete, decLt}
 use native.Mathlib.Omega.{arith}
 use Prim.Native.Nat.{ℕ, suc, _+_, _*_, _<_, _≤_}
+use lib.Dec.{eqb}
 use lib.ListN.{length, getD, set, take, drop, length-append, take-append-drop}
-use lib.Seq.{take-suc, take-all, split-at, getD-set-same, getD-set-other, drop-set-lt}
-use borrow.Author.Tests.{eqb-false}
+use lib.Seq.{take-suc, take-all, split-at, getD-at, getD-set-same, getD-set-other, drop-set-lt}
+use borrow.Author.Tests.{eqb-true, eqb-false, eq-eqb, ne-eqb}
 use Rattle.calculus.specs.Cond.{Pairs}
 use Rattle.calculus.specs.Term.{ren}
 use Rattle.calculus.proofs.Renaming.{map-++}
@@ -22,8 +23,9 @@ use Rattle.steps.specs.Listed.{ListedStep, classIn, resultBytes}
 use Rattle.field.specs.Chains.{LinkIs, FindsIn}
 use Rattle.field.specs.Entry.{EntryAt, TrivialIs, SameHeaderIs, AnswersIs}
 use Rattle.field.specs.Exploration.{found, together, unanswered}
-use Rattle.field.specs.Growing.{Proper, Fits, Fitting, grownBy, grown, Knows, GrowsTo, AllFound, Puts, Grows, slotWith, KeepsStruck, AddIs, Gone, AddedIs, Flagged, answered, Mirrored, GrowsAnswer, AnswerIs, GrowsAnswers, AnswersAre, FirstAnswerIs, moved, Strikes, LeadsAfter, GrowsStep, GrowsSide, GrowsSides}
+use Rattle.field.specs.Growing.{Proper, Fits, Fitting, grownBy, grown, Knows, GrowsTo, AllFound, Puts, Grows, slotWith, KeepsStruck, several, LedTo, joined, LeadsWhere, AddIs, Gone, AddedIs, Flagged, answered, Mirrored, GrowsAnswer, AnswerIs, GrowsAnswers, AnswersAre, FirstAnswerIs, moved, Strikes, LeadsAfter, GrowsStep, GrowsSide, GrowsSides}
 use Rattle.field.specs.Leading.{placed, leading, SuccessorIs}
+use Rattle.field.specs.Noted.{notedCount, noteAt, SpareOnly, NotesOne, Stands, SoleIn}
 use Rattle.field.specs.PairFlags.{PermittedIs}
 use Rattle.field.specs.Situation.{Situation, freeFrom, situation}
 use Rattle.field.specs.Slot.{keyOf, keyBytes, slotBytes, struckAt, LeftAtIs}
@@ -39,8 +41,9 @@ use Rattle.field.proofs.KeysDiffer.{length-key, slot-holds, found-slot,
 use Rattle.field.proofs.Loops.{select-++, grown-++, together-++, answersTo, moves-are}
 use Rattle.field.proofs.Members.{map-∈, getD-∈, ∈-number}
 use Rattle.field.proofs.MirroredLaws.{mirrored, all-rewritten, first-mirrored, one-of, one-answer-mirrored, one-step-mirrored}
+use Rattle.field.proofs.NotedLaws.{note-flag}
 use Rattle.field.proofs.Selections.{select-∈}
-use Rattle.field.proofs.SlotWriting.{slot-rest, slot-struck, knows-struck, knows-more}
+use Rattle.field.proofs.SlotWriting.{slot-rest, slot-struck, knows-struck, knows-noted, knows-more}
 
 -- What holds of any growth.
 pub grows-none : (capacity : ℕ) (work : List ℕ) (known : ℕ) → known ≤ capacity → Grows capacity work known (Known known) work
@@ -58,7 +61,7 @@ grows-more capacity work known n work′ r work″ g h = record {
 
 -- What is left and what is struck out, while none is struck out.
 pub keeps-none : (work : List ℕ) (known n : ℕ) → Known known ≡ Known n → KeepsStruck work known n work
-keeps-none work known n e = let z : known ≡ n = cc in record { kept = λ i h. refl; fresh = λ i h l. absurd (omega arith) }
+keeps-none work known n e = let z : known ≡ n = cc in record { kept = λ i h. refl; fresh = λ i h l. absurd (omega arith); notes = λ i k h l. refl }
 
 keeps-full : (work : List ℕ) (known n : ℕ) (work′ : List ℕ) → Full ≡ Known n → KeepsStruck work known n work′
 keeps-full work known n work′ e = let z : _≡_ {A = ℕ} 0 1 = cc in absurd (omega arith)
@@ -68,11 +71,36 @@ keeps-more : (work : List ℕ) (known n m : ℕ) (work′ work″ : List ℕ) �
 keeps-more work known n m work′ work″ h x y = record {
   kept = λ i l. y .kept i (omega arith) ∙ x .kept i l;
   fresh = λ i l k. go i l k (decLt i n);
+  notes = λ i k l g. y .notes i k (omega arith) g ∙ x .notes i k l g;
 }
   where
     go : (i : ℕ) → known ≤ i → i < m → Dec (i < n) → getD work″ (struckAt i) 0 ≡ 0
     go i l k (yes b) = y .kept i b ∙ x .fresh i l b
     go i l k (no b) = y .fresh i (omega arith) k
+
+-- What stands in its place stays there as more become known, and what is a sole answer stays one.
+stands-more : (ks us : List Situation) (j : ℕ) (t : Situation) → Stands ks j t → Stands (grown ks us) j t
+stands-more ks us j t (l, e) = (omega (arith, l, grown-longer ks us), λ d. grown-front ks us j d l ∙ e d)
+
+pub sole-more : (ks us : List Situation) (ms : List (List Situation)) (n : ℕ) → SoleIn ks ms n → SoleIn (grown ks us) ms n
+unfolding SoleIn
+sole-more ks us ms n x j e = let (w, i, a) = x j e in (w, i, all-imp (Stands ks j) (Stands (grown ks us) j) w (stands-more ks us j) a)
+
+sole-left : (ks : List Situation) (ms ns : List (List Situation)) (n : ℕ) → SoleIn (grown ks (together ms)) ms n → SoleIn (grown ks (together (ms ++ ns))) (ms ++ ns) n
+unfolding SoleIn
+sole-left ks ms ns n x j e =
+    let (w, i, a) = x j e in (
+      w,
+      ∈-left w ms ns i,
+      rw (together-++ ms ns, grown-++ ks (together ms) (together ns))
+          (all-imp (Stands (grown ks (together ms)) j) (Stands (grown (grown ks (together ms)) (together ns)) j) w (stands-more (grown ks (together ms)) (together ns) j) a),
+    )
+
+sole-right : (ks : List Situation) (ms ns : List (List Situation)) (n : ℕ) → SoleIn (grown (grown ks (together ms)) (together ns)) ns n
+    → SoleIn (grown ks (together (ms ++ ns))) (ms ++ ns) n
+unfolding SoleIn
+sole-right ks ms ns n x j e =
+    let (w, i, a) = x j e in (w, ∈-right w ms ns i, rw (together-++ ms ns, grown-++ ks (together ms) (together ns)) a)
 
 -- The situation taken up is struck out by a move that has no answer.
 unanswered-++ : (ms ns : List (List Situation)) → unanswered (ms ++ ns) ≡ (unanswered ms || unanswered ns)
@@ -100,6 +128,8 @@ module _ (arities : List ℕ) (capacity taken : ℕ) (before : List Situation) (
         why = λ ks K b l h. absurd (h l);
         others = λ i h l. refl;
         fresh = λ i h l. absurd (omega arith);
+        notes = λ i k h l g. refl;
+        sole = λ ks K b k h. inl refl;
       }
 
   -- all that the move leads to is struck out
@@ -113,6 +143,8 @@ module _ (arities : List ℕ) (capacity taken : ℕ) (before : List Situation) (
         why = λ ks K b l h. (w, inl refl, gone ks K);
         others = λ i h l. getD-set-other work (struckAt taken) (struckAt i) 1 0 (λ k. l (omega arith));
         fresh = λ i h l. absurd (omega arith);
+        notes = λ i k h l g. note-flag work taken 1 i k g;
+        sole = λ ks K b k h. inl (note-flag work taken 1 taken k h);
       }
     where
       now : getD (set work (struckAt taken) 1) (struckAt taken) 0 ≡ 0 → ⊥
@@ -127,7 +159,36 @@ module _ (arities : List ℕ) (capacity taken : ℕ) (before : List Situation) (
       why = λ ks K b l h. absurd (h (x .kept taken waits ∙ l));
       others = λ i h l. x .kept i h;
       fresh = x .fresh;
+      notes = λ i k h l g. x .notes i k h g;
+      sole = λ ks K b k h. inl (x .notes taken k waits h);
     }
+
+    -- where all answers to the move w lead is noted
+    strikes-noted : (w : List Situation) (n : ℕ) (work′ : List ℕ) (led : ℕ) (work″ : List ℕ) → led < several → NotesOne work′ taken led work″
+        → ((ks : List Situation) → Knows arities capacity work known ks → AllFound ks before → LedTo (grown ks w) led w)
+        → Strikes arities capacity taken before (w ∷ []) work known n work′ → Strikes arities capacity taken before (w ∷ []) work known n work″
+    unfolding SoleIn together
+    strikes-noted w n work′ led work″ few o where-to x = record {
+      must = λ u z. x .must u (sym (mark taken) ∙ z);
+      stays = λ h z. x .stays h (sym (mark taken) ∙ z);
+      why = λ ks K b l h. x .why ks K b l (λ z. h (mark taken ∙ z));
+      others = λ i h l. mark i ∙ x .others i h l;
+      fresh = λ i h l. mark i ∙ x .fresh i h l;
+      notes = λ i k h l g. o .others i l k g ∙ x .notes i k h l g;
+      sole = λ ks K b k h. go ks K b k (o .here k h) (x .sole ks K b k h);
+    }
+      where
+        mark : (i : ℕ) → getD work″ (struckAt i) 0 ≡ getD work′ (struckAt i) 0
+        mark i = o .spare .slots i 241 (omega arith)
+
+        go : (ks : List Situation) → Knows arities capacity work known ks → AllFound ks before → (k : ℕ)
+            → (noteAt work″ taken k ≡ noteAt work′ taken k) ⊎ (noteAt work″ taken k ≡ led)
+            → (noteAt work′ taken k ≡ noteAt work taken k) ⊎ SoleIn (grown ks (together (w ∷ []))) (w ∷ []) (noteAt work′ taken k)
+            → (noteAt work″ taken k ≡ noteAt work taken k) ⊎ SoleIn (grown ks (together (w ∷ []))) (w ∷ []) (noteAt work″ taken k)
+        go ks K b k (inl e) (inl d) = inl (e ∙ d)
+        go ks K b k (inl e) (inr d) = inr (λ j z. d j (sym e ∙ z))
+        go ks K b k (inr e) d =
+            inr (λ j z. (w, inl refl, subst (λ us. All (Stands (grown ks us) j) w) (sym (append-nil w)) (where-to ks K b .one j (sym e ∙ z) few)))
 
     module _ (ms ns : List (List Situation)) (after : List Situation)
         (f : (ks : List Situation) → AllFound ks before → AllFound (grown ks (together ms)) after) (n m : ℕ) (work′ work″ : List ℕ) (h : known ≤ n)
@@ -159,8 +220,18 @@ module _ (arities : List ℕ) (capacity taken : ℕ) (before : List Situation) (
         why = λ ks K b l g. why ks K b l g (ℕ-discrete (getD work′ (struckAt taken) 0) 0);
         others = λ i l k. y .others i (omega arith) k ∙ x .others i l k;
         fresh = λ i l k. go i l k (decLt i n);
+        notes = λ i k l g o. y .notes i k (omega arith) g o ∙ x .notes i k l g o;
+        sole = λ ks K b k o. sole ks k (x .sole ks K b k o) (y .sole (grown ks (together ms)) (p ks K b) (f ks b) k o);
       }
         where
+          sole : (ks : List Situation) (k : ℕ)
+              → (noteAt work′ taken k ≡ noteAt work taken k) ⊎ SoleIn (grown ks (together ms)) ms (noteAt work′ taken k)
+              → (noteAt work″ taken k ≡ noteAt work′ taken k) ⊎ SoleIn (grown (grown ks (together ms)) (together ns)) ns (noteAt work″ taken k)
+              → (noteAt work″ taken k ≡ noteAt work taken k) ⊎ SoleIn (grown ks (together (ms ++ ns))) (ms ++ ns) (noteAt work″ taken k)
+          sole ks k (inl a) (inl c) = inl (c ∙ a)
+          sole ks k (inr a) (inl c) = inr (sole-left ks ms ns (noteAt work″ taken k) (subst (SoleIn (grown ks (together ms)) ms) (sym c) a))
+          sole ks k a (inr c) = inr (sole-right ks ms ns (noteAt work″ taken k) c)
+
           must : unanswered (ms ++ ns) ≡ true → getD work″ (struckAt taken) 0 ≡ 0 → (b : Bool) → unanswered ms ≡ b → ⊥
           must u z true e = y .stays (x .must e) z
           must u z false e = y .must (ap (λ b. b || unanswered ns) (sym e) ∙ sym (unanswered-++ ms ns) ∙ u) z
@@ -198,6 +269,13 @@ module _ (arities : List ℕ) (capacity : ℕ) (work : List ℕ) (known : ℕ) w
         → Puts arities capacity work known before (xs ++ ys) Full work′
     unfolding Puts GrowsTo
     puts-full xs ys work′ p ks K b = let h = p ks K b in rw (grown-++ ks xs ys) (omega (arith, h, grown-longer (grown ks xs) ys))
+
+    -- a number is noted
+    puts-noted : (xs : List Situation) (r : Growth) (work′ work″ : List ℕ) (i : ℕ) → SpareOnly (i + 1) work′ work″
+        → Puts arities capacity work known before xs r work′ → Puts arities capacity work known before xs r work″
+    unfolding Puts GrowsTo
+    puts-noted xs Full work′ work″ i s p ks K b = p ks K b
+    puts-noted xs (Known n) work′ work″ i s p ks K b = knows-noted arities capacity work′ n (grown ks xs) (i + 1) work″ s (p ks K b)
 
     -- One list of moves after another.
     module _ (taken : ℕ) where
@@ -268,17 +346,39 @@ module _ (capacity : ℕ) (work : List ℕ) (known : ℕ) (key : List ℕ) where
               (knows-more work key known l long arities capacity ks K s g (whole-key key s (g .fits) e) work′ L);
         }
 
-  -- and whether it is left
-  pub added-left : (r : Growth) (work′ : List ℕ) → AddIs capacity work known key r work′ → AddedIs capacity work known key (record { growth = r; left = true }) work′
-  added-left r work′ a = record {
+  -- and whether it is left, and its slot
+  one-led : (ks : List Situation) (i : ℕ) (s : Situation) → Stands ks i s → LedTo ks (i + 1) (s ∷ [])
+  one-led ks i s x = record {
+    none = λ z. absurd (omega arith);
+    one = λ j e l. let z : i ≡ j = omega arith in (subst (λ j. Stands ks j s) z x, tt);
+  }
+
+  pub added-full : (work′ : List ℕ) (led : ℕ) → AddIs capacity work known key Full work′
+      → AddedIs capacity work known key (record { growth = Full; left = true; led = led }) work′
+  unfolding LeadsWhere
+  added-full work′ led a = record {
     added = a;
     same = record { growth = λ z. never (sym z); area = λ z. never (sym z) };
     gone = λ z. never (sym z);
+    where-to = λ arities s h e n z. let q : _≡_ {A = ℕ} 0 1 = cc in absurd (omega arith);
+  }
+
+  -- the last of those known now
+  pub added-new : FindsIn capacity work known key Nothing → (work′ : List ℕ) → AddIs capacity work known key (Known (known + 1)) work′
+      → AddedIs capacity work known key (record { growth = Known (known + 1); left = true; led = known + 1 }) work′
+  unfolding LeadsWhere grown grownBy
+  added-new f work′ a = record {
+    added = a;
+    same = record { growth = λ z. never (sym z); area = λ z. never (sym z) };
+    gone = λ z. never (sym z);
+    where-to = λ arities s h e n z ks K b.
+        rw (found-no-slot arities work known ks (K .count) (K .slots) (all-proper arities ks (K .fitting)) s (h .proper) (h .fits) key e (f .is (K .chained)))
+        (one-led (ks ++ (s ∷ [])) known s (omega (arith, K .count, length-append ks (s ∷ [])), λ d. getD-at ks s [] d known (K .count)));
   }
 
   pub added-found : known ≤ capacity → (i : ℕ) (b : Bool) → FindsIn capacity work known key (At i) → LeftAtIs work i b
-      → AddedIs capacity work known key (record { growth = Known known; left = b }) work
-  unfolding LeftAtIs
+      → AddedIs capacity work known key (record { growth = Known known; left = b; led = i + 1 }) work
+  unfolding LeftAtIs LeadsWhere grown grownBy
   added-found few i b f l = record {
     added = add-found few i f;
     same = record { growth = λ z. refl; area = λ z. refl };
@@ -288,7 +388,54 @@ module _ (capacity : ℕ) (work : List ℕ) (known : ℕ) (key : List ℕ) where
       is = slot-holds arities work known ks (K .count) (K .slots) (all-proper arities ks (K .fitting)) s (h .proper) (h .fits) key e i (f .is (K .chained));
       struck = eqb-false (getD work (struckAt i) 0) 0 (sym l ∙ z);
     };
+    where-to = λ arities s h e n z ks K c.
+        rw (found-slot arities work known ks (K .count) (K .slots) (all-proper arities ks (K .fitting)) s (h .proper) (h .fits) key e i (f .is (K .chained)))
+        (one-led ks i s (
+          omega (arith, f .within i refl, K .count),
+          slot-holds arities work known ks (K .count) (K .slots) (all-proper arities ks (K .fitting)) s (h .proper) (h .fits) key e i (f .is (K .chained)),
+        ));
   }
+
+-- Where two lots of situations lead.
+led-both : (ks us vs : List Situation) (a b : ℕ) → LedTo (grown ks us) a us → LedTo (grown (grown ks us) vs) b vs → LedTo (grown ks (us ++ vs)) (joined a b) (us ++ vs)
+unfolding joined
+led-both ks us vs a b x y = rw (grown-++ ks us vs) (go (eqb b 0) (eqb a 0) (eqb a b) refl refl refl)
+  where
+    us-then : (j : ℕ) → a ≡ j + 1 → a < several → All (Stands (grown (grown ks us) vs) j) us
+    us-then j e l = all-imp (Stands (grown ks us) j) (Stands (grown (grown ks us) vs) j) us (stands-more (grown ks us) vs j) (x .one j e l)
+
+    go : (p q r : Bool) → eqb b 0 ≡ p → eqb a 0 ≡ q → eqb a b ≡ r → LedTo (grown (grown ks us) vs) (cond p a (cond q b (cond r a several))) (us ++ vs)
+    go true q r e f h =
+        let z : vs ≡ [] = y .none (eqb-true b 0 e) in
+        let w : us ++ vs ≡ us = ap (λ l. us ++ l) z ∙ append-nil us in
+        record { none = λ k. w ∙ x .none k; one = λ j k l. subst (All (Stands (grown (grown ks us) vs) j)) (sym w) (us-then j k l) }
+    go false true r e f h =
+        let w : us ++ vs ≡ vs = ap (λ l. l ++ vs) (x .none (eqb-true a 0 f)) in
+        record { none = λ k. w ∙ y .none k; one = λ j k l. subst (All (Stands (grown (grown ks us) vs) j)) (sym w) (y .one j k l) }
+    go false false true e f h =
+        let z : a ≡ b = eqb-true a b h in
+        record {
+          none = λ k. absurd (eqb-false a 0 f k);
+          one = λ j k l. all-++ (Stands (grown (grown ks us) vs) j) us vs (us-then j k l) (y .one j (sym z ∙ k) (omega arith));
+        }
+    go false false false e f h = record { none = λ k. absurd (omega arith); one = λ j k l. absurd (omega arith) }
+
+-- join
+pub joined-first : (a b : ℕ) → b ≡ 0 → a ≡ joined a b
+unfolding joined
+joined-first a b e = rw e
+
+pub joined-second : (a b : ℕ) → (b ≡ 0 → ⊥) → a ≡ 0 → b ≡ joined a b
+unfolding joined
+joined-second a b h e = rw (ne-eqb b 0 h, e)
+
+pub joined-same : (a b : ℕ) → (b ≡ 0 → ⊥) → (a ≡ 0 → ⊥) → a ≡ b → a ≡ joined a b
+unfolding joined
+joined-same a b h g e = rw (ne-eqb b 0 h, ne-eqb a 0 g, eq-eqb a b e)
+
+pub joined-several : (a b : ℕ) → (b ≡ 0 → ⊥) → (a ≡ 0 → ⊥) → (a ≡ b → ⊥) → several ≡ joined a b
+unfolding joined
+joined-several a b h g e = rw (ne-eqb b 0 h, ne-eqb a 0 g, ne-eqb a b e)
 
 -- A loop over a list of steps: f says what a part of the list leads to.
 module _ {A : Type 0} (f : List ListedStep → List A) (parts : (xs ys : List ListedStep) → f (xs ++ ys) ≡ f xs ++ f ys) (xs : List ListedStep) (j : ℕ) where
@@ -424,28 +571,32 @@ module _ (arities free apart : List ℕ) (second : Bool) (area : List ℕ) (at :
           rw o (λ ks L b. a .is arities (leading second F D s t) fit (K G D s t (flags .names) (flags .pairs) e f i j own) ks L tt);
     }
 
-    -- and whether it is left
+    -- and whether it is left, and its slot, where that was looked for
     pub answer-left : (r : Growth) (work′ : List ℕ) → GrowsAnswer arities free apart second area at others place capacity work known r work′
-        → AnswerIs arities free apart second area at others place capacity work known (record { growth = r; left = true }) work′
+        → AnswerIs arities free apart second area at others place capacity work known (record { growth = r; left = true; led = several }) work′
+    unfolding LeadsWhere
     answer-left r work′ g = record {
       grown = g;
       same = record { growth = λ z. never (sym z); area = λ z. never (sym z) };
       gone = λ z. never (sym z);
+      where-to = λ G D s t before flags e i f j own may m p n z ks K b. record { none = λ q. absurd (omega arith); one = λ k q l. absurd (omega arith) };
     }
 
     pub no-answer-left : known ≤ capacity → AnswersIs area at others place false
-        → AnswerIs arities free apart second area at others place capacity work known (record { growth = Known known; left = false }) work
-    unfolding AnswersIs
+        → AnswerIs arities free apart second area at others place capacity work known (record { growth = Known known; left = false; led = 0 }) work
+    unfolding AnswersIs LeadsWhere
     no-answer-left few A = record {
       grown = answer-none few A;
       same = record { growth = λ z. refl; area = λ z. refl };
       gone = λ z G D s t flags e i f j own p ks K. rw (answered-none second G D s t (sym (A s t e f))) tt;
+      where-to = λ G D s t before flags e i f j own may m p n z ks K b.
+          rw (answered-none second G D s t (sym (A s t e f))) (record { none = λ q. refl; one = λ k q l. tt });
     }
 
     pub answer-looked : AnswersIs area at others place true → (key : List ℕ) → SuccessorIs arities free apart second area at others place key
         → (r : Added) (work′ : List ℕ) → AddedIs capacity work known key r work′
         → AnswerIs arities free apart second area at others place capacity work known r work′
-    unfolding AnswersIs SuccessorIs
+    unfolding AnswersIs SuccessorIs LeadsWhere
     answer-looked A key K r work′ a = record {
       grown = answer-added A key K (r .growth) work′ (a .added);
       same = a .same;
@@ -455,6 +606,12 @@ module _ (arities free apart : List ℕ) (second : Bool) (area : List ℕ) (at :
           let q : All (Proper nameCount arities) (leading second F D s t ∷ []) = subst (All (Proper nameCount arities)) o p in
           let fit = leading-fits arities second F D s t (fits-first s area at e) (fits-second s t area others at place e f) (q .0) in
           rw o (a .gone z arities (leading second F D s t) fit (K G D s t (flags .names) (flags .pairs) e f i j own) ks L, tt);
+      where-to = λ G D s t before flags e i f j own may m p n z ks L b.
+          let F : List ℕ = freeFrom G 0 nameCount in
+          let o = answered-one second G D s t (sym (A s t e f)) in
+          let q : All (Proper nameCount arities) (leading second F D s t ∷ []) = subst (All (Proper nameCount arities)) o p in
+          let fit = leading-fits arities second F D s t (fits-first s area at e) (fits-second s t area others at place e f) (q .0) in
+          rw o (a .where-to arities (leading second F D s t) fit (K G D s t (flags .names) (flags .pairs) e f i j own) n z ks L tt);
     }
 
   -- The loop over the answers from number `first` on, once the first j are looked at.
@@ -530,8 +687,8 @@ module _ (arities free apart : List ℕ) (second : Bool) (area : List ℕ) (at :
           rw (part-whole (answered second G D s) (answered-++ second G D s) ts j (omega (arith, l .number))) (x .is G D s ts before flags e i l o may m p);
     }
 
-    -- Whether one of them is left.
-    pub record Looked (work : List ℕ) (now j : ℕ) (left : Bool) : Type 0 where
+    -- Whether one of them is left, and their slot.
+    pub record Looked (work : List ℕ) (now j : ℕ) (left : Bool) (led : ℕ) : Type 0 where
       pub number : left ≡ false → now ≡ known
       pub bytes : left ≡ false → work ≡ work₀
       pub gone : left ≡ false → (G : List ℕ) (D : Pairs) (s : ListedStep) (ts : List ListedStep) → Flagged free apart G D
@@ -540,18 +697,33 @@ module _ (arities free apart : List ℕ) (second : Bool) (area : List ℕ) (at :
           → select (answers nameCount s) (take first ts) ≡ []
           → All (Proper nameCount arities) (answered second G D s ts)
           → (ks : List Situation) → Knows arities capacity work₀ known ks → All (Gone work₀ ks) (answered second G D s (take j ts))
+      pub where-to : (G : List ℕ) (D : Pairs) (s : ListedStep) (ts : List ListedStep) (before : List Situation) → Flagged free apart G D
+          → EntryAt area at s → InScope nameCount arities 0 (s .result)
+          → ListAt arities others count ts
+          → select (answers nameCount s) (take first ts) ≡ []
+          → permitted D s ≡ true → Mirrored second G D (s ∷ []) ts before
+          → All (Proper nameCount arities) (answered second G D s ts)
+          → (ks : List Situation) → Knows arities capacity work₀ known ks → AllFound ks before
+          → LedTo (grown ks (answered second G D s (take j ts))) led (answered second G D s (take j ts))
 
-    pub looked-start : Looked work₀ known first false
+    pub looked-start : Looked work₀ known first false 0
     unfolding answered
-    looked-start = record { number = λ z. refl; bytes = λ z. refl; gone = λ z G D s ts flags e i l o p ks K. rw o tt }
+    looked-start = record {
+      number = λ z. refl;
+      bytes = λ z. refl;
+      gone = λ z G D s ts flags e i l o p ks K. rw o tt;
+      where-to = λ G D s ts before flags e i l o may m p ks K b. rw o (record { none = λ z. refl; one = λ k z q. tt });
+    }
 
     either-left : (b c : Bool) → (b || c) ≡ false → (b ≡ false) × (c ≡ false)
     either-left true c z = never (sym z)
     either-left false c z = (refl, z)
 
-    pub looked-next : (work : List ℕ) (now j : ℕ) (left : Bool) (a : Added) (n : ℕ) (work′ : List ℕ) → Looked work now j left → j < count → a .growth ≡ Known n
-        → AnswerIs arities free apart second area at others (stepBytes * j) capacity work now a work′ → Looked work′ n (j + 1) (left || a .left)
-    looked-next work now j left a n work′ x more q g = record {
+    pub looked-next : (work : List ℕ) (now j : ℕ) (left : Bool) (led : ℕ) (a : Added) (n : ℕ) (work′ : List ℕ) (led′ : ℕ) → Answers work now j
+        → Looked work now j left led → j < count → a .growth ≡ Known n → led′ ≡ joined led (a .led)
+        → AnswerIs arities free apart second area at others (stepBytes * j) capacity work now a work′ → Looked work′ n (j + 1) (left || a .left) led′
+    unfolding Puts GrowsTo LeadsWhere
+    looked-next work now j left led a n work′ led′ so x more q both g = record {
       number = λ z.
           let (u, v) = either-left left (a .left) z in
           let k : Known n ≡ Known now = sym q ∙ g .same .growth v in
@@ -569,23 +741,38 @@ module _ (arities free apart : List ℕ) (second : Bool) (area : List ℕ) (at :
           (subst (λ w. All (Gone w ks) (f (t ∷ []))) (x .bytes u)
           (g .gone v G D s t flags e i (l .entry j s more) (l .scope j s more) (l .rewritten j s more)
           (all-one (Proper nameCount arities) f (answered-++ second G D s) ts j s h p) ks now-known)));
+      where-to = λ G D s ts before flags e i l o may m p ks K b.
+          let f : List ListedStep → List Situation = answered second G D s in
+          let h : j < length ts = omega (arith, l .number) in
+          let t : ListedStep = getD ts j s in
+          let us : List Situation = f (take j ts) in
+          rw (both, part-next f (answered-++ second G D s) ts j s h)
+          (led-both ks us (f (t ∷ [])) led (a .led) (x .where-to G D s ts before flags e i l o may m p ks K b)
+          (g .where-to G D s t before flags e i (l .entry j s more) (l .scope j s more) (l .rewritten j s more) may
+          (one-answer-mirrored second G D before (s ∷ []) ts t (getD-∈ ts j s h) m) (all-one (Proper nameCount arities) f (answered-++ second G D s) ts j s h p)
+          n q (grown ks us) (so .is G D s ts before flags e i l o may m p ks K b) (all-kept ks us before b)));
     }
 
     pub looked-full : (work′ : List ℕ) → GrowsAnswers arities free apart second area at others first count capacity work₀ known Full work′
-        → AnswersAre arities free apart second area at others first count capacity work₀ known (record { growth = Full; left = true }) work′
+        → AnswersAre arities free apart second area at others first count capacity work₀ known (record { growth = Full; left = true; led = several }) work′
+    unfolding LeadsWhere
     looked-full work′ g = record {
       grown = g;
       same = record { growth = λ z. never (sym z); area = λ z. never (sym z) };
       gone = λ z. never (sym z);
+      where-to = λ G D s ts before flags e i l o may m p n z. let q : _≡_ {A = ℕ} 0 1 = cc in absurd (omega arith);
     }
 
-    pub looked-end : (work : List ℕ) (now j : ℕ) (left : Bool) → Answers work now j → Looked work now j left → count ≤ j
-        → AnswersAre arities free apart second area at others first count capacity work₀ known (record { growth = Known now; left = left }) work
-    looked-end work now j left x y h = record {
+    pub looked-end : (work : List ℕ) (now j : ℕ) (left : Bool) (led : ℕ) → Answers work now j → Looked work now j left led → count ≤ j
+        → AnswersAre arities free apart second area at others first count capacity work₀ known (record { growth = Known now; left = left; led = led }) work
+    unfolding LeadsWhere
+    looked-end work now j left led x y h = record {
       grown = answers-end work now j x h;
       same = record { growth = λ z. ap Known (y .number z); area = y .bytes };
       gone = λ z G D s ts flags e i l o p ks K.
           rw (part-whole (answered second G D s) (answered-++ second G D s) ts j (omega (arith, l .number))) (y .gone z G D s ts flags e i l o p ks K);
+      where-to = λ G D s ts before flags e i l o may m p n z ks K b.
+          rw (part-whole (answered second G D s) (answered-++ second G D s) ts j (omega (arith, l .number))) (y .where-to G D s ts before flags e i l o may m p ks K b);
     }
 
 -- The first answer.
@@ -681,6 +868,30 @@ module _ (arities free apart : List ℕ) (second : Bool) (taken : ℕ) (area : L
             let t = ap together (moved-one second G D s ts may) ∙ together-one second G D (answered second G D s ts) in
             answered-step G D s ts before may e l r work′ (g .keeps)
             (g .is G D s ts before flags e i l (F .none s ts e (list-entries arities others count ts l)) may m (subst (All (Proper nameCount arities)) t p));
+      }
+
+      -- where all its answers lead is noted
+      pub step-noted : (a : Added) (work′ : List ℕ) → taken < capacity → AnswersAre arities free apart second area at others first count capacity work known a work′
+          → a .led < several → (work″ : List ℕ) → NotesOne work′ taken (a .led) work″
+          → GrowsStep arities free apart second taken area at others count capacity work known (a .growth) work″
+      unfolding PermittedIs LeadsWhere
+      step-noted a work′ inside g few work″ o = record {
+        grows = record { rest = o .spare .rest capacity (omega arith) ∙ g .grown .grows .rest; within = g .grown .grows .within };
+        is = λ G D s ts before flags e i l m p.
+            let may = sym (P D s (flags .distinction) (flags .pairs) e) in
+            let xs : List Situation = answered second G D s ts in
+            let one = moved-one second G D s ts may in
+            let t = ap together one ∙ together-one second G D xs in
+            let proper = subst (All (Proper nameCount arities)) t p in
+            let none = F .none s ts e (list-entries arities others count ts l) in
+            let x = step-answered (a .growth) work′ (g .grown) .is G D s ts before flags e i l m p in
+            record {
+              puts = puts-noted arities capacity work known before (together (moved second G D (s ∷ []) ts)) (a .growth) work′ work″ taken (o .spare) (x .puts);
+              strikes = λ n z. subst (λ ms. Strikes arities capacity taken before ms work known n work″) (sym one)
+                  (strikes-noted arities capacity taken before work known waits xs n work′ (a .led) work″ few o
+                  (λ ks K b. g .where-to G D s ts before flags e i l none may m proper n z ks K b)
+                  (subst (λ ms. Strikes arities capacity taken before ms work known n work′) one (x .strikes n z)));
+            };
       }
 
       -- all that it leads to is struck out

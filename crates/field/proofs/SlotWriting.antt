@@ -13,9 +13,10 @@ use Rattle.field.specs.Chains.{Chained, LinkIs}
 use Rattle.field.specs.Growing.{Fits, Fitting, Knows, slotWith, KeepsStruck}
 use Rattle.field.specs.Holding.{SlotsHold}
 use Rattle.field.specs.Key.{SituationAt, keyAt}
+use Rattle.field.specs.Noted.{notedCount, notePlace, noteAt, SpareOnly}
 use Rattle.field.specs.Situation.{Situation}
 use Rattle.field.specs.Slot.{keyOf, keyBytes, slotBytes, struckAt}
-use Rattle.field.proofs.ChainLaws.{keeps-key, key-flag, chained-flag, chained-slot}
+use Rattle.field.proofs.ChainLaws.{size-same, keeps-key, key-flag, chained-kept, chained-flag, chained-slot}
 use Rattle.field.proofs.KeysDiffer.{slot-key}
 
 -- A run of stores leaves what is behind it, and what is before it.
@@ -59,6 +60,19 @@ knows-struck arities capacity work known ks i v K = record {
   chained = chained-flag capacity work known i v (K .chained);
 }
 
+-- a number noted
+pub knows-noted : (arities : List ℕ) (capacity : ℕ) (work : List ℕ) (known : ℕ) (ks : List Situation) (count : ℕ) (work′ : List ℕ) → SpareOnly count work work′
+    → Knows arities capacity work known ks → Knows arities capacity work′ known ks
+knows-noted arities capacity work known ks count work′ s K =
+    let keys : (i : ℕ) → keyAt work′ i ≡ keyAt work i =
+    keeps-key count work work′ (record { len = s .len; slots = λ i j h. s .slots i j (omega arith); rest = s .rest count (omega arith) }) in
+    record {
+      count = K .count;
+      fitting = K .fitting;
+      slots = slots-kept work work′ keys ks (K .slots);
+      chained = chained-kept capacity work work′ known (λ i l. keys i) (λ i j g h. s .slots i j h) (K .chained);
+    }
+
 module _ (work key : List ℕ) (i : ℕ) (room : slotBytes * i + slotBytes ≤ length work) (long : keyBytes ≤ length key) where
   abbrev new : List ℕ
   new = take keyBytes key ++ (0 ∷ [])
@@ -100,11 +114,18 @@ module _ (work key : List ℕ) (i : ℕ) (room : slotBytes * i + slotBytes ≤ l
   unfolding slotWith
   slot-other j h = getD-before work (slotBytes * j + keyBytes) (slotBytes * i) new (omega arith)
 
+  slot-notes : (j k : ℕ) → j < i → k < notedCount → noteAt (slotWith work i key) j k ≡ noteAt work j k
+  unfolding slotWith
+  slot-notes j k h g =
+      size-same work (sets work (slotBytes * i) new) (notePlace j k) (getD-before work (notePlace j k) (slotBytes * i) new (omega arith))
+      (getD-before work (notePlace j k + 1) (slotBytes * i) new (omega arith))
+
   -- it is left, and the others are as they were
   pub slot-struck : (capacity : ℕ) (work′ : List ℕ) → LinkIs capacity (slotWith work i key) i work′ → KeepsStruck work i (i + 1) work′
   slot-struck capacity work′ L = record {
     kept = λ j h. L .keeps .slots j keyBytes (omega arith) ∙ slot-other j h;
     fresh = λ j h l. let e : i ≡ j = omega arith in L .keeps .slots j keyBytes (omega arith) ∙ rw (← e) slot-left;
+    notes = λ j k h g. L .notes j k g ∙ slot-notes j k h g;
   }
 
   -- One more situation is known.

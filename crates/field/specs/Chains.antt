@@ -10,6 +10,7 @@ use lib.Dec.{eqb}
 use lib.ListN.{length, getD, drop, set}
 use Rattle.terms.specs.FieldPlaces.{sizeAt}
 use Rattle.field.specs.Key.{keyAt, FoundIs}
+use Rattle.field.specs.Noted.{notedCount, noteAt}
 use Rattle.field.specs.Slot.{slotBytes}
 use Rattle.field.specs.declared.find.Found.{Found}
 use Rattle.field.specs.declared.find.Found.the-variants.{At}
@@ -106,6 +107,7 @@ pub record KeepsKeys (capacity : ℕ) (work work′ : List ℕ) : Type 0 where
 pub record LinkIs (capacity : ℕ) (work : List ℕ) (i : ℕ) (work′ : List ℕ) : Type 0 where
   pub chained : Chained capacity work i → Chained capacity work′ (i + 1)
   pub keeps : KeepsKeys capacity work work′
+  pub notes : (j k : ℕ) → k < notedCount → noteAt work′ j k ≡ noteAt work j k
 
 -- The slot with the key, where the slots are chained; one of them in any case.
 pub record FindsIn (capacity : ℕ) (work : List ℕ) (count : ℕ) (key : List ℕ) (r : Found) : Type 0 where

@@ -3,7 +3,9 @@
 use mathlib.Core.Path.{_≡_}
 use mathlib.Core.Bool.{Bool, true, false, cond}
 use mathlib.Core.List.{List, [], _∷_, _++_, map}
-use Prim.Native.Nat.{ℕ, _*_, _<_, _≤_}
+use mathlib.Core.Logic.{_⊎_}
+use Prim.Native.Nat.{ℕ, _+_, _*_, _<_, _≤_}
+use lib.Dec.{eqb}
 use lib.ListN.{length, getD, take, drop}
 use lib.Seq.{sets}
 use Rattle.calculus.specs.Cond.{Pairs}
@@ -20,6 +22,7 @@ use Rattle.field.specs.Exploration.{found, together, unanswered}
 use Rattle.field.specs.Holding.{SlotsHold}
 use Rattle.field.specs.Leading.{placed, leading}
 use Rattle.field.specs.NameFlags.{HasNames}
+use Rattle.field.specs.Noted.{notedCount, noteAt, Stands, SoleIn}
 use Rattle.field.specs.Setting.{settingOf}
 use Rattle.field.specs.Situation.{Situation, freeFrom, situation}
 use Rattle.field.specs.Slot.{flagsOf, keyOf, keyBytes, slotBytes, struckAt}
@@ -84,10 +87,29 @@ pub record Grows (capacity : ℕ) (work : List ℕ) (known : ℕ) (r : Growth) (
 unfoldable pub slotWith : List ℕ → ℕ → List ℕ → List ℕ
 slotWith work i key = sets work (slotBytes * i) (take keyBytes key ++ (0 ∷ []))
 
--- The situations left stay left, those struck out stay struck out, and the new ones are left.
+-- The situations left stay left, those struck out stay struck out, and the new ones are left. What is noted stays.
 pub record KeepsStruck (work : List ℕ) (known n : ℕ) (work′ : List ℕ) : Type 0 where
   pub kept : (i : ℕ) → i < known → getD work′ (struckAt i) 0 ≡ getD work (struckAt i) 0
   pub fresh : (i : ℕ) → known ≤ i → i < n → getD work′ (struckAt i) 0 ≡ 0
+  pub notes : (i k : ℕ) → i < known → k < notedCount → noteAt work′ i k ≡ noteAt work i k
+
+-- Where the situations us lead that were looked at: to the slot of number led - 1 all of them, or nowhere if there are none, or, where led is
+-- `several`, to nothing that is said.
+abbrev pub several : ℕ
+several = 4097
+
+pub record LedTo (ks : List Situation) (led : ℕ) (us : List Situation) : Type 0 where
+  pub none : led ≡ 0 → us ≡ []
+  pub one : (j : ℕ) → led ≡ j + 1 → led < several → All (Stands ks j) us
+
+-- both where a and where b say
+unfoldable pub joined : ℕ → ℕ → ℕ
+joined a b = cond (eqb b 0) a (cond (eqb a 0) b (cond (eqb a b) a several))
+
+-- Where r leads, if those of `before` are known.
+unfoldable pub LeadsWhere : List ℕ → ℕ → List ℕ → ℕ → List Situation → List Situation → Added → Type 0
+LeadsWhere arities capacity work known before news r =
+    (n : ℕ) → r .growth ≡ Known n → (ks : List Situation) → Knows arities capacity work known ks → AllFound ks before → LedTo (grown ks news) (r .led) news
 
 -- One situation.
 pub record AddIs (capacity : ℕ) (work : List ℕ) (known : ℕ) (key : List ℕ) (r : Growth) (work′ : List ℕ) : Type 0 where
@@ -107,12 +129,13 @@ pub record Unchanged (work : List ℕ) (known : ℕ) (r : Added) (work′ : List
   pub growth : r .left ≡ false → r .growth ≡ Known known
   pub area : r .left ≡ false → work′ ≡ work
 
--- One situation, and whether it is left.
+-- One situation, whether it is left, and its slot.
 pub record AddedIs (capacity : ℕ) (work : List ℕ) (known : ℕ) (key : List ℕ) (r : Added) (work′ : List ℕ) : Type 0 where
   pub added : AddIs capacity work known key (r .growth) work′
   pub same : Unchanged work known r work′
   pub gone : r .left ≡ false → (arities : List ℕ) (s : Situation) → Fitting arities s → key ≡ keyOf s
       → (ks : List Situation) → Knows arities capacity work known ks → Gone work ks s
+  pub where-to : (arities : List ℕ) (s : Situation) → Fitting arities s → key ≡ keyOf s → LeadsWhere arities capacity work known [] (s ∷ []) r
 
 -- The names G and the apart pairs D of the situation taken up, as flags.
 pub record Flagged (free apart G : List ℕ) (D : Pairs) : Type 0 where
@@ -142,7 +165,7 @@ pub record GrowsAnswer (arities free apart : List ℕ) (second : Bool) (area : L
       → All (Proper nameCount arities) (answered second G D s (t ∷ []))
       → Puts arities capacity work known before (answered second G D s (t ∷ [])) r work′
 
--- and whether it is left
+-- and whether it is left, and its slot
 pub record AnswerIs (arities free apart : List ℕ) (second : Bool) (area : List ℕ) (at : ℕ) (others : List ℕ) (place capacity : ℕ) (work : List ℕ)
     (known : ℕ) (r : Added) (work′ : List ℕ) : Type 0 where
   pub grown : GrowsAnswer arities free apart second area at others place capacity work known (r .growth) work′
@@ -152,6 +175,12 @@ pub record AnswerIs (arities free apart : List ℕ) (second : Bool) (area : List
       → EntryAt others place t → InScope nameCount arities 0 (t .result) → Rewritten t
       → All (Proper nameCount arities) (answered second G D s (t ∷ []))
       → (ks : List Situation) → Knows arities capacity work known ks → All (Gone work ks) (answered second G D s (t ∷ []))
+  pub where-to : (G : List ℕ) (D : Pairs) (s t : ListedStep) (before : List Situation) → Flagged free apart G D
+      → EntryAt area at s → InScope nameCount arities 0 (s .result)
+      → EntryAt others place t → InScope nameCount arities 0 (t .result) → Rewritten t
+      → permitted D s ≡ true → Mirrored second G D (s ∷ []) (t ∷ []) before
+      → All (Proper nameCount arities) (answered second G D s (t ∷ []))
+      → LeadsWhere arities capacity work known before (answered second G D s (t ∷ [])) r
 
 -- Every answer to it, where none before `first` answers.
 pub record GrowsAnswers (arities free apart : List ℕ) (second : Bool) (area : List ℕ) (at : ℕ) (others : List ℕ) (first count capacity : ℕ) (work : List ℕ)
@@ -166,7 +195,7 @@ pub record GrowsAnswers (arities free apart : List ℕ) (second : Bool) (area : 
       → All (Proper nameCount arities) (answered second G D s ts)
       → Puts arities capacity work known before (answered second G D s ts) r work′
 
--- and whether one of them is left
+-- and whether one of them is left, and their slot
 pub record AnswersAre (arities free apart : List ℕ) (second : Bool) (area : List ℕ) (at : ℕ) (others : List ℕ) (first count capacity : ℕ) (work : List ℕ)
     (known : ℕ) (r : Added) (work′ : List ℕ) : Type 0 where
   pub grown : GrowsAnswers arities free apart second area at others first count capacity work known (r .growth) work′
@@ -177,6 +206,13 @@ pub record AnswersAre (arities free apart : List ℕ) (second : Bool) (area : Li
       → select (answers nameCount s) (take first ts) ≡ []
       → All (Proper nameCount arities) (answered second G D s ts)
       → (ks : List Situation) → Knows arities capacity work known ks → All (Gone work ks) (answered second G D s ts)
+  pub where-to : (G : List ℕ) (D : Pairs) (s : ListedStep) (ts : List ListedStep) (before : List Situation) → Flagged free apart G D
+      → EntryAt area at s → InScope nameCount arities 0 (s .result)
+      → ListAt arities others count ts
+      → select (answers nameCount s) (take first ts) ≡ []
+      → permitted D s ≡ true → Mirrored second G D (s ∷ []) ts before
+      → All (Proper nameCount arities) (answered second G D s ts)
+      → LeadsWhere arities capacity work known before (answered second G D s ts) r
 
 -- The first of `count` steps that answers the one at `at`, or `count`.
 pub record FirstAnswerIs (area : List ℕ) (at : ℕ) (others : List ℕ) (count r : ℕ) : Type 0 where
@@ -190,7 +226,7 @@ unfoldable pub moved : Bool → List ℕ → Pairs → List ListedStep → List 
 moved second G D ss ts = moves nameCount (placed second) (freeFrom G 0 nameCount) D ss ts
 
 -- Of the situation of number `taken` the moves ms were looked at: it is struck out if one of them has no answer, and it is only if all answers of one
--- lead to situations that were struck out before. The others keep their bytes.
+-- lead to situations that were struck out before. The others keep their bytes. What is noted of it newly are only answers to moves.
 pub record Strikes (arities : List ℕ) (capacity taken : ℕ) (before : List Situation) (ms : List (List Situation)) (work : List ℕ) (known n : ℕ)
     (work′ : List ℕ) : Type 0 where
   pub must : unanswered ms ≡ true → getD work′ (struckAt taken) 0 ≡ 0 → ⊥
@@ -199,6 +235,9 @@ pub record Strikes (arities : List ℕ) (capacity taken : ℕ) (before : List Si
       → (getD work′ (struckAt taken) 0 ≡ 0 → ⊥) → (w : List Situation) × (w ∈ ms) × All (Gone work ks) w
   pub others : (i : ℕ) → i < known → (i ≡ taken → ⊥) → getD work′ (struckAt i) 0 ≡ getD work (struckAt i) 0
   pub fresh : (i : ℕ) → known ≤ i → i < n → getD work′ (struckAt i) 0 ≡ 0
+  pub notes : (i k : ℕ) → i < known → (i ≡ taken → ⊥) → k < notedCount → noteAt work′ i k ≡ noteAt work i k
+  pub sole : (ks : List Situation) → Knows arities capacity work known ks → AllFound ks before → (k : ℕ) → k < notedCount
+      → (noteAt work′ taken k ≡ noteAt work taken k) ⊎ SoleIn (grown ks (together ms)) ms (noteAt work′ taken k)
 
 -- What they lead to is put behind the known ones, if those of `before` are known.
 pub record LeadsAfter (arities : List ℕ) (capacity taken : ℕ) (before : List Situation) (ms : List (List Situation)) (work : List ℕ) (known : ℕ) (r : Growth)

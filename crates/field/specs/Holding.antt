@@ -39,7 +39,7 @@ SoleNoted work rs = (i k : ℕ) (d : Row) → i < length rs → k < notedCount �
 -- judge clears it.
 unfoldable pub Explores : Exploration → Explored → List ℕ → Type 0
 Explores incomplete r work′ = r ≡ Incomplete
-Explores (explored rs) r work′ = (r ≡ Field (length rs)) × SlotsHold work′ (map (λ t. t .self) rs) × StruckFirst work′ rs
+Explores (explored rs) r work′ = (r ≡ Field (length rs)) × SlotsHold work′ (map (λ t. t .self) rs) × StruckFirst work′ rs × SoleNoted work′ rs
 
 pub record ExploreIs (question : List ℕ) (capacity : ℕ) (work : List ℕ) (r : Explored) (work′ : List ℕ) : Type 0 where
   pub rest : drop (slotBytes * capacity) work′ ≡ drop (slotBytes * capacity) work

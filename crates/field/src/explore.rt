@@ -6,7 +6,7 @@ ghost use Rattle.candidates.specs.Tally.{tallySize, BodiesTallied};
 ghost use Rattle.steps.specs.Limits.{stepBytes, mostSteps};
 ghost use Rattle.steps.specs.Rows.{rowBytes, mostRows};
 ghost use Rattle.field.specs.Chains.{LinkIs};
-ghost use Rattle.field.specs.Growing.{slotWith, AddedIs, AnswerIs, AnswersAre, FirstAnswerIs, GrowsStep, GrowsSide, GrowsSides, GrowIs};
+ghost use Rattle.field.specs.Growing.{slotWith, joined, AddedIs, AnswerIs, AnswersAre, FirstAnswerIs, GrowsStep, GrowsSide, GrowsSides, GrowIs};
 ghost use Rattle.field.specs.Holding.{ExploreIs};
 ghost use Rattle.field.specs.ListArea.{Labelled};
 ghost use Rattle.field.specs.Slot.{keyBytes, slotBytes};
@@ -19,6 +19,8 @@ use crate::find::Found;
 use crate::find::KEY_BYTES;
 use crate::find::SLOT_BYTES;
 use crate::find::left_at;
+use crate::notes::clear_slot;
+use crate::notes::note_sole;
 use crate::pairs::PAIR_COUNT;
 use crate::pairs::permitted;
 use crate::results::successor;
@@ -41,10 +43,31 @@ pub enum Growth {
     Known(usize),
 }
 
-// The growth, and whether a situation that was looked at is left: not struck out so far.
+// The growth, whether a situation that was looked at is left, that is, not struck out so far, and the number plus 1 of the slot that all of them
+// have: 0 if none was looked at, and SEVERAL if they have no such slot or it was not looked for.
 pub struct Added {
     pub growth: Growth,
     pub left: bool,
+    pub led: usize,
+}
+
+// More than any number of a slot plus 1.
+const SEVERAL: usize = 4097;
+
+// The slot that both lots of situations have.
+fn join(a: usize, b: usize) -> usize
+    ensures { λ r. ⌜ r ≡ joined a b ⌝ }
+{
+    if b == 0 {
+        return a;
+    }
+    if a == 0 {
+        return b;
+    }
+    if a == b {
+        return a;
+    }
+    SEVERAL
 }
 
 // Writes the key into slot `i` and chains it; the byte behind the key says that the situation is left.
@@ -70,6 +93,7 @@ fn add(work: &mut [u8], capacity: usize, known: usize, key: &[u8]) -> Added
             Added {
                 growth: Growth::Known(known),
                 left,
+                led: i + 1,
             }
         }
         Found::Nothing => {
@@ -77,12 +101,14 @@ fn add(work: &mut [u8], capacity: usize, known: usize, key: &[u8]) -> Added
                 return Added {
                     growth: Growth::Full,
                     left: true,
+                    led: SEVERAL,
                 };
             }
             put(work, capacity, known, key);
             Added {
                 growth: Growth::Known(known + 1),
                 left: true,
+                led: known + 1,
             }
         }
     }
@@ -110,6 +136,7 @@ fn grow_answer(
         return Added {
             growth: Growth::Known(known),
             left: false,
+            led: 0,
         };
     }
     if second {
@@ -117,6 +144,7 @@ fn grow_answer(
             return Added {
                 growth: Growth::Known(known),
                 left: true,
+                led: SEVERAL,
             };
         }
     }
@@ -124,7 +152,8 @@ fn grow_answer(
     add(work, capacity, known, &key)
 }
 
-// What every answer of the other side, which has `count` steps, leads to, and whether one of those situations is left; none before `first` answers.
+// What every answer of the other side, which has `count` steps, leads to, whether one of those situations is left, and their slot; none before
+// `first` answers.
 fn grow_answers(
     arities: &[u8],
     free: &[u8],
@@ -144,6 +173,7 @@ fn grow_answers(
 {
     let mut so_far = known;
     let mut left = false;
+    let mut led = 0;
     let mut j = first;
     while j < count {
         let added = grow_answer(
@@ -164,15 +194,18 @@ fn grow_answers(
             return Added {
                 growth: Growth::Full,
                 left: true,
+                led: SEVERAL,
             };
         };
         so_far = n;
         left = left | added.left;
+        led = join(led, added.led);
         j += 1;
     }
     Added {
         growth: Growth::Known(so_far),
         left,
+        led,
     }
 }
 
@@ -192,7 +225,8 @@ fn first_answer(area: &[u8], at: usize, others: &[u8], count: usize) -> usize
 }
 
 // What the step at `at` of the situation in slot `taken` leads to, if it is permitted. Where no answer is there, or all lead to situations that are
-// struck out, none is ever left: the situation is struck out. All answers to a step without a condition have its header.
+// struck out, none is ever left: the situation is struck out. Where all lead to one situation, that is noted. All answers to a step without a
+// condition have its header.
 fn grow_step(
     arities: &[u8],
     free: &[u8],
@@ -238,6 +272,9 @@ fn grow_step(
         known,
     );
     if added.left {
+        if added.led < SEVERAL {
+            note_sole(work, taken, added.led);
+        }
         return added.growth;
     }
     work[SLOT_BYTES * taken + KEY_BYTES] = 1;
@@ -405,6 +442,7 @@ pub fn explore(
     let mut known = 1;
     let mut taken = 0;
     while taken < known {
+        clear_slot(work, taken);
         let growth = grow(
             question,
             bodies,

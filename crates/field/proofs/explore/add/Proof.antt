@@ -1,7 +1,7 @@
 -- `field::explore::add` meets its contract. Assumes nothing.
 use native.Mathlib.Omega.{arith}
 use mathlib.Core.Path.{refl}
-use Rattle.field.proofs.GrowingLaws.{add-full, add-new, added-left, added-found}
+use Rattle.field.proofs.GrowingLaws.{add-full, add-new, added-full, added-new, added-found}
 use borrow.Author.Needs.{needs}
 use Rattle.field.proofs.explore.add.Statement.{statement}
 use Rattle.field.proofs.explore.add.Tie as tie
@@ -15,6 +15,9 @@ enum-known-place c = search needs
 left-at-requires : tie.Need-left-at-requires
 left-at-requires c κs = omega (arith, (rw (c .before .before .place .given .1) at (c .before .before .before .before .find-chained .ensures)) .within _ refl)
 
+add-t14 : tie.Need-add-t14
+add-t14 c = omega (arith, (rw (c .before .before .before .place .given .1) at (c .before .before .before .before .before .find-chained .ensures)) .within _ refl)
+
 enum-told : tie.Need-enum-told
 enum-told c = search needs
 
@@ -22,13 +25,16 @@ same-length : tie.Need-same-length
 same-length c = search needs
 
 returns : tie.Need-returns
-returns c = added-left _ _ _ _ _ _ (add-full _ _ _ _ (rw (c .before .enum-told .given .1) at (c .before .before .before .find-chained .ensures)) (c .if1 .taken))
+returns c = added-full _ _ _ _ _ _ (add-full _ _ _ _ (rw (c .before .enum-told .given .1) at (c .before .before .before .find-chained .ensures)) (c .if1 .taken))
 
 put-requires : tie.Need-put-requires
 put-requires c κs = search needs
 
-add-t19 : tie.Need-add-t19
-add-t19 c = search needs
+add-t20 : tie.Need-add-t20
+add-t20 c = search needs
+
+add-t22 : tie.Need-add-t22
+add-t22 c = search needs
 
 same-length-2 : tie.Need-same-length-2
 same-length-2 c = search needs
@@ -40,7 +46,7 @@ same-length-3 : tie.Need-same-length-3
 same-length-3 c = search needs
 
 returns-3 : tie.Need-returns-3
-returns-3 c = added-left _ _ _ _ _ _ (add-new _ _ _ _ (rw (c .before .before .before .before .before .enum-told .given .1) at (c .before .before .before .before .before .before .before .find-chained .ensures)) (omega (arith, c .before .before .before .before .if1 .left)) (omega arith) (omega arith) _ (c .before .before .put .ensures))
+returns-3 c = added-new _ _ _ _ (rw (c .before .before .before .before .before .enum-told .given .1) at (c .before .before .before .before .before .before .before .find-chained .ensures)) _ (add-new _ _ _ _ (rw (c .before .before .before .before .before .enum-told .given .1) at (c .before .before .before .before .before .before .before .find-chained .ensures)) (omega (arith, c .before .before .before .before .if1 .left)) (omega arith) (omega arith) _ (c .before .before .put .ensures))
 
 pub add-spec : {M : Type 1} → statement M
 add-spec =
@@ -49,11 +55,13 @@ add-spec =
     find-chained-requires
     enum-known-place
     left-at-requires
+    add-t14
     enum-told
     same-length
     returns
     put-requires
-    add-t19
+    add-t20
+    add-t22
     same-length-2
     returns-2
     same-length-3
