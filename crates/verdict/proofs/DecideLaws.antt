@@ -179,9 +179,7 @@ module _ (question : List ℕ) (q : Question) (accepted : checkOf question ≡ r
       known = selves rs;
       number = count;
       standing = standing;
-      first = λ s m. those .proper s m .first;
-      second = λ s m. those .proper s m .second;
-      distinction = λ s m. those .proper s m .distinction;
+      proper = those .proper;
       closed = leads-within;
       equal = leads-equal;
     };

@@ -94,5 +94,5 @@ module _ (question : List ℕ) (capacity count : ℕ) (work : List ℕ) (f : Sea
   pub equal-bytes : {r : Bool} → EqualPartsIs work i r → r ≡ true → EqualParts here
   unfolding EqualPartsIs
   equal-bytes same e =
-      encode-same nameCount (omega arith) (f .field .read .arities) (here .first) (here .second) (f .field .first here there) (f .field .second here there)
+      encode-same nameCount (omega arith) (f .field .read .arities) (here .first) (here .second) (f .field .proper here there .first) (f .field .proper here there .second)
       (same e here (f .field .standing .held i d (omega (arith, f .field .number))))

@@ -1,26 +1,30 @@
 -- The field stays in the work area where only the bytes for strike-out and for notes change, and so does what is noted. Assumes nothing.
-use mathlib.Core.Bool.{Bool, true}
+use mathlib.Core.Bool.{Bool, true, false}
 use mathlib.Core.List.{List}
 use mathlib.Core.Path.{_≡_, refl, sym, ap, _∙_, subst}
-use native.Mathlib.Decide.{ℕ-discrete, decLt}
+use native.Mathlib.Decide.{ℕ-discrete}
 use native.Mathlib.Omega.{arith}
 use Prim.Native.Nat.{ℕ, _+_, _-_, _*_, _<_, _≤_}
 use lib.ListN.{length, getD, set}
 use lib.Seq.{getD-set-other}
-use borrow.Author.Tests.{eq-eqb}
+use borrow.Author.Tests.{eq-eqb, ne-eqb}
 use Rattle.candidates.specs.Lists.{_∈_}
+use Rattle.candidates.proofs.Membership.{all-∈}
 use Rattle.field.specs.Key.{keyAt}
+use Rattle.field.specs.Noted.{notedCount, noteAt, SpareOnly, SoleIn}
 use Rattle.field.specs.Situation.{Situation}
 use Rattle.field.specs.Slot.{slotBytes, struckAt}
-use Rattle.field.proofs.ChainLaws.{key-flag, keeps-key, chained-kept, size-same}
+use Rattle.field.proofs.ChainLaws.{key-flag, keeps-key, chained-kept}
+use Rattle.field.proofs.NotedLaws.{note-flag}
 use Rattle.field.proofs.SlotWriting.{situation-kept}
-use Rattle.verdict.specs.Notes.{notedCount, noteAt, NotedIn, Has, SpareOnly, NoteIs, ClearsNotes, RestsIs}
-use Rattle.verdict.specs.Striking.{living, leftOf, Standing, ReliesOn, FieldIn, Searching, SurvivesIs, Relies, ExaminedIs, AllNoted}
+use Rattle.verdict.specs.Notes.{NotedIn, Has, NoteIs, ClearsNotes, RestsIs, SoleStruckIs}
+use Rattle.verdict.specs.Striking.{living, leftOf, Standing, ReliesOn, FieldIn, Searching, SurvivesIs, Relies, ExaminedIs, AllNoted, AllSole, NotesHold}
 use Rattle.verdict.specs.Verdict.{answered, allAnswered}
 use Rattle.verdict.specs.declared.strike.Answered.{Answered}
 use Rattle.verdict.proofs.LeftLaws.{left-found}
 use Rattle.verdict.proofs.Marks.{marks-kept}
 use Rattle.verdict.proofs.SideLaws.{found-answered, each-answered}
+use Rattle.verdict.proofs.Unanswered.{none-answered, one-fails}
 
 -- Keys and chains are as they were.
 pub record SameField (v u : List ℕ) : Type 0 where
@@ -56,13 +60,6 @@ standing-kept {capacity} {v} {u} known s st = record {
   exact = st .exact;
 }
 
-mark-other : (i j b : ℕ) → 241 < b → b < 256 → slotBytes * j + b ≡ struckAt i → ⊥
-mark-other i j b g h e = go (decLt j i)
-  where
-    go : Dec (j < i) → ⊥
-    go (yes l) = omega arith
-    go (no l) = omega arith
-
 module _ (question : List ℕ) (capacity count : ℕ) where
   unfoldable pub field-kept : {v u : List ℕ} → SameField v u → FieldIn question capacity v count → FieldIn question capacity u count
   field-kept s f = record {
@@ -71,9 +68,7 @@ module _ (question : List ℕ) (capacity count : ℕ) where
     known = f .known;
     number = f .number;
     standing = standing-kept (f .known) s (f .standing);
-    first = f .first;
-    second = f .second;
-    distinction = f .distinction;
+    proper = f .proper;
     closed = f .closed;
     equal = f .equal;
   }
@@ -92,15 +87,19 @@ module _ (question : List ℕ) (capacity count : ℕ) where
       relies-kept i (NotedIn v i) (NotedIn u i) s (λ j x. (x .0, x .1, so (x .0) (x .1) ∙ x .2)) (n (omega (arith, so 0 (omega arith))))
 
   -- What is noted holds still as a situation is struck out, as another is noted, and as nothing is noted.
-  pub noted-struck : (v : List ℕ) (i : ℕ) → AllNoted question capacity v count → AllNoted question capacity (set v (struckAt i) 1) count
+  noted-struck : (v : List ℕ) (i : ℕ) → AllNoted question capacity v count → AllNoted question capacity (set v (struckAt i) 1) count
   unfolding AllNoted
-  noted-struck v i n j h = noted-kept v (set v (struckAt i) 1) j (struck-same v i) same (n j h)
-    where
-      same : (k : ℕ) → k < notedCount → noteAt (set v (struckAt i) 1) j k ≡ noteAt v j k
-      same k g =
-          size-same v (set v (struckAt i) 1) (slotBytes * j + 246 + 2 * k)
-          (getD-set-other v (struckAt i) (slotBytes * j + 246 + 2 * k) 1 0 (λ z. mark-other i j (246 + 2 * k) (omega arith) (omega arith) (omega arith)))
-          (getD-set-other v (struckAt i) (slotBytes * j + 246 + 2 * k + 1) 1 0 (λ z. mark-other i j (247 + 2 * k) (omega arith) (omega arith) (omega arith)))
+  noted-struck v i n j h = noted-kept v (set v (struckAt i) 1) j (struck-same v i) (note-flag v i 1 j) (n j h)
+
+  sole-struck : (v : List ℕ) (i : ℕ) → AllSole question capacity v count → AllSole question capacity (set v (struckAt i) 1) count
+  unfolding AllSole field-kept
+  sole-struck v i n j k h g f d ms e =
+      subst (SoleIn (f .known) ms) (sym (note-flag v i 1 j k g)) (n j k h g (field-kept (same-back (struck-same v i)) f) d ms e)
+
+  pub notes-struck : (examine : Bool) (v : List ℕ) (i : ℕ) → NotesHold examine question capacity v count → NotesHold examine question capacity (set v (struckAt i) 1) count
+  unfolding NotesHold
+  notes-struck true v i n = noted-struck v i n
+  notes-struck false v i n = sole-struck v i n
 
   pub noted-one : (v u : List ℕ) (i : ℕ) (r : Answered) → ExaminedIs question capacity v count i r → r .all ≡ true → NoteIs v i (r .relied) u
       → AllNoted question capacity v count → AllNoted question capacity u count
@@ -140,6 +139,20 @@ module _ (question : List ℕ) (capacity count : ℕ) where
           let left = subst (λ j. getD v (struckAt j) 0 ≡ 0) z (rests t k b .2) in
           found-answered (leftOf v (f .field .known)) w (getD (f .field .known) j d) (x d)
           (left-found v (f .field .known) (f .field .standing) j (getD (f .field .known) j d) d l refl ∙ eq-eqb (getD v (struckAt j) 0) 0 left)
+
+  -- A situation does not survive if one that is noted for it, the only answer to a step, is struck out: that step is not answered.
+  pub sole-fails : (v : List ℕ) (i : ℕ) (r : Bool) → i < count → AllSole question capacity v count → SoleStruckIs v count i r → r ≡ true
+      → SurvivesIs question capacity v count i false
+  unfolding AllSole SoleStruckIs SurvivesIs SoleIn
+  sole-fails v i r h n struck t f d ms e =
+      let (k, j, g, q, l, gone) = struck t in
+      let (w, m, only) = n i k h g (f .field) d ms e j q in
+      sym (one-fails left w ms m (none-answered left w (λ u x.
+      let (b, is) = all-∈ _ w only u x in
+      left-found v (f .field .known) (f .field .standing) j u d b (is d) ∙ ne-eqb (getD v (struckAt j) 0) 0 gone)))
+    where
+      left : List Situation
+      left = leftOf v (f .field .known)
 
   -- Notes change nothing that is left.
   module _ (v u : List ℕ) (s : SpareOnly count v u) where

@@ -1,17 +1,20 @@
 -- What is relied on, gathered and noted in a slot's spare bytes. Assumes nothing.
 use mathlib.Core.Bool.{Bool, true, false}
 use mathlib.Core.List.{List}
-use mathlib.Core.Path.{_≡_, refl, ap, _∙_}
+use mathlib.Core.Path.{_≡_, refl, sym, ap, _∙_}
 use native.Mathlib.Decide.{ℕ-discrete}
 use native.Mathlib.Omega.{arith}
-use Prim.Native.Nat.{ℕ, _+_, _-_, _*_, _/_, _%_, _<_, _≤_}
+use Prim.Native.Nat.{ℕ, _+_, _-_, _*_, _<_, _≤_}
 use borrow.Author.Count.{below-more}
+use borrow.Author.Tests.{eqb-false}
 use lib.ListN.{length, getD, set, replicate, getD-replicate}
-use lib.Seq.{drop-set-lt, getD-set-same, getD-set-other}
+use lib.Seq.{getD-set-same, getD-set-other}
 use Rattle.field.specs.Chains.{putNumber}
+use Rattle.field.specs.Noted.{notedCount, notePlace, noteAt, SpareOnly, OtherNotes}
 use Rattle.field.specs.Slot.{slotBytes, struckAt, LeftAtIs}
-use Rattle.field.proofs.ChainLaws.{length-put, byte-put, size-put, size-same}
-use Rattle.verdict.specs.Notes.{notedCount, notePlace, noteAt, Has, Numbers, WithIs, SpareOnly, NoteIs, ClearsNotes, RestsIs}
+use Rattle.field.proofs.ChainLaws.{size-put}
+use Rattle.field.proofs.NotedLaws.{spare-none, spare-put, note-other}
+use Rattle.verdict.specs.Notes.{Has, Numbers, WithIs, NoteIs, ClearsNotes, RestsIs, SoleStruckIs}
 use Rattle.verdict.specs.declared.relied.Relied.{Relied}
 use Rattle.verdict.proofs.Marks.{left-zero}
 use Rattle.verdict.proofs.Rounds.{true-not-false}
@@ -67,42 +70,11 @@ module _ (r : Relied) (j : ℕ) (n : Numbers r) where
       small k g (yes e) = rw e (omega (arith, here))
       small k g (no e) = omega (arith, getD-set-other (r .slots) (r .count) k (j + 1) 0 e, n .small k g)
 
--- A number in a spare place.
-module _ (count : ℕ) where
-  pub spare-none : (work : List ℕ) → SpareOnly count work work
-  spare-none work = record { len = refl; slots = λ i j h. refl; rest = λ k h. refl }
-
-  pub spare-then : (w v u : List ℕ) → SpareOnly count w v → SpareOnly count v u → SpareOnly count w u
-  spare-then w v u s t = record {
-    len = t .len ∙ s .len;
-    slots = λ i j h. t .slots i j h ∙ s .slots i j h;
-    rest = λ k h. t .rest k h ∙ s .rest k h;
-  }
-
-  spare-put : (work₀ work : List ℕ) (i k n : ℕ) → i < count → k < notedCount → SpareOnly count work₀ work
-      → SpareOnly count work₀ (putNumber work (notePlace i k) n)
-  unfolding putNumber
-  spare-put work₀ work i k n h l s =
-      let p : ℕ = notePlace i k in
-      record {
-        len = length-put work p n ∙ s .len;
-        slots = λ a b g. byte-put work p n (slotBytes * a + b) (λ z. omega arith) (λ z. omega arith) ∙ s .slots a b g;
-        rest = λ m g.
-            drop-set-lt (slotBytes * m) (set work p (n / 256)) (p + 1) (n % 256) (omega arith) ∙ drop-set-lt (slotBytes * m) work p (n / 256) (omega arith)
-            ∙ s .rest m g;
-      }
-
-note-other : (work : List ℕ) (i k n j l : ℕ) → (notePlace j l ≡ notePlace i k → ⊥) → noteAt (putNumber work (notePlace i k) n) j l ≡ noteAt work j l
-note-other work i k n j l f =
-    size-same work (putNumber work (notePlace i k) n) (notePlace j l)
-    (byte-put work (notePlace i k) n (notePlace j l) f (λ z. omega arith))
-    (byte-put work (notePlace i k) n (notePlace j l + 1) (λ z. omega arith) (λ z. f (omega arith)))
-
 -- note
 pub record Noting (work₀ : List ℕ) (i : ℕ) (slots work : List ℕ) (k : ℕ) : Type 0 where
   pub spare : SpareOnly (i + 1) work₀ work
   pub here : (l : ℕ) → l < k → noteAt work i l ≡ getD slots l 0
-  pub others : (j : ℕ) → (j ≡ i → ⊥) → (l : ℕ) → l < notedCount → noteAt work j l ≡ noteAt work₀ j l
+  pub others : OtherNotes i work₀ work
 
 pub noting-start : (work : List ℕ) (i : ℕ) (slots : List ℕ) → Noting work i slots work 0
 noting-start work i slots = record { spare = spare-none (i + 1) work; here = λ l h. absurd (omega arith); others = λ j f l h. refl }
@@ -149,3 +121,14 @@ module _ (work : List ℕ) (count i : ℕ) where
   pub rests-all : (k : ℕ) → notedCount ≤ k → ((l : ℕ) → l < k → RestsOn work count i l) → RestsIs work count i true
   unfolding RestsIs
   rests-all k h so e l g = so l (omega arith)
+
+-- sole_struck
+module _ (work : List ℕ) (count i : ℕ) where
+  pub none-sole : SoleStruckIs work count i false
+  unfolding SoleStruckIs
+  none-sole e = true-not-false e refl
+
+  pub sole-is-struck : (k n : ℕ) (b : Bool) → k < notedCount → n ≡ noteAt work i k → (n ≡ 0 → ⊥) → n ≤ count → LeftAtIs work (n - 1) b → b ≡ false
+      → SoleStruckIs work count i true
+  unfolding SoleStruckIs LeftAtIs
+  sole-is-struck k n b h e f g l t _ = (k, n - 1, h, omega (arith, e, f), omega (arith, f), eqb-false (getD work (struckAt (n - 1)) 0) 0 (sym l ∙ t))

@@ -14,6 +14,7 @@ use Rattle.candidates.specs.Lists.{_∈_}
 use Rattle.candidates.proofs.Membership.{all-imp}
 use Rattle.field.specs.Exploration.{unanswered, Row}
 use Rattle.field.specs.Holding.{StruckFirst}
+use Rattle.field.specs.Noted.{SpareOnly}
 use Rattle.field.specs.Setting.{settingOf}
 use Rattle.field.specs.Situation.{Situation}
 use Rattle.field.specs.Slot.{keyOf, slotBytes, struckAt, LeftAtIs}
@@ -21,20 +22,20 @@ use Rattle.field.specs.Successors.{leads, successors}
 use Rattle.field.specs.declared.find.Found.{Found}
 use Rattle.field.specs.declared.find.Found.the-variants.{At, Nothing}
 use Rattle.field.proofs.KeysDiffer.{slot-key}
+use Rattle.field.proofs.NotedLaws.{spare-none, spare-then}
 use Rattle.field.proofs.Run.{selves}
 use Rattle.field.proofs.Members.{getD-∈}
-use Rattle.verdict.specs.Notes.{SpareOnly, NoteIs, RestsIs}
-use Rattle.verdict.specs.Striking.{marks, living, zeros, leftOf, EqualParts, Searching, SurvivesIs, ExaminedIs, AllNoted, EqualPartsIs, Strikes, none-struck, one-struck, notes-changed, StrikesOne, AllSurvive, Run, PassIs, FirstStruckIs, StartSurvivesIs, blockSlots, turned}
+use Rattle.verdict.specs.Notes.{NoteIs, RestsIs}
+use Rattle.verdict.specs.Striking.{marks, living, zeros, leftOf, EqualParts, Searching, SurvivesIs, ExaminedIs, AllNoted, NotesHold, EqualPartsIs, Strikes, none-struck, one-struck, notes-changed, StrikesSole, StrikesOne, AllSurvive, Run, PassIs, FirstStruckIs, StartSurvivesIs, blockSlots, turned}
 use Rattle.verdict.specs.Verdict.{allAnswered}
 use Rattle.verdict.specs.declared.strike.Answered.{Answered}
 use Rattle.verdict.proofs.AnyOrder.{StrikesTo, all-left}
 use Rattle.verdict.proofs.AnyOrder as order
 use Rattle.verdict.proofs.BlockLaws.{Blocks, block-of, in-block}
 use Rattle.verdict.proofs.EqualParts.{equal-survives, equal-bytes}
-use Rattle.verdict.proofs.FieldKept.{SameField, same-none, same-then, struck-same, spare-same, field-kept, noted-struck, noted-one, rests-survives, spare-mark, spare-left, survives-kept}
+use Rattle.verdict.proofs.FieldKept.{SameField, same-none, same-then, struck-same, spare-same, field-kept, notes-struck, noted-one, rests-survives, sole-fails, spare-mark, spare-left, survives-kept}
 use Rattle.verdict.proofs.Living.{struck-either, struck-within, all-living}
 use Rattle.verdict.proofs.Marks.{length-marks, marks-at, marks-kept, marks-set, zeros-fewer}
-use Rattle.verdict.proofs.NoteLaws.{spare-none, spare-then}
 use Rattle.verdict.proofs.Rounds.{true-not-false}
 use Rattle.verdict.proofs.Unanswered.{all-within, strikes-flagged}
 
@@ -147,65 +148,85 @@ module _ (question : List ℕ) (capacity count : ℕ) where
   still s f = still-with s f (λ i d h e. equal-kept s f i d h e)
 
   -- strike_one
-  module _ (work : List ℕ) (i : ℕ) (n : AllNoted question capacity work count) where
-    pub gone-kept : (r : Bool) → LeftAtIs work i r → r ≡ false → StrikesOne question capacity work count i false work
+  module _ (work : List ℕ) (i : ℕ) {examine : Bool} (n : NotesHold examine question capacity work count) where
+    pub gone-kept : (r : Bool) → LeftAtIs work i r → r ≡ false → StrikesOne examine question capacity work count i false work
     unfolding LeftAtIs
     gone-kept r l e = record {
       struck = λ q. true-not-false q refl;
-      kept = λ q. (spare-none count work, λ z. absurd (eqb-false (getD work (struckAt i) 0) 0 (sym l ∙ e) z));
+      kept = λ q. (spare-none count work, λ x z. absurd (eqb-false (getD work (struckAt i) 0) 0 (sym l ∙ e) z));
       noted = n;
     }
 
-    pub resting-kept : (r : Bool) → i < count → RestsIs work count i r → r ≡ true → StrikesOne question capacity work count i false work
-    resting-kept r h s e = record {
-      struck = λ q. true-not-false q refl;
-      kept = λ q. (spare-none count work, λ z. rests-survives question capacity count work i r h n s e);
-      noted = n;
-    }
-
-    pub equal-stays : (r : Bool) → i < count → EqualPartsIs work i r → r ≡ true → StrikesOne question capacity work count i false work
-    unfolding SurvivesIs
-    equal-stays r h p e = record {
-      struck = λ q. true-not-false q refl;
-      kept = λ q. (
-        spare-none count work,
-        λ z f d ms l. sym (equal-survives question capacity count work f i d h (equal-bytes question capacity count work f i d h p e) ms l),
-      );
-      noted = n;
-    }
-
-    pub survivor-noted : (r : Answered) (v : List ℕ) → i < count → ExaminedIs question capacity work count i r → r .all ≡ true → NoteIs work i (r .relied) v
-        → StrikesOne question capacity work count i false v
-    survivor-noted r v h s e t = record {
-      struck = λ q. true-not-false q refl;
-      kept = λ q. (spare-more work v h (t .spare), λ z. subst (SurvivesIs question capacity work count i) e (s .is));
-      noted = noted-one question capacity count work v i r s e t n;
+    -- not examined: by what exploration noted
+    pub sole-strikes : (r : Bool) (v : List ℕ) → i < count → examine ≡ false → getD work (struckAt i) 0 ≡ 0 → StrikesSole work count i r v
+        → StrikesOne examine question capacity work count i r v
+    unfolding NotesHold
+    sole-strikes r v h e z s = record {
+      struck = λ q. (z, sole-fails question capacity count work i r h (subst (λ b. NotesHold b question capacity work count) e n) (s .sole) q, s .struck q);
+      kept = λ q. (subst (SpareOnly count work) (sym (s .kept q)) (spare-none count work), λ x. true-not-false x e);
+      noted = go r refl;
     }
       where
-        spare-more : (work v : List ℕ) → i < count → SpareOnly (i + 1) work v → SpareOnly count work v
-        spare-more work v h c = record { len = c .len; slots = c .slots; rest = λ k g. c .rest k (omega arith) }
+        go : (b : Bool) → r ≡ b → NotesHold examine question capacity v count
+        go true q = subst (λ v. NotesHold examine question capacity v count) (sym (s .struck q)) (notes-struck question capacity count examine work i n)
+        go false q = subst (λ v. NotesHold examine question capacity v count) (sym (s .kept q)) n
+
+    module _ (on : examine ≡ true) where
+      relied : AllNoted question capacity work count
+      unfolding NotesHold
+      relied = subst (λ b. NotesHold b question capacity work count) on n
+
+      pub resting-kept : (r : Bool) → i < count → RestsIs work count i r → r ≡ true → StrikesOne examine question capacity work count i false work
+      resting-kept r h s e = record {
+        struck = λ q. true-not-false q refl;
+        kept = λ q. (spare-none count work, λ x z. rests-survives question capacity count work i r h relied s e);
+        noted = n;
+      }
+
+      pub equal-stays : (r : Bool) → i < count → EqualPartsIs work i r → r ≡ true → StrikesOne examine question capacity work count i false work
+      unfolding SurvivesIs
+      equal-stays r h p e = record {
+        struck = λ q. true-not-false q refl;
+        kept = λ q. (
+          spare-none count work,
+          λ x z f d ms l. sym (equal-survives question capacity count work f i d h (equal-bytes question capacity count work f i d h p e) ms l),
+        );
+        noted = n;
+      }
+
+      pub survivor-noted : (r : Answered) (v : List ℕ) → i < count → ExaminedIs question capacity work count i r → r .all ≡ true → NoteIs work i (r .relied) v
+          → StrikesOne examine question capacity work count i false v
+      unfolding NotesHold
+      survivor-noted r v h s e t = record {
+        struck = λ q. true-not-false q refl;
+        kept = λ q. (spare-more work v h (t .spare), λ x z. subst (SurvivesIs question capacity work count i) e (s .is));
+        noted = subst (λ b. NotesHold b question capacity v count) (sym on) (noted-one question capacity count work v i r s e t relied);
+      }
+        where
+          spare-more : (work v : List ℕ) → i < count → SpareOnly (i + 1) work v → SpareOnly count work v
+          spare-more work v h c = record { len = c .len; slots = c .slots; rest = λ k g. c .rest k (omega arith) }
 
     pub one-strikes : (r : Answered) → getD work (struckAt i) 0 ≡ 0 → ExaminedIs question capacity work count i r → r .all ≡ false
-        → StrikesOne question capacity work count i true (set work (struckAt i) 1)
+        → StrikesOne examine question capacity work count i true (set work (struckAt i) 1)
     one-strikes r z s e = record {
       struck = λ q. (z, subst (SurvivesIs question capacity work count i) e (s .is), refl);
       kept = λ q. true-not-false refl q;
-      noted = noted-struck question capacity count work i n;
+      noted = notes-struck question capacity count examine work i n;
     }
 
   -- One situation is a pass, too.
-  pub one-pass : (v : List ℕ) (i : ℕ) (r : Bool) (u : List ℕ) → i < count → slotBytes * count ≤ length v → StrikesOne question capacity v count i r u
-      → PassIs question capacity v count (Run i 1) r u
-  one-pass v i r u h room s = go r refl
+  pub one-pass : {examine : Bool} (v : List ℕ) (i : ℕ) (r : Bool) (u : List ℕ) → i < count → slotBytes * count ≤ length v → StrikesOne examine question capacity v count i r u
+      → PassIs examine question capacity v count (Run i 1) r u
+  one-pass {examine} v i r u h room s = go r refl
     where
-      go : (b : Bool) → r ≡ b → PassIs question capacity v count (Run i 1) r u
+      go : (b : Bool) → r ≡ b → PassIs examine question capacity v count (Run i 1) r u
       go true e =
           let (z, d, q) = s .struck e in
           record {
             strikes = subst (Strikes question capacity count v) (sym q) (one-struck none-struck i h z d);
             fewer = λ x. rw q (zeros-fewer v count i h room z);
             same = λ x. true-not-false e x;
-            none = λ x. true-not-false e x;
+            none = λ y x. true-not-false e x;
             noted = s .noted;
           }
       go false e =
@@ -214,7 +235,7 @@ module _ (question : List ℕ) (capacity count : ℕ) where
             strikes = notes-changed none-struck c;
             fewer = λ x. true-not-false x e;
             same = λ x. c;
-            none = λ x j l g z. survives-kept question capacity count v u c j true (only j (omega (arith, g)) (sym (spare-mark question capacity count v u c j) ∙ z) d);
+            none = λ y x j l g z. survives-kept question capacity count v u c j true (only j (omega (arith, g)) (sym (spare-mark question capacity count v u c j) ∙ z) (d y));
             noted = s .noted;
           }
         where
@@ -222,66 +243,66 @@ module _ (question : List ℕ) (capacity count : ℕ) where
               → SurvivesIs question capacity v count j true
           only j e z d = subst (λ j. SurvivesIs question capacity v count j true) e (d (subst (λ j. getD v (struckAt j) 0 ≡ 0) (sym e) z))
 
-  pub pass-none : (work : List ℕ) (H : ℕ → Type 0) → ((j : ℕ) → H j → ⊥) → AllNoted question capacity work count
-      → PassIs question capacity work count H false work
+  pub pass-none : {examine : Bool} (work : List ℕ) (H : ℕ → Type 0) → ((j : ℕ) → H j → ⊥) → NotesHold examine question capacity work count
+      → PassIs examine question capacity work count H false work
   pass-none work H empty n = record {
     strikes = none-struck;
     fewer = λ x. true-not-false x refl;
     same = λ x. spare-none count work;
-    none = λ x j h m. absurd (empty j m);
+    none = λ y x j h m. absurd (empty j m);
     noted = n;
   }
 
-  pub pass-within : {work u : List ℕ} {r : Bool} {H : ℕ → Type 0} (K : ℕ → Type 0) → ((j : ℕ) → j < count → K j → H j)
-      → PassIs question capacity work count H r u → PassIs question capacity work count K r u
+  pub pass-within : {examine : Bool} {work u : List ℕ} {r : Bool} {H : ℕ → Type 0} (K : ℕ → Type 0) → ((j : ℕ) → j < count → K j → H j)
+      → PassIs examine question capacity work count H r u → PassIs examine question capacity work count K r u
   pass-within K more p = record {
     strikes = p .strikes;
     fewer = p .fewer;
     same = p .same;
-    none = λ x j h m. p .none x j h (more j h m);
+    none = λ y x j h m. p .none y x j h (more j h m);
     noted = p .noted;
   }
 
   -- One pass after another.
-  module _ {work v u : List ℕ} {struck r : Bool} {H G : ℕ → Type 0} (K : ℕ → Type 0) (p : PassIs question capacity work count H struck v)
-      (q : PassIs question capacity v count G r u) where
-    pub pass-strikes : slotBytes * count ≤ length work → r ≡ true → PassIs question capacity work count K true u
+  module _ {examine : Bool} {work v u : List ℕ} {struck r : Bool} {H G : ℕ → Type 0} (K : ℕ → Type 0) (p : PassIs examine question capacity work count H struck v)
+      (q : PassIs examine question capacity v count G r u) where
+    pub pass-strikes : slotBytes * count ≤ length work → r ≡ true → PassIs examine question capacity work count K true u
     pass-strikes room e = record {
       strikes = strikes-then (p .strikes) (q .strikes);
       fewer = λ x. omega (arith, q .fewer e, strikes-most room (p .strikes));
       same = λ x. true-not-false refl x;
-      none = λ x. true-not-false refl x;
+      none = λ y x. true-not-false refl x;
       noted = q .noted;
     }
 
-    pub pass-keeps : r ≡ false → ((j : ℕ) → j < count → K j → H j ⊎ G j) → PassIs question capacity work count K struck u
+    pub pass-keeps : r ≡ false → ((j : ℕ) → j < count → K j → H j ⊎ G j) → PassIs examine question capacity work count K struck u
     pass-keeps e either = record {
       strikes = strikes-then (p .strikes) (q .strikes);
       fewer = λ x. omega (arith, spare-zeros v u (q .same e), p .fewer x);
       same = λ x. spare-then count work v u (p .same x) (q .same e);
-      none = λ x j h m z. go x j h z (either j h m);
+      none = λ y x j h m z. go y x j h z (either j h m);
       noted = q .noted;
     }
       where
-        go : struck ≡ false → (j : ℕ) → j < count → getD u (struckAt j) 0 ≡ 0 → H j ⊎ G j → SurvivesIs question capacity u count j true
-        go x j h z (inl m) =
+        go : examine ≡ true → struck ≡ false → (j : ℕ) → j < count → getD u (struckAt j) 0 ≡ 0 → H j ⊎ G j → SurvivesIs question capacity u count j true
+        go y x j h z (inl m) =
             let c = q .same e in
-            survives-kept question capacity count v u c j true (p .none x j h m (sym (spare-mark question capacity count v u c j) ∙ z))
-        go x j h z (inr m) = q .none e j h m z
+            survives-kept question capacity count v u c j true (p .none y x j h m (sym (spare-mark question capacity count v u c j) ∙ z))
+        go y x j h z (inr m) = q .none y e j h m z
 
   -- A pass that takes up n parts.
-  pub parts-none : (rising : Bool) (n : ℕ) (Part : ℕ → ℕ → Type 0) (work : List ℕ) → AllNoted question capacity work count
-      → PassIs question capacity work count (TakenUp rising n Part n) false work
+  pub parts-none : {examine : Bool} (rising : Bool) (n : ℕ) (Part : ℕ → ℕ → Type 0) (work : List ℕ) → NotesHold examine question capacity work count
+      → PassIs examine question capacity work count (TakenUp rising n Part n) false work
   unfolding TakenUp
   parts-none rising n Part work noted =
       pass-none work (TakenUp rising n Part n) (λ j m. omega (arith, m .2, turned-below rising n (m .0) (m .1))) noted
 
-  module _ (rising : Bool) (n : ℕ) (Part : ℕ → ℕ → Type 0) {work v u : List ℕ} {struck r : Bool} (k i t : ℕ) (next : k ≡ i + 1) (at : t ≡ turned rising n i)
-      (p : PassIs question capacity work count (TakenUp rising n Part k) struck v) (q : PassIs question capacity v count (Part t) r u) where
-    pub part-strikes : slotBytes * count ≤ length work → r ≡ true → PassIs question capacity work count (TakenUp rising n Part i) true u
+  module _ {examine : Bool} (rising : Bool) (n : ℕ) (Part : ℕ → ℕ → Type 0) {work v u : List ℕ} {struck r : Bool} (k i t : ℕ) (next : k ≡ i + 1) (at : t ≡ turned rising n i)
+      (p : PassIs examine question capacity work count (TakenUp rising n Part k) struck v) (q : PassIs examine question capacity v count (Part t) r u) where
+    pub part-strikes : slotBytes * count ≤ length work → r ≡ true → PassIs examine question capacity work count (TakenUp rising n Part i) true u
     part-strikes = pass-strikes (TakenUp rising n Part i) p q
 
-    pub part-keeps : r ≡ false → PassIs question capacity work count (TakenUp rising n Part i) struck u
+    pub part-keeps : r ≡ false → PassIs examine question capacity work count (TakenUp rising n Part i) struck u
     unfolding TakenUp
     part-keeps e = pass-keeps (TakenUp rising n Part i) p q e (λ j h (m, l, g, x). go j m l g x (decLt i (turned rising n m)))
       where
@@ -293,20 +314,20 @@ module _ (question : List ℕ) (capacity count : ℕ) where
             inr (subst (λ m. Part m j) (sym e′) x)
 
   -- strike_blocks
-  pub blocks-passed : (rising : Bool) {work u : List ℕ} {r : Bool} (from size level b n i : ℕ) → b ≡ blockSlots level → n ≡ (size + b - 1) / b → i ≡ 0
-      → PassIs question capacity work count (TakenUp rising n (Blocks from size b) i) r u → PassIs question capacity work count (Run from size) r u
+  pub blocks-passed : {examine : Bool} (rising : Bool) {work u : List ℕ} {r : Bool} (from size level b n i : ℕ) → b ≡ blockSlots level → n ≡ (size + b - 1) / b → i ≡ 0
+      → PassIs examine question capacity work count (TakenUp rising n (Blocks from size b) i) r u → PassIs examine question capacity work count (Run from size) r u
   unfolding TakenUp
   blocks-passed rising from size level b n i w e z =
       pass-within (Run from size) (λ j h m.
       let (k, below, least, most) = block-of level size b (j - from) w (omega arith) in
       (k, rw e below, omega arith, in-block from size b (b * k) j (m .0) (m .1) least most))
 
-  pub pass-all : {v u : List ℕ} {r : Bool} → PassIs question capacity v count (Run 0 count) r u → r ≡ false → AllSurvive question capacity u count
+  pub pass-all : {v u : List ℕ} {r : Bool} → PassIs true question capacity v count (Run 0 count) r u → r ≡ false → AllSurvive question capacity u count
   unfolding AllSurvive
-  pass-all p e j h z = p .none e j h (omega arith, omega arith) z
+  pass-all p e j h z = p .none refl e j h (omega arith, omega arith) z
 
   -- survives_passes
-  pub pass-less : {H : ℕ → Type 0} (v u : List ℕ) (again r : Bool) → slotBytes * count ≤ length v → again ≡ true → PassIs question capacity v count H r u
+  pub pass-less : {examine : Bool} {H : ℕ → Type 0} (v u : List ℕ) (again r : Bool) → slotBytes * count ≤ length v → again ≡ true → PassIs examine question capacity v count H r u
       → zeros (marks u count) + cond r 1 0 < zeros (marks v count) + cond again 1 0
   pass-less v u again r room e p = rw e (go r refl)
     where
@@ -314,7 +335,7 @@ module _ (question : List ℕ) (capacity count : ℕ) where
       go true q = omega (arith, p .fewer q)
       go false q = omega (arith, strikes-most room (p .strikes))
 
-  pub start-goes : {H : ℕ → Type 0} (work v u : List ℕ) (again b : Bool) → Strikes question capacity count work v → PassIs question capacity v count H again u → LeftAtIs u 0 b → b ≡ false
+  pub start-goes : {examine : Bool} {H : ℕ → Type 0} (work v u : List ℕ) (again b : Bool) → Strikes question capacity count work v → PassIs examine question capacity v count H again u → LeftAtIs u 0 b → b ≡ false
       → StartSurvivesIs question capacity work count false u
   unfolding LeftAtIs
   start-goes work v u again b s p l e = record {
@@ -326,6 +347,11 @@ module _ (question : List ℕ) (capacity count : ℕ) where
   pub start-stays : (work v : List ℕ) → Strikes question capacity count work v → getD v (struckAt 0) 0 ≡ 0 → AllSurvive question capacity v count
       → StartSurvivesIs question capacity work count true v
   start-stays work v s z a = record { strikes = s; stays = λ q. (z, a); goes = λ q. true-not-false refl q }
+
+  -- survives_struck
+  pub then-survives : (work v u : List ℕ) (r : Bool) → Strikes question capacity count work v → StartSurvivesIs question capacity v count r u
+      → StartSurvivesIs question capacity work count r u
+  then-survives work v u r s t = record { strikes = strikes-then s (t .strikes); stays = t .stays; goes = t .goes }
 
   -- start_survives
   pub start-gone : (work : List ℕ) (b : Bool) → LeftAtIs work 0 b → b ≡ false → StartSurvivesIs question capacity work count false work

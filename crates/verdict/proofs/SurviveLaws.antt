@@ -48,7 +48,7 @@ module _ (question : List ℕ) (capacity : ℕ) (work : List ℕ) (count i : ℕ
 
     taken : TakenAs (f .read) here r firsts seconds
     taken =
-        takes .is (f .read) here (f .accepted) (f .standing .held i d (omega (arith, f .number))) (f .first here inside) (f .second here inside)
+        takes .is (f .read) here (f .accepted) (f .standing .held i d (omega (arith, f .number))) (f .proper here inside .first) (f .proper here inside .second)
 
     -- the two sides of a situation within the limits
     module _ (arities : List ℕ) (a : AritiesIs question arities) (n m : ℕ) (l : SidesListed (f .read) here n m firsts seconds)
@@ -84,7 +84,7 @@ module _ (question : List ℕ) (capacity : ℕ) (work : List ℕ) (count i : ℕ
         replies = l .qs;
         free-names = taken .free;
         apart-pairs = taken .apart;
-        distinction = f .distinction here inside;
+        distinction = f .proper here inside .distinction;
         mine = subst (λ ar. ListAt ar firsts n (l .ps)) (sym read-arities) (l .first);
         theirs = subst (λ ar. ListAt ar seconds m (l .qs)) (sym read-arities) (l .second);
         closed = λ w g t h. leads-known w (∈-left w ofFirst ofSecond g) t h;
@@ -101,7 +101,7 @@ module _ (question : List ℕ) (capacity : ℕ) (work : List ℕ) (count i : ℕ
         replies = l .ps;
         free-names = taken .free;
         apart-pairs = taken .apart;
-        distinction = f .distinction here inside;
+        distinction = f .proper here inside .distinction;
         mine = subst (λ ar. ListAt ar seconds m (l .qs)) (sym read-arities) (l .second);
         theirs = subst (λ ar. ListAt ar firsts n (l .ps)) (sym read-arities) (l .first);
         closed = λ w g t h. leads-known w (∈-right w ofFirst ofSecond g) t h;

@@ -33,12 +33,12 @@ all-within left ((s ∷ m) ∷ ms) e h =
     rw (∈-found left s (h (s ∷ m) (inl refl) s (inl refl)), all-within left ms e (λ w i t k. h w (inr i) t k))
 
 -- A step is not answered if nothing that it leads to is left.
-none-answered : (left w : List Situation) → ((t : Situation) → t ∈ w → found left t ≡ false) → answered left w ≡ false
+pub none-answered : (left w : List Situation) → ((t : Situation) → t ∈ w → found left t ≡ false) → answered left w ≡ false
 unfolding answered
 none-answered left [] h = refl
 none-answered left (t ∷ w) h = rw (h t (inl refl), none-answered left w (λ u m. h u (inr m)))
 
-one-fails : (left w : List Situation) (ms : List (List Situation)) → w ∈ ms → answered left w ≡ false → allAnswered left ms ≡ false
+pub one-fails : (left w : List Situation) (ms : List (List Situation)) → w ∈ ms → answered left w ≡ false → allAnswered left ms ≡ false
 unfolding allAnswered
 one-fails left w (m ∷ ms) (inl e) h = rw (← e, h)
 one-fails left w (m ∷ ms) (inr i) h = go (answered left m) (one-fails left w ms i h)

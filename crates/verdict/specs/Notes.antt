@@ -1,22 +1,13 @@
--- What a situation that survives relies on, in bytes 246 to 255 of its slot: five numbers of slots plus 1, two bytes each. Where the first is 0,
--- nothing is noted.
+-- What is noted in a slot (Noted, of crate field): before the passes of strike-out, what exploration noted, each the only answer to a step; then what
+-- a situation that survives relies on. Where the first number is 0, nothing is noted.
 use mathlib.Core.Bool.{Bool, true}
 use mathlib.Core.List.{List}
 use mathlib.Core.Path.{_≡_}
-use Prim.Native.Nat.{ℕ, _+_, _-_, _*_, _<_, _≤_}
-use lib.ListN.{length, getD, drop}
-use Rattle.terms.specs.FieldPlaces.{sizeAt}
-use Rattle.field.specs.Slot.{slotBytes, struckAt}
+use Prim.Native.Nat.{ℕ, _+_, _-_, _<_, _≤_}
+use lib.ListN.{getD}
+use Rattle.field.specs.Noted.{notedCount, noteAt, SpareOnly, OtherNotes}
+use Rattle.field.specs.Slot.{struckAt}
 use Rattle.verdict.specs.declared.relied.Relied.{Relied}
-
-abbrev pub notedCount : ℕ
-notedCount = 5
-
-abbrev pub notePlace : ℕ → ℕ → ℕ
-notePlace i k = slotBytes * i + 246 + 2 * k
-
-abbrev pub noteAt : List ℕ → ℕ → ℕ → ℕ
-noteAt work i k = sizeAt work (notePlace i k)
 
 -- slot j is noted in slot i
 unfoldable pub NotedIn : List ℕ → ℕ → ℕ → Type 0
@@ -46,16 +37,10 @@ pub record WithIs (r : Relied) (j : ℕ) (r′ : Relied) : Type 0 where
   pub more : Within r r′
   pub has : Few r′ → Has r′ j
 
--- The lengths, the first 246 bytes of each slot and what lies behind the slots are as they were.
-pub record SpareOnly (count : ℕ) (work work′ : List ℕ) : Type 0 where
-  pub len : length work′ ≡ length work
-  pub slots : (i j : ℕ) → j < 246 → getD work′ (slotBytes * i + j) 0 ≡ getD work (slotBytes * i + j) 0
-  pub rest : (k : ℕ) → count ≤ k → drop (slotBytes * k) work′ ≡ drop (slotBytes * k) work
-
 pub record NoteIs (work : List ℕ) (i : ℕ) (r : Relied) (work′ : List ℕ) : Type 0 where
   pub spare : SpareOnly (i + 1) work work′
   pub here : (k : ℕ) → k < notedCount → noteAt work′ i k ≡ getD (r .slots) k 0
-  pub others : (j : ℕ) → (j ≡ i → ⊥) → (k : ℕ) → k < notedCount → noteAt work′ j k ≡ noteAt work j k
+  pub others : OtherNotes i work work′
 
 pub record ClearsNotes (count : ℕ) (work work′ : List ℕ) : Type 0 where
   pub spare : SpareOnly count work work′
@@ -65,3 +50,8 @@ pub record ClearsNotes (count : ℕ) (work work′ : List ℕ) : Type 0 where
 unfoldable pub RestsIs : List ℕ → ℕ → ℕ → Bool → Type 0
 RestsIs work count i r =
     r ≡ true → (k : ℕ) → k < notedCount → (0 < noteAt work i k) × (noteAt work i k ≤ count) × (getD work (struckAt (noteAt work i k - 1)) 0 ≡ 0)
+
+-- A situation that is noted in slot i is struck out.
+unfoldable pub SoleStruckIs : List ℕ → ℕ → ℕ → Bool → Type 0
+SoleStruckIs work count i r =
+    r ≡ true → (k : ℕ) × (j : ℕ) × (k < notedCount) × (noteAt work i k ≡ j + 1) × (j < count) × (getD work (struckAt j) 0 ≡ 0 → ⊥)

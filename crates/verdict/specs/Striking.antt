@@ -16,9 +16,11 @@ use Rattle.steps.specs.Listed.{ListedStep}
 use Rattle.field.specs.Chains.{Chained}
 use Rattle.field.specs.Entry.{EntryAt, Rewritten}
 use Rattle.field.specs.Exploration.{found, unanswered}
+use Rattle.field.specs.Growing.{Proper}
 use Rattle.field.specs.Key.{SituationAt, keyAt}
 use Rattle.field.specs.Leading.{placed, leading}
 use Rattle.field.specs.NameFlags.{HasNames}
+use Rattle.field.specs.Noted.{notedCount, noteAt, SpareOnly, SoleIn}
 use Rattle.field.specs.Setting.{settingOf}
 use Rattle.field.specs.Situation.{Situation, freeFrom, sameSituation}
 use Rattle.field.specs.Slot.{flagsOf, keyBytes, slotBytes, struckAt}
@@ -26,7 +28,7 @@ use Rattle.field.specs.Successors.{answers, moves, leads, successors}
 use Rattle.field.specs.TakingUp.{ListAt}
 use Rattle.field.specs.declared.find.Found.{Found}
 use Rattle.field.specs.declared.find.Found.the-variants.{At, Nothing}
-use Rattle.verdict.specs.Notes.{noteAt, NotedIn, Has, Few, Numbers, Within, SpareOnly}
+use Rattle.verdict.specs.Notes.{NotedIn, Has, Few, Numbers, Within, SoleStruckIs}
 use Rattle.verdict.specs.Verdict.{allAnswered}
 use Rattle.verdict.specs.declared.relied.Relied.{Relied}
 use Rattle.verdict.specs.declared.strike.Answered.{Answered}
@@ -136,9 +138,7 @@ pub record FieldIn (question : List ℕ) (capacity : ℕ) (work : List ℕ) (cou
   pub known : List Situation
   pub number : length known ≡ count
   pub standing : Standing capacity work known
-  pub first : (s : Situation) → s ∈ known → InScope nameCount (read .arities) 0 (s .first)
-  pub second : (s : Situation) → s ∈ known → InScope nameCount (read .arities) 0 (s .second)
-  pub distinction : (s : Situation) → s ∈ known → Irr (s .apart)
+  pub proper : (s : Situation) → s ∈ known → Proper nameCount (read .arities) s
   pub closed : (s : Situation) → s ∈ known → (ms : List (List Situation)) → successors (settingOf (read .bodies)) s ≡ leads ms
       → (w : List Situation) → w ∈ ms → (t : Situation) → t ∈ w → t ∈ known
   pub equal : (s : Situation) → s ∈ known → EqualParts s → LeadsToEqual read s
@@ -174,6 +174,17 @@ pub record ExaminedIs (question : List ℕ) (capacity : ℕ) (work : List ℕ) (
 unfoldable pub AllNoted : List ℕ → ℕ → List ℕ → ℕ → Type 0
 AllNoted question capacity work count = (i : ℕ) → i < count → 0 < noteAt work i 0 → Relies question capacity work count i (NotedIn work i)
 
+-- Where a number is noted in slot i, all answers to one of its moves lead to the situation in that slot.
+unfoldable pub AllSole : List ℕ → ℕ → List ℕ → ℕ → Type 0
+AllSole question capacity work count =
+    (i k : ℕ) → i < count → k < notedCount → (f : FieldIn question capacity work count) (d : Situation) (ms : List (List Situation)) → LeadsTo f i d ms
+    → SoleIn (f .known) ms (noteAt work i k)
+
+-- what the notes say while situations are examined, and before
+unfoldable pub NotesHold : Bool → List ℕ → ℕ → List ℕ → ℕ → Type 0
+NotesHold true = AllNoted
+NotesHold false = AllSole
+
 -- Situations are struck out one at a time, each while it is left and a permitted step of it is not answered. No other byte is changed but those for
 -- notes.
 pub data Strikes (question : List ℕ) (capacity count : ℕ) (work : List ℕ) : List ℕ → Type 0 where
@@ -186,11 +197,17 @@ pub data Strikes (question : List ℕ) (capacity count : ℕ) (work : List ℕ) 
 unfoldable pub EqualPartsIs : List ℕ → ℕ → Bool → Type 0
 EqualPartsIs work i r = r ≡ true → (s : Situation) → SituationAt work (slotBytes * i) s → encode 0 (s .first) ≡ encode 0 (s .second)
 
--- Situation i is struck out, or it is not to be struck out.
-pub record StrikesOne (question : List ℕ) (capacity : ℕ) (work : List ℕ) (count i : ℕ) (r : Bool) (work′ : List ℕ) : Type 0 where
+-- Situation i is struck out if one that is noted in its slot is; no other byte is changed.
+pub record StrikesSole (work : List ℕ) (count i : ℕ) (r : Bool) (work′ : List ℕ) : Type 0 where
+  pub sole : SoleStruckIs work count i r
+  pub struck : r ≡ true → work′ ≡ set work (struckAt i) 1
+  pub kept : r ≡ false → work′ ≡ work
+
+-- Situation i is struck out, or it is not to be struck out as far as it was examined.
+pub record StrikesOne (examine : Bool) (question : List ℕ) (capacity : ℕ) (work : List ℕ) (count i : ℕ) (r : Bool) (work′ : List ℕ) : Type 0 where
   pub struck : r ≡ true → (getD work (struckAt i) 0 ≡ 0) × SurvivesIs question capacity work count i false × (work′ ≡ set work (struckAt i) 1)
-  pub kept : r ≡ false → SpareOnly count work work′ × (getD work (struckAt i) 0 ≡ 0 → SurvivesIs question capacity work count i true)
-  pub noted : AllNoted question capacity work′ count
+  pub kept : r ≡ false → SpareOnly count work work′ × (examine ≡ true → getD work (struckAt i) 0 ≡ 0 → SurvivesIs question capacity work count i true)
+  pub noted : NotesHold examine question capacity work′ count
 
 -- every situation that is left survives
 unfoldable pub AllSurvive : List ℕ → ℕ → List ℕ → ℕ → Type 0
@@ -209,13 +226,13 @@ unfoldable pub blockSlots : ℕ → ℕ
 blockSlots level = cond (eqb level 0) 1 (cond (eqb level 1) 16 256)
 
 -- One pass over the situations in H, or several: whether any was struck out. If none was, only notes are changed, and those in H that are left
--- survive.
-pub record PassIs (question : List ℕ) (capacity : ℕ) (work : List ℕ) (count : ℕ) (H : ℕ → Type 0) (r : Bool) (work′ : List ℕ) : Type 0 where
+-- survive if they were examined.
+pub record PassIs (examine : Bool) (question : List ℕ) (capacity : ℕ) (work : List ℕ) (count : ℕ) (H : ℕ → Type 0) (r : Bool) (work′ : List ℕ) : Type 0 where
   pub strikes : Strikes question capacity count work work′
   pub fewer : r ≡ true → zeros (marks work′ count) < zeros (marks work count)
   pub same : r ≡ false → SpareOnly count work work′
-  pub none : r ≡ false → (j : ℕ) → j < count → H j → getD work′ (struckAt j) 0 ≡ 0 → SurvivesIs question capacity work′ count j true
-  pub noted : AllNoted question capacity work′ count
+  pub none : examine ≡ true → r ≡ false → (j : ℕ) → j < count → H j → getD work′ (struckAt j) 0 ≡ 0 → SurvivesIs question capacity work′ count j true
+  pub noted : NotesHold examine question capacity work′ count
 
 -- The first situation that is struck out, of the first `count`.
 pub record FirstStruckIs (work : List ℕ) (count : ℕ) (r : Found) : Type 0 where

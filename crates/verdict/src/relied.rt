@@ -1,18 +1,16 @@
-// What a situation that survives relies on: for each permitted step the situation that its first left answer leads to. While those are left, the
-// situation still survives, and its steps need not be listed again.
+// What is noted in a slot. Exploration notes situations that are the only answer to a step: if one is struck out, so is this one. Passes note what a
+// situation that survives relies on: for each permitted step the situation that its first left answer leads to. While those are left, the situation
+// still survives. In both cases its steps need not be listed again.
 ghost use Prim.Native.Nat.{_+_, _*_, _<_, _≤_};
 ghost use lib.ListN.{length};
 ghost use Rattle.field.specs.Slot.{slotBytes};
-ghost use Rattle.verdict.specs.Notes.{Numbers, WithIs, NoteIs, RestsIs, ClearsNotes};
+ghost use Rattle.verdict.specs.Notes.{Numbers, WithIs, NoteIs, RestsIs, SoleStruckIs, ClearsNotes};
 use field::chains::put_number;
 use field::find::SLOT_BYTES;
 use field::find::left_at;
+use field::notes::NOTED;
+use field::notes::NOTES;
 use terms::frame::size_at;
-
-// How many numbers are noted, two bytes each, and where they begin in a slot.
-const NOTED: usize = 5;
-
-const NOTES: usize = 246;
 
 // The first `count` places have numbers of slots, plus 1. The first place is 0 once there were more than places.
 pub struct Relied {
@@ -89,6 +87,29 @@ pub fn rests(work: &[u8], count: usize, i: usize) -> bool
         k += 1;
     }
     true
+}
+
+// Whether a situation that is noted in slot `i` is struck out.
+pub fn sole_struck(work: &[u8], count: usize, i: usize) -> bool
+    requires { ⌜ (i < count) × (slotBytes * count ≤ length (now work)) ⌝ }
+    ensures { λ r. ⌜ SoleStruckIs (now (work .entry)) count i r ⌝ }
+{
+    let mut k = 0;
+    while k < NOTED {
+        let number = size_at(work, SLOT_BYTES * i + NOTES + 2 * k);
+        // the numbers stand before the places that are free
+        if number == 0 {
+            return false;
+        }
+        if count < number {
+            return false;
+        }
+        if !left_at(work, number - 1) {
+            return true;
+        }
+        k += 1;
+    }
+    false
 }
 
 // Nothing is noted in the first `count` slots.

@@ -9,13 +9,14 @@ ghost use Rattle.steps.specs.Limits.{stepBytes};
 ghost use Rattle.steps.specs.Rows.{rowBytes, mostRows};
 ghost use Rattle.verdict.specs.Judge.{greatestCapacity};
 ghost use Rattle.verdict.specs.Notes.{Numbers};
-ghost use Rattle.verdict.specs.Striking.{LeftIs, AnswerLeftIs, SideAnsweredIs, ExaminedIs, AllNoted, EqualPartsIs, StrikesOne, Run, PassIs, FirstStruckIs, StartSurvivesIs, blockSlots, turned};
+ghost use Rattle.verdict.specs.Striking.{LeftIs, AnswerLeftIs, SideAnsweredIs, ExaminedIs, AllSole, NotesHold, EqualPartsIs, StrikesSole, StrikesOne, Run, PassIs, FirstStruckIs, StartSurvivesIs, blockSlots, turned};
 use crate::relied::Relied;
 use crate::relied::clear_notes;
 use crate::relied::note;
 use crate::relied::relied_none;
 use crate::relied::relied_with;
 use crate::relied::rests;
+use crate::relied::sole_struck;
 use candidates::bodies::arities_of;
 use field::chains::find_chained;
 use field::entries::answers;
@@ -227,8 +228,20 @@ fn equal_parts(work: &[u8], i: usize) -> bool
     same_part(first, second)
 }
 
-// Strikes out situation `i` if it is left and does not survive; whether it did. It is not examined while all that it relied on when it last survived
-// is left, nor if its parts are equal.
+// Strikes out situation `i` if the only answer to one of its steps is struck out, by what exploration noted; whether it did.
+fn strike_sole(work: &mut [u8], count: usize, i: usize) -> bool
+    requires { ⌜ (i < count) × (slotBytes * count ≤ length (now work)) × (count ≤ greatestCapacity) ⌝ }
+    ensures { λ r. ⌜ StrikesSole (now (work .entry)) count i r (now (work .exit)) ⌝ }
+{
+    if !sole_struck(work, count, i) {
+        return false;
+    }
+    work[SLOT_BYTES * i + KEY_BYTES] = 1;
+    true
+}
+
+// Strikes out situation `i` if it is left and does not survive; whether it did. Unless it is to be examined, only notes are looked at. It is not
+// examined while all that it relied on when it last survived is left, nor if its parts are equal.
 fn strike_one(
     question: &[u8],
     bodies: &[u32],
@@ -240,12 +253,16 @@ fn strike_one(
     rows: &mut [u8],
     firsts: &mut [u8],
     seconds: &mut [u8],
+    examine: bool,
 ) -> bool
-    requires { ⌜ (i < count) × (count ≤ capacity) × (slotBytes * capacity ≤ length (now work)) × BodiesTallied (now question) (now bodies) × (length (now numbers) ≡ tallySize) × (rowBytes * mostRows ≤ length (now rows)) × Labelled (now question) (now firsts) × Labelled (now question) (now seconds) × (capacity ≤ greatestCapacity) × AllNoted (now question) capacity (now work) count ⌝ }
-    ensures { λ r. ⌜ StrikesOne (now (question .entry)) capacity (now (work .entry)) count i r (now (work .exit)) × Labelled (now (question .entry)) (now (firsts .exit)) × Labelled (now (question .entry)) (now (seconds .exit)) ⌝ }
+    requires { ⌜ (i < count) × (count ≤ capacity) × (slotBytes * capacity ≤ length (now work)) × BodiesTallied (now question) (now bodies) × (length (now numbers) ≡ tallySize) × (rowBytes * mostRows ≤ length (now rows)) × Labelled (now question) (now firsts) × Labelled (now question) (now seconds) × (capacity ≤ greatestCapacity) × NotesHold examine (now question) capacity (now work) count ⌝ }
+    ensures { λ r. ⌜ StrikesOne examine (now (question .entry)) capacity (now (work .entry)) count i r (now (work .exit)) × Labelled (now (question .entry)) (now (firsts .exit)) × Labelled (now (question .entry)) (now (seconds .exit)) ⌝ }
 {
     if !left_at(work, i) {
         return false;
+    }
+    if !examine {
+        return strike_sole(work, count, i);
     }
     if rests(work, count, i) {
         return false;
@@ -325,9 +342,10 @@ fn strike_blocks(
     firsts: &mut [u8],
     seconds: &mut [u8],
     rising: bool,
+    examine: bool,
 ) -> bool
-    requires { ⌜ (from + size ≤ count) × (count ≤ capacity) × (slotBytes * capacity ≤ length (now work)) × BodiesTallied (now question) (now bodies) × (length (now numbers) ≡ tallySize) × (rowBytes * mostRows ≤ length (now rows)) × Labelled (now question) (now firsts) × Labelled (now question) (now seconds) × (capacity ≤ greatestCapacity) × AllNoted (now question) capacity (now work) count ⌝ }
-    ensures { λ r. ⌜ PassIs (now (question .entry)) capacity (now (work .entry)) count (Run from size) r (now (work .exit)) × Labelled (now (question .entry)) (now (firsts .exit)) × Labelled (now (question .entry)) (now (seconds .exit)) ⌝ }
+    requires { ⌜ (from + size ≤ count) × (count ≤ capacity) × (slotBytes * capacity ≤ length (now work)) × BodiesTallied (now question) (now bodies) × (length (now numbers) ≡ tallySize) × (rowBytes * mostRows ≤ length (now rows)) × Labelled (now question) (now firsts) × Labelled (now question) (now seconds) × (capacity ≤ greatestCapacity) × NotesHold examine (now question) capacity (now work) count ⌝ }
+    ensures { λ r. ⌜ PassIs examine (now (question .entry)) capacity (now (work .entry)) count (Run from size) r (now (work .exit)) × Labelled (now (question .entry)) (now (firsts .exit)) × Labelled (now (question .entry)) (now (seconds .exit)) ⌝ }
 {
     let block = width(level);
     let blocks = (size + block - 1) / block;
@@ -350,6 +368,7 @@ fn strike_blocks(
             firsts,
             seconds,
             rising,
+            examine,
         ) {
             struck = true;
         }
@@ -374,9 +393,10 @@ fn settle(
     firsts: &mut [u8],
     seconds: &mut [u8],
     rising: bool,
+    examine: bool,
 ) -> bool
-    requires { ⌜ (from + size ≤ count) × (count ≤ capacity) × (slotBytes * capacity ≤ length (now work)) × BodiesTallied (now question) (now bodies) × (length (now numbers) ≡ tallySize) × (rowBytes * mostRows ≤ length (now rows)) × Labelled (now question) (now firsts) × Labelled (now question) (now seconds) × (capacity ≤ greatestCapacity) × AllNoted (now question) capacity (now work) count × (level ≡ 0 → size ≡ 1) ⌝ }
-    ensures { λ r. ⌜ PassIs (now (question .entry)) capacity (now (work .entry)) count (Run from size) r (now (work .exit)) × Labelled (now (question .entry)) (now (firsts .exit)) × Labelled (now (question .entry)) (now (seconds .exit)) ⌝ }
+    requires { ⌜ (from + size ≤ count) × (count ≤ capacity) × (slotBytes * capacity ≤ length (now work)) × BodiesTallied (now question) (now bodies) × (length (now numbers) ≡ tallySize) × (rowBytes * mostRows ≤ length (now rows)) × Labelled (now question) (now firsts) × Labelled (now question) (now seconds) × (capacity ≤ greatestCapacity) × NotesHold examine (now question) capacity (now work) count × (level ≡ 0 → size ≡ 1) ⌝ }
+    ensures { λ r. ⌜ PassIs examine (now (question .entry)) capacity (now (work .entry)) count (Run from size) r (now (work .exit)) × Labelled (now (question .entry)) (now (firsts .exit)) × Labelled (now (question .entry)) (now (seconds .exit)) ⌝ }
 {
     if level == 0 {
         return strike_one(
@@ -390,6 +410,7 @@ fn settle(
             rows,
             firsts,
             seconds,
+            examine,
         );
     }
     let mut struck = false;
@@ -409,6 +430,7 @@ fn settle(
             firsts,
             seconds,
             up,
+            examine,
         ) {
             return struck;
         }
@@ -417,7 +439,7 @@ fn settle(
     }
 }
 
-// Passes until one strikes out none or the start is struck out; whether the start is left. Situations fail because of ones that were found later or
+// Passes that examine, until one strikes out none or the start is struck out; whether the start is left. Situations fail because of ones that were found later or
 // earlier, so that the passes go up and down by turns. The two areas have the lists that their labels say.
 fn survives_passes(
     question: &[u8],
@@ -452,6 +474,7 @@ fn survives_passes(
             firsts,
             seconds,
             up,
+            true,
         );
         up = !up;
         if !left_at(work, 0) {
@@ -459,6 +482,56 @@ fn survives_passes(
         }
     }
     true
+}
+
+// Whether the start survives, where some are struck out. Those that fail by what exploration noted are struck out before any steps are listed; then
+// passes begin anew with what is relied on.
+fn survives_struck(
+    question: &[u8],
+    bodies: &[u32],
+    numbers: &mut [u32],
+    rows: &mut [u8],
+    firsts: &mut [u8],
+    seconds: &mut [u8],
+    work: &mut [u8],
+    capacity: usize,
+    count: usize,
+    rising: bool,
+) -> bool
+    requires { ⌜ (1 ≤ count) × (count ≤ capacity) × (slotBytes * capacity ≤ length (now work)) × BodiesTallied (now question) (now bodies) × (length (now numbers) ≡ tallySize) × (rowBytes * mostRows ≤ length (now rows)) × Labelled (now question) (now firsts) × Labelled (now question) (now seconds) × (capacity ≤ greatestCapacity) × AllSole (now question) capacity (now work) count ⌝ }
+    ensures { λ r. ⌜ StartSurvivesIs (now (question .entry)) capacity (now (work .entry)) count r (now (work .exit)) ⌝ }
+{
+    settle(
+        question,
+        bodies,
+        work,
+        capacity,
+        count,
+        0,
+        count,
+        LARGEST_BLOCKS + 1,
+        numbers,
+        rows,
+        firsts,
+        seconds,
+        rising,
+        false,
+    );
+    if !left_at(work, 0) {
+        return false;
+    }
+    survives_passes(
+        question,
+        bodies,
+        numbers,
+        rows,
+        firsts,
+        seconds,
+        work,
+        capacity,
+        count,
+        rising,
+    )
 }
 
 // The first situation that is struck out, of the first `count`.
@@ -489,7 +562,7 @@ pub fn start_survives(
     capacity: usize,
     count: usize,
 ) -> bool
-    requires { ⌜ (1 ≤ count) × (count ≤ capacity) × (slotBytes * capacity ≤ length (now work)) × BodiesTallied (now question) (now bodies) × (length (now numbers) ≡ tallySize) × (rowBytes * mostRows ≤ length (now rows)) × Labelled (now question) (now firsts) × Labelled (now question) (now seconds) × (capacity ≤ greatestCapacity) ⌝ }
+    requires { ⌜ (1 ≤ count) × (count ≤ capacity) × (slotBytes * capacity ≤ length (now work)) × BodiesTallied (now question) (now bodies) × (length (now numbers) ≡ tallySize) × (rowBytes * mostRows ≤ length (now rows)) × Labelled (now question) (now firsts) × Labelled (now question) (now seconds) × (capacity ≤ greatestCapacity) × AllSole (now question) capacity (now work) count ⌝ }
     ensures { λ r. ⌜ StartSurvivesIs (now (question .entry)) capacity (now (work .entry)) count r (now (work .exit)) ⌝ }
 {
     if !left_at(work, 0) {
@@ -498,7 +571,7 @@ pub fn start_survives(
     let first = first_struck(work, count);
     match first {
         Found::Nothing => true,
-        Found::At(i) => survives_passes(
+        Found::At(i) => survives_struck(
             question,
             bodies,
             numbers,

@@ -3,7 +3,8 @@ use native.Mathlib.Omega.{arith}
 use mathlib.Core.Path.{_≡_, refl}
 use Prim.Native.Nat.{_-_, _≤_}
 use lib.ListN.{length}
-use Rattle.verdict.proofs.NoteLaws.{Clearing, spare-none, clearing-next, cleared}
+use Rattle.field.proofs.NotedLaws.{spare-none}
+use Rattle.verdict.proofs.NoteLaws.{Clearing, clearing-next, cleared}
 use borrow.Author.Needs.{needs}
 use Rattle.verdict.proofs.relied.clear_notes.Statement.{statement}
 use Rattle.verdict.proofs.relied.clear_notes.Tie as tie

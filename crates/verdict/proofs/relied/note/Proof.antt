@@ -3,7 +3,7 @@ use native.Mathlib.Omega.{arith}
 use mathlib.Core.Path.{_≡_, refl}
 use Prim.Native.Nat.{_-_, _≤_}
 use lib.ListN.{length}
-use Rattle.verdict.specs.Notes.{notedCount}
+use Rattle.field.specs.Noted.{notedCount}
 use Rattle.verdict.proofs.NoteLaws.{Noting, noting-start, noting-next, noted-all}
 use borrow.Author.Needs.{needs}
 use Rattle.verdict.proofs.relied.note.Statement.{statement}

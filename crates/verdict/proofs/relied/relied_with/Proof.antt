@@ -3,7 +3,7 @@ use native.Mathlib.Omega.{arith}
 use mathlib.Core.Path.{_≡_}
 use Prim.Native.Nat.{_-_, _≤_}
 use lib.ListN.{length}
-use Rattle.verdict.specs.Notes.{notedCount}
+use Rattle.field.specs.Noted.{notedCount}
 use Rattle.verdict.proofs.NoteLaws.{with-there, with-many, with-more}
 use borrow.Author.Needs.{needs}
 use Rattle.verdict.proofs.relied.relied_with.Statement.{statement}

@@ -3,7 +3,7 @@ use native.Mathlib.Omega.{arith}
 use borrow.Author.Count.{below-more}
 use borrow.Author.Tests.{not-false}
 use Prim.Native.Nat.{ℕ, _-_, _<_, _≤_}
-use Rattle.verdict.specs.Notes.{notedCount}
+use Rattle.field.specs.Noted.{notedCount}
 use Rattle.verdict.proofs.NoteLaws.{RestsOn, not-resting, rests-on, rests-all}
 use borrow.Author.Needs.{needs}
 use Rattle.verdict.proofs.relied.rests.Statement.{statement}
