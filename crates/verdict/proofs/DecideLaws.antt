@@ -7,18 +7,22 @@ use native.Mathlib.Omega.{arith}
 use Prim.Native.Nat.{ℕ, zero, suc, _*_, _<_, _≤_}
 use lib.Dec.{eqb}
 use lib.ListN.{length, getD, length-map, List·getD-map}
+use lib.Seq.{ext-getD}
 use borrow.Author.Tests.{eq-eqb, ne-eqb}
 use Rattle.calculus.specs.Definitions.{Defs}
 use Rattle.terms.specs.Answer.{result}
+use Rattle.terms.specs.Limits.{nameCount}
 use Rattle.terms.specs.Question.{Question, checkOf}
+use Rattle.terms.proofs.Answers.{result-injective}
 use Rattle.terms.proofs.WellFormed.{WellFormed, accepted-well-formed}
 use Rattle.candidates.specs.Lists.{_∈_}
 use Rattle.candidates.proofs.Membership.{all-∈}
 use Rattle.candidates.proofs.QuestionDefinitions.{definitions}
 use Rattle.field.specs.Chains.{Chained}
 use Rattle.field.specs.Exploration.{found, unanswered, Row, Exploration, incomplete, explored, fieldOf}
-use Rattle.field.specs.Holding.{SlotsHold, StruckFirst, Explores, ExploreIs}
+use Rattle.field.specs.Holding.{SlotsHold, StruckFirst, SoleNoted, Explores, ExploreIs}
 use Rattle.field.specs.Key.{keyAt}
+use Rattle.field.specs.Noted.{noteAt, SoleIn}
 use Rattle.field.specs.Setting.{Setting, settingOf}
 use Rattle.field.specs.Situation.{Situation, sameSituation, startOf}
 use Rattle.field.specs.Slot.{slotBytes, struckAt}
@@ -35,7 +39,7 @@ use Rattle.field.proofs.Unseen.{∈-found}
 use Rattle.field.proofs.Members.{getD-∈}
 use Rattle.field.proofs.KeysDiffer.{key-equal, slot-key}
 use Rattle.verdict.specs.Judging.{judgedAnswer, DecidesIs}
-use Rattle.verdict.specs.Striking.{leftOf, marks, Standing, EqualParts, LeadsToEqual, Searching, SurvivesIs, Strikes, AllSurvive, StartSurvivesIs}
+use Rattle.verdict.specs.Striking.{leftOf, marks, Standing, EqualParts, LeadsToEqual, FieldIn, Searching, SurvivesIs, AllSole, Strikes, AllSurvive, StartSurvivesIs}
 use Rattle.verdict.specs.Verdict.{same, different, decided, allAnswered, verdictOf}
 use Rattle.verdict.specs.declared.judge.Judged.{Judged}
 use Rattle.verdict.specs.declared.judge.Judged.the-variants.{Unsettled, Same, Different}
@@ -187,6 +191,42 @@ module _ (question : List ℕ) (q : Question) (accepted : checkOf question ≡ r
     equal = left-equal;
   }
 
+  -- A field in the work area is this one: each slot has one situation.
+  module _ (f : FieldIn question capacity work (length rs)) where
+    read-is : f .read ≡ q
+    read-is = result-injective (sym (f .accepted) ∙ accepted)
+
+    known-is : f .known ≡ selves rs
+    unfolding settingOf
+    known-is = ext-getD (startOf q) (f .known) (selves rs) (f .number ∙ sym count) (λ i h. same i h (omega (arith, f .number, count)))
+      where
+        same : (i : ℕ) → i < length (f .known) → i < length (selves rs) → getD (f .known) i (startOf q) ≡ getD (selves rs) i (startOf q)
+        same i h k =
+            let s : Situation = getD (f .known) i (startOf q) in
+            let t : Situation = getD (selves rs) i (startOf q) in
+            let a = f .standing .held i (startOf q) h in
+            let b = holds .held i (startOf q) k in
+            key-equal (q .arities) s t
+            (subst (λ q. Proper nameCount (q .arities) s) read-is (f .proper s (getD-∈ (f .known) i (startOf q) h)))
+            (those .proper t (getD-∈ (selves rs) i (startOf q) k))
+            (record { first = a .first; second = a .second }) (record { first = b .first; second = b .second })
+            (sym (slot-key work i s a) ∙ slot-key work i t b)
+
+  -- what exploration noted is the only answer to a step
+  pub explored-sole : SoleNoted work rs → AllSole question capacity work (length rs)
+  unfolding SoleNoted AllSole
+  explored-sole sole i k h g f d ms e =
+      let o : Row = record { self = d; wants = [] } in
+      let r : Row = getD rs i o in
+      let l = within r (getD-∈ rs i o h) in
+      let same : r .self ≡ getD (f .known) i d =
+      sym (List·getD-map (λ (r : Row). r .self) rs i o) ∙ ap (λ ks. getD ks i d) (sym (known-is f)) in
+      let t : successors S (r .self) ≡ leads ms =
+      ap (successors S) same ∙ subst (λ (q : Question). successors (settingOf (q .bodies)) (getD (f .known) i d) ≡ leads ms) (read-is f) e in
+      let w : r .wants ≡ ms = cc in
+      subst (λ ks. SoleIn ks ms (noteAt work i k)) (sym (known-is f))
+      (subst (λ ms. SoleIn (selves rs) ms (noteAt work i k)) w (sole i k o h g))
+
   start-here : getD (selves rs) 0 (startOf q) ≡ startOf q
   start-here = let (ts, e) = rows .first in ap (λ l. getD l 0 (startOf q)) e
 
@@ -249,6 +289,23 @@ module _ (question : List ℕ) (capacity : ℕ) (work w : List ℕ) (x : Explore
           → judgedAnswer Unsettled ≡ result (verdictOf q capacity)
       go q incomplete f k = sym (ap (λ y. result (decided (startOf q) y)) f)
       go q (explored rs) f k = let z : _≡_ {A = ℕ} 0 1 = cc (k .0) in absurd (omega arith)
+
+  -- what is noted when strike-out begins
+  pub sole-all : (n : ℕ) → x ≡ Field n → slotBytes * capacity ≤ length w
+      → ((q : Question) → checkOf question ≡ result q → (rs : List Row) → fieldOf (settingOf (q .bodies)) capacity (startOf q) ≡ explored rs → SoleNoted w rs)
+      → AllSole question capacity w n
+  unfolding AllSole Explores
+  sole-all n h room sole i k l g f =
+      go (f .read) (f .accepted) (fieldOf (settingOf (f .read .bodies)) capacity (startOf (f .read))) refl (e .is (f .read) (f .accepted)) i k l g f
+    where
+      go : (q : Question) → checkOf question ≡ result q → (y : Exploration) → fieldOf (settingOf (q .bodies)) capacity (startOf q) ≡ y → Explores y x w
+          → AllSole question capacity w n
+      go q a incomplete f k = let z : _≡_ {A = ℕ} 0 1 = cc in absurd (omega arith)
+      go q a (explored rs) f k =
+          let z : n ≡ length rs = cc (k .0) in
+          subst (AllSole question capacity w) (sym z)
+          (explored-sole question q a capacity rs f w (k .1) (k .2) (subst (Chained capacity w) z (e .chained q a n h)) (omega (arith, e .within n h .1))
+          (sole q a rs f))
 
   module _ (n : ℕ) (h : x ≡ Field n) (room : slotBytes * capacity ≤ length w) (r : Bool) (u : List ℕ) (s : StartSurvivesIs question capacity w n r u) where
     settled : (o : Judged) → judgedAnswer o ≡ result (cond r (same n) (different n)) → DecidesIs question capacity work o u

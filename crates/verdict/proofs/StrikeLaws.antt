@@ -25,7 +25,7 @@ use Rattle.field.proofs.KeysDiffer.{slot-key}
 use Rattle.field.proofs.NotedLaws.{spare-none, spare-then}
 use Rattle.field.proofs.Run.{selves}
 use Rattle.field.proofs.Members.{getD-∈}
-use Rattle.verdict.specs.Notes.{NoteIs, RestsIs}
+use Rattle.verdict.specs.Notes.{NoteIs, RestsIs, SoleStruckIs}
 use Rattle.verdict.specs.Striking.{marks, living, zeros, leftOf, EqualParts, Searching, SurvivesIs, ExaminedIs, AllNoted, NotesHold, EqualPartsIs, Strikes, none-struck, one-struck, notes-changed, StrikesSole, StrikesOne, AllSurvive, Run, PassIs, FirstStruckIs, StartSurvivesIs, blockSlots, turned}
 use Rattle.verdict.specs.Verdict.{allAnswered}
 use Rattle.verdict.specs.declared.strike.Answered.{Answered}
@@ -77,6 +77,14 @@ turned-twice false count i h = refl
 -- The situations of those of the n parts that a pass has taken up while i wait.
 unfoldable pub TakenUp : Bool → ℕ → (ℕ → ℕ → Type 0) → ℕ → ℕ → Type 0
 TakenUp rising n Part i j = (k : ℕ) × (k < n) × (i ≤ turned rising n k) × Part k j
+
+-- strike_sole
+module _ (work : List ℕ) (count i : ℕ) (r : Bool) (s : SoleStruckIs work count i r) where
+  pub sole-kept : r ≡ false → StrikesSole work count i false work
+  sole-kept e = record { sole = subst (SoleStruckIs work count i) e s; struck = λ q. true-not-false q refl; kept = λ q. refl }
+
+  pub sole-struck : r ≡ true → StrikesSole work count i true (set work (struckAt i) 1)
+  sole-struck e = record { sole = subst (SoleStruckIs work count i) e s; struck = λ q. refl; kept = λ q. true-not-false refl q }
 
 module _ (question : List ℕ) (capacity count : ℕ) where
   pub strikes-then : {work v u : List ℕ} → Strikes question capacity count work v → Strikes question capacity count v u → Strikes question capacity count work u

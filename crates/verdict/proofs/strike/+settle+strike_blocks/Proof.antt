@@ -56,22 +56,22 @@ abbrev strike-blocks-claims : ℕ → strike-blocks-lts.Claims
 strike-blocks-claims t = (width-reads.Asked, width-reads.Learnt, turn-reads.Asked, turn-reads.Learnt, block-size-reads.Asked, block-size-reads.Learnt, settle-below t, settle.Post)
 
 abbrev settle-Inv-loop : settle-lts.InvT-loop
-settle-Inv-loop question bodies work₀ capacity count from size level numbers₀ rows₀ firsts₀ seconds₀ rising struck₀ up₀ work numbers rows firsts seconds struck up =
+settle-Inv-loop question bodies work₀ capacity count from size level numbers₀ rows₀ firsts₀ seconds₀ rising examine struck₀ up₀ work numbers rows firsts seconds struck up =
     (length work ≡ length work₀) × (length numbers ≡ length numbers₀) × (length rows ≡ length rows₀)
     × (length firsts ≡ length firsts₀) × (length seconds ≡ length seconds₀) × Labelled question firsts × Labelled question seconds
-    × PassIs question capacity work₀ count (λ j. ⊥) struck work
+    × PassIs examine question capacity work₀ count (λ j. ⊥) struck work
 
 abbrev settle-μ-loop : settle-lts.MeasureT-loop
-settle-μ-loop question bodies work₀ capacity count from size level numbers₀ rows₀ firsts₀ seconds₀ rising struck₀ up₀ work numbers rows firsts seconds struck up = zeros (marks work count)
+settle-μ-loop question bodies work₀ capacity count from size level numbers₀ rows₀ firsts₀ seconds₀ rising examine struck₀ up₀ work numbers rows firsts seconds struck up = zeros (marks work count)
 
 abbrev strike-blocks-Inv-loop : strike-blocks-lts.InvT-loop
-strike-blocks-Inv-loop question bodies work₀ capacity count from size level numbers₀ rows₀ firsts₀ seconds₀ rising block blocks struck₀ i₀ work numbers rows firsts seconds struck i =
+strike-blocks-Inv-loop question bodies work₀ capacity count from size level numbers₀ rows₀ firsts₀ seconds₀ rising examine block blocks struck₀ i₀ work numbers rows firsts seconds struck i =
     (i ≤ blocks) × (length work ≡ length work₀) × (length numbers ≡ length numbers₀) × (length rows ≡ length rows₀)
     × (length firsts ≡ length firsts₀) × (length seconds ≡ length seconds₀) × Labelled question firsts × Labelled question seconds
-    × PassIs question capacity work₀ count (TakenUp rising blocks (Blocks from size block) i) struck work
+    × PassIs examine question capacity work₀ count (TakenUp rising blocks (Blocks from size block) i) struck work
 
 abbrev strike-blocks-μ-loop : strike-blocks-lts.MeasureT-loop
-strike-blocks-μ-loop question bodies work₀ capacity count from size level numbers₀ rows₀ firsts₀ seconds₀ rising block blocks struck₀ i₀ work numbers rows firsts seconds struck i = i
+strike-blocks-μ-loop question bodies work₀ capacity count from size level numbers₀ rows₀ firsts₀ seconds₀ rising examine block blocks struck₀ i₀ work numbers rows firsts seconds struck i = i
 
 settle-strike-one-requires : (t : ℕ) → settle-lts.Need-strike-one-requires (settle-claims t) (settle-at t) settle.Post settle-Inv-loop settle-μ-loop
 settle-strike-one-requires t c κs = (omega (arith, c .before .before .before .before .before .before .before .before .before .before .before .before .before .pre .1 .0, c .before .before .before .before .before .before .before .before .before .before .before .before .before .pre .1 .10 (c .before .before .before .before .before .if1 .taken)), c .before .before .before .before .before .before .before .before .before .before .before .before .before .pre .1 .1, c .before .before .before .before .before .before .before .before .before .before .before .before .before .pre .1 .2, c .before .before .before .before .before .before .before .before .before .before .before .before .before .pre .1 .3, c .before .before .before .before .before .before .before .before .before .before .before .before .before .pre .1 .4, c .before .before .before .before .before .before .before .before .before .before .before .before .before .pre .1 .5, c .before .before .before .before .before .before .before .before .before .before .before .before .before .pre .1 .6, c .before .before .before .before .before .before .before .before .before .before .before .before .before .pre .1 .7, c .before .before .before .before .before .before .before .before .before .before .before .before .before .pre .1 .8, c .before .before .before .before .before .before .before .before .before .before .before .before .before .pre .1 .9)

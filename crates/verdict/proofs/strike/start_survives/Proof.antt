@@ -24,11 +24,11 @@ enum-told c = search needs
 enum-known-first : tie.Need-enum-known-first
 enum-known-first c = search needs
 
-mul-survives-passes : tie.Need-mul-survives-passes
-mul-survives-passes c = omega (arith, c .before .before .before .before .before .before .before .before .first-struck .ensures .some (c .before .before .before .before .before .before .first .given .0 .0) (c .before .before .before .before .before .before .first .given .1) .0, c .before .before .before .before .before .before .before .before .before .before .before .before .before .before .before .before .before .before .before .before .pre .1, c .before .before .before .before .before .before .before .before .before .before .before .before .before .before .before .before .before .before .before .before .pre .8)
+mul-survives-struck : tie.Need-mul-survives-struck
+mul-survives-struck c = omega (arith, c .before .before .before .before .before .before .before .before .first-struck .ensures .some (c .before .before .before .before .before .before .first .given .0 .0) (c .before .before .before .before .before .before .first .given .1) .0, c .before .before .before .before .before .before .before .before .before .before .before .before .before .before .before .before .before .before .before .before .pre .1, c .before .before .before .before .before .before .before .before .before .before .before .before .before .before .before .before .before .before .before .before .pre .8)
 
-survives-passes-requires : tie.Need-survives-passes-requires
-survives-passes-requires c κs = search needs
+survives-struck-requires : tie.Need-survives-struck-requires
+survives-struck-requires c κs = search needs
 
 same-length-2 : tie.Need-same-length-2
 same-length-2 c = search needs
@@ -64,8 +64,8 @@ start-survives-spec =
     first-struck-requires
     enum-told
     enum-known-first
-    mul-survives-passes
-    survives-passes-requires
+    mul-survives-struck
+    survives-struck-requires
     same-length-2
     returns-2
     same-length-3

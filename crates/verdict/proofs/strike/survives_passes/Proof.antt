@@ -2,7 +2,7 @@
 use native.Mathlib.Omega.{arith}
 use borrow.Author.Needs.{needs}
 use borrow.Author.Tests.{not-true, not-false}
-use mathlib.Core.Bool.{false, cond}
+use mathlib.Core.Bool.{true, false, cond}
 use mathlib.Core.Path.{_≡_, refl}
 use Prim.Native.Nat.{_+_, _*_, _≤_}
 use lib.ListN.{length, getD}
@@ -10,7 +10,7 @@ use Rattle.candidates.specs.Tally.{tallySize}
 use Rattle.steps.specs.Rows.{rowBytes, mostRows}
 use Rattle.field.specs.ListArea.{Labelled}
 use Rattle.field.specs.Slot.{struckAt}
-use Rattle.verdict.specs.Striking.{marks, zeros, AllNoted, Strikes, none-struck, notes-changed, AllSurvive}
+use Rattle.verdict.specs.Striking.{marks, zeros, NotesHold, Strikes, none-struck, notes-changed, AllSurvive}
 use Rattle.verdict.proofs.FieldKept.{noted-none}
 use Rattle.verdict.proofs.Marks.{left-zero}
 use Rattle.verdict.proofs.Rounds.{true-not-false}
@@ -23,7 +23,7 @@ Inv-loop question bodies numbers₀ rows₀ firsts₀ seconds₀ work₀ capacit
     (length work ≡ length work₀) × (length numbers ≡ tallySize) × (rowBytes * mostRows ≤ length rows) × Labelled question firsts × Labelled question seconds
     × Strikes question capacity count work₀ work × (again ≡ false → (getD work (struckAt 0) 0 ≡ 0) × AllSurvive question capacity work count)
     × (length numbers ≡ length numbers₀) × (length rows ≡ length rows₀) × (length firsts ≡ length firsts₀) × (length seconds ≡ length seconds₀)
-    × AllNoted question capacity work count
+    × NotesHold true question capacity work count
 
 abbrev μ-loop : tie.MeasureT-loop
 μ-loop question bodies numbers₀ rows₀ firsts₀ seconds₀ work₀ capacity count rising up₀ again₀ numbers rows firsts seconds work up again = zeros (marks work count) + cond again 1 0
@@ -32,6 +32,7 @@ clear-notes-requires : tie.Need-clear-notes-requires Inv-loop μ-loop
 clear-notes-requires c κs = omega (arith, c .before .before .before .before .before .before .before .before .pre .1, c .before .before .before .before .before .before .before .before .pre .2)
 
 loop-holds : tie.Need-loop-holds Inv-loop μ-loop
+unfolding NotesHold
 loop-holds c = (refl, search needs, search needs, c .before .before .before .before .before .before .before .before .before .before .before .pre .6, c .before .before .before .before .before .before .before .before .before .before .before .pre .7, none-struck, λ q. true-not-false refl q, refl, refl, refl, refl, noted-none _ _ _ _ _ (c .before .before .clear-notes .ensures))
 
 strike-blocks-requires : tie.Need-strike-blocks-requires Inv-loop μ-loop
