@@ -83,8 +83,8 @@ module _ (work : List ℕ) (count i : ℕ) (r : Bool) (s : SoleStruckIs work cou
   pub sole-kept : r ≡ false → StrikesSole work count i false work
   sole-kept e = record { sole = subst (SoleStruckIs work count i) e s; struck = λ q. true-not-false q refl; kept = λ q. refl }
 
-  pub sole-struck : r ≡ true → StrikesSole work count i true (set work (struckAt i) 1)
-  sole-struck e = record { sole = subst (SoleStruckIs work count i) e s; struck = λ q. refl; kept = λ q. true-not-false refl q }
+  pub sole-gone : r ≡ true → StrikesSole work count i true (set work (struckAt i) 1)
+  sole-gone e = record { sole = subst (SoleStruckIs work count i) e s; struck = λ q. refl; kept = λ q. true-not-false refl q }
 
 module _ (question : List ℕ) (capacity count : ℕ) where
   pub strikes-then : {work v u : List ℕ} → Strikes question capacity count work v → Strikes question capacity count v u → Strikes question capacity count work u

@@ -1,6 +1,6 @@
 -- `verdict::strike::strike_sole` meets its contract. Assumes nothing.
 use borrow.Author.Tests.{not-true, not-false}
-use Rattle.verdict.proofs.StrikeLaws.{sole-kept, sole-struck}
+use Rattle.verdict.proofs.StrikeLaws.{sole-kept, sole-gone}
 use borrow.Author.Needs.{needs}
 use Rattle.verdict.proofs.strike.strike_sole.Statement.{statement}
 use Rattle.verdict.proofs.strike.strike_sole.Tie as tie
@@ -27,7 +27,7 @@ same-length-2 : tie.Need-same-length-2
 same-length-2 c = search needs
 
 returns-2 : tie.Need-returns-2
-returns-2 c = sole-struck _ _ _ _ (c .before .sole-struck .ensures) (not-false _ (c .if1 .left))
+returns-2 c = sole-gone _ _ _ _ (c .before .sole-struck .ensures) (not-false _ (c .if1 .left))
 
 pub strike-sole-spec : {M : Type 1} → statement M
 strike-sole-spec =
