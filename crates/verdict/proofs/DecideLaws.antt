@@ -291,11 +291,9 @@ module _ (question : List ℕ) (capacity : ℕ) (work w : List ℕ) (x : Explore
       go q (explored rs) f k = let z : _≡_ {A = ℕ} 0 1 = cc (k .0) in absurd (omega arith)
 
   -- what is noted when strike-out begins
-  pub sole-all : (n : ℕ) → x ≡ Field n → slotBytes * capacity ≤ length w
-      → ((q : Question) → checkOf question ≡ result q → (rs : List Row) → fieldOf (settingOf (q .bodies)) capacity (startOf q) ≡ explored rs → SoleNoted w rs)
-      → AllSole question capacity w n
+  pub sole-all : (n : ℕ) → x ≡ Field n → slotBytes * capacity ≤ length w → AllSole question capacity w n
   unfolding AllSole Explores
-  sole-all n h room sole i k l g f =
+  sole-all n h room i k l g f =
       go (f .read) (f .accepted) (fieldOf (settingOf (f .read .bodies)) capacity (startOf (f .read))) refl (e .is (f .read) (f .accepted)) i k l g f
     where
       go : (q : Question) → checkOf question ≡ result q → (y : Exploration) → fieldOf (settingOf (q .bodies)) capacity (startOf q) ≡ y → Explores y x w
@@ -304,8 +302,7 @@ module _ (question : List ℕ) (capacity : ℕ) (work w : List ℕ) (x : Explore
       go q a (explored rs) f k =
           let z : n ≡ length rs = cc (k .0) in
           subst (AllSole question capacity w) (sym z)
-          (explored-sole question q a capacity rs f w (k .1) (k .2) (subst (Chained capacity w) z (e .chained q a n h)) (omega (arith, e .within n h .1))
-          (sole q a rs f))
+          (explored-sole question q a capacity rs f w (k .1) (k .2) (subst (Chained capacity w) z (e .chained q a n h)) (omega (arith, e .within n h .1)) (k .3))
 
   module _ (n : ℕ) (h : x ≡ Field n) (room : slotBytes * capacity ≤ length w) (r : Bool) (u : List ℕ) (s : StartSurvivesIs question capacity w n r u) where
     settled : (o : Judged) → judgedAnswer o ≡ result (cond r (same n) (different n)) → DecidesIs question capacity work o u

@@ -51,7 +51,7 @@ slice-aggregate-start-survives-5 : tie.Need-slice-aggregate-start-survives-5
 slice-aggregate-start-survives-5 c = search needs
 
 start-survives-requires : tie.Need-start-survives-requires
-start-survives-requires c κs = let w = c .before .before .before .before .before .before .before .before .before .before .before .before .before .before .before .explore .ensures .0 .within _ (c .before .before .before .before .before .before .before .explored .given .1) in (w .0, w .1, omega (arith, c .before .before .before .before .before .before .before .before .before .before .before .before .before .before .before .before .before .before .before .before .before .before .before .before .before .pre .2), c .before .before .before .before .before .before .before .before .before .before .before .before .before .before .before .before .before .before .before .before .before .before .body-tallies .ensures, search needs, search needs, c .before .before .before .before .before .before .before .before .before .before .before .before .before .before .before .explore .ensures .1, c .before .before .before .before .before .before .before .before .before .before .before .before .before .before .before .explore .ensures .2, c .before .before .before .before .before .before .before .before .before .before .before .before .before .before .before .before .before .before .before .before .before .before .before .before .before .pre .1, sole-all _ _ _ _ _ (c .before .before .before .before .before .before .before .before .before .before .before .before .before .before .before .explore .ensures .0) _ (c .before .before .before .before .before .before .before .explored .given .1) (omega (arith, c .before .before .before .before .before .before .before .before .before .before .before .before .before .before .before .before .before .before .before .before .before .before .before .before .before .pre .2)) ?)
+start-survives-requires c κs = let w = c .before .before .before .before .before .before .before .before .before .before .before .before .before .before .before .explore .ensures .0 .within _ (c .before .before .before .before .before .before .before .explored .given .1) in (w .0, w .1, omega (arith, c .before .before .before .before .before .before .before .before .before .before .before .before .before .before .before .before .before .before .before .before .before .before .before .before .before .pre .2), c .before .before .before .before .before .before .before .before .before .before .before .before .before .before .before .before .before .before .before .before .before .before .body-tallies .ensures, search needs, search needs, c .before .before .before .before .before .before .before .before .before .before .before .before .before .before .before .explore .ensures .1, c .before .before .before .before .before .before .before .before .before .before .before .before .before .before .before .explore .ensures .2, c .before .before .before .before .before .before .before .before .before .before .before .before .before .before .before .before .before .before .before .before .before .before .before .before .before .pre .1, sole-all _ _ _ _ _ (c .before .before .before .before .before .before .before .before .before .before .before .before .before .before .before .explore .ensures .0) _ (c .before .before .before .before .before .before .before .explored .given .1) (omega (arith, c .before .before .before .before .before .before .before .before .before .before .before .before .before .before .before .before .before .before .before .before .before .before .before .before .before .pre .2)))
 
 same-length : tie.Need-same-length
 same-length c = search needs
