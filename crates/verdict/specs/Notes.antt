@@ -51,7 +51,7 @@ unfoldable pub RestsIs : List ℕ → ℕ → ℕ → Bool → Type 0
 RestsIs work count i r =
     r ≡ true → (k : ℕ) → k < notedCount → (0 < noteAt work i k) × (noteAt work i k ≤ count) × (getD work (struckAt (noteAt work i k - 1)) 0 ≡ 0)
 
--- A situation that is noted in slot i is struck out.
+-- A test that is met says that a situation that is noted in slot i is struck out.
 unfoldable pub SoleStruckIs : List ℕ → ℕ → ℕ → Bool → Type 0
 SoleStruckIs work count i r =
     r ≡ true → (k : ℕ) × (j : ℕ) × (k < notedCount) × (noteAt work i k ≡ j + 1) × (j < count) × (getD work (struckAt j) 0 ≡ 0 → ⊥)

@@ -197,7 +197,7 @@ pub data Strikes (question : List ℕ) (capacity count : ℕ) (work : List ℕ) 
 unfoldable pub EqualPartsIs : List ℕ → ℕ → Bool → Type 0
 EqualPartsIs work i r = r ≡ true → (s : Situation) → SituationAt work (slotBytes * i) s → encode 0 (s .first) ≡ encode 0 (s .second)
 
--- Situation i is struck out if one that is noted in its slot is; no other byte is changed.
+-- Situation i is struck out only if one that is noted in its slot is; no other byte is changed.
 pub record StrikesSole (work : List ℕ) (count i : ℕ) (r : Bool) (work′ : List ℕ) : Type 0 where
   pub sole : SoleStruckIs work count i r
   pub struck : r ≡ true → work′ ≡ set work (struckAt i) 1

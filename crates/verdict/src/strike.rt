@@ -439,8 +439,8 @@ fn settle(
     }
 }
 
-// Passes that examine, until one strikes out none or the start is struck out; whether the start is left. Situations fail because of ones that were found later or
-// earlier, so that the passes go up and down by turns. The two areas have the lists that their labels say.
+// Passes that examine situations, until one strikes out none or the start is struck out; whether the start is left. Situations fail because of ones
+// that were found later or earlier, so that the passes go up and down by turns. The two areas have the lists that their labels say.
 fn survives_passes(
     question: &[u8],
     bodies: &[u32],
