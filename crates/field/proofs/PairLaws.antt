@@ -20,7 +20,7 @@ use Rattle.terms.proofs.Answers.{both-true}
 use Rattle.terms.proofs.ApartLaws.{holds-apart, apart-holds}
 use Rattle.steps.specs.Listed.{ListedStep, classIn}
 use Rattle.field.specs.Entry.{EntryAt, ClassOfIs, TrivialIs}
-use Rattle.field.specs.PairFlags.{pairCount, pairAt, NumberIs, AddsPair, NoneApartIs, MergesIs, PermittedIs}
+use Rattle.field.specs.PairFlags.{pairCount, pairAt, NumberIs, AddsPair, NoneApartIs, HeldIs, MergedPair, MergesIs, PermittedIs}
 use Rattle.field.specs.Slot.{allPairs, flag, flagsOf}
 use Rattle.field.specs.Successors.{permitted}
 use Rattle.field.proofs.ClassTests.{apart-permitted}
@@ -138,44 +138,101 @@ merged-refused (p ∷ D) s a b (inr (inr h)) z =
     and-false true = refl
     and-false false = refl
 
--- a pair that the condition merges
-record Merged (D : Pairs) (s : ListedStep) : Type 0 where
-  one : ℕ
-  other : ℕ
-  apart : Apart D one other
-  merged : classIn (s .classes) one ≡ classIn (s .classes) other
-
-refused-merged : (D : Pairs) (s : ListedStep) → permitted D s ≡ false → Merged D s
+refused-merged : (D : Pairs) (s : ListedStep) → permitted D s ≡ false → (a : ℕ) × (b : ℕ) × MergedPair D s a b
 unfolding permitted
 refused-merged [] s e = let z : _≡_ {A = ℕ} 0 1 = cc in absurd (omega arith)
 refused-merged (p ∷ D) s e = go (eqb (classIn (s .classes) (p .0)) (classIn (s .classes) (p .1))) refl e (λ h. refused-merged D s h)
   where
     go : (t : Bool) → eqb (classIn (s .classes) (p .0)) (classIn (s .classes) (p .1)) ≡ t → (not t && permitted D s) ≡ false
-        → (permitted D s ≡ false → Merged D s) → Merged (p ∷ D) s
+        → (permitted D s ≡ false → (a : ℕ) × (b : ℕ) × MergedPair D s a b) → (a : ℕ) × (b : ℕ) × MergedPair (p ∷ D) s a b
     go true h k r =
-        record { one = p .0; other = p .1; apart = inl (refl, refl); merged = eqb-true (classIn (s .classes) (p .0)) (classIn (s .classes) (p .1)) h }
-    go false h k r =
-        let m = r k in
-        record { one = m .one; other = m .other; apart = inr (inr (m .apart)); merged = m .merged }
+        (p .0, p .1, record { apart = inl (refl, refl); merged = eqb-true (classIn (s .classes) (p .0)) (classIn (s .classes) (p .1)) h })
+    go false h k r = let (a, b, m) = r k in (a, b, record { apart = inr (inr (m .apart)); merged = m .merged })
 
--- The search for a merged pair: those below k are none.
-abbrev pub mergedAt : Pairs → ListedStep → ℕ → Bool
-mergedAt D s k = holdsApart D (pairAt k .0) (pairAt k .1) && eqb (classIn (s .classes) (pairAt k .0)) (classIn (s .classes) (pairAt k .1))
+-- held_apart
+module _ (flags : List ℕ) (a b k : ℕ) (n : NumberIs a b k) where
+  held : (D : Pairs) → flags ≡ flagsOf D → getD flags k 0 ≡ flag (holdsApart D a b)
+  held D e = ap (λ l. getD l k 0) e ∙ flag-at D k (n .below) ∙ ap₂ (λ x y. flag (holdsApart D x y)) (n .first) (n .second)
 
+  pub held-ordered : a < b → (v : ℕ) → v ≡ getD flags k 0 → HeldIs flags a b (not (eqb v 0))
+  unfolding flag
+  held-ordered l v e = record { is = λ D f d. go D f (holdsApart D a b) refl; alone = λ z. absurd (omega arith) }
+    where
+      go : (D : Pairs) → flags ≡ flagsOf D → (t : Bool) → holdsApart D a b ≡ t → not (eqb v 0) ≡ holdsApart D a b
+      go D f true q = let z : v ≡ 1 = e ∙ held D f ∙ ap flag q in rw (z, q)
+      go D f false q = let z : v ≡ 0 = e ∙ held D f ∙ ap flag q in rw (z, q)
+
+-- the order means nothing
+pub held-swapped : (flags : List ℕ) (a b : ℕ) (r : Bool) → HeldIs flags b a r → HeldIs flags a b r
+held-swapped flags a b r h = record {
+  is = λ D e d. h .is D e (λ z. d (sym z)) ∙ go D (holdsApart D a b) (holdsApart D b a) refl refl;
+  alone = λ z. h .alone (sym z);
+}
+  where
+    go : (D : Pairs) (t u : Bool) → holdsApart D a b ≡ t → holdsApart D b a ≡ u → holdsApart D b a ≡ holdsApart D a b
+    go D true u p q = apart-holds D b a (apart-sym D a b (holds-apart D a b p)) ∙ sym p
+    go D false true p q =
+        let z = apart-holds D a b (apart-sym D b a (holds-apart D b a q)) in
+        let y : _≡_ {A = ℕ} 0 1 = cc in absurd (omega arith)
+    go D false false p q = q ∙ sym p
+
+pub held-alone : (flags : List ℕ) (a b : ℕ) → a ≡ b → HeldIs flags a b false
+held-alone flags a b e = record { is = λ D f d. absurd (d e); alone = λ z. refl }
+
+-- merges_apart: the names below m are none that n is merged with and apart from
+abbrev pub Spared : List ℕ → List ℕ → ℕ → ℕ → ℕ → Type 0
+Spared flags area at n m =
+    (D : Pairs) (s : ListedStep) → flags ≡ flagsOf D → EntryAt area at s → (j : ℕ) → j < m → (j ≡ n → ⊥) → MergedPair D s j n → ⊥
+
+module _ (flags area : List ℕ) (at n class : ℕ) (C : ClassOfIs area at n class) where
+  module _ (m other : ℕ) (O : ClassOfIs area at m other) where
+    pub spared-class : (other ≡ class → ⊥) → Spared flags area at n m → Spared flags area at n (m + 1)
+    unfolding ClassOfIs
+    spared-class d so D s e f = below-more _ m (so D s e f) (λ k p. d (O s f ∙ p .merged ∙ sym (C s f)))
+
+    pub spared-held : (r : Bool) → HeldIs flags m n r → r ≡ false → Spared flags area at n m → Spared flags area at n (m + 1)
+    spared-held r h q so D s e f =
+        below-more _ m (so D s e f) (λ k p.
+        let z : holdsApart D m n ≡ false = sym (h .is D e k) ∙ q in
+        let y = apart-holds D m n (p .apart) in
+        let x : _≡_ {A = ℕ} 0 1 = cc in omega arith)
+
+    pub merged-held : other ≡ class → (r : Bool) → HeldIs flags m n r → r ≡ true → MergesIs flags area at n true
+    unfolding ClassOfIs
+    merged-held c r h q = record {
+      some = λ z D s e f. (
+        m,
+        record {
+          apart = holds-apart D m n (sym (h .is D e (λ k. let y = h .alone k in let x : _≡_ {A = ℕ} 0 1 = cc in omega arith)) ∙ q);
+          merged = sym (O s f) ∙ c ∙ C s f;
+        },
+      );
+      none = λ z. let x : _≡_ {A = ℕ} 0 1 = cc in absurd (omega arith);
+    }
+
+pub spared-all : (flags area : List ℕ) (at n m : ℕ) → nameCount ≤ m → Spared flags area at n m → MergesIs flags area at n false
+spared-all flags area at n m past so = record {
+  some = λ z. let x : _≡_ {A = ℕ} 0 1 = cc in absurd (omega arith);
+  none = λ z D s e f j l. so D s e f j (omega arith);
+}
+
+-- permitted: no name below n that has another class than itself is merged with one that is apart from it
 abbrev pub Respected : List ℕ → List ℕ → ℕ → ℕ → Type 0
-Respected flags area at k = (D : Pairs) (s : ListedStep) → flags ≡ flagsOf D → EntryAt area at s → (j : ℕ) → j < k → mergedAt D s j ≡ false
+Respected flags area at n =
+    (D : Pairs) (s : ListedStep) → flags ≡ flagsOf D → EntryAt area at s → (j : ℕ) → j < n → (classIn (s .classes) j ≡ j → ⊥)
+    → (m : ℕ) → m < nameCount → (m ≡ j → ⊥) → MergedPair D s m j → ⊥
 
 module _ (flags area : List ℕ) (at : ℕ) where
-  pub respected-next : (k : ℕ) → MergesIs flags k area at false → Respected flags area at k → Respected flags area at (k + 1)
-  unfolding MergesIs
-  respected-next k h so D s e f = below-more _ k (so D s e f) (sym (h D s e f))
+  pub respected-own : (n class : ℕ) → ClassOfIs area at n class → class ≡ n → Respected flags area at n → Respected flags area at (n + 1)
+  unfolding ClassOfIs
+  respected-own n class C q so D s e f = below-more _ n (so D s e f) (λ k. absurd (k (sym (C s f) ∙ q)))
 
-  pub merged-found : (k : ℕ) → MergesIs flags k area at true → PermittedIs flags area at false
-  unfolding MergesIs PermittedIs
-  merged-found k h D s irr e f =
-      let c : ℕ → ℕ = classIn (s .classes) in
-      let (p, q) = both-true (holdsApart D (pairAt k .0) (pairAt k .1)) (eqb (c (pairAt k .0)) (c (pairAt k .1))) (sym (h D s e f)) in
-      sym (merged-refused D s (pairAt k .0) (pairAt k .1) (holds-apart D (pairAt k .0) (pairAt k .1) p) (eqb-true (c (pairAt k .0)) (c (pairAt k .1)) q))
+  pub respected-next : (n : ℕ) (r : Bool) → MergesIs flags area at n r → r ≡ false → Respected flags area at n → Respected flags area at (n + 1)
+  respected-next n r h q so D s e f = below-more _ n (so D s e f) (λ k. h .none q D s e f)
+
+  pub merged-found : (n : ℕ) (r : Bool) → MergesIs flags area at n r → r ≡ true → PermittedIs flags area at false
+  unfolding PermittedIs
+  merged-found n r h q D s irr e f = let (m, p) = h .some q D s e f in sym (merged-refused D s m n (p .apart) (p .merged))
 
   pub permitted-trivial : (r : Bool) → TrivialIs area at r → r ≡ true → PermittedIs flags area at true
   unfolding TrivialIs PermittedIs
@@ -183,61 +240,44 @@ module _ (flags area : List ℕ) (at : ℕ) where
       let own : (n : ℕ) → classIn (s .classes) n ≡ n = h q s f in
       sym (apart-permitted D s (λ a b d z. irr a b d (sym (own a) ∙ z ∙ own b)))
 
-  pub none-merged : (k : ℕ) → pairCount ≤ k → Respected flags area at k → PermittedIs flags area at true
+  pub none-merged : (n : ℕ) → nameCount ≤ n → Respected flags area at n → PermittedIs flags area at true
   unfolding PermittedIs
-  none-merged k past so D s irr e f = go (permitted D s) refl
+  none-merged n past so D s irr e f = go (permitted D s) refl
     where
       c : ℕ → ℕ
       c = classIn (s .classes)
 
-      -- two names, the smaller first
-      ordered : (a b : ℕ) → a < b → Apart D a b → c a ≡ c b → ⊥
-      ordered a b l d z = within (decLt b nameCount) (decLt a nameCount)
+      names : (a b : ℕ) → MergedPair D s a b → Dec (a < nameCount) → Dec (b < nameCount) → (a < nameCount) × (b < nameCount)
+      names a b p (yes l) (yes h) = (l, h)
+      names a b p (yes l) (no h) = absurd (omega (arith, f .within a l, entry-alone area at s f b (omega arith), p .merged))
+      names a b p (no l) (yes h) = absurd (omega (arith, f .within b h, entry-alone area at s f a (omega arith), p .merged))
+      names a b p (no l) (no h) = absurd (irr a b (p .apart) (entry-alone area at s f a (omega arith) ∙ p .merged ∙ sym (entry-alone area at s f b (omega arith))))
+
+      none : (a b : ℕ) → MergedPair D s a b → ⊥
+      none a b p =
+          let (l, h) = names a b p (decLt a nameCount) (decLt b nameCount) in
+          either l h (ℕ-discrete (c a) a)
         where
-          within : Dec (b < nameCount) → Dec (a < nameCount) → ⊥
-          within (yes h) t =
-              let n = number-right a b l h in
-              let m : ℕ = getD rows a 0 + (b - a - 1) in
-              let x : mergedAt D s m ≡ true = rw (n .first, n .second, apart-holds D a b d) (eq-eqb (c a) (c b) z) in
-              let y : _≡_ {A = ℕ} 0 1 = cc (so D s e f m (omega (arith, n .below))) in
-              omega arith
-          within (no h) (yes t) = omega (arith, f .within a t, entry-alone area at s f b (omega arith))
-          within (no h) (no t) = omega (arith, entry-alone area at s f a (omega arith), entry-alone area at s f b (omega arith))
+          either : a < nameCount → b < nameCount → Dec (c a ≡ a) → ⊥
+          either l h (no d) =
+              so D s e f a (omega arith) d b h (λ z. irr a b (p .apart) (sym z)) (record { apart = apart-sym D a b (p .apart); merged = sym (p .merged) })
+          either l h (yes d) = so D s e f b (omega arith) (λ z. irr a b (p .apart) (sym d ∙ p .merged ∙ z)) a l (irr a b (p .apart)) p
 
       go : (t : Bool) → permitted D s ≡ t → true ≡ permitted D s
       go true q = sym q
-      go false q =
-          let m = refused-merged D s q in
-          absurd (both (m .one) (m .other) (m .apart) (m .merged) (irr (m .one) (m .other) (m .apart)) (decLt (m .one) (m .other)))
-        where
-          both : (a b : ℕ) → Apart D a b → c a ≡ c b → (a ≡ b → ⊥) → Dec (a < b) → ⊥
-          both a b d z k (yes l) = ordered a b l d z
-          both a b d z k (no l) = ordered b a (omega arith) (apart-sym D a b d) (sym z)
-
--- Whether pair k is merged: not where it is not apart, and else by the classes.
-module _ (flags : List ℕ) (k : ℕ) (area : List ℕ) (at : ℕ) (h : k < pairCount) where
-  held : (D : Pairs) → flags ≡ flagsOf D → (t : Bool) → holdsApart D (pairAt k .0) (pairAt k .1) ≡ t → getD flags k 0 ≡ flag t
-  held D e t q = ap (λ l. getD l k 0) e ∙ flag-at D k h ∙ ap flag q
-
-  pub merges-none : getD flags k 0 ≡ 0 → MergesIs flags k area at false
-  unfolding MergesIs flag
-  merges-none z D s e f = go (holdsApart D (pairAt k .0) (pairAt k .1)) refl
-    where
-      go : (t : Bool) → holdsApart D (pairAt k .0) (pairAt k .1) ≡ t → false ≡ (t && eqb (classIn (s .classes) (pairAt k .0)) (classIn (s .classes) (pairAt k .1)))
-      go true q = absurd (omega (arith, z, held D e true q))
-      go false q = refl
-
-  pub merges-classes : (a b : ℕ) → (getD flags k 0 ≡ 0 → ⊥) → ClassOfIs area at (pairAt k .0) a → ClassOfIs area at (pairAt k .1) b
-      → MergesIs flags k area at (eqb a b)
-  unfolding MergesIs ClassOfIs flag
-  merges-classes a b z p q D s e f = go (holdsApart D (pairAt k .0) (pairAt k .1)) refl
-    where
-      go : (t : Bool) → holdsApart D (pairAt k .0) (pairAt k .1) ≡ t → eqb a b ≡ (t && eqb (classIn (s .classes) (pairAt k .0)) (classIn (s .classes) (pairAt k .1)))
-      go true u = ap₂ eqb (p s f) (q s f)
-      go false u = absurd (z (held D e false u))
+      go false q = let (a, b, p) = refused-merged D s q in absurd (none a b p)
 
 -- Where no pair is apart every step is permitted.
 pub permitted-none : (flags area : List ℕ) (at : ℕ) (r : Bool) → NoneApartIs flags r → r ≡ true → PermittedIs flags area at true
-unfolding NoneApartIs MergesIs
-permitted-none flags area at r n q =
-    none-merged flags area at pairCount (omega arith) (λ D s e f j l. sym (merges-none flags j area at l (n q j l) D s e f))
+unfolding NoneApartIs flag
+permitted-none flags area at r n q = none-merged flags area at nameCount (omega arith) (λ D s e f j l d m h k p. go D e m j (p .apart) h l k (decLt m j))
+  where
+    ordered : (D : Pairs) → flags ≡ flagsOf D → (a b : ℕ) → a < b → b < nameCount → Apart D a b → ⊥
+    ordered D e a b l h d =
+        let i = number-right a b l h in
+        let z = held flags a b (getD rows a 0 + (b - a - 1)) i D e in
+        omega (arith, z, ap flag (apart-holds D a b d), n q (getD rows a 0 + (b - a - 1)) (i .below))
+
+    go : (D : Pairs) → flags ≡ flagsOf D → (m j : ℕ) → Apart D m j → m < nameCount → j < nameCount → (m ≡ j → ⊥) → Dec (m < j) → ⊥
+    go D e m j d h l k (yes b) = ordered D e m j b l d
+    go D e m j d h l k (no b) = ordered D e j m (omega arith) h (apart-sym D m j d)

@@ -3,7 +3,7 @@ ghost use mathlib.Core.Path.{_≡_};
 ghost use Prim.Native.Nat.{_<_, _≤_};
 ghost use lib.ListN.{length};
 ghost use Rattle.terms.specs.Limits.{nameCount};
-ghost use Rattle.field.specs.PairFlags.{pairCount, PairOfIs, NumberIs, AddsPair, NoneApartIs, MergesIs, PermittedIs};
+ghost use Rattle.field.specs.PairFlags.{pairCount, PairOfIs, NumberIs, AddsPair, NoneApartIs, HeldIs, MergesIs, PermittedIs};
 use crate::entries::class_of;
 use crate::entries::trivial;
 use terms::bytes::get;
@@ -110,19 +110,39 @@ pub fn none_apart(flags: &[u8]) -> bool
     none
 }
 
-// Whether pair `k` is apart and the step's condition merges it.
-fn merges(apart: &[u8], k: usize, area: &[u8], at: usize) -> bool
-    requires { ⌜ (k < pairCount) × (at ≤ length (now area)) ⌝ }
-    ensures { λ r. ⌜ MergesIs (now (apart .entry)) k (now (area .entry)) at r ⌝ }
+// Whether the flags say that two different names are apart.
+fn held_apart(flags: &[u8], a: usize, b: usize) -> bool
+    requires { ⌜ (a < nameCount) × (b < nameCount) ⌝ }
+    ensures { λ r. ⌜ HeldIs (now (flags .entry)) a b r ⌝ }
 {
-    if get(apart, k) == 0 {
-        return false;
+    if a < b {
+        return get(flags, number(a, b)) != 0;
     }
-    let p = pair_of(k);
-    class_of(area, at, p.first) == class_of(area, at, p.second)
+    if b < a {
+        return get(flags, number(b, a)) != 0;
+    }
+    false
 }
 
-// Whether the step's condition respects the apart pairs.
+// Whether the step's condition merges `n` with a name that is apart from it.
+fn merges_apart(apart: &[u8], area: &[u8], at: usize, n: usize) -> bool
+    requires { ⌜ (n < nameCount) × (at ≤ length (now area)) ⌝ }
+    ensures { λ r. ⌜ MergesIs (now (apart .entry)) (now (area .entry)) at n r ⌝ }
+{
+    let class = class_of(area, at, n);
+    let mut m = 0;
+    while m < NAME_COUNT {
+        if class_of(area, at, m) == class {
+            if held_apart(apart, m, n) {
+                return true;
+            }
+        }
+        m += 1;
+    }
+    false
+}
+
+// Whether the step's condition respects the apart pairs. Of two names that it merges, one at least has another class than itself: those are few.
 pub fn permitted(apart: &[u8], area: &[u8], at: usize) -> bool
     requires { ⌜ at ≤ length (now area) ⌝ }
     ensures { λ r. ⌜ PermittedIs (now (apart .entry)) (now (area .entry)) at r ⌝ }
@@ -133,12 +153,14 @@ pub fn permitted(apart: &[u8], area: &[u8], at: usize) -> bool
     if none_apart(apart) {
         return true;
     }
-    let mut k = 0;
-    while k < PAIR_COUNT {
-        if merges(apart, k, area, at) {
-            return false;
+    let mut n = 0;
+    while n < NAME_COUNT {
+        if class_of(area, at, n) != n {
+            if merges_apart(apart, area, at, n) {
+                return false;
+            }
         }
-        k += 1;
+        n += 1;
     }
     true
 }
