@@ -25,6 +25,7 @@ pub mod MeetRows
 pub mod MetLaws
 pub mod MetResults
 pub mod Moves
+pub mod NewNameLaws
 pub mod OperationLaws
 pub mod PlacedResults
 pub mod PutLaws

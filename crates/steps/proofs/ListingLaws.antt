@@ -71,7 +71,7 @@ module _ (Δ : Defs) (names wide : ℕ) (within : names ≤ wide) (arities : Lis
   calls-after : {M : Cond} {α : Act} {A : Term} → Trans Δ P M α A → CallsInScope arities A
   calls-after t = calls-residual arities Δ bodies t (scope-calls names arities 0 P scope)
 
-  well-listed : (M : Cond) (α : Act) (A : Term) → Trans Δ P M α A → WellListed names wide arities (canonStep names x M α A)
+  pub well-listed : (M : Cond) (α : Act) (A : Term) → Trans Δ P M α A → WellListed names wide arities (canonStep names x M α A)
   unfolding canonStep
   well-listed M tauA A t = well M _ (cls M) A (calls-after t) (free-result M A (resid-free Δ t))
   well-listed M (inpA a) A t = well M _ (x • cls M) A (calls-after t) (bound-result M A (resid-free Δ t))
@@ -79,24 +79,24 @@ module _ (Δ : Defs) (names wide : ℕ) (within : names ≤ wide) (arities : Lis
   well-listed M (boutA a) A t = well M _ (x • cls M) A (calls-after t) (bound-result M A (resid-free Δ t))
 
   module _ (longest n : ℕ) (opens : Opens Δ n P) where
-    abbrev raw : List Candidate
+    abbrev pub raw : List Candidate
     raw = visible (Δ .body) n P ++ silent (Δ .body) n P
 
-    abbrev found : List ListedStep
+    abbrev pub found : List ListedStep
     found = collect names longest x raw []
 
-    raw-sound : All (Sound Δ P) raw
+    pub raw-sound : All (Sound Δ P) raw
     raw-sound = all-++ (Sound Δ P) (visible (Δ .body) n P) (silent (Δ .body) n P) (visible-sound Δ n P opens) (silent-sound Δ n P opens)
 
     -- what holds of every transition's listed step holds of every step in the list
-    found-all : (S : ListedStep → Type 0) → ((M : Cond) (α : Act) (A : Term) → Trans Δ P M α A → S (canonStep names x M α A)) → All S found
+    pub found-all : (S : ListedStep → Type 0) → ((M : Cond) (α : Act) (A : Term) → Trans Δ P M α A → S (canonStep names x M α A)) → All S found
     found-all S h = collect-all names longest x S raw [] (all-imp (Sound Δ P) (OfCandidate names longest x S) raw go raw-sound) tt
       where
         go : (c : Candidate) → Sound Δ P c → OfCandidate names longest x S c
         go (step M α A) t = h M α A t
         go blocked t = tt
 
-    found-sorted : Sorted longest found
+    pub found-sorted : Sorted longest found
     found-sorted = collect-sorted names longest x raw [] tt
 
     -- every listed step takes the same number of bytes

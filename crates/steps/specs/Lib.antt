@@ -13,6 +13,7 @@ pub mod Locating
 pub mod Meeting
 pub mod Operations
 pub mod PartLister
+pub mod Renewed
 pub mod Rows
 pub mod Same
 pub mod Walking
