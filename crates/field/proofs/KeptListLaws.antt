@@ -33,7 +33,7 @@ copied-more l from n to i apart room h l′ e =
     byte (no a) = byte-behind to (length (take i (span l from n))) l (sets l to (take i (span l from n))) changed (from + i) (omega (arith, size))
 
 -- The label and the steps of the kept list at p.
-label-here : (area : List ℕ) (p : ℕ) → take labelBytes (take keptBytes (drop p area)) ≡ labelAt area p
+pub label-here : (area : List ℕ) (p : ℕ) → take labelBytes (take keptBytes (drop p area)) ≡ labelAt area p
 label-here area p = take-take labelBytes keptBytes (drop p area) (omega arith)
 
 steps-here : (area : List ℕ) (p n : ℕ) → n ≤ keptSteps
@@ -44,7 +44,7 @@ steps-here area p n h =
     ∙ ap (take (stepBytes * n)) (drop-drop labelBytes p area)
 
 module _ (question area : List ℕ) (so : Labelled question area) (p : ℕ) (k : KeptPlace p) where
-  kept-here : Kept question (take keptBytes (drop p area))
+  pub kept-here : Kept question (take keptBytes (drop p area))
   kept-here = subst (λ q. Kept question (take keptBytes (drop q area))) (sym (k .is)) (so .kept (k .number) (k .among))
 
   pub few-kept : countIn (labelAt area p) ≤ keptSteps

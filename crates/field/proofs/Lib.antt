@@ -32,6 +32,7 @@ pub mod PairTables
 pub mod Proper
 pub mod QuestionField
 pub mod Reached
+pub mod RenewingLaws
 pub mod ResultLaws
 pub mod Run
 pub mod Runs

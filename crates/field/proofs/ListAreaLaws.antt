@@ -96,23 +96,36 @@ no-part question n room = record {
     zeros : (p k m : ℕ) → k < m → p + m ≤ n → getD (take m (drop p (replicate {A = ℕ} n 0))) k 0 ≡ 0
     zeros p k m h l = getD-span (replicate {A = ℕ} n 0) p m k h ∙ getD-replicate {A = ℕ} n (p + k) 0 0 (omega arith)
 
+-- The beginning of an area lent, and changed: what the labels of the kept lists say stays so.
+module _ (question area steps : List ℕ) (same : length steps ≡ length (take labelPlace area)) (so : Labelled question area) where
+  pub lent-size : length steps ≡ labelPlace
+  lent-size = same ∙ length-take-le labelPlace area (omega (arith, so .room))
+
+  kept-lent : KeptLists question (steps ++ drop labelPlace area)
+  kept-lent =
+      kept-front question 0 labelPlace area (steps ++ drop labelPlace area)
+      (record { before = refl; behind = drop-at steps (drop labelPlace area) labelPlace lent-size }) (omega arith) (so .kept)
+
+  room-lent : listArea ≤ length (steps ++ drop labelPlace area)
+  room-lent = omega (arith, so .room, length-front area steps labelPlace same)
+
+  pub lent-unlabelled : Labelled question (set (steps ++ drop labelPlace area) labelPlace 255)
+  lent-unlabelled = unlabelled question (steps ++ drop labelPlace area) room-lent kept-lent
+
+  pub lent-labelled : (part : List ℕ) (x n : ℕ) → ListIn question part x n steps → (area′ : List ℕ)
+      → PutsLabel (steps ++ drop labelPlace area) labelPlace part x n area′ → listArea ≤ length area′
+      → ListIn question part x n area′ × Labelled question area′
+  lent-labelled part x n list area′ put room =
+      let k : stepBytes * n ≤ length steps = omega (arith, lent-size, list .few) in
+      labelled-by question part x n (steps ++ drop labelPlace area) area′ kept-lent
+      (list-same question part x n steps (steps ++ drop labelPlace area) (take-append-le (stepBytes * n) steps (drop labelPlace area) k) list) put room
+
 -- What the lister's answer says of a side. It is lent the beginning of the area.
 module _ (question part : List ℕ) (x : ℕ) (area : List ℕ) (r : ListAnswer) (steps : List ℕ)
     (answer : ListPartIs question part x r steps) (same : length steps ≡ length (take labelPlace area))
     (so : Labelled question area) where
   abbrev whole : List ℕ
   whole = steps ++ drop labelPlace area
-
-  size : length steps ≡ labelPlace
-  size = same ∙ length-take-le labelPlace area (omega (arith, so .room))
-
-  kept-lent : KeptLists question whole
-  kept-lent =
-      kept-front question 0 labelPlace area whole (record { before = refl; behind = drop-at steps (drop labelPlace area) labelPlace size }) (omega arith)
-      (so .kept)
-
-  room-lent : listArea ≤ length whole
-  room-lent = omega (arith, so .room, length-front area steps labelPlace same)
 
   side-past : r ≡ Unsettled → (b : List ℕ) → SideIs question part x Unsettled b
   unfolding SideIs AnswersListing
@@ -123,7 +136,7 @@ module _ (question part : List ℕ) (x : ℕ) (area : List ℕ) (r : ListAnswer)
       go (listed ss) e = let d = e .0 in let z : _≡_ {A = ℕ} 0 1 = cc in absurd (omega arith)
 
   pub side-unlabelled : r ≡ Unsettled → SideIs question part x Unsettled (set whole labelPlace 255) × Labelled question (set whole labelPlace 255)
-  side-unlabelled u = (side-past u (set whole labelPlace 255), unlabelled question whole room-lent kept-lent)
+  side-unlabelled u = (side-past u (set whole labelPlace 255), lent-unlabelled question area steps same so)
 
   list-made : (n : ℕ) → r ≡ Count n → ListIn question part x n steps
   unfolding AnswersListing
@@ -141,11 +154,7 @@ module _ (question part : List ℕ) (x : ℕ) (area : List ℕ) (r : ListAnswer)
 
   pub listed-at-hand : (n : ℕ) → r ≡ Count n → (area′ : List ℕ) → PutsLabel whole labelPlace part x n area′ → listArea ≤ length area′
       → ListIn question part x n area′ × Labelled question area′
-  listed-at-hand n c area′ put room =
-      let list = list-made n c in
-      let k : stepBytes * n ≤ length steps = omega (arith, size, list .few) in
-      labelled-by question part x n whole area′ kept-lent
-      (list-same question part x n steps whole (take-append-le (stepBytes * n) steps (drop labelPlace area) k) list) put room
+  listed-at-hand n c area′ put room = lent-labelled question area steps same so part x n (list-made n c) area′ put room
 
 -- A part above the limit is none that is to be listed.
 pub long-part : (question part : List ℕ) (x : ℕ) (area : List ℕ) → longestTerm < length part → SideIs question part x Unsettled area

@@ -5,7 +5,6 @@ use mathlib.Core.List.{List, [], _∷_, _++_, append-assoc}
 use mathlib.Core.Logic.{inl, inr}
 use mathlib.Core.Path.{_≡_, refl, sym, _∙_, ap, subst}
 use native.Mathlib.Decide.{ℕ-discrete, decLe}
-use native.Mathlib.Nat.{mul-le-mul-right}
 use native.Mathlib.Omega.{arith}
 use Prim.Native.Nat.{ℕ, zero, suc, _+_, _*_, _<_, _≤_}
 use lib.ListN.{length, getD, drop}
@@ -48,7 +47,7 @@ nth-∈ (x ∷ xs) zero d h = inl refl
 nth-∈ (x ∷ xs) (suc i) d h = inr (nth-∈ xs i d (omega arith))
 
 -- Entries of one size stand at multiples of it.
-entry-there : (ss : List ListedStep) (rest : List ℕ) → Sized ss → (i : ℕ) (d : ListedStep) → i < length ss
+pub entry-there : (ss : List ListedStep) (rest : List ℕ) → Sized ss → (i : ℕ) (d : ListedStep) → i < length ss
     → (after : List ℕ) × (drop (stepBytes * i) (listBytes ss ++ rest) ≡ bytes longestTerm (getD ss i d) ++ after)
 unfolding listBytes
 entry-there [] rest z i d h = absurd (omega arith)
@@ -108,7 +107,7 @@ module _ (question part : List ℕ) (x : ℕ) (q : Question) (P : Term) (l : Lis
             let u = exact .limits .1 (inr (record { step = s; derived = d; long = omega arith })) in
             let z : _≡_ {A = ℕ} 0 1 = cc in absurd (omega arith)
 
-    sized : Sized ss
+    pub sized : Sized ss
     sized =
         ∈-all (λ s. length (bytes longestTerm s) ≡ stepBytes) ss
         (λ s k. let d = step-derived s k in step-size nameCount longestTerm s (step-classes s d) (step-fits s d))
@@ -141,12 +140,9 @@ module _ (question part : List ℕ) (x : ℕ) (q : Question) (P : Term) (l : Lis
         (ap (λ c. ren c (m .result)) (listed-class nameCount (m .condition) (m .action) (m .result) (move-within Δ S m (q .arities) (l .scope)))
         ∙ move-rewritten Δ S m)
 
-    module _ (area area′ : List ℕ) (room : mostSteps * stepBytes ≤ length area) (few : length ss ≤ mostSteps)
-        (stored : area′ ≡ sets area 0 (listBytes ss)) where
+    module _ (area area′ : List ℕ) (room : length ss * stepBytes ≤ length area) (stored : area′ ≡ sets area 0 (listBytes ss)) where
       begins : area′ ≡ listBytes ss ++ drop (0 + length (listBytes ss)) area
-      begins =
-          let k : length ss * stepBytes ≤ mostSteps * stepBytes = mul-le-mul-right stepBytes few in
-          stored ∙ sets-eq (listBytes ss) area 0 (omega (arith, length-listBytes ss sized))
+      begins = stored ∙ sets-eq (listBytes ss) area 0 (omega (arith, length-listBytes ss sized))
 
       entry-at : (i : ℕ) (d : ListedStep) → i < length ss → EntryAt area′ (stepBytes * i) (getD ss i d)
       entry-at i d h =

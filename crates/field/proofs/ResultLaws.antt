@@ -44,7 +44,7 @@ set-first l (z ∷ zs) p q y h =
     set-first (set l q z) zs p (suc q) y (omega arith) ∙ ap (λ m. sets m (suc q) zs) (set-comm l q p z y (λ e. omega arith))
 
 -- What is stored over the front of a run takes its place.
-sets-over : (l xs ys fill : List ℕ) (p : ℕ) → length xs ≡ length ys → sets (sets l p (xs ++ fill)) p ys ≡ sets l p (ys ++ fill)
+pub sets-over : (l xs ys fill : List ℕ) (p : ℕ) → length xs ≡ length ys → sets (sets l p (xs ++ fill)) p ys ≡ sets l p (ys ++ fill)
 sets-over l [] [] fill p e = refl
 sets-over l [] (y ∷ ys) fill p e = absurd (omega arith)
 sets-over l (x ∷ xs) [] fill p e = absurd (omega arith)

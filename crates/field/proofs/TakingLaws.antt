@@ -94,14 +94,13 @@ module _ (question part : List ℕ) (x n : ℕ) (area : List ℕ) (held : ListIn
   a-list : SideListed
   a-list =
       let (ss, given, number, there) = held .is q P l new in
-      let few : length ss ≤ mostSteps = omega (arith, held .few) in
-      let wide : mostSteps * stepBytes ≤ length area = omega arith in
+      let wide : length ss * stepBytes ≤ length area = omega (arith, held .few) in
       let stored : area ≡ sets area 0 (listBytes ss) = list-there area (stepBytes * n) (listBytes ss) (omega (arith, held .few)) there in
       record {
         steps = ss;
         given = given;
-        entries = subst (λ k. EntriesAt area k ss) number (listed-entries question part x q P l new ss given area area wide few stored);
-        list = λ w. subst (λ k. ListAt (q .arities) area k ss) number (listed-at question part x q P l new ss given area area wide few stored w);
+        entries = subst (λ k. EntriesAt area k ss) number (listed-entries question part x q P l new ss given area area wide stored);
+        list = λ w. subst (λ k. ListAt (q .arities) area k ss) number (listed-at question part x q P l new ss given area area wide stored w);
       }
 
 -- What the steps of both sides lead to.

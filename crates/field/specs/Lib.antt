@@ -10,6 +10,7 @@ pub mod ListArea
 pub mod NameFlags
 pub mod Noted
 pub mod PairFlags
+pub mod Renewing
 pub mod Resulting
 pub mod Setting
 pub mod Situation

@@ -17,7 +17,7 @@ use terms::bytes::copy;
 // Where the kept lists begin, 16 of them. A kept list has a label, and behind it room for six steps.
 const KEPT_LISTS: usize = 34164;
 
-const KEPT_BYTES: usize = 908;
+pub const KEPT_BYTES: usize = 908;
 
 const KEPT_STEPS: usize = 6;
 
@@ -40,12 +40,12 @@ fn weighed(part: &[u8]) -> usize
     sums + 3 * word(part, part.len() - 4)
 }
 
-// Where the list of a part for the new name `x` is kept, if it is: parts may have the same place. The prime 65521 is just below 16 times 4096.
-pub fn kept_place(part: &[u8], x: usize) -> usize
-    requires { ⌜ (length (now part) ≤ longestTerm) × (x ≤ nameCount) ⌝ }
+// Where the list of a part is kept, for whatever new name, if it is: parts may have the same place. The prime 65521 is just below 16 times 4096.
+pub fn kept_place(part: &[u8]) -> usize
+    requires { ⌜ length (now part) ≤ longestTerm ⌝ }
     ensures { λ r. ⌜ KeptPlace r ⌝ }
 {
-    let h = weighed(part) + 5 * part.len() + 1009 * x;
+    let h = weighed(part) + 5 * part.len();
     KEPT_LISTS + KEPT_BYTES * (h * 40503 % 65521 / 4096)
 }
 

@@ -8,6 +8,7 @@ pub mod list_area;
 pub mod names;
 pub mod notes;
 pub mod pairs;
+pub mod renewing;
 pub mod results;
 pub mod slots;
 pub mod start;

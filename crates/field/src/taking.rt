@@ -23,6 +23,7 @@ use crate::list_area::steps_in;
 use crate::names::free_in_either;
 use crate::names::new_name;
 use crate::pairs::PAIR_COUNT;
+use crate::renewing::renew_kept;
 use crate::slots::apart_flags;
 use crate::slots::first_part;
 use crate::slots::second_part;
@@ -112,7 +113,8 @@ fn list_anew(
     }
 }
 
-// Lists one side, unless its list is at hand, or kept here or on the other side. A part above the limit stands in no slot.
+// Lists one side, unless its list is at hand, or kept here or on the other side, be it for another new name. A part above the limit stands in no
+// slot.
 fn list_side(
     question: &[u8],
     bodies: &[u32],
@@ -132,14 +134,18 @@ fn list_side(
     if has_list(area, LABEL, part, x) {
         return ListAnswer::Count(steps_in(area, LABEL));
     }
-    let p = kept_place(part, x);
+    let p = kept_place(part);
     if has_list(area, p, part, x) {
         return ListAnswer::Count(bring(area, p, part, x));
     }
     if has_list(other, p, part, x) {
         return ListAnswer::Count(bring_over(other, p, part, x, area));
     }
-    list_anew(question, bodies, part, x, numbers, rows, p, area)
+    let made = renew_kept(question, part, x, other, p, area);
+    match made {
+        ListAnswer::Unsettled => list_anew(question, bodies, part, x, numbers, rows, p, area),
+        ListAnswer::Count(n) => ListAnswer::Count(n),
+    }
 }
 
 // Lists the second side. Where it is the same part as the first, which has `n` steps, its list is a copy.

@@ -16,12 +16,6 @@ mul-h c = search needs
 add-h : tie.Need-add-h
 add-h c = search needs
 
-mul-h-2 : tie.Need-mul-h-2
-mul-h-2 c = search needs
-
-add-h-2 : tie.Need-add-h-2
-add-h-2 c = search needs
-
 mul-result : tie.Need-mul-result
 mul-result c = search needs
 
@@ -32,7 +26,7 @@ add-result : tie.Need-add-result
 add-result c = search needs
 
 returns : tie.Need-returns
-returns c = record { number = (c .weighed .result + 5 * length (c .before .before .args .part .now) + 1009 * c .before .before .args .x) * 40503 % 65521 / 4096; among = omega arith; is = refl }
+returns c = record { number = (c .weighed .result + 5 * length (c .before .before .args .part .now)) * 40503 % 65521 / 4096; among = omega arith; is = refl }
 
 pub kept-place-spec : {M : Type 1} → statement M
 kept-place-spec =
@@ -41,8 +35,6 @@ kept-place-spec =
     weighed-requires
     mul-h
     add-h
-    mul-h-2
-    add-h-2
     mul-result
     mul-result-2
     add-result
