@@ -42,6 +42,17 @@ pub chosen-is : (task : Task) (body : ℕ → Term) (P : Term) → task .still �
 unfolding chosen
 chosen-is task body P w = rw w
 
+-- The term itself is asked for, renamed.
+pub asks-still : (names : List ℕ) (task : Task) (body : ℕ → Term) (free D : ℕ) (σ : ℕ → ℕ) (P : Term) (bs : List ℕ) → task .still ≡ true
+    → (K : Asks names task body free D σ P bs) → bs ≡ encode (task .levels) (ren (λ n. K .ρ (σ n)) P)
+unfolding chosen receiving
+asks-still names task body free D σ P bs still K =
+    let e : step [] tauA (ren σ P) ≡ step (K .condition) (K .action) (K .result) = rw still at (K .candidate) in
+    let x : K .action ≡ tauA = cc in
+    let y : K .result ≡ ren σ P = cc in
+    K .bytes ∙ ap (λ (α : Act). encode (task .levels) (ren (receiving (K .x) (K .ρ) α) (K .result))) x
+    ∙ ap (λ (A : Term). encode (task .levels) (ren (K .ρ) A)) y ∙ ap (encode (task .levels)) (ren-∘ (K .ρ) σ P)
+
 module _ (question s : List ℕ) (at D : ℕ) (names : List ℕ) (task : Task) (out′ : List ℕ) (put r : ℕ) (out″ : List ℕ) (walks : task .still ≡ false) where
   one-of : (body : ℕ → Term) (P : Term) → tag P < 5 → (M : Cond) (α : Act) (A : Term) → chosen task body P ≡ step M α A
       → getD (cond (counted (task .silently) (tag P)) (prefixStep P) []) (task .number) blocked ≡ step M α A

@@ -1,5 +1,6 @@
 pub mod ArgumentSlots
 pub mod AskLaws
+pub mod BesideLaws
 pub mod BodyPlaces
 pub mod BranchLaws
 pub mod CallLaws

@@ -8,17 +8,13 @@ use lib.ListN.{length, getD, take, drop, set, length-append, length-drop}
 use lib.Seq.{sets, take-at, drop-drop}
 use lib.Dec.{leb}
 use borrow.Author.Tests.{leb-true, leb-false}
-use Rattle.calculus.specs.Abstraction.{Act, tauA}
 use Rattle.calculus.specs.Term.{Term, mat, par, res, call, ren, lift}
-use Rattle.calculus.proofs.FreeNames.{ren-ext}
-use Rattle.calculus.proofs.Renaming.{ren-∘, ren-id}
 use Rattle.terms.specs.Answer.{result}
 use Rattle.terms.specs.Encoding.{encode, InScope}
 use Rattle.terms.specs.Limits.{nameCount, tableNames}
 use Rattle.terms.specs.Question.{Question, checkOf}
 use Rattle.terms.specs.Renaming.{RenameIs}
 use Rattle.terms.proofs.ReadEncoded.{encode-some}
-use Rattle.terms.proofs.ScopeLaws.{free-below}
 use Rattle.terms.proofs.Shapes.{length-ren}
 use Rattle.terms.proofs.Stores.{sets-join}
 use Rattle.candidates.specs.Bodies.{AritiesIs, BodyIs, OpeningIs, bodyOf}
@@ -26,7 +22,7 @@ use Rattle.candidates.specs.Branching.{Reaches, BranchIs}
 use Rattle.candidates.specs.Passing.{candidates, Does, PassIs, opensAt}
 use Rattle.candidates.specs.Raw.{Candidate, step, blocked}
 use Rattle.candidates.specs.Names.{Kept, CalledIs, UnchangedIs, TableIs}
-use Rattle.candidates.specs.Results.{receiving, chosen, Asks, Written, StoreIs, TermIs, WriteIs, numbered, beneath, inside, entering, opening, Parts, PlanIs}
+use Rattle.candidates.specs.Results.{Asks, Written, StoreIs, TermIs, WriteIs, numbered, beneath, inside, entering, opening, Parts, PlanIs}
 use Rattle.candidates.specs.Tally.{endAt, TallyIs, EndsTallied}
 use Rattle.candidates.specs.declared.bodies.Opening.{Opening}
 use Rattle.candidates.specs.declared.pass.Branch.{Branch}
@@ -34,13 +30,13 @@ use Rattle.candidates.specs.declared.pass.Passed.{Passed}
 use Rattle.candidates.specs.declared.result.Plan.{Plan}
 use Rattle.candidates.specs.declared.result.Task.{Task}
 use Rattle.candidates.proofs.CallLaws.{params, names-call, body-scope, at-call}
-use Rattle.candidates.proofs.AskLaws.{chosen-is, ask-open, res-part, ask-res}
+use Rattle.candidates.proofs.AskLaws.{chosen-is, asks-still, ask-open, res-part, ask-res}
 use Rattle.candidates.proofs.CandidateForms.{candidates-mat, candidates-res, candidates-call, candidates-no-call, tag-at, only-mat, only-par, only-res}
 use Rattle.candidates.proofs.FrontLaws.{stands}
 use Rattle.candidates.proofs.NameSlots.{names-represent, names-kept}
 use Rattle.candidates.proofs.Numbering.{nth-matching, nth-restricted}
 use Rattle.candidates.proofs.Premises.{never, Under, matching-of, under-of}
-use Rattle.candidates.proofs.SlotLaws.{names-unchanged}
+use Rattle.candidates.proofs.SlotLaws.{unchanged-bytes}
 use Rattle.candidates.proofs.TwoSides.{at-left, at-right}
 
 -- What fits ends where it should.
@@ -113,15 +109,11 @@ module _ (question s : List ℕ) (at D : ℕ) (names : List ℕ) (levels : ℕ) 
     -- Where no name is changed, the bytes are those of the term.
     pub term-same : put + (e - at) ≤ length out → UnchangedIs names D levels true → (out′ : List ℕ) → out′ ≡ sets out put (take (e - at) (drop at s))
         → TermIs question s at D names levels out put (put + (e - at)) out′
-    unfolding UnchangedIs
     term-same room U out′ w = record {
       on = omega arith;
       is = λ q free τ P rest ok few scope st has.
           let l = ends q free τ P rest ok scope st in
-          let u = U refl in
-          let same : ren τ P ≡ P =
-          ren-ext τ (λ (n : ℕ). n) P (λ n f. names-unchanged free D levels names τ has (omega arith) (u .0) (u .1) n (free-below free (q .arities) D P scope n f)) ∙ ren-id P in
-          let b : encode levels (ren τ P) ≡ encode D P = ap₂ encode (u .0) same in
+          let b : encode levels (ren τ P) ≡ encode D P = unchanged-bytes free D levels names (q .arities) τ has (omega arith) U P scope in
           let c : take (e - at) (drop at s) ≡ encode levels (ren τ P) =
           ap (take (e - at)) st ∙ take-at (encode D P) rest (e - at) (sym (l ∙ ap length b)) ∙ sym b in
           record { fits = λ f. (omega arith, w ∙ ap (sets out put) c); over = λ f. absurd (omega arith) };
@@ -166,17 +158,10 @@ write-none question s at D names task out put r out′ on past = record {
 -- The term itself.
 pub write-still : (question s : List ℕ) (at D : ℕ) (names : List ℕ) (task : Task) (out : List ℕ) (put r : ℕ) (out′ : List ℕ) → task .still ≡ true
     → TermIs question s at D names (task .levels) out put r out′ → WriteIs question s at D names task out put r out′
-unfolding chosen receiving
 write-still question s at D names task out put r out′ still T = record {
   on = T .on;
   is = λ q free σ P rest bs ok few scope st K.
-      let e : step [] tauA (ren σ P) ≡ step (K .condition) (K .action) (K .result) = rw still at (K .candidate) in
-      let x : K .action ≡ tauA = cc in
-      let y : K .result ≡ ren σ P = cc in
-      let w : bs ≡ encode (task .levels) (ren (λ n. K .ρ (σ n)) P) =
-      K .bytes ∙ ap (λ (α : Act). encode (task .levels) (ren (receiving (K .x) (K .ρ) α) (K .result))) x
-      ∙ ap (λ (A : Term). encode (task .levels) (ren (K .ρ) A)) y ∙ ap (encode (task .levels)) (ren-∘ (K .ρ) σ P) in
-      rw w (T .is q free (λ n. K .ρ (σ n)) P rest ok few scope st (K .has));
+      rw (asks-still names task (bodyOf (q .bodies)) free D σ P bs still K) (T .is q free (λ n. K .ρ (σ n)) P rest ok few scope st (K .has));
 }
 
 module _ (question s : List ℕ) (at D : ℕ) (names : List ℕ) (task : Task) (walks : task .still ≡ false) (out : List ℕ) (put : ℕ) where

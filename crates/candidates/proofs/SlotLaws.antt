@@ -1,16 +1,22 @@
 -- The slots of names: nothing moves when a restriction is left, and the restricted name has the largest slot in use. Assumes nothing.
-use mathlib.Core.Path.{_≡_, refl, sym, _∙_, ap, fun-ext}
+use mathlib.Core.Path.{_≡_, refl, sym, _∙_, ap, ap₂, fun-ext}
 use mathlib.Core.Bool.{Bool, true, false, _&&_}
-use mathlib.Core.List.{List, [], _∷_, _++_}
-use Prim.Native.Nat.{ℕ, zero, suc, _+_, _<_, _≤_}
+use mathlib.Core.List.{List, [], _∷_, _++_, map}
+use Prim.Native.Nat.{ℕ, zero, suc, _+_, _-_, _<_, _≤_}
 use native.Mathlib.Omega.{arith}
 use lib.Dec.{ltb}
 use lib.ListN.{getD}
 use borrow.Author.Tests.{ltb-true, ltb-false}
 use Rattle.calculus.specs.Cond.{Cond, mapP, Unif, cls}
 use Rattle.calculus.proofs.Conditions.{E2, E3, δ, δ-self, δ-eq, δ-ne, Unif-mapP, cls-le, cls-~, mapP-~, mapP-∘}
+use Rattle.calculus.specs.Term.{Term, nil, tau, inp, out, bout, mat, sum, par, res, call, ren, lift}
+use Rattle.calculus.proofs.FreeNames.{ren-ext}
+use Rattle.calculus.proofs.Renaming.{ren-id}
+use Rattle.terms.specs.Encoding.{nameByte, encode, NamesInScope, InScope}
 use Rattle.terms.specs.Limits.{nameCount, tableNames}
-use Rattle.candidates.specs.Names.{HasNames}
+use Rattle.terms.proofs.NameTables.{byte-bound, byte-free}
+use Rattle.terms.proofs.ScopeLaws.{free-below}
+use Rattle.candidates.specs.Names.{HasNames, LevelsIs, UnchangedIs}
 use Rattle.candidates.specs.Raw.{spares, sparesRestricted, outside}
 use Rattle.candidates.specs.Slots.{slotOf, HasClasses, Below}
 use Rattle.candidates.proofs.NameSlots.{slot-bound, slot-free, slot-inner}
@@ -122,9 +128,80 @@ same-slot names D m n h k e = go (ltb m D) refl (ltb n D) refl
     go false t false u = omega (arith, e, ltb-false m D t, ltb-false n D u, slot-free names D m (ltb-false m D t), slot-free names D n (ltb-false n D u))
 
 -- Where each slot in use has itself, each name stands for itself.
-pub names-unchanged : (free D D′ : ℕ) (names : List ℕ) (τ : ℕ → ℕ) → HasNames free D D′ names τ → free ≤ tableNames → D′ ≡ D
+names-unchanged : (free D D′ : ℕ) (names : List ℕ) (τ : ℕ → ℕ) → HasNames free D D′ names τ → free ≤ tableNames → D′ ≡ D
     → ((i : ℕ) → i < tableNames + D → getD names i 0 ≡ i) → (m : ℕ) → m < D + free → τ m ≡ m
 unfolding HasNames
 names-unchanged free D D′ names τ has few same is m h =
     let (e, r) = has m h in
     sym (same-slot tableNames D m (τ m) (omega arith) (omega arith) (sym (is (slotOf tableNames D m) (slot-below tableNames D m (omega arith))) ∙ e ∙ ap (λ (d : ℕ). slotOf tableNames d (τ m)) same))
+
+-- A free name stands for itself outside of restrictions.
+names-outside : (free D′ : ℕ) (names : List ℕ) (τ : ℕ → ℕ) → HasNames free 0 D′ names τ → free ≤ tableNames
+    → ((i : ℕ) → i < tableNames + 0 → getD names i 0 ≡ i) → (m : ℕ) → m < 0 + free → τ m ≡ D′ + m
+unfolding HasNames
+names-outside free D′ names τ has few is m h =
+    let (e, r) = has m h in
+    let none : m - 0 ≡ m = omega arith in
+    let s : slotOf tableNames D′ (τ m) ≡ m =
+    sym e ∙ ap (λ (k : ℕ). getD names k 0) (slot-free tableNames 0 m (omega arith) ∙ none) ∙ is m (omega arith) in
+    go (ltb (τ m) D′) refl s
+  where
+    go : (t : Bool) → ltb (τ m) D′ ≡ t → slotOf tableNames D′ (τ m) ≡ m → τ m ≡ D′ + m
+    go true t s = absurd (omega (arith, ltb-true (τ m) D′ t, slot-bound tableNames D′ (τ m) (ltb-true (τ m) D′ t)))
+    go false t s = omega (arith, ltb-false (τ m) D′ t, slot-free tableNames D′ (τ m) (ltb-false (τ m) D′ t))
+
+-- The binders of a term, d of them around it, stay, and its free names stand for those outside of L restrictions: its bytes are the same.
+abbrev Raises : ℕ → ℕ → ℕ → (ℕ → ℕ) → Type 0
+Raises free d L τ = (m : ℕ) → m < d + free → (m < d → τ m ≡ m) × (d ≤ m → τ m ≡ L + m)
+
+raises-lift : (free d L : ℕ) (τ : ℕ → ℕ) → Raises free d L τ → Raises free (1 + d) L (lift τ)
+raises-lift free d L τ up zero h = (λ l. refl, λ l. absurd (omega arith))
+raises-lift free d L τ up (suc m) h = let (x, y) = up m (omega arith) in (λ l. ap suc (x (omega arith)), λ l. omega (arith, y (omega arith)))
+
+byte-raised : (free d d′ L : ℕ) → d′ ≡ d + L → (τ : ℕ → ℕ) → Raises free d L τ → (m : ℕ) → m < d + free → nameByte d′ (τ m) ≡ nameByte d m
+byte-raised free d d′ L e τ up m h = go (ltb m d) refl
+  where
+    go : (t : Bool) → ltb m d ≡ t → nameByte d′ (τ m) ≡ nameByte d m
+    go true t =
+        let l = ltb-true m d t in
+        rw (up m h .0 l) (byte-bound d′ m (omega arith) ∙ sym (byte-bound d m l))
+    go false t =
+        let l = ltb-false m d t in
+        rw (up m h .1 l) (byte-free d′ (L + m) (omega arith) ∙ omega arith ∙ sym (byte-free d m l))
+
+names-raised : (free d d′ L : ℕ) → d′ ≡ d + L → (τ : ℕ → ℕ) → Raises free d L τ → (ns : List ℕ) → NamesInScope free d ns
+    → map (nameByte d′) (map τ ns) ≡ map (nameByte d) ns
+unfolding NamesInScope
+names-raised free d d′ L e τ up [] s = refl
+names-raised free d d′ L e τ up (n ∷ ns) s = ap₂ _∷_ (byte-raised free d d′ L e τ up n (s .0)) (names-raised free d d′ L e τ up ns (s .1))
+
+bytes-raised : (free : ℕ) (arities : List ℕ) (d d′ L : ℕ) → d′ ≡ d + L → (τ : ℕ → ℕ) → Raises free d L τ → (P : Term) → InScope free arities d P → encode d′ (ren τ P) ≡ encode d P
+unfolding encode InScope
+bytes-raised free arities d d′ L e τ up nil s = refl
+bytes-raised free arities d d′ L e τ up (tau P) s = ap (λ (l : List ℕ). 1 ∷ l) (bytes-raised free arities d d′ L e τ up P s)
+bytes-raised free arities d d′ L e τ up (inp a P) s =
+    rw (byte-raised free d d′ L e τ up a (s .0), bytes-raised free arities (1 + d) (1 + d′) L (omega arith) (lift τ) (raises-lift free d L τ up) P (s .1))
+bytes-raised free arities d d′ L e τ up (out a b P) s =
+    rw (byte-raised free d d′ L e τ up a (s .0), byte-raised free d d′ L e τ up b (s .1), bytes-raised free arities d d′ L e τ up P (s .2))
+bytes-raised free arities d d′ L e τ up (bout a P) s =
+    rw (byte-raised free d d′ L e τ up a (s .0), bytes-raised free arities (1 + d) (1 + d′) L (omega arith) (lift τ) (raises-lift free d L τ up) P (s .1))
+bytes-raised free arities d d′ L e τ up (mat a b P) s =
+    rw (byte-raised free d d′ L e τ up a (s .0), byte-raised free d d′ L e τ up b (s .1), bytes-raised free arities d d′ L e τ up P (s .2))
+bytes-raised free arities d d′ L e τ up (sum P Q) s =
+    rw (bytes-raised free arities d d′ L e τ up P (s .0), bytes-raised free arities d d′ L e τ up Q (s .1))
+bytes-raised free arities d d′ L e τ up (par P Q) s =
+    rw (bytes-raised free arities d d′ L e τ up P (s .0), bytes-raised free arities d d′ L e τ up Q (s .1))
+bytes-raised free arities d d′ L e τ up (res P) s =
+    ap (λ (l : List ℕ). 8 ∷ l) (bytes-raised free arities (1 + d) (1 + d′) L (omega arith) (lift τ) (raises-lift free d L τ up) P s)
+bytes-raised free arities d d′ L e τ up (call k ns) s = ap (λ (l : List ℕ). 9 ∷ k ∷ l) (names-raised free d d′ L e τ up ns (s .2))
+
+-- So where no name changes, the bytes are those of the term.
+pub unchanged-bytes : (free D D′ : ℕ) (names arities : List ℕ) (τ : ℕ → ℕ) → HasNames free D D′ names τ → free ≤ tableNames → UnchangedIs names D D′ true
+    → (P : Term) → InScope free arities D P → encode D′ (ren τ P) ≡ encode D P
+unfolding UnchangedIs LevelsIs
+unchanged-bytes free zero D′ names arities τ has few U P scope =
+    bytes-raised free arities 0 D′ D′ (omega arith) τ (λ m h. (λ l. absurd (omega arith), λ l. names-outside free D′ names τ has few (U refl .1) m h)) P scope
+unchanged-bytes free (suc d) D′ names arities τ has few U P scope =
+    let e : D′ ≡ suc d = U refl .0 refl (omega arith) in
+    ap₂ encode e
+    (ren-ext τ (λ (n : ℕ). n) P (λ n f. names-unchanged free (suc d) D′ names τ has few e (U refl .1) n (free-below free arities (suc d) P scope n f)) ∙ ren-id P)

@@ -1,3 +1,4 @@
+pub mod Beside
 pub mod Bodies
 pub mod Branching
 pub mod Conditions

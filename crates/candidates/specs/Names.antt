@@ -42,9 +42,13 @@ unfoldable pub CalledIs : List ℕ → ℕ → ℕ → ℕ → List ℕ → List
 CalledIs s at count D names r =
     (j : ℕ) → j < count → getD r (tableNames + j) 0 ≡ getD names (turn 128 tableNames D (getD s (at + j) 0)) 0
 
--- Each name stays as it is: the slots in use hold themselves.
+-- Terms under D binders are written under D′ restrictions, and the bytes of their names stay: there are as many of both, or no binders.
+unfoldable pub LevelsIs : ℕ → ℕ → Bool → Type 0
+LevelsIs D D′ r = r ≡ true → 0 < D → D′ ≡ D
+
+-- Each name stays as it is: besides, the slots in use hold themselves.
 unfoldable pub UnchangedIs : List ℕ → ℕ → ℕ → Bool → Type 0
-UnchangedIs names D D′ r = r ≡ true → (D′ ≡ D) × ((i : ℕ) → i < tableNames + D → getD names i 0 ≡ i)
+UnchangedIs names D D′ r = r ≡ true → LevelsIs D D′ true × ((i : ℕ) → i < tableNames + D → getD names i 0 ≡ i)
 
 -- The table's bytes of the free names,
 pub record FreeBytes (names : List ℕ) (D′ : ℕ) (table table′ : List ℕ) : Type 0 where

@@ -1,5 +1,6 @@
 // The candidates of a term by number: what each does, under which condition, and its result.
 pub mod action;
+pub mod beside;
 pub mod bodies;
 pub mod condition;
 pub mod front;

@@ -4,7 +4,7 @@ ghost use mathlib.Core.Path.{_≡_};
 ghost use Prim.Native.Nat.{_+_, _≤_, _<_};
 ghost use Rattle.terms.specs.Limits.{tableNames, greatestArity};
 ghost use lib.ListN.{length};
-ghost use Rattle.candidates.specs.Names.{mostBinders, nameSlots, turn, CalledIs, UnchangedIs, FreeBytes, BoundBytes, TableIs};
+ghost use Rattle.candidates.specs.Names.{mostBinders, nameSlots, turn, CalledIs, LevelsIs, UnchangedIs, FreeBytes, BoundBytes, TableIs};
 use terms::bytes::get;
 use terms::limits::TABLE_NAMES;
 
@@ -71,12 +71,22 @@ fn byte_of(slot: u8, levels: u8) -> u8
     0
 }
 
-// Whether each name stays as it is: as many restrictions are written as there are binders, and each slot has itself.
+// Whether the bytes of names stay when `levels` restrictions are written around what has so many binders: a free name's byte is the same under any.
+fn same_levels(binders: usize, levels: usize) -> bool
+    ensures { λ r. ⌜ LevelsIs binders levels r ⌝ }
+{
+    if binders == 0 {
+        return true;
+    }
+    levels == binders
+}
+
+// Whether each name stays as it is: the restrictions that are written change no byte, and each slot has itself.
 pub fn unchanged(names: &[u8], binders: usize, levels: usize) -> bool
     requires { ⌜ (binders ≤ mostBinders) × (length (now names) ≡ nameSlots) ⌝ }
     ensures { λ r. ⌜ UnchangedIs (now (names .entry)) binders levels r ⌝ }
 {
-    if levels != binders {
+    if !same_levels(binders, levels) {
         return false;
     }
     let mut same = true;

@@ -7,15 +7,19 @@ ghost use mathlib.Core.List.{[], _∷_};
 ghost use Prim.Native.Nat.{_+_, _≤_, _<_};
 ghost use lib.ListN.{length, getD};
 ghost use Rattle.terms.specs.Limits.{greatestArity, longestTerm};
+ghost use Rattle.candidates.specs.Beside.{AloneIs};
 ghost use Rattle.candidates.specs.Names.{mostBinders, nameSlots, Kept};
 ghost use Rattle.candidates.specs.Results.{numbered, resting, visibly, beneath, sending, closing, inside, opening, SplitIs, StoreIs, TermIs, ExtrudedIs, WriteIs, Room, Writing, meetingPlan, PlanIs};
-ghost use Rattle.candidates.specs.Tally.{TallyIs, EndsTallied, BodiesTallied};
+ghost use Rattle.candidates.specs.Tally.{EndsInside, TallyIs, EndsTallied, BodiesTallied};
+use crate::beside::component_of;
+use crate::beside::copy_behind;
 use crate::bodies::arities_of;
 use crate::bodies::body_at;
 use crate::bodies::call_at;
 use crate::names::called;
 use crate::names::renaming;
 use crate::names::unchanged;
+use crate::pass::Branch;
 use crate::pass::OUTPUT;
 use crate::pass::Passed;
 use crate::pass::branch_of;
@@ -53,6 +57,20 @@ pub struct Plan {
     pub middle: usize,
     pub left: Task,
     pub right: Task,
+}
+
+// The component of the parallel at `at` that steps alone, where no name changes; or the parallel itself.
+fn alone(src: &[u8], tally: &[u32], at: usize, binders: usize, task: Task, names: &[u8]) -> Branch
+    requires { ⌜ (at ≤ length (now src)) × (length (now src) ≤ longestTerm) × EndsInside (now src) (now tally) × (binders ≤ mostBinders) × (length (now names) ≡ nameSlots) ⌝ }
+    ensures { λ r. ⌜ AloneIs (now (src .entry)) (now (tally .entry)) at binders (now (names .entry)) task r ⌝ }
+{
+    if unchanged(names, binders, task.levels) {
+        return component_of(src, tally, at, task.silently, task.number);
+    }
+    Branch {
+        at,
+        number: task.number,
+    }
 }
 
 // Another number.
@@ -426,6 +444,58 @@ fn write_parallel(
     )
 }
 
+// The parallel at `at`. Where a component of it steps alone and no name changes, what stands beside the component is copied: [Par].
+fn write_beside(
+    question: &[u8],
+    bodies: &[u32],
+    src: &[u8],
+    tally: &[u32],
+    at: usize,
+    binders: usize,
+    task: Task,
+    names: &mut [u8],
+    out: &mut [u8],
+    put: usize,
+) -> usize
+    requires { ⌜ (at < length (now src)) × (getD (now src) at 0 ≡ 7) × (task .still ≡ false) × Writing (now question) (now bodies) (now src) (now tally) at binders (now names) task (now out) put ⌝ }
+    ensures { λ r. ⌜ WriteIs (now (question .entry)) (now (src .entry)) at binders (now (names .entry)) task (now (out .entry)) put r (now (out .exit)) × Kept binders (now (names .entry)) (now (names .exit)) ⌝ }
+{
+    let c = alone(src, tally, at, binders, task, names);
+    let b = c.at;
+    if b <= at {
+        return write_parallel(
+            question,
+            bodies,
+            src,
+            tally,
+            at,
+            binders,
+            task,
+            names,
+            out,
+            put,
+        );
+    }
+    let n = b - at;
+    if !room(out.len(), put, n) {
+        return out.len() + 1;
+    }
+    copy(src, at, n, out, put);
+    let e = write(
+        question,
+        bodies,
+        src,
+        tally,
+        b,
+        binders,
+        with_number(task, c.number),
+        names,
+        out,
+        put + n,
+    );
+    copy_behind(src, tally, at, b, out, e)
+}
+
 // Whether the name of the restriction at `at` is extruded: [Open]. A silent action sends no name.
 fn extruded(
     question: &[u8],
@@ -614,7 +684,7 @@ pub fn write(
         );
     }
     if t == 7 {
-        return write_parallel(
+        return write_beside(
             question,
             bodies,
             src,

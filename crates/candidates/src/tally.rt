@@ -24,7 +24,7 @@ pub const BODY_TALLIES: usize = 5392;
 // The last number of a body's tally: where its field begins in the question.
 const PLACE: usize = 336;
 
-// No accepted question has a place from here on.
+// No body of an accepted question begins this far behind.
 const SMALL_PLACE: usize = 65536;
 
 // The number at `i` behind `from`, and 0 past the end.

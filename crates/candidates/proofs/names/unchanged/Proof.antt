@@ -1,11 +1,12 @@
 -- `candidates::names::unchanged` meets its contract. Assumes nothing.
-use mathlib.Core.Path.{_≡_}
+use mathlib.Core.Path.{_≡_, subst}
+use borrow.Author.Tests.{not-false}
 use Prim.Native.Nat.{ℕ, _+_, _-_, _≤_}
 use native.Mathlib.Omega.{arith}
-use borrow.Author.Needs.{needs}
 use Rattle.terms.specs.Limits.{tableNames}
-use Rattle.candidates.specs.Names.{UnchangedIs}
+use Rattle.candidates.specs.Names.{LevelsIs, UnchangedIs}
 use Rattle.candidates.proofs.NameSlots.{Selves, selves-next}
+use borrow.Author.Needs.{needs}
 use Rattle.candidates.proofs.names.unchanged.Statement.{statement}
 use Rattle.candidates.proofs.names.unchanged.Tie as tie
 
@@ -14,6 +15,9 @@ Inv-loop names binders levels same₀ i₀ same i = (i ≤ tableNames + binders)
 
 abbrev μ-loop : tie.MeasureT-loop
 μ-loop names binders levels same₀ i₀ same i = tableNames + binders - i
+
+same-levels-requires : tie.Need-same-levels-requires Inv-loop μ-loop
+same-levels-requires c κs = search needs
 
 returns : tie.Need-returns Inv-loop μ-loop
 unfolding UnchangedIs
@@ -24,7 +28,7 @@ unfolding Selves
 loop-holds c = (omega arith, λ e n h. absurd (omega arith))
 
 add-loop : tie.Need-add-loop Inv-loop μ-loop
-add-loop c = omega (arith, c .before .before .pre)
+add-loop c = omega (arith, c .before .before .before .before .pre)
 
 shared-slice-read-same : tie.Need-shared-slice-read-same Inv-loop μ-loop
 shared-slice-read-same c = search needs
@@ -39,11 +43,11 @@ loop-less : tie.Need-loop-less Inv-loop μ-loop
 loop-less c = search needs
 
 loop-again : tie.Need-loop-again Inv-loop μ-loop
-loop-again c = (search needs, selves-next (c .before .before .before .before .args .names .now) (c .before .before .loop .i) (c .before .before .loop .same) (c .before .before .loop .inv .1))
+loop-again c = (search needs, selves-next (c .before .before .before .before .before .before .args .names .now) (c .before .before .loop .i) (c .before .before .loop .same) (c .before .before .loop .inv .1))
 
 returns-2 : tie.Need-returns-2 Inv-loop μ-loop
 unfolding UnchangedIs Selves
-returns-2 c = λ e. (omega (arith, c .before .before .if1 .left), λ i h. c .before .loop .inv .1 e i (omega (arith, h, c .loop-test .left)))
+returns-2 c = λ e. (subst (LevelsIs (c .before .before .before .before .before .args .binders) (c .before .before .before .before .before .args .levels)) (not-false _ (c .before .before .if1 .left)) (c .before .before .before .same-levels .ensures), λ i h. c .before .loop .inv .1 e i (omega (arith, h, c .loop-test .left)))
 
 pub unchanged-spec : {M : Type 1} → statement M
 unchanged-spec =
@@ -51,6 +55,7 @@ unchanged-spec =
     (tie.spec
     Inv-loop
     μ-loop
+    same-levels-requires
     returns
     loop-holds
     add-loop

@@ -5,12 +5,15 @@ use mathlib.Core.Path.{_≡_, sym, ap, subst, _∙_}
 use Prim.Native.Nat.{ℕ, _+_, _-_, _*_, _<_, _≤_}
 use native.Mathlib.Omega.{arith}
 use lib.ListN.{length, length-set}
+use Rattle.candidates.proofs.BesideLaws.{beside-full, beside-written}
 use borrow.Author.Needs.{needs}
-use borrow.Author.Tests.{not-true, not-false}
+use borrow.Author.Tests.{leb-true, leb-false, not-true, not-false}
 use borrow.Fn.Kinds.{In}
 use borrow.Fn.PlainCycle.{Measures, is, falls, and}
 use Rattle.terms.specs.Limits.{tableNames}
+use Rattle.terms.proofs.bytes.copy.Reads as copy-reads
 use Rattle.terms.proofs.bytes.get.Reads as get-reads
+use Rattle.terms.proofs.bytes.room.Reads as room-reads
 use Rattle.candidates.specs.Tally.{TallyIs}
 use Rattle.candidates.specs.Results.{opening}
 use Rattle.candidates.specs.declared.result.Task.{Task}
@@ -18,20 +21,25 @@ use Rattle.candidates.proofs.ResultLaws.{ends-tallied, written-to, writ
 use Rattle.candidates.proofs.NameSlots.{kept-all, kept-within, kept-then}
 use Rattle.candidates.proofs.result.write.Reads as write
 use Rattle.candidates.proofs.result.write.Kinds as write-kinds
-use Rattle.candidates.proofs.result.+write+write_call+write_parallel+write_restriction.Lts-write as write-lts
+use Rattle.candidates.proofs.result.+write+write_beside+write_call+write_parallel+write_restriction.Lts-write as write-lts
+use Rattle.candidates.proofs.result.write_beside.Reads as write-beside
+use Rattle.candidates.proofs.result.write_beside.Kinds as write-beside-kinds
+use Rattle.candidates.proofs.result.+write+write_beside+write_call+write_parallel+write_restriction.Lts-write_beside as write-beside-lts
 use Rattle.candidates.proofs.result.write_call.Reads as write-call
 use Rattle.candidates.proofs.result.write_call.Kinds as write-call-kinds
-use Rattle.candidates.proofs.result.+write+write_call+write_parallel+write_restriction.Lts-write_call as write-call-lts
+use Rattle.candidates.proofs.result.+write+write_beside+write_call+write_parallel+write_restriction.Lts-write_call as write-call-lts
 use Rattle.candidates.proofs.result.write_parallel.Reads as write-parallel
 use Rattle.candidates.proofs.result.write_parallel.Kinds as write-parallel-kinds
-use Rattle.candidates.proofs.result.+write+write_call+write_parallel+write_restriction.Lts-write_parallel as write-parallel-lts
+use Rattle.candidates.proofs.result.+write+write_beside+write_call+write_parallel+write_restriction.Lts-write_parallel as write-parallel-lts
 use Rattle.candidates.proofs.result.write_restriction.Reads as write-restriction
 use Rattle.candidates.proofs.result.write_restriction.Kinds as write-restriction-kinds
-use Rattle.candidates.proofs.result.+write+write_call+write_parallel+write_restriction.Lts-write_restriction as write-restriction-lts
+use Rattle.candidates.proofs.result.+write+write_beside+write_call+write_parallel+write_restriction.Lts-write_restriction as write-restriction-lts
+use Rattle.candidates.proofs.beside.copy_behind.Reads as copy-behind-reads
 use Rattle.candidates.proofs.bodies.body_at.Reads as body-at-reads
 use Rattle.candidates.proofs.bodies.call_at.Reads as call-at-reads
 use Rattle.candidates.proofs.names.called.Reads as called-reads
 use Rattle.candidates.proofs.pass.branch_of.Reads as branch-of-reads
+use Rattle.candidates.proofs.result.alone.Reads as alone-reads
 use Rattle.candidates.proofs.result.enter.Reads as enter-reads
 use Rattle.candidates.proofs.result.extruded.Reads as extruded-reads
 use Rattle.candidates.proofs.result.open_pair.Reads as open-pair-reads
@@ -42,26 +50,45 @@ use Rattle.candidates.proofs.result.with_number.Reads as with-number-re
 use Rattle.candidates.proofs.result.write_prefix.Reads as write-prefix-reads
 use Rattle.candidates.proofs.result.write_term.Reads as write-term-reads
 use Rattle.candidates.proofs.tally.body_tally.Reads as body-tally-reads
-use Rattle.candidates.proofs.result.+write+write_call+write_parallel+write_restriction.{statement}
-use Rattle.candidates.proofs.result.+write+write_call+write_parallel+write_restriction.Tie.{close}
+use Rattle.candidates.proofs.result.+write+write_beside+write_call+write_parallel+write_restriction.{statement}
+use Rattle.candidates.proofs.result.+write+write_beside+write_call+write_parallel+write_restriction.Tie.{close}
 
 abbrev μ-write : Measures 6 write-kinds.ps ℕ
-μ-write κs a = 2 * (a .1 .1 .1 .1 .1 .1 .0 .calls * 113 + (length (a .1 .1 .0 .now) - a .1 .1 .1 .1 .0)) + 1
+μ-write κs a = 3 * (a .1 .1 .1 .1 .1 .1 .0 .calls * 113 + (length (a .1 .1 .0 .now) - a .1 .1 .1 .1 .0)) + 2
+
+abbrev μ-write-beside : Measures 6 write-beside-kinds.ps ℕ
+μ-write-beside κs a = 3 * (a .1 .1 .1 .1 .1 .1 .0 .calls * 113 + (length (a .1 .1 .0 .now) - a .1 .1 .1 .1 .0)) + 1
 
 abbrev μ-write-call : Measures 5 write-call-kinds.ps ℕ
-μ-write-call κs a = 2 * (a .1 .1 .1 .1 .1 .0 .calls * 113 + (length (a .1 .1 .0 .now) - a .1 .1 .1 .0))
+μ-write-call κs a = 3 * (a .1 .1 .1 .1 .1 .0 .calls * 113 + (length (a .1 .1 .0 .now) - a .1 .1 .1 .0))
 
 abbrev μ-write-parallel : Measures 6 write-parallel-kinds.ps ℕ
-μ-write-parallel κs a = 2 * (a .1 .1 .1 .1 .1 .1 .0 .calls * 113 + (length (a .1 .1 .0 .now) - a .1 .1 .1 .1 .0))
+μ-write-parallel κs a = 3 * (a .1 .1 .1 .1 .1 .1 .0 .calls * 113 + (length (a .1 .1 .0 .now) - a .1 .1 .1 .1 .0))
 
 abbrev μ-write-restriction : Measures 6 write-restriction-kinds.ps ℕ
-μ-write-restriction κs a = 2 * (a .1 .1 .1 .1 .1 .1 .0 .calls * 113 + (length (a .1 .1 .0 .now) - a .1 .1 .1 .1 .0))
+μ-write-restriction κs a = 3 * (a .1 .1 .1 .1 .1 .1 .0 .calls * 113 + (length (a .1 .1 .0 .now) - a .1 .1 .1 .1 .0))
 
 abbrev write-at : ℕ → In 6 write-kinds.ps
 write-at t = and 6 write-kinds.ps (is 6 write-kinds.ps μ-write t) write.Pre
 
 abbrev write-below : ℕ → In 6 write-kinds.ps
 write-below t = and 6 write-kinds.ps (falls 6 write-kinds.ps _<_ μ-write t) write.Pre
+
+abbrev write-beside-at : ℕ → In 6 write-beside-kinds.ps
+write-beside-at t =
+    and
+    6
+    write-beside-kinds.ps
+    (is 6 write-beside-kinds.ps μ-write-beside t)
+    write-beside.Pre
+
+abbrev write-beside-below : ℕ → In 6 write-beside-kinds.ps
+write-beside-below t =
+    and
+    6
+    write-beside-kinds.ps
+    (falls 6 write-beside-kinds.ps _<_ μ-write-beside t)
+    write-beside.Pre
 
 abbrev write-call-at : ℕ → In 5 write-call-kinds.ps
 write-call-at t =
@@ -104,7 +131,10 @@ write-restriction-below t =
     write-restriction.Pre
 
 abbrev write-claims : ℕ → write-lts.Claims
-write-claims t = (write-term-reads.Asked, write-term-reads.Learnt, get-reads.Asked, get-reads.Learnt, write-prefix-reads.Asked, write-prefix-reads.Learnt, write-below t, write.Post, branch-of-reads.Asked, branch-of-reads.Learnt, with-number-reads.Asked, with-number-reads.Learnt, write-parallel-below t, write-parallel.Post, write-restriction-below t, write-restriction.Post, write-call-below t, write-call.Post)
+write-claims t = (write-term-reads.Asked, write-term-reads.Learnt, get-reads.Asked, get-reads.Learnt, write-prefix-reads.Asked, write-prefix-reads.Learnt, write-below t, write.Post, branch-of-reads.Asked, branch-of-reads.Learnt, with-number-reads.Asked, with-number-reads.Learnt, write-beside-below t, write-beside.Post, write-restriction-below t, write-restriction.Post, write-call-below t, write-call.Post)
+
+abbrev write-beside-claims : ℕ → write-beside-lts.Claims
+write-beside-claims t = (alone-reads.Asked, alone-reads.Learnt, write-parallel-below t, write-parallel.Post, room-reads.Asked, room-reads.Learnt, copy-reads.Asked, copy-reads.Learnt, with-number-reads.Asked, with-number-reads.Learnt, write-below t, write.Post, copy-behind-reads.Asked, copy-behind-reads.Learnt)
 
 abbrev write-call-claims : ℕ → write-call-lts.Claims
 write-call-claims t = (call-at-reads.Asked, call-at-reads.Learnt, enter-reads.Asked, enter-reads.Learnt, body-at-reads.Asked, body-at-reads.Learnt, body-tally-reads.Asked, body-tally-reads.Learnt, called-reads.Asked, called-reads.Learnt, write-below t, write.Post)
@@ -181,8 +211,8 @@ write-same-length-8 t c = search needs
 write-returns-5 : (t : ℕ) → write-lts.Need-returns-5 (write-claims t) (write-at t) write.Post
 write-returns-5 t c = let a = c .before .before .before .before .before .before .before .before .before .before .before .before .before .before .before .before .before .before .before .before .before .args in (write-branch (a .question .now) (a .src .now) (a .at) (a .binders) (a .names .now) (a .task) (c .before .before .before .before .before .before .before .before .before .before .before .before .before .if2 .left) (a .out .now) (a .put) (a .tally .now) (c .before .before .before .before .before .before .before .before .before .before .before .before .before .before .before .before .before .before .before .before .before .pre .1 .5) (c .before .before .before .before .before .before .before .before .branch-of .result) (c .before .before .before .before .before .before .before .before .branch-of .ensures) (c .before .before .before .before .before .before .before .with-number .result) (c .before .before .before .before .before .before .before .with-number .ensures) (c .before .before .before .before .write2 .result) _ (c .before .before .before .before .write2 .ensures .0), c .before .before .before .before .write2 .ensures .1)
 
-write-write-parallel-requires : (t : ℕ) → write-lts.Need-write-parallel-requires (write-claims t) (write-at t) write.Post
-write-write-parallel-requires t c κs = (omega (arith, c .before .before .before .before .before .before .before .before .before .before .before .before .before .before .before .pre .0), (c .before .before .before .before .before .before .before .before .if1 .left, sym (c .before .before .before .before .before .before .get .ensures) ∙ c .before .before .if6 .taken, c .before .before .before .before .before .before .before .if2 .left, c .before .before .before .before .before .before .before .before .before .before .before .before .before .before .before .pre .1))
+write-write-beside-requires : (t : ℕ) → write-lts.Need-write-beside-requires (write-claims t) (write-at t) write.Post
+write-write-beside-requires t c κs = (omega (arith, c .before .before .before .before .before .before .before .before .before .before .before .before .before .before .before .pre .0), (c .before .before .before .before .before .before .before .before .if1 .left, sym (c .before .before .before .before .before .before .get .ensures) ∙ c .before .before .if6 .taken, c .before .before .before .before .before .before .before .if2 .left, c .before .before .before .before .before .before .before .before .before .before .before .before .before .before .before .pre .1))
 
 write-same-length-9 : (t : ℕ) → write-lts.Need-same-length-9 (write-claims t) (write-at t) write.Post
 write-same-length-9 t c = search needs
@@ -191,7 +221,7 @@ write-same-length-10 : (t : ℕ) → write-lts.Need-same-length-10 (write-claims
 write-same-length-10 t c = search needs
 
 write-returns-6 : (t : ℕ) → write-lts.Need-returns-6 (write-claims t) (write-at t) write.Post
-write-returns-6 t c = c .before .before .before .before .write-parallel .ensures
+write-returns-6 t c = c .before .before .before .before .write-beside .ensures
 
 write-write-restriction-requires : (t : ℕ) → write-lts.Need-write-restriction-requires (write-claims t) (write-at t) write.Post
 write-write-restriction-requires t c κs = (omega (arith, c .before .before .before .before .before .before .before .before .before .before .before .before .before .before .before .before .pre .0), (c .before .before .before .before .before .before .before .before .before .if1 .left, sym (c .before .before .before .before .before .before .before .get .ensures) ∙ c .before .before .if7 .taken, c .before .before .before .before .before .before .before .before .if2 .left, c .before .before .before .before .before .before .before .before .before .before .before .before .before .before .before .before .pre .1))
@@ -216,6 +246,60 @@ write-same-length-14 t c = search needs
 
 write-returns-8 : (t : ℕ) → write-lts.Need-returns-8 (write-claims t) (write-at t) write.Post
 write-returns-8 t c = let a = c .before .before .before .before .before .before .before .before .before .before .before .before .before .before .before .before .before .before .before .args in (c .before .before .write-call .ensures, kept-all (a .binders) (a .names .now))
+
+write-beside-alone-requires : (t : ℕ) → write-beside-lts.Need-alone-requires (write-beside-claims t) (write-beside-at t) write-beside.Post
+write-beside-alone-requires t c κs = (omega (arith, c .before .before .before .before .before .before .before .pre .1 .0), c .before .before .before .before .before .before .before .pre .1 .3 .0, c .before .before .before .before .before .before .before .pre .1 .3 .5 .on, omega (arith, c .before .before .before .before .before .before .before .pre .1 .0, c .before .before .before .before .before .before .before .pre .1 .3 .0, c .before .before .before .before .before .before .before .pre .1 .3 .1), c .before .before .before .before .before .before .before .pre .1 .3 .3)
+
+write-beside-write-parallel-requires : (t : ℕ) → write-beside-lts.Need-write-parallel-requires (write-beside-claims t) (write-beside-at t) write-beside.Post
+write-beside-write-parallel-requires t c κs = (omega (arith, c .before .before .before .before .before .before .before .before .before .before .before .pre .0), c .before .before .before .before .before .before .before .before .before .before .before .pre .1)
+
+write-beside-same-length : (t : ℕ) → write-beside-lts.Need-same-length (write-beside-claims t) (write-beside-at t) write-beside.Post
+write-beside-same-length t c = search needs
+
+write-beside-same-length-2 : (t : ℕ) → write-beside-lts.Need-same-length-2 (write-beside-claims t) (write-beside-at t) write-beside.Post
+write-beside-same-length-2 t c = search needs
+
+write-beside-returns : (t : ℕ) → write-beside-lts.Need-returns (write-beside-claims t) (write-beside-at t) write-beside.Post
+write-beside-returns t c = c .before .before .before .before .write-parallel .ensures
+
+write-beside-sub-n : (t : ℕ) → write-beside-lts.Need-sub-n (write-beside-claims t) (write-beside-at t) write-beside.Post
+write-beside-sub-n t c = search needs
+
+write-beside-room-requires : (t : ℕ) → write-beside-lts.Need-room-requires (write-beside-claims t) (write-beside-at t) write-beside.Post
+write-beside-room-requires t c κs = search needs
+
+write-beside-add-result : (t : ℕ) → write-beside-lts.Need-add-result (write-beside-claims t) (write-beside-at t) write-beside.Post
+write-beside-add-result t c = search needs
+
+write-beside-same-length-3 : (t : ℕ) → write-beside-lts.Need-same-length-3 (write-beside-claims t) (write-beside-at t) write-beside.Post
+write-beside-same-length-3 t c = search needs
+
+write-beside-returns-2 : (t : ℕ) → write-beside-lts.Need-returns-2 (write-beside-claims t) (write-beside-at t) write-beside.Post
+write-beside-returns-2 t c = (beside-full (c .before .before .before .before .before .before .before .before .before .before .before .args .question .now) (c .before .before .before .before .before .before .before .before .before .before .before .args .src .now) (c .before .before .before .before .before .before .before .before .before .before .before .args .tally .now) (c .before .before .before .before .before .before .before .before .before .before .before .args .at) (c .before .before .before .before .before .before .before .before .before .before .before .args .binders) (c .before .before .before .before .before .before .before .before .before .before .before .args .names .now) (c .before .before .before .before .before .before .before .before .before .before .before .args .task) (c .before .before .before .before .before .before .before .before .before .before .before .pre .1 .3 .5) (c .before .before .before .before .before .before .before .before .before .before .before .args .out .now) (c .before .before .before .before .before .before .before .before .before .before .before .args .put) (c .before .before .before .alone .result .at) (c .before .before .before .alone .result .number) (c .before .before .before .alone .ensures .is (c .before .before .before .before .before .before .before .before .before .before .before .pre .1 .2) (c .before .before .if1 .left)) (c .before .before .if1 .left) (c .before .before .before .before .before .before .before .before .before .before .before .pre .1 .3 .4 .1) (leb-false _ _ (sym (c .before .room .ensures) ∙ not-true _ (c .if2 .taken))), kept-all (c .before .before .before .before .before .before .before .before .before .before .before .args .binders) (c .before .before .before .before .before .before .before .before .before .before .before .args .names .now))
+
+write-beside-copy-requires : (t : ℕ) → write-beside-lts.Need-copy-requires (write-beside-claims t) (write-beside-at t) write-beside.Post
+write-beside-copy-requires t c κs = (omega (arith, c .before .before .before .if1 .left, c .before .before .before .before .alone .ensures .inside), leb-true _ _ (sym (c .before .before .room .ensures) ∙ not-false _ (c .before .if2 .left)))
+
+write-beside-with-number-requires : (t : ℕ) → write-beside-lts.Need-with-number-requires (write-beside-claims t) (write-beside-at t) write-beside.Post
+write-beside-with-number-requires t c κs = search needs
+
+write-beside-add-write : (t : ℕ) → write-beside-lts.Need-add-write (write-beside-claims t) (write-beside-at t) write-beside.Post
+write-beside-add-write t c = omega (arith, c .before .before .before .before .before .before .before .before .before .before .alone .ensures .inside, c .before .before .before .before .before .before .before .before .before .before .before .before .before .before .before .before .before .before .pre .1 .3 .0, c .before .before .before .before .before .before .before .before .before .before .before .before .before .before .before .before .before .before .pre .1 .3 .4 .1, c .before .before .before .before .before .before .before .before .before .before .before .before .before .before .before .before .before .before .good, c .before .before .before .before .before .before .before .before .before .before .before .before .before .before .before .before .before .before .fits)
+
+write-beside-write-requires : (t : ℕ) → write-beside-lts.Need-write-requires (write-beside-claims t) (write-beside-at t) write-beside.Post
+write-beside-write-requires t c κs = let k : c .before .before .with-number .result .calls ≡ c .before .before .before .before .before .before .before .before .before .before .before .before .before .before .before .before .before .before .args .task .calls = ap (λ (t : Task). t .calls) (c .before .before .with-number .ensures) in let l : c .before .before .with-number .result .levels ≡ c .before .before .before .before .before .before .before .before .before .before .before .before .before .before .before .before .before .before .args .task .levels = ap (λ (t : Task). t .levels) (c .before .before .with-number .ensures) in let s = c .before .before .before .before .before .copy .kept .1 .1 .1 .0 in let fits : c .before .before .before .before .before .before .before .before .before .before .before .before .before .before .before .before .before .before .args .put + (c .before .before .before .before .before .before .before .before .before .before .alone .result .at - c .before .before .before .before .before .before .before .before .before .before .before .before .before .before .before .before .before .before .args .at) ≤ length (c .before .before .before .before .before .before .before .before .before .before .before .before .before .before .before .before .before .before .args .out .now) = leb-true _ _ (sym (c .before .before .before .before .before .before .before .before .room .ensures) ∙ not-false _ (c .before .before .before .before .before .before .before .if2 .left)) in (omega (arith, k, c .before .before .before .before .before .before .before .before .before .before .before .before .before .before .before .before .before .before .pre .0, c .before .before .before .before .before .before .before .before .before .before .before .before .before .before .before .before .before .before .pre .1 .0, c .before .before .before .before .before .before .before .before .before .if1 .left), (c .before .before .before .before .before .before .before .before .before .before .before .before .before .before .before .before .before .before .pre .1 .3 .0, omega (arith, c .before .before .before .before .before .before .before .before .before .if1 .left, c .before .before .before .before .before .before .before .before .before .before .before .before .before .before .before .before .before .before .pre .1 .3 .1), omega (arith, k, c .before .before .before .before .before .before .before .before .before .before .before .before .before .before .before .before .before .before .pre .1 .3 .2), c .before .before .before .before .before .before .before .before .before .before .before .before .before .before .before .before .before .before .pre .1 .3 .3, (omega (arith, s, l, c .before .before .before .before .before .before .before .before .before .before .before .before .before .before .before .before .before .before .pre .1 .3 .4), omega (arith, s, fits)), subst (λ (n : ℕ). TallyIs (c .before .before .before .before .before .before .before .before .before .before .before .before .before .before .before .before .before .before .args .question .now) (c .before .before .before .before .before .before .before .before .before .before .before .before .before .before .before .before .before .before .args .src .now) n (c .before .before .before .before .before .before .before .before .before .before .before .before .before .before .before .before .before .before .args .tally .now)) (sym k) (c .before .before .before .before .before .before .before .before .before .before .before .before .before .before .before .before .before .before .pre .1 .3 .5), c .before .before .before .before .before .before .before .before .before .before .before .before .before .before .before .before .before .before .pre .1 .3 .6))
+
+write-beside-copy-behind-requires : (t : ℕ) → write-beside-lts.Need-copy-behind-requires (write-beside-claims t) (write-beside-at t) write-beside.Post
+write-beside-copy-behind-requires t c κs = (c .before .before .before .before .before .before .before .before .before .before .before .before .before .before .before .before .before .before .before .before .before .before .before .before .pre .1 .0, c .before .before .before .before .before .before .before .before .before .before .before .before .before .before .before .before .before .before .before .before .before .before .before .before .pre .1 .3 .0, c .before .before .before .before .before .before .before .before .before .before .before .before .before .before .before .before .before .before .before .before .before .before .before .before .pre .1 .3 .5 .on)
+
+write-beside-same-length-4 : (t : ℕ) → write-beside-lts.Need-same-length-4 (write-beside-claims t) (write-beside-at t) write-beside.Post
+write-beside-same-length-4 t c = search needs
+
+write-beside-same-length-5 : (t : ℕ) → write-beside-lts.Need-same-length-5 (write-beside-claims t) (write-beside-at t) write-beside.Post
+write-beside-same-length-5 t c = search needs
+
+write-beside-returns-3 : (t : ℕ) → write-beside-lts.Need-returns-3 (write-beside-claims t) (write-beside-at t) write-beside.Post
+write-beside-returns-3 t c = let s = c .before .before .before .before .before .before .before .before .before .before .before .before .before .before .copy .kept .1 .1 .1 .0 in let u = c .before .before .before .before .before .before .before .before .write .kept .1 .1 .1 .1 .1 .1 .1 .1 .0 in (beside-written (c .before .before .before .before .before .before .before .before .before .before .before .before .before .before .before .before .before .before .before .before .before .before .before .before .before .before .before .args .question .now) (c .before .before .before .before .before .before .before .before .before .before .before .before .before .before .before .before .before .before .before .before .before .before .before .before .before .before .before .args .src .now) (c .before .before .before .before .before .before .before .before .before .before .before .before .before .before .before .before .before .before .before .before .before .before .before .before .before .before .before .args .tally .now) (c .before .before .before .before .before .before .before .before .before .before .before .before .before .before .before .before .before .before .before .before .before .before .before .before .before .before .before .args .at) (c .before .before .before .before .before .before .before .before .before .before .before .before .before .before .before .before .before .before .before .before .before .before .before .before .before .before .before .args .binders) (c .before .before .before .before .before .before .before .before .before .before .before .before .before .before .before .before .before .before .before .before .before .before .before .before .before .before .before .args .names .now) (c .before .before .before .before .before .before .before .before .before .before .before .before .before .before .before .before .before .before .before .before .before .before .before .before .before .before .before .args .task) (c .before .before .before .before .before .before .before .before .before .before .before .before .before .before .before .before .before .before .before .before .before .before .before .before .before .before .before .pre .1 .3 .5) (c .before .before .before .before .before .before .before .before .before .before .before .before .before .before .before .before .before .before .before .before .before .before .before .before .before .before .before .args .out .now) (c .before .before .before .before .before .before .before .before .before .before .before .before .before .before .before .before .before .before .before .before .before .before .before .before .before .before .before .args .put) (c .before .before .before .before .before .before .before .before .before .before .before .before .before .before .before .before .before .before .before .alone .result .at) (c .before .before .before .before .before .before .before .before .before .before .before .before .before .before .before .before .before .before .before .alone .result .number) (c .before .before .before .before .before .before .before .before .before .before .before .before .before .before .before .before .before .before .before .alone .ensures .is (c .before .before .before .before .before .before .before .before .before .before .before .before .before .before .before .before .before .before .before .before .before .before .before .before .before .before .before .pre .1 .2) (c .before .before .before .before .before .before .before .before .before .before .before .before .before .before .before .before .before .before .if1 .left)) (c .before .before .before .before .before .before .before .before .before .before .before .before .before .before .before .before .before .before .if1 .left) (leb-true _ _ (sym (c .before .before .before .before .before .before .before .before .before .before .before .before .before .before .before .before .before .room .ensures) ∙ not-false _ (c .before .before .before .before .before .before .before .before .before .before .before .before .before .before .before .before .if2 .left))) _ s (c .before .before .before .before .before .before .before .before .before .before .before .before .before .before .copy .ensures) (c .before .before .before .before .before .before .before .before .before .before .before .with-number .result) (c .before .before .before .before .before .before .before .before .before .before .before .with-number .ensures) (c .before .before .before .before .before .before .before .before .write .result) _ (u ∙ s) (c .before .before .before .before .before .before .before .before .write .ensures .0) (c .before .before .copy-behind .result) _ (c .before .before .copy-behind .ensures), c .before .before .before .before .before .before .before .before .write .ensures .1)
 
 write-call-call-at-requires : (t : ℕ) → write-call-lts.Need-call-at-requires (write-call-claims t) (write-call-at t) write-call.Post
 write-call-call-at-requires t c κs = (c .before .before .before .before .before .pre .1 .0, c .before .before .before .before .before .pre .1 .7)
@@ -358,11 +442,12 @@ write-restriction-same-length-5 t c = search needs
 write-restriction-returns-3 : (t : ℕ) → write-restriction-lts.Need-returns-3 (write-restriction-claims t) (write-restriction-at t) write-restriction.Post
 write-restriction-returns-3 t c = let a = c .before .before .before .before .before .before .before .before .before .before .before .before .before .before .before .before .before .before .before .before .before .before .args in let s = c .before .before .before .before .before .before .before .before .before .before .before .before .store .kept .0 in (write-res (a .question .now) (a .src .now) (a .at) (a .binders) (a .names .now) (a .task) (c .before .before .before .before .before .before .before .before .before .before .before .before .before .before .before .before .before .before .before .before .before .before .pre .1 .2) (a .out .now) (a .put) (c .before .before .before .before .before .before .before .before .before .before .before .before .before .before .before .before .before .before .before .before .before .before .pre .1 .1) (c .before .before .before .before .before .before .before .before .before .before .before .before .before .before .before .extruded .ensures .passed) (c .before .before .before .before .before .before .before .before .before .before .before .before .before .before .before .extruded .ensures .does) (sym (c .before .before .before .before .before .before .before .before .before .before .before .before .before .before .before .extruded .ensures .is) ∙ c .before .before .before .before .before .before .before .before .before .before .before .before .before .before .if1 .left) (c .before .before .before .before .before .before .before .before .before .before .before .before .store .result) _ (c .before .before .before .before .before .before .before .before .before .before .before .before .store .ensures) (omega (arith, c .before .before .before .before .before .before .before .before .before .before .before .before .before .before .before .before .before .before .before .before .before .before .pre .1 .3 .0, c .before .before .before .before .before .before .before .before .before .before .before .before .before .before .before .before .before .before .before .before .before .before .pre .1 .3 .1, c .before .before .before .before .before .before .before .before .before .before .before .before .before .before .before .before .before .before .before .before .before .before .pre .1 .3 .3, c .before .before .before .before .before .before .before .before .before .before .before .before .before .before .before .before .before .before .before .before .before .before .pre .1 .0)) (omega (arith, s, c .before .before .before .before .before .before .before .before .before .if2 .left)) s (c .before .before .before .before .before .before .before .restrict .result) (c .before .before .before .before .before .before .before .restrict .ensures) (c .before .before .before .before .write2 .result) _ (c .before .before .before .before .write2 .ensures .0), kept-within (a .binders) (tableNames + a .task .levels) (a .names .now) _ (c .before .before .before .before .write2 .ensures .1))
 
-pub +write+write-call+write-parallel+write-restriction-spec :
+pub +write+write-beside+write-call+write-parallel+write-restriction-spec :
     {M : Type 1} → statement M
-+write+write-call+write-parallel+write-restriction-spec =
++write+write-beside+write-call+write-parallel+write-restriction-spec =
     close
     μ-write
+    μ-write-beside
     μ-write-call
     μ-write-parallel
     μ-write-restriction
@@ -391,7 +476,7 @@ pub +write+write-call+write-parallel+write-restriction-spec :
     (write-same-length-7 t)
     (write-same-length-8 t)
     (write-returns-5 t)
-    (write-write-parallel-requires t)
+    (write-write-beside-requires t)
     (write-same-length-9 t)
     (write-same-length-10 t)
     (write-returns-6 t)
@@ -403,6 +488,27 @@ pub +write+write-call+write-parallel+write-restriction-spec :
     (write-same-length-13 t)
     (write-same-length-14 t)
     (write-returns-8 t))
+    (λ t. write-beside-lts.spec (write-beside-claims t)
+    (write-beside-at t)
+    write-beside.Post
+    (write-beside-alone-requires t)
+    (write-beside-write-parallel-requires t)
+    (write-beside-same-length t)
+    (write-beside-same-length-2 t)
+    (write-beside-returns t)
+    (write-beside-sub-n t)
+    (write-beside-room-requires t)
+    (write-beside-add-result t)
+    (write-beside-same-length-3 t)
+    (write-beside-returns-2 t)
+    (write-beside-copy-requires t)
+    (write-beside-with-number-requires t)
+    (write-beside-add-write t)
+    (write-beside-write-requires t)
+    (write-beside-copy-behind-requires t)
+    (write-beside-same-length-4 t)
+    (write-beside-same-length-5 t)
+    (write-beside-returns-3 t))
     (λ t. write-call-lts.spec (write-call-claims t)
     (write-call-at t)
     write-call.Post

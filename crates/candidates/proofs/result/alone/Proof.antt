@@ -1,0 +1,30 @@
+-- `candidates::result::alone` meets its contract. Assumes nothing.
+use mathlib.Core.Path.{refl, subst}
+use native.Mathlib.Omega.{arith}
+use Rattle.candidates.specs.Beside.{FoundBeside}
+use Rattle.candidates.specs.Names.{UnchangedIs}
+use borrow.Author.Needs.{needs}
+use Rattle.candidates.proofs.result.alone.Statement.{statement}
+use Rattle.candidates.proofs.result.alone.Tie as tie
+
+unchanged-requires : tie.Need-unchanged-requires
+unchanged-requires c κs = search needs
+
+component-of-requires : tie.Need-component-of-requires
+component-of-requires c κs = search needs
+
+returns : tie.Need-returns
+unfolding FoundBeside
+returns c = record { inside = c .component-of .ensures .0; is = λ walks past. c .component-of .ensures .1 (c .before .before .before .before .before .before .args .binders) (c .before .before .before .before .before .before .args .names .now) (c .before .before .before .before .before .before .args .task) walks refl refl (subst (UnchangedIs (c .before .before .before .before .before .before .args .names .now) (c .before .before .before .before .before .before .args .binders) (c .before .before .before .before .before .before .args .task .levels)) (c .before .if1 .taken) (c .before .before .unchanged .ensures)) }
+
+returns-2 : tie.Need-returns-2
+returns-2 c = record { inside = c .before .before .before .before .before .pre .0; is = λ walks past. absurd (omega arith) }
+
+pub alone-spec : {M : Type 1} → statement M
+alone-spec =
+    tie.close
+    (tie.spec
+    unchanged-requires
+    component-of-requires
+    returns
+    returns-2)
