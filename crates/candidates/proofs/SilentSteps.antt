@@ -6,7 +6,7 @@ use Prim.Native.Nat.{ℕ, zero, suc}
 use native.Mathlib.Omega.{arith}
 use lib.ListN.{getD}
 use Rattle.calculus.specs.Abstraction.{Act, tauA}
-use Rattle.calculus.specs.Cond.{mapP}
+use Rattle.calculus.specs.Cond.{Cond, mapP}
 use Rattle.calculus.specs.Definitions.{opened}
 use Rattle.calculus.specs.Term.{Term, nil, tau, inp, out, bout, mat, sum, par, res, call, ren}
 use Rattle.candidates.specs.Bodies.{bodyOf}
@@ -93,14 +93,17 @@ nothing : (free D : ℕ) (σ : ℕ → ℕ) (α : Act) → α ≡ tauA → Does 
 unfolding Does
 nothing free D σ α z = subst (λ (α : Act). Does free D σ α 0 0) (sym z) refl
 
+pub silent-action : (body : ℕ → Term) (calls : ℕ) (P : Term) (i : ℕ) (M : Cond) (α : Act) (A : Term) → getD (silent body calls P) i blocked ≡ step M α A → α ≡ tauA
+unfolding silent
+silent-action body calls P i M α A e =
+    let z : Silent (step M α A) = subst Silent e
+    (nth-silent (silentOf (visibleCalls body calls) (silentCalls body calls) P) (silents (visibleCalls body calls) (silentCalls body calls) (silent-calls body calls) P) i) in
+    z
+
 -- So it sends no name.
 pub pass-silent : (question s : List ℕ) (at D calls i : ℕ) → PassIs question s at D calls true i nothingSent
-unfolding candidates silent
+unfolding candidates
 pass-silent question s at D calls i = record {
   slot = omega arith;
-  does = λ q free σ P rest ok few scope st M α A e.
-      let body = bodyOf (q .bodies) in
-      let z : Silent (step M α A) = subst Silent e
-      (nth-silent (silentOf (visibleCalls body calls) (silentCalls body calls) (ren σ P)) (silents (visibleCalls body calls) (silentCalls body calls) (silent-calls body calls) (ren σ P)) i) in
-      nothing free D σ α z;
+  does = λ q free σ P rest ok few scope st M α A e. nothing free D σ α (silent-action (bodyOf (q .bodies)) calls (ren σ P) i M α A e);
 }

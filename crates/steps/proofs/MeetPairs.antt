@@ -174,7 +174,7 @@ module _ (question part : List ℕ) (at depth number : ℕ) (a b : Side) (j x : 
           let two = decided-step depth t [] β B u in
           let C = com-of (eqb (a .kind) 1) refl turned α A β B g v n₁ n₂ free in
           let result = C .meets (one .condition) (two .condition) (F .condition) (F .action) (F .result) ((λ i. communication (sym (one .is) i) (sym (two .is) i)) ∙ F .own) in
-          let scope = silent-scope question q P (lists .accepted) (lists .scope) (number + j) (omega (arith, p .silently .inside)) M W (p .silently .is j h ∙ ap (raised K) f ∙ ws) in
+          let scope = silent-scope question q P (lists .accepted) (lists .scope) (number + j) M W (p .silently .is j h ∙ ap (raised K) f ∙ ws) in
           subst (λ c. PutIs c x area count r area′) (sym ws)
           (T .is q P x lists K L R first number p hv hw (one .condition) α A (sym es ∙ one .is) (C .left) (two .condition) β B (sym et ∙ two .is) (C .right) (C .y) (C .sent) (C .below)
           (F .condition) M W ((λ i. raised K (step (F .condition) (sym (result .0) i) (sym (result .1) i))) ∙ F .is) classed scope);

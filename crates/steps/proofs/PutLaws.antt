@@ -9,7 +9,7 @@ use lib.Dec.{leb}
 use lib.ListN.{length, take, drop}
 use Rattle.calculus.specs.Abstraction.{Act, tauA, inpA, outA, boutA}
 use Rattle.calculus.specs.Cond.{Cond, cls}
-use Rattle.calculus.specs.Term.{ren}
+use Rattle.calculus.specs.Term.{Term, ren}
 use Rattle.calculus.proofs.Conditions.{cls-le}
 use Rattle.calculus.proofs.Renaming.{ren-id}
 use Rattle.terms.specs.Encoding.{encode, InScope}
@@ -18,22 +18,27 @@ use Rattle.terms.specs.Renaming.{RenameIs}
 use Rattle.terms.proofs.NameTables.{represents-free}
 use Rattle.terms.proofs.Shapes.{length-ren}
 use Rattle.terms.proofs.Stores.{sets-start}
-use Rattle.candidates.specs.Bodies.{AritiesIs}
+use Rattle.candidates.specs.Bodies.{AritiesIs, bodyOf}
 use Rattle.candidates.specs.Names.{OwnNames}
-use Rattle.candidates.specs.Results.{receiving}
+use Rattle.candidates.specs.Passing.{candidates}
+use Rattle.candidates.specs.Raw.{step}
+use Rattle.candidates.specs.Results.{receiving, Written}
+use Rattle.candidates.proofs.SilentSteps.{silent-action}
 use Rattle.steps.specs.Collecting.{PutIs}
 use Rattle.steps.specs.Entries.{InsertIs}
 use Rattle.steps.specs.EntryBytes.{entryBytes}
 use Rattle.steps.specs.Limits.{mostSteps}
 use Rattle.steps.specs.Listed.{kindOf, channelOf, objectOf, listedAs, canonStep, resultBytes}
-use Rattle.steps.specs.Locating.{MetResultIs, PutMetIs}
-use Rattle.steps.specs.PartLister.{ResultIs}
+use Rattle.steps.specs.Locating.{MetResultIs, PutMergedIs, PutMetIs}
+use Rattle.steps.specs.PartLister.{candidatesOf, ResultIs}
 use Rattle.steps.specs.Walking.{Trivial, PlacedResultIs, stepAction, PutResultIs, PutPlacedIs, PutClassedIs}
 use Rattle.steps.specs.declared.listed.ActionBytes.{ActionBytes}
 use Rattle.steps.specs.declared.locate.Located.{Located}
 use Rattle.steps.proofs.CanonBytes.{actionOfStep, coded, entry-canonical}
 use Rattle.steps.proofs.CollectLaws.{put-step, put-long, take-sets}
 use Rattle.steps.proofs.PlacedResults.{trivial-result}
+use Rattle.steps.proofs.ResultScope.{silent-scope}
+use Rattle.steps.proofs.TakeLaws.{receiving-canonical}
 
 -- The action's bytes are those of the step in canonical form.
 pub step-coded : (x : ℕ) (M : Cond) (α : Act) → stepAction x M α ≡ coded (actionOfStep M x α)
@@ -86,7 +91,47 @@ pub classed-put : (question part : List ℕ) (silently : Bool) (i : ℕ) (class 
     → PutResultIs class action result n area count r area′ → PutClassedIs question part silently i class action x area count r area′
 unfolding ResultIs
 classed-put question part silently i class action x area count r area′ out result n size w p = record {
-  is = λ q P l M α A e classes acts. p .is out x M α A size (w q P l M α A e classes) classes acts;
+  is = λ q P l M α A e classes acts.
+      p .is out x M α A size (rw (receiving-canonical x M α A) (w q P l M α A e (cls M) (λ k h. (classes k h, omega (arith, cls-le M k))))) classes acts;
+}
+
+-- A silent step whose result was written with its own names.
+pub classed-merged : (question part : List ℕ) (silently : Bool) → silently ≡ true → (i : ℕ) (class : List ℕ) (action : ActionBytes) (x : ℕ) (area : List ℕ) (count r : ℕ)
+    (area′ out result own : List ℕ) (n : ℕ) → length out ≡ longestTerm → OwnNames 0 own → ResultIs question part silently i own x out n result
+    → PutMergedIs question class result n area count r area′ → PutClassedIs question part silently i class action x area count r area′
+unfolding ResultIs OwnNames candidatesOf candidates receiving
+classed-merged question part true quiet i class action x area count r area′ out result own n size owns w p = record {
+  is = λ q P l M α A e classes acts.
+      let t : α ≡ tauA = silent-action (bodyOf (q .bodies)) 1 P i M α A e in
+      let e₁ = e ∙ ap (λ (α : Act). step M α A) t in
+      let w₁ : Written out 0 (encode 0 A) n result =
+      subst (λ (B : Term). Written out 0 (encode 0 B) n result) (ren-id A) (w q P l M tauA A e₁ (λ k. k) (λ k h. (owns k (omega arith), h))) in
+      subst (λ (α : Act). PutIs (step M α A) x area count r area′) (sym t)
+      (p .is q out x M A (l .accepted) size classes (silent-scope question q P (l .accepted) (l .scope) i M A e₁) w₁);
+}
+classed-merged question part false quiet i class action x area count r area′ out result own n size owns w p = let z : _≡_ {A = ℕ} 0 1 = cc in absurd (omega arith)
+
+-- The names of its result are merged where it stands.
+pub merged-put : (question class : List ℕ) (result : List ℕ) (n : ℕ) (area : List ℕ) (count r : ℕ) (area′ none : List ℕ) → length none ≡ longestTerm
+    → (arities : List ℕ) → AritiesIs question arities → (m : ℕ) (merged : List ℕ) → RenameIs result 0 arities class none 0 m merged
+    → PutResultIs class (record { kind = 0; channel = 0; object = 0 }) merged n area count r area′ → PutMergedIs question class result n area count r area′
+unfolding stepAction canonStep listedAs resultBytes RenameIs AritiesIs
+merged-put question class result n area count r area′ none free arities ar m merged R p = record {
+  is = λ q out x M A ok size classes scope v.
+      let same : length (encode 0 (ren (cls M) A)) ≡ length (encode 0 A) = length-ren 0 0 (cls M) A in
+      p .is none x M tauA A free
+      (record {
+        fits = λ h.
+            let f = v .fits (omega (arith, same)) in (
+              omega (arith, f .0, same),
+              R nameCount 0 0 (cls M) A (drop (length (encode 0 A)) out) (omega arith)
+                  (represents-free class (cls M) (λ k l. (classes k l, omega (arith, cls-le M k))))
+                  (subst (λ (l : List ℕ). InScope nameCount l 0 A) (sym (ar q ok)) scope)
+                  (f .1 ∙ sets-start out (encode 0 A) (omega (arith, same))) (omega (arith, same, size)) (omega (arith, same)) .1,
+            );
+        over = λ h. omega (arith, v .over (omega (arith, same)));
+      })
+      classes refl;
 }
 
 pub placed-put : (question part : List ℕ) (at depth : ℕ) (silently : Bool) (j : ℕ) (action : ActionBytes) (x : ℕ) (area : List ℕ) (count r : ℕ)
@@ -109,25 +154,5 @@ module _ (question part : List ℕ) (left right : Located) (new : ℕ) (class ar
         p .is out x M tauA A size (rw e (w .is q (encode 0 A) ok H)) (c .classes) refl;
   }
 
-  -- Names are merged where the result stands.
-  pub met-merged : (arities : List ℕ) → AritiesIs question arities → (m : ℕ) (merged : List ℕ) → RenameIs result 0 arities class out 0 m merged
-      → PutResultIs class (record { kind = 0; channel = 0; object = 0 }) merged n area count r area′ → PutMetIs question part left right new true class area count r area′
-  unfolding stepAction canonStep listedAs resultBytes RenameIs AritiesIs
-  met-merged arities ar m merged R p = record {
-    is = λ q x M A ok c scope H.
-        let v = w .is q (encode 0 A) ok H in
-        let same : length (encode 0 (ren (cls M) A)) ≡ length (encode 0 A) = length-ren 0 0 (cls M) A in
-        p .is out x M tauA A size
-        (record {
-          fits = λ h.
-              let f = v .fits (omega (arith, same)) in (
-                omega (arith, f .0, same),
-                R nameCount 0 0 (cls M) A (drop (length (encode 0 A)) out) (omega arith)
-                    (represents-free class (cls M) (λ k l. (c .classes k l, omega (arith, cls-le M k))))
-                    (subst (λ (l : List ℕ). InScope nameCount l 0 A) (sym (ar q ok)) scope)
-                    (f .1 ∙ sets-start out (encode 0 A) (omega (arith, same))) (omega (arith, same, size)) (omega (arith, same)) .1,
-              );
-          over = λ h. v .over (omega (arith, same));
-        })
-        (c .classes) refl;
-  }
+  pub met-merged : PutMergedIs question class result n area count r area′ → PutMetIs question part left right new true class area count r area′
+  met-merged p = record { is = λ q x M A ok c scope H. p .is q out x M A ok size (c .classes) scope (w .is q (encode 0 A) ok H) }

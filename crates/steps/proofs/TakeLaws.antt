@@ -9,7 +9,6 @@ use lib.Seq.{sets, sets-eq, getD-take, getD-set-other, length-take-le}
 use Rattle.calculus.specs.Abstraction.{Act, tauA, inpA, outA, boutA}
 use Rattle.calculus.specs.Cond.{Cond, cls}
 use Rattle.calculus.specs.Term.{Term, ren}
-use Rattle.calculus.proofs.Conditions.{cls-le}
 use Rattle.calculus.proofs.Renaming.{ren-id}
 use Rattle.terms.specs.Encoding.{encode}
 use Rattle.terms.specs.Limits.{nameCount, tableNames}
@@ -48,14 +47,13 @@ names-stored class names v many e n h =
     ∙ ap (λ n. xs ++ drop n (replicate nameSlots 0)) k in
     getD-set-other names nameCount n v 0 (λ z. omega arith) ∙ ap (λ t. getD t n 0) whole ∙ List·getD-append xs ys 0 n (omega arith) ∙ getD-take nameCount class n 0 h
 
-has-names : (names class : List ℕ) → NamesAre class names → (M : Cond) → ((n : ℕ) → n < nameCount → getD class n 0 ≡ cls M n)
-    → HasNames nameCount 0 0 names (λ n. cls M n)
+has-names : (names class : List ℕ) → NamesAre class names → (ρ : ℕ → ℕ) → ((n : ℕ) → n < nameCount → (getD class n 0 ≡ ρ n) × (ρ n < nameCount))
+    → HasNames nameCount 0 0 names ρ
 unfolding HasNames NamesAre
-has-names names class has M classes m h =
-    let k : m < nameCount = omega arith in (
-      ap (λ n. getD names n 0) (slot-name tableNames m) ∙ has m k ∙ classes m k ∙ sym (slot-name tableNames (cls M m)),
-      omega (arith, cls-le M m),
-    )
+has-names names class has ρ is m h =
+    let k : m < nameCount = omega arith in
+    let (e, l) = is m k in
+    (ap (λ n. getD names n 0) (slot-name tableNames m) ∙ has m k ∙ e ∙ sym (slot-name tableNames (ρ m)), omega arith)
 
 has-new : (x : ℕ) → x ≤ nameCount → HasNew 0 x x
 unfolding HasNew
@@ -75,19 +73,19 @@ pub result-written : (question part : List ℕ) (silently : Bool) (i : ℕ) (cla
     → WriteIs question part 0 0 names (record { new = x; levels = 0; calls = 1; still = false; silently = silently; number = i }) out 0 r out′
     → ResultIs question part silently i class x out r out′
 unfolding ResultIs chosen candidatesOf
-result-written question part silently i class x names has out r out′ w q P l M α A e classes =
-    w .is q nameCount (λ n. n) P [] (resultBytes (canonStep nameCount x M α A)) (l .accepted) (omega arith) (l .scope)
+result-written question part silently i class x names has out r out′ w q P l M α A e ρ is =
+    w .is q nameCount (λ n. n) P [] (encode 0 (ren (receiving x ρ α) A)) (l .accepted) (omega arith) (l .scope)
     (l .bytes ∙ sym (append-nil (encode 0 P)))
     (record {
-      ρ = cls M;
+      ρ = ρ;
       x = x;
-      has = has-names names class has M classes;
+      has = has-names names class has ρ is;
       new = has-new x (l .new);
       condition = M;
       action = α;
       result = A;
       candidate = ap (λ R. getD (candidates silently (bodyOf (q .bodies)) 1 R) i blocked) (ren-id P) ∙ e;
-      bytes = receiving-canonical x M α A;
+      bytes = refl;
     })
 
 -- A step is put into the list by its header.

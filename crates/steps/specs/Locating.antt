@@ -11,7 +11,7 @@ use Rattle.calculus.specs.Cond.{Cond, cls}
 use Rattle.calculus.specs.Term.{Term, par, ren}
 use Rattle.terms.specs.Answer.{result}
 use Rattle.terms.specs.Encoding.{encode, InScope}
-use Rattle.terms.specs.Limits.{nameCount}
+use Rattle.terms.specs.Limits.{nameCount, longestTerm}
 use Rattle.terms.specs.Question.{Question, checkOf}
 use Rattle.candidates.specs.Bodies.{bodyOf}
 use Rattle.candidates.specs.Names.{HasNew}
@@ -100,6 +100,12 @@ pub record MetResultIs (question part : List ℕ) (left right : Located) (new : 
 pub record Classed (merges : Bool) (class : List ℕ) (M : Cond) : Type 0 where
   pub classes : (n : ℕ) → n < nameCount → getD class n 0 ≡ cls M n
   pub trivial : merges ≡ false → Trivial M
+
+-- A silent step put into the list, from the classes of its condition and the bytes that were written for its result but for the names that are merged.
+pub record PutMergedIs (question class written : List ℕ) (n : ℕ) (area : List ℕ) (count r : ℕ) (area′ : List ℕ) : Type 0 where
+  pub is : (q : Question) (out : List ℕ) (x : ℕ) (M : Cond) (A : Term) → checkOf question ≡ result q → length out ≡ longestTerm
+      → ((n : ℕ) → n < nameCount → getD class n 0 ≡ cls M n) → InScope nameCount (q .arities) 0 A → Written out 0 (encode 0 A) n written
+      → PutIs (step M tauA A) x area count r area′
 
 -- A communication whose result has those bytes but for the names that its condition merges, put into the list.
 pub record PutMetIs (question part : List ℕ) (left right : Located) (new : ℕ) (merges : Bool) (class area : List ℕ) (count r : ℕ) (area′ : List ℕ) : Type 0 where

@@ -6,8 +6,8 @@ use mathlib.Core.Path.{_≡_}
 use Prim.Native.Nat.{ℕ, _*_, _<_, _≤_}
 use lib.ListN.{length, getD, take}
 use Rattle.calculus.specs.Abstraction.{Act}
-use Rattle.calculus.specs.Cond.{Cond, cls}
-use Rattle.calculus.specs.Term.{Term}
+use Rattle.calculus.specs.Cond.{Cond}
+use Rattle.calculus.specs.Term.{Term, ren}
 use Rattle.terms.specs.Answer.{result}
 use Rattle.terms.specs.Encoding.{encode, InScope}
 use Rattle.terms.specs.Limits.{nameCount, longestTerm}
@@ -16,11 +16,10 @@ use Rattle.candidates.specs.Labels.{HeaderIs}
 use Rattle.candidates.specs.Bodies.{bodyOf}
 use Rattle.candidates.specs.Passing.{candidates}
 use Rattle.candidates.specs.Raw.{Candidate, step, blocked}
-use Rattle.candidates.specs.Results.{Written}
+use Rattle.candidates.specs.Results.{receiving, Written}
 use Rattle.candidates.specs.declared.action.Label.{Label}
 use Rattle.steps.specs.Collecting.{PutIs}
 use Rattle.steps.specs.Limits.{mostSteps, stepBytes}
-use Rattle.steps.specs.Listed.{canonStep, resultBytes}
 use Rattle.steps.specs.Listing.{Listing, unsettled, listed, stepsOf}
 use Rattle.steps.specs.Operations.{listBytes}
 use Rattle.steps.specs.declared.list.ListAnswer.{ListAnswer}
@@ -39,17 +38,18 @@ pub record Lists (question part : List ℕ) (x : ℕ) (q : Question) (P : Term) 
 unfoldable pub candidatesOf : Bool → Question → Term → List Candidate
 candidatesOf silently q P = candidates silently (bodyOf (q .bodies)) 1 P
 
--- What the names are written as in a result: each as its class.
+-- The free names are written as a table has them: each as its class, or as itself.
 unfoldable pub NamesAre : List ℕ → List ℕ → Type 0
 NamesAre class names = (n : ℕ) → n < nameCount → getD names n 0 ≡ getD class n 0
 
--- The result of a candidate in canonical form (document 01, "Action and result are rewritten by the condition").
+-- The result of a candidate, rewritten by a table of the free names. By the classes of the condition it is that in canonical form (document 01,
+-- "Action and result are rewritten by the condition").
 unfoldable pub ResultIs : List ℕ → List ℕ → Bool → ℕ → List ℕ → ℕ → List ℕ → ℕ → List ℕ → Type 0
 ResultIs question part silently i class x out r out′ =
     (q : Question) (P : Term) → Lists question part x q P
     → (M : Cond) (α : Act) (A : Term) → getD (candidatesOf silently q P) i blocked ≡ step M α A
-    → ((n : ℕ) → n < nameCount → getD class n 0 ≡ cls M n)
-    → Written out 0 (resultBytes (canonStep nameCount x M α A)) r out′
+    → (ρ : ℕ → ℕ) → ((n : ℕ) → n < nameCount → (getD class n 0 ≡ ρ n) × (ρ n < nameCount))
+    → Written out 0 (encode 0 (ren (receiving x ρ α) A)) r out′
 
 -- A step with this header.
 unfoldable pub PutStepIs : List ℕ → List ℕ → Bool → ℕ → Label → ℕ → List ℕ → ℕ → ℕ → List ℕ → Type 0

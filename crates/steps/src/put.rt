@@ -5,7 +5,7 @@ ghost use lib.ListN.{length};
 ghost use Rattle.terms.specs.Limits.{nameCount, longestTerm};
 ghost use Rattle.candidates.specs.Tally.{TallyIs, BodiesTallied};
 ghost use Rattle.steps.specs.Limits.{mostSteps, listRoom};
-ghost use Rattle.steps.specs.Locating.{PutMetIs};
+ghost use Rattle.steps.specs.Locating.{PutMergedIs, PutMetIs};
 ghost use Rattle.steps.specs.PartLister.{NamesAre, ResultIs};
 ghost use Rattle.steps.specs.Walking.{PutResultIs, PutPlacedIs, PutClassedIs};
 use crate::limits::MOST_STEPS;
@@ -25,7 +25,7 @@ use terms::limits::LONGEST_TERM;
 use terms::limits::NAME_COUNT;
 use terms::rename::rename;
 
-// What the names are written as in a result: each as its class. The new name's slot has itself.
+// What the names are written as in a result: each as its class, or as itself. The new name's slot has itself.
 fn result_names(class: &[u8]) -> [u8; NAME_SLOTS]
     requires { ⌜ nameCount ≤ length (now class) ⌝ }
     ensures { λ r. ⌜ NamesAre (now (class .entry)) r ⌝ }
@@ -36,7 +36,7 @@ fn result_names(class: &[u8]) -> [u8; NAME_SLOTS]
     names
 }
 
-// The result of the candidate number `i`, rewritten by the classes of its condition. The answer is where its bytes end, or past the end of `out`
+// The result of the candidate number `i`, rewritten by the classes of its condition, or with its own names. The answer is where its bytes end, or past the end of `out`
 // where there is no room.
 fn write_result(
     question: &[u8],
@@ -94,7 +94,30 @@ fn put_result(
     insert(area, count, &entry)
 }
 
-// Puts the part's candidate number `i` into the list.
+// Puts a silent step into the list whose result was written up to `n` but for the names that its condition merges: `class` are its classes.
+fn put_merged(
+    question: &[u8],
+    class: &[u8],
+    result: &[u8],
+    n: usize,
+    area: &mut [u8],
+    count: usize,
+) -> usize
+    requires { ⌜ (count ≤ mostSteps) × (listRoom ≤ length (now area)) × (nameCount ≤ length (now class)) ⌝ }
+    ensures { λ r. ⌜ PutMergedIs (now (question .entry)) (now (class .entry)) (now (result .entry)) n (now (area .entry)) count r (now (area .exit)) ⌝ }
+{
+    let mut merged = [0u8; LONGEST_TERM];
+    rename(result, 0, arities_of(question), class, &mut merged, 0);
+    let silent = ActionBytes {
+        kind: 0,
+        channel: 0,
+        object: 0,
+    };
+    put_result(class, silent, &merged, n, area, count)
+}
+
+// Puts the part's candidate number `i` into the list. A silent one's result has no new name: it is written with its own names, so that what stands beside
+// it is copied, and then names are merged.
 pub fn put_classed(
     question: &[u8],
     bodies: &[u32],
@@ -112,6 +135,21 @@ pub fn put_classed(
     ensures { λ r. ⌜ PutClassedIs (now (question .entry)) (now (part .entry)) silently i (now (class .entry)) action x (now (area .entry)) count r (now (area .exit)) ⌝ }
 {
     let mut result = [0u8; LONGEST_TERM];
+    if silently {
+        let own = own_names(0);
+        let m = write_result(
+            question,
+            bodies,
+            part,
+            tally,
+            silently,
+            i,
+            &own,
+            x,
+            &mut result,
+        );
+        return put_merged(question, class, &result, m, area, count);
+    }
     let n = write_result(
         question,
         bodies,
@@ -181,15 +219,13 @@ pub fn put_met(
 {
     let mut result = [0u8; LONGEST_TERM];
     let n = write_met(question, bodies, part, tally, left, right, new, &mut result);
+    if merges {
+        return put_merged(question, class, &result, n, area, count);
+    }
     let action = ActionBytes {
         kind: 0,
         channel: 0,
         object: 0,
     };
-    if !merges {
-        return put_result(class, action, &result, n, area, count);
-    }
-    let mut merged = [0u8; LONGEST_TERM];
-    rename(&result, 0, arities_of(question), class, &mut merged, 0);
-    put_result(class, action, &merged, n, area, count)
+    put_result(class, action, &result, n, area, count)
 }
