@@ -31,13 +31,13 @@ abbrev pub keptBytes : ℕ
 keptBytes = 908
 
 abbrev pub keptLists : ℕ
-keptLists = 16
+keptLists = 26
 
 abbrev pub keptPlace : ℕ → ℕ
 keptPlace i = 34164 + keptBytes * i
 
 abbrev pub listArea : ℕ
-listArea = 48692
+listArea = 57772
 
 abbrev pub labelAt : List ℕ → ℕ → List ℕ
 labelAt area p = take labelBytes (drop p area)

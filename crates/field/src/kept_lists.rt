@@ -14,7 +14,7 @@ use crate::list_area::steps_in;
 use steps::limits::STEP_BYTES;
 use terms::bytes::copy;
 
-// Where the kept lists begin, 16 of them. A kept list has a label, and behind it room for six steps.
+// Where the kept lists begin, 26 of them. A kept list has a label, and behind it room for six steps.
 const KEPT_LISTS: usize = 34164;
 
 pub const KEPT_BYTES: usize = 908;
@@ -40,13 +40,13 @@ fn weighed(part: &[u8]) -> usize
     sums + 3 * word(part, part.len() - 4)
 }
 
-// Where the list of a part is kept, for whatever new name, if it is: parts may have the same place. The prime 65521 is just below 16 times 4096.
+// Where the list of a part is kept, for whatever new name, if it is: parts may have the same place. The prime 65521 is just below 26 times 2521.
 pub fn kept_place(part: &[u8]) -> usize
     requires { ⌜ length (now part) ≤ longestTerm ⌝ }
     ensures { λ r. ⌜ KeptPlace r ⌝ }
 {
     let h = weighed(part) + 5 * part.len();
-    KEPT_LISTS + KEPT_BYTES * (h * 40503 % 65521 / 4096)
+    KEPT_LISTS + KEPT_BYTES * (h * 40503 % 65521 / 2521)
 }
 
 // Copies `n` bytes within an area, of which none is written before it is read.

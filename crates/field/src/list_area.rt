@@ -14,7 +14,7 @@ use terms::bytes::get;
 use terms::frame::size_at;
 
 // The steps of the list at hand, which the lister is lent, its label, and the kept lists.
-pub const LIST_AREA: usize = 48692;
+pub const LIST_AREA: usize = 57772;
 
 // Where the label of the list at hand stands: behind its steps.
 pub const LABEL: usize = 34048;

@@ -26,7 +26,7 @@ add-result : tie.Need-add-result
 add-result c = search needs
 
 returns : tie.Need-returns
-returns c = record { number = (c .weighed .result + 5 * length (c .before .before .args .part .now)) * 40503 % 65521 / 4096; among = omega arith; is = refl }
+returns c = record { number = (c .weighed .result + 5 * length (c .before .before .args .part .now)) * 40503 % 65521 / 2521; among = omega arith; is = refl }
 
 pub kept-place-spec : {M : Type 1} → statement M
 kept-place-spec =
