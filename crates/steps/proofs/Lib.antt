@@ -22,6 +22,7 @@ pub mod LocateLaws
 pub mod MeetLaws
 pub mod MeetPairs
 pub mod MeetRows
+pub mod MergingLaws
 pub mod MetLaws
 pub mod MetResults
 pub mod Moves

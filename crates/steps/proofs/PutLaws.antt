@@ -1,7 +1,7 @@
 -- A step put into the list: from its classes, its action's bytes and the bytes written for its result. Assumes nothing.
 use borrow.Author.Tests.{leb-true, leb-false}
 use mathlib.Core.Bool.{Bool, true, false}
-use mathlib.Core.List.{List}
+use mathlib.Core.List.{List, _++_}
 use mathlib.Core.Path.{_≡_, refl, sym, _∙_, ap, ap₂, subst}
 use native.Mathlib.Omega.{arith}
 use Prim.Native.Nat.{ℕ, _+_, _<_, _≤_}
@@ -14,8 +14,6 @@ use Rattle.calculus.proofs.Conditions.{cls-le}
 use Rattle.calculus.proofs.Renaming.{ren-id}
 use Rattle.terms.specs.Encoding.{encode, InScope}
 use Rattle.terms.specs.Limits.{nameCount, longestTerm}
-use Rattle.terms.specs.Renaming.{RenameIs}
-use Rattle.terms.proofs.NameTables.{represents-free}
 use Rattle.terms.proofs.Shapes.{length-ren}
 use Rattle.terms.proofs.Stores.{sets-start}
 use Rattle.candidates.specs.Bodies.{AritiesIs, bodyOf}
@@ -30,6 +28,7 @@ use Rattle.steps.specs.EntryBytes.{entryBytes}
 use Rattle.steps.specs.Limits.{mostSteps}
 use Rattle.steps.specs.Listed.{kindOf, channelOf, objectOf, listedAs, canonStep, resultBytes}
 use Rattle.steps.specs.Locating.{MetResultIs, PutMergedIs, PutMetIs}
+use Rattle.steps.specs.Merging.{MergedIs}
 use Rattle.steps.specs.PartLister.{candidatesOf, ResultIs}
 use Rattle.steps.specs.Walking.{Trivial, PlacedResultIs, stepAction, PutResultIs, PutPlacedIs, PutClassedIs}
 use Rattle.steps.specs.declared.listed.ActionBytes.{ActionBytes}
@@ -112,24 +111,24 @@ classed-merged question part true quiet i class action x area count r area′ ou
 classed-merged question part false quiet i class action x area count r area′ out result own n size owns w p = let z : _≡_ {A = ℕ} 0 1 = cc in absurd (omega arith)
 
 -- The names of its result are merged where it stands.
-pub merged-put : (question class : List ℕ) (result : List ℕ) (n : ℕ) (area : List ℕ) (count r : ℕ) (area′ none : List ℕ) → length none ≡ longestTerm
-    → (arities : List ℕ) → AritiesIs question arities → (m : ℕ) (merged : List ℕ) → RenameIs result 0 arities class none 0 m merged
+pub merged-put : (question class result : List ℕ) (n : ℕ) (area : List ℕ) (count r : ℕ) (area′ arities : List ℕ) → AritiesIs question arities
+    → (merged : List ℕ) → MergedIs result n arities class merged
     → PutResultIs class (record { kind = 0; channel = 0; object = 0 }) merged n area count r area′ → PutMergedIs question class result n area count r area′
-unfolding stepAction canonStep listedAs resultBytes RenameIs AritiesIs
-merged-put question class result n area count r area′ none free arities ar m merged R p = record {
+unfolding stepAction canonStep listedAs resultBytes AritiesIs
+merged-put question class result n area count r area′ arities ar merged R p = record {
   is = λ q out x M A ok size classes scope v.
       let same : length (encode 0 (ren (cls M) A)) ≡ length (encode 0 A) = length-ren 0 0 (cls M) A in
-      p .is none x M tauA A free
+      p .is out x M tauA A size
       (record {
         fits = λ h.
             let f = v .fits (omega (arith, same)) in (
               omega (arith, f .0, same),
-              R nameCount 0 0 (cls M) A (drop (length (encode 0 A)) out) (omega arith)
-                  (represents-free class (cls M) (λ k l. (classes k l, omega (arith, cls-le M k))))
-                  (subst (λ (l : List ℕ). InScope nameCount l 0 A) (sym (ar q ok)) scope)
-                  (f .1 ∙ sets-start out (encode 0 A) (omega (arith, same))) (omega (arith, same, size)) (omega (arith, same)) .1,
+              R .is (cls M) A (drop (length (encode 0 A)) out) (λ k l. (classes k l, omega (arith, cls-le M k)))
+                  (subst (λ (l : List ℕ). InScope nameCount l 0 A) (sym (ar q ok)) scope) (f .1 ∙ sets-start out (encode 0 A) (omega (arith, same)))
+                  (omega (arith, f .0))
+                  ∙ ap (λ (k : ℕ). encode 0 (ren (cls M) A) ++ drop k out) (sym same) ∙ sym (sets-start out (encode 0 (ren (cls M) A)) (omega arith)),
             );
-        over = λ h. omega (arith, v .over (omega (arith, same)));
+        over = λ h. v .over (omega (arith, same));
       })
       classes refl;
 }

@@ -11,6 +11,7 @@ pub mod Listed
 pub mod Listing
 pub mod Locating
 pub mod Meeting
+pub mod Merging
 pub mod Operations
 pub mod PartLister
 pub mod Renewed

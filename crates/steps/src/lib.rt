@@ -5,6 +5,7 @@ pub mod list;
 pub mod listed;
 pub mod locate;
 pub mod meet;
+pub mod merged;
 pub mod operation;
 pub mod put;
 pub mod rows;

@@ -13,6 +13,7 @@ use crate::listed::ActionBytes;
 use crate::listed::entry_of;
 use crate::listed::insert;
 use crate::locate::Located;
+use crate::merged::merge_names;
 use crate::splice::own_names;
 use crate::splice::write_met;
 use crate::splice::write_placed;
@@ -23,7 +24,6 @@ use candidates::result::write;
 use terms::bytes::copy;
 use terms::limits::LONGEST_TERM;
 use terms::limits::NAME_COUNT;
-use terms::rename::rename;
 
 // What the names are written as in a result: each as its class, or as itself. The new name's slot has itself.
 fn result_names(class: &[u8]) -> [u8; NAME_SLOTS]
@@ -98,22 +98,21 @@ fn put_result(
 fn put_merged(
     question: &[u8],
     class: &[u8],
-    result: &[u8],
+    result: &mut [u8],
     n: usize,
     area: &mut [u8],
     count: usize,
 ) -> usize
-    requires { ⌜ (count ≤ mostSteps) × (listRoom ≤ length (now area)) × (nameCount ≤ length (now class)) ⌝ }
+    requires { ⌜ (count ≤ mostSteps) × (listRoom ≤ length (now area)) × (nameCount ≤ length (now class)) × (length (now result) ≡ longestTerm) ⌝ }
     ensures { λ r. ⌜ PutMergedIs (now (question .entry)) (now (class .entry)) (now (result .entry)) n (now (area .entry)) count r (now (area .exit)) ⌝ }
 {
-    let mut merged = [0u8; LONGEST_TERM];
-    rename(result, 0, arities_of(question), class, &mut merged, 0);
+    merge_names(result, n, arities_of(question), class);
     let silent = ActionBytes {
         kind: 0,
         channel: 0,
         object: 0,
     };
-    put_result(class, silent, &merged, n, area, count)
+    put_result(class, silent, result, n, area, count)
 }
 
 // Puts the part's candidate number `i` into the list. A silent one's result has no new name: it is written with its own names, so that what stands beside
@@ -148,7 +147,7 @@ pub fn put_classed(
             x,
             &mut result,
         );
-        return put_merged(question, class, &result, m, area, count);
+        return put_merged(question, class, &mut result, m, area, count);
     }
     let n = write_result(
         question,
@@ -220,7 +219,7 @@ pub fn put_met(
     let mut result = [0u8; LONGEST_TERM];
     let n = write_met(question, bodies, part, tally, left, right, new, &mut result);
     if merges {
-        return put_merged(question, class, &result, n, area, count);
+        return put_merged(question, class, &mut result, n, area, count);
     }
     let action = ActionBytes {
         kind: 0,

@@ -29,7 +29,7 @@ same-length : tie.Need-same-length
 same-length c = search needs
 
 returns : tie.Need-returns
-returns c = classed-merged (c .before .before .before .before .before .before .before .before .before .before .before .before .before .before .before .before .before .args .question .now) (c .before .before .before .before .before .before .before .before .before .before .before .before .before .before .before .before .before .args .part .now) (c .before .before .before .before .before .before .before .before .before .before .before .before .before .before .before .before .before .args .silently) (c .before .before .before .before .before .before .before .before .before .before .if1 .taken) (c .before .before .before .before .before .before .before .before .before .before .before .before .before .before .before .before .before .args .i) (c .before .before .before .before .before .before .before .before .before .before .before .before .before .before .before .before .before .args .class .now) (c .before .before .before .before .before .before .before .before .before .before .before .before .before .before .before .before .before .args .action) (c .before .before .before .before .before .before .before .before .before .before .before .before .before .before .before .before .before .args .x) (c .before .before .before .before .before .before .before .before .before .before .before .before .before .before .before .before .before .args .area .now) (c .before .before .before .before .before .before .before .before .before .before .before .before .before .before .before .before .before .args .count) (c .before .before .put-merged .result) _ (replicate longestTerm 0) _ (c .before .before .before .before .before .before .before .before .before .own-names .result) (c .before .before .before .before .before .before .write-result .result) refl (c .before .before .before .before .before .before .before .before .before .own-names .ensures) (c .before .before .before .before .before .before .write-result .ensures) (c .before .before .put-merged .ensures)
+returns c = classed-merged (c .before .before .before .before .before .before .before .before .before .before .before .before .before .before .before .before .before .before .args .question .now) (c .before .before .before .before .before .before .before .before .before .before .before .before .before .before .before .before .before .before .args .part .now) (c .before .before .before .before .before .before .before .before .before .before .before .before .before .before .before .before .before .before .args .silently) (c .before .before .before .before .before .before .before .before .before .before .before .if1 .taken) (c .before .before .before .before .before .before .before .before .before .before .before .before .before .before .before .before .before .before .args .i) (c .before .before .before .before .before .before .before .before .before .before .before .before .before .before .before .before .before .before .args .class .now) (c .before .before .before .before .before .before .before .before .before .before .before .before .before .before .before .before .before .before .args .action) (c .before .before .before .before .before .before .before .before .before .before .before .before .before .before .before .before .before .before .args .x) (c .before .before .before .before .before .before .before .before .before .before .before .before .before .before .before .before .before .before .args .area .now) (c .before .before .before .before .before .before .before .before .before .before .before .before .before .before .before .before .before .before .args .count) (c .before .before .before .put-merged .result) _ (replicate longestTerm 0) _ (c .before .before .before .before .before .before .before .before .before .before .own-names .result) (c .before .before .before .before .before .before .before .write-result .result) refl (c .before .before .before .before .before .before .before .before .before .before .own-names .ensures) (c .before .before .before .before .before .before .before .write-result .ensures) (c .before .before .before .put-merged .ensures)
 
 slice-aggregate-write-result-3 : tie.Need-slice-aggregate-write-result-3
 slice-aggregate-write-result-3 c = search needs
