@@ -1,7 +1,6 @@
 -- A kept list of a part for one new name, made the list at hand for another. Assumes nothing.
 use mathlib.Core.Bool.{Bool, true, false}
 use mathlib.Core.List.{List, [], _∷_, _++_, map, append-assoc, append-nil}
-use mathlib.Core.Logic.{_⊎_, inl, inr}
 use mathlib.Core.Path.{_≡_, refl, sym, _∙_, ap, ap₂, subst}
 use native.Mathlib.Decide.{ℕ-discrete, decLt}
 use native.Mathlib.Omega.{arith}
@@ -10,7 +9,7 @@ use lib.ListN.{length, getD, take, drop, set, replicate, take-append-drop, drop-
 use lib.Seq.{length-take-le, take-at, take-all, take-suc, take-append-le, sets, sets-eq, length-sets}
 use Rattle.calculus.specs.Distinction.{among}
 use Rattle.calculus.specs.Free.{Free, fn}
-use Rattle.calculus.specs.Term.{Term, nil, ren, put}
+use Rattle.calculus.specs.Term.{Term, ren, put}
 use Rattle.calculus.proofs.Binding.{put-self, put-other}
 use Rattle.calculus.proofs.FreeNames.{free→fn}
 use Rattle.calculus.proofs.Renaming.{map-++}
@@ -28,7 +27,6 @@ use Rattle.candidates.proofs.Membership.{all-map, all-∈, ∈-nth}
 use Rattle.steps.specs.Entries.{Sized, entryFrom, comesBefore}
 use Rattle.steps.specs.Limits.{stepBytes}
 use Rattle.steps.specs.Listed.{ListedStep, resultBytes, bytes}
-use Rattle.steps.specs.Listing.{listed, stepsOf}
 use Rattle.steps.specs.Operations.{listBytes}
 use Rattle.steps.specs.PartLister.{Lists}
 use Rattle.steps.specs.Renewed.{bindsNew, renewed}
@@ -39,7 +37,7 @@ use Rattle.steps.proofs.ListedBytes.{step-size, step-length}
 use Rattle.steps.proofs.NewNameLaws.{neighbours-sorted, renewed-length, renewed-steps}
 use Rattle.steps.proofs.Sorted.{Sorted}
 use Rattle.field.specs.Entry.{EntryAt, BindsIs}
-use Rattle.field.specs.ListArea.{labelPlace, labelBytes, keptSteps, keptBytes, labelAt, LabelIs, countIn, ListIn, Kept, KeptPlace, Labelled, SideIs}
+use Rattle.field.specs.ListArea.{labelPlace, labelBytes, keptBytes, labelAt, LabelIs, countIn, ListIn, Kept, KeptPlace, Labelled, SideIs}
 use Rattle.field.specs.Renewing.{RenewsStep, RenewsSteps, Ascends, RenewedIs}
 use Rattle.field.specs.Successors.{bindsName}
 use Rattle.field.specs.TakingUp.{ListAt}
@@ -49,10 +47,7 @@ use Rattle.field.proofs.KeyLaws.{behind}
 use Rattle.field.proofs.ListAreaLaws.{list-there}
 use Rattle.field.proofs.ListedParts.{entry-there, sized, listed-at}
 use Rattle.field.proofs.ResultLaws.{sets-over}
-
--- a step, where a list has none
-blank : ListedStep
-blank = record { classes = []; kind = 0; channel = 0; object = 0; result = nil }
+use Rattle.field.proofs.TakingLaws.{blank}
 
 put-below : (y x n : ℕ) → x < nameCount → n < nameCount → put y x n < nameCount
 put-below y x n h k = go (ℕ-discrete n y)

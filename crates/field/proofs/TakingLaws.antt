@@ -41,7 +41,7 @@ use Rattle.field.proofs.NewNames.{new-free}
 use Rattle.field.proofs.Proper.{either-below}
 
 -- a step, where a list has none
-blank : ListedStep
+pub blank : ListedStep
 blank = record { classes = []; kind = 0; channel = 0; object = 0; result = nil }
 
 -- The steps passed bind no name.

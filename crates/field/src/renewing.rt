@@ -2,7 +2,7 @@
 // another one, so that it is looked at.
 ghost use mathlib.Core.Bool.{true};
 ghost use mathlib.Core.Path.{_≡_};
-ghost use Prim.Native.Nat.{ℕ, suc, _+_, _*_, _<_, _≤_};
+ghost use Prim.Native.Nat.{ℕ, _+_, _*_, _<_, _≤_};
 ghost use lib.ListN.{length, getD, take};
 ghost use Rattle.calculus.specs.Term.{put};
 ghost use Rattle.terms.specs.Limits.{nameCount, longestTerm};

@@ -1,7 +1,7 @@
 -- The list of a part's steps for one new name, made that for another: the steps that bind the name are renamed, and the list is that for the other
 -- name if it still ascends. Assumes nothing.
 use mathlib.Core.Bool.{Bool, true, false}
-use mathlib.Core.List.{List, [], _∷_, _++_, map}
+use mathlib.Core.List.{List, [], _∷_, map}
 use mathlib.Core.Logic.{_⊎_, inl, inr}
 use mathlib.Core.Path.{_≡_, refl, sym, _∙_, ap, subst}
 use native.Mathlib.Decide.{ℕ-discrete, decLe}
@@ -33,7 +33,7 @@ use Rattle.candidates.proofs.QuestionDefinitions.{definitions, bodies-in-scope,
 use Rattle.candidates.proofs.Scope.{CallsInScope, scope-calls}
 use Rattle.steps.specs.Limits.{mostSteps}
 use Rattle.steps.specs.Listed.{ListedStep, listedAs, canonStep, kindOf, channelOf, objectOf, resultBytes, bytes}
-use Rattle.steps.specs.Listing.{unsettled, listed, limited, listing, stepsOf}
+use Rattle.steps.specs.Listing.{listed, limited, listing, stepsOf}
 use Rattle.steps.specs.PartLister.{Lists}
 use Rattle.steps.specs.Renewed.{bindsNew, renewed}
 use Rattle.steps.proofs.ByteOrder.{before-irreflexive, before-trans}

@@ -1,7 +1,6 @@
 -- `field::renewing::replaced` meets its contract. Assumes nothing.
 use mathlib.Core.Path.{sym}
 use Rattle.calculus.proofs.Binding.{put-self, put-other}
-use borrow.Author.Needs.{needs}
 use Rattle.field.proofs.renewing.replaced.Statement.{statement}
 use Rattle.field.proofs.renewing.replaced.Tie as tie
 
