@@ -6,7 +6,6 @@ ghost use Prim.Native.Nat.{ℕ, _+_, _*_, _<_, _≤_};
 ghost use lib.ListN.{length, getD, take};
 ghost use Rattle.calculus.specs.Term.{put};
 ghost use Rattle.terms.specs.Limits.{nameCount, longestTerm};
-ghost use Rattle.steps.specs.Entries.{entryFrom, comesBefore};
 ghost use Rattle.steps.specs.Limits.{stepBytes};
 ghost use Rattle.field.specs.ListArea.{keptBytes, labelBytes, LabelIs, Kept, KeptPlace, Labelled};
 ghost use Rattle.field.specs.Renewing.{RenewsStep, RenewsSteps, Ascends, RenewedIs};
@@ -22,6 +21,7 @@ use crate::list_area::steps_in;
 use candidates::bodies::arities_of;
 use steps::limits::STEP_BYTES;
 use steps::list::ListAnswer;
+use steps::listed::precedes;
 use terms::bytes::copy;
 use terms::bytes::get;
 use terms::free::is_free;
@@ -94,26 +94,6 @@ fn renew_steps(src: &[u8], n: usize, arities: &[u8], y: u8, x: u8, area: &mut [u
     }
 }
 
-// Whether the step at `i` comes before the step at `j`: the first byte that differs decides.
-fn comes_before(area: &[u8], i: usize, j: usize) -> bool
-    requires { ⌜ (i + stepBytes ≤ length (now area)) × (j + stepBytes ≤ length (now area)) ⌝ }
-    ensures { λ r. ⌜ r ≡ comesBefore (entryFrom (now (area .entry)) i) (entryFrom (now (area .entry)) j) ⌝ }
-{
-    let mut k = 0;
-    while k < STEP_BYTES {
-        let a = area[i + k];
-        let b = area[j + k];
-        if a < b {
-            return true;
-        }
-        if b < a {
-            return false;
-        }
-        k += 1;
-    }
-    false
-}
-
 // Whether each of the `n` steps comes before the next.
 fn ascends(area: &[u8], n: usize) -> bool
     requires { ⌜ stepBytes * n ≤ length (now area) ⌝ }
@@ -121,7 +101,7 @@ fn ascends(area: &[u8], n: usize) -> bool
 {
     let mut i = 1;
     while i < n {
-        if !comes_before(area, STEP_BYTES * i - STEP_BYTES, STEP_BYTES * i) {
+        if !precedes(area, STEP_BYTES * i - STEP_BYTES, area, STEP_BYTES * i) {
             return false;
         }
         i += 1;

@@ -102,7 +102,7 @@ fn alike_to(a: &[u8], i: usize, b: &[u8], j: usize, from: usize, n: usize) -> us
 }
 
 // Whether the entry at `i` comes before the entry at `j`: the first byte that differs decides.
-fn precedes(a: &[u8], i: usize, b: &[u8], j: usize) -> bool
+pub fn precedes(a: &[u8], i: usize, b: &[u8], j: usize) -> bool
     requires { ⌜ (i + stepBytes ≤ length (now a)) × (j + stepBytes ≤ length (now b)) ⌝ }
     ensures { λ r. ⌜ r ≡ comesBefore (entryFrom (now (a .entry)) i) (entryFrom (now (b .entry)) j) ⌝ }
 {

@@ -18,17 +18,17 @@ abbrev μ-loop : tie.MeasureT-loop
 loop-holds : tie.Need-loop-holds Inv-loop μ-loop
 loop-holds c = (search needs, ascends-start _)
 
-mul-comes-before : tie.Need-mul-comes-before Inv-loop μ-loop
-mul-comes-before c = search needs
+mul-precedes : tie.Need-mul-precedes Inv-loop μ-loop
+mul-precedes c = search needs
 
-sub-comes-before : tie.Need-sub-comes-before Inv-loop μ-loop
-sub-comes-before c = search needs
+sub-precedes : tie.Need-sub-precedes Inv-loop μ-loop
+sub-precedes c = search needs
 
-mul-comes-before-2 : tie.Need-mul-comes-before-2 Inv-loop μ-loop
-mul-comes-before-2 c = search needs
+mul-precedes-2 : tie.Need-mul-precedes-2 Inv-loop μ-loop
+mul-precedes-2 c = search needs
 
-comes-before-requires : tie.Need-comes-before-requires Inv-loop μ-loop
-comes-before-requires c κs = search needs
+precedes-requires : tie.Need-precedes-requires Inv-loop μ-loop
+precedes-requires c κs = search needs
 
 returns : tie.Need-returns Inv-loop μ-loop
 returns c = λ e. let z : _≡_ {A = ℕ} 0 1 = cc in absurd (omega arith)
@@ -40,7 +40,7 @@ loop-less : tie.Need-loop-less Inv-loop μ-loop
 loop-less c = search needs
 
 loop-again : tie.Need-loop-again Inv-loop μ-loop
-loop-again c = (search needs, ascends-next _ _ (c .before .before .before .loop .inv .0) (c .before .before .before .loop .inv .1) (sym (not-false _ (c .if1 .left)) ∙ c .before .comes-before .ensures))
+loop-again c = (search needs, ascends-next _ _ (c .before .before .before .loop .inv .0) (c .before .before .before .loop .inv .1) (sym (not-false _ (c .if1 .left)) ∙ c .before .precedes .ensures))
 
 returns-2 : tie.Need-returns-2 Inv-loop μ-loop
 returns-2 c = λ e. ascends-fewer _ _ _ (search needs) (c .before .loop .inv .1)
@@ -52,10 +52,10 @@ ascends-spec =
     Inv-loop
     μ-loop
     loop-holds
-    mul-comes-before
-    sub-comes-before
-    mul-comes-before-2
-    comes-before-requires
+    mul-precedes
+    sub-precedes
+    mul-precedes-2
+    precedes-requires
     returns
     add-i
     loop-less
