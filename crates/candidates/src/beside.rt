@@ -38,8 +38,8 @@ pub fn component_of(src: &[u8], tally: &[u32], at: usize, silently: bool, number
     Branch { at: b, number: n }
 }
 
-// Copies what stands in the term at `at` behind the one at `inner` to `put`, unless there was no room before. The answer is where its bytes end, or past
-// the end of `out` where there is no room.
+// Copies what stands in the term at `at` behind the one at `inner` to `put`, unless there was no room before. The answer is where its bytes end, or
+// past the end of `out` where there is no room.
 pub fn copy_behind(
     src: &[u8],
     tally: &[u32],

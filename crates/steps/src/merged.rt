@@ -14,8 +14,8 @@ fn merged_byte(b: u8, class: &[u8]) -> u8
     b
 }
 
-// Merges the names of the term that the first `n` bytes are. Classes have free names alone, which have the same bytes beneath any binders: so the bytes are
-// passed from front to front, however deep.
+// Merges the names of the term that the first `n` bytes are. Classes have free names alone, which have the same bytes beneath any binders: so the
+// bytes are passed from front to front, however deep.
 pub fn merge_names(bytes: &mut [u8], n: usize, arities: &[u8], class: &[u8])
     ensures { λ _. ⌜ MergedIs (now (bytes .entry)) n (now (arities .entry)) (now (class .entry)) (now (bytes .exit)) ⌝ }
 {

@@ -36,8 +36,8 @@ fn result_names(class: &[u8]) -> [u8; NAME_SLOTS]
     names
 }
 
-// The result of the candidate number `i`, rewritten by the classes of its condition, or with its own names. The answer is where its bytes end, or past the end of `out`
-// where there is no room.
+// The result of the candidate number `i`, rewritten by the classes of its condition, or with its own names. The answer is where its bytes end, or
+// past the end of `out` where there is no room.
 fn write_result(
     question: &[u8],
     bodies: &[u32],
@@ -115,8 +115,8 @@ fn put_merged(
     put_result(class, silent, result, n, area, count)
 }
 
-// Puts the part's candidate number `i` into the list. A silent one's result has no new name: it is written with its own names, so that what stands beside
-// it is copied, and then names are merged.
+// Puts the part's candidate number `i` into the list. A silent one's result has no new name: it is written with its own names, so that what stands
+// beside it is copied, and then names are merged.
 pub fn put_classed(
     question: &[u8],
     bodies: &[u32],
