@@ -25,7 +25,7 @@ use Rattle.field.specs.Entry.{EntryAt, TrivialIs, SameHeaderIs, AnswersI
 use Rattle.field.specs.Exploration.{found, together, unanswered}
 use Rattle.field.specs.Growing.{Proper, Fits, Fitting, grownBy, grown, Knows, GrowsTo, AllFound, Puts, Grows, slotWith, KeepsStruck, several, LedTo, joined, LeadsWhere, AddIs, Gone, AddedIs, Flagged, answered, Mirrored, GrowsAnswer, AnswerIs, GrowsAnswers, AnswersAre, FirstAnswerIs, moved, Strikes, LeadsAfter, GrowsStep, GrowsSide, GrowsSides}
 use Rattle.field.specs.Leading.{placed, leading, SuccessorIs}
-use Rattle.field.specs.Noted.{notedCount, noteAt, SpareOnly, NotesOne, Stands, SoleIn}
+use Rattle.field.specs.Noted.{noteAt, SpareOnly, NotesOne, Stands, SoleIn}
 use Rattle.field.specs.PairFlags.{PermittedIs}
 use Rattle.field.specs.Situation.{Situation, freeFrom, situation}
 use Rattle.field.specs.Slot.{keyOf, keyBytes, slotBytes, struckAt, LeftAtIs}

@@ -1,8 +1,8 @@
 -- Flags of pairs: what one more pair changes, and what they say of a step's condition. Assumes nothing.
 use mathlib.Core.Path.{_≡_, refl, sym, ap, ap₂, _∙_}
 use mathlib.Core.Bool.{Bool, true, false, not, _&&_, _||_}
-use mathlib.Core.List.{List, [], _∷_, map}
-use mathlib.Core.Logic.{_⊎_, inl, inr}
+use mathlib.Core.List.{List, [], _∷_}
+use mathlib.Core.Logic.{inl, inr}
 use Prim.Native.Nat.{ℕ, _+_, _-_, _<_, _≤_}
 use native.Mathlib.Decide.{ℕ-discrete, decLt}
 use native.Mathlib.Omega.{arith}
@@ -12,11 +12,10 @@ use lib.Dec.{eqb}
 use borrow.Author.Count.{below-more}
 use borrow.Author.Tests.{eq-eqb, ne-eqb, eqb-true}
 use Rattle.calculus.specs.Cond.{Pairs}
-use Rattle.calculus.specs.Distinction.{Apart, Irr}
+use Rattle.calculus.specs.Distinction.{Apart}
 use Rattle.calculus.proofs.Distinctions.{apart-sym}
 use Rattle.terms.specs.Limits.{nameCount}
 use Rattle.terms.specs.Operations.{holdsApart}
-use Rattle.terms.proofs.Answers.{both-true}
 use Rattle.terms.proofs.ApartLaws.{holds-apart, apart-holds}
 use Rattle.steps.specs.Listed.{ListedStep, classIn}
 use Rattle.field.specs.Entry.{EntryAt, ClassOfIs, TrivialIs}

@@ -7,7 +7,7 @@ use native.Mathlib.Nat.{zero-add}
 use native.Mathlib.Omega.{arith}
 use lib.Dec.{ltb}
 use lib.ListN.{length, getD, set, drop, length-append, length-map}
-use lib.Seq.{sets, drop-append-seam}
+use lib.Seq.{drop-append-seam}
 use borrow.Author.Tests.{ltb-true, ltb-false, lt-ltb, le-ltb}
 use Rattle.calculus.specs.Term.{Term, ren, lift}
 use Rattle.terms.specs.Encoding.{nameByte, encode, NamesInScope, InScope}
