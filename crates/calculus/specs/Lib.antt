@@ -1,9 +1,19 @@
-pub mod Abstraction
+-- Chapter 4 of document 000, in reading order.
+-- terms in de Bruijn form, and substitution
 pub mod Term
+-- free names
 pub mod Free
-pub mod Cond
-pub mod Distinction
+-- definitions, and a body opened by a call
 pub mod Definitions
-pub mod Published
-pub mod OpenBisimulation
+-- finite control, section 4.8
 pub mod FiniteControl
+-- conditions, implication and canonical form
+pub mod Cond
+-- Table 4.1 and rule Canon
+pub mod Published
+-- distinctions, and how a step changes them: Definitions 12 and 15
+pub mod Distinction
+-- open bisimulation: Definition 13
+pub mod OpenBisimulation
+-- actions with their bound name as the innermost binder, for candidates of a step
+pub mod Abstraction

@@ -1,14 +1,15 @@
 // The operations as a service calls them: byte slices and numbers in, one number out, kind × 2^32 + number.
 ghost use mathlib.Core.Path.{_≡_};
-ghost use Rattle.terms.specs.Checking.{checkedAnswer};
-ghost use Rattle.terms.specs.Writing.{writtenAnswer};
-ghost use Rattle.verdict.specs.Judging.{judgedAnswer};
-ghost use Rattle.verdict.specs.Outcome.{codeOf, gave, turnedBack, unsettledOutcome, sameOf, differentOf, ofNumber, ofSteps, ofVerdict, Small};
+ghost use Rattle.terms_checks.specs.Checking.{checkedAnswer};
+ghost use Rattle.terms_rewriting.specs.Writing.{writtenAnswer};
+ghost use Rattle.verdict_judge.specs.Judging.{judgedAnswer};
+ghost use Rattle.verdict.specs.Outcome.{codeOf, gave, turnedBack, unsettledOutcome, sameOf, differentOf, ofNumber, ofVerdict, Small};
+ghost use Rattle.exchange.specs.Listed.{ofSteps};
 ghost use Rattle.verdict.specs.Promises.{CheckIs, StepsIs, MergeIs, BesideIs, JudgeIs};
-use steps::operation::StepsAnswer;
-use terms::answer::Written;
-use terms::check::Checked;
-use verdict::judge::Judged;
+use steps_lister::operation::StepsAnswer;
+use terms_bytes::answer::Written;
+use terms_checks::check::Checked;
+use verdict_judge::judge::Judged;
 
 // The refusal by check `k`.
 fn refusal(k: u8) -> u64
@@ -89,7 +90,7 @@ fn judged_code(answer: Judged) -> u64
 pub extern "C" fn exchange_check(question: &[u8]) -> u64
     ensures { λ r. ⌜ CheckIs (now (question .entry)) r ⌝ }
 {
-    checked_code(terms::check::check(question))
+    checked_code(terms_checks::check::check(question))
 }
 
 // Lists the steps of one side of the question, for the new name, into the area.
@@ -97,7 +98,7 @@ pub extern "C" fn exchange_check(question: &[u8]) -> u64
 pub extern "C" fn exchange_steps(question: &[u8], side: u64, name: u64, area: &mut [u8]) -> u64
     ensures { λ r. ⌜ StepsIs (now (question .entry)) side name (now (area .entry)) r (now (area .exit)) ⌝ }
 {
-    listed_code(steps::operation::steps(question, side, name, area))
+    listed_code(steps_lister::operation::steps(question, side, name, area))
 }
 
 // Writes the question with two names merged into the area.
@@ -105,7 +106,7 @@ pub extern "C" fn exchange_steps(question: &[u8], side: u64, name: u64, area: &m
 pub extern "C" fn exchange_merge(question: &[u8], a: u64, b: u64, area: &mut [u8]) -> u64
     ensures { λ r. ⌜ MergeIs (now (question .entry)) a b (now (area .entry)) r (now (area .exit)) ⌝ }
 {
-    written_code(terms::merge::merge(question, a, b, area))
+    written_code(terms_rewriting::merge::merge(question, a, b, area))
 }
 
 // Writes the question with a third part beside both sides into the area.
@@ -113,7 +114,7 @@ pub extern "C" fn exchange_merge(question: &[u8], a: u64, b: u64, area: &mut [u8
 pub extern "C" fn exchange_beside(question: &[u8], third: &[u8], area: &mut [u8]) -> u64
     ensures { λ r. ⌜ BesideIs (now (question .entry)) (now (third .entry)) (now (area .entry)) r (now (area .exit)) ⌝ }
 {
-    written_code(terms::beside::beside(question, third, area))
+    written_code(terms_rewriting::beside::beside(question, third, area))
 }
 
 // Judges the question within the capacity.
@@ -121,5 +122,5 @@ pub extern "C" fn exchange_beside(question: &[u8], third: &[u8], area: &mut [u8]
 pub extern "C" fn exchange_judge(question: &[u8], capacity: u64, work: &mut [u8]) -> u64
     ensures { λ r. ⌜ JudgeIs (now (question .entry)) capacity (now (work .entry)) r (now (work .exit)) ⌝ }
 {
-    judged_code(verdict::judge::judge(question, capacity, work))
+    judged_code(verdict_judge::judge::judge(question, capacity, work))
 }

@@ -6,14 +6,15 @@ use mathlib.Core.Path.{_≡_, refl}
 use native.Mathlib.Omega.{arith}
 use Prim.Native.Nat.{ℕ}
 use Rattle.calculus.specs.Definitions.{Defs}
-use Rattle.candidates.specs.Lists.{_∈_, Distinct}
-use Rattle.candidates.proofs.Membership.{all-imp}
+use Rattle.steps.specs.Lists.{_∈_, Distinct}
+use Rattle.steps.proofs.Membership.{all-imp}
 use Rattle.field.specs.Setting.{Setting}
 use Rattle.field.specs.Situation.{Situation}
 use Rattle.field.specs.Successors.{Outcome, pastLimit, leads, successors}
 use Rattle.field.specs.Exploration.{Row, incomplete, explored, fieldOf}
 use Rattle.field.specs.Field.{Successor, Past, InField, at-start, successor, PastLimit}
-use Rattle.field.proofs.Proper.{Proper, same-equal}
+use Rattle.field.specs.Situation.{Proper}
+use Rattle.field.proofs.Proper.{same-equal}
 use Rattle.field.proofs.Link.{SettingFor, Linked}
 use Rattle.field.proofs.Reached.{LeadsTo, together-leads, leads-together, Reached, ReachesPast, Invariant, reached-good}
 use Rattle.field.proofs.Reached as reach

@@ -9,15 +9,15 @@ use Rattle.calculus.specs.Cond.{Pairs, cls}
 use Rattle.calculus.specs.Distinction.{Resp}
 use Rattle.calculus.specs.Definitions.{Defs}
 use Rattle.calculus.specs.OpenBisimulation.{update}
-use Rattle.candidates.specs.Lists.{_∈_}
-use Rattle.candidates.proofs.Calls.{Opens}
-use Rattle.candidates.proofs.Scope.{CallsInScope}
+use Rattle.steps.specs.Lists.{_∈_}
+use Rattle.steps.proofs.Calls.{Opens}
+use Rattle.steps.proofs.Scope.{CallsInScope}
 use Rattle.field.specs.Setting.{Setting}
 use Rattle.field.specs.Situation.{Situation, situation}
 use Rattle.field.specs.Successors.{pastLimit, leads, successors}
 use Rattle.field.specs.Exploration.{together}
 use Rattle.field.specs.Field.{fresh, Move, Matches, Successor, Past}
-use Rattle.field.proofs.Proper.{Proper}
+use Rattle.field.specs.Situation.{Proper}
 
 -- A setting of the definitions Δ: every call is in scope, and the calls that a step opens are as many as the setting allows.
 pub record SettingFor (Δ : Defs) (S : Setting) (arities : List ℕ) : Type 0 where

@@ -18,7 +18,7 @@ use Rattle.calculus.proofs.Working.{Trans}
 use Rattle.calculus.proofs.WorkingNames.{resid-free}
 use Rattle.terms.specs.Encoding.{InScope}
 use Rattle.terms.proofs.ScopeLaws.{free-below}
-use Rattle.candidates.proofs.Scope.{CallsInScope, scope-calls, in-scope, calls-ren, calls-residual}
+use Rattle.steps.proofs.Scope.{CallsInScope, scope-calls, in-scope, calls-ren, calls-residual}
 use Rattle.steps.specs.Derived.{Derived}
 use Rattle.steps.specs.Listed.{ListedStep, listedAs}
 use Rattle.steps.proofs.ClassLists.{Within, unmatched}

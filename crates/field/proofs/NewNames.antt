@@ -13,7 +13,8 @@ use Rattle.calculus.proofs.Selection.{in-among, among-in}
 use Rattle.calculus.proofs.UpToRenaming.{Either, either→fn, fn→either}
 use Rattle.calculus.proofs.PublishedBisimulation.{AwayFrom}
 use Rattle.field.specs.Situation.{Situation, missing, newName}
-use Rattle.field.proofs.Proper.{Proper, either-below, proper-apart}
+use Rattle.field.specs.Situation.{Proper}
+use Rattle.field.proofs.Proper.{either-below, proper-apart}
 
 missing-within : (F : List ℕ) (n k : ℕ) → missing F n k ≤ n + k
 unfolding missing

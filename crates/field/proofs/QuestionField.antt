@@ -8,9 +8,9 @@ use Rattle.terms.specs.Limits.{nameCount}
 use Rattle.terms.specs.Question.{Question}
 use Rattle.terms.proofs.ApartLaws.{apart-irreflexive}
 use Rattle.terms.proofs.WellFormed.{WellFormed}
-use Rattle.candidates.specs.Bodies.{bodyOf}
-use Rattle.candidates.proofs.QuestionDefinitions.{bodies-in-scope, opens-one}
-use Rattle.field.specs.Growing.{Proper}
+use Rattle.terms.specs.Question.{bodyOf}
+use Rattle.steps.proofs.QuestionDefinitions.{bodies-in-scope, opens-one}
+use Rattle.field.specs.Situation.{Proper}
 use Rattle.field.specs.Setting.{settingOf}
 use Rattle.field.specs.Situation.{startOf}
 use Rattle.field.proofs.Link.{SettingFor}

@@ -23,9 +23,9 @@ use Rattle.calculus.proofs.UpToRenaming.{Either}
 use Rattle.terms.specs.Encoding.{InScope}
 use Rattle.terms.proofs.Answers.{both-true, true-both}
 use Rattle.terms.proofs.ScopeLaws.{free-below}
-use Rattle.candidates.specs.Lists.{_∈_}
-use Rattle.candidates.proofs.Membership.{∈-left, ∈-right}
-use Rattle.candidates.proofs.Scope.{scope-calls, in-scope, calls-ren}
+use Rattle.steps.specs.Lists.{_∈_}
+use Rattle.steps.proofs.Membership.{∈-left, ∈-right}
+use Rattle.steps.proofs.Scope.{scope-calls, in-scope, calls-ren}
 use Rattle.steps.specs.Derived.{Derived, TooMany, TooLong, ListsExactly}
 use Rattle.steps.specs.Listed.{ListedStep}
 use Rattle.steps.specs.Listing.{Listing, unsettled, listed, listing}
@@ -41,7 +41,8 @@ use Rattle.field.proofs.MoveLaws.{move-scope}
 use Rattle.field.proofs.NameLimit.{binding-move, move-binds}
 use Rattle.field.proofs.NewNames.{new-within, new-away}
 use Rattle.field.proofs.OneSide.{move-listed, listed-move}
-use Rattle.field.proofs.Proper.{Proper, situation-agreed, situation-proper, either-below, free-either, either-free}
+use Rattle.field.specs.Situation.{Proper}
+use Rattle.field.proofs.Proper.{situation-agreed, situation-proper, either-below, free-either, either-free}
 use Rattle.field.proofs.Unseen.{∈-together, together-∈}
 
 -- Rewriting by classes keeps a term in scope.

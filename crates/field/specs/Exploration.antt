@@ -1,6 +1,6 @@
 -- Exploration of the field, up to a capacity: the situations found are taken up one by one. That it finds the field is a theorem
 -- (proofs/FieldIsSmallest).
-use mathlib.Core.Bool.{Bool, true, false, cond, _||_}
+use mathlib.Core.Bool.{Bool, false, cond, _||_}
 use mathlib.Core.List.{List, [], _∷_, _++_}
 use Prim.Native.Nat.{ℕ, zero, suc}
 use Rattle.field.specs.Setting.{Setting}
@@ -19,12 +19,6 @@ unseen known (s ∷ ss) = cond (found known s) (unseen known ss) (s ∷ unseen (
 unfoldable pub together : List (List Situation) → List Situation
 together [] = []
 together (m ∷ ms) = m ++ together ms
-
--- some permitted step has no answer at all: nothing that is left answers it
-unfoldable pub unanswered : List (List Situation) → Bool
-unanswered [] = false
-unanswered ([] ∷ ms) = true
-unanswered ((s ∷ m) ∷ ms) = unanswered ms
 
 -- A situation of the field, and for each permitted step of either side the situations that its answers lead to
 pub record Row : Type 0 where

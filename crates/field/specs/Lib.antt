@@ -1,21 +1,11 @@
-pub mod Chains
-pub mod Entry
-pub mod Exploration
-pub mod Field
-pub mod Growing
-pub mod Holding
-pub mod Key
-pub mod Leading
-pub mod ListArea
-pub mod NameFlags
-pub mod Noted
-pub mod PairFlags
-pub mod Renewing
-pub mod Resulting
+-- Situations and the field, in reading order.
+-- the definitions and limits that the field depends on
 pub mod Setting
+-- a situation, its new name and the start
 pub mod Situation
-pub mod Slot
-pub mod Starting
+-- permitted steps, answers and successors
 pub mod Successors
-pub mod TakingUp
-pub mod Update
+-- the field as the smallest set, and its limits
+pub mod Field
+-- the field found by exploration
+pub mod Exploration

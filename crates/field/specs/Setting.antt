@@ -3,7 +3,7 @@ use mathlib.Core.List.{List}
 use Prim.Native.Nat.{ℕ}
 use Rattle.calculus.specs.Term.{Term}
 use Rattle.terms.specs.Limits.{nameCount, longestTerm}
-use Rattle.candidates.specs.Bodies.{bodyOf}
+use Rattle.terms.specs.Question.{bodyOf}
 use Rattle.steps.specs.Limits.{mostSteps}
 use Rattle.steps.specs.Listing.{Listing, listing}
 

@@ -11,6 +11,9 @@ use Rattle.terms.specs.Encoding.{encode}
 use Rattle.terms.specs.Limits.{nameCount}
 use Rattle.terms.specs.Operations.{holdsApart}
 use Rattle.terms.specs.Question.{Question, pairBytes}
+use mathlib.Core.Path.{_≡_}
+use Rattle.calculus.specs.Distinction.{Irr}
+use Rattle.terms.specs.Encoding.{InScope}
 
 -- "Situation" is document 01's word.
 pub record Situation : Type 0 where
@@ -59,3 +62,11 @@ unfoldable pub sameSituation : Situation → Situation → Bool
 sameSituation s t =
     sameBytes (encode 0 (s .first)) (encode 0 (t .first)) && sameBytes (encode 0 (s .second)) (encode 0 (t .second))
     && sameBytes (pairBytes (s .apart)) (pairBytes (t .apart))
+
+-- Proper situations: those that the field of an accepted question holds.
+pub record Proper (names : ℕ) (arities : List ℕ) (s : Situation) : Type 0 where
+  pub first : InScope names arities 0 (s .first)
+  pub second : InScope names arities 0 (s .second)
+  pub distinction : Irr (s .apart)
+  -- the apart pairs stand as `situation` writes them
+  pub canonical : s ≡ situation names (s .first) (s .second) (s .apart)

@@ -1,7 +1,7 @@
 // The program `judge`: a question on standard input, one line on standard output. The capacity is 256. A question that does not fit the buffer
 // is longer than document 01 allows, and so is what is read of it.
 use report::print_verdict;
-use verdict::judge::judge;
+use verdict_judge::judge::judge;
 
 const CAPACITY: u64 = 256;
 

@@ -1,10 +1,10 @@
 // Runs check on the questions of standard input and writes one line for each. The first byte is their number; each stands behind its length
 // in two bytes, as the fields of a question do.
-use terms::bytes::get;
-use terms::check::Checked;
-use terms::check::check;
-use terms::frame::after_field;
-use terms::frame::field_at;
+use terms_bytes::bytes::get;
+use terms_bytes::frame::after_field;
+use terms_bytes::frame::field_at;
+use terms_checks::check::Checked;
+use terms_checks::check::check;
 
 fn write_answer(question: &[u8]) {
     let answer = check(question);

@@ -2,12 +2,12 @@
 // byte is the number of questions; each stands behind its length in two bytes, and begins with the side and the new name in one byte each.
 ghost use Prim.Native.Nat.{_≤_};
 use report::print_line;
-use steps::limits::STEP_BYTES;
-use steps::operation::StepsAnswer;
-use steps::operation::steps;
-use terms::bytes::get;
-use terms::frame::after_field;
-use terms::frame::field_at;
+use steps_entries::limits::STEP_BYTES;
+use steps_lister::operation::StepsAnswer;
+use steps_lister::operation::steps;
+use terms_bytes::bytes::get;
+use terms_bytes::frame::after_field;
+use terms_bytes::frame::field_at;
 
 const LISTING_BYTES: usize = 33792;
 

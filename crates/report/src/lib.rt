@@ -1,5 +1,5 @@
 // Answers as lines of standard output, as document 01 words them.
-use verdict::judge::Judged;
+use verdict_judge::judge::Judged;
 
 // A word, a number and a line feed.
 pub fn print_line(word: &[u8], n: u64) {

@@ -17,10 +17,10 @@ use Rattle.calculus.proofs.Working.{Trans}
 use Rattle.calculus.proofs.WorkingNames.{cond-free}
 use Rattle.calculus.proofs.PublishedBisimulation.{bound-ren}
 use Rattle.calculus.proofs.PublishedSteps.{act, fill, named, avoids-named, unname, name-it}
-use Rattle.candidates.specs.Raw.{Candidate, step, visible, silent as silentSteps}
-use Rattle.candidates.specs.Lists.{_∈_}
-use Rattle.candidates.proofs.Membership.{∈-left, ∈-right}
-use Rattle.candidates.proofs.Calls.{Opens}
+use Rattle.steps.specs.Raw.{Candidate, step, visible, silent as silentSteps}
+use Rattle.steps.specs.Lists.{_∈_}
+use Rattle.steps.proofs.Membership.{∈-left, ∈-right}
+use Rattle.steps.proofs.Calls.{Opens}
 use Rattle.steps.specs.Listed.{ListedStep, listedAs, canonStep, classesOf}
 use Rattle.steps.specs.Derived.{Derived}
 use Rattle.steps.proofs.ClassLists.{unmatched}

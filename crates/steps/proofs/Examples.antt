@@ -6,7 +6,7 @@ use lib.ListN.{length}
 use Rattle.calculus.specs.Cond.{join, cls}
 use Rattle.calculus.specs.Term.{Term, nil, tau, inp, out, bout, mat, sum, par, res, call}
 use Rattle.terms.specs.Encoding.{encode, nameByte}
-use Rattle.candidates.specs.Raw.{matching, leftSteps, rightSteps, meet, communication, communications, spares, sparesRestricted, outside, restrictedAction, restricted, visibleOf, silentOf, visibleCalls, silentCalls, visible, silent}
+use Rattle.steps.specs.Raw.{matching, leftSteps, rightSteps, meet, communication, communications, spares, sparesRestricted, outside, restrictedAction, restricted, visibleOf, silentOf, visibleCalls, silentCalls, visible, silent}
 use Rattle.steps.specs.Listed.{ListedStep, namesFrom, classesOf, kindOf, channelOf, objectOf, listedAs, canonStep, resultBytes, bytes}
 use Rattle.steps.specs.Listing.{order, insert, allFit, collect, Listing, unsettled, listed, limited, listing}
 

@@ -13,7 +13,7 @@ use Rattle.terms.specs.Limits.{longestTerm}
 use Rattle.terms.specs.Reading.{readTerm}
 use Rattle.terms.proofs.Answers.{result-injective}
 use Rattle.terms.proofs.ReadEncoded.{read-encoded}
-use Rattle.steps.specs.Entries.{Sized}
+use Rattle.steps.specs.Lists.{All}
 use Rattle.steps.specs.Limits.{stepBytes}
 use Rattle.steps.specs.Listed.{ListedStep, resultBytes, bytes}
 use Rattle.steps.specs.Operations.{listBytes}
@@ -77,7 +77,7 @@ pub step-size : (names longest : ℕ) (s : ListedStep) → length (s .classes) �
 step-size names longest s c h = omega (arith, step-length longest s)
 
 -- The bytes of a list of steps.
-pub length-listBytes : (ss : List ListedStep) → Sized ss → length (listBytes ss) ≡ length ss * stepBytes
+pub length-listBytes : (ss : List ListedStep) → All (λ s. length (bytes longestTerm s) ≡ stepBytes) ss → length (listBytes ss) ≡ length ss * stepBytes
 unfolding listBytes
 length-listBytes [] z = refl
 length-listBytes (s ∷ ss) z =

@@ -20,10 +20,10 @@ use Rattle.terms.specs.Limits.{nameCount, longestTerm}
 use Rattle.terms.specs.Question.{Question, checkOf}
 use Rattle.terms.proofs.Answers.{result-injective, bind-result, need-result, both-true}
 use Rattle.terms.proofs.WellFormed.{BodiesAllowed, PartAllowed, WellFormed, accepted-well-formed}
-use Rattle.candidates.specs.Bodies.{bodyOf}
-use Rattle.candidates.proofs.Calls.{Opens}
-use Rattle.candidates.proofs.QuestionDefinitions.{bodies-in-scope, opens-one}
-use Rattle.candidates.proofs.Scope.{CallsInScope, scope-calls}
+use Rattle.terms.specs.Question.{bodyOf}
+use Rattle.steps.proofs.Calls.{Opens}
+use Rattle.steps.proofs.QuestionDefinitions.{bodies-in-scope, opens-one}
+use Rattle.steps.proofs.Scope.{CallsInScope, scope-calls}
 use Rattle.steps.specs.Derived.{Derived, ListsExactly}
 use Rattle.steps.specs.Limits.{mostSteps, stepBytes}
 use Rattle.steps.specs.Listed.{ListedStep}

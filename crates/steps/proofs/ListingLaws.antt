@@ -18,11 +18,11 @@ use Rattle.calculus.proofs.Working.{Trans}
 use Rattle.calculus.proofs.WorkingNames.{resid-free}
 use Rattle.terms.specs.Encoding.{InScope}
 use Rattle.terms.proofs.ScopeLaws.{free-below}
-use Rattle.candidates.specs.Raw.{Candidate, step, blocked, visible, silent}
-use Rattle.candidates.specs.Lists.{_∈_, All, Distinct}
-use Rattle.candidates.proofs.Membership.{all-++, all-imp, all-∈, distinct-length}
-use Rattle.candidates.proofs.Calls.{Opens}
-use Rattle.candidates.proofs.Scope.{CallsInScope, scope-calls, in-scope, calls-ren, calls-residual}
+use Rattle.steps.specs.Raw.{Candidate, step, blocked, visible, silent}
+use Rattle.steps.specs.Lists.{_∈_, All, Distinct}
+use Rattle.steps.proofs.Membership.{all-++, all-imp, all-∈, distinct-length}
+use Rattle.steps.proofs.Calls.{Opens}
+use Rattle.steps.proofs.Scope.{CallsInScope, scope-calls, in-scope, calls-ren, calls-residual}
 use Rattle.steps.specs.Listed.{ListedStep, listedAs, canonStep, resultBytes, bytes}
 use Rattle.steps.specs.Listing.{collect, unsettled, listed, limited, listing}
 use Rattle.steps.specs.Derived.{Ascending, Derived, TooMany, TooLong, ListsExactly}

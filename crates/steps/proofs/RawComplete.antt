@@ -10,11 +10,11 @@ use Rattle.calculus.specs.Cond.{Cond, mapP, _~_}
 use Rattle.calculus.specs.Definitions.{Defs, opened}
 use Rattle.calculus.proofs.PublishedSteps.{cons-~, ++-~}
 use Rattle.calculus.proofs.Working.{renA, cross, Trans, t-tau, t-inp, t-out, t-bout, t-mat, t-sumL, t-sumR, t-parL, t-parR, t-comL, t-comR, t-closeL, t-closeR, t-res, t-open, t-call}
-use Rattle.candidates.specs.Raw.{Candidate, step, matching, leftSteps, rightSteps, meet, communication, communications, sparesRestricted, outside, restrictedAction, restricted, visibleOf, silentOf, visibleCalls, silentCalls, visible, silent}
-use Rattle.candidates.specs.Lists.{_∈_}
-use Rattle.candidates.proofs.Membership.{∈-left, ∈-right, ∈-map}
-use Rattle.candidates.proofs.Restriction.{outside-spares, outside-same}
-use Rattle.candidates.proofs.Calls.{Opens}
+use Rattle.steps.specs.Raw.{Candidate, step, matching, leftSteps, rightSteps, meet, communication, communications, sparesRestricted, outside, restrictedAction, restricted, visibleOf, silentOf, visibleCalls, silentCalls, visible, silent}
+use Rattle.steps.specs.Lists.{_∈_}
+use Rattle.steps.proofs.Membership.{∈-left, ∈-right, ∈-map}
+use Rattle.steps.proofs.Restriction.{outside-spares, outside-same}
+use Rattle.steps.proofs.Calls.{Opens}
 use Rattle.steps.proofs.RawSound.{body-opens}
 
 -- a step with this action and result, and a condition equivalent to this one

@@ -8,11 +8,11 @@ use Rattle.calculus.specs.Term.{Term, nil, tau, inp, out, bout, mat, sum, par, 
 use Rattle.calculus.specs.Cond.{Cond, mapP, _~_}
 use Rattle.calculus.specs.Definitions.{Defs, opened}
 use Rattle.calculus.proofs.Working.{Trans, t-tau, t-inp, t-out, t-bout, t-mat, t-sumL, t-sumR, t-parL, t-parR, t-comL, t-comR, t-closeL, t-closeR, t-res, t-open, t-call}
-use Rattle.candidates.specs.Raw.{Candidate, step, blocked, matching, leftSteps, rightSteps, meet, communication, communications, sparesRestricted, outside, restrictedAction, restricted, visibleOf, silentOf, visibleCalls, silentCalls, visible, silent}
-use Rattle.candidates.specs.Lists.{All}
-use Rattle.candidates.proofs.Membership.{all-++, all-imp, all-map}
-use Rattle.candidates.proofs.Restriction.{spared-alone, outside-~}
-use Rattle.candidates.proofs.Calls.{EachCall, CallOpens, Opens, opens-ren}
+use Rattle.steps.specs.Raw.{Candidate, step, blocked, matching, leftSteps, rightSteps, meet, communication, communications, sparesRestricted, outside, restrictedAction, restricted, visibleOf, silentOf, visibleCalls, silentCalls, visible, silent}
+use Rattle.steps.specs.Lists.{All}
+use Rattle.steps.proofs.Membership.{all-++, all-imp, all-map}
+use Rattle.steps.proofs.Restriction.{spared-alone, outside-~}
+use Rattle.steps.proofs.Calls.{EachCall, CallOpens, Opens, opens-ren}
 
 module _ (Δ : Defs) where
   abbrev pub Sound : Term → Candidate → Type 0

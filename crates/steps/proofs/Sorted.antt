@@ -7,15 +7,12 @@ use Prim.Native.Nat.{ℕ, Ordering, Ordering·lt, Ordering·eq, Ordering·gt}
 use Rattle.calculus.specs.Abstraction.{Act}
 use Rattle.calculus.specs.Term.{Term}
 use Rattle.calculus.specs.Cond.{Cond}
-use Rattle.candidates.specs.Raw.{Candidate, step, blocked}
-use Rattle.candidates.specs.Lists.{_∈_, All}
-use Rattle.candidates.proofs.Membership.{all-imp, all-∈}
-use Rattle.candidates.proofs.Premises.{never}
-use Rattle.steps.specs.Deciding.{decided, Again}
+use Rattle.steps.specs.Raw.{Candidate, step, blocked}
+use Rattle.steps.specs.Lists.{_∈_, All}
+use Rattle.steps.proofs.Membership.{all-imp, all-∈}
 use Rattle.steps.specs.Derived.{Ascending}
 use Rattle.steps.specs.Listed.{ListedStep, canonStep, bytes}
 use Rattle.steps.specs.Listing.{order, insert, collect}
-use Rattle.steps.proofs.DecidingLaws.{like-of, like-listed, outside-blocked}
 use Rattle.steps.proofs.ByteOrder.{Before, Says, ordered, before-irreflexive, before-trans, before-order, order-before}
 
 module _ (longest : ℕ) where
@@ -161,26 +158,3 @@ module _ (names longest x : ℕ) where
   collect-new (step N β Q ∷ cs) found M α P (inr m) = collect-new cs (insert longest (canonStep names x N β Q) found) M α P m
   collect-new (blocked ∷ cs) found M α P (inl e) = let z : _≡_ {A = ℕ} 0 1 = cc in absurd (omega arith)
   collect-new (blocked ∷ cs) found M α P (inr m) = collect-new cs found M α P m
-
-  -- Candidates that were put in before change nothing.
-  there : (ds : List Candidate) (found : List ListedStep) → Sorted longest found
-      → ((c : Candidate) → c ∈ ds → OfCandidate (λ s. HasBytes longest s found) c) → collect names longest x ds found ≡ found
-  unfolding collect
-  there [] found a h = refl
-  there (step M α P ∷ ds) found a h =
-      ap (collect names longest x ds) (insert-there longest (canonStep names x M α P) found a (h (step M α P) (inl refl)))
-      ∙ there ds found a (λ c m. h c (inr m))
-  there (blocked ∷ ds) found a h = there ds found a (λ c m. h c (inr m))
-
-  pub collect-there : (cs ds : List Candidate) (found : List ListedStep) → Sorted longest found → ((c : Candidate) → c ∈ ds → Again 0 c cs)
-      → collect names longest x ds (collect names longest x cs found) ≡ collect names longest x cs found
-  unfolding Again
-  collect-there cs ds found a h = there ds (collect names longest x cs found) (collect-sorted cs found a) (λ c m. go c (h c m))
-    where
-      go : (c : Candidate) → (decided 0 c ≡ blocked) ⊎ ((b : Candidate) × (b ∈ cs) × (decided 0 c ≡ decided 0 b)) → OfCandidate (λ s. HasBytes longest s (collect names longest x cs found)) c
-      go (step M α P) (inl e) = never M α P (sym (outside-blocked (step M α P) e))
-      go (step M α P) (inr (b, m, e)) =
-          let l = like-of b M α P (sym e) in
-          subst (λ s. HasBytes longest s (collect names longest x cs found)) (like-listed names x (l .condition) M (l .same) α P)
-          (collect-new cs found (l .condition) α P (subst (λ c. c ∈ cs) (l .is) m))
-      go blocked h = tt

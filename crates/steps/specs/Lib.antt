@@ -1,20 +1,15 @@
-pub mod Answering
-pub mod Arranging
-pub mod Collecting
-pub mod Contexts
-pub mod Deciding
-pub mod Derived
-pub mod Entries
-pub mod EntryBytes
+-- The steps of a part and their list, in reading order.
+-- members of a list
+pub mod Lists
+-- the most steps, and the bytes of one
 pub mod Limits
+-- the candidates of a term by Table 4.1
+pub mod Raw
+-- a step as it is listed
 pub mod Listed
+-- the list: order, duplicates, limits
 pub mod Listing
-pub mod Locating
-pub mod Meeting
-pub mod Merging
+-- what the list must be: the steps that Table 4.1 with Canon derives
+pub mod Derived
+-- what listing answers and leaves in its area
 pub mod Operations
-pub mod PartLister
-pub mod Renewed
-pub mod Rows
-pub mod Same
-pub mod Walking

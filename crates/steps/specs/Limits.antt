@@ -8,10 +8,3 @@ mostSteps = 256
 -- the bytes of a listed step
 abbrev pub stepBytes : ℕ
 stepBytes = 132
-
--- A list is made in an area that has, behind as many steps, an index: a byte for each.
-abbrev pub indexPlace : ℕ
-indexPlace = 33792
-
-abbrev pub listRoom : ℕ
-listRoom = 34048

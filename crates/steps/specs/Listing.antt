@@ -6,8 +6,8 @@ use lib.ListN.{length}
 use lib.Dec.{leb}
 use Rattle.calculus.specs.Term.{Term}
 use Rattle.terms.specs.Limits.{nameCount, longestTerm}
-use Rattle.candidates.specs.Bodies.{bodyOf}
-use Rattle.candidates.specs.Raw.{Candidate, step, blocked, visible, silent}
+use Rattle.terms.specs.Question.{bodyOf}
+use Rattle.steps.specs.Raw.{Candidate, step, blocked, visible, silent}
 use Rattle.steps.specs.Limits.{mostSteps}
 use Rattle.steps.specs.Listed.{ListedStep, canonStep, resultBytes, bytes}
 

@@ -8,18 +8,7 @@ use Rattle.terms.specs.Answer.{Answer, refused, result, _>>=_, _>>_, nee
 use Rattle.terms.specs.Encoding.{encode, nameByte}
 use Rattle.terms.specs.Framing.{cut, field, fields, framed, sized, allSized, joined}
 use Rattle.terms.specs.Grammar.{sequential, parallelOutermost, guarded}
-use Rattle.terms.specs.Operations.{
-  checkAnswer,
-  holdsApart,
-  mergedQuestion,
-  merged,
-  besideQuestion,
-  fitsBeside,
-  placedBeside,
-  writtenWithin,
-  mergeOf,
-  besideOf,
-}
+use Rattle.terms.specs.Operations.{checkAnswer, holdsApart, mergedQuestion, merged, besideQuestion, fitsBeside, placedBeside, writtenWithin, mergeOf, besideOf}
 use Rattle.terms.specs.Question.{all, version, fits, readBodies, readPart, differentNames, readPairs, readApart, checkTerms, checkFields, checkOf, bodyFields, pairBytes, fieldsOf, write}
 use Rattle.terms.specs.Reading.{byte, readName, readNames, tagOf, readTerm, readWhole}
 

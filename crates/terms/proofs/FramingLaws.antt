@@ -42,7 +42,6 @@ bytes-by-place [] h = tt
 bytes-by-place (b ∷ bs) h = (h zero, bytes-by-place bs (λ i. h (suc i)))
 
 -- What was cut stood there.
-
 pub cut-out : (n : ℕ) (bs : List ℕ) (r : List ℕ × List ℕ) → cut n bs ≡ result r → (bs ≡ r .0 ++ r .1) × (length (r .0) ≡ n)
 unfolding cut
 cut-out n bs r e = go (leb n (length bs)) refl
@@ -95,7 +94,6 @@ fields-count (suc n) bs r e =
     rw (← result-injective {a = (t .0 .0 ∷ u .0 .0, u .0 .1)} (u .2)) (ap suc (fields-count n (t .0 .1) (u .0) (u .1)))
 
 -- What stands there is cut out.
-
 pub cut-in : (xs ys : List ℕ) → cut (length xs) (xs ++ ys) ≡ result (xs, ys)
 unfolding cut
 cut-in xs ys = rw (le-leb (length xs) (length (xs ++ ys)) (omega (arith, length-append xs ys)), take-append-seam, drop-append-seam)
@@ -113,7 +111,6 @@ fields-in (f ∷ fs) ys h =
     rw append-assoc (bind-to _ (field-in f (allSized fs ++ ys) (h .0)) ∙ bind-to _ (fields-in fs ys (h .1)))
 
 -- A whole question behind its version byte, in two stages: the arities and bodies, then the last three fields.
-
 lastFields : List ℕ → List (List ℕ) → List ℕ → Answer Fields
 lastFields arities bodies bs = do
   (first, bs) ← field bs

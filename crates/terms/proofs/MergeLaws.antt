@@ -19,7 +19,7 @@ use Rattle.terms.specs.Operations.{holdsApart, mergedQuestion, merged}
 use Rattle.terms.specs.Question.{Question, checkOf, pairBytes, write}
 use Rattle.terms.proofs.Answers.{Every, result-injective, bind-result, need-result, both-true}
 use Rattle.terms.proofs.RenamingKeeps.{scope-ren, outermost-ren}
-use Rattle.terms.proofs.Shapes.{length-ren}
+use Rattle.terms.proofs.RenamingKeeps.{length-ren}
 use Rattle.terms.proofs.WellFormed.{PartAllowed, PairAllowed, WellFormed, accepted-well-formed, well-formed-accepted}
 
 pub join-below : (free a b n : ℕ) → a < free → b < free → n < free → join a b n < free

@@ -8,6 +8,9 @@ use lib.ListN.{length, length-map}
 use Rattle.calculus.specs.Term.{Term, nil, tau, inp, out, bout, mat, sum, par, res, call, ren, lift}
 use Rattle.terms.specs.Encoding.{NamesInScope, InScope}
 use Rattle.terms.specs.Grammar.{sequential, parallelOutermost, guarded}
+use mathlib.Core.Path.{ap}
+use lib.ListN.{length-append}
+use Rattle.terms.specs.Encoding.{encode}
 
 -- ρ takes the names of a term under d binders to names of a term under d′ binders.
 abbrev pub Keeps : ℕ → ℕ → ℕ → ℕ → (ℕ → ℕ) → Type 0
@@ -76,3 +79,16 @@ guarded-ren ρ (sum P Q) = ap₂ _&&_ (guarded-ren ρ P) (guarded-ren ρ Q)
 guarded-ren ρ (par P Q) = ap₂ _&&_ (guarded-ren ρ P) (guarded-ren ρ Q)
 guarded-ren ρ (res P) = guarded-ren (lift ρ) P
 guarded-ren ρ (call k ns) = refl
+
+pub length-ren : (d d′ : ℕ) (ρ : ℕ → ℕ) (P : Term) → length (encode d′ (ren ρ P)) ≡ length (encode d P)
+unfolding encode
+length-ren d d′ ρ nil = refl
+length-ren d d′ ρ (tau P) = ap suc (length-ren d d′ ρ P)
+length-ren d d′ ρ (inp a P) = ap (λ (k : ℕ). suc (suc k)) (length-ren (1 + d) (1 + d′) (lift ρ) P)
+length-ren d d′ ρ (out a b P) = ap (λ (k : ℕ). suc (suc (suc k))) (length-ren d d′ ρ P)
+length-ren d d′ ρ (bout a P) = ap (λ (k : ℕ). suc (suc k)) (length-ren (1 + d) (1 + d′) (lift ρ) P)
+length-ren d d′ ρ (mat a b P) = ap (λ (k : ℕ). suc (suc (suc k))) (length-ren d d′ ρ P)
+length-ren d d′ ρ (sum P Q) = ap suc (simp length-append (ap₂ _+_ (length-ren d d′ ρ P) (length-ren d d′ ρ Q)))
+length-ren d d′ ρ (par P Q) = ap suc (simp length-append (ap₂ _+_ (length-ren d d′ ρ P) (length-ren d d′ ρ Q)))
+length-ren d d′ ρ (res P) = ap suc (length-ren (1 + d) (1 + d′) (lift ρ) P)
+length-ren d d′ ρ (call k ns) = ap (λ (k : ℕ). suc (suc k)) (simp length-map)

@@ -57,7 +57,6 @@ pub record WellFormed (q : Question) : Type 0 where
   pub apartSize : length (pairBytes (q .apart)) ≤ longestApart
 
 -- An accepted body or part.
-
 fits-size : (bs : List ℕ) → fits bs ≡ true → (1 ≤ length bs) × (length bs ≤ longestTerm)
 unfolding fits
 fits-size bs e =
@@ -107,7 +106,6 @@ bodies-allowed arities [] [] Ps l f =
 bodies-allowed arities [] (b ∷ bs) Ps l f = absurd (omega arith)
 
 -- An accepted apart list.
-
 pairs-allowed : (bs : List ℕ) (D : Pairs) → readPairs bs ≡ result D → (bs ≡ pairBytes D) × Every PairAllowed D
 unfolding readPairs differentNames pairBytes Every
 pairs-allowed [] D e = let q : _≡_ {A = Pairs} [] D = result-injective e in rw (← q) (refl, tt)
@@ -140,7 +138,6 @@ unfolding readPairs _>>=_
 pairs-read D h = rw (append-nil (pairBytes D), append-nil D) at (pairs-read-before D [] h)
 
 -- What was accepted: the question is well-formed, and its bytes are those written.
-
 module _ (f : Fields) (bodies : List Term) (first second : Term) (apart : Pairs) where
   abbrev madeOf : Question
   madeOf = record { arities = f .arities; bodies = bodies; first = first; second = second; apart = apart }
@@ -235,7 +232,6 @@ accepted-written bs q h e =
     ap (λ f. 1 ∷ behindVersion f) (sym (accepted-fields bs q s .1)) ∙ sym (s .versionByte ∙ ap (λ m. 1 ∷ m) w)
 
 -- Every well-formed question is accepted.
-
 allowed-size : (arities sizes : List ℕ) (Ps : List Term) → BodiesAllowed arities sizes Ps →
     length (allSized (bodyFields sizes Ps)) ≤ (longestTerm + 2) * length sizes
 unfolding BodiesAllowed bodyFields allSized sized

@@ -1,16 +1,17 @@
-pub mod Answer
-pub mod Checking
-pub mod Encoding
-pub mod FieldPlaces
-pub mod Framing
-pub mod FreeFlags
-pub mod Grammar
+-- The bytes of a question and the operations on them, in reading order.
+-- the limits of document 01
 pub mod Limits
-pub mod NameTable
-pub mod Operations
-pub mod Question
+-- a refusal by a check's number, or a result
+pub mod Answer
+-- the bytes of a term, and names in scope
+pub mod Encoding
+-- a term read from its bytes: checks 7, 8 and 9
 pub mod Reading
-pub mod Renaming
-pub mod Scanning
-pub mod Shape
-pub mod Writing
+-- checks 10 and 11
+pub mod Grammar
+-- the fields of a question: checks 3 to 6
+pub mod Framing
+-- a question, all of its checks, and its writing
+pub mod Question
+-- merge, beside and declaring
+pub mod Operations

@@ -1,13 +1,9 @@
 -- The limits of document 01, each under its name. Whatever can be said over any number of names or bytes takes it as a parameter.
-use Prim.Native.Nat.{ℕ, _+_}
+use Prim.Native.Nat.{ℕ}
 
 -- The free names of a part are 00 to 0F.
 abbrev pub nameCount : ℕ
 nameCount = 16
-
--- A table of names has room for those, and for one more that stands for a step's new name until it is chosen.
-abbrev pub tableNames : ℕ
-tableNames = nameCount + 1
 
 -- Check 4.
 abbrev pub longestQuestion : ℕ

@@ -12,6 +12,8 @@ use Rattle.terms.specs.Encoding.{encode}
 use Rattle.terms.specs.Reading.{readWhole}
 use Rattle.terms.specs.Grammar.{sequential, parallelOutermost, guarded}
 use Rattle.terms.specs.Framing.{Fields, framed, joined}
+use lib.ListN.{getD}
+use Rattle.calculus.specs.Term.{nil}
 
 -- Document 01 calls its two terms the parts, and the pairs of names that are never equal the apart list.
 pub record Question : Type 0 where
@@ -111,3 +113,7 @@ fieldsOf q =
 
 unfoldable pub write : Question → List ℕ
 write q = joined (fieldsOf q)
+
+-- the body of definition k (from 0)
+unfoldable pub bodyOf : List Term → ℕ → Term
+bodyOf bodies k = getD bodies k nil

@@ -13,7 +13,7 @@ use Rattle.calculus.specs.OpenBisimulation.{update, Related}
 use Rattle.calculus.proofs.Distinctions.{apart-at}
 use Rattle.calculus.proofs.PublishedBisimulation.{AwayFrom, bound-ren}
 use Rattle.calculus.proofs.Theorems.{related-sym, related-answered}
-use Rattle.candidates.specs.Lists.{_∈_}
+use Rattle.steps.specs.Lists.{_∈_}
 use Rattle.field.specs.Setting.{Setting}
 use Rattle.field.specs.Situation.{Situation, situation}
 use Rattle.field.specs.Exploration.{Row}

@@ -8,7 +8,7 @@ use native.Mathlib.Omega.{arith}
 use lib.ListN.{length, length-map}
 use Rattle.calculus.specs.Definitions.{Defs}
 use Rattle.calculus.specs.OpenBisimulation.{Related}
-use Rattle.candidates.specs.Lists.{_∈_, Distinct}
+use Rattle.steps.specs.Lists.{_∈_, Distinct}
 use Rattle.field.specs.Setting.{Setting}
 use Rattle.field.specs.Situation.{Situation}
 use Rattle.field.specs.Exploration.{found, Row, Exploration, incomplete, explored, fieldOf}
@@ -16,7 +16,8 @@ use Rattle.field.specs.Field.{InField, PastLimit, FieldSize}
 use Rattle.field.proofs.Explored.{explored-length, explored-within, explored-past}
 use Rattle.field.proofs.FieldIsSmallest.{field-is-smallest, incomplete-iff-past}
 use Rattle.field.proofs.Link.{SettingFor}
-use Rattle.field.proofs.Proper.{Proper, same-equal}
+use Rattle.field.specs.Situation.{Proper}
+use Rattle.field.proofs.Proper.{same-equal}
 use Rattle.field.proofs.Reached.{at-start}
 use Rattle.field.proofs.Run.{selves}
 use Rattle.field.proofs.Unseen.{∈-found}

@@ -3,8 +3,8 @@ use mathlib.Core.Path.{_≡_}
 use mathlib.Core.List.{List}
 use Prim.Native.Nat.{ℕ}
 use Rattle.calculus.specs.Definitions.{Defs}
-use Rattle.candidates.specs.Lists.{_∈_}
-use Rattle.candidates.proofs.Membership.{all-∈}
+use Rattle.steps.specs.Lists.{_∈_}
+use Rattle.steps.proofs.Membership.{all-∈}
 use Rattle.field.specs.Setting.{Setting}
 use Rattle.field.specs.Situation.{Situation}
 use Rattle.field.specs.Successors.{leads, successors}
@@ -12,7 +12,7 @@ use Rattle.field.specs.Exploration.{Row, explored, fieldOf}
 use Rattle.field.proofs.Explored.{Rows, explored-all}
 use Rattle.field.proofs.FieldIsSmallest.{invariant}
 use Rattle.field.proofs.Link.{SettingFor, LeadsExactly}
-use Rattle.field.proofs.Proper.{Proper}
+use Rattle.field.specs.Situation.{Proper}
 use Rattle.field.proofs.Reached.{Reached, onward, reached-good}
 use Rattle.field.proofs.Run.{selves}
 use Rattle.field.proofs.SuccessorsLinked.{successors-linked}

@@ -6,7 +6,7 @@ use Rattle.calculus.specs.Definitions.{Defs}
 use Rattle.terms.specs.Answer.{result}
 use Rattle.terms.specs.Question.{Question, checkOf}
 use Rattle.terms.proofs.WellFormed.{BodiesAllowed, accepted-well-formed, accepted-once}
-use Rattle.candidates.proofs.QuestionDefinitions.{definitions}
+use Rattle.steps.proofs.QuestionDefinitions.{definitions}
 use Rattle.verdict.specs.Entries.{Defines, RelatedParts}
 use Rattle.verdict.specs.Verdict.{same, different, verdictOf}
 use Rattle.verdict.proofs.VerdictIsDefinition13.{same-is-related, different-is-unrelated}

@@ -11,14 +11,15 @@ use Rattle.calculus.proofs.Renaming.{ren-id}
 use Rattle.calculus.proofs.UpToRenaming.{Cl}
 use Rattle.calculus.proofs.PublishedBisimulation.{AwayFrom, SearchBisimulation}
 use Rattle.calculus.proofs.Theorems.{related-any-fresh}
-use Rattle.candidates.specs.Lists.{_∈_}
+use Rattle.steps.specs.Lists.{_∈_}
 use Rattle.field.specs.Setting.{Setting}
 use Rattle.field.specs.Situation.{Situation, situation, newName}
 use Rattle.field.specs.Exploration.{Row}
 use Rattle.field.specs.Field.{fresh, Move}
 use Rattle.field.proofs.Link.{firstMoves, secondMoves, ResultOf, ListOf}
 use Rattle.field.proofs.NewNames.{new-away}
-use Rattle.field.proofs.Proper.{Proper, situation-apart, same-equal}
+use Rattle.field.specs.Situation.{Proper}
+use Rattle.field.proofs.Proper.{situation-apart, same-equal}
 use Rattle.field.proofs.Run.{selves}
 use Rattle.verdict.proofs.Rounds.{survivors, of-selves, survivor-row, survivor-in, survivors-answer}
 use Rattle.verdict.proofs.FieldRows.{FieldRows, good-rows}

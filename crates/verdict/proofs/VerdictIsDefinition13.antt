@@ -15,7 +15,8 @@ use Rattle.field.specs.Field.{PastLimit, FieldSize}
 use Rattle.field.specs.Setting.{settingOf}
 use Rattle.field.specs.Situation.{situation, startOf}
 use Rattle.field.proofs.Link.{SettingFor}
-use Rattle.field.proofs.Proper.{Proper, either-below, related-situation}
+use Rattle.field.specs.Situation.{Proper}
+use Rattle.field.proofs.Proper.{either-below, related-situation}
 use Rattle.field.proofs.QuestionField.{question-setting, start-proper}
 use Rattle.verdict.specs.Entries.{Defines}
 use Rattle.verdict.specs.Verdict.{Numbered, unsettled, same, different, verdictOf}

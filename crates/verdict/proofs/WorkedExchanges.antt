@@ -14,8 +14,8 @@ use Rattle.terms.specs.Grammar.{sequential, parallelOutermost, guarded}
 use Rattle.terms.specs.Operations.{holdsApart}
 use Rattle.terms.specs.Question.{all, fits, readBodies, readPart, readApart, differentNames, readPairs, version, checkTerms, checkFields, checkOf, bodyFields, pairBytes, fieldsOf, write}
 use Rattle.terms.specs.Reading.{byte, readName, readNames, tagOf, readTerm, readWhole}
-use Rattle.candidates.specs.Bodies.{bodyOf}
-use Rattle.candidates.specs.Raw.{matching, leftSteps, rightSteps, meet, communication, communications, spares, sparesRestricted, outside, restrictedAction, restricted, visibleOf, silentOf, visibleCalls, silentCalls, visible, silent}
+use Rattle.terms.specs.Question.{bodyOf}
+use Rattle.steps.specs.Raw.{matching, leftSteps, rightSteps, meet, communication, communications, spares, sparesRestricted, outside, restrictedAction, restricted, visibleOf, silentOf, visibleCalls, silentCalls, visible, silent}
 use Rattle.steps.specs.Listed.{namesFrom, classesOf, classIn, kindOf, channelOf, objectOf, listedAs, canonStep, resultBytes, bytes}
 use Rattle.steps.specs.Listing.{order, insert, allFit, collect, limited, listing}
 use Rattle.field.specs.Setting.{settingOf, stepsIn}

@@ -9,7 +9,7 @@ use Rattle.terms.specs.Answer.{Answer, refused, result, _>>=_}
 use Rattle.terms.specs.Framing.{joined}
 use Rattle.terms.specs.Operations.{mergeOf, besideOf, declaredFields}
 use Rattle.terms.specs.Question.{Question, checkOf, fieldsOf}
-use Rattle.candidates.specs.Bodies.{bodyOf}
+use Rattle.terms.specs.Question.{bodyOf}
 use Rattle.verdict.specs.Promises.{MergeIs, BesideIs, JudgeIs}
 
 -- Δ is the question's definitions

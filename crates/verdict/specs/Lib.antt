@@ -1,9 +1,13 @@
-pub mod Demand
-pub mod Entries
-pub mod Judge
-pub mod Judging
-pub mod Notes
-pub mod Outcome
-pub mod Promises
-pub mod Striking
+-- The verdict, the promises and the demands, in reading order.
+-- the verdict of a question
 pub mod Verdict
+-- what judge answers and leaves in its work area
+pub mod Judge
+-- answers as numbers over the C boundary
+pub mod Outcome
+-- what the five operations promise
+pub mod Promises
+-- a list of changes: entries and the question at hand
+pub mod Entries
+-- demand 3 as one claim about a whole list
+pub mod Demand

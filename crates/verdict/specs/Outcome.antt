@@ -2,8 +2,9 @@
 use mathlib.Core.Path.{_≡_}
 use Prim.Native.Nat.{ℕ, _+_, _*_, _<_}
 use Rattle.terms.specs.Answer.{Answer, refused, result}
-use Rattle.steps.specs.declared.operation.StepsAnswer.{StepsAnswer}
-use Rattle.steps.specs.declared.operation.StepsAnswer.the-variants.{Refused, Unsettled, Count}
+use lib.ListN.{length}
+use Rattle.steps.specs.Listing.{Listing, listed}
+use Rattle.steps.specs.Listing.{unsettled as unsettledListing}
 use Rattle.verdict.specs.Verdict.{Verdict, unsettled, same, different}
 
 -- A result, a refusal by the number of its check, or a verdict.
@@ -46,10 +47,10 @@ ofNumber (refused k) = turnedBack k
 ofNumber (result n) = gave n
 
 -- listing answers the count of steps
-unfoldable pub ofSteps : StepsAnswer → Outcome
-ofSteps (Refused k) = turnedBack k
-ofSteps Unsettled = unsettledOutcome
-ofSteps (Count n) = gave n
+unfoldable pub ofListing : Answer Listing → Outcome
+ofListing (refused k) = turnedBack k
+ofListing (result unsettledListing) = unsettledOutcome
+ofListing (result (listed ss)) = gave (length ss)
 
 -- judge answers its verdict and n
 unfoldable pub ofVerdict : Answer Verdict → Outcome

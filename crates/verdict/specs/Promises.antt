@@ -4,17 +4,16 @@ use mathlib.Core.List.{List}
 use Prim.Native.Nat.{ℕ}
 use lib.ListN.{length}
 use Rattle.terms.specs.Operations.{checkAnswer, mergeOf, besideOf, lengthWritten, areaAfter}
-use Rattle.steps.specs.Answering.{stepsAnswer}
 use Rattle.steps.specs.Operations.{listOf}
 use Rattle.steps.specs.Operations.{areaAfter as listingAfter}
 use Rattle.verdict.specs.Judge.{judgeOf, workAfter}
-use Rattle.verdict.specs.Outcome.{codeOf, ofNumber, ofSteps, ofVerdict}
+use Rattle.verdict.specs.Outcome.{codeOf, ofNumber, ofListing, ofVerdict}
 
 pub record CheckIs (question : List ℕ) (r : ℕ) : Type 0 where
   pub answer : r ≡ codeOf (ofNumber (checkAnswer question))
 
 pub record StepsIs (question : List ℕ) (side name : ℕ) (area : List ℕ) (r : ℕ) (after : List ℕ) : Type 0 where
-  pub answer : r ≡ codeOf (ofSteps (stepsAnswer (listOf question side name (length area))))
+  pub answer : r ≡ codeOf (ofListing (listOf question side name (length area)))
   pub left : after ≡ listingAfter (listOf question side name (length area)) area
 
 pub record MergeIs (question : List ℕ) (a b : ℕ) (area : List ℕ) (r : ℕ) (after : List ℕ) : Type 0 where

@@ -1,4 +1,1 @@
-// The verdict.
-pub mod judge;
-pub mod relied;
-pub mod strike;
+// The verdict, the promises of the operations and the three demands: definitions and theorems.

@@ -1,10 +1,10 @@
 // Judges the questions of standard input and writes one line for each. The first byte is their number; each stands behind its length in two
 // bytes, and begins with its capacity in two bytes.
 use report::print_verdict;
-use terms::bytes::get;
-use terms::frame::after_field;
-use terms::frame::field_at;
-use verdict::judge::judge;
+use terms_bytes::bytes::get;
+use terms_bytes::frame::after_field;
+use terms_bytes::frame::field_at;
+use verdict_judge::judge::judge;
 
 fn write_answer(input: &[u8], work: &mut [u8]) {
     if input.len() < 2 {

@@ -1,6 +1,6 @@
 -- `exchange::checked_code` meets its contract. Assumes nothing.
 use mathlib.Core.Path.{sym, _∙_, ap}
-use Rattle.terms.specs.Checking.{checkedAnswer}
+use Rattle.terms_checks.specs.Checking.{checkedAnswer}
 use Rattle.verdict.specs.Outcome.{codeOf, ofNumber}
 use borrow.Author.Needs.{needs}
 use Rattle.exchange.proofs.checked_code.Statement.{statement}

@@ -16,7 +16,9 @@ same-length : tie.Need-same-length
 same-length c = search needs
 
 returns : tie.Need-returns
-returns c = record { answer = c .judged-code .ensures ∙ ap (λ m. codeOf (ofVerdict m)) (c .before .before .before .judge .ensures .answer); left = c .before .before .before .judge .ensures .left }
+returns c =
+    let c3 = c .before .before .before in
+    record { answer = c .judged-code .ensures ∙ ap (λ m. codeOf (ofVerdict m)) (c3 .judge .ensures .answer); left = c3 .judge .ensures .left }
 
 pub exchange-judge-spec : {M : Type 1} → statement M
 exchange-judge-spec = tie.close (tie.spec judge-requires judged-code-requires same-length returns)

@@ -15,7 +15,9 @@ same-length : tie.Need-same-length
 same-length c = search needs
 
 returns : tie.Need-returns
-returns c = record { answer = c .written-code .ensures ∙ ap (λ m. codeOf (ofNumber m)) (c .before .before .before .merge .ensures .answer); left = c .before .before .before .merge .ensures .left }
+returns c =
+    let c3 = c .before .before .before in
+    record { answer = c .written-code .ensures ∙ ap (λ m. codeOf (ofNumber m)) (c3 .merge .ensures .answer); left = c3 .merge .ensures .left }
 
 pub exchange-merge-spec : {M : Type 1} → statement M
 exchange-merge-spec = tie.close (tie.spec merge-requires written-code-requires same-length returns)

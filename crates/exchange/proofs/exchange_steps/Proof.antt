@@ -1,6 +1,8 @@
 -- `exchange::exchange_steps` meets its contract. Assumes nothing.
 use mathlib.Core.Path.{_∙_, ap}
-use Rattle.verdict.specs.Outcome.{codeOf, ofSteps}
+use Rattle.verdict.specs.Outcome.{codeOf}
+use Rattle.exchange.specs.Listed.{ofSteps}
+use Rattle.exchange.proofs.ListedLaws.{of-steps}
 use borrow.Author.Needs.{needs}
 use Rattle.exchange.proofs.exchange_steps.Statement.{statement}
 use Rattle.exchange.proofs.exchange_steps.Tie as tie
@@ -15,7 +17,13 @@ same-length : tie.Need-same-length
 same-length c = search needs
 
 returns : tie.Need-returns
-returns c = record { answer = c .listed-code .ensures ∙ ap (λ a. codeOf (ofSteps a)) (c .before .before .before .steps .ensures .answer); left = c .before .before .before .steps .ensures .left }
+returns c =
+    let c3 = c .before .before .before in
+    record {
+      answer = c .listed-code .ensures ∙ ap (λ a. codeOf (ofSteps a)) (c3 .steps .ensures .answer) ∙ ap codeOf (of-steps _);
+      left =
+          c3 .steps .ensures .left;
+    }
 
 pub exchange-steps-spec : {M : Type 1} → statement M
 exchange-steps-spec = tie.close (tie.spec steps-requires listed-code-requires same-length returns)

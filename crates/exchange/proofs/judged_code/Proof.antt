@@ -1,6 +1,6 @@
 -- `exchange::judged_code` meets its contract. Assumes nothing.
 use mathlib.Core.Path.{sym, _∙_, ap, subst}
-use Rattle.verdict.specs.Judging.{judgedAnswer}
+use Rattle.verdict_judge.specs.Judging.{judgedAnswer}
 use Rattle.verdict.specs.Outcome.{codeOf, ofVerdict, Small}
 use borrow.Author.Needs.{needs}
 use Rattle.exchange.proofs.judged_code.Statement.{statement}

@@ -1,6 +1,7 @@
 -- `exchange::listed_code` meets its contract. Assumes nothing.
 use mathlib.Core.Path.{sym, _∙_, ap}
-use Rattle.verdict.specs.Outcome.{codeOf, ofSteps}
+use Rattle.verdict.specs.Outcome.{codeOf}
+use Rattle.exchange.specs.Listed.{ofSteps}
 use borrow.Author.Needs.{needs}
 use Rattle.exchange.proofs.listed_code.Statement.{statement}
 use Rattle.exchange.proofs.listed_code.Tie as tie

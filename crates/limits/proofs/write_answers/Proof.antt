@@ -7,8 +7,8 @@ use Rattle.limits.proofs.write_answers.Tie as tie
 use Rattle.limits.proofs.write_answers.Reads as reads
 use Rattle.limits.proofs.write_answers.Lts as lts
 use Rattle.limits.proofs.write_answer.Reads as write-answer-reads
-use Rattle.terms.proofs.frame.after_field.Reads as after-field-reads
-use Rattle.terms.proofs.frame.field_at.Reads as field-at-reads
+use Rattle.terms_bytes.proofs.frame.after_field.Reads as after-field-reads
+use Rattle.terms_bytes.proofs.frame.field_at.Reads as field-at-reads
 
 abbrev Inv-loop : tie.InvT-loop
 Inv-loop input count at₀ i₀ at i = i ≤ count

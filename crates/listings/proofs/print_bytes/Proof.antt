@@ -7,7 +7,7 @@ use Rattle.listings.proofs.print_bytes.Reads as reads
 use Rattle.listings.proofs.print_bytes.Lts as lts
 use Rattle.io.proofs.print_hex.Reads as print-hex-reads
 use Rattle.io.proofs.write_all.Reads as write-all-reads
-use Rattle.terms.proofs.bytes.get.Reads as get-reads
+use Rattle.terms_bytes.proofs.bytes.get.Reads as get-reads
 
 abbrev Inv-loop : tie.InvT-loop
 Inv-loop area from n i₀ t5 i = i ≤ n

@@ -6,7 +6,7 @@ use Rattle.listings.proofs.print_steps.Tie as tie
 use Rattle.listings.proofs.print_steps.Reads as reads
 use Rattle.listings.proofs.print_steps.Lts as lts
 use Rattle.listings.proofs.print_bytes.Reads as print-bytes-reads
-use Rattle.terms.proofs.bytes.get.Reads as get-reads
+use Rattle.terms_bytes.proofs.bytes.get.Reads as get-reads
 
 abbrev Inv-loop : tie.InvT-loop
 Inv-loop area count i₀ i = i ≤ count

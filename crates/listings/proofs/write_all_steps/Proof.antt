@@ -6,8 +6,8 @@ use Rattle.listings.proofs.write_all_steps.Tie as tie
 use Rattle.listings.proofs.write_all_steps.Reads as reads
 use Rattle.listings.proofs.write_all_steps.Lts as lts
 use Rattle.listings.proofs.write_steps.Reads as write-steps-reads
-use Rattle.terms.proofs.frame.after_field.Reads as after-field-reads
-use Rattle.terms.proofs.frame.field_at.Reads as field-at-reads
+use Rattle.terms_bytes.proofs.frame.after_field.Reads as after-field-reads
+use Rattle.terms_bytes.proofs.frame.field_at.Reads as field-at-reads
 
 abbrev Inv-loop : tie.InvT-loop
 Inv-loop input count at₀ i₀ at i = i ≤ count

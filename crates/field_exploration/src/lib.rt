@@ -1,0 +1,2 @@
+// The field is explored.
+pub mod explore;

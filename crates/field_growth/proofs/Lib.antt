@@ -1,0 +1,6 @@
+pub mod GrowingLaws
+pub mod GrownSituations
+pub mod KeysDiffer
+pub mod Loops
+mod MirroredLaws
+pub mod SlotWriting

@@ -1,0 +1,268 @@
+// Moved from explore.
+ghost use mathlib.Core.Path.{_≡_};
+ghost use Prim.Native.Nat.{_+_, _*_, _<_, _≤_};
+ghost use lib.ListN.{length};
+ghost use Rattle.steps.specs.Limits.{stepBytes, mostSteps};
+ghost use Rattle.field_slots.specs.Chains.{LinkIs};
+ghost use Rattle.field_growth.specs.Growing.{slotWith, joined, AddedIs, AnswerIs, AnswersAre, FirstAnswerIs, GrowsStep};
+ghost use Rattle.field_pairs.specs.Slot.{keyBytes, slotBytes};
+use field_pairs::entries::answers;
+use field_pairs::entries::same_header;
+use field_pairs::entries::trivial;
+use field_pairs::pairs::PAIR_COUNT;
+use field_pairs::pairs::permitted;
+use field_slots::chains::find_chained;
+use field_slots::chains::link;
+use field_slots::find::Found;
+use field_slots::find::KEY_BYTES;
+use field_slots::find::SLOT_BYTES;
+use field_slots::find::left_at;
+use field_slots::notes::note_sole;
+use field_successors::results::successor;
+use steps_entries::limits::STEP_BYTES;
+use terms_bytes::bytes::copy;
+
+// The slot that both lots of situations have.
+
+// The number of situations known, or a limit is passed: they outgrow the capacity, or one of them is past a limit.
+pub enum Growth {
+    Full,
+    Known(usize),
+}
+
+// The growth, whether a situation that was looked at is left, that is, not struck out so far, and the number plus 1 of the slot that all of them
+// have: 0 if none was looked at, and SEVERAL if they have no such slot or it was not looked for.
+pub struct Added {
+    pub growth: Growth,
+    pub left: bool,
+    pub led: usize,
+}
+
+fn join(a: usize, b: usize) -> usize
+    ensures { λ r. ⌜ r ≡ joined a b ⌝ }
+{
+    if b == 0 {
+        return a;
+    }
+    if a == 0 {
+        return b;
+    }
+    if a == b {
+        return a;
+    }
+    SEVERAL
+}
+
+// Writes the key into slot `i` and chains it; the byte behind the key says that the situation is left.
+pub fn put(work: &mut [u8], capacity: usize, i: usize, key: &[u8])
+    requires { ⌜ (i < capacity) × (capacity ≤ 4096) × (slotBytes * capacity ≤ length (now work)) × (keyBytes ≤ length (now key)) ⌝ }
+    ensures { λ _. ⌜ LinkIs capacity (slotWith (now (work .entry)) i (now (key .entry))) i (now (work .exit)) ⌝ }
+{
+    let at = SLOT_BYTES * i;
+    copy(key, 0, KEY_BYTES, work, at);
+    work[at + KEY_BYTES] = 0;
+    link(work, capacity, i);
+}
+
+// Puts the situation with this key behind the known ones if it is new.
+fn add(work: &mut [u8], capacity: usize, known: usize, key: &[u8]) -> Added
+    requires { ⌜ (1 ≤ capacity) × (known ≤ capacity) × (capacity ≤ 4096) × (slotBytes * capacity ≤ length (now work)) × (keyBytes ≤ length (now key)) ⌝ }
+    ensures { λ r. ⌜ AddedIs capacity (now (work .entry)) known (now (key .entry)) r (now (work .exit)) ⌝ }
+{
+    let place = find_chained(work, capacity, known, key);
+    match place {
+        Found::At(i) => {
+            let left = left_at(work, i);
+            Added {
+                growth: Growth::Known(known),
+                left,
+                led: i + 1,
+            }
+        }
+        Found::Nothing => {
+            if known == capacity {
+                return Added {
+                    growth: Growth::Full,
+                    left: true,
+                    led: SEVERAL,
+                };
+            }
+            put(work, capacity, known, key);
+            Added {
+                growth: Growth::Known(known + 1),
+                left: true,
+                led: known + 1,
+            }
+        }
+    }
+}
+
+// What the step at `place` of the other side leads to, if it answers the one at `at`. A step of the second side and an answer with the same header
+// lead where the first side's step led, with the two exchanged: that situation is not looked for, and counts as left.
+fn grow_answer(
+    arities: &[u8],
+    free: &[u8],
+    apart: [u8; PAIR_COUNT],
+    second: bool,
+    area: &[u8],
+    at: usize,
+    others: &[u8],
+    place: usize,
+    work: &mut [u8],
+    capacity: usize,
+    known: usize,
+) -> Added
+    requires { ⌜ (1 ≤ capacity) × (known ≤ capacity) × (capacity ≤ 4096) × (slotBytes * capacity ≤ length (now work)) × (at + stepBytes ≤ length (now area)) × (place + stepBytes ≤ length (now others)) ⌝ }
+    ensures { λ r. ⌜ AnswerIs (now (arities .entry)) (now (free .entry)) apart second (now (area .entry)) at (now (others .entry)) place capacity (now (work .entry)) known r (now (work .exit)) ⌝ }
+{
+    if !answers(area, at, others, place) {
+        return Added {
+            growth: Growth::Known(known),
+            left: false,
+            led: 0,
+        };
+    }
+    if second {
+        if same_header(area, at, others, place) {
+            return Added {
+                growth: Growth::Known(known),
+                left: true,
+                led: SEVERAL,
+            };
+        }
+    }
+    let key = successor(arities, free, apart, second, area, at, others, place);
+    add(work, capacity, known, &key)
+}
+
+// What every answer of the other side, which has `count` steps, leads to, whether one of those situations is left, and their slot; none before
+// `first` answers.
+fn grow_answers(
+    arities: &[u8],
+    free: &[u8],
+    apart: [u8; PAIR_COUNT],
+    second: bool,
+    area: &[u8],
+    at: usize,
+    others: &[u8],
+    first: usize,
+    count: usize,
+    work: &mut [u8],
+    capacity: usize,
+    known: usize,
+) -> Added
+    requires { ⌜ (1 ≤ capacity) × (known ≤ capacity) × (capacity ≤ 4096) × (slotBytes * capacity ≤ length (now work)) × (at + stepBytes ≤ length (now area)) × (first ≤ count) × (count ≤ mostSteps) × (mostSteps * stepBytes ≤ length (now others)) ⌝ }
+    ensures { λ r. ⌜ AnswersAre (now (arities .entry)) (now (free .entry)) apart second (now (area .entry)) at (now (others .entry)) first count capacity (now (work .entry)) known r (now (work .exit)) ⌝ }
+{
+    let mut so_far = known;
+    let mut left = false;
+    let mut led = 0;
+    let mut j = first;
+    while j < count {
+        let added = grow_answer(
+            arities,
+            free,
+            apart,
+            second,
+            area,
+            at,
+            others,
+            STEP_BYTES * j,
+            work,
+            capacity,
+            so_far,
+        );
+        let growth = added.growth;
+        let Growth::Known(n) = growth else {
+            return Added {
+                growth: Growth::Full,
+                left: true,
+                led: SEVERAL,
+            };
+        };
+        so_far = n;
+        left = left | added.left;
+        led = join(led, added.led);
+        j += 1;
+    }
+    Added {
+        growth: Growth::Known(so_far),
+        left,
+        led,
+    }
+}
+
+// The first of the other side's `count` steps that answers the one at `at`, or `count` if none does.
+fn first_answer(area: &[u8], at: usize, others: &[u8], count: usize) -> usize
+    requires { ⌜ (at ≤ length (now area)) × (stepBytes * count ≤ length (now others)) ⌝ }
+    ensures { λ r. ⌜ FirstAnswerIs (now (area .entry)) at (now (others .entry)) count r ⌝ }
+{
+    let mut j = 0;
+    while j < count {
+        if answers(area, at, others, STEP_BYTES * j) {
+            return j;
+        }
+        j += 1;
+    }
+    count
+}
+
+// What the step at `at` of the situation in slot `taken` leads to, if it is permitted. Where no answer is there, or all lead to situations that are
+// struck out, none is ever left: the situation is struck out. Where all lead to one situation, that is noted. All answers to a step without a
+// condition have its header.
+pub fn grow_step(
+    arities: &[u8],
+    free: &[u8],
+    apart: [u8; PAIR_COUNT],
+    second: bool,
+    taken: usize,
+    area: &[u8],
+    at: usize,
+    others: &[u8],
+    count: usize,
+    work: &mut [u8],
+    capacity: usize,
+    known: usize,
+) -> Growth
+    requires { ⌜ (taken < known) × (known ≤ capacity) × (capacity ≤ 4096) × (slotBytes * capacity ≤ length (now work)) × (at + stepBytes ≤ length (now area)) × (count ≤ mostSteps) × (mostSteps * stepBytes ≤ length (now others)) ⌝ }
+    ensures { λ r. ⌜ GrowsStep (now (arities .entry)) (now (free .entry)) apart second taken (now (area .entry)) at (now (others .entry)) count capacity (now (work .entry)) known r (now (work .exit)) ⌝ }
+{
+    if !permitted(&apart, area, at) {
+        return Growth::Known(known);
+    }
+    let first = first_answer(area, at, others, count);
+    if first == count {
+        work[SLOT_BYTES * taken + KEY_BYTES] = 1;
+        return Growth::Known(known);
+    }
+    if second {
+        if trivial(area, at) {
+            return Growth::Known(known);
+        }
+    }
+    let added = grow_answers(
+        arities,
+        free,
+        apart,
+        second,
+        area,
+        at,
+        others,
+        first,
+        count,
+        work,
+        capacity,
+        known,
+    );
+    if added.left {
+        if added.led < SEVERAL {
+            note_sole(work, taken, added.led);
+        }
+        return added.growth;
+    }
+    work[SLOT_BYTES * taken + KEY_BYTES] = 1;
+    Growth::Known(known)
+}
+
+// More than any number of a slot plus 1.
+const SEVERAL: usize = 4097;

@@ -1,0 +1,2 @@
+// A step's answers are added to the situations known.
+pub mod growth;

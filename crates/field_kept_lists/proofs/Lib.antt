@@ -1,0 +1,4 @@
+mod ElsewhereLaws
+pub mod KeptListLaws
+mod LabelLaws
+pub mod ListAreaLaws

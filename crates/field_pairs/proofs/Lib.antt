@@ -1,0 +1,5 @@
+pub mod Counting
+pub mod EntryLaws
+mod NameFlagLaws
+pub mod PairLaws
+pub mod PairTables

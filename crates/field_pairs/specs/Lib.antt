@@ -1,0 +1,4 @@
+pub mod Entry
+pub mod NameFlags
+pub mod PairFlags
+pub mod Slot

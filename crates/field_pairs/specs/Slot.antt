@@ -1,0 +1,60 @@
+-- A situation in the work area: 256 bytes. Each part's length and the part filled with 0 to 112, one bit for each pair of names, and bytes for
+-- the search's own use.
+use mathlib.Core.Bool.{Bool, true, false}
+use mathlib.Core.List.{List, _∷_, _++_, map}
+use mathlib.Core.Path.{_≡_}
+use Prim.Native.Nat.{ℕ, _+_, _-_, _*_}
+use lib.Dec.{eqb}
+use lib.ListN.{length, getD, replicate}
+use Rattle.calculus.specs.Cond.{Pairs}
+use Rattle.calculus.specs.Term.{Term}
+use Rattle.terms.specs.Encoding.{encode}
+use Rattle.terms.specs.Limits.{nameCount, longestTerm}
+use Rattle.terms.specs.Operations.{holdsApart}
+use Rattle.steps.specs.Listed.{namesFrom}
+use Rattle.field.specs.Situation.{Situation, pairsOf}
+
+-- a part, its length first, filled with 0
+unfoldable pub partBytes : Term → List ℕ
+partBytes P = let bs = encode 0 P in length bs ∷ (bs ++ replicate (longestTerm - length bs) 0)
+
+-- the pairs of names in the order 0-1, 0-2 up to 14-15, and one flag for each
+unfoldable pub allPairs : Pairs
+allPairs = pairsOf (namesFrom 0 nameCount)
+
+unfoldable pub flag : Bool → ℕ
+flag true = 1
+flag false = 0
+
+unfoldable pub flagsOf : Pairs → List ℕ
+flagsOf D = map (λ p. flag (holdsApart D (p .0) (p .1))) allPairs
+
+-- eight flags in a byte, the lowest bit first; 120 flags in 15 bytes
+unfoldable pub octet : List ℕ → ℕ → ℕ
+octet fs k =
+    let at : ℕ → ℕ = λ j. getD fs (8 * k + j) 0 in
+    at 0 + 2 * at 1 + 4 * at 2 + 8 * at 3 + 16 * at 4 + 32 * at 5 + 64 * at 6 + 128 * at 7
+
+abbrev pub octets : ℕ
+octets = 15
+
+unfoldable pub packed : List ℕ → List ℕ
+packed fs = map (octet fs) (namesFrom 0 octets)
+
+-- the bytes that say which situation it is: 1 + 112, 1 + 112 and 15
+unfoldable pub keyOf : Situation → List ℕ
+keyOf s = partBytes (s .first) ++ (partBytes (s .second) ++ packed (flagsOf (s .apart)))
+
+-- how many these are, and how many a slot has
+abbrev pub keyBytes : ℕ
+keyBytes = 241
+
+abbrev pub slotBytes : ℕ
+slotBytes = 256
+
+-- The byte of slot i behind its key: 0 while the situation is left, 1 once it is struck out.
+abbrev pub struckAt : ℕ → ℕ
+struckAt i = slotBytes * i + keyBytes
+
+unfoldable pub LeftAtIs : List ℕ → ℕ → Bool → Type 0
+LeftAtIs work i r = r ≡ eqb (getD work (struckAt i) 0) 0

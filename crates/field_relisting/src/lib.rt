@@ -1,0 +1,2 @@
+// A side is listed anew.
+pub mod relisting;

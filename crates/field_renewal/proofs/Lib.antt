@@ -1,0 +1,3 @@
+pub mod ListedParts
+pub mod ListedSides
+pub mod RenewingLaws

@@ -1,0 +1,2 @@
+// A kept list made that of another new name.
+pub mod renewing;

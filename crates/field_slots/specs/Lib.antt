@@ -1,0 +1,4 @@
+pub mod Chains
+pub mod Key
+pub mod Noted
+pub mod Update

@@ -1,0 +1,145 @@
+-- The key of the situation that a step and its answer lead to: its two parts, then its pairs. Assumes nothing.
+use mathlib.Core.Path.{_≡_, refl, sym, ap, _∙_}
+use mathlib.Core.Bool.{Bool, true, false}
+use mathlib.Core.List.{List, [], _++_, append-assoc, append-nil}
+use Prim.Native.Nat.{ℕ, _≤_}
+use native.Mathlib.Omega.{arith}
+use lib.ListN.{length, drop, replicate, length-append, length-drop}
+use lib.Seq.{sets, drop-at}
+use Rattle.calculus.specs.Cond.{Pairs}
+use Rattle.calculus.specs.Term.{Term, ren}
+use Rattle.terms.specs.Encoding.{encode, InScope}
+use Rattle.terms.specs.Limits.{nameCount, longestTerm}
+use Rattle.terms.specs.Operations.{holdsApart}
+use Rattle.terms.proofs.RenamingKeeps.{scope-ren}
+use Rattle.terms.proofs.RenamingKeeps.{length-ren}
+use Rattle.terms_bytes.proofs.Stores.{sets-join, sets-middle, sets-start}
+use Rattle.steps.specs.Listed.{ListedStep, namesFrom, classIn, resultBytes}
+use Rattle.field_pairs.specs.Entry.{EntryAt}
+use Rattle.field_slots.specs.Key.{PartIs, Packs}
+use Rattle.field_successors.specs.Leading.{placed, leading, PartsStand, PlacesResults, FreeOfParts, CompletesKey, SuccessorIs}
+use Rattle.field_pairs.specs.NameFlags.{FreeInEitherIs}
+use Rattle.field_pairs.specs.PairFlags.{NoneApartIs}
+use Rattle.field_successors.specs.Resulting.{CopiesResult, RewritesResult}
+use Rattle.field.specs.Situation.{freeFrom, pairsOf, situation}
+use Rattle.field_pairs.specs.Slot.{partBytes, allPairs, flag, flagsOf, octet, octets, packed, keyOf, keyBytes}
+use Rattle.field.specs.Successors.{updatedBy}
+use Rattle.field_slots.specs.Update.{KeptIs, UpdatedIs}
+use Rattle.field_slots.proofs.KeptPairs.{none-kept}
+use Rattle.field_slots.proofs.KeyLaws.{length-part, length-packed}
+use Rattle.field_successors.specs.Fits.{Fits}
+use Rattle.field_slots.proofs.UpdateLaws.{pair-off}
+
+-- The parts that stand at the front of a key.
+pub free-of-parts : (key arities first second free : List ℕ) → PartIs key 0 first → PartIs key 113 second → FreeInEitherIs first second arities free
+    → FreeOfParts key arities free
+unfolding PartIs FreeInEitherIs FreeOfParts
+free-of-parts key arities first second free p q f P Q h =
+    f P Q (h .scope) (h .scope₂) (p P (partBytes Q ++ h .rest) (h .there))
+    (q Q (h .rest) (ap (drop 113) (h .there) ∙ drop-at (partBytes P) (partBytes Q ++ h .rest) 113 (length-part P (h .fits))))
+
+-- The flags of the pairs that are kept take their place behind them.
+completed : (arities key apart flags key′ : List ℕ)
+    → ((P Q : Term) (E : Pairs) → PartsStand arities key P Q → apart ≡ flagsOf E → flags ≡ flagsOf (situation nameCount P Q E .apart))
+    → Packs flags key 226 key′ → CompletesKey arities apart key key′
+unfolding Packs CompletesKey keyOf situation
+completed arities key apart flags key′ k p P Q E h e =
+    let E′ : Pairs = situation nameCount P Q E .apart in
+    let bits : List ℕ = packed (flagsOf E′) in
+    let parts : List ℕ = partBytes P ++ partBytes Q in
+    let t : key ≡ parts ++ (h .rest ++ []) = h .there ∙ simp (append-assoc, append-nil) in
+    let n : 226 ≡ length parts = omega (arith, length-append (partBytes P) (partBytes Q), length-part P (h .fits), length-part Q (h .fits₂)) in
+    p E′ (k P Q E h e) ∙ ap (λ l. sets l 226 bits) t
+    ∙ sets-middle parts (h .rest) [] bits 226 n (length-packed (flagsOf E′) ∙ sym (h .bits))
+    ∙ simp (append-assoc, append-nil)
+
+pub completes : (arities key free apart flags key′ : List ℕ) → FreeOfParts key arities free → KeptIs apart free flags → Packs flags key 226 key′
+    → CompletesKey arities apart key key′
+unfolding FreeOfParts KeptIs
+completes arities key free apart flags key′ f k p = completed arities key apart flags key′ (λ P Q E h e. k P Q E (f P Q h) e) p
+
+-- Where no flag is set, none is kept.
+no-bits : replicate octets 0 ≡ packed (flagsOf [])
+unfolding packed octet flagsOf allPairs pairsOf namesFrom holdsApart flag
+no-bits = refl
+
+pub completes-none : (arities key apart : List ℕ) (r : Bool) (key′ : List ℕ) → NoneApartIs apart r → r ≡ true
+    → key′ ≡ sets key 226 (replicate octets 0) → CompletesKey arities apart key key′
+unfolding NoneApartIs Packs
+completes-none arities key apart r key′ n q w =
+    completed arities key apart (flagsOf []) key′
+    (λ P Q E h e. ap flagsOf (sym (none-kept P Q E (λ k l. pair-off apart k l E e (n q k l)))))
+    (λ D e. w ∙ ap (sets key 226) (no-bits ∙ ap packed e))
+
+module _ (arities : List ℕ) (second : Bool) (area : List ℕ) (at : ℕ) (others : List ℕ) (place : ℕ) where
+  -- the results fit
+  own-fits : (s : ListedStep) → EntryAt area at s → length (encode 0 (s .result)) ≤ longestTerm
+  unfolding resultBytes
+  own-fits s e = e .fits
+
+  other-fits : (s t : ListedStep) → EntryAt others place t → length (encode 0 (ren (classIn (s .classes)) (t .result))) ≤ longestTerm
+  unfolding resultBytes
+  other-fits s t f = omega (arith, f .fits, length-ren 0 0 (classIn (s .classes)) (t .result))
+
+  pub leading-fits : (F : List ℕ) (D : Pairs) (s t : ListedStep) → EntryAt area at s → EntryAt others place t → Fits (leading second F D s t)
+  unfolding leading placed situation
+  leading-fits F D s t e f = go second
+    where
+      go : (b : Bool) → Fits (placed b (s .result) (ren (classIn (s .classes)) (t .result)) (updatedBy F D s))
+      go false = record { first = own-fits s e; second = other-fits s t f }
+      go true = record { first = other-fits s t f; second = own-fits s e }
+
+  module _ (key : List ℕ) where
+    pub places-first : second ≡ false → (key₁ key₂ : List ℕ) → CopiesResult area at key 0 key₁ → RewritesResult area at others place arities key₁ 113 key₂
+        → PlacesResults arities second area at others place key key₂
+    unfolding CopiesResult RewritesResult PlacesResults leading placed situation
+    places-first q key₁ key₂ c r s t e f g own =
+        let R : Term = ren (classIn (s .classes)) (t .result) in
+        rw q (r s t e f g own ∙ rw (c s e) (sets-join key 0 113 (partBytes (s .result)) (partBytes R) (omega (arith, length-part (s .result) (own-fits s e)))))
+
+    pub places-second : second ≡ true → (key₁ key₂ : List ℕ) → RewritesResult area at others place arities key 0 key₁ → CopiesResult area at key₁ 113 key₂
+        → PlacesResults arities second area at others place key key₂
+    unfolding CopiesResult RewritesResult PlacesResults leading placed situation
+    places-second q key₁ key₂ r c s t e f g own =
+        let R : Term = ren (classIn (s .classes)) (t .result) in
+        rw q (c s e ∙ rw (r s t e f g own) (sets-join key 0 113 (partBytes R) (partBytes (s .result)) (omega (arith, length-part R (other-fits s t f)))))
+
+  -- The two parts stand in a key that had room for them.
+  parts-stand : (key : List ℕ) (P Q : Term) → InScope nameCount arities 0 P → InScope nameCount arities 0 Q → length (encode 0 P) ≤ longestTerm
+      → length (encode 0 Q) ≤ longestTerm → (key₀ : List ℕ) → length key₀ ≡ keyBytes → key ≡ sets key₀ 0 (partBytes P ++ partBytes Q)
+      → PartsStand arities key P Q
+  parts-stand key P Q g h k l key₀ n w =
+      let parts : List ℕ = partBytes P ++ partBytes Q in
+      let m : length parts ≡ 226 = omega (arith, length-append (partBytes P) (partBytes Q), length-part P k, length-part Q l) in
+      record {
+        rest = drop (length parts) key₀;
+        there = w ∙ sets-start key₀ parts (omega arith) ∙ append-assoc (partBytes P) (partBytes Q) (drop (length parts) key₀);
+        bits = omega (arith, length-drop (length parts) key₀);
+        scope = g;
+        scope₂ = h;
+        fits = k;
+        fits₂ = l;
+      }
+
+  pub successor-is : (free apart new key₀ key key′ : List ℕ) → length key₀ ≡ keyBytes → PlacesResults arities second area at others place key₀ key
+      → UpdatedIs apart free area at new → CompletesKey arities new key key′
+      → SuccessorIs arities free apart second area at others place key′
+  unfolding PlacesResults UpdatedIs CompletesKey SuccessorIs leading placed situation
+  successor-is free apart new key₀ key key′ n p u k G D s t hn ha e f g h own = go second refl
+    where
+      R : Term
+      R = ren (classIn (s .classes)) (t .result)
+
+      scope : InScope nameCount arities 0 R
+      scope = scope-ren nameCount nameCount arities 0 0 (classIn (s .classes)) (λ m l. let w = e .within m (omega arith) in omega arith) (t .result) h
+
+      E : Pairs
+      E = updatedBy (freeFrom G 0 nameCount) D s
+
+      go : (b : Bool) → second ≡ b → key′ ≡ keyOf (placed second (s .result) R E)
+      go false q = rw q (k (s .result) R E
+          (parts-stand key (s .result) R g scope (own-fits s e) (other-fits s t f) key₀ n (rw q at (p s t e f h own)))
+          (u G D s hn ha e))
+      go true q = rw q (k R (s .result) E
+          (parts-stand key R (s .result) scope g (other-fits s t f) (own-fits s e) key₀ n (rw q at (p s t e f h own)))
+          (u G D s hn ha e))

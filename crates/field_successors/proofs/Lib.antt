@@ -1,0 +1,3 @@
+mod LeadingLaws
+pub mod ResultLaws
+mod StartLaws

@@ -1,0 +1,75 @@
+-- A result copied as a part, and one rewritten by a condition. Assumes nothing.
+use mathlib.Core.Path.{_≡_, refl, sym, ap, _∙_}
+use mathlib.Core.Bool.{Bool, true}
+use mathlib.Core.List.{List, [], _∷_, _++_}
+use Prim.Native.Nat.{ℕ, suc, _+_, _-_, _<_, _≤_}
+use native.Mathlib.Omega.{arith}
+use lib.ListN.{length, getD, take, drop, set, replicate}
+use lib.Seq.{sets, set-set, set-comm, take-at, getD-take, getD-drop, length-sets}
+use Rattle.calculus.specs.Term.{ren}
+use Rattle.terms.specs.Encoding.{encode, InScope}
+use Rattle.terms.specs.Limits.{nameCount, longestTerm}
+use Rattle.terms_renaming.specs.Renaming.{RenameIs}
+use Rattle.terms_bytes.proofs.NameTables.{represents-free}
+use Rattle.terms.proofs.RenamingKeeps.{length-ren}
+use Rattle.steps.specs.Limits.{stepBytes}
+use Rattle.steps.specs.Listed.{ListedStep, classIn, resultBytes}
+use Rattle.field_pairs.specs.Entry.{EntryAt, SameClassesIs}
+use Rattle.field_successors.specs.Resulting.{CopiesResult, RewritesResult}
+use Rattle.field_pairs.specs.Slot.{partBytes}
+use Rattle.field_pairs.proofs.EntryLaws.{entry-class, entry-result}
+use Rattle.field_slots.proofs.KeyLaws.{length-part, behind}
+
+pub copies-result : (area : List ℕ) (at : ℕ) (slot : List ℕ) (put : ℕ) (slot′ : List ℕ) → slot′ ≡ sets slot put (take 113 (drop (at + 18 + 1) area))
+    → CopiesResult area at slot put slot′
+unfolding CopiesResult resultBytes
+copies-result area at slot put slot′ w s e =
+    let n : at + 18 + 1 ≡ at + 19 = omega arith in
+    w ∙ ap (sets slot put) (ap (λ k. take 113 (drop k area)) n ∙ ap (take 113) (entry-result area at s e)
+    ∙ take-at (partBytes (s .result)) (e .rest) 113 (length-part (s .result) (e .fits)))
+
+-- What is rewritten by a condition already is not rewritten by the same one.
+pub copied-same : (area : List ℕ) (at : ℕ) (others : List ℕ) (place : ℕ) (arities slot : List ℕ) (put : ℕ) (slot₁ : List ℕ)
+    → CopiesResult others place slot put slot₁ → (r : Bool) → SameClassesIs area at others place r → r ≡ true
+    → RewritesResult area at others place arities slot put slot₁
+unfolding CopiesResult SameClassesIs RewritesResult
+copied-same area at others place arities slot put slot₁ w r h q s t e f scope own =
+    let P = t .result in
+    w t f ∙ ap (λ Q. sets slot put (partBytes Q)) (sym (ap (λ c. ren (classIn c) P) (h q s t e f) ∙ own))
+
+-- A store before a run of stores may come after it.
+set-first : (l zs : List ℕ) (p q y : ℕ) → p < q → set (sets l q zs) p y ≡ sets (set l p y) q zs
+set-first l [] p q y h = refl
+set-first l (z ∷ zs) p q y h =
+    set-first (set l q z) zs p (suc q) y (omega arith) ∙ ap (λ m. sets m (suc q) zs) (set-comm l q p z y (λ e. omega arith))
+
+-- What is stored over the front of a run takes its place.
+pub sets-over : (l xs ys fill : List ℕ) (p : ℕ) → length xs ≡ length ys → sets (sets l p (xs ++ fill)) p ys ≡ sets l p (ys ++ fill)
+sets-over l [] [] fill p e = refl
+sets-over l [] (y ∷ ys) fill p e = absurd (omega arith)
+sets-over l (x ∷ xs) [] fill p e = absurd (omega arith)
+sets-over l (x ∷ xs) (y ∷ ys) fill p e =
+    ap (λ m. sets m (suc p) ys) (set-first (set l p x) (xs ++ fill) p (suc p) y (omega arith) ∙ ap (λ m. sets m (suc p) (xs ++ fill)) (set-set l p x y))
+    ∙ sets-over (set l p y) xs ys fill (suc p) (omega arith)
+
+module _ (area : List ℕ) (at : ℕ) (others : List ℕ) (place : ℕ) (arities slot : List ℕ) (put : ℕ)
+    (inside : at + stepBytes ≤ length area) (room : put + 113 ≤ length slot) where
+  pub rewrites-result : (slot₁ : List ℕ) (r : ℕ) (slot₂ : List ℕ) → CopiesResult others place slot put slot₁
+      → RenameIs others (place + 18 + 2) arities (take (length area - at) (drop at area)) slot₁ (put + 1) r slot₂
+      → RewritesResult area at others place arities slot put slot₂
+  unfolding CopiesResult RenameIs RewritesResult partBytes resultBytes
+  rewrites-result slot₁ r slot₂ w R s t e f scope own =
+      let c : ℕ → ℕ = classIn (s .classes) in
+      let P = t .result in
+      let fill : List ℕ = replicate (longestTerm - length (encode 0 P)) 0 in
+      let n : place + 18 + 2 ≡ place + 19 + 1 = omega arith in
+      let there : drop (place + 18 + 2) others ≡ encode 0 P ++ (fill ++ f .rest) =
+      ap (λ k. drop k others) n ∙ behind others (place + 19) P (f .rest) (entry-result others place t f) in
+      let y = R nameCount 0 0 c P (fill ++ f .rest) (omega arith)
+      (represents-free (take (length area - at) (drop at area)) c (λ m l. (
+        getD-take (length area - at) (drop at area) m 0 (omega arith) ∙ getD-drop at area m 0 ∙ entry-class area at s e m l,
+        e .within m l,
+      ))) scope there (omega (arith, f .fits)) (omega (arith, f .fits, ap length (w t f), length-sets slot put (partBytes P))) in
+      let same : length (encode 0 (ren c P)) ≡ length (encode 0 P) = length-ren 0 0 c P in
+      let q : put + 1 ≡ suc put = omega arith in
+      y .1 ∙ rw (w t f, q, same) (sets-over (set slot put (length (encode 0 P))) (encode 0 P) (encode 0 (ren c P)) fill (suc put) (sym same))

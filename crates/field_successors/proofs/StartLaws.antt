@@ -1,0 +1,114 @@
+-- The key of the start: the parts of a question put into zeros, and its apart list as flags. Assumes nothing.
+use mathlib.Core.Path.{_≡_, refl, sym, ap, _∙_}
+use mathlib.Core.List.{List, [], _∷_, _++_, append-assoc}
+use Prim.Native.Nat.{ℕ, suc, _+_, _-_, _%_, _≤_}
+use native.Mathlib.Numerals.{add-one}
+use native.Mathlib.Omega.{arith}
+use lib.ListN.{length, getD, take, drop, set, replicate, length-drop, length-replicate, replicate-append-replicate}
+use lib.Seq.{sets, drop-cons, take-all}
+use Rattle.calculus.specs.Cond.{Pairs}
+use Rattle.calculus.specs.Term.{Term}
+use Rattle.terms.specs.Answer.{result}
+use Rattle.terms.specs.Encoding.{encode}
+use Rattle.terms_bytes.specs.FieldPlaces.{definitionsOf, aritiesOf, afterField, fieldAt, fieldPlace}
+use Rattle.terms.specs.Limits.{longestTerm}
+use Rattle.terms.specs.Question.{Question, checkOf, pairBytes}
+use Rattle.terms.proofs.FramingLaws.{Bytes}
+use Rattle.terms_rewriting.proofs.QuestionPlaces.{accepted-apart, accepted-arities}
+use Rattle.terms_bytes.proofs.Stores.{sets-middle}
+use Rattle.terms.proofs.WellFormed.{accepted-well-formed}
+use Rattle.steps_lister.proofs.OperationLaws.{first-stands, second-stands}
+use Rattle.field_successors.specs.Leading.{CompletesKey, StartIs}
+use Rattle.field_pairs.specs.PairFlags.{pairCount, AddsPair}
+use Rattle.field.specs.Situation.{situation, startOf}
+use Rattle.field_pairs.specs.Slot.{partBytes, flagsOf, octets, keyBytes}
+use Rattle.field_successors.specs.Starting.{PutsPart, MarksList}
+use Rattle.field_slots.proofs.KeyLaws.{length-part}
+use Rattle.field_slots.proofs.UpdateLaws.{no-pairs}
+
+-- A part in the place of zeros.
+pub put-none : (part key : List ℕ) (put : ℕ) → 113 ≤ length part → PutsPart part key put key
+unfolding PutsPart
+put-none part key put h P front rest e l f k = absurd (omega (arith, ap length e))
+
+pub puts-part : (part key : List ℕ) (put : ℕ) (key′ : List ℕ) → key′ ≡ sets (set key put (length part)) (put + 1) (take (length part) (drop 0 part))
+    → PutsPart part key put key′
+unfolding PutsPart partBytes
+puts-part part key put key′ w P front rest e l f k =
+    let bs : List ℕ = encode 0 P in
+    let n : ℕ = length bs in
+    let fill : List ℕ = replicate (longestTerm - n) 0 in
+    let m : 1 + n + (longestTerm - n) ≡ 1 + longestTerm = omega arith in
+    let zeros : replicate (1 + longestTerm) 0 ≡ replicate (1 + n) 0 ++ fill =
+    sym (replicate-append-replicate (1 + n) (longestTerm - n) 0 ∙ ap (λ j. replicate j 0) m) in
+    let t : key ≡ front ++ (replicate (1 + n) 0 ++ (fill ++ rest)) =
+    k ∙ ap (λ l. front ++ (l ++ rest)) zeros ∙ ap (λ l. front ++ l) (append-assoc (replicate (1 + n) 0) fill rest) in
+    let v : key′ ≡ sets key put (n ∷ bs) =
+    w ∙ ap (λ l. sets (set key put (length part)) (put + 1) l) (take-all (length part) part (omega arith)) ∙ rw (e, add-one) in
+    v ∙ ap (λ l. sets l put (n ∷ bs)) t
+    ∙ sets-middle front (replicate (1 + n) 0) (fill ++ rest) (n ∷ bs) put (sym f) (omega (arith, length-replicate {A = ℕ} (1 + n) 0))
+    ∙ ap (λ l. front ++ (n ∷ l)) (sym (append-assoc bs fill rest))
+
+-- The pairs of an apart list from place i on.
+unfoldable pub Marking : List ℕ → List ℕ → List ℕ → ℕ → Type 0
+Marking list flags₀ flags i = (D : Pairs) → drop i list ≡ pairBytes D → flags₀ ≡ flagsOf [] → flags ≡ flagsOf D
+
+pub marking-start : (list flags : List ℕ) (i : ℕ) → i ≡ length list → Marking list flags flags i
+unfolding Marking pairBytes
+marking-start list flags i h [] e z = z
+marking-start list flags i h (p ∷ D) e z = absurd (omega (arith, ap length e, length-drop i list))
+
+two-front : (list : List ℕ) (i : ℕ) → i + 2 ≤ length list → drop i list ≡ getD list i 0 ∷ getD list (i + 1) 0 ∷ drop (i + 2) list
+two-front list i h =
+    let m : i + 2 ≡ suc (suc i) = omega arith in
+    drop-cons list i 0 (omega arith) ∙ ap (λ l. getD list i 0 ∷ l) (drop-cons list (suc i) 0 (omega arith)) ∙ rw (add-one, m)
+
+pub marking-next : (list flags₀ flags : List ℕ) (i j a b : ℕ) (flags′ : List ℕ) → j ≡ i + 2 → j ≤ length list → a ≡ getD list i 0 → b ≡ getD list (i + 1) 0
+    → Marking list flags₀ flags j → AddsPair flags a b flags′ → Marking list flags₀ flags′ i
+unfolding Marking pairBytes AddsPair
+marking-next list flags₀ flags i j a b flags′ n h x y so add [] e z = absurd (omega (arith, ap length e, length-drop i list))
+marking-next list flags₀ flags i j a b flags′ n h x y so add (p ∷ D) e z =
+    let t = sym (two-front list i (omega arith)) ∙ e in
+    let u : a ≡ p .0 = x ∙ ap (λ l. getD l 0 0) t in
+    let v : b ≡ p .1 = y ∙ ap (λ l. getD l 1 0) t in
+    add D (so D (ap (λ k. drop k list) n ∙ ap (drop 2) t) z) ∙ (λ k. flagsOf ((u k, v k) ∷ D))
+
+pairs-even : (D : Pairs) → length (pairBytes D) % 2 ≡ 0
+unfolding pairBytes
+pairs-even [] = refl
+pairs-even (p ∷ D) = omega (arith, pairs-even D)
+
+pub marking-whole : (list flags flags′ : List ℕ) (i : ℕ) → i ≤ 1 → i % 2 ≡ length list % 2 → Marking list flags flags′ i → MarksList list flags flags′
+unfolding Marking MarksList
+marking-whole list flags flags′ i h m so D e z =
+    let n : i ≡ 0 = omega (arith, ap length e, pairs-even D) in
+    so D (ap (λ k. drop k list) n ∙ e) z
+
+-- Both parts and the pairs of an accepted question.
+module _ (s : List ℕ) (bytes : Bytes s) (first second apart : ℕ) (x : first ≡ fieldPlace s (definitionsOf s)) (y : second ≡ afterField s first)
+    (z : apart ≡ afterField s second) where
+  pub start-is : (part₁ part₂ list arities : List ℕ) → part₁ ≡ fieldAt s first → part₂ ≡ fieldAt s second → list ≡ fieldAt s apart → arities ≡ aritiesOf s
+      → (key₁ key₂ key₃ flags : List ℕ) → PutsPart part₁ (replicate keyBytes 0) 0 key₁ → PutsPart part₂ key₁ 113 key₂
+      → MarksList list (replicate pairCount 0) flags → CompletesKey arities flags key₂ key₃ → StartIs s key₃
+  unfolding PutsPart MarksList CompletesKey StartIs startOf
+  start-is part₁ part₂ list arities e f g h key₁ key₂ key₃ flags p₁ p₂ m k q a =
+      let w = accepted-well-formed s q a in
+      let P : Term = q .first in
+      let Q : Term = q .second in
+      let zeros : List ℕ = replicate octets 0 in
+      let u : part₁ ≡ encode 0 P = e ∙ ap (fieldAt s) x ∙ first-stands s bytes q a in
+      let v : part₂ ≡ encode 0 Q = f ∙ ap (fieldAt s) (y ∙ ap (afterField s) x) ∙ second-stands s bytes q a in
+      let d : flags ≡ flagsOf (q .apart) = m (q .apart) (g ∙ accepted-apart s bytes q a first second apart x y z) no-pairs in
+      let c : arities ≡ q .arities = h ∙ accepted-arities s bytes q a in
+      let t : key₂ ≡ partBytes P ++ (partBytes Q ++ zeros) =
+      p₂ Q (partBytes P) zeros v (w .second .size) (length-part P (w .first .size)) (p₁ P [] (replicate (1 + longestTerm) 0 ++ zeros) u (w .first .size) refl refl) in
+      k P Q (q .apart)
+      (record {
+        rest = zeros;
+        there = t;
+        bits = refl;
+        scope = rw c (w .first .scope);
+        scope₂ = rw c (w .second .scope);
+        fits = w .first .size;
+        fits₂ = w .second .size;
+      }) d

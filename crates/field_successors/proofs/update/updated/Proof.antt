@@ -1,0 +1,58 @@
+-- `field::update::updated` meets its contract. Assumes nothing.
+use Rattle.field_slots.proofs.UpdateLaws.{updated-is, updated-none, updated-trivial}
+use borrow.Author.Needs.{needs}
+use Rattle.field_successors.proofs.update.updated.Statement.{statement}
+use Rattle.field_successors.proofs.update.updated.Tie as tie
+
+slice-aggregate-mark-extruded : tie.Need-slice-aggregate-mark-extruded
+slice-aggregate-mark-extruded c = search needs
+
+mark-extruded-requires : tie.Need-mark-extruded-requires
+mark-extruded-requires c κs = search needs
+
+trivial-requires : tie.Need-trivial-requires
+trivial-requires c κs = search needs
+
+returns : tie.Need-returns
+returns c = updated-trivial _ _ _ _ _ (c .before .before .before .mark-extruded .ensures) _ (c .before .trivial .ensures) (c .if1 .taken)
+
+slice-aggregate-none-apart : tie.Need-slice-aggregate-none-apart
+slice-aggregate-none-apart c = search needs
+
+none-apart-requires : tie.Need-none-apart-requires
+none-apart-requires c κs = search needs
+
+returns-2 : tie.Need-returns-2
+returns-2 c =
+    let c6 = c .before .before .before .before .before .before in
+    updated-none _ _ _ _ _ (c6 .mark-extruded .ensures) _ (c .before .none-apart .ensures) (c .if2 .taken)
+
+slice-aggregate-rewrite : tie.Need-slice-aggregate-rewrite
+slice-aggregate-rewrite c = search needs
+
+slice-aggregate-rewrite-2 : tie.Need-slice-aggregate-rewrite-2
+slice-aggregate-rewrite-2 c = search needs
+
+rewrite-requires : tie.Need-rewrite-requires
+rewrite-requires c κs = search needs
+
+returns-3 : tie.Need-returns-3
+returns-3 c =
+    let c10 = c .before .before .before .before .before .before .before .before .before .before in
+    updated-is _ _ _ _ _ _ (c10 .mark-extruded .ensures) (c .before .rewrite .ensures)
+
+pub updated-spec : {M : Type 1} → statement M
+updated-spec =
+    tie.close
+    (tie.spec
+    slice-aggregate-mark-extruded
+    mark-extruded-requires
+    trivial-requires
+    returns
+    slice-aggregate-none-apart
+    none-apart-requires
+    returns-2
+    slice-aggregate-rewrite
+    slice-aggregate-rewrite-2
+    rewrite-requires
+    returns-3)

@@ -1,0 +1,4 @@
+pub mod Fits
+pub mod Leading
+pub mod Resulting
+pub mod Starting

@@ -1,0 +1,21 @@
+-- The start of an accepted question, written as a key: what the code promises of its parts and of its apart list.
+use mathlib.Core.Path.{_≡_}
+use mathlib.Core.List.{List, [], _++_}
+use Prim.Native.Nat.{ℕ, _+_, _≤_}
+use lib.ListN.{length, replicate}
+use Rattle.calculus.specs.Cond.{Pairs}
+use Rattle.calculus.specs.Term.{Term}
+use Rattle.terms.specs.Encoding.{encode}
+use Rattle.terms.specs.Limits.{longestTerm}
+use Rattle.terms.specs.Question.{pairBytes}
+use Rattle.field_pairs.specs.Slot.{partBytes, flagsOf}
+
+-- A part that fits takes the place of zeros, its length first.
+unfoldable pub PutsPart : List ℕ → List ℕ → ℕ → List ℕ → Type 0
+PutsPart part key put key′ =
+    (P : Term) (front rest : List ℕ) → part ≡ encode 0 P → length (encode 0 P) ≤ longestTerm → length front ≡ put
+    → key ≡ front ++ (replicate (1 + longestTerm) 0 ++ rest) → key′ ≡ front ++ (partBytes P ++ rest)
+
+-- The pairs of an apart list.
+unfoldable pub MarksList : List ℕ → List ℕ → List ℕ → Type 0
+MarksList list flags flags′ = (D : Pairs) → list ≡ pairBytes D → flags ≡ flagsOf [] → flags′ ≡ flagsOf D

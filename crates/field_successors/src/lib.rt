@@ -1,0 +1,4 @@
+// The start and the successors of a situation.
+pub mod results;
+pub mod start;
+pub mod update;

@@ -1,0 +1,122 @@
+// The results of a step and of its answer, written as the parts of a situation: document 01, "The field and the verdict".
+ghost use mathlib.Core.Path.{_≡_};
+ghost use Prim.Native.Nat.{_+_, _≤_};
+ghost use lib.ListN.{length};
+ghost use Rattle.field_successors.specs.Leading.{PlacesResults, FreeOfParts, CompletesKey, SuccessorIs};
+ghost use Rattle.field_successors.specs.Resulting.{CopiesResult, RewritesResult};
+ghost use Rattle.field_pairs.specs.Slot.{keyBytes};
+ghost use Rattle.steps.specs.Limits.{stepBytes};
+use crate::update::updated;
+use field_pairs::entries::OBJECT;
+use field_pairs::entries::same_classes;
+use field_pairs::names::free_in_either;
+use field_pairs::pairs::PAIR_COUNT;
+use field_pairs::pairs::none_apart;
+use field_slots::find::KEY_BYTES;
+use field_slots::slots::BITS;
+use field_slots::slots::OCTETS;
+use field_slots::slots::PART_BYTES;
+use field_slots::slots::pack;
+use field_slots::slots::part_at;
+use terms_bytes::bytes::copy;
+use terms_bytes::limits::NAME_COUNT;
+use terms_renaming::rename::rename;
+
+// Writes the step's result.
+fn copy_result(area: &[u8], at: usize, slot: &mut [u8], put: usize)
+    requires { ⌜ (at + stepBytes ≤ length (now area)) × (put + 113 ≤ length (now slot)) ⌝ }
+    ensures { λ _. ⌜ CopiesResult (now (area .entry)) at (now (slot .entry)) put (now (slot .exit)) ⌝ }
+{
+    copy(area, at + OBJECT + 1, PART_BYTES, slot, put);
+}
+
+// Writes the other side's result, rewritten by the condition of the step at `at`. By its own condition it is rewritten already.
+fn rewrite_result(
+    area: &[u8],
+    at: usize,
+    others: &[u8],
+    place: usize,
+    arities: &[u8],
+    slot: &mut [u8],
+    put: usize,
+)
+    requires { ⌜ (at + stepBytes ≤ length (now area)) × (place + stepBytes ≤ length (now others)) × (put + 113 ≤ length (now slot)) ⌝ }
+    ensures { λ _. ⌜ RewritesResult (now (area .entry)) at (now (others .entry)) place (now (arities .entry)) (now (slot .entry)) put (now (slot .exit)) ⌝ }
+{
+    copy_result(others, place, slot, put);
+    if same_classes(area, at, others, place) {
+        return;
+    }
+    rename(
+        others,
+        place + OBJECT + 2,
+        arities,
+        &area[at..],
+        slot,
+        put + 1,
+    );
+}
+
+// Writes both results, each on its side.
+fn place_results(
+    arities: &[u8],
+    second: bool,
+    area: &[u8],
+    at: usize,
+    others: &[u8],
+    place: usize,
+    key: &mut [u8],
+)
+    requires { ⌜ (at + stepBytes ≤ length (now area)) × (place + stepBytes ≤ length (now others)) × (length (now key) ≡ keyBytes) ⌝ }
+    ensures { λ _. ⌜ PlacesResults (now (arities .entry)) second (now (area .entry)) at (now (others .entry)) place (now (key .entry)) (now (key .exit)) ⌝ }
+{
+    if second {
+        rewrite_result(area, at, others, place, arities, key, 0);
+        copy_result(area, at, key, PART_BYTES);
+        return;
+    }
+    copy_result(area, at, key, 0);
+    rewrite_result(area, at, others, place, arities, key, PART_BYTES);
+}
+
+// The names free in the two parts of a key.
+fn free_of_parts(key: &[u8], arities: &[u8]) -> [u8; NAME_COUNT]
+    requires { ⌜ length (now key) ≡ keyBytes ⌝ }
+    ensures { λ r. ⌜ FreeOfParts (now (key .entry)) (now (arities .entry)) r ⌝ }
+{
+    free_in_either(part_at(key, 0), part_at(key, PART_BYTES), arities)
+}
+
+// Puts the pairs behind the two parts of a key, those of which each name is free in at least one part.
+pub fn complete(key: &mut [u8], arities: &[u8], apart: [u8; PAIR_COUNT])
+    requires { ⌜ length (now key) ≡ keyBytes ⌝ }
+    ensures { λ _. ⌜ CompletesKey (now (arities .entry)) apart (now (key .entry)) (now (key .exit)) ⌝ }
+{
+    if none_apart(&apart) {
+        copy(&[0u8; OCTETS], 0, OCTETS, key, BITS);
+        return;
+    }
+    let free = free_of_parts(key, arities);
+    pack(&apart, &free, key, BITS);
+}
+
+// The key of the situation that the answer at `place` to the step at `at` leads to; `second`: the second side makes the step.
+pub fn successor(
+    arities: &[u8],
+    free: &[u8],
+    apart: [u8; PAIR_COUNT],
+    second: bool,
+    area: &[u8],
+    at: usize,
+    others: &[u8],
+    place: usize,
+) -> [u8; KEY_BYTES]
+    requires { ⌜ (at + stepBytes ≤ length (now area)) × (place + stepBytes ≤ length (now others)) ⌝ }
+    ensures { λ r. ⌜ SuccessorIs (now (arities .entry)) (now (free .entry)) apart second (now (area .entry)) at (now (others .entry)) place r ⌝ }
+{
+    let mut key = [0u8; KEY_BYTES];
+    place_results(arities, second, area, at, others, place, &mut key);
+    let new = updated(apart, free, area, at);
+    complete(&mut key, arities, new);
+    key
+}

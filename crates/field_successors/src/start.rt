@@ -1,0 +1,64 @@
+// The key of the start: the two parts of an accepted question under its apart list.
+ghost use mathlib.Core.Path.{_≡_};
+ghost use Prim.Native.Nat.{_+_, _≤_};
+ghost use lib.ListN.{length};
+ghost use Rattle.field_successors.specs.Leading.{StartIs};
+ghost use Rattle.field_pairs.specs.PairFlags.{pairCount};
+ghost use Rattle.field_successors.specs.Starting.{PutsPart, MarksList};
+use crate::results::complete;
+use field_pairs::pairs::PAIR_COUNT;
+use field_pairs::pairs::mark_pair;
+use field_slots::find::KEY_BYTES;
+use field_slots::slots::PART_BYTES;
+use terms_bytes::bytes::copy;
+use terms_bytes::bytes::get;
+use terms_bytes::frame::after_field;
+use terms_bytes::frame::arities;
+use terms_bytes::frame::definitions;
+use terms_bytes::frame::field_at;
+use terms_bytes::frame::field_place;
+
+// Writes a part at `put`, its length first; one that is too long is left out.
+fn put_part(part: &[u8], key: &mut [u8], put: usize)
+    requires { ⌜ put + 113 ≤ length (now key) ⌝ }
+    ensures { λ _. ⌜ PutsPart (now (part .entry)) (now (key .entry)) put (now (key .exit)) ⌝ }
+{
+    let n = part.len();
+    if PART_BYTES <= n {
+        return;
+    }
+    key[put] = n as u8;
+    copy(part, 0, n, key, put + 1);
+}
+
+// Holds the names of each pair of an apart list apart, from the last pair on.
+fn mark_list(list: &[u8], flags: &mut [u8])
+    requires { ⌜ length (now flags) ≡ pairCount ⌝ }
+    ensures { λ _. ⌜ MarksList (now (list .entry)) (now (flags .entry)) (now (flags .exit)) ⌝ }
+{
+    let mut i = list.len();
+    while 1 < i {
+        i -= 2;
+        let a = get(list, i) as usize;
+        let b = get(list, i + 1) as usize;
+        mark_pair(flags, a, b);
+    }
+}
+
+// The key of the start of an accepted question.
+pub fn start_key(question: &[u8]) -> [u8; KEY_BYTES]
+    ensures { λ r. ⌜ StartIs (now (question .entry)) r ⌝ }
+{
+    let first = field_place(question, definitions(question));
+    let second = after_field(question, first);
+    let mut key = [0u8; KEY_BYTES];
+    put_part(field_at(question, first), &mut key, 0);
+    put_part(field_at(question, second), &mut key, PART_BYTES);
+    let mut apart = [0u8; PAIR_COUNT];
+    mark_list(
+        field_at(question, after_field(question, second)),
+        &mut apart,
+    );
+    complete(&mut key, arities(question), apart);
+    key
+}

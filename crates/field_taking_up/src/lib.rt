@@ -1,0 +1,2 @@
+// A situation is taken up: both sides are listed.
+pub mod taking;

@@ -1,0 +1,4 @@
+mod MeetLaws
+mod MeetPairs
+mod MeetRows
+mod MetLaws

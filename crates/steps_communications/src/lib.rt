@@ -1,0 +1,2 @@
+// Communications between rows.
+pub mod meet;

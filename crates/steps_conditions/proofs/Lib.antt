@@ -1,0 +1,4 @@
+mod ConditionArrays
+mod LabelRules
+pub mod NameSlots
+pub mod SlotLaws

@@ -1,0 +1,4 @@
+pub mod Conditions
+pub mod Labels
+pub mod Names
+pub mod Slots

@@ -1,0 +1,4 @@
+pub mod Arranging
+pub mod Entries
+pub mod EntryBytes
+pub mod StepActions

@@ -1,0 +1,4 @@
+mod BranchLaws
+pub mod ChoiceLaws
+pub mod RaisedMeetings
+mod SameLaws

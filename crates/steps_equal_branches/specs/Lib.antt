@@ -1,0 +1,2 @@
+pub mod BranchRows
+pub mod Same

@@ -1,0 +1,2 @@
+// Branches that have the same steps.
+pub mod same;

@@ -1,0 +1,5 @@
+pub mod ArgumentSlots
+mod LabelNumbers
+pub mod LabelWalks
+mod RestrictionRuns
+mod SideLaws

@@ -1,0 +1,2 @@
+// The label of a candidate by its number.
+pub mod label;

@@ -1,0 +1,4 @@
+pub mod NewNameLaws
+pub mod OperationLaws
+mod WalkOrder
+mod WalkedList

@@ -1,0 +1,3 @@
+// The list of a part, and the listing operation.
+pub mod list;
+pub mod operation;

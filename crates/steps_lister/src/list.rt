@@ -1,0 +1,69 @@
+// The steps of a part, listed.
+ghost use mathlib.Core.Path.{_≡_};
+ghost use Prim.Native.Nat.{_*_, _≤_};
+ghost use lib.ListN.{length};
+ghost use Rattle.terms.specs.Limits.{longestTerm};
+ghost use Rattle.steps_tallies.specs.Tally.{tallySize, BodiesTallied};
+ghost use Rattle.steps_entries.specs.Entries.{listRoom};
+ghost use Rattle.steps_lister.specs.PartLister.{ListPartIs};
+ghost use Rattle.steps_rows.specs.Rows.{rowBytes, mostRows};
+use steps_entries::arrange::arrange;
+use steps_entries::limits::MOST_STEPS;
+use steps_rows::rows::TABLE_OF_ROWS;
+use steps_tallies::tally::TALLY;
+use steps_tallies::tally::body_tallies;
+use steps_tallies::tally::tally;
+use steps_walk::walk::walk;
+
+pub enum ListAnswer {
+    Unsettled,
+    Count(usize),
+}
+
+// Lists the steps of a part under the definitions of an accepted question whose bodies are tallied, for the new name `x`. The area must hold as
+// many steps as the limit allows, and their index. `numbers` and `rows` are lent for the part's tally and rows; what they have before is not read.
+pub fn list_tallied(
+    question: &[u8],
+    bodies: &[u32],
+    part: &[u8],
+    x: u8,
+    numbers: &mut [u32],
+    rows: &mut [u8],
+    area: &mut [u8],
+) -> ListAnswer
+    requires { ⌜ (listRoom ≤ length (now area)) × (length (now part) ≤ longestTerm) × BodiesTallied (now question) (now bodies) × (length (now numbers) ≡ tallySize) × (rowBytes * mostRows ≤ length (now rows)) ⌝ }
+    ensures { λ r. ⌜ ListPartIs (now (question .entry)) (now (part .entry)) x r (now (area .exit)) ⌝ }
+{
+    tally(question, bodies, part, numbers);
+    let walked = walk(
+        question,
+        bodies,
+        part,
+        numbers,
+        0,
+        0,
+        0,
+        x,
+        rows,
+        0,
+        area,
+        0,
+    );
+    let n = walked.count;
+    if MOST_STEPS < n {
+        return ListAnswer::Unsettled;
+    }
+    arrange(area, n);
+    ListAnswer::Count(n)
+}
+
+// The same for bodies that are not tallied yet.
+pub fn list_part(question: &[u8], part: &[u8], x: u8, area: &mut [u8]) -> ListAnswer
+    requires { ⌜ (listRoom ≤ length (now area)) × (length (now part) ≤ longestTerm) ⌝ }
+    ensures { λ r. ⌜ ListPartIs (now (question .entry)) (now (part .entry)) x r (now (area .exit)) ⌝ }
+{
+    let bodies = body_tallies(question);
+    let mut numbers = [0u32; TALLY];
+    let mut rows = [0u8; TABLE_OF_ROWS];
+    list_tallied(question, &bodies, part, x, &mut numbers, &mut rows, area)
+}

@@ -1,0 +1,5 @@
+mod BranchLaws
+pub mod CalledPasses
+pub mod PassLaws
+mod SourceLaws
+pub mod TwoSides

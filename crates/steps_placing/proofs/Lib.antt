@@ -1,0 +1,7 @@
+mod CanonBytes
+pub mod CollectLaws
+pub mod DecidingLaws
+mod PutLaws
+mod RepeatedCandidates
+pub mod ResultScope
+mod TakeLaws

@@ -1,0 +1,3 @@
+// A step put into the list.
+pub mod candidate;
+pub mod put;

@@ -1,0 +1,4 @@
+mod AskLaws
+pub mod BesideLaws
+pub mod PlanLaws
+pub mod ResultLaws

@@ -1,0 +1,134 @@
+// Moved from result.
+ghost use mathlib.Core.Path.{_≡_};
+ghost use mathlib.Core.Bool.{false};
+ghost use mathlib.Core.List.{[], _∷_};
+ghost use Prim.Native.Nat.{_+_, _≤_, _<_};
+ghost use lib.ListN.{length, getD};
+ghost use Rattle.steps_conditions.specs.Names.{mostBinders, nameSlots, Kept};
+ghost use Rattle.steps_plans.specs.Plans.{opening, StoreIs, TermIs, WriteIs, Room};
+ghost use Rattle.steps_tallies.specs.Tally.{TallyIs, EndsTallied};
+use crate::plan::Task;
+use steps_passing::names::renaming;
+use steps_passing::names::unchanged;
+use steps_tallies::bodies::arities_of;
+use steps_tallies::tally::end_at;
+use terms_bytes::bytes::copy;
+use terms_bytes::bytes::get;
+use terms_bytes::bytes::room;
+use terms_bytes::limits::TABLE_NAMES;
+use terms_renaming::rename::rename;
+
+// One byte.
+pub fn store(out: &mut [u8], put: usize, b: u8) -> usize
+    requires { ⌜ put ≤ length (now out) ⌝ }
+    ensures { λ r. ⌜ StoreIs (now (out .entry)) put (b ∷ []) r (now (out .exit)) ⌝ }
+{
+    if out.len() <= put {
+        return out.len() + 1;
+    }
+    out[put] = b;
+    put + 1
+}
+
+// The term at `at`, renamed by the table. Where each name stays as it is, its bytes are copied.
+pub fn write_term(
+    question: &[u8],
+    src: &[u8],
+    tally: &[u32],
+    at: usize,
+    binders: usize,
+    levels: usize,
+    names: &[u8],
+    out: &mut [u8],
+    put: usize,
+) -> usize
+    requires { ⌜ (binders ≤ mostBinders) × Room levels (now out) put × EndsTallied (now question) (now src) (now tally) × (length (now names) ≡ nameSlots) ⌝ }
+    ensures { λ r. ⌜ TermIs (now (question .entry)) (now (src .entry)) at binders (now (names .entry)) levels (now (out .entry)) put r (now (out .exit)) ⌝ }
+{
+    if src.len() <= at {
+        return out.len() + 1;
+    }
+    let n = end_at(tally, at) - at;
+    if !room(out.len(), put, n) {
+        return out.len() + 1;
+    }
+    if unchanged(names, binders, levels) {
+        copy(src, at, n, out, put);
+        return put + n;
+    }
+    let table = renaming(names, binders, levels);
+    rename(src, at, arities_of(question), &table, out, put);
+    put + n
+}
+
+// The continuation of a prefix.
+pub fn write_prefix(
+    question: &[u8],
+    src: &[u8],
+    tally: &[u32],
+    at: usize,
+    binders: usize,
+    task: Task,
+    names: &mut [u8],
+    out: &mut [u8],
+    put: usize,
+) -> usize
+    requires { ⌜ (at < length (now src)) × (getD (now src) at 0 < 5) × (binders < mostBinders) × (task .still ≡ false) × (length (now names) ≡ nameSlots) × Room (task .levels) (now out) put × TallyIs (now question) (now src) (task .calls) (now tally) ⌝ }
+    ensures { λ r. ⌜ WriteIs (now (question .entry)) (now (src .entry)) at binders (now (names .entry)) task (now (out .entry)) put r (now (out .exit)) × Kept binders (now (names .entry)) (now (names .exit)) ⌝ }
+{
+    let t = get(src, at);
+    let levels = task.levels;
+    if t == 1 {
+        return write_term(
+            question,
+            src,
+            tally,
+            at + 1,
+            binders,
+            levels,
+            names,
+            out,
+            put,
+        );
+    }
+    if t == 3 {
+        return write_term(
+            question,
+            src,
+            tally,
+            at + 3,
+            binders,
+            levels,
+            names,
+            out,
+            put,
+        );
+    }
+    names[TABLE_NAMES + binders] = task.new;
+    write_term(
+        question,
+        src,
+        tally,
+        at + 2,
+        binders + 1,
+        levels,
+        names,
+        out,
+        put,
+    )
+}
+
+// The bytes before the sides of a parallel.
+pub fn open_pair(out: &mut [u8], put: usize, closed: bool) -> usize
+    requires { ⌜ put ≤ length (now out) ⌝ }
+    ensures { λ r. ⌜ StoreIs (now (out .entry)) put (opening closed) r (now (out .exit)) ⌝ }
+{
+    if !closed {
+        return store(out, put, 7);
+    }
+    let e = store(out, put, 8);
+    if out.len() < e {
+        return e;
+    }
+    store(out, e, 7)
+}

@@ -1,0 +1,2 @@
+// The result of a candidate by its number.
+pub mod result;

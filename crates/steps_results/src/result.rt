@@ -1,0 +1,357 @@
+// The bytes of a candidate's result, written in place from left to right. A table says what each name of the bytes at hand is written as, so
+// that nothing is renamed afterwards: document 01, "Action and result are rewritten by the condition". There is one table for a part: what is
+// within a binder has the binder's slot to itself. The body of a call has a table of its own.
+ghost use mathlib.Core.Path.{_≡_};
+ghost use mathlib.Core.Bool.{false};
+ghost use Prim.Native.Nat.{_+_, _≤_, _<_};
+ghost use lib.ListN.{length, getD};
+ghost use Rattle.terms.specs.Limits.{greatestArity, longestTerm};
+ghost use Rattle.steps_conditions.specs.Names.{Kept};
+ghost use Rattle.steps_results.specs.Results.{ExtrudedIs, Writing};
+ghost use Rattle.steps_plans.specs.Plans.{WriteIs, Room};
+ghost use Rattle.steps_tallies.specs.Tally.{TallyIs, BodiesTallied};
+use steps_passing::names::called;
+use steps_passing::pass::branch_of;
+use steps_passing::pass::opens;
+use steps_passing::pass::pass;
+use steps_plans::beside::copy_behind;
+use steps_plans::pieces::open_pair;
+use steps_plans::pieces::store;
+use steps_plans::pieces::write_prefix;
+use steps_plans::pieces::write_term;
+use steps_plans::plan::Task;
+use steps_plans::plan::alone;
+use steps_plans::plan::close;
+use steps_plans::plan::enter;
+use steps_plans::plan::plan_of;
+use steps_plans::plan::restrict;
+use steps_plans::plan::with_number;
+use steps_tallies::bodies::body_at;
+use steps_tallies::bodies::call_at;
+use steps_tallies::tally::body_tally;
+use terms_bytes::bytes::copy;
+use terms_bytes::bytes::get;
+use terms_bytes::bytes::room;
+use terms_bytes::limits::TABLE_NAMES;
+
+// The parallel at `at`: both sides.
+fn write_parallel(
+    question: &[u8],
+    bodies: &[u32],
+    src: &[u8],
+    tally: &[u32],
+    at: usize,
+    binders: usize,
+    task: Task,
+    names: &mut [u8],
+    out: &mut [u8],
+    put: usize,
+) -> usize
+    requires { ⌜ (at < length (now src)) × (getD (now src) at 0 ≡ 7) × (task .still ≡ false) × Writing (now question) (now bodies) (now src) (now tally) at binders (now names) task (now out) put ⌝ }
+    ensures { λ r. ⌜ WriteIs (now (question .entry)) (now (src .entry)) at binders (now (names .entry)) task (now (out .entry)) put r (now (out .exit)) × Kept binders (now (names .entry)) (now (names .exit)) ⌝ }
+{
+    let plan = plan_of(question, bodies, src, tally, at, binders, task, names);
+    let e = open_pair(out, put, plan.close);
+    if out.len() < e {
+        return e;
+    }
+    let left = plan.left;
+    let m = write(
+        question,
+        bodies,
+        src,
+        tally,
+        at + 1,
+        binders,
+        left,
+        names,
+        out,
+        e,
+    );
+    if out.len() < m {
+        return m;
+    }
+    let right = plan.right;
+    write(
+        question,
+        bodies,
+        src,
+        tally,
+        plan.middle,
+        binders,
+        right,
+        names,
+        out,
+        m,
+    )
+}
+
+// The parallel at `at`. Where a component of it steps alone and no name changes, what stands beside the component is copied: [Par].
+fn write_beside(
+    question: &[u8],
+    bodies: &[u32],
+    src: &[u8],
+    tally: &[u32],
+    at: usize,
+    binders: usize,
+    task: Task,
+    names: &mut [u8],
+    out: &mut [u8],
+    put: usize,
+) -> usize
+    requires { ⌜ (at < length (now src)) × (getD (now src) at 0 ≡ 7) × (task .still ≡ false) × Writing (now question) (now bodies) (now src) (now tally) at binders (now names) task (now out) put ⌝ }
+    ensures { λ r. ⌜ WriteIs (now (question .entry)) (now (src .entry)) at binders (now (names .entry)) task (now (out .entry)) put r (now (out .exit)) × Kept binders (now (names .entry)) (now (names .exit)) ⌝ }
+{
+    let c = alone(src, tally, at, binders, task, names);
+    let b = c.at;
+    if b <= at {
+        return write_parallel(
+            question,
+            bodies,
+            src,
+            tally,
+            at,
+            binders,
+            task,
+            names,
+            out,
+            put,
+        );
+    }
+    let n = b - at;
+    if !room(out.len(), put, n) {
+        return out.len() + 1;
+    }
+    copy(src, at, n, out, put);
+    let e = write(
+        question,
+        bodies,
+        src,
+        tally,
+        b,
+        binders,
+        with_number(task, c.number),
+        names,
+        out,
+        put + n,
+    );
+    copy_behind(src, tally, at, b, out, e)
+}
+
+// Whether the name of the restriction at `at` is extruded: [Open]. A silent action sends no name.
+fn extruded(
+    question: &[u8],
+    bodies: &[u32],
+    src: &[u8],
+    tally: &[u32],
+    at: usize,
+    binders: usize,
+    task: Task,
+) -> bool
+    requires { ⌜ (at < length (now src)) × (length (now src) ≤ longestTerm) × (binders ≤ at + greatestArity) × (task .calls ≤ 1) × TallyIs (now question) (now src) (task .calls) (now tally) × BodiesTallied (now question) (now bodies) ⌝ }
+    ensures { λ r. ⌜ ExtrudedIs (now (question .entry)) (now (src .entry)) at binders task r ⌝ }
+{
+    if task.silently {
+        return false;
+    }
+    let calls = task.calls;
+    let number = task.number;
+    let p = pass(
+        question,
+        bodies,
+        src,
+        tally,
+        at + 1,
+        binders + 1,
+        calls,
+        number,
+    );
+    opens(p.kind, p.object, binders)
+}
+
+// The restriction at `at`. It is written unless its name is extruded: [Open].
+fn write_restriction(
+    question: &[u8],
+    bodies: &[u32],
+    src: &[u8],
+    tally: &[u32],
+    at: usize,
+    binders: usize,
+    task: Task,
+    names: &mut [u8],
+    out: &mut [u8],
+    put: usize,
+) -> usize
+    requires { ⌜ (at < length (now src)) × (getD (now src) at 0 ≡ 8) × (task .still ≡ false) × Writing (now question) (now bodies) (now src) (now tally) at binders (now names) task (now out) put ⌝ }
+    ensures { λ r. ⌜ WriteIs (now (question .entry)) (now (src .entry)) at binders (now (names .entry)) task (now (out .entry)) put r (now (out .exit)) × Kept binders (now (names .entry)) (now (names .exit)) ⌝ }
+{
+    let next = at + 1;
+    let inner = binders + 1;
+    if extruded(question, bodies, src, tally, at, binders, task) {
+        names[TABLE_NAMES + binders] = task.new;
+        return write(
+            question,
+            bodies,
+            src,
+            tally,
+            next,
+            inner,
+            task,
+            names,
+            out,
+            put,
+        );
+    }
+    let e = store(out, put, 8);
+    if out.len() < e {
+        return e;
+    }
+    names[TABLE_NAMES + binders] = (TABLE_NAMES + task.levels) as u8;
+    write(
+        question,
+        bodies,
+        src,
+        tally,
+        next,
+        inner,
+        restrict(task),
+        names,
+        out,
+        e,
+    )
+}
+
+// The call at `at`: its body, with a table for the call's names.
+fn write_call(
+    question: &[u8],
+    bodies: &[u32],
+    src: &[u8],
+    at: usize,
+    binders: usize,
+    task: Task,
+    names: &[u8],
+    out: &mut [u8],
+    put: usize,
+) -> usize
+    requires { ⌜ (at < length (now src)) × (8 < getD (now src) at 0) × (task .still ≡ false) × (task .calls ≤ 1) × (length (now src) ≤ longestTerm) × (binders ≤ at + greatestArity) × Room (task .levels) (now out) put × BodiesTallied (now question) (now bodies) ⌝ }
+    ensures { λ r. ⌜ WriteIs (now (question .entry)) (now (src .entry)) at binders (now (names .entry)) task (now (out .entry)) put r (now (out .exit)) ⌝ }
+{
+    let o = call_at(question, bodies, src, at, task.calls);
+    let n = o.arity;
+    if !o.allowed {
+        return out.len() + 1;
+    }
+    let inner = enter(task);
+    let body = body_at(question, o.place);
+    let numbers = body_tally(bodies, o.definition);
+    let mut given = called(src, at + 2, n, binders, names);
+    write(
+        question,
+        bodies,
+        body,
+        numbers,
+        0,
+        n,
+        inner,
+        &mut given,
+        out,
+        put,
+    )
+}
+
+// What the task asks for of the term at `at`, from `put` on. The answer is where the bytes end, or past the end of `out` where there is no room.
+pub fn write(
+    question: &[u8],
+    bodies: &[u32],
+    src: &[u8],
+    tally: &[u32],
+    at: usize,
+    binders: usize,
+    task: Task,
+    names: &mut [u8],
+    out: &mut [u8],
+    put: usize,
+) -> usize
+    requires { ⌜ Writing (now question) (now bodies) (now src) (now tally) at binders (now names) task (now out) put ⌝ }
+    ensures { λ r. ⌜ WriteIs (now (question .entry)) (now (src .entry)) at binders (now (names .entry)) task (now (out .entry)) put r (now (out .exit)) × Kept binders (now (names .entry)) (now (names .exit)) ⌝ }
+{
+    if src.len() <= at {
+        return out.len() + 1;
+    }
+    if task.still {
+        return write_term(
+            question,
+            src,
+            tally,
+            at,
+            binders,
+            task.levels,
+            names,
+            out,
+            put,
+        );
+    }
+    let t = get(src, at);
+    if t < 5 {
+        return write_prefix(question, src, tally, at, binders, task, names, out, put);
+    }
+    if t == 5 {
+        return write(
+            question,
+            bodies,
+            src,
+            tally,
+            at + 3,
+            binders,
+            task,
+            names,
+            out,
+            put,
+        );
+    }
+    if t == 6 {
+        let b = branch_of(src, tally, at, task.silently, task.number);
+        let n = b.number;
+        return write(
+            question,
+            bodies,
+            src,
+            tally,
+            b.at,
+            binders,
+            with_number(task, n),
+            names,
+            out,
+            put,
+        );
+    }
+    if t == 7 {
+        return write_beside(
+            question,
+            bodies,
+            src,
+            tally,
+            at,
+            binders,
+            task,
+            names,
+            out,
+            put,
+        );
+    }
+    if t == 8 {
+        return write_restriction(
+            question,
+            bodies,
+            src,
+            tally,
+            at,
+            binders,
+            task,
+            names,
+            out,
+            put,
+        );
+    }
+    write_call(question, bodies, src, at, binders, task, names, out, put)
+}

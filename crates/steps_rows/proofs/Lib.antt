@@ -1,0 +1,3 @@
+mod QuietWalks
+pub mod RowLaws
+mod RowWalks

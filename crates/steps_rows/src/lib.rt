@@ -1,0 +1,2 @@
+// The rows of a component.
+pub mod rows;

@@ -1,0 +1,6 @@
+pub mod CandidateResults
+pub mod ContextLaws
+mod LocateLaws
+mod MergingLaws
+mod MetResults
+pub mod PlacedResults

@@ -1,0 +1,6 @@
+pub mod Collecting
+pub mod Contexts
+pub mod ListedParts
+pub mod Locating
+pub mod Merging
+pub mod PlacedResults

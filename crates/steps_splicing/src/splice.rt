@@ -1,0 +1,169 @@
+// The result of a step that one component of a part makes, or two that communicate: the bytes around stay, and only their own results are written.
+ghost use mathlib.Core.Path.{_≡_};
+ghost use Prim.Native.Nat.{_≤_, _<_};
+ghost use lib.ListN.{length};
+ghost use Rattle.terms.specs.Limits.{longestTerm};
+ghost use Rattle.steps_conditions.specs.Names.{mostBinders, OwnNames};
+ghost use Rattle.steps_tallies.specs.Tally.{TallyIs, BodiesTallied};
+ghost use Rattle.steps_splicing.specs.Locating.{HoleIs, MetResultIs};
+ghost use Rattle.steps_splicing.specs.PlacedResults.{PlacedResultIs};
+use crate::locate::Located;
+use steps_passing::names::NAME_SLOTS;
+use steps_plans::plan::Task;
+use steps_results::result::write;
+use steps_tallies::tally::end_at;
+use terms_bytes::bytes::copy;
+use terms_bytes::bytes::room;
+use terms_bytes::limits::LONGEST_TERM;
+use terms_bytes::limits::TABLE_NAMES;
+
+// The table where each name stands for itself.
+pub fn own_names(binders: usize) -> [u8; NAME_SLOTS]
+    requires { ⌜ binders ≤ mostBinders ⌝ }
+    ensures { λ r. ⌜ OwnNames binders r ⌝ }
+{
+    let n = TABLE_NAMES + binders;
+    let mut names = [0u8; NAME_SLOTS];
+    let mut i = 0;
+    while i < n {
+        names[i] = i as u8;
+        i += 1;
+    }
+    names
+}
+
+// The part with the result of the candidate number `j` of the term at `at` in the term's place. The answer is where the bytes end, or past the end
+// of `out` where there is no room.
+pub fn write_placed(
+    question: &[u8],
+    bodies: &[u32],
+    part: &[u8],
+    tally: &[u32],
+    at: usize,
+    depth: usize,
+    silently: bool,
+    j: usize,
+    x: u8,
+    out: &mut [u8],
+) -> usize
+    requires { ⌜ (depth ≤ at) × (at < length (now part)) × (length (now part) ≤ longestTerm) × (length (now out) ≡ longestTerm) × TallyIs (now question) (now part) 1 (now tally) × BodiesTallied (now question) (now bodies) ⌝ }
+    ensures { λ r. ⌜ PlacedResultIs (now (question .entry)) (now (part .entry)) at depth silently j x (now (out .entry)) r (now (out .exit)) ⌝ }
+{
+    let task = Task {
+        new: x,
+        levels: depth,
+        calls: 1,
+        still: false,
+        silently,
+        number: j,
+    };
+    let mut names = own_names(depth);
+    copy(part, 0, at, out, 0);
+    let put = write(
+        question,
+        bodies,
+        part,
+        tally,
+        at,
+        depth,
+        task,
+        &mut names,
+        out,
+        at,
+    );
+    let end = end_at(tally, at);
+    let n = part.len() - end;
+    if room(LONGEST_TERM, put, n) {
+        copy(part, end, n, out, put);
+        return put + n;
+    }
+    LONGEST_TERM + 1
+}
+
+// The part's bytes from `from` up to a component, and the result of its candidate, where `new` is received. The answer is where the bytes end, or past
+// the end of `out` where there is no room.
+fn write_hole(
+    question: &[u8],
+    bodies: &[u32],
+    part: &[u8],
+    tally: &[u32],
+    from: usize,
+    hole: Located,
+    new: u8,
+    out: &mut [u8],
+    put: usize,
+) -> usize
+    requires { ⌜ (hole .depth ≤ hole .at) × (hole .at ≤ length (now part)) × (length (now part) ≤ longestTerm) × (length (now out) ≡ longestTerm) × (put ≤ longestTerm) × TallyIs (now question) (now part) 1 (now tally) × BodiesTallied (now question) (now bodies) ⌝ }
+    ensures { λ r. ⌜ HoleIs (now (question .entry)) (now (part .entry)) from hole new (now (out .entry)) put r (now (out .exit)) ⌝ }
+{
+    let at = hole.at;
+    let levels = hole.depth;
+    if at < from {
+        return LONGEST_TERM + 1;
+    }
+    let n = at - from;
+    if !room(LONGEST_TERM, put, n) {
+        return LONGEST_TERM + 1;
+    }
+    let e = put + n;
+    if e < levels {
+        return LONGEST_TERM + 1;
+    }
+    copy(part, from, n, out, put);
+    let task = Task {
+        new,
+        levels,
+        calls: 1,
+        still: false,
+        silently: false,
+        number: hole.number,
+    };
+    let mut names = own_names(levels);
+    write(
+        question,
+        bodies,
+        part,
+        tally,
+        at,
+        levels,
+        task,
+        &mut names,
+        out,
+        e,
+    )
+}
+
+// The part with the results of two components that communicate in their places: [Com]. The answer is as above.
+pub fn write_met(
+    question: &[u8],
+    bodies: &[u32],
+    part: &[u8],
+    tally: &[u32],
+    left: Located,
+    right: Located,
+    new: u8,
+    out: &mut [u8],
+) -> usize
+    requires { ⌜ (left .depth ≤ left .at) × (left .at ≤ length (now part)) × (right .depth ≤ right .at) × (right .at ≤ length (now part)) × (length (now part) ≤ longestTerm) × (length (now out) ≡ longestTerm) × TallyIs (now question) (now part) 1 (now tally) × BodiesTallied (now question) (now bodies) ⌝ }
+    ensures { λ r. ⌜ MetResultIs (now (question .entry)) (now (part .entry)) left right new (now (out .entry)) r (now (out .exit)) ⌝ }
+{
+    let m = write_hole(question, bodies, part, tally, 0, left, new, out, 0);
+    if LONGEST_TERM < m {
+        return m;
+    }
+    let from = end_at(tally, left.at);
+    let e = write_hole(question, bodies, part, tally, from, right, new, out, m);
+    if LONGEST_TERM < e {
+        return e;
+    }
+    let end = end_at(tally, right.at);
+    if part.len() < end {
+        return LONGEST_TERM + 1;
+    }
+    let n = part.len() - end;
+    if room(LONGEST_TERM, e, n) {
+        copy(part, end, n, out, e);
+        return e + n;
+    }
+    LONGEST_TERM + 1
+}

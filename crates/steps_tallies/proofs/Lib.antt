@@ -1,0 +1,8 @@
+mod BodyPlaces
+pub mod CallLaws
+pub mod CandidateForms
+pub mod FrontLaws
+pub mod Numbering
+pub mod Premises
+mod TallyLaws
+pub mod TallyLoops

@@ -1,0 +1,5 @@
+pub mod Bodies
+pub mod Candidates
+pub mod Fronts
+pub mod Tally
+pub mod Tallying

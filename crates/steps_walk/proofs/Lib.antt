@@ -1,0 +1,4 @@
+mod ComponentLaws
+mod VisibleBound
+pub mod WalkLaws
+pub mod WalksPart

@@ -1,0 +1,50 @@
+-- `steps::walk::take_silent` meets its contract. Assumes nothing.
+use mathlib.Core.Path.{subst}
+use Rattle.steps_rows.specs.Rows.{QuietIs}
+use borrow.Author.Needs.{needs}
+use Rattle.steps_walk.proofs.walk.take_silent.Statement.{statement}
+use Rattle.steps_walk.proofs.walk.take_silent.Tie as tie
+
+quiet-requires : tie.Need-quiet-requires
+quiet-requires c κs = search needs
+
+take-quiet-requires : tie.Need-take-quiet-requires
+take-quiet-requires c κs =
+    let c8 = c .before .before .before .before .before .before .before .before in
+    let v = c8 .args in (
+      c8 .pre .0,
+      c8 .pre .1,
+      subst (λ b. QuietIs (v .question .now) (v .part .now) (v .at) 1 b) (c .before .if1 .taken)
+          (c .before .before .quiet .ensures),
+    )
+
+same-length : tie.Need-same-length
+same-length c = search needs
+
+returns : tie.Need-returns
+returns c =
+    let c11 = c .before .before .before .before .before .before .before .before .before .before .before in
+    c .before .before .take-quiet .ensures (c11 .args .number)
+
+take-numbered-requires : tie.Need-take-numbered-requires
+take-numbered-requires c κs = search needs
+
+same-length-2 : tie.Need-same-length-2
+same-length-2 c = search needs
+
+returns-2 : tie.Need-returns-2
+returns-2 c =
+    let c11 = c .before .before .before .before .before .before .before .before .before .before .before in
+    c .before .before .take-numbered .ensures (c11 .args .depth)
+
+pub take-silent-spec : {M : Type 1} → statement M
+take-silent-spec =
+    tie.close
+    (tie.spec
+    quiet-requires
+    take-quiet-requires
+    same-length
+    returns
+    take-numbered-requires
+    same-length-2
+    returns-2)

@@ -1,0 +1,2 @@
+// The walk of a part.
+pub mod walk;

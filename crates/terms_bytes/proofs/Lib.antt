@@ -1,0 +1,4 @@
+pub mod NameTables
+pub mod Places
+pub mod Shapes
+pub mod Stores

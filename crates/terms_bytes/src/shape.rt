@@ -1,0 +1,93 @@
+// The shape of a term by its first byte: document 01, the table of bytes. What it keeps, how many names and subterms it has.
+ghost use mathlib.Core.Path.{_≡_};
+ghost use Prim.Native.Nat.{_<_};
+ghost use lib.ListN.{length};
+ghost use Rattle.terms_bytes.specs.Shape.{namesBehind, bindersAt, partsAt, ShapeIs};
+use crate::bytes::get;
+
+pub struct Shape {
+    // the bytes that no renaming changes: the first, and a call's number
+    pub fixed: usize,
+    // the names behind those
+    pub names: usize,
+    // the binders before the subterms
+    pub binds: usize,
+    // the subterms
+    pub parts: usize,
+}
+
+// How many names stand behind the first byte, unless it is a call's. Tests take less than a table, which would be made anew at each call.
+fn names_of(t: usize) -> usize
+    ensures { λ r. ⌜ r ≡ namesBehind t ⌝ }
+{
+    if t == 2 {
+        return 1;
+    }
+    if t == 3 {
+        return 2;
+    }
+    if t == 4 {
+        return 1;
+    }
+    if t == 5 {
+        return 2;
+    }
+    0
+}
+
+fn binders_of(t: usize) -> usize
+    ensures { λ r. ⌜ r ≡ bindersAt t ⌝ }
+{
+    if t == 2 {
+        return 1;
+    }
+    if t == 4 {
+        return 1;
+    }
+    if t == 8 {
+        return 1;
+    }
+    0
+}
+
+fn parts_of(t: usize) -> usize
+    ensures { λ r. ⌜ r ≡ partsAt t ⌝ }
+{
+    if t == 0 {
+        return 0;
+    }
+    if t == 6 {
+        return 2;
+    }
+    if t == 7 {
+        return 2;
+    }
+    if t < 9 {
+        return 1;
+    }
+    0
+}
+
+// The shape of what begins at `at`.
+pub fn shape_at(src: &[u8], at: usize, arities: &[u8]) -> Shape
+    requires { ⌜ at < length (now src) ⌝ }
+    ensures { λ r. ⌜ ShapeIs (now (src .entry)) at (now (arities .entry)) r ⌝ }
+{
+    let t = get(src, at) as usize;
+    if t == 9 {
+        let k = get(src, at + 1) as usize;
+        let n = get(arities, k) as usize;
+        return Shape {
+            fixed: 2,
+            names: n,
+            binds: 0,
+            parts: 0,
+        };
+    }
+    Shape {
+        fixed: 1,
+        names: names_of(t),
+        binds: binders_of(t),
+        parts: parts_of(t),
+    }
+}

@@ -1,0 +1,181 @@
+-- Checks 5 to 12 as the code makes them: the walk of all terms first, then the tests that it gathered.
+use mathlib.Core.Path.{_≡_, refl, sym, ap, ap₂, _∙_}
+use mathlib.Core.Bool.{Bool, true, false, _&&_}
+use mathlib.Core.List.{List, [], _∷_}
+use Prim.Native.Nat.{ℕ, _≤_, _<_}
+use lib.ListN.{length}
+use lib.Dec.{leb}
+use borrow.Author.Tests.{le-leb, lt-leb}
+use Rattle.calculus.specs.Cond.{Pairs}
+use Rattle.calculus.specs.Term.{Term}
+use Rattle.terms.specs.Answer.{Answer, refused, result, _>>=_, _>>_, need}
+use Rattle.terms_checks.specs.Checking.{checkedAnswer, zeroFor, met, controlOfAll, bodiesScanned, partsScanned, ofBoth, termsScanned}
+use Rattle.terms.specs.Framing.{Fields}
+use Rattle.terms.specs.Grammar.{sequential, parallelOutermost, guarded}
+use Rattle.terms.specs.Limits.{nameCount, mostDefinitions, greatestArity}
+use Rattle.terms.specs.Question.{Question, all, fits, readBodies, readPart, readApart, checkTerms, checkFields}
+use Rattle.terms.specs.Reading.{readWhole}
+use Rattle.terms_checks.specs.Scanning.{controlOf, passing, scannedWhole, wholeAnswer}
+use Rattle.terms_checks.specs.declared.check.Checked.the-variants.{Accepted, Refused}
+use Rattle.terms_checks.specs.declared.scan.Control.{Control}
+use Rattle.terms_checks.specs.declared.scan.Scan.the-variants.{End, Fault}
+use Rattle.terms.proofs.Answers.{bind-to, bind-refused}
+
+-- Both parts.
+module _ (arities first second : List ℕ) where
+  parts-step : partsScanned arities first second
+      ≡ (scannedWhole nameCount arities 0 first >>= λ p. (scannedWhole nameCount arities 0 second >>= λ q. result (met p q)))
+  unfolding partsScanned scannedWhole readPart _>>=_
+  parts-step = go (readWhole nameCount arities 0 first) (readWhole nameCount arities 0 second)
+    where
+      go : (m n : Answer Term) → (m >>= λ P. (n >>= λ Q. result (met (controlOf P) (controlOf Q))))
+          ≡ ((m >>= λ P. result (controlOf P)) >>= λ p. ((n >>= λ Q. result (controlOf Q)) >>= λ q. result (met p q)))
+      go (refused k) n = refl
+      go (result P) (refused k) = refl
+      go (result P) (result Q) = refl
+
+  pub first-fault : (k : ℕ) → scannedWhole nameCount arities 0 first ≡ wholeAnswer (Fault k) → partsScanned arities first second ≡ wholeAnswer (Fault k)
+  unfolding wholeAnswer
+  first-fault k e = parts-step ∙ bind-refused _ e
+
+  module _ (l : ℕ) (p : Control) (one : scannedWhole nameCount arities 0 first ≡ wholeAnswer (End l p)) where
+    pub second-fault : (k : ℕ) → scannedWhole nameCount arities 0 second ≡ wholeAnswer (Fault k) →
+        partsScanned arities first second ≡ wholeAnswer (Fault k)
+    unfolding wholeAnswer
+    second-fault k e = parts-step ∙ bind-to _ one ∙ bind-refused _ e
+
+    pub parts-both : (l₁ l₂ : ℕ) (q c : Control) → scannedWhole nameCount arities 0 second ≡ wholeAnswer (End l₁ q) → c ≡ met p q →
+        partsScanned arities first second ≡ wholeAnswer (End l₂ c)
+    unfolding wholeAnswer
+    parts-both l₁ l₂ q c e m = parts-step ∙ bind-to _ one ∙ bind-to _ e ∙ rw m
+
+-- All terms.
+module _ (f : Fields) where
+  pub bodies-wrong : (k : ℕ) → bodiesScanned (f .arities) (f .arities) (f .bodies) ≡ wholeAnswer (Fault k) → termsScanned f ≡ wholeAnswer (Fault k)
+  unfolding termsScanned wholeAnswer
+  bodies-wrong k e = bind-refused _ e
+
+  module _ (l : ℕ) (p : Control) (bodies : bodiesScanned (f .arities) (f .arities) (f .bodies) ≡ wholeAnswer (End l p)) where
+    pub parts-wrong : (k : ℕ) → partsScanned (f .arities) (f .first) (f .second) ≡ wholeAnswer (Fault k) → termsScanned f ≡ wholeAnswer (Fault k)
+    unfolding termsScanned wholeAnswer
+    parts-wrong k e = bind-to _ bodies ∙ bind-refused _ e
+
+    pub terms-right : (l₁ l₂ : ℕ) (q : Control) → partsScanned (f .arities) (f .first) (f .second) ≡ wholeAnswer (End l₁ q) →
+        termsScanned f ≡ wholeAnswer (End l₂ (record { sequential = p .sequential; outermost = q .outermost; guarded = p .guarded }))
+    unfolding termsScanned wholeAnswer ofBoth
+    terms-right l₁ l₂ q e = bind-to _ bodies ∙ bind-to _ e
+
+-- The tests over all bodies.
+all-sequential : (Ps : List Term) → controlOfAll Ps .sequential ≡ all sequential Ps
+unfolding controlOfAll met controlOf passing all
+all-sequential [] = refl
+all-sequential (P ∷ Ps) = ap (λ b. sequential P && b) (all-sequential Ps)
+
+all-guarded : (Ps : List Term) → controlOfAll Ps .guarded ≡ all guarded Ps
+unfolding controlOfAll met controlOf passing all
+all-guarded [] = refl
+all-guarded (P ∷ Ps) = ap (λ b. guarded P && b) (all-guarded Ps)
+
+and-assoc : (x y z : Bool) → ((x && y) && z) ≡ (x && (y && z))
+and-assoc true y z = refl
+and-assoc false y z = refl
+
+-- What is left once all terms are walked.
+unfoldable pub behindTerms : List ℕ → Control → Answer ℕ
+behindTerms apart c = need 10 (c .sequential && c .outermost) >> (need 11 (c .guarded) >> zeroFor (readApart apart))
+
+module _ (f : Fields) where
+  abbrev made : List Term → Term → Term → Pairs → Answer Question
+  made B P Q D = result (record { arities = f .arities; bodies = B; first = P; second = Q; apart = D })
+
+  tests-same : (t u : Bool) (m : Answer Pairs) (B : List Term) (P Q : Term) →
+      zeroFor (need 10 t >> (need 11 u >> (m >>= made B P Q))) ≡ (need 10 t >> (need 11 u >> zeroFor m))
+  unfolding zeroFor need _>>_ _>>=_
+  tests-same false u m B P Q = refl
+  tests-same true false m B P Q = refl
+  tests-same true true (refused k) B P Q = refl
+  tests-same true true (result D) B P Q = refl
+
+  pub terms-first : zeroFor (checkTerms f) ≡ (termsScanned f >>= behindTerms (f .apart))
+  unfolding checkTerms termsScanned bodiesScanned partsScanned behindTerms ofBoth met controlOf zeroFor _>>=_
+  terms-first = go (readBodies (f .arities) (f .arities) (f .bodies)) (readPart (f .arities) (f .first)) (readPart (f .arities) (f .second))
+    where
+      go : (m : Answer (List Term)) (n o : Answer Term) →
+          zeroFor
+          (m >>= λ B. (n >>= λ P. (o >>= λ Q.
+          (need 10 (all sequential B && parallelOutermost P && parallelOutermost Q)
+          >> (need 11 (all guarded B) >> (readApart (f .apart) >>= made B P Q))))))
+          ≡ (((m >>= λ Ps. result (controlOfAll Ps))
+          >>= λ b. ((n >>= λ P. (o >>= λ Q. result (met (controlOf P) (controlOf Q)))) >>= λ p. result (ofBoth b p)))
+          >>= behindTerms (f .apart))
+      go (refused k) n o = refl
+      go (result B) (refused k) o = refl
+      go (result B) (result P) (refused k) = refl
+      go (result B) (result P) (result Q) =
+          tests-same (all sequential B && parallelOutermost P && parallelOutermost Q) (all guarded B) (readApart (f .apart)) B P Q
+          ∙ ap₂ (λ t u. need 10 t >> (need 11 u >> zeroFor (readApart (f .apart))))
+          (and-assoc (all sequential B) (parallelOutermost P) (parallelOutermost Q)
+          ∙ ap (λ b. b && (parallelOutermost P && parallelOutermost Q)) (sym (all-sequential B)))
+          (sym (all-guarded B))
+
+  -- The ways out behind the walk.
+  pub terms-fault : (k : ℕ) → termsScanned f ≡ wholeAnswer (Fault k) → zeroFor (checkTerms f) ≡ checkedAnswer (Refused k)
+  unfolding wholeAnswer checkedAnswer
+  terms-fault k e = terms-first ∙ bind-refused _ e
+
+  module _ (l : ℕ) (c : Control) (walked : termsScanned f ≡ wholeAnswer (End l c)) where
+    behind : zeroFor (checkTerms f) ≡ behindTerms (f .apart) c
+    unfolding wholeAnswer
+    behind = terms-first ∙ bind-to _ walked
+
+    pub parallel-refused : (c .sequential && c .outermost) ≡ false → zeroFor (checkTerms f) ≡ checkedAnswer (Refused 10)
+    unfolding behindTerms checkedAnswer need _>>_
+    parallel-refused e = behind ∙ rw e
+
+    module _ (t : (c .sequential && c .outermost) ≡ true) where
+      pub call-refused : c .guarded ≡ false → zeroFor (checkTerms f) ≡ checkedAnswer (Refused 11)
+      unfolding behindTerms checkedAnswer need _>>_
+      call-refused e = behind ∙ rw (t, e)
+
+      module _ (g : c .guarded ≡ true) where
+        last-check : zeroFor (checkTerms f) ≡ zeroFor (readApart (f .apart))
+        unfolding behindTerms need _>>_
+        last-check = behind ∙ rw (t, g)
+
+        pub apart-refused : zeroFor (readApart (f .apart)) ≡ zeroFor (need 12 false) → zeroFor (checkTerms f) ≡ checkedAnswer (Refused 12)
+        unfolding checkedAnswer need zeroFor _>>=_
+        apart-refused e = last-check ∙ e
+
+        pub all-accepted : zeroFor (readApart (f .apart)) ≡ zeroFor (need 12 true) → zeroFor (checkTerms f) ≡ checkedAnswer Accepted
+        unfolding checkedAnswer need zeroFor _>>=_
+        all-accepted e = last-check ∙ e
+
+-- Checks 5 and 6.
+module _ (f : Fields) where
+  pub many-refused : mostDefinitions < length (f .arities) → zeroFor (checkFields f) ≡ checkedAnswer (Refused 5)
+  unfolding checkFields checkedAnswer zeroFor need _>>_ _>>=_
+  many-refused h = rw (lt-leb (length (f .arities)) mostDefinitions h)
+
+  module _ (few : length (f .arities) ≤ mostDefinitions) where
+    pub arity-refused : all (λ a. leb a greatestArity) (f .arities) ≡ false → zeroFor (checkFields f) ≡ checkedAnswer (Refused 5)
+    unfolding checkFields checkedAnswer zeroFor need _>>_ _>>=_
+    arity-refused e = rw (le-leb (length (f .arities)) mostDefinitions few, e)
+
+    module _ (small : all (λ a. leb a greatestArity) (f .arities) ≡ true) where
+      pub body-refused : all fits (f .bodies) ≡ false → zeroFor (checkFields f) ≡ checkedAnswer (Refused 6)
+      unfolding checkFields checkedAnswer zeroFor need _>>_ _>>=_
+      body-refused e = rw (le-leb (length (f .arities)) mostDefinitions few, small, e)
+
+      module _ (bodies : all fits (f .bodies) ≡ true) where
+        pub first-refused : fits (f .first) ≡ false → zeroFor (checkFields f) ≡ checkedAnswer (Refused 6)
+        unfolding checkFields checkedAnswer zeroFor need _>>_ _>>=_
+        first-refused e = rw (le-leb (length (f .arities)) mostDefinitions few, small, bodies, e)
+
+        module _ (first : fits (f .first) ≡ true) where
+          pub second-refused : fits (f .second) ≡ false → zeroFor (checkFields f) ≡ checkedAnswer (Refused 6)
+          unfolding checkFields checkedAnswer zeroFor need _>>_ _>>=_
+          second-refused e = rw (le-leb (length (f .arities)) mostDefinitions few, small, bodies, first, e)
+
+          pub fields-right : fits (f .second) ≡ true → zeroFor (checkFields f) ≡ zeroFor (checkTerms f)
+          unfolding checkFields need _>>_
+          fields-right e = rw (le-leb (length (f .arities)) mostDefinitions few, small, bodies, first, e)

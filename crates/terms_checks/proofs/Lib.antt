@@ -1,0 +1,9 @@
+mod CheckLaws
+mod CheckPlaces
+mod CheckTerms
+mod CheckWhole
+mod ControlLaws
+mod FramedPlaces
+mod ScanLaws
+mod ScanShapes
+mod ScanTerms

@@ -1,0 +1,12 @@
+-- `terms::scan::passed` meets its contract. Assumes nothing.
+use mathlib.Core.Path.{refl}
+use Rattle.terms_checks.specs.Scanning.{passing}
+use Rattle.terms_checks.proofs.scan.passed.Statement.{statement}
+use Rattle.terms_checks.proofs.scan.passed.Tie as tie
+
+returns : tie.Need-returns
+unfolding passing
+returns c = refl
+
+pub passed-spec : {M : Type 1} → statement M
+passed-spec = tie.close (tie.spec returns)

@@ -1,0 +1,3 @@
+// Checks 3 to 12 of a question.
+pub mod check;
+pub mod scan;

@@ -1,0 +1,193 @@
+// The grammar walk: checks 7, 8 and 9 in one pass over a term's bytes from left to right, the first fault deciding. It gathers what checks 10
+// and 11 will ask of the term, so that no later check walks again.
+ghost use mathlib.Core.Path.{_≡_};
+ghost use mathlib.Core.Bool.{_&&_};
+ghost use Prim.Native.Nat.{_+_, _≤_};
+ghost use Rattle.terms_checks.specs.Scanning.{nameAllowed, NamesIs, FrontIs, passing, combined, ScanIs, scannedWhole, wholeAnswer};
+use terms_bytes::bytes::get;
+use terms_bytes::shape::shape_at;
+
+// What checks 10 and 11 ask of a term: no parallel in it; parallels beneath nothing but parallels and restrictions; every call beneath a prefix.
+pub struct Control {
+    pub sequential: bool,
+    pub outermost: bool,
+    pub guarded: bool,
+}
+
+// Where the bytes before the subterms end, or the check that they fail.
+pub enum Front {
+    Next(usize),
+    Wrong(u8),
+}
+
+// Where a term ends and what it is, or the check that it fails.
+pub enum Scan {
+    End(usize, Control),
+    Fault(u8),
+}
+
+// Whether `b` is a name under `depth` binders, where `free` names may stand free.
+fn is_name(b: u8, depth: usize, free: usize) -> bool
+    ensures { λ r. ⌜ r ≡ nameAllowed free depth b ⌝ }
+{
+    let n = b as usize;
+    if n < free {
+        return true;
+    }
+    if n < 128 {
+        return false;
+    }
+    if n - 128 < depth {
+        return true;
+    }
+    false
+}
+
+// The `count` names that begin at `from`.
+fn scan_names(src: &[u8], from: usize, count: usize, depth: usize, free: usize) -> Front
+    ensures { λ r. ⌜ NamesIs free depth count (now (src .entry)) from r ⌝ }
+{
+    let mut at = from;
+    let mut left = count;
+    while 0 < left {
+        if src.len() <= at {
+            return Front::Wrong(7);
+        }
+        if !is_name(src[at], depth, free) {
+            return Front::Wrong(9);
+        }
+        at += 1;
+        left -= 1;
+    }
+    Front::Next(at)
+}
+
+// The first byte of a term, a call's number and the names behind it.
+fn scan_front(src: &[u8], at: usize, depth: usize, free: usize, arities: &[u8]) -> Front
+    ensures { λ r. ⌜ FrontIs free (now (arities .entry)) depth (now (src .entry)) at r ⌝ }
+{
+    if src.len() <= at {
+        return Front::Wrong(7);
+    }
+    let t = get(src, at);
+    if 9 < t {
+        return Front::Wrong(7);
+    }
+    let h = shape_at(src, at, arities);
+    let names = h.names;
+    if t == 9 {
+        if src.len() <= at + 1 {
+            return Front::Wrong(7);
+        }
+        if arities.len() <= get(src, at + 1) as usize {
+            return Front::Wrong(8);
+        }
+        return scan_names(src, at + 2, names, depth, free);
+    }
+    scan_names(src, at + 1, names, depth, free)
+}
+
+// Both tests.
+pub fn both(x: bool, y: bool) -> bool
+    ensures { λ r. ⌜ r ≡ (x && y) ⌝ }
+{
+    if x { y } else { false }
+}
+
+// The tests of a subterm that is not there.
+pub fn passed() -> Control
+    ensures { λ r. ⌜ r ≡ passing ⌝ }
+{
+    Control {
+        sequential: true,
+        outermost: true,
+        guarded: true,
+    }
+}
+
+// The tests of a term from its first byte and those of its subterms.
+fn combine(t: u8, p: Control, q: Control) -> Control
+    ensures { λ r. ⌜ r ≡ combined t p q ⌝ }
+{
+    let s = both(p.sequential, q.sequential);
+    let o = both(p.outermost, q.outermost);
+    let g = both(p.guarded, q.guarded);
+    match t {
+        1..=4 => Control {
+            sequential: s,
+            outermost: s,
+            guarded: true,
+        },
+        7 => Control {
+            sequential: false,
+            outermost: o,
+            guarded: g,
+        },
+        8 => Control {
+            sequential: s,
+            outermost: o,
+            guarded: g,
+        },
+        9 => Control {
+            sequential: s,
+            outermost: s,
+            guarded: false,
+        },
+        _ => Control {
+            sequential: s,
+            outermost: s,
+            guarded: g,
+        },
+    }
+}
+
+// The term at `at`.
+fn scan_term(src: &[u8], at: usize, depth: usize, free: usize, arities: &[u8]) -> Scan
+    requires { ⌜ depth ≤ at + 255 ⌝ }
+    ensures { λ r. ⌜ ScanIs free (now (arities .entry)) depth (now (src .entry)) at r ⌝ }
+{
+    let f = scan_front(src, at, depth, free, arities);
+    match f {
+        Front::Wrong(k) => Scan::Fault(k),
+        Front::Next(n) => {
+            let h = shape_at(src, at, arities);
+            let parts = h.parts;
+            let deeper = depth + h.binds;
+            let t = get(src, at);
+            if parts == 0 {
+                return Scan::End(n, combine(t, passed(), passed()));
+            }
+            let one = scan_term(src, n, deeper, free, arities);
+            match one {
+                Scan::Fault(k) => Scan::Fault(k),
+                Scan::End(e, p) => {
+                    if parts == 1 {
+                        return Scan::End(e, combine(t, p, passed()));
+                    }
+                    let two = scan_term(src, e, deeper, free, arities);
+                    match two {
+                        Scan::Fault(k) => Scan::Fault(k),
+                        Scan::End(last, q) => Scan::End(last, combine(t, p, q)),
+                    }
+                }
+            }
+        }
+    }
+}
+
+// A whole body or part: nothing may follow its term.
+pub fn scan_whole(src: &[u8], depth: usize, free: usize, arities: &[u8]) -> Scan
+    requires { ⌜ depth ≤ 255 ⌝ }
+    ensures { λ r. ⌜ scannedWhole free (now (arities .entry)) depth (now (src .entry)) ≡ wholeAnswer r ⌝ }
+{
+    let r = scan_term(src, 0, depth, free, arities);
+    match r {
+        Scan::Fault(k) => Scan::Fault(k),
+        Scan::End(e, c) => {
+            if e < src.len() {
+                return Scan::Fault(7);
+            }
+            Scan::End(e, c)
+        }
+    }
+}

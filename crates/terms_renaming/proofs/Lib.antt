@@ -1,0 +1,4 @@
+pub mod Filling
+mod FreeMarks
+pub mod FreeTests
+mod RenamingWalk

@@ -1,0 +1,2 @@
+pub mod FreeFlags
+pub mod Renaming

@@ -1,0 +1,4 @@
+// Free names, tables of names and renaming.
+pub mod free;
+pub mod rename;
+pub mod tables;

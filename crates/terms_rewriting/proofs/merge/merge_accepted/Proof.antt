@@ -1,0 +1,172 @@
+-- `terms::merge::merge_accepted` meets its contract. Assumes nothing.
+use mathlib.Core.Path.{_≡_, sym, ap, _∙_}
+use mathlib.Core.Logic.{inl, inr}
+use mathlib.Core.Bool.{not}
+use native.Mathlib.Omega.{arith}
+use lib.ListN.{length}
+use borrow.Author.Needs.{needs}
+use Rattle.terms_bytes.specs.FieldPlaces.{fieldPlace}
+use Rattle.terms_rewriting.specs.Writing.{Accepted, WritesMerged}
+use Rattle.terms.proofs.FramingLaws.{bytes-by-place}
+use Rattle.terms_rewriting.proofs.QuestionPlaces.{accepted-joined, accepted-apart}
+use Rattle.terms_rewriting.proofs.MergeWriting.{merged-length}
+use Rattle.terms_rewriting.proofs.MergeChecks.{does-refused, does-write, merge-turned, merge-short, merge-writes, name-too-large, may-merge}
+use Rattle.terms.specs.Operations.{mergedQuestion}
+use Rattle.terms.specs.Question.{write}
+use Rattle.terms_rewriting.proofs.merge.merge_accepted.Statement.{statement}
+use Rattle.terms_rewriting.proofs.merge.merge_accepted.Tie as tie
+
+returns : tie.Need-returns
+unfolding Accepted
+returns c =
+    let c3 = c .before .before .before in
+    let v = c3 .args in
+    let s = v .question .now in
+    let q = c3 .pre .0 in
+    let e = c3 .pre .1 in
+    let a = v .a in
+    let b = v .b in
+    let room = length (v .area .now) in
+    does-refused _ _ 14 (merge-turned s q e a b room (name-too-large s q e a b room (inl (c .if1 .taken))))
+
+returns-2 : tie.Need-returns-2
+unfolding Accepted
+returns-2 c =
+    let c4 = c .before .before .before .before in
+    let v = c4 .args in
+    let s = v .question .now in
+    let q = c4 .pre .0 in
+    let e = c4 .pre .1 in
+    let a = v .a in
+    let b = v .b in
+    let room = length (v .area .now) in
+    does-refused _ _ 14 (merge-turned s q e a b room (name-too-large s q e a b room (inr (c .if2 .taken))))
+
+definitions-requires : tie.Need-definitions-requires
+definitions-requires c κs = search needs
+
+field-place-requires : tie.Need-field-place-requires
+field-place-requires c κs = search needs
+
+after-field-requires : tie.Need-after-field-requires
+after-field-requires c κs = search needs
+
+after-field-requires-2 : tie.Need-after-field-requires-2
+after-field-requires-2 c κs = search needs
+
+field-at-requires : tie.Need-field-at-requires
+field-at-requires c κs = search needs
+
+cast-holds-apart : tie.Need-cast-holds-apart
+cast-holds-apart c = search needs
+
+cast-holds-apart-2 : tie.Need-cast-holds-apart-2
+cast-holds-apart-2 c = search needs
+
+holds-apart-requires : tie.Need-holds-apart-requires
+holds-apart-requires c κs = search needs
+
+returns-3 : tie.Need-returns-3
+unfolding Accepted
+returns-3 c =
+    let v = c .before .before .before .before .before .before .before .before .before .before .before .args in
+    let s = v .question .now in let q = c .before .before .before .before .before .before .before .before .before .before .before .pre .0 in let e =
+    c .before .before .before .before .before .before .before .before .before .before .before .pre .1 in let a = v .a in let b = v .b in let room =
+    length (v .area .now) in let bytes = bytes-by-place s (λ i. omega (
+      arith,
+      c .before .before .before .before .before .before .before .before .before .before .shared-slice-known .given i,
+    )) in let x =
+    c .before .before .before .before .before .field-place .ensures ∙ ap (fieldPlace s)
+    (c .before .before .before .before .before .before .definitions .ensures .0) in let p = accepted-apart s bytes q e
+    (c .before .before .before .before .before .field-place .result) (c .before .before .before .before .after-field .result)
+    (c .before .before .before .after-field2 .result) x (c .before .before .before .before .after-field .ensures)
+    (c .before .before .before .after-field2 .ensures) in let h = may-merge s q e a b room (c .before .holds-apart .result)
+    (c .before .holds-apart .ensures (q .apart) (c .before .before .field-at .ensures ∙ p)) (search needs) (search needs) in does-refused _ _ 14
+    (merge-turned s q e a b room (h ∙ ap not (c .if3 .taken)))
+
+returns-4 : tie.Need-returns-4
+unfolding Accepted
+returns-4 c =
+    let v = c .before .before .before .before .before .before .before .before .before .before .before .before .args in
+    let s = v .question .now in let q = c .before .before .before .before .before .before .before .before .before .before .before .before .pre .0 in
+    let e = c .before .before .before .before .before .before .before .before .before .before .before .before .pre .1 in let a = v .a in let b = v .b
+    in let room = length (v .area .now) in let bytes = bytes-by-place s (λ i. omega (
+      arith,
+      c .before .before .before .before .before .before .before .before .before .before .before .shared-slice-known .given i,
+    )) in let x =
+    c .before .before .before .before .before .before .field-place .ensures ∙ ap (fieldPlace s)
+    (c .before .before .before .before .before .before .before .definitions .ensures .0) in let p = accepted-apart s bytes q e
+    (c .before .before .before .before .before .before .field-place .result) (c .before .before .before .before .before .after-field .result)
+    (c .before .before .before .before .after-field2 .result) x (c .before .before .before .before .before .after-field .ensures)
+    (c .before .before .before .before .after-field2 .ensures) in let h = may-merge s q e a b room (c .before .before .holds-apart .result)
+    (c .before .before .holds-apart .ensures (q .apart) (c .before .before .before .field-at .ensures ∙ p)) (search needs) (search needs) in let l :
+    length (write (mergedQuestion a b q)) ≡ length s = sym (merged-length a b q) ∙ ap length (accepted-joined s q bytes e) in does-refused _ _ 15
+    (merge-short s q e a b room (h ∙ ap not (c .before .if3 .left)) (omega (arith, l)))
+
+cast-write-merged : tie.Need-cast-write-merged
+cast-write-merged c = search needs
+
+cast-write-merged-2 : tie.Need-cast-write-merged-2
+cast-write-merged-2 c = search needs
+
+write-merged-requires : tie.Need-write-merged-requires
+write-merged-requires c κs =
+    record {
+      accepted = c .before .before .before .before .before .before .before .before .before .before .before .before .before .pre;
+      small = search
+          needs;
+      small′ = search needs;
+      room = search needs;
+    }
+
+same-length : tie.Need-same-length
+same-length c = search needs
+
+returns-5 : tie.Need-returns-5
+unfolding Accepted WritesMerged
+returns-5 c =
+    let v = c .before .before .before .before .before .before .before .before .before .before .before .before .before .before .before .before .args in
+    let s = v .question .now in let q =
+    c .before .before .before .before .before .before .before .before .before .before .before .before .before .before .before .before .pre .0 in let e
+    = c .before .before .before .before .before .before .before .before .before .before .before .before .before .before .before .before .pre .1 in let
+    a = v .a in let b = v .b in let room = length (v .area .now) in let bytes = bytes-by-place s (λ i. omega (
+      arith,
+      c .before .before .before .before .before .before .before .before .before .before .before .before .before .before .before .shared-slice-known .given
+          i,
+    )) in let x = c .before .before .before .before .before .before .before .before .before .before .field-place .ensures ∙ ap (fieldPlace s)
+    (c .before .before .before .before .before .before .before .before .before .before .before .definitions .ensures .0) in let p = accepted-apart s
+    bytes q e (c .before .before .before .before .before .before .before .before .before .before .field-place .result)
+    (c .before .before .before .before .before .before .before .before .before .after-field .result)
+    (c .before .before .before .before .before .before .before .before .after-field2 .result) x
+    (c .before .before .before .before .before .before .before .before .before .after-field .ensures)
+    (c .before .before .before .before .before .before .before .before .after-field2 .ensures) in let h = may-merge s q e a b room
+    (c .before .before .before .before .before .before .holds-apart .result) (c .before .before .before .before .before .before .holds-apart .ensures
+    (q .apart) (c .before .before .before .before .before .before .before .field-at .ensures ∙ p)) (search needs) (search needs) in let l : length
+    (write (mergedQuestion a b q)) ≡ length s = sym (merged-length a b q) ∙ ap length (accepted-joined s q bytes e) in does-write _ _ _
+    (mergedQuestion a b q) _ (merge-writes s q e a b room (h ∙ ap not (c .before .before .before .before .before .if3 .left)) (omega (
+      arith,
+      l,
+      c .before .before .before .before .if4 .left,
+    ))) (c .before .before .write-merged .ensures q e)
+
+pub merge-accepted-spec : {M : Type 1} → statement M
+merge-accepted-spec =
+    tie.close
+    (tie.spec
+    returns
+    returns-2
+    definitions-requires
+    field-place-requires
+    after-field-requires
+    after-field-requires-2
+    field-at-requires
+    cast-holds-apart
+    cast-holds-apart-2
+    holds-apart-requires
+    returns-3
+    returns-4
+    cast-write-merged
+    cast-write-merged-2
+    write-merged-requires
+    same-length
+    returns-5)

@@ -1,0 +1,3 @@
+// Merge and beside.
+pub mod beside;
+pub mod merge;

@@ -1,0 +1,73 @@
+-- Judge: checks 1 and 2, those of check, and the verdict. Assumes nothing.
+use mathlib.Core.Bool.{true, _&&_, and-false}
+use mathlib.Core.List.{List, _++_}
+use mathlib.Core.Path.{_≡_, sym, ap, _∙_}
+use native.Mathlib.Omega.{arith}
+use Prim.Native.Nat.{ℕ, _*_, _<_, _≤_}
+use lib.Dec.{leb}
+use lib.ListN.{length, drop, replicate}
+use borrow.Author.Tests.{le-leb, lt-leb}
+use Rattle.terms.specs.Answer.{Answer, refused, result, _>>=_}
+use Rattle.terms_checks.specs.Checking.{checkedAnswer}
+use Rattle.terms.specs.Operations.{checkAnswer}
+use Rattle.terms.specs.Question.{Question, checkOf}
+use Rattle.terms_checks.specs.declared.check.Checked.{Checked}
+use Rattle.terms_checks.specs.declared.check.Checked.the-variants.{Accepted, Refused}
+use Rattle.terms.proofs.Answers.{need-passed, need-failed, bind-result, bind-to, true-both}
+use Rattle.verdict.specs.Judge.{greatestCapacity, slotBytes, judgeOf, workAfter}
+use Rattle.verdict_judge.specs.Judging.{judgedAnswer, DecidesIs, AcceptedIs, JudgedIs}
+use Rattle.verdict.specs.Verdict.{verdictOf}
+use Rattle.verdict_judge.specs.declared.judge.Judged.{Judged}
+use Rattle.verdict_judge.specs.declared.judge.Judged.the-variants as judged
+
+-- judge_accepted
+pub cleared : (question : List ℕ) (capacity : ℕ) (work w u : List ℕ) (r : Judged) → DecidesIs question capacity work r w
+    → u ≡ replicate (slotBytes * capacity) 0 ++ drop (slotBytes * capacity) w → AcceptedIs question capacity work r u
+cleared question capacity work w u r d e = record {
+  left = e ∙ ap (λ l. replicate (slotBytes * capacity) 0 ++ l) (d .rest);
+  is = d .is;
+}
+
+module _ (question : List ℕ) (capacity : ℕ) (work : List ℕ) where
+  -- a refusal changes nothing
+  turned-back : (k : ℕ) → judgeOf question capacity (length work) ≡ refused k → JudgedIs question capacity work (judged.Refused k) work
+  unfolding judgedAnswer workAfter
+  turned-back k e = record { answer = sym e; left = sym (ap (λ a. workAfter a capacity work) e) }
+
+  pub too-small : capacity < 1 → JudgedIs question capacity work (judged.Refused 1) work
+  unfolding judgeOf
+  too-small h = turned-back 1 (need-failed 1 _ _ (ap (λ b. b && leb capacity greatestCapacity) (lt-leb 1 capacity h)))
+
+  pub too-large : greatestCapacity < capacity → JudgedIs question capacity work (judged.Refused 1) work
+  unfolding judgeOf
+  too-large h = turned-back 1 (need-failed 1 _ _ (ap (λ b. leb 1 capacity && b) (lt-leb capacity greatestCapacity h) ∙ and-false (leb 1 capacity)))
+
+  module _ (low : 1 ≤ capacity) (high : capacity ≤ greatestCapacity) where
+    first-passed : (leb 1 capacity && leb capacity greatestCapacity) ≡ true
+    first-passed = true-both (leb 1 capacity) (leb capacity greatestCapacity) (le-leb 1 capacity low) (le-leb capacity greatestCapacity high)
+
+    pub no-room : length work < slotBytes * capacity → JudgedIs question capacity work (judged.Refused 2) work
+    unfolding judgeOf
+    no-room h =
+        turned-back 2 (need-passed 1 _ _ first-passed ∙ need-failed 2 _ _ (lt-leb (slotBytes * capacity) (length work) h))
+
+    module _ (room : slotBytes * capacity ≤ length work) where
+      checks-passed : judgeOf question capacity (length work) ≡ (checkOf question >>= λ q. result (verdictOf q capacity))
+      unfolding judgeOf
+      checks-passed = need-passed 1 _ _ first-passed ∙ need-passed 2 _ _ (le-leb (slotBytes * capacity) (length work) room)
+
+      pub question-refused : (k : ℕ) (r : Checked) → checkAnswer question ≡ checkedAnswer r → r ≡ Refused k → JudgedIs question capacity work (judged.Refused k) work
+      unfolding checkAnswer checkedAnswer _>>=_
+      question-refused k r e h = turned-back k (checks-passed ∙ go (checkOf question) (e ∙ ap checkedAnswer h))
+        where
+          go : (m : Answer Question) → _>>=_ {B = ℕ} m (λ q. result 0) ≡ refused k → (m >>= λ q. result (verdictOf q capacity)) ≡ refused k
+          go (refused j) e = ap refused (cc)
+          go (result q) e = let z : _≡_ {A = ℕ} 0 1 = cc in absurd (omega arith)
+
+      pub question-accepted : (c : Checked) (r : Judged) (u : List ℕ) → checkAnswer question ≡ checkedAnswer c → c ≡ Accepted
+          → AcceptedIs question capacity work r u → JudgedIs question capacity work r u
+      unfolding checkAnswer checkedAnswer workAfter
+      question-accepted c r u e h a =
+          let (q, d, z) = bind-result (checkOf question) (λ q. result 0) 0 (e ∙ ap checkedAnswer h) in
+          let v : judgeOf question capacity (length work) ≡ result (verdictOf q capacity) = checks-passed ∙ bind-to (λ q. result (verdictOf q capacity)) d in
+          record { answer = a .is q d ∙ sym v; left = a .left ∙ sym (ap (λ x. workAfter x capacity work) v) }

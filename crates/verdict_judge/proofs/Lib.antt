@@ -1,0 +1,3 @@
+mod ByNumber
+mod DecideLaws
+mod JudgeLaws

@@ -1,0 +1,33 @@
+-- What the code of judge answers, as document 01 has it, and what it promises.
+use mathlib.Core.List.{List, _++_}
+use mathlib.Core.Path.{_≡_}
+use Prim.Native.Nat.{ℕ, _*_}
+use lib.ListN.{length, drop, replicate}
+use Rattle.terms.specs.Answer.{Answer, refused, result}
+use Rattle.terms.specs.Question.{Question, checkOf}
+use Rattle.verdict.specs.Judge.{slotBytes, judgeOf, workAfter}
+use Rattle.verdict.specs.Verdict.{Verdict, unsettled, same, different, verdictOf}
+use Rattle.verdict_judge.specs.declared.judge.Judged.{Judged}
+use Rattle.verdict_judge.specs.declared.judge.Judged.the-variants.{Refused, Unsettled, Same, Different}
+
+-- The number of the check that turns back, or the verdict and n.
+unfoldable pub judgedAnswer : Judged → Answer Verdict
+judgedAnswer (Refused k) = refused k
+judgedAnswer Unsettled = result unsettled
+judgedAnswer (Same n) = result (same n)
+judgedAnswer (Different n) = result (different n)
+
+-- The verdict on an accepted question. What is left in the first 256 × capacity bytes is not determined: they are cleared next.
+pub record DecidesIs (question : List ℕ) (capacity : ℕ) (work : List ℕ) (r : Judged) (work′ : List ℕ) : Type 0 where
+  pub rest : drop (slotBytes * capacity) work′ ≡ drop (slotBytes * capacity) work
+  pub is : (q : Question) → checkOf question ≡ result q → judgedAnswer r ≡ result (verdictOf q capacity)
+
+-- The same with the work area cleared.
+pub record AcceptedIs (question : List ℕ) (capacity : ℕ) (work : List ℕ) (r : Judged) (work′ : List ℕ) : Type 0 where
+  pub left : work′ ≡ replicate (slotBytes * capacity) 0 ++ drop (slotBytes * capacity) work
+  pub is : (q : Question) → checkOf question ≡ result q → judgedAnswer r ≡ result (verdictOf q capacity)
+
+-- Judge: the answer and every byte of the work area.
+pub record JudgedIs (question : List ℕ) (capacity : ℕ) (work : List ℕ) (r : Judged) (work′ : List ℕ) : Type 0 where
+  pub answer : judgedAnswer r ≡ judgeOf question capacity (length work)
+  pub left : work′ ≡ workAfter (judgeOf question capacity (length work)) capacity work

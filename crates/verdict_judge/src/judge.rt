@@ -1,0 +1,111 @@
+// Judging: checks 1 and 2 of document 01, those of check, then the verdict.
+ghost use mathlib.Core.Path.{_≡_};
+ghost use mathlib.Core.List.{_++_};
+ghost use Prim.Native.Nat.{_*_, _≤_};
+ghost use lib.ListN.{length, drop, replicate};
+ghost use Rattle.verdict.specs.Judge.{slotBytes, greatestCapacity};
+ghost use Rattle.verdict_judge.specs.Judging.{DecidesIs, AcceptedIs, JudgedIs};
+use field_exploration::explore::Explored;
+use field_exploration::explore::explore;
+use field_kept_lists::list_area::LIST_AREA;
+use field_slots::find::SLOT_BYTES;
+use steps_rows::rows::TABLE_OF_ROWS;
+use steps_tallies::tally::TALLY;
+use steps_tallies::tally::body_tallies;
+use terms_checks::check::Checked;
+use terms_checks::check::check;
+use verdict_start::passes::start_survives;
+
+const GREATEST_CAPACITY: u64 = 4096;
+
+// The number of the check that turns back, or the verdict and the size of the field.
+pub enum Judged {
+    Refused(u8),
+    Unsettled,
+    Same(usize),
+    Different(usize),
+}
+
+// Sets the first `n` bytes to 0.
+fn clear(work: &mut [u8], n: usize)
+    requires { ⌜ n ≤ length (now work) ⌝ }
+    ensures { λ _. ⌜ now (work .exit) ≡ replicate n 0 ++ drop n (now (work .entry)) ⌝ }
+{
+    let mut i = 0;
+    while i < n {
+        work[i] = 0;
+        i += 1;
+    }
+}
+
+// The verdict on an accepted question. The tallies of the bodies, the lister's tables and the lists of the two sides serve exploration and passes.
+fn decide(question: &[u8], capacity: usize, work: &mut [u8]) -> Judged
+    requires { ⌜ (1 ≤ capacity) × (capacity ≤ greatestCapacity) × (slotBytes * capacity ≤ length (now work)) ⌝ }
+    ensures { λ r. ⌜ DecidesIs (now (question .entry)) capacity (now (work .entry)) r (now (work .exit)) ⌝ }
+{
+    let bodies = body_tallies(question);
+    let mut numbers = [0u32; TALLY];
+    let mut rows = [0u8; TABLE_OF_ROWS];
+    let mut firsts = [0u8; LIST_AREA];
+    let mut seconds = [0u8; LIST_AREA];
+    let explored = explore(
+        question,
+        &bodies,
+        &mut numbers,
+        &mut rows,
+        &mut firsts,
+        &mut seconds,
+        work,
+        capacity,
+    );
+    match explored {
+        Explored::Incomplete => Judged::Unsettled,
+        Explored::Field(n) => {
+            if start_survives(
+                question,
+                &bodies,
+                &mut numbers,
+                &mut rows,
+                &mut firsts,
+                &mut seconds,
+                work,
+                capacity,
+                n,
+            ) {
+                return Judged::Same(n);
+            }
+            Judged::Different(n)
+        }
+    }
+}
+
+// The verdict on an accepted question; the work area is cleared behind it.
+fn judge_accepted(question: &[u8], capacity: usize, work: &mut [u8]) -> Judged
+    requires { ⌜ (1 ≤ capacity) × (capacity ≤ greatestCapacity) × (slotBytes * capacity ≤ length (now work)) ⌝ }
+    ensures { λ r. ⌜ AcceptedIs (now (question .entry)) capacity (now (work .entry)) r (now (work .exit)) ⌝ }
+{
+    let verdict = decide(question, capacity, work);
+    clear(work, SLOT_BYTES * capacity);
+    verdict
+}
+
+// Judges a question within the capacity.
+pub fn judge(question: &[u8], capacity: u64, work: &mut [u8]) -> Judged
+    ensures { λ r. ⌜ JudgedIs (now (question .entry)) capacity (now (work .entry)) r (now (work .exit)) ⌝ }
+{
+    if capacity < 1 {
+        return Judged::Refused(1);
+    }
+    if GREATEST_CAPACITY < capacity {
+        return Judged::Refused(1);
+    }
+    let slots = capacity as usize;
+    if work.len() < SLOT_BYTES * slots {
+        return Judged::Refused(2);
+    }
+    let checked = check(question);
+    match checked {
+        Checked::Refused(k) => Judged::Refused(k),
+        Checked::Accepted => judge_accepted(question, slots, work),
+    }
+}

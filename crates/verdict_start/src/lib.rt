@@ -1,0 +1,2 @@
+// Whether the start survives strike-out.
+pub mod passes;

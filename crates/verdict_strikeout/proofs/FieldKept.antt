@@ -1,0 +1,175 @@
+-- The field stays in the work area where only the bytes for strike-out and for notes change, and so does what is noted. Assumes nothing.
+use mathlib.Core.Bool.{Bool, true, false}
+use mathlib.Core.List.{List}
+use mathlib.Core.Path.{_≡_, refl, sym, ap, _∙_, subst}
+use native.Mathlib.Decide.{ℕ-discrete}
+use native.Mathlib.Omega.{arith}
+use Prim.Native.Nat.{ℕ, _+_, _-_, _*_, _<_, _≤_}
+use lib.ListN.{length, getD, set}
+use lib.Seq.{getD-set-other}
+use borrow.Author.Tests.{eq-eqb, ne-eqb}
+use Rattle.steps.specs.Lists.{_∈_}
+use Rattle.steps.proofs.Membership.{all-∈}
+use Rattle.field_slots.specs.Key.{keyAt}
+use Rattle.field_slots.specs.Noted.{notedCount, noteAt, SpareOnly, SoleIn}
+use Rattle.field.specs.Situation.{Situation}
+use Rattle.field_pairs.specs.Slot.{slotBytes, struckAt}
+use Rattle.field_slots.proofs.ChainLaws.{key-flag, keeps-key, chained-kept}
+use Rattle.field_slots.proofs.NotedLaws.{note-flag}
+use Rattle.field_growth.proofs.SlotWriting.{situation-kept}
+use Rattle.verdict_survival.specs.Notes.{NotedIn, Has, NoteIs, ClearsNotes, RestsIs, SoleStruckIs}
+use Rattle.verdict_survival.specs.Striking.{living, leftOf, Standing, ReliesOn, FieldIn, Searching, SurvivesIs, Relies, ExaminedIs, AllNoted, AllSole, NotesHold}
+use Rattle.verdict.specs.Verdict.{answered, allAnswered}
+use Rattle.verdict_survival.specs.declared.survive.Answered.{Answered}
+use Rattle.verdict_survival.proofs.LeftLaws.{left-found}
+use Rattle.verdict_survival.proofs.Marks.{marks-kept}
+use Rattle.verdict_survival.proofs.SideLaws.{found-answered, each-answered}
+use Rattle.verdict_strikeout.proofs.Unanswered.{none-answered, one-fails}
+
+-- Keys and chains are as they were.
+pub record SameField (v u : List ℕ) : Type 0 where
+  pub keys : (i : ℕ) → keyAt u i ≡ keyAt v i
+  pub links : (i j : ℕ) → 242 ≤ j → j < 246 → getD u (slotBytes * i + j) 0 ≡ getD v (slotBytes * i + j) 0
+
+pub same-none : (v : List ℕ) → SameField v v
+same-none v = record { keys = λ i. refl; links = λ i j g h. refl }
+
+pub same-then : {w v u : List ℕ} → SameField w v → SameField v u → SameField w u
+same-then s t = record { keys = λ i. t .keys i ∙ s .keys i; links = λ i j g h. t .links i j g h ∙ s .links i j g h }
+
+same-back : {v u : List ℕ} → SameField v u → SameField u v
+same-back s = record { keys = λ i. sym (s .keys i); links = λ i j g h. sym (s .links i j g h) }
+
+pub struck-same : (v : List ℕ) (i : ℕ) → SameField v (set v (struckAt i) 1)
+struck-same v i = record {
+  keys = key-flag v i 1;
+  links = λ k j g h. getD-set-other v (struckAt i) (slotBytes * k + j) 1 0 (λ z. omega arith);
+}
+
+pub spare-same : {count : ℕ} (v u : List ℕ) → SpareOnly count v u → SameField v u
+spare-same {count} v u s = record {
+  keys = keeps-key count v u (record { len = s .len; slots = λ i j h. s .slots i j (omega arith); rest = s .rest count (omega arith) });
+  links = λ i j g h. s .slots i j h;
+}
+
+pub standing-kept : {capacity : ℕ} {v u : List ℕ} (known : List Situation) → SameField v u → Standing capacity v known → Standing capacity u known
+standing-kept {capacity} {v} {u} known s st = record {
+  held = λ j d h. situation-kept v u (s .keys) j (getD known j d) (st .held j d h);
+  once = λ j k g h e. st .once j k g h (sym (s .keys j) ∙ e ∙ s .keys k);
+  chained = chained-kept capacity v u (length known) (λ i l. s .keys i) (s .links) (st .chained);
+  exact = st .exact;
+}
+
+module _ (question : List ℕ) (capacity count : ℕ) where
+  unfoldable pub field-kept : {v u : List ℕ} → SameField v u → FieldIn question capacity v count → FieldIn question capacity u count
+  field-kept s f = record {
+    read = f .read;
+    accepted = f .accepted;
+    known = f .known;
+    number = f .number;
+    standing = standing-kept (f .known) s (f .standing);
+    proper = f .proper;
+    closed = f .closed;
+    equal = f .equal;
+  }
+
+  relies-kept : {v u : List ℕ} (i : ℕ) (H G : ℕ → Type 0) → SameField v u → ((j : ℕ) → H j → G j) → Relies question capacity v count i H
+      → Relies question capacity u count i G
+  unfolding Relies ReliesOn field-kept
+  relies-kept i H G s more r f d ms e w m =
+      let (j, l, h, x) = r (field-kept (same-back s) f) d ms e w m in
+      (j, l, more j h, x)
+
+  noted-kept : (v u : List ℕ) (i : ℕ) → SameField v u → ((k : ℕ) → k < notedCount → noteAt u i k ≡ noteAt v i k)
+      → (0 < noteAt v i 0 → Relies question capacity v count i (NotedIn v i)) → 0 < noteAt u i 0 → Relies question capacity u count i (NotedIn u i)
+  unfolding NotedIn
+  noted-kept v u i s so n h =
+      relies-kept i (NotedIn v i) (NotedIn u i) s (λ j x. (x .0, x .1, so (x .0) (x .1) ∙ x .2)) (n (omega (arith, so 0 (omega arith))))
+
+  -- What is noted holds still as a situation is struck out, as another is noted, and as nothing is noted.
+  noted-struck : (v : List ℕ) (i : ℕ) → AllNoted question capacity v count → AllNoted question capacity (set v (struckAt i) 1) count
+  unfolding AllNoted
+  noted-struck v i n j h = noted-kept v (set v (struckAt i) 1) j (struck-same v i) (note-flag v i 1 j) (n j h)
+
+  sole-struck : (v : List ℕ) (i : ℕ) → AllSole question capacity v count → AllSole question capacity (set v (struckAt i) 1) count
+  unfolding AllSole field-kept
+  sole-struck v i n j k h g f d ms e =
+      subst (SoleIn (f .known) ms) (sym (note-flag v i 1 j k g)) (n j k h g (field-kept (same-back (struck-same v i)) f) d ms e)
+
+  pub notes-struck : (examine : Bool) (v : List ℕ) (i : ℕ) → NotesHold examine question capacity v count → NotesHold examine question capacity (set v (struckAt i) 1) count
+  unfolding NotesHold
+  notes-struck true v i n = noted-struck v i n
+  notes-struck false v i n = sole-struck v i n
+
+  pub noted-one : (v u : List ℕ) (i : ℕ) (r : Answered) → ExaminedIs question capacity v count i r → r .all ≡ true → NoteIs v i (r .relied) u
+      → AllNoted question capacity v count → AllNoted question capacity u count
+  unfolding AllNoted Has NotedIn
+  noted-one v u i r x all note n j h = go (ℕ-discrete j i)
+    where
+      same : SameField v u
+      same = spare-same v u (note .spare)
+
+      has : (k : ℕ) → Has (r .relied) k → NotedIn u i k
+      has k (l, g, e) = (l, omega (arith, x .numbers .used), note .here l (omega (arith, x .numbers .used)) ∙ e)
+
+      own : 0 < noteAt u i 0 → Relies question capacity u count i (NotedIn u i)
+      own g = relies-kept i (Has (r .relied)) (NotedIn u i) same has (x .relies all (omega (arith, note .here 0 (omega arith))))
+
+      go : Dec (j ≡ i) → 0 < noteAt u j 0 → Relies question capacity u count j (NotedIn u j)
+      go (yes e) = subst (λ j. 0 < noteAt u j 0 → Relies question capacity u count j (NotedIn u j)) (sym e) own
+      go (no e) = noted-kept v u j same (note .others j e) (n j h)
+
+  pub noted-none : (v u : List ℕ) → ClearsNotes count v u → AllNoted question capacity u count
+  unfolding AllNoted
+  noted-none v u c i h g = absurd (omega (arith, c .none i h))
+
+  -- A situation survives while all that is noted for it is left.
+  pub rests-survives : (v : List ℕ) (i : ℕ) (r : Bool) → i < count → AllNoted question capacity v count → RestsIs v count i r → r ≡ true
+      → SurvivesIs question capacity v count i true
+  unfolding AllNoted RestsIs SurvivesIs Relies ReliesOn NotedIn
+  rests-survives v i r h n rests t f d ms e = sym (each-answered (leftOf v (f .field .known)) ms each)
+    where
+      some : 0 < noteAt v i 0
+      some = rests t 0 (omega arith) .0
+
+      each : (w : List Situation) → w ∈ ms → answered (leftOf v (f .field .known)) w ≡ true
+      each w m =
+          let (j, l, (k, b, q), x) = n i h some (f .field) d ms e w m in
+          let z : noteAt v i k - 1 ≡ j = omega (arith, q) in
+          let left = subst (λ j. getD v (struckAt j) 0 ≡ 0) z (rests t k b .2) in
+          found-answered (leftOf v (f .field .known)) w (getD (f .field .known) j d) (x d)
+          (left-found v (f .field .known) (f .field .standing) j (getD (f .field .known) j d) d l refl ∙ eq-eqb (getD v (struckAt j) 0) 0 left)
+
+  -- A situation does not survive if one that is noted for it, the only answer to a step, is struck out: that step is not answered.
+  pub sole-fails : (v : List ℕ) (i : ℕ) (r : Bool) → i < count → AllSole question capacity v count → SoleStruckIs v count i r → r ≡ true
+      → SurvivesIs question capacity v count i false
+  unfolding AllSole SoleStruckIs SurvivesIs SoleIn
+  sole-fails v i r h n struck t f d ms e =
+      let (k, j, g, q, l, gone) = struck t in
+      let (w, m, only) = n i k h g (f .field) d ms e j q in
+      sym (one-fails left w ms m (none-answered left w (λ u x.
+      let (b, is) = all-∈ _ w only u x in
+      left-found v (f .field .known) (f .field .standing) j u d b (is d) ∙ ne-eqb (getD v (struckAt j) 0) 0 gone)))
+    where
+      left : List Situation
+      left = leftOf v (f .field .known)
+
+  -- Notes change nothing that is left.
+  module _ (v u : List ℕ) (s : SpareOnly count v u) where
+    pub spare-mark : (i : ℕ) → getD u (struckAt i) 0 ≡ getD v (struckAt i) 0
+    spare-mark i = s .slots i 241 (omega arith)
+
+    searching-back : Searching question capacity u count → Searching question capacity v count
+    unfolding field-kept
+    searching-back f = record {
+      field = field-kept (same-back (spare-same v u s)) (f .field);
+      struck = λ i d ms h e a z. f .struck i d ms h e a (spare-mark i ∙ z);
+      equal = λ i d h e. sym (spare-mark i) ∙ f .equal i d h e;
+    }
+
+    pub spare-left : (known : List Situation) → leftOf u known ≡ leftOf v known
+    spare-left known = ap (λ fs. living fs known) (marks-kept v u (length known) spare-mark)
+
+    pub survives-kept : (i : ℕ) (r : Bool) → SurvivesIs question capacity v count i r → SurvivesIs question capacity u count i r
+    unfolding SurvivesIs searching-back field-kept
+    survives-kept i r h f d ms e = h (searching-back f) d ms e ∙ ap (λ l. allAnswered l ms) (sym (spare-left (f .field .known)))

@@ -1,0 +1,6 @@
+pub mod AnyOrder
+mod BlockLaws
+pub mod EqualParts
+pub mod FieldKept
+pub mod StrikeLaws
+mod Unanswered

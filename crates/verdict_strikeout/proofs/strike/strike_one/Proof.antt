@@ -1,0 +1,185 @@
+-- `verdict::strike::strike_one` meets its contract. Assumes nothing.
+use native.Mathlib.Omega.{arith}
+use borrow.Author.Tests.{not-true, not-false}
+use Rattle.verdict_survival.proofs.Marks.{left-zero}
+use Rattle.verdict_strikeout.proofs.StrikeLaws.{gone-kept, sole-strikes, resting-kept, equal-stays, survivor-noted, one-strikes}
+use borrow.Author.Needs.{needs}
+use Rattle.verdict_strikeout.proofs.strike.strike_one.Statement.{statement}
+use Rattle.verdict_strikeout.proofs.strike.strike_one.Tie as tie
+
+left-at-requires : tie.Need-left-at-requires
+left-at-requires c κs = search needs
+
+same-length : tie.Need-same-length
+same-length c = search needs
+
+returns : tie.Need-returns
+returns c =
+    let c10 = c .before .before .before .before .before .before .before .before .before .before in
+    (gone-kept _ _ _ _ _ (c10 .pre .9) _ (c .before .left-at .ensures) (not-true _ (c .if1 .taken)), c10 .pre .6, c10 .pre .7)
+
+strike-sole-requires : tie.Need-strike-sole-requires
+strike-sole-requires c κs =
+    let c12 = c .before .before .before .before .before .before .before .before .before .before .before .before in
+    (c12 .pre .0, omega (arith, c12 .pre .1, c12 .pre .2), omega (arith, c12 .pre .1, c12 .pre .8))
+
+same-length-2 : tie.Need-same-length-2
+same-length-2 c = search needs
+
+returns-2 : tie.Need-returns-2
+returns-2 c =
+    let c4 = c .before .before .before .before in
+    let c5 = c4 .before in
+    let c6 = c5 .before in
+    let c15 = c6 .before .before .before .before .before .before .before .before .before in (
+      sole-strikes _ _ _ _ _ (c15 .pre .9) _ _ (c15 .pre .0) (not-true _ (c4 .if2 .taken)) (left-zero _ _ _ (c6 .left-at .ensures) (not-false _
+          (c5 .if1 .left))) (c .before .before .strike-sole .ensures),
+      c15 .pre .6,
+      c15 .pre .7,
+    )
+
+rests-requires : tie.Need-rests-requires
+rests-requires c κs = search needs
+
+same-length-3 : tie.Need-same-length-3
+same-length-3 c = search needs
+
+returns-3 : tie.Need-returns-3
+returns-3 c =
+    let c3 = c .before .before .before in
+    let c14 = c3 .before .before .before .before .before .before .before .before .before .before .before in (
+      resting-kept _ _ _ _ _ (c14 .pre .9) (not-false _ (c3 .if2 .left)) _ (c14 .pre .0) (c .before .rests .ensures) (c .if3 .taken),
+      c14 .pre .6,
+      c14 .pre .7,
+    )
+
+equal-parts-requires : tie.Need-equal-parts-requires
+equal-parts-requires c κs =
+    let c15 = c .before .before .before .before .before .before .before .before .before .before .before .before .before .before .before in
+    omega (arith, c15 .pre .0, c15 .pre .1, c15 .pre .2)
+
+same-length-4 : tie.Need-same-length-4
+same-length-4 c = search needs
+
+returns-4 : tie.Need-returns-4
+returns-4 c =
+    let c6 = c .before .before .before .before .before .before in
+    let c17 = c6 .before .before .before .before .before .before .before .before .before .before .before in (
+      equal-stays _ _ _ _ _ (c17 .pre .9) (not-false _ (c6 .if2 .left)) _ (c17 .pre .0) (c .before .equal-parts .ensures) (c .if4 .taken),
+      c17 .pre .6,
+      c17 .pre .7,
+    )
+
+survives-requires : tie.Need-survives-requires
+survives-requires c κs =
+    let c22 = c .before .before .before .before .before .before .before .before .before .before .before .before .before .before .before .before .before .before .before .before .before .before in
+    (c22 .pre .0, c22 .pre .1, c22 .pre .2, c22 .pre .3, c22 .pre .4, c22 .pre .5, c22 .pre .6, c22 .pre .7, c22 .pre .8)
+
+note-requires : tie.Need-note-requires
+note-requires c κs =
+    let c11 = c .before .before .before .before .before .before .before .before .before .before .before in
+    let c34 = c11 .before .before .before .before .before .before .before .before .before .before .before .before .before .before .before .before .before .before .before .before .before .before .before in
+    (omega (arith, c34 .pre .0, c34 .pre .1, c34 .pre .2), c11 .survives .ensures .0 .numbers)
+
+same-length-5 : tie.Need-same-length-5
+same-length-5 c = search needs
+
+same-length-6 : tie.Need-same-length-6
+same-length-6 c = search needs
+
+same-length-7 : tie.Need-same-length-7
+same-length-7 c = search needs
+
+same-length-8 : tie.Need-same-length-8
+same-length-8 c = search needs
+
+same-length-9 : tie.Need-same-length-9
+same-length-9 c = search needs
+
+returns-5 : tie.Need-returns-5
+returns-5 c =
+    let c4 = c .before .before .before .before in
+    let c14 = c4 .before .before .before .before .before .before .before .before .before .before in
+    let c26 = c14 .before .before .before .before .before .before .before .before .before .before .before .before in
+    let c37 = c26 .before .before .before .before .before .before .before .before .before .before .before in (
+      survivor-noted _ _ _ _ _ (c37 .pre .9) (not-false _ (c26 .if2 .left)) _ _ (c37 .pre .0) (c14 .survives .ensures .0) (c4 .if5 .taken)
+          (c .before .before .note .ensures),
+      c14 .survives .ensures .1,
+      c14 .survives .ensures .2,
+    )
+
+mul-work : tie.Need-mul-work
+mul-work c =
+    let c33 = c .before .before .before .before .before .before .before .before .before .before .before .before .before .before .before .before .before .before .before .before .before .before .before .before .before .before .before .before .before .before .before .before .before in
+    omega (arith, c33 .pre .0, c33 .pre .1, c33 .pre .2, c33 .pre .8)
+
+add-work : tie.Need-add-work
+add-work c =
+    let c33 = c .before .before .before .before .before .before .before .before .before .before .before .before .before .before .before .before .before .before .before .before .before .before .before .before .before .before .before .before .before .before .before .before .before in
+    omega (arith, c33 .pre .0, c33 .pre .1, c33 .pre .2, c33 .pre .8)
+
+slice-write-work : tie.Need-slice-write-work
+slice-write-work c =
+    let c33 = c .before .before .before .before .before .before .before .before .before .before .before .before .before .before .before .before .before .before .before .before .before .before .before .before .before .before .before .before .before .before .before .before .before in
+    omega (arith, c33 .pre .0, c33 .pre .1, c33 .pre .2)
+
+same-length-10 : tie.Need-same-length-10
+same-length-10 c = search needs
+
+same-length-11 : tie.Need-same-length-11
+same-length-11 c = search needs
+
+same-length-12 : tie.Need-same-length-12
+same-length-12 c = search needs
+
+same-length-13 : tie.Need-same-length-13
+same-length-13 c = search needs
+
+same-length-14 : tie.Need-same-length-14
+same-length-14 c = search needs
+
+returns-6 : tie.Need-returns-6
+returns-6 c =
+    let c10 = c .before .before .before .before .before .before .before .before .before .before in
+    let c23 = c10 .before .before .before .before .before .before .before .before .before .before .before .before .before in
+    let c24 = c23 .before in
+    let c33 = c24 .before .before .before .before .before .before .before .before .before in (
+      one-strikes _ _ _ _ _ (c33 .pre .9) _ (left-zero _ _ _ (c24 .left-at .ensures) (not-false _ (c23 .if1 .left))) (c10 .survives .ensures .0)
+          (c .if5 .left),
+      c10 .survives .ensures .1,
+      c10 .survives .ensures .2,
+    )
+
+pub strike-one-spec : {M : Type 1} → statement M
+strike-one-spec =
+    tie.close
+    (tie.spec
+    left-at-requires
+    same-length
+    returns
+    strike-sole-requires
+    same-length-2
+    returns-2
+    rests-requires
+    same-length-3
+    returns-3
+    equal-parts-requires
+    same-length-4
+    returns-4
+    survives-requires
+    note-requires
+    same-length-5
+    same-length-6
+    same-length-7
+    same-length-8
+    same-length-9
+    returns-5
+    mul-work
+    add-work
+    slice-write-work
+    same-length-10
+    same-length-11
+    same-length-12
+    same-length-13
+    same-length-14
+    returns-6)

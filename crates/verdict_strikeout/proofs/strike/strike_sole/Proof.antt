@@ -1,0 +1,43 @@
+-- `verdict::strike::strike_sole` meets its contract. Assumes nothing.
+use borrow.Author.Tests.{not-true, not-false}
+use Rattle.verdict_strikeout.proofs.StrikeLaws.{sole-kept, sole-gone}
+use borrow.Author.Needs.{needs}
+use Rattle.verdict_strikeout.proofs.strike.strike_sole.Statement.{statement}
+use Rattle.verdict_strikeout.proofs.strike.strike_sole.Tie as tie
+
+sole-struck-requires : tie.Need-sole-struck-requires
+sole-struck-requires c κs = search needs
+
+same-length : tie.Need-same-length
+same-length c = search needs
+
+returns : tie.Need-returns
+returns c = sole-kept _ _ _ _ (c .before .sole-struck .ensures) (not-true _ (c .if1 .taken))
+
+mul-work : tie.Need-mul-work
+mul-work c = search needs
+
+add-work : tie.Need-add-work
+add-work c = search needs
+
+slice-write-work : tie.Need-slice-write-work
+slice-write-work c = search needs
+
+same-length-2 : tie.Need-same-length-2
+same-length-2 c = search needs
+
+returns-2 : tie.Need-returns-2
+returns-2 c = sole-gone _ _ _ _ (c .before .sole-struck .ensures) (not-false _ (c .if1 .left))
+
+pub strike-sole-spec : {M : Type 1} → statement M
+strike-sole-spec =
+    tie.close
+    (tie.spec
+    sole-struck-requires
+    same-length
+    returns
+    mul-work
+    add-work
+    slice-write-work
+    same-length-2
+    returns-2)

@@ -1,0 +1,2 @@
+// Strike-out, block by block, until a pass strikes out none.
+pub mod strike;

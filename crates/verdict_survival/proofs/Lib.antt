@@ -1,0 +1,6 @@
+pub mod LeftLaws
+pub mod Living
+pub mod Marks
+mod NoteLaws
+pub mod SideLaws
+mod SurviveLaws

@@ -1,0 +1,3 @@
+// Whether a situation survives.
+pub mod relied;
+pub mod survive;
