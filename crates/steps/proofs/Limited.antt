@@ -69,6 +69,15 @@ module _ (longest most : ℕ) (found : List ListedStep) where
       go true false k e = let z : _≡_ {A = ℕ} 0 1 = cc in absurd (omega arith)
       go false false k e = let z : _≡_ {A = ℕ} 0 1 = cc in absurd (omega arith)
 
+  pub limited-few : (ss : List ListedStep) → limited longest most found ≡ listed ss → length ss ≤ most
+  unfolding limited
+  limited-few ss e = go (leb (length found) most) refl (allFit longest found) e
+    where
+      go : (b : Bool) → leb (length found) most ≡ b → (c : Bool) → cond (b && c) (listed found) unsettled ≡ listed ss → length ss ≤ most
+      go true h true e = let z : found ≡ ss = cc in subst (λ l. length l ≤ most) z (leb-true (length found) most h)
+      go true h false e = let z : _≡_ {A = ℕ} 0 1 = cc in absurd (omega arith)
+      go false h c e = let z : _≡_ {A = ℕ} 0 1 = cc in absurd (omega arith)
+
   pub limited-passed : limited longest most found ≡ unsettled → (most < length found) ⊎ Long longest found
   unfolding limited
   limited-passed e = go (leb (length found) most) refl (allFit longest found) refl e

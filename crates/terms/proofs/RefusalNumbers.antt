@@ -1,4 +1,4 @@
--- Every refusal has one of document 01's numbers. Assumes nothing.
+-- The number of every refusal leaves room for an answer's kind beside it (32 bits). Assumes nothing.
 use mathlib.Core.Path.{_≡_, refl, sym, _∙_}
 use mathlib.Core.Bool.{Bool, true, false, cond, _&&_}
 use mathlib.Core.List.{List, [], _∷_}
@@ -17,17 +17,17 @@ use Rattle.terms.specs.Question.{Question, version, readBodies, readPart
 use Rattle.terms.specs.Reading.{byte, readName, readNames, Tag, inaction, silent, input, output, newOutput, match, choice, parallel, restriction, calling, unknown, tagOf, readTerm, readWhole}
 use Rattle.terms.proofs.Answers.{bind-result, need-result}
 
--- the last number of a check
-abbrev pub lastCheck : ℕ
-lastCheck = 15
+-- numbers below this leave room for a kind: 2^32
+abbrev pub numberRoom : ℕ
+numberRoom = 4294967296
 
 module _ {A : Type 0} where
-  -- where m is a refusal, its number is that of a check
+  -- where m is a refusal, its number is so small
   unfoldable pub Numbered : Answer A → Type 0
-  Numbered (refused k) = k ≤ lastCheck
+  Numbered (refused k) = k < numberRoom
   Numbered (result a) = Unit {0}
 
-  pub numbered-at : (m : Answer A) (k : ℕ) → Numbered m → m ≡ refused k → k ≤ lastCheck
+  pub numbered-at : (m : Answer A) (k : ℕ) → Numbered m → m ≡ refused k → k < numberRoom
   unfolding Numbered
   numbered-at (refused j) k h e = let z : j ≡ k = cc in omega arith
   numbered-at (result a) k h e = let z : _≡_ {A = ℕ} 0 1 = cc in absurd (omega arith)
@@ -43,7 +43,7 @@ module _ {A B : Type 0} where
   numbered-bind (result a) f h g = g a
 
 module _ {B : Type 0} where
-  pub numbered-need : (k : ℕ) (t : Bool) (r : Answer B) → k ≤ lastCheck → Numbered r → Numbered (need k t >> r)
+  pub numbered-need : (k : ℕ) (t : Bool) (r : Answer B) → k < numberRoom → Numbered r → Numbered (need k t >> r)
   unfolding Numbered _>>_ need
   numbered-need k true r h g = g
   numbered-need k false r h g = h
@@ -52,7 +52,7 @@ done : {A : Type 0} (a : A) → Numbered (result a)
 unfolding Numbered
 done a = tt
 
-turned : (A : Type 0) (k : ℕ) → k ≤ lastCheck → Numbered {A = A} (refused k)
+turned : (A : Type 0) (k : ℕ) → k < numberRoom → Numbered {A = A} (refused k)
 unfolding Numbered
 turned A k h = h
 

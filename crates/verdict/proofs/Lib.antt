@@ -2,10 +2,12 @@ pub mod Completeness
 pub mod DecidedField
 pub mod EntriesKeep
 pub mod FieldRows
+pub mod JudgeIsDefinition13
 pub mod ListOfEntries
 pub mod OutcomeLaws
 pub mod RelatedVerdicts
 pub mod Rounds
+pub mod SmallOutcomes
 pub mod Soundness
 pub mod VerdictIsDefinition13
 pub mod WorkedExchanges

@@ -1,9 +1,10 @@
 -- The verdict on an accepted question is Definition 13's, whose names are unlimited, under the whole apart list; it is unsettled exactly in the
 -- cases that document 01 lists ("The field and the verdict"); and its number is the size of the field. Assumes nothing.
-use mathlib.Core.Path.{_≡_}
+use mathlib.Core.Path.{_≡_, refl, sym, _∙_}
 use mathlib.Core.List.{List}
-use mathlib.Core.Logic.{_↔_}
+use mathlib.Core.Logic.{_↔_, inl, inr}
 use Prim.Native.Nat.{ℕ, _<_, _≤_}
+use native.Mathlib.Omega.{arith}
 use Rattle.calculus.specs.Definitions.{Defs}
 use Rattle.calculus.specs.OpenBisimulation.{Related}
 use Rattle.terms.specs.Answer.{result}
@@ -19,7 +20,9 @@ use Rattle.field.specs.Situation.{Proper}
 use Rattle.field.proofs.Proper.{either-below, related-situation}
 use Rattle.field.proofs.QuestionField.{question-setting, start-proper}
 use Rattle.verdict.specs.Entries.{Defines}
-use Rattle.verdict.specs.Verdict.{Numbered, unsettled, same, different, verdictOf}
+use Rattle.verdict.specs.Meaning.{Exceeds, Means, means-same, means-different, means-unsettled}
+use Rattle.verdict.specs.Outcome.{ofVerdict}
+use Rattle.verdict.specs.Verdict.{Verdict, Numbered, unsettled, same, different, verdictOf}
 use Rattle.verdict.proofs.DecidedField.{number-within, decided-within, decided-past, decided-same, decided-different, decided-unsettled, decided-size}
 
 -- the whole apart list, and the pairs of the start
@@ -61,6 +64,20 @@ module _ (question : List ℕ) (q : Question) (accepted : checkOf question ≡ r
   unfolding verdictOf
   number-is-field-size n h =
       decided-size Δ (settingOf (q .bodies)) (q .arities) setting (startOf q) start capacity n h
+
+  -- The three cases, and nothing else.
+  pub verdict-means : Means Δ q capacity (ofVerdict (result (verdictOf q capacity)))
+  unfolding ofVerdict
+  verdict-means = go (verdictOf q capacity) refl
+    where
+      settled : (v : Verdict) (n : ℕ) → verdictOf q capacity ≡ v → Numbered v n → ¬ Exceeds Δ q capacity
+      settled v n e (inl f) p = let z : same n ≡ unsettled = sym (e ∙ f) ∙ unsettled-iff-past-a-limit .1 p in let o : _≡_ {A = ℕ} 0 1 = cc in absurd (omega arith)
+      settled v n e (inr f) p = let z : different n ≡ unsettled = sym (e ∙ f) ∙ unsettled-iff-past-a-limit .1 p in let o : _≡_ {A = ℕ} 0 1 = cc in absurd (omega arith)
+
+      go : (v : Verdict) → verdictOf q capacity ≡ v → Means Δ q capacity (ofVerdict (result v))
+      go unsettled e = means-unsettled (unsettled-iff-past-a-limit .0 e)
+      go (same n) e = means-same n (settled (same n) n e (inl refl)) (same-is-related n e) (number-is-field-size n (inl e))
+      go (different n) e = means-different n (settled (different n) n e (inr refl)) (different-is-unrelated n e) (number-is-field-size n (inr e))
 
 -- The same question under another capacity: the same verdict with the same number exactly if the capacity is at least that number.
 module _ (q : Question) (capacity n : ℕ) (h : Numbered (verdictOf q capacity) n) where

@@ -3,35 +3,36 @@ use mathlib.Core.Path.{_≡_}
 use mathlib.Core.List.{List, _∷_, _++_}
 use Prim.Native.Nat.{ℕ, _*_, _<_, _≤_}
 use lib.ListN.{length, drop, replicate}
+use Rattle.calculus.specs.Definitions.{Defs}
 use Rattle.terms.specs.Answer.{Answer, refused, result}
 use Rattle.terms.specs.Operations.{mergeOf, besideOf}
 use Rattle.terms.specs.Question.{Question, checkOf}
-use Rattle.verdict.specs.Verdict.{verdictOf}
 use Rattle.verdict.specs.Judge.{judgeOf, slotBytes}
-use Rattle.verdict.specs.Outcome.{gave, turnedBack, unsettledOutcome, sameOf, differentOf, ofVerdict, Outcome, Says}
+use Rattle.verdict.specs.Outcome.{gave, turnedBack, unsettledOutcome, sameOf, differentOf, Outcome, Says}
+use Rattle.verdict.specs.Meaning.{Means}
 use Rattle.verdict.specs.Promises.{CheckIs}
-use Rattle.verdict.specs.Entries.{RelatedParts, Entry, merging, besiding, declaring, judging, hands}
+use Rattle.verdict.specs.Entries.{Defines, RelatedParts, Entry, merging, besiding, declaring, judging, hands}
 
 -- A merge or beside that the definitions answer by `made`: refused with the number of the first check that turns it back, no byte changed; or
 -- it wrote exactly the question that it put at hand and answered its length.
-pub data Wrote (made : Answer (List ℕ)) (area : List ℕ) (answer : ℕ) (after : List ℕ) : Type 0 where
+pub data Wrote (made : Answer (List ℕ)) (area : List ℕ) (answer : ℕ) (after : List ℕ) : Type 1 where
   not-written : (k : ℕ) → made ≡ refused k → Says answer (turnedBack k) → after ≡ area → Wrote made area answer after
   written : (next : List ℕ) → made ≡ result next → Says answer (gave (length next)) → after ≡ next ++ drop (length next) area
       → Wrote made area answer after
 
--- A judging: refused in the same way; or it answered the verdict and n of the question at hand for its capacity, and cleared the work area.
-pub data Judged (hand : List ℕ) (capacity : ℕ) (work : List ℕ) (answer : ℕ) (after : List ℕ) : Type 0 where
+-- A judging: refused in the same way; or it answered what Definition 13, the field and the limits make of the question at hand for its capacity,
+-- and cleared the work area.
+pub data Judged (hand : List ℕ) (capacity : ℕ) (work : List ℕ) (answer : ℕ) (after : List ℕ) : Type 1 where
   not-judged : (k : ℕ) → judgeOf hand capacity (length work) ≡ refused k → Says answer (turnedBack k) → after ≡ work
       → Judged hand capacity work answer after
-  judged : (q : Question) → checkOf hand ≡ result q → judgeOf hand capacity (length work) ≡ result (verdictOf q capacity)
-      → Says answer (ofVerdict (result (verdictOf q capacity)))
+  judged : (q : Question) → checkOf hand ≡ result q → (Δ : Defs) → Defines q Δ → (o : Outcome) → Says answer o → Means Δ q capacity o
       → after ≡ replicate (slotBytes * capacity) 0 ++ drop (slotBytes * capacity) work
       → Judged hand capacity work answer after
 
-unfoldable pub Told : List ℕ → Entry → Type 0
+unfoldable pub Told : List ℕ → Entry → Type 1
 Told hand (merging a b area answer after) = Wrote (mergeOf hand a b (length area)) area answer after
 Told hand (besiding third area answer after) = Wrote (besideOf hand third (length area)) area answer after
-Told hand (declaring a b) = Unit {0}
+Told hand (declaring a b) = Unit {1}
 Told hand (judging capacity work answer after) = Judged hand capacity work answer after
 
 -- the entry e stands in the list, handed `hand`
@@ -59,7 +60,8 @@ pub record ListHolds (start : List ℕ) (es : List Entry) : Type 1 where
   -- each operation refused exactly what a numbered check turns back, and wrote or answered what the definitions say
   pub told : (hand : List ℕ) (e : Entry) → Stands start es hand e → Told hand e
   -- once related, the parts are related after every later entry
-  pub related : (before behind : List Entry) → es ≡ before ++ behind → RelatedParts (hands start before) → RelatedParts (hands start es)
+  pub related : (before later behind : List Entry) → es ≡ before ++ (later ++ behind) → RelatedParts (hands start before)
+      → RelatedParts (hands start (before ++ later))
   -- once "same" is answered, they are related
   pub same-related : (hand : List ℕ) (capacity answer n : ℕ) → JudgedIn start es hand capacity answer → Says answer (sameOf n) → RelatedParts hand
   -- and no later judging, whatever its capacity, answers "different"

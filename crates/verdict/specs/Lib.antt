@@ -5,6 +5,8 @@ pub mod Verdict
 pub mod Judge
 -- answers as numbers over the C boundary
 pub mod Outcome
+-- what an answer of judge means: demand 2
+pub mod Meaning
 -- what the five operations promise
 pub mod Promises
 -- a list of changes: entries and the question at hand

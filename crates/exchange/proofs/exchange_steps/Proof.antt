@@ -3,6 +3,7 @@ use mathlib.Core.Path.{_∙_, ap}
 use Rattle.verdict.specs.Outcome.{codeOf}
 use Rattle.exchange.specs.Listed.{ofSteps}
 use Rattle.exchange.proofs.ListedLaws.{of-steps}
+use Rattle.verdict.proofs.SmallOutcomes.{list-small}
 use borrow.Author.Needs.{needs}
 use Rattle.exchange.proofs.exchange_steps.Statement.{statement}
 use Rattle.exchange.proofs.exchange_steps.Tie as tie
@@ -20,7 +21,11 @@ returns : tie.Need-returns
 returns c =
     let c3 = c .before .before .before in
     record {
-      answer = c .listed-code .ensures ∙ ap (λ a. codeOf (ofSteps a)) (c3 .steps .ensures .answer) ∙ ap codeOf (of-steps _);
+      answer =
+          record {
+            number = c .listed-code .ensures ∙ ap (λ a. codeOf (ofSteps a)) (c3 .steps .ensures .answer) ∙ ap codeOf (of-steps _);
+            small = list-small _ _ _ _;
+          };
       left =
           c3 .steps .ensures .left;
     }

@@ -1,0 +1,70 @@
+-- Demand 2, on the promise of the exported operation: what judge answers for an accepted question within the bounds of checks 1 and 2 is one of
+-- three cases, and nothing else (says-once in OutcomeLaws). Assumes nothing.
+use mathlib.Core.Path.{_≡_, refl, sym, _∙_, subst}
+use mathlib.Core.Bool.{_&&_}
+use mathlib.Core.List.{List, _++_}
+use Prim.Native.Nat.{ℕ, _*_, _≤_}
+use native.Mathlib.Omega.{arith}
+use lib.ListN.{length, drop, replicate}
+use lib.Dec.{leb}
+use borrow.Author.Tests.{le-leb}
+use Rattle.calculus.specs.Definitions.{Defs}
+use Rattle.terms.specs.Answer.{Answer, refused, result, _>>=_, _>>_}
+use Rattle.terms.specs.Question.{Question, checkOf}
+use Rattle.terms.proofs.Answers.{result-injective, bind-result, need-result, need-passed, bind-to}
+use Rattle.verdict.specs.Entries.{Defines}
+use Rattle.verdict.specs.Judge.{greatestCapacity, slotBytes, judgeOf, workAfter}
+use Rattle.verdict.specs.Meaning.{Means}
+use Rattle.verdict.specs.Outcome.{Outcome, turnedBack, Says, ofVerdict}
+use Rattle.verdict.specs.Promises.{JudgeIs}
+use Rattle.verdict.specs.Verdict.{Verdict, verdictOf}
+use Rattle.verdict.proofs.VerdictIsDefinition13.{verdict-means}
+
+-- What is known of an answered verdict.
+pub record Answered (hand : List ℕ) (capacity : ℕ) (work : List ℕ) (answer : ℕ) (after : List ℕ) : Type 0 where
+  pub read : Question
+  pub accepted : checkOf hand ≡ result read
+  pub says : Says answer (ofVerdict (result (verdictOf read capacity)))
+  pub cleared : after ≡ replicate (slotBytes * capacity) 0 ++ drop (slotBytes * capacity) work
+
+module _ {ℓ} (C : Type ℓ) where
+  -- refused or answered
+  pub judge-cases : (hand : List ℕ) (capacity : ℕ) (work : List ℕ) (answer : ℕ) (after : List ℕ) → JudgeIs hand capacity work answer after
+      → ((k : ℕ) → judgeOf hand capacity (length work) ≡ refused k → Says answer (turnedBack k) → after ≡ work → C)
+      → (Answered hand capacity work answer after → C) → C
+  unfolding workAfter judgeOf ofVerdict
+  judge-cases hand capacity work answer after j turned given = go (judgeOf hand capacity (length work)) refl (j .answer) (j .left)
+    where
+      go : (m : Answer Verdict) → judgeOf hand capacity (length work) ≡ m → Says answer (ofVerdict m) → after ≡ workAfter m capacity work → C
+      go (refused k) e s f = turned k e s f
+      go (result v) e s f =
+          let (_, e₁) = need-result 1 (leb 1 capacity && leb capacity greatestCapacity) _ v e in
+          let (_, e₂) = need-result 2 (leb (slotBytes * capacity) (length work)) _ v e₁ in
+          let (q, a, e₃) = bind-result (checkOf hand) _ v e₂ in
+          let is : verdictOf q capacity ≡ v = result-injective {a = verdictOf q capacity} e₃ in
+          given (record { read = q; accepted = a; says = subst (λ w. Says answer (ofVerdict (result w))) (sym is) s; cleared = f })
+
+-- within the bounds of checks 1 and 2 an accepted question is answered by its verdict
+judge-answers : (question : List ℕ) (q : Question) → checkOf question ≡ result q → (capacity room : ℕ) → 1 ≤ capacity → capacity ≤ greatestCapacity
+    → slotBytes * capacity ≤ room → judgeOf question capacity room ≡ result (verdictOf q capacity)
+unfolding judgeOf
+judge-answers question q a capacity room l g h =
+    need-passed 1 (leb 1 capacity && leb capacity greatestCapacity) _ (rw (le-leb 1 capacity l, le-leb capacity greatestCapacity g) refl)
+    ∙ need-passed 2 (leb (slotBytes * capacity) room) _ (le-leb (slotBytes * capacity) room h)
+    ∙ bind-to _ a
+
+-- what an answer says and means
+pub record Decision (Δ : Defs) (q : Question) (capacity answer : ℕ) : Type 1 where
+  pub outcome : Outcome
+  pub says : Says answer outcome
+  pub means : Means Δ q capacity outcome
+
+pub judge-is-definition-13 : (question : List ℕ) (q : Question) → checkOf question ≡ result q → (Δ : Defs) → Defines q Δ → (capacity : ℕ) (work : List ℕ)
+    → 1 ≤ capacity → capacity ≤ greatestCapacity → slotBytes * capacity ≤ length work → (answer : ℕ) (after : List ℕ)
+    → JudgeIs question capacity work answer after → Decision Δ q capacity answer
+judge-is-definition-13 question q a Δ d capacity work l g h answer after j =
+    record {
+      outcome = ofVerdict (result (verdictOf q capacity));
+      says = subst (λ m. Says answer (ofVerdict m)) (judge-answers question q a capacity (length work) l g h) (j .answer);
+      means = verdict-means question q a Δ d capacity;
+    }
