@@ -1,7 +1,7 @@
 // The operations as a service calls them: byte slices and numbers in, one number out, kind × 2^32 + number.
 ghost use mathlib.Core.Path.{_≡_};
 ghost use Rattle.terms_checks.specs.Checking.{checkedAnswer};
-ghost use Rattle.terms_rewriting.specs.Writing.{writtenAnswer};
+ghost use Rattle.terms_bytes.specs.Writing.{writtenAnswer};
 ghost use Rattle.verdict_judge.specs.Judging.{judgedAnswer};
 ghost use Rattle.verdict.specs.Outcome.{codeOf, gave, turnedBack, unsettledOutcome, sameOf, differentOf, ofNumber, ofVerdict, Small};
 ghost use Rattle.exchange.specs.Listed.{ofSteps};

@@ -13,8 +13,7 @@ use Rattle.terms.specs.Encoding.{encode}
 use Rattle.terms_bytes.specs.FieldPlaces.{definitionsOf, aritiesOf, afterField, fieldAt, fieldPlace}
 use Rattle.terms.specs.Limits.{longestTerm}
 use Rattle.terms.specs.Question.{Question, checkOf, pairBytes}
-use Rattle.terms.proofs.FramingLaws.{Bytes}
-use Rattle.terms_rewriting.proofs.QuestionPlaces.{accepted-apart, accepted-arities}
+use Rattle.terms_bytes.proofs.QuestionPlaces.{accepted-apart, accepted-arities}
 use Rattle.terms_bytes.proofs.Stores.{sets-middle}
 use Rattle.terms.proofs.WellFormed.{accepted-well-formed}
 use Rattle.steps_lister.proofs.OperationLaws.{first-stands, second-stands}
@@ -85,7 +84,7 @@ marking-whole list flags flags′ i h m so D e z =
     so D (ap (λ k. drop k list) n ∙ e) z
 
 -- Both parts and the pairs of an accepted question.
-module _ (s : List ℕ) (bytes : Bytes s) (first second apart : ℕ) (x : first ≡ fieldPlace s (definitionsOf s)) (y : second ≡ afterField s first)
+module _ (s : List ℕ) (first second apart : ℕ) (x : first ≡ fieldPlace s (definitionsOf s)) (y : second ≡ afterField s first)
     (z : apart ≡ afterField s second) where
   pub start-is : (part₁ part₂ list arities : List ℕ) → part₁ ≡ fieldAt s first → part₂ ≡ fieldAt s second → list ≡ fieldAt s apart → arities ≡ aritiesOf s
       → (key₁ key₂ key₃ flags : List ℕ) → PutsPart part₁ (replicate keyBytes 0) 0 key₁ → PutsPart part₂ key₁ 113 key₂
@@ -96,10 +95,10 @@ module _ (s : List ℕ) (bytes : Bytes s) (first second apart : ℕ) (x : first 
       let P : Term = q .first in
       let Q : Term = q .second in
       let zeros : List ℕ = replicate octets 0 in
-      let u : part₁ ≡ encode 0 P = e ∙ ap (fieldAt s) x ∙ first-stands s bytes q a in
-      let v : part₂ ≡ encode 0 Q = f ∙ ap (fieldAt s) (y ∙ ap (afterField s) x) ∙ second-stands s bytes q a in
-      let d : flags ≡ flagsOf (q .apart) = m (q .apart) (g ∙ accepted-apart s bytes q a first second apart x y z) no-pairs in
-      let c : arities ≡ q .arities = h ∙ accepted-arities s bytes q a in
+      let u : part₁ ≡ encode 0 P = e ∙ ap (fieldAt s) x ∙ first-stands s q a in
+      let v : part₂ ≡ encode 0 Q = f ∙ ap (fieldAt s) (y ∙ ap (afterField s) x) ∙ second-stands s q a in
+      let d : flags ≡ flagsOf (q .apart) = m (q .apart) (g ∙ accepted-apart s q a first second apart x y z) no-pairs in
+      let c : arities ≡ q .arities = h ∙ accepted-arities s q a in
       let t : key₂ ≡ partBytes P ++ (partBytes Q ++ zeros) =
       p₂ Q (partBytes P) zeros v (w .second .size) (length-part P (w .first .size)) (p₁ P [] (replicate (1 + longestTerm) 0 ++ zeros) u (w .first .size) refl refl) in
       k P Q (q .apart)

@@ -20,11 +20,11 @@ use Rattle.terms_renaming.specs.FreeFlags.{IsFreeOf}
 use Rattle.terms.specs.Limits.{nameCount, longestTerm}
 use Rattle.terms.specs.Operations.{checkAnswer}
 use Rattle.terms.specs.Question.{Question, checkOf, fieldsOf}
-use Rattle.terms_rewriting.specs.Writing.{Accepted}
+use Rattle.terms_bytes.specs.Writing.{Accepted}
 use Rattle.terms.proofs.Answers.{bind-result, bind-to, bind-refused, need-passed, need-failed}
-use Rattle.terms.proofs.FramingLaws.{Bytes, Framable}
+use Rattle.terms.proofs.FramingLaws.{Framable}
 use Rattle.terms_bytes.proofs.Places.{allFields, definitions-of, field-is}
-use Rattle.terms_rewriting.proofs.QuestionPlaces.{framable, accepted-joined}
+use Rattle.terms_bytes.proofs.QuestionPlaces.{framable, accepted-joined}
 use Rattle.terms.proofs.WellFormed.{PartAllowed, accepted-well-formed}
 use Rattle.steps_tallies.specs.Bodies.{AritiesIs}
 use Rattle.steps.proofs.QuestionDefinitions.{definitions}
@@ -75,7 +75,7 @@ module _ (question bytes : List ℕ) (x : ℕ) (own′ area : List ℕ) (space :
           }
 
 -- The parts of an accepted question stand where the code finds them.
-module _ (s : List ℕ) (b : Bytes s) (q : Question) (accepted : checkOf s ≡ result q) where
+module _ (s : List ℕ) (q : Question) (accepted : checkOf s ≡ result q) where
   count-bodies : (f : Fields) → Framable f → definitionsOf (joined f) ≡ length (f .bodies)
   count-bodies f framed = definitions-of f framed ∙ sym (framed .counts)
 
@@ -84,7 +84,7 @@ module _ (s : List ℕ) (b : Bytes s) (q : Question) (accepted : checkOf s ≡ r
   first-stands =
       let f : Fields = fieldsOf q in
       let framed = framable q (accepted-well-formed s q accepted) in
-      ap (λ (t : List ℕ). fieldAt t (fieldPlace t (definitionsOf t))) (sym (accepted-joined s q b accepted))
+      ap (λ (t : List ℕ). fieldAt t (fieldPlace t (definitionsOf t))) (sym (accepted-joined s q accepted))
       ∙ ap (λ k. fieldAt (joined f) (fieldPlace (joined f) k)) (count-bodies f framed)
       ∙ field-is f framed (length (f .bodies)) (omega (arith, length-append (f .bodies) (f .first ∷ f .second ∷ f .apart ∷ [])))
       ∙ getD-append-seam (f .bodies) (f .first) (f .second ∷ f .apart ∷ []) []
@@ -96,18 +96,18 @@ module _ (s : List ℕ) (b : Bytes s) (q : Question) (accepted : checkOf s ≡ r
       let framed = framable q (accepted-well-formed s q accepted) in
       let n : ℕ = length (f .bodies) in
       let k : n + 1 ≡ suc n = omega arith in
-      ap (λ (t : List ℕ). fieldAt t (afterField t (fieldPlace t (definitionsOf t)))) (sym (accepted-joined s q b accepted))
+      ap (λ (t : List ℕ). fieldAt t (afterField t (fieldPlace t (definitionsOf t)))) (sym (accepted-joined s q accepted))
       ∙ ap (λ k. fieldAt (joined f) (afterField (joined f) (fieldPlace (joined f) k))) (count-bodies f framed)
       ∙ field-is f framed (suc n) (omega (arith, length-append (f .bodies) (f .first ∷ f .second ∷ f .apart ∷ [])))
       ∙ ap (λ j. getD (f .bodies ++ (f .first ∷ f .second ∷ f .apart ∷ [])) j []) (sym k)
       ∙ getD-append-add (f .bodies) (f .first ∷ f .second ∷ f .apart ∷ []) 1 []
 
-pub side-is : (s : List ℕ) (b : Bytes s) (side : ℕ) → (side ≡ 1 → SideIs s side (fieldAt s (fieldPlace s (definitionsOf s))))
+pub side-is : (s : List ℕ) (side : ℕ) → (side ≡ 1 → SideIs s side (fieldAt s (fieldPlace s (definitionsOf s))))
     × ((side ≡ 1 → ⊥) → SideIs s side (fieldAt s (afterField s (fieldPlace s (definitionsOf s)))))
 unfolding SideIs sideTerm
-side-is s b side = (
-  λ h q e. rw (eq-eqb side 1 h) (first-stands s b q e),
-  λ h q e. rw (ne-eqb side 1 h) (second-stands s b q e),
+side-is s side = (
+  λ h q e. rw (eq-eqb side 1 h) (first-stands s q e),
+  λ h q e. rw (ne-eqb side 1 h) (second-stands s q e),
 )
 
 -- The answers of checks 3 to 12.

@@ -5,7 +5,7 @@ ghost use Prim.Native.Nat.{_*_, _≤_};
 ghost use lib.Dec.{eqb};
 ghost use lib.ListN.{length};
 ghost use Rattle.terms.specs.Limits.{longestTerm};
-ghost use Rattle.terms_rewriting.specs.Writing.{Accepted};
+ghost use Rattle.terms_bytes.specs.Writing.{Accepted};
 ghost use Rattle.steps_lister.specs.Answering.{DoesList, SideIs, ListsInto};
 ghost use Rattle.steps.specs.Limits.{stepBytes, mostSteps};
 ghost use Rattle.steps.specs.Operations.{listOf};

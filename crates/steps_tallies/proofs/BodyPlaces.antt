@@ -9,18 +9,17 @@ use Rattle.calculus.specs.Term.{Term}
 use Rattle.terms.specs.Encoding.{encode}
 use Rattle.terms_bytes.specs.FieldPlaces.{aritiesOf, fieldAt, fieldPlace}
 use Rattle.terms.specs.Question.{bodyFields, fieldsOf}
-use Rattle.terms.proofs.FramingLaws.{Bytes}
 use Rattle.terms_bytes.proofs.Places.{allFields, arities-of, field-is}
-use Rattle.terms_rewriting.proofs.QuestionPlaces.{framable, accepted-joined}
+use Rattle.terms_bytes.proofs.QuestionPlaces.{framable, accepted-joined}
 use Rattle.terms.proofs.WellFormed.{BodiesAllowed, accepted-well-formed}
 use Rattle.steps_tallies.specs.Bodies.{AritiesIs, BodyIs}
 use Rattle.terms.specs.Question.{bodyOf}
 
-pub arities-are : (question : List ℕ) → Bytes question → AritiesIs question (aritiesOf question)
+pub arities-are : (question : List ℕ) → AritiesIs question (aritiesOf question)
 unfolding AritiesIs fieldsOf
-arities-are question b q e =
+arities-are question q e =
     let w = accepted-well-formed question q e in
-    ap aritiesOf (sym (accepted-joined question q b e)) ∙ arities-of (fieldsOf q) (framable q w)
+    ap aritiesOf (sym (accepted-joined question q e)) ∙ arities-of (fieldsOf q) (framable q w)
 
 -- The bytes of body k, and that there is one.
 body-field : (arities sizes : List ℕ) (bodies : List Term) (rest : List (List ℕ)) → BodiesAllowed arities sizes bodies → (k : ℕ) → k < length sizes
@@ -32,12 +31,12 @@ body-field arities (a ∷ sizes) (P ∷ Ps) rest w (suc k) h =
     (omega arith, e)
 body-field arities [] [] rest w k h = absurd (not-suc-le-zero h)
 
-pub body-is : (question : List ℕ) (k : ℕ) → Bytes question → BodyIs question k (fieldAt question (fieldPlace question k))
+pub body-is : (question : List ℕ) (k : ℕ) → BodyIs question k (fieldAt question (fieldPlace question k))
 unfolding fieldsOf allFields
-body-is question k b = record {
+body-is question k = record {
   piece = refl;
   is = λ q e h.
       let w = accepted-well-formed question q e in
       let f = body-field (q .arities) (q .arities) (q .bodies) _ (w .bodies) k h in
-      ap (λ (s : List ℕ). fieldAt s (fieldPlace s k)) (sym (accepted-joined question q b e)) ∙ field-is (fieldsOf q) (framable q w) k (f .0) ∙ f .1;
+      ap (λ (s : List ℕ). fieldAt s (fieldPlace s k)) (sym (accepted-joined question q e)) ∙ field-is (fieldsOf q) (framable q w) k (f .0) ∙ f .1;
 }

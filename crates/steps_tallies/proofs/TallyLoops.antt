@@ -18,7 +18,6 @@ use Rattle.terms.specs.Encoding.{encode, InScope}
 use Rattle.terms_bytes.specs.FieldPlaces.{definitionsOf, sizeAt, afterField, fieldAt, fieldPlace}
 use Rattle.terms.specs.Limits.{longestTerm, mostDefinitions}
 use Rattle.terms.specs.Question.{Question, checkOf}
-use Rattle.terms.proofs.FramingLaws.{Bytes}
 use Rattle.terms.proofs.WellFormed.{accepted-well-formed}
 use Rattle.steps_tallies.specs.Bodies.{AritiesIs, BodyIs, OpeningIs}
 use Rattle.terms.specs.Question.{bodyOf}
@@ -337,12 +336,12 @@ unfolding PlacesBelow
 place-there question t k N h d l = N .places k h (omega (arith, place-below question k))
 
 -- The numbers of a call are those of its body.
-pub calls-are : (question t : List ℕ) → Bytes question → BodiesTallied question t → (q : Question) → checkOf question ≡ result q → CallsAre (q .arities) (bodyOf (q .bodies)) 1 t
+pub calls-are : (question t : List ℕ) → BodiesTallied question t → (q : Question) → checkOf question ≡ result q → CallsAre (q .arities) (bodyOf (q .bodies)) 1 t
 unfolding CallsAre visibleCall silentCall visibleAt silentAt bodyTally candidates
-calls-are question t b N q c k xs l =
+calls-are question t N q c k xs l =
     let P = bodyOf (q .bodies) k in
     let a = getD (q .arities) k 0 in
-    let e = body-is question k b .is q c l in
+    let e = body-is question k .is q c l in
     let w = N .are k (omega (arith, accepted-well-formed question q c .definitions)) (omega (arith, ap length e, body-size question q c k)) .is q 0 0 a
     (λ (n : ℕ). getD (reverse xs) n 0) P [] c (body-scope question q c k) (e ∙ sym (append-nil (encode a P))) in
     let at : (j : ℕ) → j < tallySize → getD t (tallySize * k + j) 0 ≡ getD (take tallySize (drop (tallySize * k) t)) j 0 =

@@ -27,20 +27,6 @@ two-bytes (a ∷ []) e = absurd (omega arith)
 two-bytes (a ∷ b ∷ []) e = (a, b, refl)
 two-bytes (a ∷ b ∷ c ∷ bs) e = absurd (omega arith)
 
--- A list of bytes.
-abbrev pub Bytes : List ℕ → Type 0
-Bytes = Every (λ b. b < 256)
-
-pub bytes-behind : (xs ys : List ℕ) → Bytes (xs ++ ys) → Bytes ys
-unfolding Every
-bytes-behind [] ys h = h
-bytes-behind (x ∷ xs) ys h = bytes-behind xs ys (h .1)
-
-pub bytes-by-place : (bs : List ℕ) → ((i : ℕ) → getD bs i 0 < 256) → Bytes bs
-unfolding Every
-bytes-by-place [] h = tt
-bytes-by-place (b ∷ bs) h = (h zero, bytes-by-place bs (λ i. h (suc i)))
-
 -- What was cut stood there.
 pub cut-out : (n : ℕ) (bs : List ℕ) (r : List ℕ × List ℕ) → cut n bs ≡ result r → (bs ≡ r .0 ++ r .1) × (length (r .0) ≡ n)
 unfolding cut
@@ -53,9 +39,12 @@ cut-out n bs r e = go (leb n (length bs)) refl
         (rw (← q) (sym (take-append-drop n bs)), rw (← q) (rw length-take (omega arith)))
     go false p = refused-not-result (rw p at e)
 
--- A field, and that the bytes behind it are bytes.
-pub field-out : (bs : List ℕ) (r : List ℕ × List ℕ) → Bytes bs → field bs ≡ result r → (bs ≡ sized (r .0) ++ r .1) × Bytes (r .1)
-unfolding field sized Every
+-- A field whose length has room in one byte: there is one way to write that length.
+abbrev pub Short : List ℕ → Type 0
+Short f = length f < 256
+
+pub field-out : (bs : List ℕ) (r : List ℕ × List ℕ) → Short (r .0) → field bs ≡ result r → bs ≡ sized (r .0) ++ r .1
+unfolding field sized
 field-out bs r h e =
     let t = bind-result (cut 2 bs) _ r e in
     let c = cut-out 2 bs (t .0) (t .1) in
@@ -63,26 +52,21 @@ field-out bs r h e =
     let v = cut-out _ (t .0 .1) r (t .2) in
     let len : length (r .0) ≡ 256 * w .0 + w .1 = rw (w .2) at (v .1) in
     let p : bs ≡ w .0 ∷ w .1 ∷ (r .0 ++ r .1) = c .0 ∙ ap₂ (λ l m. l ++ m) (w .2) (v .0) in
-    let hb : Bytes (w .0 ∷ w .1 ∷ (r .0 ++ r .1)) = subst Bytes p h in
-    let low : w .1 < 256 = hb .1 .0 in
     let x : length (r .0) / 256 ≡ w .0 = omega arith in
     let y : length (r .0) % 256 ≡ w .1 = omega arith in
-    (rw (x, y) p, bytes-behind (r .0) (r .1) (hb .1 .1))
+    rw (x, y) p
 
-pub fields-out : (n : ℕ) (bs : List ℕ) (r : List (List ℕ) × List ℕ) → Bytes bs → fields n bs ≡ result r →
-    (bs ≡ allSized (r .0) ++ r .1) × Bytes (r .1)
-unfolding fields allSized
-fields-out zero bs r h e = rw (← result-injective e) (refl, h)
+pub fields-out : (n : ℕ) (bs : List ℕ) (r : List (List ℕ) × List ℕ) → Every Short (r .0) → fields n bs ≡ result r → bs ≡ allSized (r .0) ++ r .1
+unfolding fields allSized Every
+fields-out zero bs r h e = rw (← result-injective e) refl
 fields-out (suc n) bs r h e =
     let t = bind-result (field bs) _ r e in
-    let f = field-out bs (t .0) h (t .1) in
     let u = bind-result (fields n (t .0 .1)) _ r (t .2) in
-    let g = fields-out n (t .0 .1) (u .0) (f .1) (u .1) in
-    rw
-    (← result-injective {a = (t .0 .0 ∷ u .0 .0, u .0 .1)} (u .2)) (
-      f .0 ∙ ap (λ l. sized (t .0 .0) ++ l) (g .0) ∙ sym (append-assoc (sized (t .0 .0)) (allSized (u .0 .0)) (u .0 .1)),
-      g .1,
-    )
+    let i = result-injective {a = (t .0 .0 ∷ u .0 .0, u .0 .1)} (u .2) in
+    let k : Every Short (t .0 .0 ∷ u .0 .0) = subst (λ (z : List (List ℕ) × List ℕ). Every Short (z .0)) (sym i) h in
+    let f = field-out bs (t .0) (k .0) (t .1) in
+    let g = fields-out n (t .0 .1) (u .0) (k .1) (u .1) in
+    rw (← i) (f ∙ ap (λ l. sized (t .0 .0) ++ l) g ∙ sym (append-assoc (sized (t .0 .0)) (allSized (u .0 .0)) (u .0 .1)))
 
 -- There are as many fields as were asked for, whatever the bytes.
 pub fields-count : (n : ℕ) (bs : List ℕ) (r : List (List ℕ) × List ℕ) → fields n bs ≡ result r → length (r .0) ≡ n
@@ -130,20 +114,27 @@ last-kept arities bodies bs f e =
     let r = result-injective {a = record { arities = arities; bodies = bodies; first = t .0 .0; second = u .0 .0; apart = v .0 .0 }} (z .1) in
     rw (← r) (refl, refl)
 
-last-out : (arities : List ℕ) (bodies : List (List ℕ)) (bs : List ℕ) (f : Fields) → Bytes bs → lastFields arities bodies bs ≡ result f →
+-- the three fields are short
+pub record ShortLast (f : Fields) : Type 0 where
+  pub first : Short (f .first)
+  pub second : Short (f .second)
+  pub apart : Short (f .apart)
+
+last-out : (arities : List ℕ) (bodies : List (List ℕ)) (bs : List ℕ) (f : Fields) → ShortLast f → lastFields arities bodies bs ≡ result f →
     bs ≡ sized (f .first) ++ (sized (f .second) ++ sized (f .apart))
 unfolding lastFields
 last-out arities bodies bs f h e =
     let t = bind-result (field bs) _ f e in
-    let p = field-out bs (t .0) h (t .1) in
     let u = bind-result (field (t .0 .1)) _ f (t .2) in
-    let q = field-out (t .0 .1) (u .0) (p .1) (u .1) in
     let v = bind-result (field (u .0 .1)) _ f (u .2) in
-    let d = field-out (u .0 .1) (v .0) (q .1) (v .1) in
     let z = need-result 4 (eqb (length (v .0 .1)) 0) _ f (v .2) in
-    let e₃ : u .0 .1 ≡ sized (v .0 .0) = d .0 ∙ ap (λ m. sized (v .0 .0) ++ m) (empty (v .0 .1) (eqb-true _ _ (z .0))) ∙ append-nil _ in
     let r = result-injective {a = record { arities = arities; bodies = bodies; first = t .0 .0; second = u .0 .0; apart = v .0 .0 }} (z .1) in
-    rw (← r) (p .0 ∙ ap (λ m. sized (t .0 .0) ++ m) (q .0 ∙ ap (λ m. sized (u .0 .0) ++ m) e₃))
+    let k = subst ShortLast (sym r) h in
+    let p = field-out bs (t .0) (k .first) (t .1) in
+    let q = field-out (t .0 .1) (u .0) (k .second) (u .1) in
+    let d = field-out (u .0 .1) (v .0) (k .apart) (v .1) in
+    let e₃ : u .0 .1 ≡ sized (v .0 .0) = d ∙ ap (λ m. sized (v .0 .0) ++ m) (empty (v .0 .1) (eqb-true _ _ (z .0))) ∙ append-nil _ in
+    rw (← r) (p ∙ ap (λ m. sized (t .0 .0) ++ m) (q ∙ ap (λ m. sized (u .0 .0) ++ m) e₃))
 
 -- The bytes of a question behind its version byte.
 unfoldable pub behindVersion : Fields → List ℕ
@@ -155,22 +146,20 @@ module _ (bs size rest arities rest₁ : List ℕ) (bodies : List (List ℕ)) (r
   unfolding behindVersion
   reassembled p q r l s u a b = rw (a, b, p, q, r, l, s, u)
 
-pub framed-out : (bs : List ℕ) (f : Fields) → Bytes bs → framed bs ≡ result f → bs ≡ behindVersion f
+pub framed-out : (bs : List ℕ) (f : Fields) → Every Short (f .bodies) → ShortLast f → framed bs ≡ result f → bs ≡ behindVersion f
 unfolding framed lastFields
-framed-out bs f h e =
+framed-out bs f short last e =
     let t = bind-result (cut 1 bs) _ f e in
     let c = cut-out 1 bs (t .0) (t .1) in
     let n = one-byte (t .0 .0) (c .1) in
     let k : getD (t .0 .0) 0 0 ≡ n .0 = ap (λ m. getD m 0 0) (n .1) in
     let u = bind-result (cut (getD (t .0 .0) 0 0) (t .0 .1)) _ f (t .2) in
     let b = cut-out (getD (t .0 .0) 0 0) (t .0 .1) (u .0) (u .1) in
-    let h₁ = bytes-behind (t .0 .0) (t .0 .1) (subst Bytes (c .0) h) in
-    let h₂ = bytes-behind (u .0 .0) (u .0 .1) (subst Bytes (b .0) h₁) in
     let v = bind-result (fields (getD (t .0 .0) 0 0) (u .0 .1)) (λ x. lastFields (u .0 .0) (x .0) (x .1)) f (u .2) in
-    let g = fields-out (getD (t .0 .0) 0 0) (u .0 .1) (v .0) h₂ (v .1) in
     let l = last-kept (u .0 .0) (v .0 .0) (v .0 .1) f (v .2) in
+    let g = fields-out (getD (t .0 .0) 0 0) (u .0 .1) (v .0) (subst (Every Short) (l .1) short) (v .1) in
     reassembled bs (t .0 .0) (t .0 .1) (u .0 .0) (u .0 .1) (v .0 .0) (v .0 .1) (n .0) f
-    (c .0) (n .1) (b .0) (sym (b .1 ∙ k)) (g .0) (last-out (u .0 .0) (v .0 .0) (v .0 .1) f (g .1) (v .2)) (l .0) (l .1)
+    (c .0) (n .1) (b .0) (sym (b .1 ∙ k)) g (last-out (u .0 .0) (v .0 .0) (v .0 .1) f last (v .2)) (l .0) (l .1)
 
 -- As many bodies as arities.
 pub framed-counts : (bs : List ℕ) (f : Fields) → framed bs ≡ result f → length (f .bodies) ≡ length (f .arities)

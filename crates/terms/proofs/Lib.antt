@@ -5,6 +5,7 @@ pub mod DeclareLaws
 pub mod EncodeRead
 pub mod Examples
 pub mod FramingLaws
+pub mod LiteralBytes
 pub mod MergeLaws
 pub mod ReadEncoded
 pub mod RefusalNumbers

@@ -2,6 +2,7 @@
 use mathlib.Core.Path.{_≡_, refl, sym, ap, ap₂, subst, _∙_}
 use mathlib.Core.List.{List, [], _∷_, _++_, append-nil}
 use mathlib.Core.Bool.{Bool, true, false, _&&_, not}
+use mathlib.Core.Logic.{_↔_}
 use Prim.Native.Nat.{ℕ, zero, suc, _+_, _*_, _≤_, _<_}
 use native.Mathlib.Omega.{arith}
 use lib.ListN.{length, getD, length-append}
@@ -19,7 +20,7 @@ use Rattle.terms.specs.Question.{Question, all, version, fits, readBodie
 use Rattle.terms.proofs.Answers.{result-injective, refused-not-result, bind-result, bind-to, then-result, bind-id, bind-assoc, need-result, need-passed, both-true, true-both, Every, all-every, every-all}
 use Rattle.terms.proofs.ReadEncoded.{encode-some, read-whole}
 use Rattle.terms.proofs.EncodeRead.{whole-read}
-use Rattle.terms.proofs.FramingLaws.{Bytes, behindVersion, framed-out, framed-in, framed-counts, Framable}
+use Rattle.terms.proofs.FramingLaws.{Short, ShortLast, behindVersion, framed-out, framed-in, framed-counts, Framable}
 
 -- What checks 6 to 11 ask of a body with a parameters.
 pub record BodyAllowed (arities : List ℕ) (a : ℕ) (P : Term) : Type 0 where
@@ -222,14 +223,28 @@ accepted-fields bs q s = fields-allowed (s .fields) q (framed-counts (s .behind)
 pub accepted-well-formed : (bs : List ℕ) (q : Question) → checkOf bs ≡ result q → WellFormed q
 accepted-well-formed bs q e = accepted-fields bs q (accepted-stages bs q e) .0
 
--- An accepted list of bytes is what is written of its question: the bytes determine the question, and the question the bytes.
-pub accepted-written : (bs : List ℕ) (q : Question) → Bytes bs → checkOf bs ≡ result q → write q ≡ bs
-unfolding write joined behindVersion Every
-accepted-written bs q h e =
+-- What is accepted is what is written of its question: the bytes determine the question, and the question the bytes.
+bodies-short : (arities sizes : List ℕ) (Ps : List Term) → BodiesAllowed arities sizes Ps → Every Short (bodyFields sizes Ps)
+unfolding BodiesAllowed bodyFields Every
+bodies-short arities [] [] h = tt
+bodies-short arities (a ∷ sizes) (P ∷ Ps) h = let k = h .0 .size in (omega arith, bodies-short arities sizes Ps (h .1))
+
+fields-short : (q : Question) → WellFormed q → ShortLast (fieldsOf q)
+unfolding fieldsOf
+fields-short q w =
+    let a = w .first .size in
+    let b = w .second .size in
+    let c = w .apartSize in
+    record { first = omega arith; second = omega arith; apart = omega arith }
+
+pub accepted-written : (bs : List ℕ) (q : Question) → checkOf bs ≡ result q → write q ≡ bs
+unfolding write joined behindVersion fieldsOf
+accepted-written bs q e =
     let s = accepted-stages bs q e in
-    let b : Bytes (s .behind) = (subst Bytes (s .versionByte) h) .1 in
-    let w = framed-out (s .behind) (s .fields) b (s .framing) in
-    ap (λ f. 1 ∷ behindVersion f) (sym (accepted-fields bs q s .1)) ∙ sym (s .versionByte ∙ ap (λ m. 1 ∷ m) w)
+    let (w, f) = accepted-fields bs q s in
+    let b : Every Short (s .fields .bodies) = subst (λ (f : Fields). Every Short (f .bodies)) (sym f) (bodies-short (q .arities) (q .arities) (q .bodies) (w .bodies)) in
+    let o = framed-out (s .behind) (s .fields) b (subst ShortLast (sym f) (fields-short q w)) (s .framing) in
+    ap (λ f. 1 ∷ behindVersion f) (sym f) ∙ sym (s .versionByte ∙ ap (λ m. 1 ∷ m) o)
 
 -- Every well-formed question is accepted.
 allowed-size : (arities sizes : List ℕ) (Ps : List Term) → BodiesAllowed arities sizes Ps →
@@ -373,3 +388,10 @@ well-formed-accepted q w =
 -- The bytes determine the question.
 pub accepted-once : (bs : List ℕ) (q r : Question) → checkOf bs ≡ result q → checkOf bs ≡ result r → q ≡ r
 accepted-once bs q r e f = result-injective (sym e ∙ f)
+
+-- A question is accepted exactly if it is the writing of a well-formed one.
+pub accepted-iff-written : (bs : List ℕ) (q : Question) → (checkOf bs ≡ result q) ↔ (WellFormed q × (bs ≡ write q))
+accepted-iff-written bs q = (
+  λ e. (accepted-well-formed bs q e, sym (accepted-written bs q e)),
+  λ (w, e). ap checkOf e ∙ well-formed-accepted q w,
+)

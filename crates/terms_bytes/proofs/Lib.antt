@@ -1,4 +1,5 @@
 pub mod NameTables
 pub mod Places
+pub mod QuestionPlaces
 pub mod Shapes
 pub mod Stores

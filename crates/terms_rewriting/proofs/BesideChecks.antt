@@ -19,8 +19,7 @@ use Rattle.terms_checks.specs.Scanning.{controlOf, scannedWhole}
 use Rattle.terms_checks.specs.declared.scan.Control.{Control}
 use Rattle.terms_rewriting.proofs.BesideWriting.{beside-length}
 use Rattle.terms.proofs.EncodeRead.{whole-read}
-use Rattle.terms.proofs.FramingLaws.{Bytes}
-use Rattle.terms_rewriting.proofs.QuestionPlaces.{accepted-joined}
+use Rattle.terms_bytes.proofs.QuestionPlaces.{accepted-joined}
 use Rattle.terms_rewriting.proofs.TurnedBack.{made-refused}
 use Rattle.terms.proofs.Answers.{result-injective, refused-not-result, bind-to, bind-refused, need-passed, need-failed, both-true}
 
@@ -43,11 +42,11 @@ pub third-bytes : (arities third : List ℕ) (R : Term) → readPart arities thi
 unfolding readPart
 third-bytes arities third R e = whole-read nameCount arities 0 third R e .0
 
-pub written-length : (s : List ℕ) → Bytes s → (q : Question) → checkOf s ≡ result q → (third : List ℕ) (R : Term) → third ≡ encode 0 R
+pub written-length : (s : List ℕ) (q : Question) → checkOf s ≡ result q → (third : List ℕ) (R : Term) → third ≡ encode 0 R
     → length (write (besideQuestion R q)) ≡ length s + (1 + length third + (1 + length third))
-written-length s b q e third R t =
+written-length s q e third R t =
     let l = beside-length R q in
-    let m = ap length (accepted-joined s q b e) in
+    let m = ap length (accepted-joined s q e) in
     let n = ap length t in
     omega (arith, l, m, n)
 

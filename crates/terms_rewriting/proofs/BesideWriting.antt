@@ -11,9 +11,9 @@ use Rattle.terms_bytes.specs.FieldPlaces.{definitionsOf, afterField, fieldPlace
 use Rattle.terms.specs.Framing.{Fields, sized, joined}
 use Rattle.terms.specs.Operations.{besideQuestion, areaAfter}
 use Rattle.terms.specs.Question.{Question, pairBytes, fieldsOf, write}
-use Rattle.terms_rewriting.specs.Writing.{Writes, WritesBeside}
-use Rattle.terms.proofs.FramingLaws.{Framable, Bytes}
-use Rattle.terms_rewriting.proofs.QuestionPlaces.{framable, accepted-joined, beforeParts, joined-split, firstPlace, secondPlace, apartPlace, first-bytes, second-bytes, at-apart, first-is, second-is, apart-is, joined-length, halves}
+use Rattle.terms_bytes.specs.Writing.{Writes, WritesBeside}
+use Rattle.terms.proofs.FramingLaws.{Framable}
+use Rattle.terms_bytes.proofs.QuestionPlaces.{framable, accepted-joined, beforeParts, joined-split, firstPlace, secondPlace, apartPlace, first-bytes, second-bytes, at-apart, first-is, second-is, apart-is, joined-length, halves}
 use Rattle.terms_bytes.proofs.Stores.{span, length-span, sets-join, sets-start}
 use Rattle.terms.proofs.WellFormed.{WellFormed, accepted-well-formed}
 
@@ -218,10 +218,10 @@ module _ (q : Question) (w : WellFormed q) (R : Term) (area area′ : List ℕ) 
         b ∙ ap (λ (bs : List ℕ). bs ++ drop (length bs) area) (sym whole-is),
       )
 
-pub writes-beside : (s third area area′ : List ℕ) (r : ℕ) → Bytes s → length s + (1 + length third + (1 + length third)) ≤ length area
+pub writes-beside : (s third area area′ : List ℕ) (r : ℕ) → length s + (1 + length third + (1 + length third)) ≤ length area
     → Run s third area area′ r → WritesBeside s third area r area′
 unfolding WritesBeside
-writes-beside s third area area′ r bytes room run q R e t =
-    let j = sym (accepted-joined s q bytes e) in
+writes-beside s third area area′ r room run q R e t =
+    let j = sym (accepted-joined s q e) in
     beside-written q (accepted-well-formed s q e) R area area′ r (rw (j, t) at room)
     (subst (λ (s : List ℕ). Run s (encode 0 R) area area′ r) j (subst (λ (third : List ℕ). Run s third area area′ r) t run))

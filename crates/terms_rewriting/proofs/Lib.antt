@@ -3,5 +3,4 @@ mod BesideWriting
 mod GrammarLaws
 mod MergeChecks
 mod MergeWriting
-pub mod QuestionPlaces
 mod TurnedBack

@@ -15,7 +15,7 @@ use Rattle.terms.specs.Limits.{nameCount}
 use Rattle.terms.specs.Answer.{Answer, refused, result, _>>=_, _>>_, need}
 use Rattle.terms.specs.Operations.{holdsApart, mergedQuestion, merged, writtenWithin, mergeOf, lengthWritten, areaAfter}
 use Rattle.terms.specs.Question.{Question, pairBytes, checkOf, write}
-use Rattle.terms_rewriting.specs.Writing.{Does, Writes, writtenAnswer}
+use Rattle.terms_bytes.specs.Writing.{Does, Writes, writtenAnswer}
 use Rattle.terms_bytes.specs.declared.answer.Written.the-variants.{Length, Refused}
 use Rattle.terms.proofs.Answers.{bind-to, bind-refused, need-passed, need-failed}
 use Rattle.terms_bytes.proofs.Stores.{getD-front}

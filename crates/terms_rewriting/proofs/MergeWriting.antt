@@ -15,13 +15,13 @@ use Rattle.terms_bytes.specs.NameTable.{beneath, renamedByte}
 use Rattle.terms.specs.Operations.{mergedQuestion, areaAfter}
 use Rattle.terms.specs.Question.{Question, pairBytes, fieldsOf, write}
 use Rattle.terms_renaming.specs.Renaming.{RenameIs}
-use Rattle.terms_rewriting.specs.Writing.{Writes, WritesMerged}
+use Rattle.terms_bytes.specs.Writing.{Writes, WritesMerged}
 use Rattle.terms.proofs.Answers.{Every}
-use Rattle.terms.proofs.FramingLaws.{Framable, Bytes}
+use Rattle.terms.proofs.FramingLaws.{Framable}
 use Rattle.terms.proofs.MergeLaws.{join-below}
 use Rattle.terms_bytes.proofs.NameTables.{renamed-free, beneath-free, represents-free}
 use Rattle.terms_bytes.proofs.Places.{arities-of}
-use Rattle.terms_rewriting.proofs.QuestionPlaces.{framable, accepted-joined, halves, beforeParts, joined-split, firstPlace, secondPlace, apartPlace, first-bytes, second-bytes, apart-bytes, apart-size, first-is, second-is, apart-is, joined-length}
+use Rattle.terms_bytes.proofs.QuestionPlaces.{framable, accepted-joined, halves, beforeParts, joined-split, firstPlace, secondPlace, apartPlace, first-bytes, second-bytes, apart-bytes, apart-size, first-is, second-is, apart-is, joined-length}
 use Rattle.terms.proofs.RenamingKeeps.{length-ren}
 use Rattle.terms_bytes.proofs.Stores.{span, sets-middle, sets-start}
 use Rattle.terms.proofs.WellFormed.{PairAllowed, WellFormed, accepted-well-formed}
@@ -207,10 +207,10 @@ module _ (a b : ℕ) (q : Question) (w : WellFormed q) (small : a < nameCount) (
           (mergedFirst a b q) (mergedSecond a b q) (mergedApart a b q) (run .first + 2) (run .second + 2) (run .apart + 2)
           (omega (arith, first-e, first-is f fr)) (omega (arith, first-e, second-e, second-is f fr)) (omega (arith, second-e, apart-e, apart-is f fr)) x y z)
 
-pub writes-merged : (s : List ℕ) (a b : ℕ) (area area′ : List ℕ) → Bytes s → a < nameCount → b < nameCount → length s ≤ length area
+pub writes-merged : (s : List ℕ) (a b : ℕ) (area area′ : List ℕ) → a < nameCount → b < nameCount → length s ≤ length area
     → Run a b s area area′ → WritesMerged s a b area (length s) area′
 unfolding WritesMerged
-writes-merged s a b area area′ bytes small small′ room run q e =
-    let j = sym (accepted-joined s q bytes e) in
+writes-merged s a b area area′ small small′ room run q e =
+    let j = sym (accepted-joined s q e) in
     rw j
     (merged-written a b q (accepted-well-formed s q e) small small′ area area′ (rw j at room) (subst (λ (s : List ℕ). Run a b s area area′) j run))

@@ -6,7 +6,7 @@ use native.Mathlib.Omega.{arith}
 use Rattle.terms.specs.Answer.{Answer, refused, result, _>>=_}
 use Rattle.terms.specs.Operations.{checkAnswer, merged, mergeOf, placedBeside, besideOf, writtenWithin}
 use Rattle.terms.specs.Question.{checkOf}
-use Rattle.terms_rewriting.specs.Writing.{Accepted}
+use Rattle.terms_bytes.specs.Writing.{Accepted}
 use Rattle.terms.proofs.Answers.{bind-result, bind-refused}
 
 pub check-accepted : (s : List ℕ) → checkAnswer s ≡ result 0 → Accepted s

@@ -9,7 +9,7 @@ ghost use lib.Dec.{leb};
 ghost use Rattle.terms.specs.Framing.{sized};
 ghost use Rattle.terms.specs.Limits.{longestTerm};
 ghost use Rattle.terms.specs.Operations.{besideOf};
-ghost use Rattle.terms_rewriting.specs.Writing.{Accepted, Does, MayBeBeside, MayPlaceBeside, WritesBeside};
+ghost use Rattle.terms_bytes.specs.Writing.{Accepted, Does, MayBeBeside, MayPlaceBeside, WritesBeside};
 use terms_bytes::answer::Written;
 use terms_bytes::bytes::copy;
 use terms_bytes::frame::after_field;

@@ -6,7 +6,7 @@ ghost use lib.Dec.{eqb};
 ghost use Rattle.calculus.specs.Cond.{Pairs};
 ghost use Rattle.terms.specs.Operations.{holdsApart, mergeOf};
 ghost use Rattle.terms.specs.Question.{pairBytes};
-ghost use Rattle.terms_rewriting.specs.Writing.{Accepted, Does, MayMerge, WritesMerged};
+ghost use Rattle.terms_bytes.specs.Writing.{Accepted, Does, MayMerge, WritesMerged};
 use terms_bytes::answer::Written;
 use terms_bytes::bytes::copy;
 use terms_bytes::bytes::get;

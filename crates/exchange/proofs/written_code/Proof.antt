@@ -1,6 +1,6 @@
 -- `exchange::written_code` meets its contract. Assumes nothing.
 use mathlib.Core.Path.{sym, _∙_, ap}
-use Rattle.terms_rewriting.specs.Writing.{writtenAnswer}
+use Rattle.terms_bytes.specs.Writing.{writtenAnswer}
 use Rattle.verdict.specs.Outcome.{codeOf, ofNumber}
 use borrow.Author.Needs.{needs}
 use Rattle.exchange.proofs.written_code.Statement.{statement}

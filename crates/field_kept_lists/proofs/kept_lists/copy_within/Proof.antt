@@ -39,10 +39,11 @@ loop-less c = search needs
 
 loop-again : tie.Need-loop-again Inv-loop μ-loop
 loop-again c =
-    let a = c .before .before .before .args in let l = c .before .before .loop in (
+    let a = c .before .before .before .args in
+    let l = c .before .before .loop in (
       search needs,
-      copied-more (a .area .now) (a .from) (a .n) (a .to)
-          (l .i) (c .before .before .before .pre .0) (c .before .before .before .pre .1) (omega arith) _ (l .inv .1),
+      copied-more (a .area .now) (a .from) (a .n) (a .to) (l .i) (c .before .before .before .pre .0) (c .before .before .before .pre .1)
+          (omega arith) _ (l .inv .1),
     )
 
 same-length : tie.Need-same-length Inv-loop μ-loop
@@ -54,8 +55,8 @@ returns c =
     let l = c .before .loop in
     run-whole (a .area .now) (span (a .area .now) (a .from) (a .n)) (a .to) (l .i) _ (omega (
       arith,
-      length-span (a .area .now) (a .from) (a .n) (omega
-          arith),
+      length-span (a .area .now) (a .from) (a .n)
+          (omega arith),
     )) (l .inv .1)
 
 pub copy-within-spec : {M : Type 1} → statement M

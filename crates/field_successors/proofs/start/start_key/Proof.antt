@@ -2,7 +2,6 @@
 use mathlib.Core.Path.{ap, _∙_}
 use native.Mathlib.Omega.{arith}
 use Rattle.terms_bytes.specs.FieldPlaces.{fieldPlace}
-use Rattle.terms.proofs.FramingLaws.{bytes-by-place}
 use Rattle.field_successors.proofs.StartLaws.{start-is}
 use borrow.Author.Needs.{needs}
 use Rattle.field_successors.proofs.start.start_key.Statement.{statement}
@@ -71,9 +70,8 @@ returns c =
     let c20 = c19 .before in
     let c21 = c20 .before in
     let s = c21 .args .question .now in
-    let bytes = bytes-by-place s (λ i. omega (arith, c20 .shared-slice-known .given i)) in
     let first = c18 .field-place .ensures ∙ ap (fieldPlace s) (c19 .definitions .ensures .0) in
-    start-is s bytes _ _ _ first (c17 .after-field .ensures) (c8 .after-field2 .ensures) _ _ _ _ (c16 .field-at .ensures) (c12 .field-at2 .ensures)
+    start-is s _ _ _ first (c17 .after-field .ensures) (c8 .after-field2 .ensures) _ _ _ _ (c16 .field-at .ensures) (c12 .field-at2 .ensures)
     (c7 .field-at3 .ensures) (c .before .before .arities .ensures) _ _ _ _ (c14 .put-part .ensures) (c10 .put-part2 .ensures) (c5 .mark-list .ensures)
     (c .before .complete .ensures)
 

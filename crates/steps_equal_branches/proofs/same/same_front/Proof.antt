@@ -45,8 +45,10 @@ add-same-names-2 c =
 
 same-names-requires : tie.Need-same-names-requires
 same-names-requires c κs =
-    let a = c .before .before .before .before .before .before .args in let r = leb-true (a .at + (a .fixed + a .names)) (length (a .src .now)) (sym
-    (c .before .before .before .room .ensures) ∙ not-false _ (c .before .before .if1 .left)) in (omega arith, omega arith, search needs, search needs)
+    let a = c .before .before .before .before .before .before .args in
+    let r = leb-true (a .at + (a .fixed + a .names)) (length (a .src .now)) (sym (c .before .before .before .room .ensures) ∙ not-false _
+    (c .before .before .if1 .left)) in
+    (omega arith, omega arith, search needs, search needs)
 
 returns-3 : tie.Need-returns-3
 returns-3 c =

@@ -4,7 +4,6 @@ use mathlib.Core.Path.{sym, ap, subst, _∙_}
 use native.Mathlib.Omega.{arith}
 use Rattle.steps_lister.proofs.OperationLaws.{side-is}
 use Rattle.steps_lister.specs.Answering.{SideIs}
-use Rattle.terms.proofs.FramingLaws.{bytes-by-place}
 use Rattle.terms_bytes.specs.FieldPlaces.{fieldAt, fieldPlace, afterField}
 use Rattle.steps_lister.proofs.operation.side_of.Statement.{statement}
 use Rattle.steps_lister.proofs.operation.side_of.Tie as tie
@@ -25,8 +24,7 @@ returns c =
     let c5 = c4 .before in
     let v = c5 .args in
     subst (SideIs (v .question .now) (v .side)) (sym (c .field-at .ensures ∙ ap (fieldAt (v .question .now)) (c .before .before .field-place .ensures
-    ∙ ap (fieldPlace (v .question .now)) (c3 .definitions .ensures .0)))) (side-is (v .question .now) (bytes-by-place (v .question .now) (λ i. omega
-    (arith, c4 .shared-slice-known .given i))) (v .side) .0 (c .before .if1 .taken))
+    ∙ ap (fieldPlace (v .question .now)) (c3 .definitions .ensures .0)))) (side-is (v .question .now) (v .side) .0 (c .before .if1 .taken))
 
 after-field-requires : tie.Need-after-field-requires
 after-field-requires c κs = search needs
@@ -43,7 +41,7 @@ returns-2 c =
     let v = c6 .args in
     subst (SideIs (v .question .now) (v .side)) (sym (c .field-at2 .ensures ∙ ap (fieldAt (v .question .now)) (c .before .after-field .ensures ∙ ap
     (afterField (v .question .now)) (c3 .field-place .ensures ∙ ap (fieldPlace (v .question .now)) (c4 .definitions .ensures .0))))) (side-is
-    (v .question .now) (bytes-by-place (v .question .now) (λ i. omega (arith, c5 .shared-slice-known .given i))) (v .side) .1
+    (v .question .now) (v .side) .1
     (c .before .before .if1 .left))
 
 pub side-of-spec : {M : Type 1} → statement M

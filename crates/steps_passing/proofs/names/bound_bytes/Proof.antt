@@ -48,11 +48,9 @@ loop-less c = search needs
 
 loop-again : tie.Need-loop-again Inv-loop μ-loop
 loop-again c =
-    let l = c .before .before .before .loop in let e : tableNames + l .j + 1 ≡ tableNames + (l .j + 1) = omega arith in (
-      rw e at (fill-step _ _ _
-          (tableNames + l .j) _ (omega arith) (c .byte-of .ensures ∙ bound-byte _ _ _ _ _) (l .inv .0)),
-      search needs,
-    )
+    let l = c .before .before .before .loop in
+    let e : tableNames + l .j + 1 ≡ tableNames + (l .j + 1) = omega arith in
+    (rw e at (fill-step _ _ _ (tableNames + l .j) _ (omega arith) (c .byte-of .ensures ∙ bound-byte _ _ _ _ _) (l .inv .0)), search needs)
 
 same-length : tie.Need-same-length Inv-loop μ-loop
 same-length c = c .before .loop .inv .0 .len

@@ -45,18 +45,20 @@ loop-less c = search needs
 
 loop-again : tie.Need-loop-again Inv-loop μ-loop
 loop-again c =
-    let a = c .before .before .before .before .before .before .before .args in let l = c .before .before .before .before .loop in let e :
-    c .get2 .result ≡ getD (a .names .now) (turn 128 tableNames (a .binders) (getD (a .src .now) (a .at + l .j) 0)) 0 = c .get2 .ensures ∙ ap (λ (k :
-    ℕ). getD (a .names .now) k 0) (c .before .slot-of .ensures ∙ ap (turn 128 tableNames (a .binders)) (c .before .before .get .ensures)) in (
-      search
-          needs,
+    let a = c .before .before .before .before .before .before .before .args in
+    let l = c .before .before .before .before .loop in
+    let e : c .get2 .result ≡ getD (a .names .now) (turn 128 tableNames (a .binders) (getD (a .src .now) (a .at + l .j) 0)) 0 = c .get2 .ensures ∙ ap
+    (λ (k : ℕ). getD (a .names .now) k 0) (c .before .slot-of .ensures ∙ ap (turn 128 tableNames (a .binders)) (c .before .before .get .ensures))
+    in (
+      search needs,
       called-more (a .src .now) (a .at) (l .j) (a .binders) (a .names .now) (l .inner) _ (omega arith) e (l .inv .1),
-      length-set (l .inner) _ _ ∙
-          l .inv .2,
+      length-set
+          (l .inner) _ _ ∙ l .inv .2,
     )
 
 returns : tie.Need-returns Inv-loop μ-loop
-returns c = let a = c .before .before .before .before .args in
+returns c =
+    let a = c .before .before .before .before .args in
     let l = c .before .loop in
     let e : l .j ≡ a .count = omega arith in
     rw e at (l .inv .1)

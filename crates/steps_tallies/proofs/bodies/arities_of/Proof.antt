@@ -2,7 +2,6 @@
 use mathlib.Core.Path.{sym, subst}
 use native.Mathlib.Omega.{arith}
 use borrow.Author.Needs.{needs}
-use Rattle.terms.proofs.FramingLaws.{bytes-by-place}
 use Rattle.steps_tallies.specs.Bodies.{AritiesIs}
 use Rattle.steps_tallies.proofs.BodyPlaces.{arities-are}
 use Rattle.steps_tallies.proofs.bodies.arities_of.Statement.{statement}
@@ -14,7 +13,7 @@ arities-requires c κs = search needs
 returns : tie.Need-returns
 returns c =
     let s = c .before .before .args .question .now in
-    subst (AritiesIs s) (sym (c .arities .ensures)) (arities-are s (bytes-by-place s (λ i. omega (arith, c .before .shared-slice-known .given i))))
+    subst (AritiesIs s) (sym (c .arities .ensures)) (arities-are s)
 
 pub arities-of-spec : {M : Type 1} → statement M
 arities-of-spec = tie.close (tie.spec arities-requires returns)

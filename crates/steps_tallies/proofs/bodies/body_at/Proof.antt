@@ -3,7 +3,6 @@ use mathlib.Core.Path.{sym, ap, subst, _∙_}
 use native.Mathlib.Omega.{arith}
 use borrow.Author.Needs.{needs}
 use Rattle.terms_bytes.specs.FieldPlaces.{fieldAt}
-use Rattle.terms.proofs.FramingLaws.{bytes-by-place}
 use Rattle.steps_tallies.specs.Bodies.{BodyIs}
 use Rattle.steps_tallies.proofs.BodyPlaces.{body-is}
 use Rattle.steps_tallies.proofs.bodies.body_at.Statement.{statement}
@@ -15,7 +14,7 @@ field-at-requires c κs = search needs
 returns : tie.Need-returns
 returns c =
     λ k e. let s = c .before .before .args .question .now in subst (BodyIs s k) (sym (c .field-at .ensures ∙ ap (fieldAt s) e)) (body-is s k
-    (bytes-by-place s (λ i. omega (arith, c .before .shared-slice-known .given i))))
+    )
 
 pub body-at-spec : {M : Type 1} → statement M
 body-at-spec = tie.close (tie.spec field-at-requires returns)

@@ -1,6 +1,5 @@
 -- `candidates::tally::tally` meets its contract. Assumes nothing.
 use native.Mathlib.Omega.{arith}
-use Rattle.terms.proofs.FramingLaws.{bytes-by-place}
 use Rattle.steps_tallies.proofs.TallyLoops.{tally-is, calls-are}
 use borrow.Author.Needs.{needs}
 use Rattle.steps_tallies.proofs.tally.tally.Statement.{statement}
@@ -22,7 +21,7 @@ returns c =
     let c9 = c8 .before in
     let v = c9 .args in
     tally-is (v .question .now) (v .src .now) (c4 .arities-of .result .now) (v .bodies .now) _ 1 (c4 .arities-of .ensures) (calls-are
-    (v .question .now) (v .bodies .now) (bytes-by-place (v .question .now) (λ i. omega (arith, c8 .shared-slice-known .given i))) (c9 .pre .1))
+    (v .question .now) (v .bodies .now) (c9 .pre .1))
     (c .before .before .fill .ensures)
 
 pub tally-spec : {M : Type 1} → statement M

@@ -38,20 +38,22 @@ loop-less c = search needs
 
 loop-again : tie.Need-loop-again Inv-loop μ-loop
 loop-again c =
-    let a = c .before .before .before .args in let l = c .before .before .loop in let h : l .i < a .n = search needs in let xs = span (a .src .now)
-    (a .at) (a .n) in let n : l .i < length xs = omega (arith, length-span (a .src .now) (a .at) (a .n) (search needs)) in (
-      search needs,
-      rw
-          (l .inv .1, ← getD-span (a .src .now) (a .at) (a .n) (l .i) h) (sets-more (a .out .now) xs (a .put) (l .i) n),
-    )
+    let a = c .before .before .before .args in
+    let l = c .before .before .loop in
+    let h : l .i < a .n = search needs in
+    let xs = span (a .src .now) (a .at) (a .n) in
+    let n : l .i < length xs = omega (arith, length-span (a .src .now) (a .at) (a .n) (search needs)) in
+    (search needs, rw (l .inv .1, ← getD-span (a .src .now) (a .at) (a .n) (l .i) h) (sets-more (a .out .now) xs (a .put) (l .i) n))
 
 same-length : tie.Need-same-length Inv-loop μ-loop
 same-length c = ap length (c .before .loop .inv .1) ∙ simp length-sets
 
 returns : tie.Need-returns Inv-loop μ-loop
 returns c =
-    let a = c .before .before .args in let l = c .before .loop in let xs = span (a .src .now) (a .at) (a .n) in run-whole (a .out .now) xs (a .put)
-    (l .i) _ (omega (arith, length-span (a .src .now) (a .at) (a .n) (search needs))) (l .inv .1)
+    let a = c .before .before .args in
+    let l = c .before .loop in
+    let xs = span (a .src .now) (a .at) (a .n) in
+    run-whole (a .out .now) xs (a .put) (l .i) _ (omega (arith, length-span (a .src .now) (a .at) (a .n) (search needs))) (l .inv .1)
 
 pub copy-spec : {M : Type 1} → statement M
 copy-spec =

@@ -12,8 +12,10 @@ returns : tie.Need-returns
 unfolding sizeAt
 returns c =
     let v = c .before .before .args in
-    let s = v .question .now in let a : getD s (v .at) 0 ≡ 0 = List·getD-eq-default s 0 (c .if1 .taken) in let b : getD s (v .at + 1) 0 ≡ 0 =
-    List·getD-eq-default s 0 (omega arith) in (omega (arith, a, b), search needs)
+    let s = v .question .now in
+    let a : getD s (v .at) 0 ≡ 0 = List·getD-eq-default s 0 (c .if1 .taken) in
+    let b : getD s (v .at + 1) 0 ≡ 0 = List·getD-eq-default s 0 (omega arith) in
+    (omega (arith, a, b), search needs)
 
 get-requires : tie.Need-get-requires
 get-requires c κs = search needs

@@ -60,15 +60,13 @@ parts-of-requires c κs = search needs
 returns-2 : tie.Need-returns-2
 unfolding fixedAt namesAt bindersAt partsAt
 returns-2 c =
-    let e = c .before .before .before .before .get .ensures in let f = ne-eqb _ 9 (c .before .before .before .if1 .left) in record {
-      fixed = rw (
-        ← e,
-        f,
-      );
+    let e = c .before .before .before .before .get .ensures in
+    let f = ne-eqb _ 9 (c .before .before .before .if1 .left) in
+    record {
+      fixed = rw (← e, f);
       names = rw (← e, f) (c .before .before .names-of .ensures);
       binds = rw (← e) (c .before .binders-of .ensures);
-      parts = rw (← e)
-          (c .parts-of .ensures);
+      parts = rw (← e) (c .parts-of .ensures);
       some = search needs;
       few = omega (
         arith,
@@ -78,8 +76,8 @@ returns-2 c =
       );
       one = omega (
         arith,
-        all-at 1 (0 ∷ 0 ∷ 1 ∷ 0 ∷ 1 ∷ 0
-            ∷ 0 ∷ 0 ∷ 1 ∷ []) (c .before .before .before .before .get .result) refl,
+        all-at 1 (0 ∷ 0 ∷ 1 ∷ 0 ∷
+            1 ∷ 0 ∷ 0 ∷ 0 ∷ 1 ∷ []) (c .before .before .before .before .get .result) refl,
         c .before .binders-of .ensures,
       );
     }

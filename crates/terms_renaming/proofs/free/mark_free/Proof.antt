@@ -32,9 +32,11 @@ same-length c = search needs
 
 returns : tie.Need-returns Inv-loop μ-loop
 returns c =
-    let a = c .before .before .before .before .before .before .before .before .args in let l = c .before .before .before .before .loop in let h =
-    c .before .before .shape-at .result in going-stuck (a .part .now) (a .arities .now) (l .at) h (c .before .before .shape-at .ensures) (search
-    needs) _ _ (leb-false _ _ (sym (c .before .room .ensures) ∙ not-true _ (c .if1 .taken))) (l .inv .2)
+    let a = c .before .before .before .before .before .before .before .before .args in
+    let l = c .before .before .before .before .loop in
+    let h = c .before .before .shape-at .result in
+    going-stuck (a .part .now) (a .arities .now) (l .at) h (c .before .before .shape-at .ensures) (search needs) _ _ (leb-false _ _ (sym
+    (c .before .room .ensures) ∙ not-true _ (c .if1 .taken))) (l .inv .2)
 
 add-mark-names : tie.Need-add-mark-names Inv-loop μ-loop
 add-mark-names c =
@@ -86,17 +88,16 @@ loop-less c =
 
 loop-again : tie.Need-loop-again Inv-loop μ-loop
 loop-again c =
-    let a = c .before .before .before .before .before .before .before .before .before .before .before .before .args in let l =
-    c .before .before .before .before .before .before .before .before .loop in let h =
-    c .before .before .before .before .before .before .shape-at .result in let o = leb-true (l .at + (h .fixed + h .names)) (length (a .part .now))
-    (sym (c .before .before .before .before .before .room .ensures) ∙ not-false _ (c .before .before .before .before .if1 .left)) in (
-      omega (
-        arith,
-        o,
-      ),
+    let a = c .before .before .before .before .before .before .before .before .before .before .before .before .args in
+    let l = c .before .before .before .before .before .before .before .before .loop in
+    let h = c .before .before .before .before .before .before .shape-at .result in
+    let o = leb-true (l .at + (h .fixed + h .names)) (length (a .part .now)) (sym (c .before .before .before .before .before .room .ensures) ∙
+    not-false _ (c .before .before .before .before .if1 .left)) in (
+      omega (arith, o),
       c .before .before .mark-names .kept .1 .1 .1 .0 ∙ l .inv .1,
       going-on (a .part .now) (a .arities .now) (l .at) h
-          (c .before .before .before .before .before .before .shape-at .ensures) (search needs) _ _ _ (c .before .before .mark-names .ensures) (l .inv .2),
+          (c .before .before .before .before .before .before .shape-at .ensures) (search needs) _ _ _ (c .before .before .mark-names .ensures)
+          (l .inv .2),
     )
 
 same-length-2 : tie.Need-same-length-2 Inv-loop μ-loop

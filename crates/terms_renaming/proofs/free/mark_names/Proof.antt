@@ -38,12 +38,14 @@ loop-less c = search needs
 
 loop-again : tie.Need-loop-again Inv-loop μ-loop
 loop-again c =
-    let a = c .before .before .before .before .before .before .before .before .before .args in let l =
-    c .before .before .before .before .before .before .loop in let h : l .i < a .n = search needs in let xs = span (a .src .now) (a .at) (a .n) in let
-    n : l .i < length xs = omega (arith, length-span (a .src .now) (a .at) (a .n) (search needs)) in (
+    let a = c .before .before .before .before .before .before .before .before .before .args in
+    let l = c .before .before .before .before .before .before .loop in
+    let h : l .i < a .n = search needs in
+    let xs = span (a .src .now) (a .at) (a .n) in
+    let n : l .i < length xs = omega (arith, length-span (a .src .now) (a .at) (a .n) (search needs)) in (
       search needs,
-      c .before .before .mark .ensures ∙
-          rw (l .inv .1, ← getD-span (a .src .now) (a .at) (a .n) (l .i) h) (marks-more (a .flags .now) xs (l .i) n),
+      c .before .before .mark .ensures ∙ rw (l .inv .1, ← getD-span (a .src .now) (a .at) (a .n) (l .i) h) (marks-more (a .flags .now)
+          xs (l .i) n),
     )
 
 same-length : tie.Need-same-length Inv-loop μ-loop
@@ -51,8 +53,10 @@ same-length c = ap length (c .before .loop .inv .1) ∙ length-marks _ _
 
 returns : tie.Need-returns Inv-loop μ-loop
 returns c =
-    let a = c .before .before .before .before .args in let l = c .before .loop in let xs = span (a .src .now) (a .at) (a .n) in l .inv .1 ∙ ap (marks
-    (a .flags .now)) (take-all (l .i) xs (omega (arith, length-span (a .src .now) (a .at) (a .n) (search needs))))
+    let a = c .before .before .before .before .args in
+    let l = c .before .loop in
+    let xs = span (a .src .now) (a .at) (a .n) in
+    l .inv .1 ∙ ap (marks (a .flags .now)) (take-all (l .i) xs (omega (arith, length-span (a .src .now) (a .at) (a .n) (search needs))))
 
 pub mark-names-spec : {M : Type 1} → statement M
 mark-names-spec =

@@ -43,25 +43,26 @@ loop-less c = search needs
 
 loop-again : tie.Need-loop-again Inv-loop μ-loop
 loop-again c =
-    let a = c .before .before .before .before .before .before .before .args in let l = c .before .before .before .loop in let h : l .i < a .n = search
-    needs in let xs = span (a .src .now) (a .at) (a .n) in let f = renamedByte (a .inner) (a .table .now) in let n : l .i < length xs = omega (
-      arith,
-      length-span (a .src .now) (a .at) (a .n) (search needs),
-    ) in let e : c .renamed-byte .result ≡ getD (map f xs) (l .i) 0 = c .renamed-byte .ensures
-    ∙ ap f (sym (getD-span (a .src .now) (a .at) (a .n) (l .i) h)) ∙ sym (getD-map f xs (l .i) n) in (
-      search needs,
-      rw (l .inv .1, e) (sets-more
-          (a .out .now) (map f xs) (a .put) (l .i) (rw length-map n)),
-    )
+    let a = c .before .before .before .before .before .before .before .args in
+    let l = c .before .before .before .loop in
+    let h : l .i < a .n = search needs in
+    let xs = span (a .src .now) (a .at) (a .n) in
+    let f = renamedByte (a .inner) (a .table .now) in
+    let n : l .i < length xs = omega (arith, length-span (a .src .now) (a .at) (a .n) (search needs)) in
+    let e : c .renamed-byte .result ≡ getD (map f xs) (l .i) 0 = c .renamed-byte .ensures ∙ ap f (sym (getD-span (a .src .now) (a .at) (a .n) (l .i)
+    h)) ∙ sym (getD-map f xs (l .i) n) in
+    (search needs, rw (l .inv .1, e) (sets-more (a .out .now) (map f xs) (a .put) (l .i) (rw length-map n)))
 
 same-length : tie.Need-same-length Inv-loop μ-loop
 same-length c = ap length (c .before .loop .inv .1) ∙ simp length-sets
 
 returns : tie.Need-returns Inv-loop μ-loop
 returns c =
-    let a = c .before .before .before .before .before .args in let l = c .before .loop in let xs = map (renamedByte (a .inner) (a .table .now)) (span
-    (a .src .now) (a .at) (a .n)) in let n : length xs ≡ a .n = rw length-map (length-span (a .src .now) (a .at) (a .n) (search needs)) in run-whole
-    (a .out .now) xs (a .put) (l .i) _ (omega (arith, n)) (l .inv .1)
+    let a = c .before .before .before .before .before .args in
+    let l = c .before .loop in
+    let xs = map (renamedByte (a .inner) (a .table .now)) (span (a .src .now) (a .at) (a .n)) in
+    let n : length xs ≡ a .n = rw length-map (length-span (a .src .now) (a .at) (a .n) (search needs)) in
+    run-whole (a .out .now) xs (a .put) (l .i) _ (omega (arith, n)) (l .inv .1)
 
 pub rename-bytes-spec : {M : Type 1} → statement M
 rename-bytes-spec =

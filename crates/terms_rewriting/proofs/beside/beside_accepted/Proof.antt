@@ -9,9 +9,8 @@ use borrow.Author.Needs.{needs}
 use Rattle.terms_bytes.specs.FieldPlaces.{fieldPlace}
 use Rattle.terms.specs.Limits.{nameCount}
 use Rattle.terms_checks.specs.Scanning.{scannedWhole, wholeAnswer}
-use Rattle.terms_rewriting.specs.Writing.{Accepted}
-use Rattle.terms.proofs.FramingLaws.{bytes-by-place}
-use Rattle.terms_rewriting.proofs.QuestionPlaces.{accepted-arities, accepted-sizes}
+use Rattle.terms_bytes.specs.Writing.{Accepted}
+use Rattle.terms_bytes.proofs.QuestionPlaces.{accepted-arities, accepted-sizes}
 use Rattle.terms_rewriting.proofs.MergeChecks.{does-refused}
 use Rattle.terms_rewriting.proofs.BesideChecks.{scanned-fault, scanned-end, sides-too-long, third-faulty, third-parallel, sides-test}
 use Rattle.terms_rewriting.proofs.beside.beside_accepted.Statement.{statement}
@@ -51,9 +50,8 @@ returns c =
     let room = length (v .area .now) in
     let q = c10 .pre .0 in
     let e = c10 .pre .1 in
-    let bytes = bytes-by-place s (λ i. omega (arith, c9 .shared-slice-known .given i)) in
     let x = c5 .field-place .ensures ∙ ap (fieldPlace s) (c6 .definitions .ensures .0) in
-    let z = accepted-sizes s bytes q e (c5 .field-place .result) (c4 .after-field .result) x (c4 .after-field .ensures) in
+    let z = accepted-sizes s q e (c5 .field-place .result) (c4 .after-field .result) x (c4 .after-field .ensures) in
     let f = c .before .sides-fit .ensures ∙ sides-test s q e third room (c3 .size-at .result) (c2 .size-at2 .result) (c3 .size-at .ensures .0 ∙ z .0)
     (c2 .size-at2 .ensures .0 ∙ z .1) in
     does-refused _ _ 6 (sides-too-long s q e third room (sym f ∙ not-true _ (c .if1 .taken)))
@@ -90,13 +88,12 @@ returns-2 c =
     let room = length (v .area .now) in
     let q = c16 .pre .0 in
     let e = c16 .pre .1 in
-    let bytes = bytes-by-place s (λ i. omega (arith, c15 .shared-slice-known .given i)) in
     let x = c11 .field-place .ensures ∙ ap (fieldPlace s) (c12 .definitions .ensures .0) in
-    let z = accepted-sizes s bytes q e (c11 .field-place .result) (c10 .after-field .result) x (c10 .after-field .ensures) in
+    let z = accepted-sizes s q e (c11 .field-place .result) (c10 .after-field .result) x (c10 .after-field .ensures) in
     let f = c7 .sides-fit .ensures ∙ sides-test s q e third room (c9 .size-at .result) (c8 .size-at2 .result) (c9 .size-at .ensures .0 ∙ z .0)
     (c8 .size-at2 .ensures .0 ∙ z .1) in
     let t = sym f ∙ not-false _ (c6 .if1 .left) in
-    let ar : c5 .arities .result .now ≡ q .arities = c5 .arities .ensures ∙ accepted-arities s bytes q e in
+    let ar : c5 .arities .result .now ≡ q .arities = c5 .arities .ensures ∙ accepted-arities s q e in
     let w = ap (λ (l : List ℕ). scannedWhole nameCount l 0 third) (sym ar) ∙ c4 .scan-whole .ensures ∙ ap wholeAnswer
     (c .before .before .scanned2 .given .1) in
     let p = scanned-end (q .arities) third _ w in
@@ -123,13 +120,12 @@ beside-allowed-requires c κs =
     let room = length (v .area .now) in
     let q = c17 .pre .0 in
     let e = c17 .pre .1 in
-    let bytes = bytes-by-place s (λ i. omega (arith, c16 .shared-slice-known .given i)) in
     let x = c12 .field-place .ensures ∙ ap (fieldPlace s) (c13 .definitions .ensures .0) in
-    let z = accepted-sizes s bytes q e (c12 .field-place .result) (c11 .after-field .result) x (c11 .after-field .ensures) in
+    let z = accepted-sizes s q e (c12 .field-place .result) (c11 .after-field .result) x (c11 .after-field .ensures) in
     let f = c8 .sides-fit .ensures ∙ sides-test s q e third room (c10 .size-at .result) (c9 .size-at2 .result) (c10 .size-at .ensures .0 ∙ z .0)
     (c9 .size-at2 .ensures .0 ∙ z .1) in
     let t = sym f ∙ not-false _ (c7 .if1 .left) in
-    let ar : c6 .arities .result .now ≡ q .arities = c6 .arities .ensures ∙ accepted-arities s bytes q e in
+    let ar : c6 .arities .result .now ≡ q .arities = c6 .arities .ensures ∙ accepted-arities s q e in
     let w = ap (λ (l : List ℕ). scannedWhole nameCount l 0 third) (sym ar) ∙ c5 .scan-whole .ensures ∙ ap wholeAnswer (c3 .scanned2 .given .1) in
     let p = scanned-end (q .arities) third _ w in
     record { old = q; accepted = e; part = p .0; reads = p .1; sizes = t; parallels = p .2 ∙ not-false _ (c .before .if2 .left) }
@@ -154,13 +150,12 @@ returns-3 c =
     let room = length (v .area .now) in
     let q = c15 .pre .0 in
     let e = c15 .pre .1 in
-    let bytes = bytes-by-place s (λ i. omega (arith, c14 .shared-slice-known .given i)) in
     let x = c10 .field-place .ensures ∙ ap (fieldPlace s) (c11 .definitions .ensures .0) in
-    let z = accepted-sizes s bytes q e (c10 .field-place .result) (c9 .after-field .result) x (c9 .after-field .ensures) in
+    let z = accepted-sizes s q e (c10 .field-place .result) (c9 .after-field .result) x (c9 .after-field .ensures) in
     let f = c6 .sides-fit .ensures ∙ sides-test s q e third room (c8 .size-at .result) (c7 .size-at2 .result) (c8 .size-at .ensures .0 ∙ z .0)
     (c7 .size-at2 .ensures .0 ∙ z .1) in
     let t = sym f ∙ not-false _ (c5 .if1 .left) in
-    let ar : c4 .arities .result .now ≡ q .arities = c4 .arities .ensures ∙ accepted-arities s bytes q e in
+    let ar : c4 .arities .result .now ≡ q .arities = c4 .arities .ensures ∙ accepted-arities s q e in
     let w = ap (λ (l : List ℕ). scannedWhole nameCount l 0 third) (sym ar) ∙ c3 .scan-whole .ensures ∙ ap wholeAnswer (c .before .scanned .given .1)
     in
     does-refused _ _ _ (third-faulty s q e third room t _ (scanned-fault (q .arities) third _ w))

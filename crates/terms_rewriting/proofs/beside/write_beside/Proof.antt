@@ -3,9 +3,8 @@ use mathlib.Core.Path.{refl, ap, _∙_}
 use native.Mathlib.Omega.{arith}
 use borrow.Author.Needs.{needs}
 use Rattle.terms_bytes.specs.FieldPlaces.{fieldPlace}
-use Rattle.terms_rewriting.specs.Writing.{Accepted}
-use Rattle.terms.proofs.FramingLaws.{bytes-by-place}
-use Rattle.terms_rewriting.proofs.QuestionPlaces.{accepted-places, accepted-sizes}
+use Rattle.terms_bytes.specs.Writing.{Accepted}
+use Rattle.terms_bytes.proofs.QuestionPlaces.{accepted-places, accepted-sizes}
 use Rattle.terms_rewriting.proofs.BesideWriting.{writes-beside}
 use Rattle.terms_rewriting.proofs.beside.write_beside.Statement.{statement}
 use Rattle.terms_rewriting.proofs.beside.write_beside.Tie as tie
@@ -31,9 +30,8 @@ sub-rest c =
     let c6 = c3 .before .before .before in
     let c7 = c6 .before in
     let s = c7 .args .question .now in
-    let bytes = bytes-by-place s (λ i. omega (arith, c6 .shared-slice-known .given i)) in
     let x = c2 .field-place .ensures ∙ ap (fieldPlace s) (c3 .definitions .ensures .0) in
-    let p = accepted-places s bytes (c7 .pre .old, c7 .pre .accepted) (c2 .field-place .result) (c1 .after-field .result) (c .after-field2 .result) x
+    let p = accepted-places s (c7 .pre .old, c7 .pre .accepted) (c2 .field-place .result) (c1 .after-field .result) (c .after-field2 .result) x
     (c1 .after-field .ensures) (c .after-field2 .ensures) in
     omega (arith, p, c7 .good .0)
 
@@ -47,9 +45,8 @@ copy-requires c κs =
     let c7 = c4 .before .before .before in
     let c8 = c7 .before in
     let s = c8 .args .question .now in
-    let bytes = bytes-by-place s (λ i. omega (arith, c7 .shared-slice-known .given i)) in
     let x = c3 .field-place .ensures ∙ ap (fieldPlace s) (c4 .definitions .ensures .0) in
-    let p = accepted-places s bytes (c8 .pre .old, c8 .pre .accepted) (c3 .field-place .result) (c2 .after-field .result) (c1 .after-field2 .result) x
+    let p = accepted-places s (c8 .pre .old, c8 .pre .accepted) (c3 .field-place .result) (c2 .after-field .result) (c1 .after-field2 .result) x
     (c2 .after-field .ensures) (c1 .after-field2 .ensures) in
     omega (arith, p, c8 .pre .room)
 
@@ -63,9 +60,8 @@ add-write-side c =
     let c10 = c7 .before .before .before in
     let c11 = c10 .before in
     let s = c11 .args .question .now in
-    let bytes = bytes-by-place s (λ i. omega (arith, c10 .shared-slice-known .given i)) in
     let x = c6 .field-place .ensures ∙ ap (fieldPlace s) (c7 .definitions .ensures .0) in
-    let p = accepted-places s bytes (c11 .pre .old, c11 .pre .accepted) (c6 .field-place .result) (c5 .after-field .result) (c4 .after-field2 .result)
+    let p = accepted-places s (c11 .pre .old, c11 .pre .accepted) (c6 .field-place .result) (c5 .after-field .result) (c4 .after-field2 .result)
     x (c5 .after-field .ensures) (c4 .after-field2 .ensures) in
     omega (arith, p, c11 .good .0)
 
@@ -79,9 +75,8 @@ sub-write-side c =
     let c10 = c7 .before .before .before in
     let c11 = c10 .before in
     let s = c11 .args .question .now in
-    let bytes = bytes-by-place s (λ i. omega (arith, c10 .shared-slice-known .given i)) in
     let x = c6 .field-place .ensures ∙ ap (fieldPlace s) (c7 .definitions .ensures .0) in
-    let p = accepted-places s bytes (c11 .pre .old, c11 .pre .accepted) (c6 .field-place .result) (c5 .after-field .result) (c4 .after-field2 .result)
+    let p = accepted-places s (c11 .pre .old, c11 .pre .accepted) (c6 .field-place .result) (c5 .after-field .result) (c4 .after-field2 .result)
     x (c5 .after-field .ensures) (c4 .after-field2 .ensures) in
     omega (arith, p, c11 .good .0)
 
@@ -95,9 +90,8 @@ sub-write-side-2 c =
     let c10 = c7 .before .before .before in
     let c11 = c10 .before in
     let s = c11 .args .question .now in
-    let bytes = bytes-by-place s (λ i. omega (arith, c10 .shared-slice-known .given i)) in
     let x = c6 .field-place .ensures ∙ ap (fieldPlace s) (c7 .definitions .ensures .0) in
-    let p = accepted-places s bytes (c11 .pre .old, c11 .pre .accepted) (c6 .field-place .result) (c5 .after-field .result) (c4 .after-field2 .result)
+    let p = accepted-places s (c11 .pre .old, c11 .pre .accepted) (c6 .field-place .result) (c5 .after-field .result) (c4 .after-field2 .result)
     x (c5 .after-field .ensures) (c4 .after-field2 .ensures) in
     omega (arith, p, c11 .good .0)
 
@@ -112,11 +106,10 @@ write-side-requires c κs =
     let c11 = c8 .before .before .before in
     let c12 = c11 .before in
     let s = c12 .args .question .now in
-    let bytes = bytes-by-place s (λ i. omega (arith, c11 .shared-slice-known .given i)) in
     let x = c7 .field-place .ensures ∙ ap (fieldPlace s) (c8 .definitions .ensures .0) in
-    let p = accepted-places s bytes (c12 .pre .old, c12 .pre .accepted) (c7 .field-place .result) (c6 .after-field .result) (c5 .after-field2 .result)
+    let p = accepted-places s (c12 .pre .old, c12 .pre .accepted) (c7 .field-place .result) (c6 .after-field .result) (c5 .after-field2 .result)
     x (c6 .after-field .ensures) (c5 .after-field2 .ensures) in
-    let z = accepted-sizes s bytes (c12 .pre .old) (c12 .pre .accepted) (c7 .field-place .result) (c6 .after-field .result) x
+    let z = accepted-sizes s (c12 .pre .old) (c12 .pre .accepted) (c7 .field-place .result) (c6 .after-field .result) x
     (c6 .after-field .ensures) in
     omega (arith, p, z, c12 .pre .first, c12 .pre .room, c3 .copy .kept .1 .1 .1 .0)
 
@@ -130,9 +123,8 @@ add-write-side-2 c =
     let c14 = c11 .before .before .before in
     let c15 = c14 .before in
     let s = c15 .args .question .now in
-    let bytes = bytes-by-place s (λ i. omega (arith, c14 .shared-slice-known .given i)) in
     let x = c10 .field-place .ensures ∙ ap (fieldPlace s) (c11 .definitions .ensures .0) in
-    let p = accepted-places s bytes (c15 .pre .old, c15 .pre .accepted) (c10 .field-place .result) (c9 .after-field .result)
+    let p = accepted-places s (c15 .pre .old, c15 .pre .accepted) (c10 .field-place .result) (c9 .after-field .result)
     (c8 .after-field2 .result) x (c9 .after-field .ensures) (c8 .after-field2 .ensures) in
     omega (arith, p, c15 .good .0)
 
@@ -146,9 +138,8 @@ sub-write-side-3 c =
     let c14 = c11 .before .before .before in
     let c15 = c14 .before in
     let s = c15 .args .question .now in
-    let bytes = bytes-by-place s (λ i. omega (arith, c14 .shared-slice-known .given i)) in
     let x = c10 .field-place .ensures ∙ ap (fieldPlace s) (c11 .definitions .ensures .0) in
-    let p = accepted-places s bytes (c15 .pre .old, c15 .pre .accepted) (c10 .field-place .result) (c9 .after-field .result)
+    let p = accepted-places s (c15 .pre .old, c15 .pre .accepted) (c10 .field-place .result) (c9 .after-field .result)
     (c8 .after-field2 .result) x (c9 .after-field .ensures) (c8 .after-field2 .ensures) in
     omega (arith, p, c15 .good .0)
 
@@ -162,9 +153,8 @@ sub-write-side-4 c =
     let c14 = c11 .before .before .before in
     let c15 = c14 .before in
     let s = c15 .args .question .now in
-    let bytes = bytes-by-place s (λ i. omega (arith, c14 .shared-slice-known .given i)) in
     let x = c10 .field-place .ensures ∙ ap (fieldPlace s) (c11 .definitions .ensures .0) in
-    let p = accepted-places s bytes (c15 .pre .old, c15 .pre .accepted) (c10 .field-place .result) (c9 .after-field .result)
+    let p = accepted-places s (c15 .pre .old, c15 .pre .accepted) (c10 .field-place .result) (c9 .after-field .result)
     (c8 .after-field2 .result) x (c9 .after-field .ensures) (c8 .after-field2 .ensures) in
     omega (arith, p, c15 .good .0)
 
@@ -180,11 +170,10 @@ write-side-requires-2 c κs =
     let c15 = c12 .before .before .before in
     let c16 = c15 .before in
     let s = c16 .args .question .now in
-    let bytes = bytes-by-place s (λ i. omega (arith, c15 .shared-slice-known .given i)) in
     let x = c11 .field-place .ensures ∙ ap (fieldPlace s) (c12 .definitions .ensures .0) in
-    let p = accepted-places s bytes (c16 .pre .old, c16 .pre .accepted) (c11 .field-place .result) (c10 .after-field .result)
+    let p = accepted-places s (c16 .pre .old, c16 .pre .accepted) (c11 .field-place .result) (c10 .after-field .result)
     (c9 .after-field2 .result) x (c10 .after-field .ensures) (c9 .after-field2 .ensures) in
-    let z = accepted-sizes s bytes (c16 .pre .old) (c16 .pre .accepted) (c11 .field-place .result) (c10 .after-field .result) x
+    let z = accepted-sizes s (c16 .pre .old) (c16 .pre .accepted) (c11 .field-place .result) (c10 .after-field .result) x
     (c10 .after-field .ensures) in
     omega (arith, p, z, c16 .pre .second, c16 .pre .room, c3 .write-side .ensures .0, c7 .copy .kept .1 .1 .1 .0, c3 .write-side .kept .1 .1 .1 .1 .0)
 
@@ -201,9 +190,8 @@ copy-requires-2 c κs =
     let c19 = c16 .before .before .before in
     let c20 = c19 .before in
     let s = c20 .args .question .now in
-    let bytes = bytes-by-place s (λ i. omega (arith, c19 .shared-slice-known .given i)) in
     let x = c15 .field-place .ensures ∙ ap (fieldPlace s) (c16 .definitions .ensures .0) in
-    let p = accepted-places s bytes (c20 .pre .old, c20 .pre .accepted) (c15 .field-place .result) (c14 .after-field .result)
+    let p = accepted-places s (c20 .pre .old, c20 .pre .accepted) (c15 .field-place .result) (c14 .after-field .result)
     (c13 .after-field2 .result) x (c14 .after-field .ensures) (c13 .after-field2 .ensures) in
     omega (
       arith,
@@ -228,9 +216,8 @@ add-result c =
     let c22 = c19 .before .before .before in
     let c23 = c22 .before in
     let s = c23 .args .question .now in
-    let bytes = bytes-by-place s (λ i. omega (arith, c22 .shared-slice-known .given i)) in
     let x = c18 .field-place .ensures ∙ ap (fieldPlace s) (c19 .definitions .ensures .0) in
-    let p = accepted-places s bytes (c23 .pre .old, c23 .pre .accepted) (c18 .field-place .result) (c17 .after-field .result)
+    let p = accepted-places s (c23 .pre .old, c23 .pre .accepted) (c18 .field-place .result) (c17 .after-field .result)
     (c16 .after-field2 .result) x (c17 .after-field .ensures) (c16 .after-field2 .ensures) in
     omega (arith, p, c23 .pre .room, c10 .write-side .ensures .0, c6 .write-side2 .ensures .0, c23 .good)
 
@@ -255,8 +242,7 @@ returns c =
     let c23 = c22 .before in
     let v = c23 .args in
     let s = v .question .now in
-    let bytes = bytes-by-place s (λ i. omega (arith, c22 .shared-slice-known .given i)) in
-    writes-beside s (v .third .now) (v .area .now) _ _ bytes (c23 .pre .room) (record {
+    writes-beside s (v .third .now) (v .area .now) _ _ (c23 .pre .room) (record {
       first = c18 .field-place .result;
       second =
           c17 .after-field .result;

@@ -6,9 +6,8 @@ use native.Mathlib.Omega.{arith}
 use lib.ListN.{length}
 use borrow.Author.Needs.{needs}
 use Rattle.terms_bytes.specs.FieldPlaces.{fieldPlace}
-use Rattle.terms_rewriting.specs.Writing.{Accepted, WritesMerged}
-use Rattle.terms.proofs.FramingLaws.{bytes-by-place}
-use Rattle.terms_rewriting.proofs.QuestionPlaces.{accepted-joined, accepted-apart}
+use Rattle.terms_bytes.specs.Writing.{Accepted, WritesMerged}
+use Rattle.terms_bytes.proofs.QuestionPlaces.{accepted-joined, accepted-apart}
 use Rattle.terms_rewriting.proofs.MergeWriting.{merged-length}
 use Rattle.terms_rewriting.proofs.MergeChecks.{does-refused, does-write, merge-turned, merge-short, merge-writes, name-too-large, may-merge}
 use Rattle.terms.specs.Operations.{mergedQuestion}
@@ -70,38 +69,40 @@ returns-3 : tie.Need-returns-3
 unfolding Accepted
 returns-3 c =
     let v = c .before .before .before .before .before .before .before .before .before .before .before .args in
-    let s = v .question .now in let q = c .before .before .before .before .before .before .before .before .before .before .before .pre .0 in let e =
-    c .before .before .before .before .before .before .before .before .before .before .before .pre .1 in let a = v .a in let b = v .b in let room =
-    length (v .area .now) in let bytes = bytes-by-place s (λ i. omega (
-      arith,
-      c .before .before .before .before .before .before .before .before .before .before .shared-slice-known .given i,
-    )) in let x =
-    c .before .before .before .before .before .field-place .ensures ∙ ap (fieldPlace s)
-    (c .before .before .before .before .before .before .definitions .ensures .0) in let p = accepted-apart s bytes q e
-    (c .before .before .before .before .before .field-place .result) (c .before .before .before .before .after-field .result)
-    (c .before .before .before .after-field2 .result) x (c .before .before .before .before .after-field .ensures)
-    (c .before .before .before .after-field2 .ensures) in let h = may-merge s q e a b room (c .before .holds-apart .result)
-    (c .before .holds-apart .ensures (q .apart) (c .before .before .field-at .ensures ∙ p)) (search needs) (search needs) in does-refused _ _ 14
-    (merge-turned s q e a b room (h ∙ ap not (c .if3 .taken)))
+    let s = v .question .now in
+    let q = c .before .before .before .before .before .before .before .before .before .before .before .pre .0 in
+    let e = c .before .before .before .before .before .before .before .before .before .before .before .pre .1 in
+    let a = v .a in
+    let b = v .b in
+    let room = length (v .area .now) in
+    let x = c .before .before .before .before .before .field-place .ensures ∙ ap (fieldPlace s)
+    (c .before .before .before .before .before .before .definitions .ensures .0) in
+    let p = accepted-apart s q e (c .before .before .before .before .before .field-place .result)
+    (c .before .before .before .before .after-field .result) (c .before .before .before .after-field2 .result) x
+    (c .before .before .before .before .after-field .ensures) (c .before .before .before .after-field2 .ensures) in
+    let h = may-merge s q e a b room (c .before .holds-apart .result) (c .before .holds-apart .ensures (q .apart)
+    (c .before .before .field-at .ensures ∙ p)) (search needs) (search needs) in
+    does-refused _ _ 14 (merge-turned s q e a b room (h ∙ ap not (c .if3 .taken)))
 
 returns-4 : tie.Need-returns-4
 unfolding Accepted
 returns-4 c =
     let v = c .before .before .before .before .before .before .before .before .before .before .before .before .args in
-    let s = v .question .now in let q = c .before .before .before .before .before .before .before .before .before .before .before .before .pre .0 in
-    let e = c .before .before .before .before .before .before .before .before .before .before .before .before .pre .1 in let a = v .a in let b = v .b
-    in let room = length (v .area .now) in let bytes = bytes-by-place s (λ i. omega (
-      arith,
-      c .before .before .before .before .before .before .before .before .before .before .before .shared-slice-known .given i,
-    )) in let x =
-    c .before .before .before .before .before .before .field-place .ensures ∙ ap (fieldPlace s)
-    (c .before .before .before .before .before .before .before .definitions .ensures .0) in let p = accepted-apart s bytes q e
-    (c .before .before .before .before .before .before .field-place .result) (c .before .before .before .before .before .after-field .result)
-    (c .before .before .before .before .after-field2 .result) x (c .before .before .before .before .before .after-field .ensures)
-    (c .before .before .before .before .after-field2 .ensures) in let h = may-merge s q e a b room (c .before .before .holds-apart .result)
-    (c .before .before .holds-apart .ensures (q .apart) (c .before .before .before .field-at .ensures ∙ p)) (search needs) (search needs) in let l :
-    length (write (mergedQuestion a b q)) ≡ length s = sym (merged-length a b q) ∙ ap length (accepted-joined s q bytes e) in does-refused _ _ 15
-    (merge-short s q e a b room (h ∙ ap not (c .before .if3 .left)) (omega (arith, l)))
+    let s = v .question .now in
+    let q = c .before .before .before .before .before .before .before .before .before .before .before .before .pre .0 in
+    let e = c .before .before .before .before .before .before .before .before .before .before .before .before .pre .1 in
+    let a = v .a in
+    let b = v .b in
+    let room = length (v .area .now) in
+    let x = c .before .before .before .before .before .before .field-place .ensures ∙ ap (fieldPlace s)
+    (c .before .before .before .before .before .before .before .definitions .ensures .0) in
+    let p = accepted-apart s q e (c .before .before .before .before .before .before .field-place .result)
+    (c .before .before .before .before .before .after-field .result) (c .before .before .before .before .after-field2 .result) x
+    (c .before .before .before .before .before .after-field .ensures) (c .before .before .before .before .after-field2 .ensures) in
+    let h = may-merge s q e a b room (c .before .before .holds-apart .result) (c .before .before .holds-apart .ensures (q .apart)
+    (c .before .before .before .field-at .ensures ∙ p)) (search needs) (search needs) in
+    let l : length (write (mergedQuestion a b q)) ≡ length s = sym (merged-length a b q) ∙ ap length (accepted-joined s q e) in
+    does-refused _ _ 15 (merge-short s q e a b room (h ∙ ap not (c .before .if3 .left)) (omega (arith, l)))
 
 cast-write-merged : tie.Need-cast-write-merged
 cast-write-merged c = search needs
@@ -126,28 +127,27 @@ returns-5 : tie.Need-returns-5
 unfolding Accepted WritesMerged
 returns-5 c =
     let v = c .before .before .before .before .before .before .before .before .before .before .before .before .before .before .before .before .args in
-    let s = v .question .now in let q =
-    c .before .before .before .before .before .before .before .before .before .before .before .before .before .before .before .before .pre .0 in let e
-    = c .before .before .before .before .before .before .before .before .before .before .before .before .before .before .before .before .pre .1 in let
-    a = v .a in let b = v .b in let room = length (v .area .now) in let bytes = bytes-by-place s (λ i. omega (
-      arith,
-      c .before .before .before .before .before .before .before .before .before .before .before .before .before .before .before .shared-slice-known .given
-          i,
-    )) in let x = c .before .before .before .before .before .before .before .before .before .before .field-place .ensures ∙ ap (fieldPlace s)
-    (c .before .before .before .before .before .before .before .before .before .before .before .definitions .ensures .0) in let p = accepted-apart s
-    bytes q e (c .before .before .before .before .before .before .before .before .before .before .field-place .result)
+    let s = v .question .now in
+    let q = c .before .before .before .before .before .before .before .before .before .before .before .before .before .before .before .before .pre .0
+    in
+    let e = c .before .before .before .before .before .before .before .before .before .before .before .before .before .before .before .before .pre .1
+    in
+    let a = v .a in
+    let b = v .b in
+    let room = length (v .area .now) in
+    let x = c .before .before .before .before .before .before .before .before .before .before .field-place .ensures ∙ ap (fieldPlace s)
+    (c .before .before .before .before .before .before .before .before .before .before .before .definitions .ensures .0) in
+    let p = accepted-apart s q e (c .before .before .before .before .before .before .before .before .before .before .field-place .result)
     (c .before .before .before .before .before .before .before .before .before .after-field .result)
     (c .before .before .before .before .before .before .before .before .after-field2 .result) x
     (c .before .before .before .before .before .before .before .before .before .after-field .ensures)
-    (c .before .before .before .before .before .before .before .before .after-field2 .ensures) in let h = may-merge s q e a b room
-    (c .before .before .before .before .before .before .holds-apart .result) (c .before .before .before .before .before .before .holds-apart .ensures
-    (q .apart) (c .before .before .before .before .before .before .before .field-at .ensures ∙ p)) (search needs) (search needs) in let l : length
-    (write (mergedQuestion a b q)) ≡ length s = sym (merged-length a b q) ∙ ap length (accepted-joined s q bytes e) in does-write _ _ _
-    (mergedQuestion a b q) _ (merge-writes s q e a b room (h ∙ ap not (c .before .before .before .before .before .if3 .left)) (omega (
-      arith,
-      l,
-      c .before .before .before .before .if4 .left,
-    ))) (c .before .before .write-merged .ensures q e)
+    (c .before .before .before .before .before .before .before .before .after-field2 .ensures) in
+    let h = may-merge s q e a b room (c .before .before .before .before .before .before .holds-apart .result)
+    (c .before .before .before .before .before .before .holds-apart .ensures (q .apart)
+    (c .before .before .before .before .before .before .before .field-at .ensures ∙ p)) (search needs) (search needs) in
+    let l : length (write (mergedQuestion a b q)) ≡ length s = sym (merged-length a b q) ∙ ap length (accepted-joined s q e) in
+    does-write _ _ _ (mergedQuestion a b q) _ (merge-writes s q e a b room (h ∙ ap not (c .before .before .before .before .before .if3 .left)) (omega
+    (arith, l, c .before .before .before .before .if4 .left))) (c .before .before .write-merged .ensures q e)
 
 pub merge-accepted-spec : {M : Type 1} → statement M
 merge-accepted-spec =

@@ -3,8 +3,7 @@ use mathlib.Core.Path.{ap, _∙_}
 use native.Mathlib.Omega.{arith}
 use borrow.Author.Needs.{needs}
 use Rattle.terms_bytes.specs.FieldPlaces.{fieldPlace}
-use Rattle.terms.proofs.FramingLaws.{bytes-by-place}
-use Rattle.terms_rewriting.proofs.QuestionPlaces.{accepted-places}
+use Rattle.terms_bytes.proofs.QuestionPlaces.{accepted-places}
 use Rattle.terms_rewriting.proofs.MergeWriting.{writes-merged}
 use Rattle.terms_rewriting.proofs.merge.write_merged.Statement.{statement}
 use Rattle.terms_rewriting.proofs.merge.write_merged.Tie as tie
@@ -42,8 +41,7 @@ add-rename c =
     let c12 = c8 .before .before .before .before in
     let c13 = c12 .before in
     let s = c13 .args .question .now in
-    let bytes = bytes-by-place s (λ i. omega (arith, c12 .shared-slice-known .given i)) in
-    let p = accepted-places s bytes (c13 .pre .accepted) (c7 .field-place .result) (c6 .after-field .result) (c5 .after-field2 .result)
+    let p = accepted-places s (c13 .pre .accepted) (c7 .field-place .result) (c6 .after-field .result) (c5 .after-field2 .result)
     (c7 .field-place .ensures ∙ ap (fieldPlace s) (c8 .definitions .ensures .0)) (c6 .after-field .ensures) (c5 .after-field2 .ensures) in
     omega (arith, p, c13 .good .0)
 
@@ -59,8 +57,7 @@ add-rename-2 c =
     let c14 = c10 .before .before .before .before in
     let c15 = c14 .before in
     let s = c15 .args .question .now in
-    let bytes = bytes-by-place s (λ i. omega (arith, c14 .shared-slice-known .given i)) in
-    let p = accepted-places s bytes (c15 .pre .accepted) (c9 .field-place .result) (c8 .after-field .result) (c7 .after-field2 .result)
+    let p = accepted-places s (c15 .pre .accepted) (c9 .field-place .result) (c8 .after-field .result) (c7 .after-field2 .result)
     (c9 .field-place .ensures ∙ ap (fieldPlace s) (c10 .definitions .ensures .0)) (c8 .after-field .ensures) (c7 .after-field2 .ensures) in
     omega (arith, p, c15 .good .0)
 
@@ -76,8 +73,7 @@ add-rename-3 c =
     let c17 = c13 .before .before .before .before in
     let c18 = c17 .before in
     let s = c18 .args .question .now in
-    let bytes = bytes-by-place s (λ i. omega (arith, c17 .shared-slice-known .given i)) in
-    let p = accepted-places s bytes (c18 .pre .accepted) (c12 .field-place .result) (c11 .after-field .result) (c10 .after-field2 .result)
+    let p = accepted-places s (c18 .pre .accepted) (c12 .field-place .result) (c11 .after-field .result) (c10 .after-field2 .result)
     (c12 .field-place .ensures ∙ ap (fieldPlace s) (c13 .definitions .ensures .0)) (c11 .after-field .ensures) (c10 .after-field2 .ensures) in
     omega (arith, p, c18 .good .0)
 
@@ -93,8 +89,7 @@ add-rename-4 c =
     let c19 = c15 .before .before .before .before in
     let c20 = c19 .before in
     let s = c20 .args .question .now in
-    let bytes = bytes-by-place s (λ i. omega (arith, c19 .shared-slice-known .given i)) in
-    let p = accepted-places s bytes (c20 .pre .accepted) (c14 .field-place .result) (c13 .after-field .result) (c12 .after-field2 .result)
+    let p = accepted-places s (c20 .pre .accepted) (c14 .field-place .result) (c13 .after-field .result) (c12 .after-field2 .result)
     (c14 .field-place .ensures ∙ ap (fieldPlace s) (c15 .definitions .ensures .0)) (c13 .after-field .ensures) (c12 .after-field2 .ensures) in
     omega (arith, p, c20 .good .0)
 
@@ -111,8 +106,7 @@ add-rename-bytes c =
     let c22 = c18 .before .before .before .before in
     let c23 = c22 .before in
     let s = c23 .args .question .now in
-    let bytes = bytes-by-place s (λ i. omega (arith, c22 .shared-slice-known .given i)) in
-    let p = accepted-places s bytes (c23 .pre .accepted) (c17 .field-place .result) (c16 .after-field .result) (c15 .after-field2 .result)
+    let p = accepted-places s (c23 .pre .accepted) (c17 .field-place .result) (c16 .after-field .result) (c15 .after-field2 .result)
     (c17 .field-place .ensures ∙ ap (fieldPlace s) (c18 .definitions .ensures .0)) (c16 .after-field .ensures) (c15 .after-field2 .ensures) in
     omega (arith, p, c14 .size-at .ensures, c23 .good .0)
 
@@ -131,8 +125,7 @@ add-rename-bytes-2 c =
     let c24 = c20 .before .before .before .before in
     let c25 = c24 .before in
     let s = c25 .args .question .now in
-    let bytes = bytes-by-place s (λ i. omega (arith, c24 .shared-slice-known .given i)) in
-    let p = accepted-places s bytes (c25 .pre .accepted) (c19 .field-place .result) (c18 .after-field .result) (c17 .after-field2 .result)
+    let p = accepted-places s (c25 .pre .accepted) (c19 .field-place .result) (c18 .after-field .result) (c17 .after-field2 .result)
     (c19 .field-place .ensures ∙ ap (fieldPlace s) (c20 .definitions .ensures .0)) (c18 .after-field .ensures) (c17 .after-field2 .ensures) in
     omega (arith, p, c16 .size-at .ensures, c25 .good .0)
 
@@ -149,8 +142,7 @@ rename-bytes-requires c κs =
     let c24 = c20 .before .before .before .before in
     let c25 = c24 .before in
     let s = c25 .args .question .now in
-    let bytes = bytes-by-place s (λ i. omega (arith, c24 .shared-slice-known .given i)) in
-    let p = accepted-places s bytes (c25 .pre .accepted) (c19 .field-place .result) (c18 .after-field .result) (c17 .after-field2 .result)
+    let p = accepted-places s (c25 .pre .accepted) (c19 .field-place .result) (c18 .after-field .result) (c17 .after-field2 .result)
     (c19 .field-place .ensures ∙ ap (fieldPlace s) (c20 .definitions .ensures .0)) (c18 .after-field .ensures) (c17 .after-field2 .ensures) in
     omega (
       arith,
@@ -181,8 +173,7 @@ returns c =
     let c28 = c27 .before in
     let v = c28 .args in
     let s = v .question .now in
-    let bytes = bytes-by-place s (λ i. omega (arith, c27 .shared-slice-known .given i)) in
-    writes-merged s (v .a) (v .b) (v .area .now) _ bytes (c28 .pre .small) (c28 .pre .small′) (c28 .pre .room) (record {
+    writes-merged s (v .a) (v .b) (v .area .now) _ (c28 .pre .small) (c28 .pre .small′) (c28 .pre .room) (record {
       table = c25 .merging .result;
       first = c22 .field-place .result;
       second = c21 .after-field .result;

@@ -38,10 +38,10 @@ loop-less c = search needs
 
 loop-again : tie.Need-loop-again Inv-loop μ-loop
 loop-again c =
-    let a = c .before .before .before .before .args in let l = c .before .before .loop in (
-      ⊎-elim (λ w. rw (w .2) (joined-more (a .self .class)
-          (a .other .class) (l .c .class) _ (l .i) (l .inv .0) (w .1 .ensures))) (λ w. rw (w .1) (joined-same (a .self .class) (a .other .class)
-          (l .c .class) (l .i) (w .0 .left) (l .inv .0))) (c .if1 .came),
+    let a = c .before .before .before .before .args in
+    let l = c .before .before .loop in (
+      ⊎-elim (λ w. rw (w .2) (joined-more (a .self .class) (a .other .class) (l .c .class) _ (l .i) (l .inv .0) (w .1 .ensures))) (λ w. rw (w .1)
+          (joined-same (a .self .class) (a .other .class) (l .c .class) (l .i) (w .0 .left) (l .inv .0))) (c .if1 .came),
       search needs,
     )
 

@@ -5,15 +5,15 @@ use Prim.Native.Nat.{ℕ, _+_, _/_, _%_}
 use native.Mathlib.Omega.{arith}
 use lib.ListN.{length, drop, length-append, length-drop}
 use lib.Seq.{drop-append-seam}
 use Rattle.terms_bytes.specs.FieldPlaces.{definitionsOf, sizeAt, afterField, fieldPlace, fieldAt, aritiesOf}
 use Rattle.terms.specs.Framing.{Fields, sized, allSized, joined}
 use Rattle.terms.specs.Answer.{result}
 use Rattle.terms.specs.Encoding.{encode}
 use Rattle.terms.specs.Question.{Question, checkOf, pairBytes, fieldsOf, write}
-use Rattle.terms_rewriting.specs.Writing.{Accepted}
-use Rattle.terms.proofs.FramingLaws.{Framable, Bytes}
+use Rattle.terms_bytes.specs.Writing.{Accepted}
+use Rattle.terms.proofs.FramingLaws.{Framable}
 use Rattle.terms.proofs.WellFormed.{WellFormed, withApart, fields-framable, accepted-well-formed, accepted-written}
 use Rattle.terms_bytes.proofs.Places.{allFields, at-place, definitions-of, after-of, behind-of, size-of, whole, bytes-behind-size, field-of, arities-of}
 
 -- The two bytes of a length.
 unfoldable pub halves : ℕ → List ℕ
@@ -102,15 +102,15 @@ pub framable : (q : Question) → WellFormed q → Framable (fieldsOf q)
 unfolding fieldsOf withApart
 framable q w = let few = w .apartSize in fields-framable q w (pairBytes (q .apart)) (omega arith)
 
-pub accepted-joined : (s : List ℕ) (q : Question) → Bytes s → checkOf s ≡ result q → joined (fieldsOf q) ≡ s
+pub accepted-joined : (s : List ℕ) (q : Question) → checkOf s ≡ result q → joined (fieldsOf q) ≡ s
 unfolding write
-accepted-joined s q b e = accepted-written s q b e
+accepted-joined s q e = accepted-written s q e
 
-pub accepted-places : (s : List ℕ) → Bytes s → Accepted s → (first second apart : ℕ)
+pub accepted-places : (s : List ℕ) → Accepted s → (first second apart : ℕ)
     → first ≡ fieldPlace s (definitionsOf s) → second ≡ afterField s first → apart ≡ afterField s second → Places s first second apart
 unfolding Accepted
-accepted-places s b (q, e) first second apart x y z =
-    let j = accepted-joined s q b e in
+accepted-places s (q, e) first second apart x y z =
+    let j = accepted-joined s q e in
     let w = accepted-well-formed s q e in
     let y′ : second ≡ afterField s (fieldPlace s (definitionsOf s)) = y ∙ ap (afterField s) x in
     let z′ : apart ≡ afterField s (afterField s (fieldPlace s (definitionsOf s))) = z ∙ ap (afterField s) y′ in
@@ -120,12 +120,12 @@ accepted-places s b (q, e) first second apart x y z =
     (afterField s (afterField s (fieldPlace s (definitionsOf s)))))
     j (joined-places (fieldsOf q) (framable q w)))
 
-pub accepted-sizes : (s : List ℕ) → Bytes s → (q : Question) → checkOf s ≡ result q → (first second : ℕ)
+pub accepted-sizes : (s : List ℕ) (q : Question) → checkOf s ≡ result q → (first second : ℕ)
     → first ≡ fieldPlace s (definitionsOf s) → second ≡ afterField s first
     → (sizeAt s first ≡ length (encode 0 (q .first))) × (sizeAt s second ≡ length (encode 0 (q .second)))
 unfolding fieldsOf
-accepted-sizes s b q e first second x y =
-    let j = accepted-joined s q b e in
+accepted-sizes s q e first second x y =
+    let j = accepted-joined s q e in
     let fr = framable q (accepted-well-formed s q e) in
     let f = fieldsOf q in
     let y′ : second ≡ afterField s (fieldPlace s (definitionsOf s)) = y ∙ ap (afterField s) x in
@@ -138,11 +138,11 @@ accepted-sizes s b q e first second x y =
       size-of (joined f) (secondPlace f fr) (f .second) _ (fr .second) (at-second f fr),
     ))
 
-pub accepted-apart : (s : List ℕ) → Bytes s → (q : Question) → checkOf s ≡ result q → (first second apart : ℕ)
+pub accepted-apart : (s : List ℕ) (q : Question) → checkOf s ≡ result q → (first second apart : ℕ)
     → first ≡ fieldPlace s (definitionsOf s) → second ≡ afterField s first → apart ≡ afterField s second → fieldAt s apart ≡ pairBytes (q .apart)
 unfolding fieldsOf
-accepted-apart s b q e first second apart x y z =
-    let j = accepted-joined s q b e in
+accepted-apart s q e first second apart x y z =
+    let j = accepted-joined s q e in
     let fr = framable q (accepted-well-formed s q e) in
     let f = fieldsOf q in
     let y′ : second ≡ afterField s (fieldPlace s (definitionsOf s)) = y ∙ ap (afterField s) x in
@@ -151,7 +151,7 @@ accepted-apart s b q e first second apart x y z =
     (subst (λ (s : List ℕ). fieldAt s (afterField s (afterField s (fieldPlace s (definitionsOf s)))) ≡ pairBytes (q .apart)) j
     (field-of (joined f) (apartPlace f fr) (f .apart) [] (fr .apart) (at-apart f fr)))
 
-pub accepted-arities : (s : List ℕ) → Bytes s → (q : Question) → checkOf s ≡ result q → aritiesOf s ≡ q .arities
+pub accepted-arities : (s : List ℕ) (q : Question) → checkOf s ≡ result q → aritiesOf s ≡ q .arities
 unfolding fieldsOf
-accepted-arities s b q e =
-    subst (λ (s : List ℕ). aritiesOf s ≡ q .arities) (accepted-joined s q b e) (arities-of (fieldsOf q) (framable q (accepted-well-formed s q e)))
+accepted-arities s q e =
+    subst (λ (s : List ℕ). aritiesOf s ≡ q .arities) (accepted-joined s q e) (arities-of (fieldsOf q) (framable q (accepted-well-formed s q e)))
