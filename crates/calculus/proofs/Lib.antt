@@ -9,6 +9,7 @@ pub mod FreeNames
 pub mod Parallel
 pub mod PublishedBisimulation
 pub mod PublishedSteps
+pub mod Rearranged
 pub mod Renaming
 pub mod Sanity
 pub mod SanityRelated

@@ -15,5 +15,7 @@ pub mod Published
 pub mod Distinction
 -- open bisimulation: Definition 13
 pub mod OpenBisimulation
+-- parts with their pieces in another order: request 2026-07
+pub mod Rearranged
 -- actions with their bound name as the innermost binder, for candidates of a step
 pub mod Abstraction

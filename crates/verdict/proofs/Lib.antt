@@ -4,7 +4,9 @@ pub mod EntriesKeep
 pub mod FieldRows
 pub mod JudgeIsDefinition13
 pub mod ListOfEntries
+pub mod NeverDifferentLaws
 pub mod OutcomeLaws
+pub mod RearrangedVerdict
 pub mod RelatedVerdicts
 pub mod Rounds
 pub mod SmallOutcomes

@@ -77,21 +77,21 @@ answered start es k hand capacity answer j =
     (kept-at start es k hand (judging capacity (j .work) answer (j .after)) (j .stands)) (λ n e s f. absurd (j .verdict n s)) (λ a. a)
 
 -- which verdict an outcome is
-is-same : (v : Verdict) (n : ℕ) → ofVerdict (result v) ≡ sameOf n → v ≡ same n
+pub outcome-same : (v : Verdict) (n : ℕ) → ofVerdict (result v) ≡ sameOf n → v ≡ same n
 unfolding ofVerdict
-is-same unsettled n e = let z : _≡_ {A = ℕ} 0 1 = cc in absurd (omega arith)
-is-same (same m) n e = let z : m ≡ n = cc in ap same z
-is-same (different m) n e = let z : _≡_ {A = ℕ} 0 1 = cc in absurd (omega arith)
+outcome-same unsettled n e = let z : _≡_ {A = ℕ} 0 1 = cc in absurd (omega arith)
+outcome-same (same m) n e = let z : m ≡ n = cc in ap same z
+outcome-same (different m) n e = let z : _≡_ {A = ℕ} 0 1 = cc in absurd (omega arith)
 
-is-different : (v : Verdict) (n : ℕ) → ofVerdict (result v) ≡ differentOf n → v ≡ different n
+pub outcome-different : (v : Verdict) (n : ℕ) → ofVerdict (result v) ≡ differentOf n → v ≡ different n
 unfolding ofVerdict
-is-different unsettled n e = let z : _≡_ {A = ℕ} 0 1 = cc in absurd (omega arith)
-is-different (same m) n e = let z : _≡_ {A = ℕ} 0 1 = cc in absurd (omega arith)
-is-different (different m) n e = let z : m ≡ n = cc in ap different z
+outcome-different unsettled n e = let z : _≡_ {A = ℕ} 0 1 = cc in absurd (omega arith)
+outcome-different (same m) n e = let z : _≡_ {A = ℕ} 0 1 = cc in absurd (omega arith)
+outcome-different (different m) n e = let z : m ≡ n = cc in ap different z
 
 is-decided : (o : ℕ → Outcome) → Decides o → (v : Verdict) (n : ℕ) → ofVerdict (result v) ≡ o n → Numbered v n
-is-decided o by-same v n e = inl (is-same v n e)
-is-decided o by-different v n e = inr (is-different v n e)
+is-decided o by-same v n e = inl (outcome-same v n e)
+is-decided o by-different v n e = inr (outcome-different v n e)
 
 -- check answers 0 for no other question than an accepted one
 answers-zero : (hand : List ℕ) → ((r : ℕ) → CheckIs hand r → Says r (gave 0)) → Accepted hand
@@ -139,13 +139,13 @@ module _ (start : List ℕ) (zero′ : (r : ℕ) → CheckIs start r → Says r 
         subst RelatedParts (sym (hands-++ start before later)) (hands-related (hands start before) r later);
     same-related = λ hand capacity answer n j s.
         let a = answered start es kept hand capacity answer j in
-        same-related-parts hand (a .read) (a .accepted) capacity n (is-same (verdictOf (a .read) capacity) n (says-once _ (sameOf n) (a .says) s));
+        same-related-parts hand (a .read) (a .accepted) capacity n (outcome-same (verdictOf (a .read) capacity) n (says-once _ (sameOf n) (a .says) s));
     never-different = λ before behind e r hand capacity answer n j s.
         let k : AllKept (hands start before) behind = kept-behind start before behind (subst (AllKept start) e kept) in
         let a = answered (hands start before) behind k hand capacity answer j in
         let t : RelatedParts hand =
         subst RelatedParts (sym (j .stands .handed)) (hands-related (hands start before) r (j .stands .before)) in
-        related-never-different hand (a .read) (a .accepted) capacity n t (is-different (verdictOf (a .read) capacity) n (says-once _ (differentOf n) (a .says) s));
+        related-never-different hand (a .read) (a .accepted) capacity n t (outcome-different (verdictOf (a .read) capacity) n (says-once _ (differentOf n) (a .says) s));
     enough = λ hand c d r s n o decides j u k l. again hand c d r s n o decides j u k .0 l;
     short = λ hand c d r s n o decides j u k l. again hand c d r s n o decides j u k .1 l;
   }

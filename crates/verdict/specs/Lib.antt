@@ -13,3 +13,5 @@ pub mod Promises
 pub mod Entries
 -- demand 3 as one claim about a whole list
 pub mod Demand
+-- never "different": what requests 2026-07 and 2026-13 promise
+pub mod NeverDifferent
