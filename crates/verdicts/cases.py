@@ -1,6 +1,7 @@
 #!/usr/bin/env python3
-"""Questions that are judged, and their lines: those of document 01, "Exchanges to try", that no theorem has, and appendix B.1 of document 000,
-whose last column gives the verdicts. The sizes of the fields are those of the comparison implementation (rust/generate/src/worked.rs).
+"""Questions that are judged, and their lines: those of document 01, "Exchanges to try", that no theorem has, appendix B.1 of document 000,
+whose last column gives the verdicts, and small ones for requests of document 02. The sizes of the fields are those of the comparison
+implementation (rust/generate/src/worked.rs).
 
 Writes stdin (the number of cases; for each its length in two bytes, the greater half first, then its capacity in two bytes and its question)
 and stdout (one line a case). Run it in this folder after a change of the cases.
@@ -60,6 +61,17 @@ CASES = [
     ("different 7", 256, question(P2, P4, K)),
     ("same 129", 256, question(P5, P5, K)),
     ("different 212", 256, question(P5, P6, K)),
+    # request 2026-07: parallel bracketed anew about an extrusion, exchanged, beside inaction
+    ("same 12", 256, question("07 07 02 00 00 03 01 02 00 08 03 00 80 00", "07 02 00 00 07 03 01 02 00 08 03 00 80 00")),
+    ("same 7", 256, question("07 02 00 03 80 01 00 04 00 00", "07 04 00 00 02 00 03 80 01 00")),
+    ("same 3", 256, question("07 02 00 03 80 01 00 00", "02 00 03 80 01 00")),
+    # choice exchanged beneath an input, bracketed anew, with inaction, doubled; beyond the limits; and a parallel doubled, which is no law
+    ("same 3", 256, question("02 00 06 01 00 03 80 80 00", "02 00 06 03 80 80 00 01 00")),
+    ("same 2", 256, question("06 06 01 00 05 00 01 01 00 03 00 01 00", "06 01 00 06 05 00 01 01 00 03 00 01 00", apart="00 01")),
+    ("same 2", 256, question("06 04 00 00 00", "04 00 00")),
+    ("same 2", 256, question("06 09 00 00 09 00 00", "09 00 00", LOOP)),
+    ("unsettled 0", 256, question("06 09 00 00 09 00 00", "09 00 00", GROWING)),
+    ("different 3", 256, question("07 01 00 01 00", "01 00")),
 ]
 
 with open("stdin", "wb") as f:

@@ -3,6 +3,7 @@
 use crate::fields::Fields;
 use crate::grow::{Place, Style};
 use crate::random::Random;
+use crate::rearrange::rearranged;
 use crate::rewrite::rewritten;
 use crate::term::Term;
 
@@ -73,6 +74,22 @@ impl Draft {
         let draft = Draft { definitions, first, second: Term::Nil, apart, names };
         let rewritings = random.below(3);
         draft.copied(random, rewritings)
+    }
+
+    /// A part and a copy with its pieces in another order (request 2026-07).
+    pub fn reordered(random: &mut Random) -> Draft {
+        let mut draft = match random.chance(70) {
+            true => Draft::with_first(random),
+            false => Draft::busy(random),
+        };
+        draft.second = draft.first.clone();
+        for _ in 0..random.between(1, 8) {
+            let moved = rearranged(random, &draft.second);
+            if moved.size() <= PART_BYTES {
+                draft.second = moved;
+            }
+        }
+        draft
     }
 
     /// The draft with a copy of its first part, rewritten this many times, as the second.

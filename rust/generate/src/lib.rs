@@ -14,6 +14,7 @@ mod fields;
 mod grow;
 mod limits;
 mod random;
+mod rearrange;
 mod rewrite;
 mod seeds;
 mod term;
@@ -27,7 +28,7 @@ pub use limits::near_limit;
 pub use random::Random;
 pub use seeds::{each_seed, SEED, TIMES};
 pub use term::{Name, Term};
-pub use worked::{Worked, APPENDIX, EXCHANGES};
+pub use worked::{Worked, APPENDIX, EXCHANGES, REARRANGED};
 
 /// A question of any kind. Most are accepted; the rest are damaged or pass a limit.
 pub fn any(random: &mut Random) -> Vec<u8> {

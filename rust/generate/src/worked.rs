@@ -1,5 +1,5 @@
-//! Questions with their answers: "Exchanges to try" of document 01, and the pairs of appendix B.1
-//! of document 000.
+//! Questions with their answers: "Exchanges to try" of document 01, the pairs of appendix B.1 of
+//! document 000, and what requests of document 02 are about.
 
 use crate::fields::Fields;
 
@@ -100,4 +100,27 @@ pub const APPENDIX: &[Worked] = &[
     Worked::new("P5 and P5", [P5, P5], "same 129").with(K).capacity(4096),
     Worked::new("P5 and P6", [P5, P6], "different 212").with(K).capacity(4096),
     Worked::new("P7 and P7", [P7, P7], "unsettled 0").with(K).capacity(4096),
+];
+
+const EXTRUSION: [&str; 2] =
+    ["07 07 02 00 00 03 01 02 00 08 03 00 80 00", "07 02 00 00 07 03 01 02 00 08 03 00 80 00"];
+const MEETING: [&str; 2] = ["07 02 00 03 80 01 00 04 00 00", "07 04 00 00 02 00 03 80 01 00"];
+const BRACKETS: [&str; 2] =
+    ["06 06 01 00 05 00 01 01 00 03 00 01 00", "06 01 00 06 05 00 01 01 00 03 00 01 00"];
+const BESIDE_INACTION: [&str; 2] = ["07 02 00 03 80 01 00 00", "02 00 03 80 01 00"];
+const BENEATH_INPUT: [&str; 2] = ["02 00 06 01 00 03 80 80 00", "02 00 06 03 80 80 00 01 00"];
+const COPIES: [&str; 2] = ["06 09 00 00 09 00 00", "09 00 00"];
+
+/// Pieces in another order (request 2026-07); the last is no law.
+pub const REARRANGED: &[Worked] = &[
+    Worked::new("(a(x).0 | b̄c.0) | (νy)āy.0 bracketed anew", EXTRUSION, "same 12"),
+    Worked::new("a(x).x̄b.0 | ā(y).0 exchanged", MEETING, "same 7"),
+    Worked::new("a(x).x̄b.0 | 0 and a(x).x̄b.0", BESIDE_INACTION, "same 3"),
+    Worked::new("a(x).(τ.0 + x̄x.0) exchanged", BENEATH_INPUT, "same 3"),
+    Worked::new("(τ.0 + [a=b]τ.0) + āb.0 bracketed anew; a, b apart", BRACKETS, "same 2")
+        .apart("00 01"),
+    Worked::new("ā(x).0 + 0 and ā(x).0", ["06 04 00 00 00", "04 00 00"], "same 2"),
+    Worked::new("K⟨a⟩ + K⟨a⟩ and K⟨a⟩", COPIES, "same 2").with(LOOP),
+    Worked::new("K⟨a⟩ + K⟨a⟩ and K⟨a⟩, growing", COPIES, "unsettled 0").with(GROWING),
+    Worked::new("τ.0 | τ.0 and τ.0", ["07 01 00 01 00", "01 00"], "different 3"),
 ];

@@ -34,7 +34,8 @@ fn numbers_below_a_bound() {
 fn drafts_keep_the_limits() {
     for seed in 0..2000 {
         let random = &mut Random::new(seed);
-        for draft in [Draft::unrelated(random), Draft::near_miss(random), Draft::busy(random)] {
+        let drafts = [Draft::unrelated, Draft::near_miss, Draft::busy, Draft::reordered];
+        for draft in drafts.map(|make| make(random)) {
             let bodies = draft.definitions.iter().map(|definition| &definition.1);
             for term in bodies.chain([&draft.first, &draft.second]) {
                 assert_eq!(term.bytes().len(), term.size());

@@ -1,9 +1,9 @@
-//! "Exchanges to try", and the pairs of appendix B.1 of document 000.
+//! "Exchanges to try", the pairs of appendix B.1 of document 000, and those of requests.
 
 mod common;
 
 use common::{hex, judge};
-use generate::{Fields, Worked, APPENDIX, EXCHANGES};
+use generate::{Fields, Worked, APPENDIX, EXCHANGES, REARRANGED};
 
 fn answers(worked: &Worked) {
     let answer = judge(&worked.bytes(), worked.capacity);
@@ -28,6 +28,12 @@ fn exchanges_to_try() {
 fn appendix_b1() {
     APPENDIX.iter().for_each(answers);
     APPENDIX.iter().for_each(answers_swapped);
+}
+
+#[test]
+fn pieces_in_another_order() {
+    REARRANGED.iter().for_each(answers);
+    REARRANGED.iter().for_each(answers_swapped);
 }
 
 /// The file that the paper gives byte for byte.
