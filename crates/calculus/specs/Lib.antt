@@ -17,5 +17,7 @@ pub mod Distinction
 pub mod OpenBisimulation
 -- parts with their pieces in another order: request 2026-07
 pub mod Rearranged
+-- a pair of parts inside a larger exchange: request 2026-13
+pub mod Inside
 -- actions with their bound name as the innermost binder, for candidates of a step
 pub mod Abstraction

@@ -2,6 +2,7 @@ pub mod Completeness
 pub mod DecidedField
 pub mod EntriesKeep
 pub mod FieldRows
+pub mod InsideVerdict
 pub mod JudgeIsDefinition13
 pub mod ListOfEntries
 pub mod NeverDifferentLaws

@@ -15,3 +15,5 @@ pub mod Entries
 pub mod Demand
 -- never "different": what requests 2026-07 and 2026-13 promise
 pub mod NeverDifferent
+-- the question about a pair inside a larger exchange: request 2026-13
+pub mod Larger
