@@ -72,6 +72,23 @@ CASES = [
     ("same 2", 256, question("06 09 00 00 09 00 00", "09 00 00", LOOP)),
     ("unsettled 0", 256, question("06 09 00 00 09 00 00", "09 00 00", GROWING)),
     ("different 3", 256, question("07 01 00 01 00", "01 00")),
+    # request 2026-13: [a=b]τ.0 and 0 with a, b apart, alone; behind τ and c̄d; beneath [a=b]; in a choice with c(x).0, either branch; beside c̄d.0,
+    # either side; beneath (νa) and behind c̄(a), the pair dropped; behind c(x); and behind b̄c and τ, in a choice with b̄(y).0, beneath (νa)
+    ("same 1", 256, question("05 00 01 01 00", "00", apart="00 01")),
+    ("same 2", 256, question("01 05 00 01 01 00", "01 00", apart="00 01")),
+    ("same 2", 256, question("03 02 03 05 00 01 01 00", "03 02 03 00", apart="00 01")),
+    ("same 1", 256, question("05 00 01 05 00 01 01 00", "05 00 01 00", apart="00 01")),
+    ("same 2", 256, question("06 05 00 01 01 00 02 02 00", "06 00 02 02 00", apart="00 01")),
+    ("same 2", 256, question("06 02 02 00 05 00 01 01 00", "06 02 02 00 00", apart="00 01")),
+    ("same 2", 256, question("07 05 00 01 01 00 03 02 03 00", "07 00 03 02 03 00", apart="00 01")),
+    ("same 2", 256, question("07 03 02 03 00 05 00 01 01 00", "07 03 02 03 00 00", apart="00 01")),
+    ("same 1", 256, question("08 05 80 01 01 00", "08 00")),
+    ("same 2", 256, question("04 02 05 80 01 01 00", "04 02 00")),
+    ("same 2", 256, question("02 02 05 00 01 01 00", "02 02 00", apart="00 01")),
+    ("same 4", 256, question("08 06 01 03 01 02 05 80 01 01 00 04 01 00", "08 06 01 03 01 02 00 04 01 00")),
+    # not promised: behind c(a), whose pair is lost; and τ.(0 | 0), which is no question
+    ("different 2", 256, question("02 02 05 80 01 01 00", "02 02 00")),
+    ("refused 10", 256, question("01 07 00 00", "01 00")),
 ]
 
 with open("stdin", "wb") as f:

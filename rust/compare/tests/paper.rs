@@ -11,6 +11,8 @@ mod changes;
 mod exchanges;
 #[path = "../../reference/tests/field.rs"]
 mod field;
+#[path = "../../reference/tests/inside.rs"]
+mod inside;
 #[path = "../../reference/tests/rearranged.rs"]
 mod rearranged;
 #[path = "../../reference/tests/refusals.rs"]

@@ -107,6 +107,14 @@ impl Draft {
         self
     }
 
+    /// The same with at least two names and a short first part without parallel.
+    pub(crate) fn sequential(random: &mut Random) -> Draft {
+        let mut draft = Draft::with_first(random);
+        draft.names = draft.names.max(2);
+        draft.first = draft.style().sequential(random, Place::PART, 12);
+        draft
+    }
+
     /// Definitions, a first part and an apart list; the second part is inaction.
     fn with_first(random: &mut Random) -> Draft {
         let style = Style::random(random);

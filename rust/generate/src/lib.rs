@@ -10,6 +10,7 @@
 mod changes;
 mod damage;
 mod draft;
+mod embed;
 mod fields;
 mod grow;
 mod limits;
@@ -28,7 +29,7 @@ pub use limits::near_limit;
 pub use random::Random;
 pub use seeds::{each_seed, SEED, TIMES};
 pub use term::{Name, Term};
-pub use worked::{Worked, APPENDIX, EXCHANGES, REARRANGED};
+pub use worked::{Worked, APPENDIX, EXCHANGES, INSIDE, REARRANGED};
 
 /// A question of any kind. Most are accepted; the rest are damaged or pass a limit.
 pub fn any(random: &mut Random) -> Vec<u8> {

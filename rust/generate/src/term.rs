@@ -158,6 +158,15 @@ impl Term {
         self
     }
 
+    /// What stands beneath a binder that binds the given free name.
+    pub fn closed(mut self, x: u8) -> Term {
+        self.rename(&|name| match name {
+            Name::Free(free) if free == x => Name::Bound(0),
+            name => deeper(name, 1),
+        });
+        self
+    }
+
     /// What stands beneath a binder, with the given name for the bound one.
     pub fn opened(mut self, by: Name) -> Term {
         self.rename(&|name| match name {

@@ -124,3 +124,30 @@ pub const REARRANGED: &[Worked] = &[
     Worked::new("K⟨a⟩ + K⟨a⟩ and K⟨a⟩, growing", COPIES, "unsettled 0").with(GROWING),
     Worked::new("τ.0 | τ.0 and τ.0", ["07 01 00 01 00", "01 00"], "different 3"),
 ];
+
+/// A pair inside larger exchanges (request 2026-13): [a=b]τ.0 and 0, with a, b apart where they are
+/// free. The last two are not promised.
+pub const INSIDE: &[Worked] = &[
+    Worked::new("alone", MATCH, "same 1").apart("00 01"),
+    Worked::new("behind τ", ["01 05 00 01 01 00", "01 00"], "same 2").apart("00 01"),
+    Worked::new("behind c̄d", ["03 02 03 05 00 01 01 00", "03 02 03 00"], "same 2").apart("00 01"),
+    Worked::new("beneath [a=b]", ["05 00 01 05 00 01 01 00", "05 00 01 00"], "same 1")
+        .apart("00 01"),
+    Worked::new("pair + c(x).0", ["06 05 00 01 01 00 02 02 00", "06 00 02 02 00"], "same 2")
+        .apart("00 01"),
+    Worked::new("c(x).0 + pair", ["06 02 02 00 05 00 01 01 00", "06 02 02 00 00"], "same 2")
+        .apart("00 01"),
+    Worked::new("pair | c̄d.0", ["07 05 00 01 01 00 03 02 03 00", "07 00 03 02 03 00"], "same 2")
+        .apart("00 01"),
+    Worked::new("c̄d.0 | pair", ["07 03 02 03 00 05 00 01 01 00", "07 03 02 03 00 00"], "same 2")
+        .apart("00 01"),
+    Worked::new("beneath (νa)", ["08 05 80 01 01 00", "08 00"], "same 1"),
+    Worked::new("behind c̄(a)", ["04 02 05 80 01 01 00", "04 02 00"], "same 2"),
+    Worked::new("behind c(x)", ["02 02 05 00 01 01 00", "02 02 00"], "same 2").apart("00 01"),
+    Worked::new("(νa)(τ.b̄c.pair + b̄(y).0)", NESTED, "same 4"),
+    Worked::new("behind c(a)", ["02 02 05 80 01 01 00", "02 02 00"], "different 2"),
+    Worked::new("τ.(0 | 0) and τ.0", ["01 07 00 00", "01 00"], "refused 10"),
+];
+
+const NESTED: [&str; 2] =
+    ["08 06 01 03 01 02 05 80 01 01 00 04 01 00", "08 06 01 03 01 02 00 04 01 00"];

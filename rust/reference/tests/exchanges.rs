@@ -3,7 +3,7 @@
 mod common;
 
 use common::{hex, judge};
-use generate::{Fields, Worked, APPENDIX, EXCHANGES, REARRANGED};
+use generate::{Fields, Worked, APPENDIX, EXCHANGES, INSIDE, REARRANGED};
 
 fn answers(worked: &Worked) {
     let answer = judge(&worked.bytes(), worked.capacity);
@@ -34,6 +34,12 @@ fn appendix_b1() {
 fn pieces_in_another_order() {
     REARRANGED.iter().for_each(answers);
     REARRANGED.iter().for_each(answers_swapped);
+}
+
+#[test]
+fn a_pair_inside_larger_exchanges() {
+    INSIDE.iter().for_each(answers);
+    INSIDE.iter().for_each(answers_swapped);
 }
 
 /// The file that the paper gives byte for byte.
