@@ -1,10 +1,14 @@
-//! Finds the proved library `libexchange.a` and links it.
+//! Finds the proved library `libexchange.a` and links it. Where it is missing, or the target is
+//! another than the library's, cargo warns and links nothing: checking and documenting work all
+//! the same, and a program that calls the library does not link.
 
 use std::env;
-use std::path::PathBuf;
+use std::path::{Path, PathBuf};
 
 /// The folder to look in instead of the one that `rt staticlib exchange` writes to.
 const FOLDER: &str = "EXCHANGE_LIB_DIR";
+/// The architecture and operating system for which the library is made.
+const TARGET: (&str, &str) = ("x86_64", "linux");
 
 fn main() {
     println!("cargo::rerun-if-env-changed={FOLDER}");
@@ -12,25 +16,47 @@ fn main() {
     let folder = folder();
     let library = folder.join("libexchange.a");
     println!("cargo::rerun-if-changed={}", library.display());
-    if !library.is_file() {
-        let library = library.display();
-        println!(
-            "cargo::error={library} is missing: run `rt staticlib exchange` at the root of the \
-             repository, or set {FOLDER} to the folder that has it"
-        );
-        return;
-    }
-    println!("cargo::rustc-link-search=native={}", folder.display());
-    println!("cargo::rustc-link-lib=static=exchange");
-}
-
-/// The folder of the library: the one given, or `target/staticlib` of the repository.
-fn folder() -> PathBuf {
-    match env::var_os(FOLDER) {
-        Some(folder) => PathBuf::from(folder),
+    match obstacle(&library) {
+        Some(obstacle) => println!("cargo::warning=nothing that calls it will link: {obstacle}"),
         None => {
-            let crate_folder = env::var_os("CARGO_MANIFEST_DIR").expect("cargo sets it");
-            PathBuf::from(crate_folder).join("../../target/staticlib")
+            println!("cargo::rustc-link-search=native={}", folder.display());
+            println!("cargo::rustc-link-lib=static=exchange");
         }
     }
+}
+
+/// Why the library cannot be linked, if it cannot.
+fn obstacle(library: &Path) -> Option<String> {
+    let (arch, os) = (variable("CARGO_CFG_TARGET_ARCH"), variable("CARGO_CFG_TARGET_OS"));
+    if (arch.as_str(), os.as_str()) != TARGET {
+        let (needed_arch, needed_os) = TARGET;
+        return Some(format!(
+            "libexchange.a is made for {needed_arch} {needed_os}, and the target is {arch} {os}"
+        ));
+    }
+    if !library.is_file() {
+        return Some(format!(
+            "{} is missing: run `rt staticlib exchange` at the root of the repository, or set \
+             {FOLDER} to the folder that has it",
+            library.display()
+        ));
+    }
+    None
+}
+
+/// The folder of the library: the one given, or `target/staticlib` of the repository. Cargo runs
+/// this script in the folder of the crate, so a relative one is taken from that of the workspace,
+/// where `test.sh` looks too.
+fn folder() -> PathBuf {
+    let workspace = PathBuf::from(variable("CARGO_MANIFEST_DIR")).join("..");
+    let given = env::var_os(FOLDER).filter(|folder| !folder.is_empty());
+    match given {
+        Some(folder) => workspace.join(folder),
+        None => workspace.join("../target/staticlib"),
+    }
+}
+
+/// A variable that cargo sets for build scripts.
+fn variable(name: &str) -> String {
+    env::var(name).unwrap_or_default()
 }

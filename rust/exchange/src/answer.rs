@@ -1,9 +1,10 @@
 //! Answers, and how they are read from the number that crosses the C boundary.
 
 use crate::refusal::Refusal;
-use std::fmt;
+use core::fmt;
 
 /// What an operation with limits answers: a result, or that a limit was passed.
+#[must_use]
 #[derive(Clone, Copy, PartialEq, Eq, Hash, Debug)]
 pub enum Answer<T> {
     /// The result.
@@ -14,6 +15,7 @@ pub enum Answer<T> {
 
 /// What judging says of the two parts. The number is the size of the field: of all situations
 /// that the two can reach together.
+#[must_use]
 #[derive(Clone, Copy, PartialEq, Eq, Hash, Debug)]
 pub enum Verdict {
     /// The parts are open bisimilar under the apart list.
@@ -52,6 +54,25 @@ pub(crate) enum Coded {
     Verdict(Verdict),
 }
 
+impl<T> Answer<T> {
+    /// The result, unless a limit was passed.
+    #[must_use]
+    pub fn result(self) -> Option<T> {
+        match self {
+            Answer::Result(result) => Some(result),
+            Answer::Unsettled => None,
+        }
+    }
+
+    /// The answer with another result.
+    pub fn map<U>(self, of: impl FnOnce(T) -> U) -> Answer<U> {
+        match self {
+            Answer::Result(result) => Answer::Result(of(result)),
+            Answer::Unsettled => Answer::Unsettled,
+        }
+    }
+}
+
 impl Coded {
     /// The answer of this number, if it is one.
     fn read(code: u64) -> Option<Coded> {
@@ -86,12 +107,13 @@ impl Coded {
 #[cfg(test)]
 mod tests {
     use super::*;
+    use std::string::ToString;
 
     #[test]
     fn numbers_and_answers() {
         let kind = |kind: u64, number: u64| Coded::read((kind << 32) + number);
         assert_eq!(kind(0, 7), Some(Coded::Result(7)));
-        for refusal in Refusal::ALL {
+        for &refusal in Refusal::ALL {
             assert_eq!(kind(1, refusal.rule().into()), Some(Coded::Refused(refusal)));
         }
         assert_eq!(kind(2, 0), Some(Coded::Unsettled));

@@ -8,6 +8,11 @@
 //! - [`beside`] sets a third part beside both sides.
 //! - [`judge`] says whether the two parts are the same.
 //!
+//! The same with types: a [`Question`] is checked once, its methods take a [`Side`] and [`Name`]s,
+//! a [`Step`] reads a listed step, and a [`Judge`] owns the work area of a [`Capacity`]. Without
+//! the feature `alloc`, which is on by default, there is no `Judge` and nothing needs a heap; the
+//! crate needs no standard library either way.
+//!
 //! An operation either refuses its arguments with a [`Refusal`], and has then changed no lent
 //! byte, or gives what document 01 fixes for them, and nothing else: no argument makes it panic,
 //! and no two runs differ. It allocates nothing and keeps nothing between calls, so any number of
@@ -34,16 +39,32 @@
 //! # Ok::<(), exchange::Refusal>(())
 //! ```
 
+#![no_std]
 #![deny(missing_docs)]
 #![deny(unsafe_code)]
+
+#[cfg(feature = "alloc")]
+extern crate alloc;
+#[cfg(test)]
+extern crate std;
 
 mod answer;
 #[allow(unsafe_code)]
 mod boundary;
+mod numbers;
+#[cfg(feature = "alloc")]
+mod owned;
+mod question;
 mod refusal;
+mod step;
 
 pub use answer::{Answer, Verdict};
+pub use numbers::{Capacity, Name, Side};
+#[cfg(feature = "alloc")]
+pub use owned::Judge;
+pub use question::Question;
 pub use refusal::Refusal;
+pub use step::{Action, Step, Steps};
 
 use answer::Coded;
 

@@ -1,11 +1,11 @@
 //! Why an operation turns its arguments back.
 
-use std::error::Error;
-use std::fmt;
+use core::error::Error;
+use core::fmt;
 
 /// A refusal: the first check of document 01, in its order, that turns the arguments back.
 ///
-/// A refused operation has changed no lent byte.
+/// A refused operation has changed no lent byte. Further operations bring further rules.
 ///
 /// ```
 /// use exchange::Refusal;
@@ -18,6 +18,8 @@ use std::fmt;
 ///     "refused by rule 3: the question is empty or its first byte is not 01"
 /// );
 /// ```
+#[must_use]
+#[non_exhaustive]
 #[derive(Clone, Copy, PartialEq, Eq, PartialOrd, Ord, Hash, Debug)]
 #[repr(u8)]
 pub enum Refusal {
@@ -55,7 +57,7 @@ pub enum Refusal {
 
 impl Refusal {
     /// All refusals in the order of their rules.
-    pub const ALL: [Refusal; 15] = [
+    pub const ALL: &'static [Refusal] = &[
         Refusal::Capacity,
         Refusal::WorkArea,
         Refusal::Version,
@@ -73,17 +75,20 @@ impl Refusal {
         Refusal::ResultArea,
     ];
 
-    /// The refusal by the rule of this number, 1 to 15.
+    /// The refusal by the rule of this number, if there is such a rule.
+    #[must_use]
     pub fn of_rule(rule: u64) -> Option<Refusal> {
-        Refusal::ALL.into_iter().find(|refusal| u64::from(refusal.rule()) == rule)
+        Refusal::ALL.iter().copied().find(|refusal| u64::from(refusal.rule()) == rule)
     }
 
-    /// The number of the rule, 1 to 15.
+    /// The number of the rule, from 1.
+    #[must_use]
     pub fn rule(self) -> u8 {
         self as u8
     }
 
     /// What the rule turns back, in the words of document 01.
+    #[must_use]
     pub fn text(self) -> &'static str {
         match self {
             Refusal::Capacity => "the capacity is not 1 to 4,096",
@@ -136,7 +141,7 @@ mod tests {
 
     #[test]
     fn each_rule_has_its_number_and_a_text_of_its_own() {
-        for (place, refusal) in Refusal::ALL.into_iter().enumerate() {
+        for (place, &refusal) in Refusal::ALL.iter().enumerate() {
             assert_eq!(usize::from(refusal.rule()), place + 1);
             assert_eq!(Refusal::of_rule(place as u64 + 1), Some(refusal));
             let alike = Refusal::ALL.iter().filter(|other| other.text() == refusal.text());

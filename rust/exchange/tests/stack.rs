@@ -59,7 +59,7 @@ fn every_call_fits_a_small_stack() {
                 let mut area = vec![0; STEPS * STEP_BYTES];
                 let mut work = vec![0; CAPACITY * SITUATION_BYTES];
                 exchange::check(&question).expect("the question is accepted");
-                exchange::steps(&question, 1, 15, &mut area).expect("the steps are listed");
+                let _ = exchange::steps(&question, 1, 15, &mut area).expect("the steps are listed");
                 let judged = exchange::judge(&question, CAPACITY as u64, &mut work);
                 assert!(!matches!(judged, Ok(Answer::Result(exchange::Verdict::Different(_)))));
             };
