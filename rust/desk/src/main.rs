@@ -1,0 +1,2 @@
+//! The program `desk`.
+fn main() {}
