@@ -4,7 +4,17 @@
 #![deny(missing_docs)]
 #![forbid(unsafe_code)]
 
+pub mod explain;
 pub mod fault;
+mod fewest;
+pub mod input;
+pub mod judging;
+mod limits;
 pub mod model;
+pub mod play;
+pub mod position;
+pub mod telling;
 pub mod term;
 pub mod text;
+pub mod usage;
+pub mod words;
