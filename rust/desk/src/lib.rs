@@ -4,15 +4,18 @@
 #![deny(missing_docs)]
 #![forbid(unsafe_code)]
 
+pub mod draw;
 pub mod explain;
 pub mod fault;
 mod fewest;
 pub mod input;
 pub mod judging;
 mod limits;
+mod markup;
 pub mod model;
 pub mod play;
 pub mod position;
+pub mod report;
 pub mod telling;
 pub mod term;
 pub mod text;

@@ -2,9 +2,11 @@
 
 #![forbid(unsafe_code)]
 
-use desk::explain::explain;
-use desk::input::{self, Unreadable};
+use desk::draw::{self, Merged, Unmerged};
+use desk::explain::{explain, play};
+use desk::input::{self, Found, Unreadable};
 use desk::judging::{self, Outcome};
+use desk::report::report;
 use desk::usage::{command, Command};
 use desk::{telling, text};
 use exchange::Capacity;
@@ -43,17 +45,32 @@ fn run(command: Command) -> Result<u8, Unreadable> {
             let exchange = input::question(&file, &input::bytes(&file)?)?;
             write(output, text::file(&exchange).as_bytes()).map(|()| 0)
         }
-        Command::Draw(..) | Command::Report(..) => todo!(),
+        Command::Draw(file, merged, output, capacity) => {
+            let drawing = draw(&file, &merged, capacity)?;
+            write(output, drawing.as_bytes()).map(|()| 0)
+        }
+        Command::Report(named, output, capacity) => {
+            let report = report(found(&named), capacity);
+            write(output, report.page.as_bytes()).map(|()| report.status)
+        }
     }
 }
 
+fn draw(file: &str, merged: &[(String, String)], capacity: Capacity) -> Result<String, Unreadable> {
+    let exchange = input::exchange(file)?;
+    let merged = Merged::new(&exchange, merged).map_err(|unmerged| {
+        let reason = match unmerged {
+            Unmerged::Unknown(name) => format!("`{name}` is no free name of it"),
+            Unmerged::Refused(a, b, refusal) => format!("{a}={b} is {refusal}"),
+        };
+        Unreadable::plain(file, &reason)
+    })?;
+    let play = play(merged.exchange(), capacity);
+    Ok(draw::file(&merged.scene(&exchange, play.as_ref())))
+}
+
 fn judge(named: &[String], capacity: Capacity) -> Result<u8, Unreadable> {
-    let found = input::found(named);
-    for (folder, count) in &found.passed_over {
-        let ending = input::ENDING;
-        complain(&format!("desk: {folder}: {count} passed over, which do not end in .{ending}\n"));
-    }
-    let outcomes = judging::judged(found, capacity);
+    let outcomes = judging::judged(found(named), capacity);
     if let [(_, Outcome::Unreadable(unreadable))] = outcomes.as_slice() {
         complain(&unreadable.full);
     }
@@ -62,6 +79,16 @@ fn judge(named: &[String], capacity: Capacity) -> Result<u8, Unreadable> {
     lines.push(judging::counts(&outcomes));
     write(None, (lines.join("\n") + "\n").as_bytes())?;
     Ok(outcomes.first().map_or(0, |(_, worst)| worst.status()))
+}
+
+/// The files to read. What is passed over is said.
+fn found(named: &[String]) -> Found {
+    let found = input::found(named);
+    for (folder, count) in &found.passed_over {
+        let ending = input::ENDING;
+        complain(&format!("desk: {folder}: {count} passed over, which do not end in .{ending}\n"));
+    }
+    found
 }
 
 /// Writes to a file or to standard output. Who closes standard output early wants no more of it.

@@ -243,6 +243,14 @@ impl Play {
         self.ranks[position]
     }
 
+    /// The pairs of names that the first move merges, by their bytes.
+    pub fn merged_first(&self) -> Vec<(u8, u8)> {
+        let Some((expanded, best)) = self.best(0) else { return Vec::new() };
+        let step = expanded.lists[place(best.side)][best.step].step();
+        let merged = exchange::Name::all().filter(|&name| step.class(name) != name);
+        merged.map(|name| (step.class(name).byte(), name.byte())).collect()
+    }
+
     /// The move by which the play goes on: of those that go down in rank, the one with the fewest
     /// answers, then with the fewest names merged.
     pub fn best(&self, position: usize) -> Option<(&Expanded, &Move)> {

@@ -48,23 +48,36 @@ fn needs_space(after: Option<&Block>, block: &Block) -> bool {
 
 /// Text in lines of limited width, which begin so.
 fn wrapped(text: &str, first: &str, later: &str) -> String {
-    let mut lines = String::new();
-    let mut line = first.to_string();
-    let mut is_empty = true;
-    for word in text.split_whitespace() {
-        if !is_empty && line.chars().count() + 1 + word.chars().count() > WIDTH {
-            lines.push_str(&line);
-            lines.push('\n');
-            line = later.to_string();
-            is_empty = true;
+    let lines = wrapped_words(text, WIDTH - later.chars().count());
+    let starts = std::iter::once(first).chain(std::iter::repeat(later));
+    let line = |(start, line): (&str, String)| format!("{start}{line}\n");
+    starts.zip(lines).map(line).collect()
+}
+
+/// The words of a text in lines of so many letters.
+pub fn wrapped_words(text: &str, letters: usize) -> Vec<String> {
+    let words = text.split_whitespace().map(|word| format!("{word} "));
+    filled(words, letters)
+}
+
+/// A term in lines of so many letters, broken after signs, but not between `new` and its name.
+pub fn wrapped_term(term: &str, letters: usize) -> Vec<String> {
+    let unbroken = term.replace("new ", "new\u{A0}");
+    filled(unbroken.split_inclusive(['.', ' ', ',', ']', ')']).map(str::to_string), letters)
+}
+
+/// Pieces in lines. A piece that is too long has a line of its own.
+fn filled(pieces: impl Iterator<Item = String>, letters: usize) -> Vec<String> {
+    let mut lines = vec![String::new()];
+    for piece in pieces {
+        let last = lines.len() - 1;
+        let length = lines[last].chars().count() + piece.trim_end().chars().count();
+        match length > letters && !lines[last].is_empty() {
+            true => lines.push(piece),
+            false => lines[last].push_str(&piece),
         }
-        if !is_empty {
-            line.push(' ');
-        }
-        line.push_str(word);
-        is_empty = false;
     }
-    lines + &line + "\n"
+    lines.iter().map(|line| line.trim_end().to_string()).collect()
 }
 
 #[cfg(test)]
@@ -78,5 +91,6 @@ mod tests {
         assert!(lines.lines().all(|line| line.chars().count() <= WIDTH));
         assert!(lines.starts_with("  - word word") && lines.contains("\n    word"));
         assert_eq!(lines.split_whitespace().filter(|&word| word == "word").count(), 60);
+        assert_eq!(wrapped_term("a(x).b<c>.0 + tau.0", 9), ["a(x).", "b<c>.0 +", "tau.0"]);
     }
 }
