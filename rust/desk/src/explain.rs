@@ -225,11 +225,10 @@ impl Teller<'_> {
 
     /// The smallest of 256, 512 and so on up to 4,096 that settles the question, if one does.
     fn larger(&self, table: &Table, start: &Position) -> Option<(Capacity, Verdict)> {
-        let greatest = table.judged(start, &mut Judge::new(Capacity::MAX)).ok()?.result()?;
-        let enough = match greatest {
-            Verdict::Same(size) | Verdict::Different(size) => size.next_power_of_two().max(256),
-        };
-        Some((Capacity::new(enough as u64).unwrap_or(Capacity::MAX), greatest))
+        let settled = |capacity| table.judged(start, &mut Judge::new(capacity)).ok()?.result();
+        let (Verdict::Same(size) | Verdict::Different(size)) = settled(Capacity::MAX)?;
+        let enough = Capacity::new(size.next_power_of_two().max(256) as u64)?;
+        Some((enough, settled(enough)?))
     }
 
     fn too_many(&self, stopped: Option<Stopped>, greatest: usize) -> String {
@@ -384,8 +383,13 @@ impl<'a> Told<'a> {
         self.confirmed += usize::from(matches!(judged, Ok(Answer::Result(Verdict::Different(_)))));
         let speaker = &self.teller.speaker;
         self.blocks.push(Block::Position(number));
-        for (label, part) in self.teller.exchange.labels.iter().zip(&here.parts) {
-            self.blocks.push(Block::Term(label.clone(), speaker.term(&table.term(part), names)));
+        let parts = match position {
+            // as the person wrote them
+            0 => self.teller.exchange.parts.clone(),
+            _ => here.parts.each_ref().map(|part| table.term(part)),
+        };
+        for (label, part) in self.teller.exchange.labels.iter().zip(&parts) {
+            self.blocks.push(Block::Term(label.clone(), speaker.term(part, names)));
         }
         if !here.apart.is_empty() {
             let pairs = speaker.pairs(&here.apart, names);

@@ -56,15 +56,19 @@ pub fn bytes(file: &str) -> Result<Vec<u8>, Unreadable> {
     }
 }
 
-/// The exchange of a file: of the bytes of a question if it begins with the version byte, which
-/// no text has, and else of text.
+/// Whether these are the bytes of a question: they begin with the version byte, which no text has.
+pub fn is_question(bytes: &[u8]) -> bool {
+    bytes.first() == Some(&0x01)
+}
+
+/// The exchange of a file, which is text or the bytes of a question.
 pub fn exchange(file: &str) -> Result<Exchange, Unreadable> {
     exchange_of(file, &bytes(file)?)
 }
 
 /// The exchange of these bytes of a file.
 pub fn exchange_of(file: &str, bytes: &[u8]) -> Result<Exchange, Unreadable> {
-    if bytes.first() == Some(&0x01) {
+    if is_question(bytes) {
         return question(file, bytes);
     }
     match std::str::from_utf8(bytes) {

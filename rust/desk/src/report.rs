@@ -91,11 +91,17 @@ impl Section {
 }
 
 fn section(file: &str, capacity: Capacity) -> Section {
-    match input::exchange(file) {
+    let read = input::bytes(file)
+        .and_then(|bytes| input::exchange_of(file, &bytes).map(|exchange| (bytes, exchange)));
+    match read {
         Err(reason) => Section::unreadable(file, reason),
-        Ok(exchange) => {
+        Ok((bytes, exchange)) => {
             let explanation = explain(&exchange, capacity);
-            let mut body = format!("<pre>{}</pre>\n", escaped(&text::file(&exchange)));
+            let source = match input::is_question(&bytes) {
+                true => text::file(&exchange),
+                false => String::from_utf8_lossy(&bytes).into_owned(),
+            };
+            let mut body = format!("<pre>{}</pre>\n", escaped(source.trim_end()));
             body += &drawings(&exchange, &explanation, capacity);
             body += &told(&explanation.blocks);
             let outcome = Outcome::Judged(explanation.answer);

@@ -156,10 +156,7 @@ impl Term {
     }
 
     fn write(&self, bytes: &mut Vec<u8>) {
-        bytes.push(self.head.byte());
-        if let Head::Call(number) = self.head {
-            bytes.push(number);
-        }
+        bytes.extend(self.head_bytes());
         bytes.extend(self.names.iter().map(|name| match *name {
             Name::Free(byte) => byte,
             Name::Bound(k) => 0x80 | k.min(0x7F) as u8,
@@ -195,17 +192,34 @@ impl Term {
         names
     }
 
-    /// Its bytes without its names: what stays when names are put for others. Two terms of one
-    /// shape were most likely written at one place.
+    /// Its bytes without its names.
+    pub fn outline(&self) -> Vec<u8> {
+        let mut outline = Vec::new();
+        self.walk(&mut |term, _| outline.extend(term.head_bytes()));
+        outline
+    }
+
+    /// What stays of it when names are put for others: its outline, and which of its names are
+    /// bound where in it. Two terms of one shape were most likely written at one place.
     pub fn shape(&self) -> Vec<u8> {
         let mut shape = Vec::new();
-        self.walk(&mut |term, _| {
-            shape.push(term.head.byte());
-            if let Head::Call(number) = term.head {
-                shape.push(number);
-            }
+        self.walk(&mut |term, depth| {
+            shape.extend(term.head_bytes());
+            shape.extend(term.names.iter().map(|name| match *name {
+                Name::Bound(k) if k < depth => 0x80 | k as u8,
+                _ => 0,
+            }));
         });
         shape
+    }
+
+    /// The byte of its head, and the number of a call.
+    fn head_bytes(&self) -> impl Iterator<Item = u8> {
+        let number = match self.head {
+            Head::Call(number) => Some(number),
+            _ => None,
+        };
+        std::iter::once(self.head.byte()).chain(number)
     }
 
     /// The term with another for each name that is bound outside of it. The function sees names
@@ -267,5 +281,8 @@ mod tests {
         assert_eq!(term.free_names(), [1, 2, 5]);
         let renamed = Term::read(&[7, 2, 6, 3, 128, 2, 0, 3, 7, 2, 0], &[]).expect("a term");
         assert_eq!(term.shape(), renamed.shape());
+        let unused = Term::read(&[7, 2, 6, 3, 2, 2, 0, 3, 7, 2, 0], &[]).expect("a term");
+        assert_ne!(term.shape(), unused.shape());
+        assert_eq!(term.outline(), unused.outline());
     }
 }

@@ -26,14 +26,14 @@ impl Alone {
 }
 
 /// The components that make the move, as far as that can be found: of those that could, the first
-/// after whose steps the part has the shape of the move's result.
+/// after whose steps the part has the outline of the move's result.
 pub fn movers(pieces: &Pieces<'_>, part: &Term, step: Step<'_>, table: &mut Table) -> Vec<Mover> {
     let Some(alone) = alone(pieces, part, table) else { return Vec::new() };
     let causes = match step.action() {
         Action::Silent => [single(&alone, step), pairs(&alone, step)].concat(),
         _ => single(&alone, step),
     };
-    let result = table.term(step.result()).shape();
+    let result = table.term(step.result()).outline();
     let fits = |cause: &&Cause| replaced(part, pieces, cause, &alone, table) == result;
     let best = causes.iter().find(fits).or_else(|| causes.first());
     best.map(|cause| cause.iter().map(|taker| (taker.component, taker.channel)).collect())
@@ -131,7 +131,7 @@ fn channel(action: Action) -> Option<Name> {
     }
 }
 
-/// The shape of the part after the components of a cause have taken their steps.
+/// The outline of the part after the components of a cause have taken their steps.
 fn replaced(
     part: &Term,
     pieces: &Pieces<'_>,
@@ -140,28 +140,28 @@ fn replaced(
     table: &Table,
 ) -> Vec<u8> {
     let mut component = 0;
-    let mut shapes = Vec::new();
+    let mut outline = Vec::new();
     skeleton(part, &mut |piece| match piece {
         None => {
             let taker = cause.iter().find(|taker| taker.component == component);
-            shapes.extend(match taker {
+            outline.extend(match taker {
                 Some(taker) => {
-                    table.term(alone[component].steps[taker.step].step().result()).shape()
+                    table.term(alone[component].steps[taker.step].step().result()).outline()
                 }
-                None => pieces.components[component].term.shape(),
+                None => pieces.components[component].term.outline(),
             });
             component += 1;
         }
-        Some(head) => shapes.push(head),
+        Some(head) => outline.push(head),
     });
-    shapes
+    outline
 }
 
 /// The bytes of parallels and restrictions above the components, and nothing for each component.
 fn skeleton(term: &Term, see: &mut impl FnMut(Option<u8>)) {
     match term.head {
         Head::Parallel | Head::Restriction => {
-            see(term.shape().first().copied());
+            see(term.outline().first().copied());
             term.beneath.iter().for_each(|beneath| skeleton(beneath, see));
         }
         _ => see(None),

@@ -279,17 +279,22 @@ impl<'a> Parser<'a> {
     fn apart(&mut self, statements: &mut Statements) -> Result<(), Fault> {
         self.pass();
         self.pass();
-        self.group(statements)?;
+        self.group(statements, false)?;
         while self.passes(',') {
-            self.group(statements)?;
+            self.group(statements, true)?;
         }
         Ok(())
     }
 
-    /// Two names or more, up to a `,` or the end of the line.
-    fn group(&mut self, statements: &mut Statements) -> Result<(), Fault> {
+    /// Two names or more, up to a `,` or the end of the line. After a `,` the line may go on in the
+    /// next.
+    fn group(&mut self, statements: &mut Statements, goes_on: bool) -> Result<(), Fault> {
         let mut group: Vec<(u8, Span)> = Vec::new();
-        while !self.here().begins_line && self.here().token != Token::Sign(',') {
+        let ends = |lexeme: Lexeme<'_>, is_first: bool| {
+            let new_line = lexeme.begins_line && !(is_first && goes_on);
+            new_line || matches!(lexeme.token, Token::Sign(',') | Token::End)
+        };
+        while !ends(self.here(), group.is_empty()) {
             let (word, span) = self.name("names held apart stand in a row: `apart: a b`")?;
             let name = self.scope.free_name(word, span)?;
             for &(other, from) in &group {
