@@ -1,5 +1,6 @@
 //! What is wrong with a file, and where, told in the manner of a compiler.
 
+use exchange::Refusal;
 use std::fmt::Write;
 
 /// The longest piece of a source line that is shown.
@@ -32,12 +33,15 @@ pub struct Fault {
     pub label: String,
     /// Further lines: the rule that is broken, what to try.
     pub notes: Vec<String>,
+    /// The rule of the library that is broken, if it is one.
+    pub refusal: Option<Refusal>,
 }
 
 impl Fault {
     /// A fault without further lines.
     pub fn new(span: Span, message: impl Into<String>, label: impl Into<String>) -> Fault {
-        Fault { message: message.into(), span, label: label.into(), notes: Vec::new() }
+        let (message, label) = (message.into(), label.into());
+        Fault { message, span, label, notes: Vec::new(), refusal: None }
     }
 
     /// The fault with advice.
@@ -47,7 +51,8 @@ impl Fault {
     }
 
     /// The fault with the rule of the library that it breaks.
-    pub fn rule(mut self, refusal: exchange::Refusal) -> Fault {
+    pub fn rule(mut self, refusal: Refusal) -> Fault {
+        self.refusal = Some(refusal);
         self.notes.push(format!("rule {}: {}", refusal.rule(), refusal.text()));
         self
     }

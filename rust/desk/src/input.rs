@@ -24,21 +24,36 @@ pub struct Unreadable {
     pub line: String,
     /// In full.
     pub full: String,
+    /// The rule of the library that is broken, if it is one.
+    pub refusal: Option<Refusal>,
 }
 
 impl Unreadable {
     /// A reason that has no place in the file.
     pub fn plain(file: &str, reason: &str) -> Unreadable {
         let line = format!("{file}: {reason}");
-        Unreadable { full: format!("error: {line}\n"), line }
+        Unreadable { full: format!("error: {line}\n"), line, refusal: None }
     }
 
     fn fault(file: &str, source: &str, fault: &Fault) -> Unreadable {
-        Unreadable { line: fault.line(file, source), full: fault.render(file, source) }
+        Unreadable {
+            line: fault.line(file, source),
+            full: fault.render(file, source),
+            refusal: fault.refusal,
+        }
     }
 
-    fn refused(file: &str, refusal: Refusal) -> Unreadable {
-        Unreadable::plain(file, &refusal.to_string())
+    /// A question that the library refuses.
+    pub fn refused(file: &str, refusal: Refusal) -> Unreadable {
+        Unreadable { refusal: Some(refusal), ..Unreadable::plain(file, &refusal.to_string()) }
+    }
+
+    /// What became of the file, in a word: refused by a rule, or unreadable.
+    pub fn word(&self) -> String {
+        match self.refusal {
+            Some(refusal) => format!("refused {}", refusal.rule()),
+            None => "unreadable".to_string(),
+        }
     }
 }
 

@@ -62,7 +62,7 @@ fn outcome(file: &str, judge: &mut Judge) -> Outcome {
     };
     match Question::new(&exchange.bytes()) {
         Ok(question) => Outcome::Judged(judge.judge(question)),
-        Err(refusal) => Outcome::Unreadable(Unreadable::plain(file, &refusal.to_string())),
+        Err(refusal) => Outcome::Unreadable(Unreadable::refused(file, refusal)),
     }
 }
 
@@ -71,7 +71,7 @@ pub fn line(file: &str, outcome: &Outcome) -> String {
     match outcome {
         Outcome::Judged(Answer::Unsettled) => format!("{:14} {file}", "unsettled"),
         Outcome::Judged(answer) => format!("{:14} {file}", answer.to_string()),
-        Outcome::Unreadable(reason) => format!("{:14} {}", "unreadable", reason.line),
+        Outcome::Unreadable(reason) => format!("{:14} {}", reason.word(), reason.line),
     }
 }
 

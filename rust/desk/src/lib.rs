@@ -10,7 +10,6 @@ pub mod fault;
 mod fewest;
 pub mod input;
 pub mod judging;
-mod limits;
 mod markup;
 pub mod model;
 pub mod play;

@@ -7,7 +7,7 @@
 
 use crate::model::place;
 use crate::position::{answers, permitted, Limit, Listed, Position, Table};
-use exchange::{Refusal, Side};
+use exchange::{Refusal, Side, Step};
 use std::collections::HashMap;
 
 /// How many moves and answers are looked at before the search is given up.
@@ -22,6 +22,17 @@ pub struct Move {
     pub step: usize,
     /// The answers: the place of each in the list of the other side, and the position that follows.
     pub answers: Vec<(usize, usize)>,
+}
+
+/// A move that leads somewhere.
+#[derive(Clone, Copy, PartialEq, Eq, Debug)]
+pub struct Origin {
+    /// The position in which it is made.
+    pub position: usize,
+    /// The side that makes it.
+    pub side: Side,
+    /// Its step, by its place in the list of that side.
+    pub step: usize,
 }
 
 /// What is known of a position that was looked at.
@@ -54,8 +65,8 @@ pub struct Field {
     /// All positions found.
     pub positions: Vec<Position>,
     numbers: HashMap<Position, usize>,
-    /// How many moves each position is away from the start.
-    distances: Vec<usize>,
+    /// By which move each position was found first; the start by none.
+    origins: Vec<Option<Origin>>,
     /// What is known of each position that was looked at, in the same order.
     pub expanded: Vec<Result<Expanded, Limit>>,
     most: usize,
@@ -70,16 +81,26 @@ impl Field {
             table,
             positions: vec![start],
             numbers,
-            distances: vec![0],
+            origins: vec![None],
             expanded: Vec::new(),
             most,
             work: 0,
         }
     }
 
-    /// How many moves a position is away from the start.
-    pub fn distance(&self, position: usize) -> usize {
-        self.distances[position]
+    /// The moves from the start by which a position was found.
+    pub fn path(&self, position: usize) -> Vec<Origin> {
+        let origin = |position: usize| self.origins[position];
+        let back = std::iter::successors(origin(position), |from| origin(from.position));
+        let mut path: Vec<Origin> = back.collect();
+        path.reverse();
+        path
+    }
+
+    /// The step of a move.
+    pub fn step(&self, origin: Origin) -> Option<Step<'_>> {
+        let expanded = self.expanded.get(origin.position)?.as_ref().ok()?;
+        Some(expanded.lists[place(origin.side)].get(origin.step)?.step())
     }
 
     /// The table.
@@ -125,10 +146,11 @@ impl Field {
         };
         let mut moves = Vec::new();
         for side in Side::BOTH {
-            for (place_of_step, listed) in lists[place(side)].iter().enumerate() {
+            for (step, listed) in lists[place(side)].iter().enumerate() {
                 if permitted(listed.step(), &position.apart) {
-                    let answers = self.answers(&position, side, listed, &lists)?;
-                    moves.push(Move { side, step: place_of_step, answers });
+                    let origin = Origin { position: number, side, step };
+                    let answers = self.answers(origin, &position, &lists)?;
+                    moves.push(Move { side, step, answers });
                 }
             }
         }
@@ -137,28 +159,28 @@ impl Field {
 
     fn answers(
         &mut self,
+        origin: Origin,
         position: &Position,
-        side: Side,
-        listed: &Listed,
         lists: &[Vec<Listed>; 2],
     ) -> Result<Vec<(usize, usize)>, Stopped> {
         let mut found = Vec::new();
-        let step = listed.step();
-        for (place_of_answer, answer) in lists[place(side.other())].iter().enumerate() {
+        let step = lists[place(origin.side)][origin.step].step();
+        for (place_of_answer, answer) in lists[place(origin.side.other())].iter().enumerate() {
             self.work += 1;
             if self.work > WORK {
                 return Err(Stopped::Work(WORK));
             }
             if answers(answer.step(), step) {
-                let after = self.table.after(position, side, step, answer.step());
-                let number = self.number(after.map_err(Stopped::Refused)?)?;
+                let after = self.table.after(position, origin.side, step, answer.step());
+                let number = self.number(after.map_err(Stopped::Refused)?, origin)?;
                 found.push((place_of_answer, number));
             }
         }
         Ok(found)
     }
 
-    fn number(&mut self, position: Position) -> Result<usize, Stopped> {
+    /// The number of a position, which may be new.
+    fn number(&mut self, position: Position, origin: Origin) -> Result<usize, Stopped> {
         if let Some(&number) = self.numbers.get(&position) {
             return Ok(number);
         }
@@ -166,8 +188,7 @@ impl Field {
             return Err(Stopped::Positions(self.most));
         }
         let number = self.positions.len();
-        // The position that is looked at is the first that is not yet among the expanded ones.
-        self.distances.push(self.distances[self.expanded.len()] + 1);
+        self.origins.push(Some(origin));
         self.positions.push(position.clone());
         self.numbers.insert(position, number);
         Ok(number)

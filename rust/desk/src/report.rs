@@ -1,6 +1,6 @@
 //! One page on many files.
 
-use crate::draw::{panels, Merged, LEGEND, STYLE};
+use crate::draw::{panels, Merged, Scene, LEGEND, STYLE};
 use crate::explain::{explain, play, Explanation};
 use crate::input::{self, Found, Unreadable};
 use crate::judging::{at_once, counts, Outcome};
@@ -72,7 +72,7 @@ impl Section {
                 ("same", verdict.to_string())
             }
             Outcome::Judged(Answer::Result(verdict)) => ("different", verdict.to_string()),
-            Outcome::Unreadable(_) => ("unreadable", "unreadable".to_string()),
+            Outcome::Unreadable(reason) => ("unreadable", reason.word()),
         }
     }
 
@@ -129,7 +129,7 @@ fn drawings(exchange: &Exchange, explanation: &Explanation, capacity: Capacity) 
 }
 
 fn drawing(merged: &Merged, exchange: &Exchange, play: Option<&Play>) -> String {
-    let scene = merged.scene(exchange, play);
+    let scene = Scene::new(merged, exchange, play);
     let mut drawing = format!("<div class=\"drawing\">\n{}</div>\n", panels(&scene).concat());
     if let Some(move_told) = &scene.told {
         drawing += &format!("<p class=\"move\">{}</p>\n", escaped(move_told));

@@ -1,6 +1,6 @@
 //! Drawings and pages are well-formed and hold what they should.
 
-use desk::draw::{file, Merged, Unmerged};
+use desk::draw::{file, Merged, Scene, Unmerged};
 use desk::explain::play;
 use desk::input::found;
 use desk::model::Exchange;
@@ -17,7 +17,7 @@ fn drawing(exchange: &Exchange, pairs: &[(&str, &str)]) -> Result<String, Unmerg
     let pairs: Vec<_> = pairs.iter().map(|(a, b)| (a.to_string(), b.to_string())).collect();
     let merged = Merged::new(exchange, &pairs)?;
     let play = play(merged.exchange(), Capacity::default());
-    Ok(file(&merged.scene(exchange, play.as_ref())))
+    Ok(file(&Scene::new(&merged, exchange, play.as_ref())))
 }
 
 /// Panics unless every tag is closed in order, every attribute is quoted and every sign that has a

@@ -1,5 +1,7 @@
 //! The program as a person runs it.
 
+use exchange::{Judge, Question};
+use generate::Random;
 use std::fs;
 use std::io::Write;
 use std::path::{Path, PathBuf};
@@ -75,7 +77,7 @@ fn a_folder_worst_first() {
     assert_eq!(
         lines,
         [
-            "unreadable     d.exchange:1:7: there is no definition of `K`",
+            "refused 8      d.exchange:1:7: there is no definition of `K`",
             "unsettled      c.exchange",
             "different 4    b.exchange",
             "same 2         a.exchange",
@@ -194,14 +196,25 @@ fn files_that_are_none() {
     assert_eq!(status(&desk(&["draw", &long, "-o", folder.path()])), 3);
 }
 
+/// A thousand random questions as text get the library's verdicts.
 #[test]
 fn a_thousand_files() {
     let folder = Folder::new("thousand");
-    for number in 0..1000 {
-        let apart = if number % 2 == 0 { "apart: entry office" } else { "" };
-        folder.file(&format!("{number}.exchange"), format!("{NEWCOMER}{apart}"));
+    let mut judge = Judge::default();
+    let mut counts = [0; 3];
+    let accepted = (0..).map(|seed| generate::any(&mut Random::new(seed)));
+    let accepted = accepted.filter(|bytes| Question::new(bytes).is_ok());
+    for (number, bytes) in accepted.take(1000).enumerate() {
+        let question = Question::new(&bytes).expect("it was accepted");
+        counts[usize::from(desk::judging::status(&judge.judge(question)))] += 1;
+        let text = desk::text::file(&desk::model::Exchange::of(question));
+        folder.file(&format!("{number}.exchange"), text);
     }
     let judged = desk(&["judge", folder.path()]);
-    let last = "1000 files: 500 same, 500 different, 0 unsettled, 0 refused or unreadable";
-    assert_eq!(printed(&judged).lines().last(), Some(last));
+    let [same, different, unsettled] = counts;
+    let last = format!(
+        "1000 files: {same} same, {different} different, {unsettled} unsettled, \
+         0 refused or unreadable"
+    );
+    assert_eq!(printed(&judged).lines().last(), Some(last.as_str()));
 }

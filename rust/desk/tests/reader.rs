@@ -89,13 +89,13 @@ fn broken_rules_are_told_with_their_place() {
     told(&format!("old = 0{}\nnew = 0", " + 0".repeat(100_000)), "1:231", "6");
     told("Confirm = 0\nold = tau.Confrim\nnew = 0", "2:11", "8");
     let names = |count: usize| (0..count).map(|k| format!("n{k}(x).")).collect::<String>();
-    told(&format!("old = {}0\nnew = 0", names(17)), "1:97", "9");
+    told(&format!("old = {}0\nnew = 0", names(17)), "1:109", "9");
     told("K(a) = a<b>.0\nold = 0\nnew = 0", "1:10", "9");
     told("K(a) = 0 | 0\nold = 0\nnew = 0", "1:10", "10");
     told("old = tau.(0 | 0)\nnew = 0", "1:14", "10");
     told("K(a) = [a=a]K(a)\nold = 0\nnew = 0", "1:13", "11");
     told("old = 0\nnew = 0\napart: a b, c c", "3:13", "12");
-    told(&format!("old = 0\nnew = 0\napart: a b{}", ", a b".repeat(120)), "3:609", "12");
+    told(&format!("old = 0\nnew = 0\napart: a b{}", ", a b".repeat(120)), "3:608", "12");
 }
 
 #[test]

@@ -3,8 +3,11 @@
 
 mod cause;
 mod components;
+mod labels;
+mod merged;
 mod scene;
 mod svg;
 
-pub use scene::{Merged, Scene, Unmerged};
+pub use merged::{Merged, Unmerged};
+pub use scene::Scene;
 pub use svg::{file, panels, LEGEND, STYLE};

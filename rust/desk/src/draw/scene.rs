@@ -1,13 +1,15 @@
 //! What a drawing shows.
 
-use super::cause::movers;
-use super::components::{Known, Pieces, Use};
+use super::cause::{movers, Mover};
+use super::components::{Component, Known, Pieces, Use};
+use super::labels::Labels;
+use super::merged::Merged;
 use crate::model::{place, Exchange};
 use crate::play::Play;
 use crate::position::{ordered, Table};
 use crate::telling::wrapped_term;
 use crate::words::Speaker;
-use exchange::{Name, Question, Refusal, Side, QUESTION_BYTES};
+use exchange::Side;
 
 /// The width of a component's text in letters.
 const LETTERS: usize = 30;
@@ -66,128 +68,75 @@ pub struct Scene {
     pub told: Option<String>,
 }
 
-/// A name that cannot be merged.
-#[derive(Clone, PartialEq, Eq, Debug)]
-pub enum Unmerged {
-    /// The exchange has no such free name.
-    Unknown(String),
-    /// The library refuses to merge the two.
-    Refused(String, String, Refusal),
-}
-
-/// An exchange with names merged, and what each free name stands for.
-pub struct Merged {
-    exchange: Exchange,
-    stands_for: Vec<Vec<String>>,
-}
-
-impl Merged {
-    /// The exchange as it is.
-    pub fn nothing(exchange: &Exchange) -> Merged {
-        let stands_for = exchange.names.iter().map(|name| vec![name.clone()]).collect();
-        Merged { exchange: exchange.clone(), stands_for }
-    }
-
-    /// The exchange with pairs of names merged by the library, one pair after the other.
-    ///
-    /// # Errors
-    /// The first pair that cannot be merged.
-    pub fn new(exchange: &Exchange, pairs: &[(String, String)]) -> Result<Merged, Unmerged> {
-        let mut merged = Merged::nothing(exchange);
-        for (a, b) in pairs {
-            merged.merge(a, b)?;
-        }
-        Ok(merged)
-    }
-
-    fn merge(&mut self, a: &str, b: &str) -> Result<(), Unmerged> {
-        let refused = |refusal| Unmerged::Refused(a.to_string(), b.to_string(), refusal);
-        let (first, second) = (self.name(a)?, self.name(b)?);
-        let bytes = self.exchange.bytes();
-        let mut area = vec![0; QUESTION_BYTES];
-        let question = Question::new(&bytes).map_err(refused)?;
-        let question = question.merge(first, second, &mut area).map_err(refused)?;
-        let with_names = Exchange::of(question);
-        self.exchange.parts = with_names.parts;
-        self.exchange.apart = with_names.apart;
-        if first != second {
-            let (kept, gone) = (first.min(second), first.max(second));
-            let words = std::mem::take(&mut self.stands_for[gone.place()]);
-            self.stands_for[kept.place()].extend(words);
-        }
-        Ok(())
-    }
-
-    /// The name that stands for this word.
-    fn name(&self, word: &str) -> Result<Name, Unmerged> {
-        let stands = |words: &Vec<String>| words.iter().any(|other| other == word);
-        let place = self.stands_for.iter().position(stands);
-        let name = place.and_then(|place| Name::new(place as u8));
-        name.ok_or_else(|| Unmerged::Unknown(word.to_string()))
-    }
-
-    /// The exchange, with one name for those that were merged.
-    pub fn exchange(&self) -> &Exchange {
-        &self.exchange
-    }
-
-    /// What is to be drawn, with the first move of its play. The words are those of the exchange
-    /// before names were merged.
-    pub fn scene(&self, words: &Exchange, play: Option<&Play>) -> Scene {
-        let shown = play.and_then(|play| Shown::of(&self.exchange, words, play));
+impl Scene {
+    /// What is to be drawn of an exchange, with the first move of its play. The words are those of
+    /// the exchange before names were merged.
+    pub fn new(merged: &Merged, words: &Exchange, play: Option<&Play>) -> Scene {
+        let exchange = merged.exchange();
+        let shown = play.and_then(|play| Shown::of(exchange, words, play));
         let speaker = Speaker::new(words);
-        let panels = Side::BOTH.map(|side| self.panel(side, &speaker, &shown));
-        let pairs = ordered(self.exchange.apart.iter().copied());
-        let word = |byte: u8| self.stands_for[usize::from(byte)].join(" = ");
+        let panels = Side::BOTH.map(|side| {
+            let part = &exchange.parts[place(side)];
+            let pieces = Pieces::of(part, exchange);
+            let moving = shown.as_ref().filter(|shown| shown.side == side);
+            let moving = moving.map_or(Vec::new(), |shown| shown.movers(&pieces, exchange));
+            let labels = Labels::new(merged, &pieces, &speaker);
+            let known = labels.in_order(&pieces);
+            let label = exchange.label(side).to_string();
+            Builder { labels, pieces, moving, known }.panel(label, &exchange.apart)
+        });
+        let pairs = ordered(exchange.apart.iter().copied());
+        let word = |byte| merged.label(byte);
         let apart = pairs.iter().map(|&(a, b)| format!("{} ≠ {}", word(a), word(b))).collect();
         Scene { panels, apart, told: shown.map(|shown| shown.told) }
     }
+}
 
-    fn panel(&self, side: Side, speaker: &Speaker<'_>, shown: &Option<Shown>) -> Panel {
-        let part = &self.exchange.parts[place(side)];
-        let pieces = Pieces::of(part, &self.exchange);
-        let moving = shown.as_ref().filter(|shown| shown.side == side);
-        let moving = moving.map_or(Vec::new(), |shown| {
-            let mut table = Table::new(&self.exchange);
-            let step = exchange::Step::new(&shown.step);
-            step.map_or(Vec::new(), |step| movers(&pieces, part, step, &mut table))
-        });
-        let labels = Labels::new(self, &pieces, speaker);
-        let known = labels.in_order(&pieces);
-        let number = |name: &Known| known.iter().position(|other| other == name);
-        let moves = |from, name| moving.contains(&(from, Some(name)));
-        let link = |from: usize, &(name, used): &(Known, Use)| {
-            let to = number(&name)?;
-            Some(Link { from, to, used, moves: moves(from, name) })
-        };
-        let components = pieces.components.iter().enumerate();
-        let links: Vec<Link> = components
-            .clone()
-            .flat_map(|(from, component)| {
-                component.uses.iter().filter_map(move |used| link(from, used)).collect::<Vec<_>>()
-            })
-            .collect();
-        let drawn = |(number, component): (usize, &super::components::Component<'_>)| Drawn {
-            lines: wrapped_term(&labels.term(component), LETTERS),
-            moves: moving.iter().any(|&(mover, _)| mover == number),
-        };
+/// What a panel is made from.
+struct Builder<'a> {
+    labels: Labels<'a>,
+    pieces: Pieces<'a>,
+    moving: Vec<Mover>,
+    /// The names in the order in which they are drawn.
+    known: Vec<Known>,
+}
+
+impl Builder<'_> {
+    fn panel(&self, label: String, apart: &[(u8, u8)]) -> Panel {
+        let links = self.links();
         let node = |(number, &name): (usize, &Known)| Node {
-            label: labels.label(name),
+            label: self.labels.label(name),
             private: matches!(name, Known::Private(_)),
             moves: links.iter().any(|link| link.moves && link.to == number),
         };
-        let apart = ordered(self.exchange.apart.iter().copied());
-        let apart = apart
-            .iter()
-            .filter_map(|&(a, b)| Some((number(&Known::Free(a))?, number(&Known::Free(b))?)))
-            .collect();
-        Panel {
-            label: self.exchange.label(side).to_string(),
-            boxes: components.map(drawn).collect(),
-            nodes: known.iter().enumerate().map(node).collect(),
-            links,
-            apart,
+        let nodes = self.known.iter().enumerate().map(node).collect();
+        let both_here = |(a, b)| Some((self.node(Known::Free(a))?, self.node(Known::Free(b))?));
+        let apart = ordered(apart.iter().copied()).into_iter().filter_map(both_here).collect();
+        let boxes = self.pieces.components.iter().enumerate().map(|drawn| self.drawn(drawn));
+        Panel { label, boxes: boxes.collect(), nodes, links, apart }
+    }
+
+    /// The number of a name among those drawn.
+    fn node(&self, name: Known) -> Option<usize> {
+        self.known.iter().position(|&other| other == name)
+    }
+
+    fn drawn(&self, (number, component): (usize, &Component<'_>)) -> Drawn {
+        Drawn {
+            lines: wrapped_term(&self.labels.term(component), LETTERS),
+            moves: self.moving.iter().any(|&(mover, _)| mover == number),
         }
+    }
+
+    fn links(&self) -> Vec<Link> {
+        let mut links = Vec::new();
+        for (from, component) in self.pieces.components.iter().enumerate() {
+            for &(name, used) in &component.uses {
+                let moves = self.moving.contains(&(from, Some(name)));
+                links.extend(self.node(name).map(|to| Link { from, to, used, moves }));
+            }
+        }
+        links
     }
 }
 
@@ -199,6 +148,13 @@ struct Shown {
 }
 
 impl Shown {
+    /// The components that make it.
+    fn movers(&self, pieces: &Pieces<'_>, exchange: &Exchange) -> Vec<Mover> {
+        let part = &exchange.parts[place(self.side)];
+        let step = exchange::Step::new(&self.step);
+        step.map_or(Vec::new(), |step| movers(pieces, part, step, &mut Table::new(exchange)))
+    }
+
     fn of(exchange: &Exchange, words: &Exchange, play: &Play) -> Option<Shown> {
         let (expanded, best) = play.best(0)?;
         let step = expanded.lists[place(best.side)][best.step].step();
@@ -216,59 +172,5 @@ impl Shown {
         };
         let told = format!("{condition}{label} {action}, and {fails}.");
         Some(Shown { side: best.side, step: step.bytes().to_vec(), told })
-    }
-}
-
-/// The words in one panel.
-struct Labels<'a> {
-    merged: &'a Merged,
-    speaker: &'a Speaker<'a>,
-    names: Vec<String>,
-    privates: Vec<String>,
-}
-
-impl<'a> Labels<'a> {
-    fn new(merged: &'a Merged, pieces: &Pieces<'_>, speaker: &'a Speaker<'a>) -> Labels<'a> {
-        let names = speaker.names();
-        let mut privates: Vec<String> = Vec::new();
-        for (restriction, around) in &pieces.restrictions {
-            let binders: Vec<String> =
-                around.iter().map(|&number| privates[number].clone()).collect();
-            let word = speaker.printer(&names).bound_word(restriction, &binders);
-            let taken = |word: &String| privates.contains(word) || names.contains(word);
-            let more = (2..).map(|number| format!("{word}{number}"));
-            let free = std::iter::once(word.clone()).chain(more).find(|word| !taken(word));
-            privates.push(free.unwrap_or(word));
-        }
-        Labels { merged, speaker, names, privates }
-    }
-
-    fn term(&self, component: &super::components::Component<'_>) -> String {
-        let around: Vec<String> =
-            component.around.iter().map(|&number| self.privates[number].clone()).collect();
-        self.speaker.printer(&self.names).term(component.term, &around)
-    }
-
-    fn label(&self, name: Known) -> String {
-        match name {
-            Known::Free(byte) => self.merged.stands_for[usize::from(byte)].join(" = "),
-            Known::Private(number) => self.privates[number].clone(),
-        }
-    }
-
-    /// The names that the components use, those of upper boxes first.
-    fn in_order(&self, pieces: &Pieces<'_>) -> Vec<Known> {
-        let mut names: Vec<(Known, usize, usize)> = Vec::new();
-        for (number, component) in pieces.components.iter().enumerate() {
-            for &(name, _) in &component.uses {
-                match names.iter_mut().find(|(other, _, _)| *other == name) {
-                    Some((_, sum, count)) => (*sum, *count) = (*sum + number, *count + 1),
-                    None => names.push((name, number, 1)),
-                }
-            }
-        }
-        // The mean of the boxes that use a name, in sixtieths to have whole numbers.
-        names.sort_by_key(|&(name, sum, count)| (60 * sum / count, name));
-        names.into_iter().map(|(name, _, _)| name).collect()
     }
 }

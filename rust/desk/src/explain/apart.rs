@@ -1,0 +1,106 @@
+//! What "same" covers, and which names have to be apart for it.
+
+use super::Teller;
+use crate::fewest::{fewest, Fewest};
+use crate::position::{ordered, Pairs, Position, Table};
+use crate::telling::Block;
+use crate::words::{listed, Naming};
+use exchange::Judge;
+
+impl Teller<'_> {
+    pub(super) fn same(
+        &self,
+        table: &Table,
+        start: &Position,
+        size: usize,
+        judge: &mut Judge,
+    ) -> Vec<Block> {
+        let names = self.speaker.names();
+        let free = table.free(&start.parts);
+        let words: Vec<&str> = free.iter().map(|&byte| names[usize::from(byte)].as_str()).collect();
+        let mut blocks = vec![self.verdict("are the same", size)];
+        blocks.push(Block::Text(match (words.len(), start.apart.len()) {
+            (0 | 1, _) => {
+                "Every move of either is answered by the other, and so on from there.".into()
+            }
+            (_, 0) => format!(
+                "Every move of either is answered by the other, and so on from there, whichever of \
+                 the names {} are one.",
+                listed(&words)
+            ),
+            _ => format!(
+                "Every move of either is answered by the other, and so on from there, whichever of \
+                 the names {} are one, as long as these stay apart: {}.",
+                listed(&words),
+                self.speaker.pairs(&start.apart, &names)
+            ),
+        }));
+        blocks.push(Block::Text(
+            "They stay the same when names that are not held apart are merged later, when further \
+             names are held apart, and when one third part is set beside both."
+                .into(),
+        ));
+        if !start.apart.is_empty() {
+            let needed = fewest(table, start, &[], &start.apart, judge);
+            blocks.push(Block::Text(self.needed(&needed, start.apart.len())));
+        }
+        blocks
+    }
+
+    /// How much of the apart list is needed for "same".
+    fn needed(&self, needed: &Fewest, listed: usize) -> String {
+        let names = self.speaker.names();
+        match needed {
+            Fewest::Pairs(pairs) if pairs.is_empty() => {
+                "Nothing had to be held apart: without the apart list they are the same too.".into()
+            }
+            Fewest::Pairs(pairs) if pairs.len() == listed => format!(
+                "All that is held apart is needed; with fewer pairs than {} they are not the same.",
+                self.speaker.pairs(pairs, &names)
+            ),
+            Fewest::Pairs(pairs) => format!(
+                "The fewest that had to be apart: {} ({} of the {listed} pairs listed).",
+                self.speaker.pairs(pairs, &names),
+                pairs.len()
+            ),
+            Fewest::Enough(pairs) => format!(
+                "It is enough to hold apart {}; whether fewer pairs are enough was not found within \
+                 the limits.",
+                self.speaker.pairs(pairs, &names)
+            ),
+            Fewest::None | Fewest::Unknown => "How much of the apart list is needed was not found.".into(),
+        }
+    }
+
+    /// What could be held apart to make the parts the same.
+    pub(super) fn advice(
+        &self,
+        table: &Table,
+        start: &Position,
+        judge: &mut Judge,
+    ) -> Option<String> {
+        let names = self.speaker.names();
+        let free = table.free(&start.parts);
+        let all = free.iter().flat_map(|&a| free.iter().map(move |&b| (a, b)));
+        let others = ordered(all.filter(|(a, b)| a < b));
+        let others: Pairs = others.into_iter().filter(|pair| !start.apart.contains(pair)).collect();
+        if others.is_empty() {
+            return None;
+        }
+        let (pairs, fewer) = match fewest(table, start, &start.apart, &others, judge) {
+            Fewest::Pairs(pairs) => (pairs, "; no fewer pairs do"),
+            Fewest::Enough(pairs) => (pairs, ""),
+            Fewest::None => {
+                return Some("No names held apart would make them the same.".to_string());
+            }
+            Fewest::Unknown => return None,
+        };
+        let list: Vec<String> = pairs.iter().map(|pair| apart_words(pair, &names)).collect();
+        Some(format!("With `apart: {}` they would be the same{fewer}.", list.join(", ")))
+    }
+}
+
+/// A pair as an apart list has it.
+fn apart_words(pair: &(u8, u8), names: &Naming) -> String {
+    format!("{} {}", names[usize::from(pair.0)], names[usize::from(pair.1)])
+}
