@@ -152,6 +152,14 @@ impl Found {
         if entries.len() < all {
             self.passed_over.push((folder.to_string(), all - entries.len()));
         }
-        self.files.extend(entries.iter().map(|path| path.to_string_lossy().into_owned()));
+        for path in entries {
+            match path.to_str() {
+                Some(file) => self.files.push(file.to_string()),
+                None => {
+                    let reason = "its name is no text in UTF-8";
+                    self.unreadable.push(Unreadable::plain(&path.to_string_lossy(), reason));
+                }
+            }
+        }
     }
 }

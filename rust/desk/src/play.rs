@@ -132,10 +132,12 @@ impl Field {
         self.expanded.len() == self.positions.len()
     }
 
-    /// The first position that is past a limit, with the limit.
+    /// The first position that is past a limit of the library, or else one whose steps cannot be
+    /// listed, with the limit.
     pub fn first_limit(&self) -> Option<(usize, Limit)> {
         let limits = self.expanded.iter().enumerate();
-        limits.filter_map(|(number, expanded)| Some((number, *expanded.as_ref().err()?))).next()
+        let limits = limits.filter_map(|(at, expanded)| Some((at, *expanded.as_ref().err()?)));
+        limits.min_by_key(|&(at, limit)| (matches!(limit, Limit::Unlistable(_)), at))
     }
 
     fn expand(&mut self, number: usize) -> Result<Result<Expanded, Limit>, Stopped> {

@@ -37,6 +37,11 @@ impl Listed {
     pub fn step(&self) -> Step<'_> {
         Step::new(&self.0).expect("it was a step when it was copied")
     }
+
+    /// Whether it receives a name or sends a new one.
+    fn brings_name(&self) -> bool {
+        matches!(self.step().action(), Action::Input(..) | Action::NewOutput(..))
+    }
 }
 
 /// Why the steps of a position are not known.
@@ -127,19 +132,39 @@ impl Table {
         let new = Name::all().find(|name| !free.contains(&name.byte()));
         let mut lists = [Vec::new(), Vec::new()];
         for side in Side::BOTH {
-            let own = self.term(&position.parts[place(side)]).free_names();
+            let part = &position.parts[place(side)];
+            let own = self.term(part).free_names();
             let unused = || Name::all().find(|name| !own.contains(&name.byte()));
-            let new_here = new.or_else(unused).ok_or(Limit::Unlistable(side))?;
-            let list = self.listed(position, side, new_here).ok_or(Limit::Listing(side))?;
-            let brings_name = |listed: &Listed| {
-                matches!(listed.step().action(), Action::Input(..) | Action::NewOutput(..))
+            let Some(new_here) = new.or_else(unused) else {
+                return Err(match self.brings_name_when_merged(part) {
+                    true => Limit::Names(side),
+                    false => Limit::Unlistable(side),
+                });
             };
-            if new.is_none() && list.iter().any(brings_name) {
+            let list = self.listed(position, side, new_here).ok_or(Limit::Listing(side))?;
+            if new.is_none() && list.iter().any(Listed::brings_name) {
                 return Err(Limit::Names(side));
             }
             lists[place(side)] = list;
         }
         Ok(lists)
+    }
+
+    /// Whether a part in which all names are free receives or sends a new one. The library lists its
+    /// steps only with a name to spare, so two names are merged: that changes the conditions of
+    /// steps and not their kinds.
+    fn brings_name_when_merged(&mut self, part: &[u8]) -> bool {
+        let mut names = Name::all().rev();
+        let (Some(spare), Some(kept)) = (names.next(), names.next()) else { return false };
+        let position = Position { parts: [part.to_vec(), Term::nil().bytes()], apart: Vec::new() };
+        let bytes = self.question(&position);
+        let merged = Question::new(&bytes)
+            .and_then(|question| question.merge(kept, spare, &mut self.merging));
+        let Ok(merged) = merged else { return false };
+        let parts = Side::BOTH.map(|side| merged.part(side).to_vec());
+        let merged = Position { parts, apart: Vec::new() };
+        let list = self.listed(&merged, Side::First, spare);
+        list.is_some_and(|list| list.iter().any(Listed::brings_name))
     }
 
     /// The steps of one side, unless the library answers that a limit is passed.

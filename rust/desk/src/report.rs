@@ -38,8 +38,8 @@ padding:.5rem .7rem;margin:.3rem 0}\
 .drawing{display:flex;flex-wrap:wrap;gap:1rem;align-items:flex-start;margin:.5rem 0}\
 .drawing svg{flex:0 1 auto;min-width:0;max-width:100%;height:auto}\
 .move{color:#b02020}.legend{font-size:.85rem;color:#50607a}\
-@media print{body{max-width:none;padding:0;font-size:11pt}section{break-before:page}\
-.drawing,pre,.term{break-inside:avoid}a{color:inherit;text-decoration:none}}";
+@media print{body{max-width:none;padding:0;font-size:11pt}h2,h3{break-after:avoid}\
+.drawing,pre,.term,li{break-inside:avoid}a{color:inherit;text-decoration:none}}";
 
 /// The page on these files, worst first.
 pub fn report(found: Found, capacity: Capacity) -> Report {

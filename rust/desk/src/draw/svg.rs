@@ -16,8 +16,11 @@ const NODE_GAP: usize = 24;
 const BETWEEN: usize = 96;
 const TITLE: usize = 40;
 
-/// The most pairs that are drawn as arcs; they are told in words in any case.
-const ARCS: usize = 6;
+/// The width of a lane in which pairs of names are joined that are held apart.
+const LANE: usize = 18;
+
+/// The most pairs that are joined; all are told in words in any case.
+const JOINED: usize = 8;
 
 /// The look of all drawings. The page of a report has it once.
 pub const STYLE: &str = "\
@@ -45,6 +48,8 @@ struct Placed<'a> {
     boxes: Vec<(usize, usize)>,
     /// The middle of each name.
     nodes: Vec<usize>,
+    /// The names held apart that are joined, the upper first, and their lanes.
+    joined: Vec<((usize, usize), usize)>,
     width: usize,
     height: usize,
 }
@@ -73,9 +78,11 @@ impl<'a> Placed<'a> {
         let nodes = (0..panel.nodes.len())
             .map(|number| TITLE + spacing * number + (spacing - BOX_GAP.min(spacing)) / 2)
             .collect();
-        let arcs = if panel.apart.is_empty() { 0 } else { 56 };
-        let width = MARGIN + box_width + BETWEEN + node_width + arcs + MARGIN;
-        Placed { panel, box_width, node_width, boxes, nodes, width, height: TITLE + inner }
+        let joined = joined(&panel.apart);
+        let lanes = joined.iter().map(|&(_, lane)| LANE * (lane + 1)).max().unwrap_or(0);
+        let width = MARGIN + box_width + BETWEEN + node_width + lanes + MARGIN;
+        let height = TITLE + inner;
+        Placed { panel, box_width, node_width, boxes, nodes, joined, width, height }
     }
 
     fn node_left(&self) -> usize {
@@ -87,7 +94,7 @@ impl<'a> Placed<'a> {
         let mut svg = format!("<g transform=\"translate({left} 0)\">\n");
         let title = escaped(&self.panel.label);
         let _ = writeln!(svg, "<text class=\"title\" x=\"{MARGIN}\" y=\"24\">{title}</text>");
-        self.arcs(&mut svg);
+        self.apart(&mut svg);
         self.boxes(&mut svg);
         self.nodes(&mut svg);
         self.links(&mut svg);
@@ -121,7 +128,7 @@ impl<'a> Placed<'a> {
             let _ = writeln!(
                 svg,
                 "<rect class=\"{class}\" x=\"{left}\" y=\"{}\" width=\"{width}\" \
-                 height=\"{NODE}\" rx=\"15\"/>\n<text x=\"{}\" y=\"{}\" \
+                 height=\"{NODE}\" rx=\"9\"/>\n<text x=\"{}\" y=\"{}\" \
                  text-anchor=\"middle\">{}</text>",
                 middle - (NODE / 2).min(middle),
                 left + width / 2,
@@ -174,20 +181,46 @@ impl<'a> Placed<'a> {
         }
     }
 
-    fn arcs(&self, svg: &mut String) {
+    /// The lines that join names held apart, in the lanes to the right of the names.
+    fn apart(&self, svg: &mut String) {
         let right = self.node_left() + self.node_width;
-        for (number, &(a, b)) in self.panel.apart.iter().take(ARCS).enumerate() {
-            let (from, to) = (self.nodes[a.min(b)], self.nodes[a.max(b)]);
-            let reach = right + 20 + 8 * (number % 3);
+        for &((upper, lower), lane) in &self.joined {
+            // It begins beneath the name, whose corners are round.
+            let (start, x) = (right - 9, right + LANE * (lane + 1) - 4);
+            let aside = (3 + 3 * lane).min(NODE / 2 - 3);
+            let (from, to) = (self.nodes[upper] + aside, self.nodes[lower] - aside);
             let _ = writeln!(
                 svg,
-                "<path class=\"apart\" d=\"M{right} {from}C{reach} {from} {reach} {to} {right} \
-                 {to}\"/>\n<text class=\"apart-sign\" x=\"{}\" y=\"{}\">≠</text>",
-                right + 3 * (reach - right) / 4 + 3,
+                "<path class=\"apart\" d=\"M{start} {from}H{}Q{x} {from} {x} {}V{}Q{x} {to} {} \
+                 {to}H{start}\"/>\n<text class=\"apart-sign\" x=\"{x}\" y=\"{}\" \
+                 text-anchor=\"middle\">≠</text>",
+                x - 5,
+                from + 5,
+                to - 5,
+                x - 5,
                 (from + to) / 2 + 5
             );
         }
     }
+}
+
+/// Pairs of names, the upper first, each in the first lane in which it crosses no shorter one.
+fn joined(apart: &[(usize, usize)]) -> Vec<((usize, usize), usize)> {
+    let mut pairs: Vec<(usize, usize)> =
+        apart.iter().take(JOINED).map(|&(a, b)| (a.min(b), a.max(b))).collect();
+    pairs.sort_by_key(|&(upper, lower)| (lower - upper, upper));
+    let mut joined: Vec<((usize, usize), usize)> = Vec::new();
+    for (upper, lower) in pairs {
+        let is_free = |lane: &usize| {
+            let crosses = |&((a, b), other): &((usize, usize), usize)| {
+                other == *lane && a < lower && upper < b
+            };
+            !joined.iter().any(crosses)
+        };
+        let lane = (0..).find(is_free).unwrap_or(0);
+        joined.push(((upper, lower), lane));
+    }
+    joined
 }
 
 /// The head of an arrow whose point is here, to the right or to the left.

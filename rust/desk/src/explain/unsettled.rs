@@ -9,6 +9,9 @@ use crate::telling::Block;
 use crate::words::{counted, Naming};
 use exchange::{Capacity, Judge, Side, Verdict};
 
+/// The most moves to a limit that are told.
+const MOVES: usize = 8;
+
 impl Teller<'_> {
     pub(super) fn unsettled(&self, table: Table, start: Position) -> Vec<Block> {
         let situations = self.capacity.situations();
@@ -65,17 +68,22 @@ impl Teller<'_> {
         let position = &field.positions[number];
         let (side, which, advice) = self.limit_words(field, position, limit);
         let part = field.table().term(&position.parts[place(side)]);
-        let names = self.names_of(field, number);
+        let (names, moves) = self.way_to(field, number);
         let label = self.exchange.label(side);
-        let moves = match field.path(number).len() {
+        let mut blocks = Vec::new();
+        if !moves.is_empty() && moves.len() <= MOVES {
+            blocks.push(Block::Text("Answered moves that lead to a limit:".to_string()));
+            blocks.extend(moves.iter().cloned().map(Block::Item));
+        }
+        let after = match moves.len() {
             0 => "At the start".to_string(),
             moves => format!("After {}", counted(moves, "answered move")),
         };
-        vec![
-            Block::Text(format!("{moves}, {label} is past a limit: {which}. It is then:")),
-            Block::Term(label.to_string(), shortened(&self.speaker.term(&part, &names))),
-            Block::Text(format!("A larger capacity does not help. {advice}")),
-        ]
+        let term = shortened(&self.speaker.term(&part, &names));
+        blocks.push(Block::Text(format!("{after}, {label} is past a limit: {which}. It is then")));
+        blocks.push(Block::Term(label.to_string(), term));
+        blocks.push(Block::Text(format!("A larger capacity does not help. {advice}")));
+        blocks
     }
 
     fn limit_words(
@@ -91,7 +99,12 @@ impl Teller<'_> {
                 let (which, advice) = listing(&term, self.exchange);
                 (side, which, advice)
             }
-            Limit::Names(side) | Limit::Unlistable(side) => (
+            Limit::Unlistable(side) => (
+                side,
+                format!("all {count} names are in use, so that its steps cannot be listed"),
+                "Try fewer names.",
+            ),
+            Limit::Names(side) => (
                 side,
                 format!("all {count} names are in use, and a new one is needed"),
                 "Try a definition that passes on fewer names, or names that are one from the start.",
@@ -99,17 +112,25 @@ impl Teller<'_> {
         }
     }
 
-    /// What the names of a position are called: those of the file, and new ones for those that came
-    /// with the moves to it.
-    fn names_of(&self, field: &Field, number: usize) -> Naming {
+    /// What the names of a position are called, and the moves to it in words. Names that came with
+    /// the moves have new words.
+    fn way_to(&self, field: &Field, number: usize) -> (Naming, Vec<String>) {
         let mut names = self.speaker.names();
+        let mut moves = Vec::new();
         for origin in field.path(number) {
             let Some(step) = field.step(origin) else { continue };
             let part = &field.positions[origin.position].parts[place(origin.side)];
             let mover = field.table().term(part);
-            names = self.speaker.names_after(&names, step, &mover, field.table());
+            let after = self.speaker.names_after(&names, step, &mover, field.table());
+            let told = self.speaker.action(step.action(), &after);
+            let label = self.exchange.label(origin.side);
+            moves.push(match self.speaker.condition(step, &names) {
+                Some(condition) => format!("if {condition}, {label} {told}"),
+                None => format!("{label} {told}"),
+            });
+            names = after;
         }
-        names
+        (names, moves)
     }
 }
 
