@@ -53,7 +53,7 @@ impl Fault {
     /// The fault with the rule of the library that it breaks.
     pub fn rule(mut self, refusal: Refusal) -> Fault {
         self.refusal = Some(refusal);
-        self.notes.push(format!("rule {}: {}", refusal.rule(), refusal.text()));
+        self.notes.insert(0, format!("rule {}: {}", refusal.rule(), refusal.text()));
         self
     }
 

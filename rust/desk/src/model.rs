@@ -92,7 +92,11 @@ pub fn question(book: &[(u8, Vec<u8>)], first: &[u8], second: &[u8], apart: &[u8
     bytes
 }
 
-/// The letter for a free name that nobody named.
+/// The letter for a free name that nobody named; after z come a1, b1 and so on.
 fn letter(byte: u8) -> String {
-    char::from(b'a' + byte % 26).to_string()
+    let letter = char::from(b'a' + byte % 26);
+    match byte / 26 {
+        0 => letter.to_string(),
+        round => format!("{letter}{round}"),
+    }
 }

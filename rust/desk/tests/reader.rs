@@ -41,9 +41,9 @@ fn lines_may_go_on_and_names_may_be_ordered() {
 fn faults_are_told_with_their_place() {
     let part = |term: &str| fault(&format!("old = {term}\nnew = 0\n"));
     assert_eq!(part("a(x) | 0"), "f:1:12: expected `.`, found `|`");
-    assert_eq!(part("a"), "f:2:1: expected `(` or `<`, found `new`");
+    assert_eq!(part("a"), "f:1:8: expected `(` or `<`, found the end of the line");
     assert_eq!(part("a(X).0"), "f:1:9: expected a name, found `X`");
-    assert_eq!(part("(a(x).0"), "f:2:1: expected `)`, found `new`");
+    assert_eq!(part("(a(x).0"), "f:1:14: expected `)`, found the end of the line");
     assert_eq!(part("[a=b 0"), "f:1:12: expected `]`, found `0`");
     assert_eq!(part("0 0"), "f:1:9: expected `+`, `|` or the end of the line, found `0`");
     assert_eq!(

@@ -99,7 +99,12 @@ impl Statements {
             let found = if found == 0 { "there is none" } else { "there is one" };
             let message = format!("an exchange has two parts, and {found}");
             let fault = Fault::new(parser.here().span, message, "expected a part here");
-            return Err(fault.help("a part is a line such as `old = entry(x).0`"));
+            return Err(fault.help(match self.definitions.is_empty() {
+                true => "a part is a line such as `old = entry(x).0`",
+                false => {
+                    "a part is a line such as `old = entry(x).0`; it begins with a small letter"
+                }
+            }));
         };
         let (labels, parts) = ([first.0, second.0], [first.1, second.1]);
         let names = parser.scope.into_free();
@@ -151,11 +156,18 @@ impl<'a> Parser<'a> {
         }
     }
 
-    /// The fault that something else stands here.
+    /// The fault that something else stands here. What is missing at the end of a line is missed
+    /// there, and not where the next line begins.
     pub fn expected(&self, what: &str, label: &str) -> Fault {
         let here = self.here();
-        let message = format!("expected {what}, found {}", here.token.told());
-        Fault::new(here.span, message, label)
+        let before = self.at.checked_sub(1).map(|before| self.lexemes[before].span);
+        let (found, span) = match (here.begins_line && here.token != Token::End, before) {
+            (true, Some(Span { end, .. })) => {
+                ("the end of the line".to_string(), Span { start: end, end: end + 1 })
+            }
+            _ => (here.token.told(), here.span),
+        };
+        Fault::new(span, format!("expected {what}, found {found}"), label)
     }
 
     /// Passes a name, which must be here.
@@ -196,9 +208,12 @@ impl<'a> Parser<'a> {
             _ if !here.begins_line => Err(self
                 .expected("`+`, `|` or the end of the line", "the term has ended before this")
                 .help("a term that stands in a longer one may need parentheses")),
-            _ => Err(self
-                .expected("a definition, a part or a list of names", "no statement begins so")
-                .help("a line is `K(a) = …`, `old = …`, `apart: a b` or `names: a b`")),
+            _ => {
+                let what = "a definition, a part or a list of names";
+                let message = format!("expected {what}, found {}", here.token.told());
+                Err(Fault::new(here.span, message, "no statement begins so")
+                    .help("a line is `K(a) = …`, `old = …`, `apart: a b` or `names: a b`"))
+            }
         }
     }
 
@@ -303,7 +318,9 @@ impl<'a> Parser<'a> {
             group.push((name, span));
         }
         match group.len() {
-            0 | 1 => Err(self.expected("another name", "names are held apart by twos or more")),
+            0 | 1 => Err(self
+                .expected("another name", "names are held apart by twos or more")
+                .help("write `apart: a b`; a `,` stands between groups")),
             _ => Ok(()),
         }
     }

@@ -48,7 +48,7 @@ impl<'a> Parser<'a> {
         let term = match (here.token, self.ahead(1).token) {
             (Token::Sign('0'), _) => self.nil(),
             (Token::Small("tau"), _) => self.silent(),
-            (Token::Small("new"), _) => Err(self
+            (Token::Small("new"), _) if !here.begins_line => Err(self
                 .expected(TERM, "a restriction stands in parentheses")
                 .help("write `(new x)P`")),
             (Token::Small(_), Token::Sign('(')) => self.input(),
@@ -57,7 +57,7 @@ impl<'a> Parser<'a> {
             (Token::Sign('('), Token::Small("new")) => self.restriction(),
             (Token::Sign('('), _) => self.parentheses(),
             (Token::Sign('['), _) => self.matching(),
-            (Token::Small(_), _) => {
+            (Token::Small(_), _) if !here.begins_line => {
                 self.pass();
                 Err(self
                     .expected("`(` or `<`", "a name begins an input `a(x).` or an output `a<b>.`"))
@@ -218,6 +218,7 @@ impl<'a> Parser<'a> {
         }
         let names = |count| if count == 1 { "1 name".into() } else { format!("{count} names") };
         let message = format!("{} takes {}, found {}", token.told(), names(arity), names(given));
-        Err(Fault::new(span, message, format!("expected {}", names(arity))))
+        Err(Fault::new(span, message, format!("expected {}", names(arity)))
+            .help("give one name for each parameter of the definition"))
     }
 }
