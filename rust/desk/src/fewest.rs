@@ -3,8 +3,9 @@
 use crate::position::{ordered, Pairs, Position, Table};
 use exchange::{Answer, Judge, Verdict};
 
-/// How many judgings a search may take.
-const JUDGINGS: usize = 2_000;
+/// How many situations a search may have looked at, and how many a judging counts for at least.
+const SITUATIONS: usize = 100_000;
+const LEAST: usize = 50;
 
 /// What a search for the fewest pairs found.
 #[derive(Clone, PartialEq, Eq, Debug)]
@@ -28,9 +29,9 @@ pub fn fewest(
     candidates: &[(u8, u8)],
     judge: &mut Judge,
 ) -> Fewest {
-    let mut search = Search { table, start, anyway, judge, judgings: 0, unsettled: false };
+    let mut search = Search { table, start, anyway, judge, spent: 0, unsure: false };
     if !search.is_same(candidates) {
-        return if search.unsettled { Fewest::Unknown } else { Fewest::None };
+        return if search.unsure { Fewest::Unknown } else { Fewest::None };
     }
     let enough = search.irredundant(candidates);
     let (needed, others): (Pairs, Pairs) = candidates.iter().partition(|&&pair| {
@@ -39,13 +40,13 @@ pub fn fewest(
     });
     for more in 0..enough.len().saturating_sub(needed.len()) {
         match search.with(&needed, &others, more) {
-            Some(Some(pairs)) if search.unsettled => return Fewest::Enough(ordered(pairs)),
+            Some(Some(pairs)) if search.unsure => return Fewest::Enough(ordered(pairs)),
             Some(Some(pairs)) => return Fewest::Pairs(ordered(pairs)),
             Some(None) => {}
             None => return Fewest::Enough(enough),
         }
     }
-    match search.unsettled {
+    match search.unsure {
         true => Fewest::Enough(enough),
         false => Fewest::Pairs(enough),
     }
@@ -56,18 +57,32 @@ struct Search<'a> {
     start: &'a Position,
     anyway: &'a [(u8, u8)],
     judge: &'a mut Judge,
-    judgings: usize,
-    unsettled: bool,
+    /// How many situations were looked at.
+    spent: usize,
+    /// Whether a judging was unsettled or one too many, so that "not the same" is not sure.
+    unsure: bool,
 }
 
 impl Search<'_> {
+    /// Whether the library says "same" with these pairs.
     fn is_same(&mut self, pairs: &[(u8, u8)]) -> bool {
-        self.judgings += 1;
+        if self.spent >= SITUATIONS {
+            self.unsure = true;
+            return false;
+        }
         let pairs = self.anyway.iter().chain(pairs).copied();
         let position = self.table.position(self.start.parts.clone(), pairs);
-        let judged = self.table.judged(&position, self.judge);
-        self.unsettled |= matches!(judged, Ok(Answer::Unsettled));
-        matches!(judged, Ok(Answer::Result(Verdict::Same(_))))
+        let judged = self.table.judged(&position, self.judge).unwrap_or(Answer::Unsettled);
+        let (same, size) = match judged {
+            Answer::Result(Verdict::Same(size)) => (true, size),
+            Answer::Result(Verdict::Different(size)) => (false, size),
+            Answer::Unsettled => {
+                self.unsure = true;
+                (false, self.judge.capacity().situations() as usize)
+            }
+        };
+        self.spent += size.max(LEAST);
+        same
     }
 
     /// The pairs without each that can be left out when it is its turn.
@@ -83,11 +98,11 @@ impl Search<'_> {
     }
 
     /// The needed pairs with this many of the others, if these are enough; nothing at all if the
-    /// search takes too many judgings.
+    /// search has looked at too many situations.
     fn with(&mut self, needed: &Pairs, others: &Pairs, more: usize) -> Option<Option<Pairs>> {
         let mut places: Vec<usize> = (0..more).collect();
         loop {
-            if self.judgings >= JUDGINGS {
+            if self.spent >= SITUATIONS {
                 return None;
             }
             let chosen = places.iter().map(|&place| others[place]);

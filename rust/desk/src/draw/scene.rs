@@ -12,7 +12,7 @@ use crate::words::Speaker;
 use exchange::Side;
 
 /// The width of a component's text in letters.
-const LETTERS: usize = 30;
+const LETTERS: usize = 26;
 
 /// A box.
 pub struct Drawn {

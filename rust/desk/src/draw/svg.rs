@@ -13,7 +13,7 @@ const PADDING: usize = 12;
 const BOX_GAP: usize = 26;
 const NODE: usize = 30;
 const NODE_GAP: usize = 24;
-const BETWEEN: usize = 96;
+const BETWEEN: usize = 84;
 const TITLE: usize = 40;
 
 /// The width of a lane in which pairs of names are joined that are held apart.
