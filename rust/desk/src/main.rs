@@ -2,7 +2,7 @@
 
 #![forbid(unsafe_code)]
 
-use desk::draw::{self, Merged, Scene, Unmerged};
+use desk::draw::{self, Merged, Unmerged};
 use desk::explain::{explain, play};
 use desk::input::{self, Found, Unreadable};
 use desk::judging::{self, Outcome};
@@ -66,7 +66,7 @@ fn draw(file: &str, merged: &[(String, String)], capacity: Capacity) -> Result<S
         Unreadable::plain(file, &reason)
     })?;
     let play = play(merged.exchange(), capacity);
-    Ok(draw::file(&Scene::new(&merged, &exchange, play.as_ref())))
+    Ok(draw::file(&draw::scenes(&merged, &exchange, play.as_ref())))
 }
 
 fn judge(named: &[String], capacity: Capacity) -> Result<u8, Unreadable> {

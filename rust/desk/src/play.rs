@@ -268,10 +268,21 @@ impl Play {
 
     /// The pairs of names that the first move merges, by their bytes.
     pub fn merged_first(&self) -> Vec<(u8, u8)> {
-        let Some((expanded, best)) = self.best(0) else { return Vec::new() };
-        let step = expanded.lists[place(best.side)][best.step].step();
+        let Some((_, step)) = self.best_step(0) else { return Vec::new() };
         let merged = exchange::Name::all().filter(|&name| step.class(name) != name);
         merged.map(|name| (step.class(name).byte(), name.byte())).collect()
+    }
+
+    /// The side that moves by which the play goes on, and its step.
+    pub fn best_step(&self, position: usize) -> Option<(Side, Step<'_>)> {
+        let (expanded, best) = self.best(position)?;
+        Some((best.side, expanded.lists[place(best.side)][best.step].step()))
+    }
+
+    /// The position after the answer that holds out longest against that move, if there is one.
+    pub fn longest_answer(&self, position: usize) -> Option<usize> {
+        let (_, best) = self.best(position)?;
+        best.answers.iter().map(|&(_, to)| to).max_by_key(|&to| self.ranks[to])
     }
 
     /// The move by which the play goes on: of those that go down in rank, the one with the fewest

@@ -1,6 +1,6 @@
 //! One page on many files.
 
-use crate::draw::{panels, Merged, Scene, LEGEND, STYLE};
+use crate::draw::{panels, scenes, Merged, Scene, LEGEND, STYLE};
 use crate::explain::{explain, play, Explanation};
 use crate::input::{self, Found, Unreadable};
 use crate::judging::{at_once, counts, Outcome};
@@ -110,10 +110,11 @@ fn section(file: &str, capacity: Capacity) -> Section {
     }
 }
 
-/// The drawing of the exchange, and, if the first move of its play merges names, with those merged.
+/// The drawing of the exchange and of the end of its play, and, if the first move of the play merges
+/// names, both with those merged.
 fn drawings(exchange: &Exchange, explanation: &Explanation, capacity: Capacity) -> String {
     let play_here = explanation.play.as_ref();
-    let mut drawings = drawing(&Merged::nothing(exchange), exchange, play_here);
+    let mut drawings = drawing(&scenes(&Merged::nothing(exchange), exchange, play_here));
     let merged = play_here.map(Play::merged_first).unwrap_or_default();
     let word = |byte: u8| exchange.names[usize::from(byte)].clone();
     let pairs: Vec<_> = merged.into_iter().map(|(a, b)| (word(a), word(b))).collect();
@@ -122,20 +123,26 @@ fn drawings(exchange: &Exchange, explanation: &Explanation, capacity: Capacity) 
     }
     if let Ok(merged) = Merged::new(exchange, &pairs) {
         let names: Vec<String> = pairs.iter().map(|(a, b)| format!("{a} = {b}")).collect();
+        let play = play(merged.exchange(), capacity);
         drawings += &format!("<h3>With {}</h3>\n", escaped(&names.join(", ")));
-        drawings += &drawing(&merged, exchange, play(merged.exchange(), capacity).as_ref());
+        drawings += &drawing(&scenes(&merged, exchange, play.as_ref()));
     }
     drawings
 }
 
-fn drawing(merged: &Merged, exchange: &Exchange, play: Option<&Play>) -> String {
-    let scene = Scene::new(merged, exchange, play);
-    let mut drawing = format!("<div class=\"drawing\">\n{}</div>\n", panels(&scene).concat());
-    if let Some(move_told) = &scene.told {
-        drawing += &format!("<p class=\"move\">{}</p>\n", escaped(move_told));
-    }
-    if !scene.apart.is_empty() {
-        drawing += &format!("<p>Held apart: {}.</p>\n", escaped(&scene.apart.join(", ")));
+fn drawing(scenes: &[(String, Scene)]) -> String {
+    let mut drawing = String::new();
+    for (heading, scene) in scenes {
+        if !heading.is_empty() {
+            drawing += &format!("<h3>{}</h3>\n", escaped(heading));
+        }
+        drawing += &format!("<div class=\"drawing\">\n{}</div>\n", panels(scene).concat());
+        if let Some(move_told) = &scene.told {
+            drawing += &format!("<p class=\"move\">{}</p>\n", escaped(move_told));
+        }
+        if !scene.apart.is_empty() {
+            drawing += &format!("<p>Held apart: {}.</p>\n", escaped(&scene.apart.join(", ")));
+        }
     }
     drawing
 }

@@ -76,7 +76,7 @@ desk draw [--merge a=b]… [--capacity N] FILE -o FILE.svg
 
 Draws the two parts side by side: components as boxes, names as nodes, a line from a box to each name
 that it uses. Names merged are one node, names held apart are marked, and the first move of the play
-that tells the parts apart is drawn in another colour.
+that tells the parts apart is drawn in another colour; below, if the play is longer, its last move.
 
     --merge a=b     draw a and b as one name; may be given several times
     --capacity N    look at up to N situations for the play, 1 to 4096; 256 if not given

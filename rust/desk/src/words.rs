@@ -1,13 +1,20 @@
 //! Steps and names in words.
 
-use crate::model::Exchange;
-use crate::position::{action_under, Table};
+use crate::model::{place, Exchange};
+use crate::position::{action_under, Position, Table};
 use crate::term::{Head, Name as TermName, Term};
 use crate::text::{Printer, Words};
-use exchange::{Action, Name, Step};
+use exchange::{Action, Name, Side, Step};
 
 /// What the free names of a position are called, by their bytes.
 pub type Naming = Vec<String>;
+
+/// A word for every name, which is empty for those that are not in use.
+pub fn all_names(names: &[String]) -> Naming {
+    let mut names = names.to_vec();
+    names.resize(Name::COUNT, String::new());
+    names
+}
 
 /// The words of an exchange, for its positions.
 pub struct Speaker<'a> {
@@ -43,9 +50,7 @@ impl<'a> Speaker<'a> {
 
     /// The names as the file has them.
     pub fn names(&self) -> Naming {
-        let mut names = self.exchange.names.clone();
-        names.resize(Name::COUNT, String::new());
-        names
+        all_names(&self.exchange.names)
     }
 
     /// A term of a position.
@@ -65,12 +70,14 @@ impl<'a> Speaker<'a> {
         pairs.iter().map(pair).collect::<Vec<_>>().join("; ")
     }
 
-    /// The names after a step: a name that it brings gets a word that no other name has.
+    /// The names after a step of this side: a name that it brings gets a word that no other name
+    /// of the position or the file has.
     pub fn names_after(
         &self,
         names: &Naming,
+        position: &Position,
+        side: Side,
         step: Step<'_>,
-        mover: &Term,
         table: &Table,
     ) -> Naming {
         let mut names = names.clone();
@@ -79,15 +86,13 @@ impl<'a> Speaker<'a> {
             Action::NewOutput(channel, new) => (channel, new, Head::NewOutput),
             _ => return names,
         };
-        let result = table.term(step.result()).free_names();
+        let free = table.free(&position.parts);
         let taken = |word: &str| {
-            let in_use = |(byte, name): (usize, &String)| {
-                name == word && byte != new.place() && result.contains(&(byte as u8))
-            };
-            self.exchange.names.iter().any(|name| name == word)
-                || names.iter().enumerate().any(in_use)
+            let mut in_use = free.iter().map(|&byte| &names[usize::from(byte)]);
+            in_use.any(|name| name == word) || self.exchange.names.iter().any(|name| name == word)
         };
-        let hint = self.bound_by(mover, head, channel, step).unwrap_or_else(|| "x".to_string());
+        let mover = table.term(&position.parts[place(side)]);
+        let hint = self.bound_by(&mover, head, channel, step).unwrap_or_else(|| "x".to_string());
         let more = (2..).map(|number| format!("{hint}{number}"));
         let word = std::iter::once(hint.clone()).chain(more).find(|word| !taken(word));
         names[new.place()] = word.unwrap_or(hint);

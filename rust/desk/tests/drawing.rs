@@ -1,6 +1,6 @@
 //! Drawings and pages are well-formed and hold what they should.
 
-use desk::draw::{file, Merged, Scene, Unmerged};
+use desk::draw::{file, scenes, Merged, Unmerged};
 use desk::explain::play;
 use desk::input::found;
 use desk::model::Exchange;
@@ -17,7 +17,7 @@ fn drawing(exchange: &Exchange, pairs: &[(&str, &str)]) -> Result<String, Unmerg
     let pairs: Vec<_> = pairs.iter().map(|(a, b)| (a.to_string(), b.to_string())).collect();
     let merged = Merged::new(exchange, &pairs)?;
     let play = play(merged.exchange(), Capacity::default());
-    Ok(file(&Scene::new(&merged, exchange, play.as_ref())))
+    Ok(file(&scenes(&merged, exchange, play.as_ref())))
 }
 
 /// Panics unless every tag is closed in order, every attribute is quoted and every sign that has a
@@ -72,6 +72,16 @@ fn a_drawing_holds_boxes_names_and_the_move() {
     assert!(svg.contains("Held apart: entry ≠ card."));
     assert!(svg.contains(">office&lt;card&gt;.0</text>"));
     assert!(count("box moves") > 0 && count("head moves") > 0 && count("told moves") > 0);
+}
+
+#[test]
+fn a_longer_play_is_drawn_to_its_end() {
+    let source = "old = desk(reply).[reply=office]office<desk>.0\nnew = desk(reply).0\n";
+    let svg = drawing(&text::read(source).expect("an exchange"), &[]).expect("a drawing");
+    assert_well_formed(&svg);
+    assert!(svg.contains(">After 1 answered move</text>"));
+    assert!(svg.contains("If office and reply are one name: old sends desk on office, and new"));
+    assert_eq!(svg.matches("class=\"box moves\"").count(), 2);
 }
 
 #[test]

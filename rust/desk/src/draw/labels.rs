@@ -2,19 +2,19 @@
 
 use super::components::{Component, Known, Pieces};
 use super::merged::Merged;
-use crate::words::Speaker;
+use crate::words::{all_names, Naming, Speaker};
 
 /// The words in one panel.
 pub struct Labels<'a> {
     merged: &'a Merged,
     speaker: &'a Speaker<'a>,
-    names: Vec<String>,
+    names: Naming,
     privates: Vec<String>,
 }
 
 impl<'a> Labels<'a> {
     pub fn new(merged: &'a Merged, pieces: &Pieces<'_>, speaker: &'a Speaker<'a>) -> Labels<'a> {
-        let names = speaker.names();
+        let names = all_names(&merged.exchange().names);
         let mut privates: Vec<String> = Vec::new();
         for (restriction, around) in &pieces.restrictions {
             let binders: Vec<String> =

@@ -8,7 +8,7 @@ use crate::model::{place, Exchange};
 use crate::play::Play;
 use crate::position::{ordered, Table};
 use crate::telling::wrapped_term;
-use crate::words::Speaker;
+use crate::words::{all_names, Speaker};
 use exchange::Side;
 
 /// The width of a component's text in letters.
@@ -69,12 +69,12 @@ pub struct Scene {
 }
 
 impl Scene {
-    /// What is to be drawn of an exchange, with the first move of its play. The words are those of
-    /// the exchange before names were merged.
-    pub fn new(merged: &Merged, words: &Exchange, play: Option<&Play>) -> Scene {
+    /// What is to be drawn of an exchange, with the move of a play in one of its positions. The words
+    /// for bound names are those of the exchange that a person wrote.
+    pub fn new(merged: &Merged, words: &Exchange, at: Option<(&Play, usize)>) -> Scene {
         let exchange = merged.exchange();
-        let shown = play.and_then(|play| Shown::of(exchange, words, play));
         let speaker = Speaker::new(words);
+        let shown = at.and_then(|(play, position)| Shown::of(exchange, &speaker, play, position));
         let panels = Side::BOTH.map(|side| {
             let part = &exchange.parts[place(side)];
             let pieces = Pieces::of(part, exchange);
@@ -140,7 +140,7 @@ impl Builder<'_> {
     }
 }
 
-/// The first move of the play.
+/// A move of the play.
 struct Shown {
     side: Side,
     step: Vec<u8>,
@@ -155,22 +155,25 @@ impl Shown {
         step.map_or(Vec::new(), |step| movers(pieces, part, step, &mut Table::new(exchange)))
     }
 
-    fn of(exchange: &Exchange, words: &Exchange, play: &Play) -> Option<Shown> {
-        let (expanded, best) = play.best(0)?;
-        let step = expanded.lists[place(best.side)][best.step].step();
-        let speaker = Speaker::new(words);
-        let names = speaker.names();
-        let mover = &exchange.parts[place(best.side)];
-        let after = speaker.names_after(&names, step, mover, play.field.table());
+    fn of(
+        exchange: &Exchange,
+        speaker: &Speaker<'_>,
+        play: &Play,
+        position: usize,
+    ) -> Option<Shown> {
+        let (side, step) = play.best_step(position)?;
+        let names = all_names(&exchange.names);
+        let here = &play.field.positions[position];
+        let after = speaker.names_after(&names, here, side, step, play.field.table());
         let action = speaker.action(step.action(), &after);
-        let (label, other) = (exchange.label(best.side), exchange.label(best.side.other()));
+        let (label, other) = (exchange.label(side), exchange.label(side.other()));
         let condition = speaker.condition(step, &names);
         let condition = condition.map_or(String::new(), |condition| format!("If {condition}: "));
-        let fails = match best.answers.is_empty() {
-            true => format!("{other} has no answer"),
-            false => format!("no answer of {other} keeps up"),
+        let fails = match play.longest_answer(position) {
+            None => format!("{other} has no answer"),
+            Some(_) => format!("no answer of {other} keeps up"),
         };
         let told = format!("{condition}{label} {action}, and {fails}.");
-        Some(Shown { side: best.side, step: step.bytes().to_vec(), told })
+        Some(Shown { side, step: step.bytes().to_vec(), told })
     }
 }

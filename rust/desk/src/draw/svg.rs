@@ -246,32 +246,60 @@ pub fn panels(scene: &Scene) -> [String; 2] {
     })
 }
 
-/// The whole drawing as a file.
-pub fn file(scene: &Scene) -> String {
-    let placed = scene.panels.each_ref().map(Placed::new);
-    let width = placed.iter().map(|placed| placed.width).sum::<usize>() + 2 * MARGIN;
-    let height = placed.iter().map(|placed| placed.height).max().unwrap_or(0);
-    let middle = placed[0].width + MARGIN;
-    let mut inner = format!(
-        "<rect width=\"100%\" height=\"100%\" fill=\"#fff\"/>\n<path d=\"M{middle} 12V{height}\" \
-         stroke=\"#c8d0dc\"/>\n"
-    );
-    inner += &placed[0].drawn(0);
-    inner += &placed[1].drawn(middle + MARGIN);
-    let mut y = height + 8;
-    for (class, line) in told(scene, (width - 2 * MARGIN) / 8) {
-        y += 22;
-        let line = escaped(&line);
-        let _ = writeln!(inner, "<text class=\"{class}\" x=\"{MARGIN}\" y=\"{y}\">{line}</text>");
+/// Drawings with their headings, one below the other, as a file.
+pub fn file(scenes: &[(String, Scene)]) -> String {
+    let rows = scenes.iter().map(|(heading, scene)| (heading, scene, scene.panels.each_ref()));
+    let rows: Vec<_> =
+        rows.map(|(heading, scene, panels)| (heading, scene, panels.map(Placed::new))).collect();
+    let row_width = |row: &[Placed<'_>; 2]| row[0].width + row[1].width + 2 * MARGIN;
+    let width = rows.iter().map(|(_, _, row)| row_width(row)).max().unwrap_or(0);
+    let letters = (width - 2 * MARGIN) / 8;
+    let mut inner = "<rect width=\"100%\" height=\"100%\" fill=\"#fff\"/>\n".to_string();
+    let mut y = 0;
+    for (heading, scene, row) in &rows {
+        if !heading.is_empty() {
+            y += 22;
+            lines(&mut inner, &mut y, [("title", heading.to_string())]);
+            y += 10;
+        }
+        side_by_side(&mut inner, row, y);
+        y += row.iter().map(|placed| placed.height).max().unwrap_or(0) + 8;
+        lines(&mut inner, &mut y, told(scene, letters));
     }
+    let legend = wrapped_words(LEGEND, letters).into_iter().map(|line| ("told", line));
+    lines(&mut inner, &mut y, legend);
     let style = format!("<style>{STYLE}</style>\n");
-    let title = format!("{} and {}", scene.panels[0].label, scene.panels[1].label);
+    let panels = &scenes.first().map(|(_, scene)| &scene.panels);
+    let title = panels.map_or(String::new(), |[a, b]| format!("{} and {}", a.label, b.label));
     image(width, y + MARGIN, &title, &inner, &style)
+}
+
+/// The two parts of a drawing, with their upper edge here.
+fn side_by_side(svg: &mut String, row: &[Placed<'_>; 2], top: usize) {
+    let middle = row[0].width + MARGIN;
+    let bottom = row.iter().map(|placed| placed.height).max().unwrap_or(0);
+    let _ = writeln!(
+        svg,
+        "<g transform=\"translate(0 {top})\">\n<path d=\"M{middle} 12V{bottom}\" \
+         stroke=\"#c8d0dc\"/>"
+    );
+    svg.push_str(&row[0].drawn(0));
+    svg.push_str(&row[1].drawn(middle + MARGIN));
+    svg.push_str("</g>\n");
+}
+
+/// Lines of text, each with its class, from here downward.
+fn lines(svg: &mut String, y: &mut usize, lines: impl IntoIterator<Item = (&'static str, String)>) {
+    for (class, line) in lines {
+        *y += 22;
+        let line = escaped(&line);
+        let _ = writeln!(svg, "<text class=\"{class}\" x=\"{MARGIN}\" y=\"{y}\">{line}</text>");
+    }
 }
 
 /// What the signs of a drawing mean.
 pub const LEGEND: &str = "An arrow into a box: it receives on that name; into a name: it sends. \
-Dotted: it only mentions the name. Dashed name: private. ≠: held apart. Red: the first move of the \
+Dotted: it only mentions the name. Dashed name: private. ≠: held apart. Red: the move of the \
 shortest play.";
 
 /// The lines below the parts, with their classes.
@@ -286,7 +314,6 @@ fn told(scene: &Scene, letters: usize) -> Vec<(&'static str, String)> {
     if !scene.apart.is_empty() {
         tell("told", &format!("Held apart: {}.", scene.apart.join(", ")));
     }
-    tell("told", LEGEND);
     lines
 }
 

@@ -3,10 +3,10 @@
 use super::Teller;
 use crate::model::place;
 use crate::play::{Expanded, Field, Move, Play, Stopped};
-use crate::position::{Limit, Position, Table};
+use crate::position::{action_under, Limit, Listed, Position, Table};
 use crate::telling::Block;
 use crate::words::{counted, Naming};
-use exchange::{Answer, Judge, Verdict};
+use exchange::{Answer, Judge, Step, Verdict};
 use std::collections::HashMap;
 
 /// The most positions of a play that are told.
@@ -144,8 +144,8 @@ impl<'a> Told<'a> {
         let Teller { exchange, speaker, .. } = self.teller;
         let table = self.play.field.table();
         let step = expanded.lists[place(best.side)][best.step].step();
-        let mover = table.term(&self.play.field.positions[position].parts[place(best.side)]);
-        let after = speaker.names_after(names, step, &mover, table);
+        let here = &self.play.field.positions[position];
+        let after = speaker.names_after(names, here, best.side, step, table);
         let (label, other) = (exchange.label(best.side), exchange.label(best.side.other()));
         let action = speaker.action(step.action(), &after);
         self.blocks.push(Block::Text(match speaker.condition(step, names) {
@@ -169,11 +169,16 @@ impl<'a> Told<'a> {
             return;
         }
         self.blocks.push(Block::Text(format!("{other} has no answer. All that it can do:")));
-        let mut reasons: Vec<String> = others
-            .iter()
-            .map(|listed| self.teller.speaker.no_answer(listed.step(), step, names))
-            .collect();
-        reasons.dedup();
+        // Those that come closest first.
+        let mut steps: Vec<Step<'_>> = others.iter().map(Listed::step).collect();
+        steps.sort_by_key(|&other| action_under(other, step) != step.action());
+        let mut reasons: Vec<String> = Vec::new();
+        for other in steps {
+            let reason = self.teller.speaker.no_answer(other, step, names);
+            if !reasons.contains(&reason) {
+                reasons.push(reason);
+            }
+        }
         let more = reasons.len().saturating_sub(STEPS);
         self.blocks.extend(reasons.into_iter().take(STEPS).map(Block::Item));
         if more > 0 {
@@ -188,10 +193,11 @@ impl<'a> Told<'a> {
             if best.answers.len() == 1 { "it" } else { "each" }
         )));
         let table = self.play.field.table();
+        let (own, side) = (place(best.side), place(best.side.other()));
+        let step = expanded.lists[own][best.step].step();
         for &(place_of_answer, to) in &best.answers {
-            let answer = expanded.lists[place(best.side.other())][place_of_answer].step();
-            let action = self.teller.speaker.action(answer.action(), names);
-            let side = place(best.side.other());
+            let answer = expanded.lists[side][place_of_answer].step();
+            let action = self.teller.speaker.action(action_under(answer, step), names);
             let becomes = table.term(&self.play.field.positions[to].parts[side]);
             let becomes = self.teller.speaker.term(&becomes, names);
             let goes_on = match self.number(to, names.clone()) {

@@ -119,9 +119,8 @@ impl Teller<'_> {
         let mut moves = Vec::new();
         for origin in field.path(number) {
             let Some(step) = field.step(origin) else { continue };
-            let part = &field.positions[origin.position].parts[place(origin.side)];
-            let mover = field.table().term(part);
-            let after = self.speaker.names_after(&names, step, &mover, field.table());
+            let (here, table) = (&field.positions[origin.position], field.table());
+            let after = self.speaker.names_after(&names, here, origin.side, step, table);
             let told = self.speaker.action(step.action(), &after);
             let label = self.exchange.label(origin.side);
             moves.push(match self.speaker.condition(step, &names) {
