@@ -3,7 +3,7 @@
 use desk::explain::explain;
 use desk::model::Exchange;
 use desk::play::{Field, Play};
-use desk::position::{Position, Table};
+use desk::position::{Limit, Position, Table};
 use exchange::{Answer, Capacity, Judge, Question, Verdict};
 use generate::{each_seed, Random};
 
@@ -48,6 +48,10 @@ fn compare_field(exchange: &Exchange, size: usize, judge: &mut Judge) {
     let mut field = Field::new(table, start.clone(), size);
     while !field.is_whole() {
         field.look(1).expect("the field has no more positions than the library says");
+    }
+    if let Some((_, limit)) = field.first_limit() {
+        // All names are free in a part, and the library has none to list its steps with.
+        return assert!(matches!(limit, Limit::Unlistable(_)), "{limit:?}");
     }
     assert_eq!(field.positions.len(), size);
     let ranks = ranks(&field);

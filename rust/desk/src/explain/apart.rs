@@ -15,26 +15,8 @@ impl Teller<'_> {
         size: usize,
         judge: &mut Judge,
     ) -> Vec<Block> {
-        let names = self.speaker.names();
-        let free = table.free(&start.parts);
-        let words: Vec<&str> = free.iter().map(|&byte| names[usize::from(byte)].as_str()).collect();
         let mut blocks = vec![self.verdict("are the same", size)];
-        blocks.push(Block::Text(match (words.len(), start.apart.len()) {
-            (0 | 1, _) => {
-                "Every move of either is answered by the other, and so on from there.".into()
-            }
-            (_, 0) => format!(
-                "Every move of either is answered by the other, and so on from there, whichever of \
-                 the names {} are one.",
-                listed(&words)
-            ),
-            _ => format!(
-                "Every move of either is answered by the other, and so on from there, whichever of \
-                 the names {} are one, as long as these stay apart: {}.",
-                listed(&words),
-                self.speaker.pairs(&start.apart, &names)
-            ),
-        }));
+        blocks.push(Block::Text(self.covered(&table.free(&start.parts), &start.apart)));
         blocks.push(Block::Text(
             "They stay the same when names that are not held apart are merged later, when further \
              names are held apart, and when one third part is set beside both."
@@ -45,6 +27,22 @@ impl Teller<'_> {
             blocks.push(Block::Text(self.needed(&needed, start.apart.len())));
         }
         blocks
+    }
+
+    /// For which names "same" holds.
+    fn covered(&self, free: &[u8], apart: &[(u8, u8)]) -> String {
+        let names = self.speaker.names();
+        let words: Vec<&str> = free.iter().map(|&byte| names[usize::from(byte)].as_str()).collect();
+        let mut told =
+            "Every move of either is answered by the other, and so on from there".to_string();
+        if words.len() > 1 {
+            told += &format!(", whichever of the names {} are one", listed(&words));
+        }
+        if !apart.is_empty() {
+            let pairs = self.speaker.pairs(apart, &names);
+            told += &format!(", as long as these stay apart: {pairs}");
+        }
+        told + "."
     }
 
     /// How much of the apart list is needed for "same".
