@@ -74,6 +74,24 @@ fn a_drawing_holds_boxes_names_and_the_move() {
     assert!(count("box moves") > 0 && count("head moves") > 0 && count("told moves") > 0);
 }
 
+/// How many boxes, free names and private names are red in the drawing of a part against 0.
+fn red(part: &str) -> [usize; 3] {
+    let exchange = text::read(&format!("old = {part}\nnew = 0\n")).expect("an exchange");
+    let svg = drawing(&exchange, &[]).expect("a drawing");
+    let start = svg.split("After ").next().expect("a first drawing");
+    ["box moves", "node moves", "node private moves"]
+        .map(|class| start.matches(&format!("class=\"{class}\"")).count())
+}
+
+#[test]
+fn those_that_make_the_move_are_red() {
+    assert_eq!(red("tau.0 | [a=b]a(x).0"), [1, 0, 0]);
+    assert_eq!(red("(new s)(s(y).y<b>.0 | s<a>.0)"), [2, 0, 1]);
+    assert_eq!(red("(new s)(a<s>.s(x).0) | (new t)t<b>.0"), [1, 1, 0]);
+    assert_eq!(red("(new s)(s<s>.0 | a<new x>.0 | s<b>.0)"), [1, 1, 0]);
+    assert_eq!(red("[a=b]0 | [a=b]c<d>.0"), [1, 1, 0]);
+}
+
 #[test]
 fn a_longer_play_is_drawn_to_its_end() {
     let source = "old = desk(reply).[reply=office]office<desk>.0\nnew = desk(reply).0\n";

@@ -115,8 +115,20 @@ fn nesting_and_length_without_end() {
         let source = format!("old = {}", piece.repeat(200_000 / piece.len()));
         assert!(exchange_of("f", source.as_bytes()).is_err());
     }
-    let deep = format!("old = {}0{}\nnew = 0", "(".repeat(299), ")".repeat(299));
-    assert!(exchange_of("f", deep.as_bytes()).is_ok());
+    let nested =
+        |depth: usize| format!("old = {}0{}\nnew = 0", "(".repeat(depth), ")".repeat(depth));
+    assert!(exchange_of("f", nested(159).as_bytes()).is_ok());
+    assert_eq!(fault(&nested(160)), "f:1:167: this is nested more than 160 deep");
+}
+
+/// Half of the stack that a thread has is ample for the deepest nesting.
+#[test]
+fn the_deepest_nesting_fits_a_small_stack() {
+    let source = format!("old = {}0{}\nnew = 0", "(tau.".repeat(80), ")".repeat(80));
+    let read = move || exchange_of("f", source.as_bytes()).expect_err("160 deep and more").line;
+    let thread = std::thread::Builder::new().stack_size(1 << 20).spawn(read);
+    let line = thread.expect("a thread can be started").join().expect("it returns");
+    assert!(line.ends_with("this is nested more than 160 deep"), "{line}");
 }
 
 #[test]

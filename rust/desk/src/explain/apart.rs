@@ -52,10 +52,6 @@ impl Teller<'_> {
             Fewest::Pairs(pairs) if pairs.is_empty() => {
                 "Nothing had to be held apart: without the apart list they are the same too.".into()
             }
-            Fewest::Pairs(pairs) if pairs.len() == listed => format!(
-                "All that is held apart is needed; with fewer pairs than {} they are not the same.",
-                self.speaker.pairs(pairs, &names)
-            ),
             Fewest::Pairs(pairs) => format!(
                 "The fewest that had to be apart: {} ({} of the {listed} pairs listed).",
                 self.speaker.pairs(pairs, &names),

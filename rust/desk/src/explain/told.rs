@@ -32,8 +32,15 @@ impl Teller<'_> {
                 return (blocks, None);
             }
         };
-        let steps = counted(play.rank(0).unwrap_or(0), "move");
-        blocks.push(Block::Text(format!("The shortest play that tells them apart has {steps}.")));
+        let moves = counted(play.rank(0).unwrap_or(0), "move");
+        blocks.push(Block::Text(match play.field.first_limit() {
+            None => format!("The shortest play that tells them apart has {moves}."),
+            Some(_) => format!(
+                "A play that tells them apart has {moves}. A shorter one may pass a part that uses \
+                 all {} names, whose steps cannot be listed.",
+                exchange::Name::COUNT
+            ),
+        }));
         let mut told = Told::new(self, &play, judge);
         told.position(0, self.speaker.names());
         blocks.extend(told.finished());

@@ -5,8 +5,8 @@ use super::token::Token;
 use crate::fault::{Fault, Span};
 use crate::term::{Head, Name, Term};
 
-/// How deep a term may be nested. No term of 112 bytes is so deep without idle parentheses.
-const DEPTH: usize = 300;
+/// How deep a term may be nested. A term of 112 bytes is at most 112 deep without idle parentheses.
+const DEPTH: usize = 160;
 
 /// What begins a term, for messages.
 const TERM: &str = "`0`, a prefix, a match, a restriction, a call or `(`";
