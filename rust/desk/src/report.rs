@@ -4,7 +4,7 @@ use crate::draw::{panels, scenes, Merged, Scene, LEGEND, STYLE};
 use crate::explain::{explain, play, Explanation};
 use crate::input::{self, Found, Unreadable};
 use crate::judging::{at_once, counts, Outcome};
-use crate::markup::escaped;
+use crate::markup::{escaped, with_code};
 use crate::model::Exchange;
 use crate::play::Play;
 use crate::telling::Block;
@@ -37,6 +37,7 @@ white-space:pre-wrap;overflow-wrap:anywhere;background:#f4f7fb;border-radius:.4r
 padding:.5rem .7rem;margin:.3rem 0}\
 .drawing{display:flex;flex-wrap:wrap;gap:1rem;align-items:flex-start;margin:.5rem 0}\
 .drawing svg{flex:0 1 auto;min-width:0;max-width:100%;height:auto}\
+code{font-family:'DejaVu Sans Mono',Menlo,Consolas,monospace;font-size:.9rem;background:#f4f7fb}\
 .move{color:#b02020}.legend{font-size:.85rem;color:#50607a}\
 @media print{body{max-width:none;padding:0;font-size:11pt}h2,h3{break-after:avoid}\
 .drawing,pre,.term,li{break-inside:avoid}a{color:inherit;text-decoration:none}}";
@@ -158,13 +159,13 @@ fn told(blocks: &[Block]) -> String {
             in_list = is_item;
         }
         html += &match block {
-            Block::Verdict(told) => format!("<p><strong>{}</strong></p>\n", escaped(told)),
+            Block::Verdict(told) => format!("<p><strong>{}</strong></p>\n", with_code(told)),
             Block::Position(number) => format!("<h3>Position {number}</h3>\n"),
             Block::Term(label, term) => {
                 format!("<p class=\"term\">{} = {}</p>\n", escaped(label), escaped(term))
             }
-            Block::Text(told) => format!("<p>{}</p>\n", escaped(told)),
-            Block::Item(told) => format!("<li>{}</li>\n", escaped(told)),
+            Block::Text(told) => format!("<p>{}</p>\n", with_code(told)),
+            Block::Item(told) => format!("<li>{}</li>\n", with_code(told)),
         };
     }
     html + if in_list { "</ul>\n" } else { "" }

@@ -145,6 +145,7 @@ fn a_page_holds_every_file() {
         "the byte FF is no text in UTF-8",
         "<h3>Position 1</h3>",
         "<h3>With entry = office</h3>",
+        "With <code>apart: entry office</code> they would be the same",
     ] {
         assert!(report.page.contains(piece), "{piece} in {}", report.page);
     }
