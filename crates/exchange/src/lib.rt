@@ -11,38 +11,49 @@ use terms_bytes::answer::Written;
 use terms_checks::check::Checked;
 use verdict_judge::judge::Judged;
 
+// What an answer's kind adds to its number: kind × 2^32.
+const RESULT: u64 = 0;
+
+const REFUSED: u64 = 4294967296;
+
+const UNSETTLED: u64 = 8589934592;
+
+const SAME: u64 = 12884901888;
+
+const DIFFERENT: u64 = 17179869184;
+
 // The refusal by check `k`.
 fn refusal(k: u8) -> u64
     ensures { λ r. ⌜ r ≡ codeOf (turnedBack k) ⌝ }
 {
-    4294967296 + k as u64
+    REFUSED + k as u64
 }
 
 // The result `n`.
 fn given(n: usize) -> u64
     ensures { λ r. ⌜ r ≡ codeOf (gave n) ⌝ }
 {
-    n as u64
+    RESULT + n as u64
 }
 
 fn unsettled() -> u64
     ensures { λ r. ⌜ r ≡ codeOf unsettledOutcome ⌝ }
 {
-    8589934592
+    UNSETTLED
 }
 
 fn same(n: usize) -> u64
     requires { ⌜ Small (sameOf n) ⌝ }
     ensures { λ r. ⌜ r ≡ codeOf (sameOf n) ⌝ }
 {
-    12884901888 + n as u64
+    SAME + n as u64
 }
 
 fn different(n: usize) -> u64
     requires { ⌜ Small (differentOf n) ⌝ }
     ensures { λ r. ⌜ r ≡ codeOf (differentOf n) ⌝ }
 {
-    17179869184 + n as u64
+    DIFFERENT + n as u64
 }
 
 fn checked_code(answer: Checked) -> u64
