@@ -7,15 +7,15 @@ use mathlib.Core.Path.{_≡_, refl, sym, _∙_, ap, ap₂, subst, subst₂}
 use native.Mathlib.Nat.{suc-ne-zero}
 use native.Mathlib.Omega.{arith}
 use Rattle.calculus.specs.Abstraction.{Act, tauA, inpA, outA, boutA, weak, swap}
-use Rattle.calculus.specs.Term.{Term, nil, tau, inp, out, bout, mat, sum, par, res, lift, _∘_, ren, inst}
-use Rattle.calculus.specs.Cond.{Cond, Pairs, mapP, cls, _▷_, _~_}
+use Rattle.calculus.specs.Term.{Term, nil, tau, inp, out, bout, mat, sum, par, res, lift, ren, inst}
+use Rattle.calculus.specs.Cond.{Cond, Pairs, mapP, cls, _▷_}
 use Rattle.calculus.specs.Distinction.{Irr}
 use Rattle.calculus.specs.Definitions.{Defs}
 use Rattle.calculus.specs.Rearranged.{Rearranged, choice-exchanged, choice-regrouped, choice-with-inaction, choice-doubled, parallel-exchanged, parallel-regrouped, parallel-with-inaction, unchanged, undone, again, in-silent, in-input, in-output, in-new-output, in-match, in-choice, in-parallel, in-restriction}
 use Rattle.calculus.specs.OpenBisimulation.{Rel, flip, Related}
-use Rattle.calculus.proofs.Renaming.{ren-id, ren-∘, ren-square, ren-triangle}
+use Rattle.calculus.proofs.Renaming.{_∘_, ren-id, ren-∘, ren-square, ren-triangle}
 use Rattle.calculus.proofs.Binding.{inst-suc}
-use Rattle.calculus.proofs.Conditions.{E2, ~-refl, ~-sym, ~-trans, mapP-~, mapP-∘, Unif-++, Unif-left, Unif-right, unsuc-~, δ, lower, lowered-alone, com-~}
+use Rattle.calculus.proofs.Conditions.{_~_, E2, ~-refl, ~-sym, ~-trans, mapP-~, mapP-∘, Unif-++, Unif-left, Unif-right, unsuc-~, δ, lower, lowered-alone, com-~}
 use Rattle.calculus.proofs.Working.{renA, under, cross, crossing, cross-ren, Trans, t-tau, t-inp, t-out, t-bout, t-mat, t-sumL, t-sumR, t-parL, t-parR, t-comL, t-comR, t-closeL, t-closeR, t-res, t-open, under-renA, ren-weak, ren-cross, ren-inst, inv-out, inv-inp, inv-bout}
 use Rattle.calculus.proofs.WorkingRenaming.{cast, of, push, pull, Pulled}
 use Rattle.calculus.proofs.WorkingBisimulation.{Answer, Bisimilar}

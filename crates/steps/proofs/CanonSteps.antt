@@ -7,11 +7,11 @@ use Prim.Native.Nat.{ℕ, zero, suc}
 use Rattle.calculus.specs.Abstraction.{Act, tauA, inpA, outA, boutA}
 use Rattle.calculus.specs.Term.{Term, ren, inst, _•_}
 use Rattle.calculus.specs.Free.{In, Free}
-use Rattle.calculus.specs.Cond.{Cond, cls, _~_, canonical}
+use Rattle.calculus.specs.Cond.{Cond, cls, canonical}
 use Rattle.calculus.specs.Definitions.{Defs}
 use Rattle.calculus.specs.Published.{Action, silent, input, output, newOutput, boundNames, renAction, Transition, Canon}
 use Rattle.calculus.proofs.Renaming.{ren-triangle}
-use Rattle.calculus.proofs.Conditions.{cls-~, ~-sym}
+use Rattle.calculus.proofs.Conditions.{_~_, cls-~, ~-sym}
 use Rattle.calculus.proofs.Canonical.{canonical-cls}
 use Rattle.calculus.proofs.Working.{Trans}
 use Rattle.calculus.proofs.WorkingNames.{cond-free}

@@ -6,7 +6,8 @@ use mathlib.Core.Path.{_≡_, refl, subst}
 use Prim.Native.Nat.{ℕ, suc}
 use Rattle.calculus.specs.Abstraction.{Act, tauA, inpA, outA, boutA, weak}
 use Rattle.calculus.specs.Term.{Term, mat, sum, par, res, call, ren, inst}
-use Rattle.calculus.specs.Cond.{Cond, mapP, _~_}
+use Rattle.calculus.specs.Cond.{Cond, mapP}
+use Rattle.calculus.proofs.Conditions.{_~_}
 use Rattle.calculus.specs.Definitions.{Defs, opened}
 use Rattle.calculus.proofs.PublishedSteps.{cons-~, ++-~}
 use Rattle.calculus.proofs.Working.{renA, cross, Trans, t-tau, t-inp, t-out, t-bout, t-mat, t-sumL, t-sumR, t-parL, t-parR, t-comL, t-comR, t-closeL, t-closeR, t-res, t-open, t-call}

@@ -5,7 +5,8 @@ use mathlib.Core.Path.{_≡_, refl}
 use Prim.Native.Nat.{ℕ, zero, suc}
 use Rattle.calculus.specs.Abstraction.{Act, tauA, inpA, outA, boutA}
 use Rattle.calculus.specs.Term.{Term, nil, tau, inp, out, bout, mat, sum, par, res, call}
-use Rattle.calculus.specs.Cond.{Cond, mapP, _~_}
+use Rattle.calculus.specs.Cond.{Cond, mapP}
+use Rattle.calculus.proofs.Conditions.{_~_}
 use Rattle.calculus.specs.Definitions.{Defs, opened}
 use Rattle.calculus.proofs.Working.{Trans, t-tau, t-inp, t-out, t-bout, t-mat, t-sumL, t-sumR, t-parL, t-parR, t-comL, t-comR, t-closeL, t-closeR, t-res, t-open, t-call}
 use Rattle.steps.specs.Raw.{Candidate, step, blocked, matching, leftSteps, rightSteps, meet, communication, communications, sparesRestricted, outside, restrictedAction, restricted, visibleOf, silentOf, visibleCalls, silentCalls, visible, silent}

@@ -4,8 +4,8 @@ use mathlib.Core.List.{[], _∷_}
 use mathlib.Core.Path.{_≡_, refl, ap₂}
 use native.Mathlib.Omega.{arith}
 use Prim.Native.Nat.{ℕ, zero, suc}
-use Rattle.calculus.specs.Cond.{Cond, mapP, Unif, cls, _~_}
-use Rattle.calculus.proofs.Conditions.{E2, δ, ~-sym, ~-trans, ▷-all, lowered-alone, unsuc-~}
+use Rattle.calculus.specs.Cond.{Cond, mapP, Unif, cls}
+use Rattle.calculus.proofs.Conditions.{_~_, E2, δ, ~-sym, ~-trans, ▷-all, lowered-alone, unsuc-~}
 use Rattle.terms.proofs.Answers.{both-true}
 use Rattle.steps.specs.Raw.{spares, sparesRestricted, outside}
 

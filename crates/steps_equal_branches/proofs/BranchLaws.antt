@@ -10,9 +10,9 @@ use Prim.Native.Nat.{ℕ, zero, suc, _+_, _-_, _*_, _<_, _≤_}
 use lib.Dec.{eqb, ltb}
 use lib.ListN.{getD, drop}
 use Rattle.calculus.specs.Abstraction.{Act}
-use Rattle.calculus.specs.Cond.{Cond, mapP, Unif, cls, _▷_, _~_}
+use Rattle.calculus.specs.Cond.{Cond, mapP, Unif, cls, _▷_}
 use Rattle.calculus.specs.Term.{Term, ren}
-use Rattle.calculus.proofs.Conditions.{E2, ▷-all, ~-refl, mapP-▷}
+use Rattle.calculus.proofs.Conditions.{_~_, E2, ▷-all, ~-refl, mapP-▷}
 use Rattle.terms.specs.Encoding.{nameByte, encode, InScope}
 use Rattle.terms.specs.Limits.{nameCount}
 use Rattle.steps_conditions.specs.Conditions.{MergedIs}

@@ -54,6 +54,10 @@ chain s args inner depth at zero = []
 chain s args inner depth at (suc n) =
     (slotAt args inner depth (getD s (at + 3 * n + 1) 0), slotAt args inner depth (getD s (at + 3 * n + 2) 0)) ∷ chain s args inner depth at n
 
+-- each condition implies the other
+abbrev pub Equivalent : Cond → Cond → Type 0
+Equivalent M N = (M ▷ N) × (N ▷ M)
+
 -- The condition that the array has implies them.
 unfoldable pub HoldsIs : (classes s args : List ℕ) (inner depth at n : ℕ) → Type 0
 HoldsIs classes s args inner depth at n = (M : Cond) → HasSlotClasses classes M → M ▷ chain s args inner depth at n

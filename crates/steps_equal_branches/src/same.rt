@@ -5,10 +5,9 @@ ghost use mathlib.Core.Path.{_≡_};
 ghost use mathlib.Core.Bool.{true};
 ghost use Prim.Native.Nat.{_+_, _-_, _*_, _≤_, _<_};
 ghost use lib.ListN.{length};
-ghost use Rattle.calculus.specs.Cond.{_~_};
 ghost use Rattle.terms.specs.Limits.{nameCount};
 ghost use Rattle.steps_conditions.specs.Slots.{slotCount, HasSlotClasses};
-ghost use Rattle.steps_equal_branches.specs.Same.{SameNames, SameFront, SameIs, ChainIs, chain, HoldsIs, SameBranchIs};
+ghost use Rattle.steps_equal_branches.specs.Same.{SameNames, SameFront, SameIs, ChainIs, chain, Equivalent, HoldsIs, SameBranchIs};
 use steps_conditions::condition::Condition;
 use steps_entries::listed::alike;
 use steps_labels::label::slot;
@@ -190,7 +189,7 @@ fn same_condition(
     depth: usize,
 ) -> bool
     requires { ⌜ (p + 3 * m ≤ length (now src) + 2) × (at + 3 * n ≤ length (now src) + 2) × (inner ≤ depth) × (nameCount + depth ≤ slotCount) ⌝ }
-    ensures { λ r. ⌜ (r ≡ true → chain (now (src .entry)) (now (args .entry)) inner depth p m ~ chain (now (src .entry)) (now (args .entry)) inner depth at n) ⌝ }
+    ensures { λ r. ⌜ (r ≡ true → Equivalent (chain (now (src .entry)) (now (args .entry)) inner depth p m) (chain (now (src .entry)) (now (args .entry)) inner depth at n)) ⌝ }
 {
     let first = chain_condition(src, p, m, args, inner, depth);
     if !chain_holds(first, src, at, n, args, inner, depth) {

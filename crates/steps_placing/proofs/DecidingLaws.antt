@@ -9,10 +9,10 @@ use native.Mathlib.Omega.{arith}
 use Prim.Native.Nat.{ℕ, zero, suc, _+_, _<_, min}
 use lib.Dec.{eqb, ltb}
 use Rattle.calculus.specs.Abstraction.{Act, tauA, inpA, outA, boutA}
-use Rattle.calculus.specs.Cond.{Cond, mapP, Unif, cls, _▷_, _~_, canonical}
+use Rattle.calculus.specs.Cond.{Cond, mapP, Unif, cls, _▷_, canonical}
 use Rattle.calculus.specs.Term.{Term, ren, _•_}
 use Rattle.calculus.proofs.Canonical.{canonical-~, canonical-cls, canonical-same}
-use Rattle.calculus.proofs.Conditions.{E2, ▷-all, ~-sym, mapP-~, Unif-++, Unif-left, Unif-right}
+use Rattle.calculus.proofs.Conditions.{_~_, E2, ▷-all, ~-sym, mapP-~, Unif-++, Unif-left, Unif-right}
 use Rattle.steps.specs.Lists.{_∈_, Among}
 use Rattle.steps.specs.Raw.{Candidate, step, blocked, matching, leftSteps, rightSteps, meet, communication, spares, sparesRestricted, outside, restrictedAction, restricted}
 use Rattle.steps.proofs.Membership.{∈-left, ∈-right, ∈-either, ∈-map}

@@ -11,9 +11,6 @@ use Rattle.terms_bytes.proofs.bytes.get.Reads as get-reads
 get-requires : tie.Need-get-requires
 get-requires c κs = search needs
 
-cast-t : tie.Need-cast-t
-cast-t c = search needs
-
 add-get : tie.Need-add-get
 add-get c = search needs
 
@@ -58,7 +55,6 @@ nth-prefix-spec =
     tie.close
     (tie.spec
     get-requires
-    cast-t
     add-get
     get-requires-2
     slot-requires
