@@ -11,7 +11,9 @@ use Rattle.calculus.specs.Term.{Term, nil, tau, inp, out, bout, mat, sum
 use Rattle.calculus.specs.Cond.{Cond, Pairs, mapP, cls, _▷_}
 use Rattle.calculus.specs.Distinction.{Irr}
 use Rattle.calculus.specs.Definitions.{Defs}
-use Rattle.calculus.specs.Rearranged.{Rearranged, choice-exchanged, choice-regrouped, choice-with-inaction, choice-doubled, parallel-exchanged, parallel-regrouped, parallel-with-inaction, unchanged, undone, again, in-silent, in-input, in-output, in-new-output, in-match, in-choice, in-parallel, in-restriction}
+use Rattle.calculus.specs.Rearranged.{Rearranged, choice-exchanged, choice-regrouped, choice-with-inaction, choice-doubled, parallel-exchanged}
+use Rattle.calculus.specs.Rearranged.{parallel-regrouped, parallel-with-inaction, unchanged, undone, again, in-silent, in-input, in-output}
+use Rattle.calculus.specs.Rearranged.{in-new-output, in-match, in-choice, in-parallel, in-restriction}
 use Rattle.calculus.specs.OpenBisimulation.{Rel, flip, Related}
 use Rattle.calculus.proofs.Renaming.{_∘_, ren-id, ren-∘, ren-square, ren-triangle}
 use Rattle.calculus.proofs.Binding.{inst-suc}

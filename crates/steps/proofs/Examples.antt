@@ -43,7 +43,9 @@ rows =
     ∷ []
 
 pub exchanges : map (λ r. r .0) rows ≡ map (λ r. r .1) rows
-unfolding listing limited collect insert order allFit bytes resultBytes canonStep listedAs kindOf channelOf objectOf classesOf namesFrom visible silent visibleCalls silentCalls visibleOf silentOf restricted restrictedAction outside sparesRestricted spares communications communication meet leftSteps rightSteps matching encode nameByte cls join
+unfolding listing limited collect insert order allFit bytes resultBytes canonStep listedAs kindOf channelOf objectOf classesOf namesFrom visible
+    silent visibleCalls silentCalls visibleOf silentOf restricted restrictedAction outside sparesRestricted spares communications communication meet
+    leftSteps rightSteps matching encode nameByte cls join
 exchanges = refl
 
 -- What the exchanges do not show: blocked actions, Close, a channel that is restricted, rewriting by a condition, duplicates, calls whose
@@ -78,7 +80,9 @@ more =
     ∷ []
 
 pub turnings : map (λ r. r .0) more ≡ map (λ r. r .1) more
-unfolding listing limited collect insert order allFit bytes resultBytes canonStep listedAs kindOf channelOf objectOf classesOf namesFrom visible silent visibleCalls silentCalls visibleOf silentOf restricted restrictedAction outside sparesRestricted spares communications communication meet leftSteps rightSteps matching encode nameByte cls join
+unfolding listing limited collect insert order allFit bytes resultBytes canonStep listedAs kindOf channelOf objectOf classesOf namesFrom visible
+    silent visibleCalls silentCalls visibleOf silentOf restricted restrictedAction outside sparesRestricted spares communications communication meet
+    leftSteps rightSteps matching encode nameByte cls join
 turnings = refl
 
 -- 37 silent components side by side have 37 steps: nothing grows with the number of pairs of components
@@ -91,5 +95,7 @@ many unsettled = 0
 many (listed ss) = length ss
 
 pub wide : many (steps nil (silents 36)) ≡ 37
-unfolding listing limited collect insert order allFit bytes resultBytes canonStep listedAs kindOf channelOf objectOf classesOf namesFrom visible silent visibleCalls silentCalls visibleOf silentOf restricted restrictedAction outside sparesRestricted spares communications communication meet leftSteps rightSteps matching encode nameByte cls join
+unfolding listing limited collect insert order allFit bytes resultBytes canonStep listedAs kindOf channelOf objectOf classesOf namesFrom visible
+    silent visibleCalls silentCalls visibleOf silentOf restricted restrictedAction outside sparesRestricted spares communications communication meet
+    leftSteps rightSteps matching encode nameByte cls join
 wide = refl

@@ -210,5 +210,12 @@ module _ (question part : List ℕ) (at depth number : ℕ) (a b : Side) (j x : 
     pair-merging n from is free class joined T =
         met-of from is free true class T (λ K level s t (o, w) right m.
         let (B, e) = pair-merged K depth level (decided depth s) (decided depth t) (a .kind) (a .channel) (a .object) (b .kind) (b .channel) (b .object) o w right k l m n in
-        let S = met-like K depth level s t ((a .channel, b .channel) ∷ []) tauA B e in
-        (S .condition, B, S .is, record { classes = λ n h. joined n h ∙ (λ i. sym (S .same) i n); trivial = λ z. let n : _≡_ {A = ℕ} 0 1 = cc in absurd (omega arith) }, merged-inside K depth level (decided depth s) (decided depth t) (a .kind) (a .channel) (a .object) (b .kind) (b .channel) (b .object) o w right k l m n))
+        let S = met-like K depth level s t ((a .channel, b .channel) ∷ []) tauA B e in (
+          S .condition,
+          B,
+          S .is,
+          record
+              { classes = λ n h. joined n h ∙ (λ i. sym (S .same) i n); trivial = λ z. let n : _≡_ {A = ℕ} 0 1 = cc in absurd (omega arith) },
+          merged-inside K depth level (decided depth s) (decided depth t) (a .kind) (a .channel) (a .object) (b .kind) (b .channel) (b .object) o w
+              right k l m n,
+        ))

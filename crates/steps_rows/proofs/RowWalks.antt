@@ -350,7 +350,9 @@ module _ (question s : List ℕ) (root at : ℕ) (asked : Bool) (args : List ℕ
         let cs = seen q (lift σ) P in
         let d : depth + 1 ≡ 1 + depth = omega arith in
         let m = many-res (bodyOf (q .bodies)) calls (ren (lift σ) P) in
-        let w = X .is q free (1 + D) (lift σ) P rest [] ok few (slots-lift free D args inner depth σ few has) scope (behind s at 1 (8 ∷ []) (encode (1 + D) P ++ rest) st refl) (offers-alone (bodyOf (q .bodies)) calls (q .arities) free (1 + D) (lift σ) s args (inner + 1) (depth + 1) [] (at + 1)) (omega arith) in
+        let w = X .is q free (1 + D) (lift σ) P rest [] ok few (slots-lift free D args inner depth σ few has) scope
+        (behind s at 1 (8 ∷ []) (encode (1 + D) P ++ rest) st refl)
+        (offers-alone (bodyOf (q .bodies)) calls (q .arities) free (1 + D) (lift σ) s args (inner + 1) (depth + 1) [] (at + 1)) (omega arith) in
         (w .0 ∙ omega arith, behind-all before rows′ _ (rows-res (bodyOf (q .bodies)) calls rows′ n depth (ren (lift σ) P) (subst (λ (d : ℕ). Rows d cs rows′ n) d (w .1))), λ e. rw m (w .2 e)))
         P (sym (tag-at s at D P rest st) ∙ g) scope st;
   }

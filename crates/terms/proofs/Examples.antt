@@ -100,7 +100,9 @@ merges : map (λ (r : ℕ × ℕ × ℕ). mergeOf (parts (3 ∷ 3 ∷ 1 ∷ 2 �
     ∷ refused 14
     ∷ result (parts (3 ∷ 3 ∷ 1 ∷ 2 ∷ 3 ∷ 5 ∷ 3 ∷ 128 ∷ 0 ∷ []) (1 ∷ 0 ∷ []) (2 ∷ 3 ∷ []))
     ∷ []
-unfolding mergeOf merged mergedQuestion holdsApart writtenWithin write fieldsOf bodyFields pairBytes encode nameByte join checkOf checkFields checkTerms _>>=_ _>>_ need version framed cut field fields all fits readBodies readPart readWhole readTerm readName readNames byte tagOf sequential parallelOutermost guarded readApart differentNames readPairs joined sized allSized
+unfolding mergeOf merged mergedQuestion holdsApart writtenWithin write fieldsOf bodyFields pairBytes encode nameByte join checkOf checkFields
+    checkTerms _>>=_ _>>_ need version framed cut field fields all fits readBodies readPart readWhole readTerm readName readNames byte tagOf
+    sequential parallelOutermost guarded readApart differentNames readPairs joined sized allSized
 merges = refl
 
 -- a part beside both sides; 6, 7 and 10 of the third part, a room that is exact and one too short, and 6 where a side would have 113 bytes
@@ -115,5 +117,7 @@ besides : map (λ (r : List ℕ × ℕ). besideOf (parts (8 ∷ 0 ∷ []) (1 ∷
     ∷ refused 7
     ∷ refused 6
     ∷ []
-unfolding besideOf placedBeside besideQuestion fitsBeside writtenWithin write fieldsOf bodyFields pairBytes encode nameByte checkOf checkFields checkTerms _>>=_ _>>_ need version framed cut field fields all fits readBodies readPart readWhole readTerm readName readNames byte tagOf sequential parallelOutermost guarded readApart differentNames readPairs joined sized allSized
+unfolding besideOf placedBeside besideQuestion fitsBeside writtenWithin write fieldsOf bodyFields pairBytes encode nameByte checkOf checkFields
+    checkTerms _>>=_ _>>_ need version framed cut field fields all fits readBodies readPart readWhole readTerm readName readNames byte tagOf
+    sequential parallelOutermost guarded readApart differentNames readPairs joined sized allSized
 besides = refl

@@ -92,7 +92,9 @@ module _ (free : ℕ) (arities : List ℕ) where
   term-numbered (suc n) d ((suc (suc (suc (suc (suc (suc zero)))))) ∷ bs) = numbered-bind (readTerm free arities n d bs) _ (term-numbered n d bs) (λ p. numbered-bind (readTerm free arities n d (p .1)) _ (term-numbered n d (p .1)) (λ q. tt))
   term-numbered (suc n) d ((suc (suc (suc (suc (suc (suc (suc zero))))))) ∷ bs) = numbered-bind (readTerm free arities n d bs) _ (term-numbered n d bs) (λ p. numbered-bind (readTerm free arities n d (p .1)) _ (term-numbered n d (p .1)) (λ q. tt))
   term-numbered (suc n) d ((suc (suc (suc (suc (suc (suc (suc (suc zero)))))))) ∷ bs) = numbered-bind (readTerm free arities n (1 + d) bs) _ (term-numbered n (1 + d) bs) (λ p. tt)
-  term-numbered (suc n) d ((suc (suc (suc (suc (suc (suc (suc (suc (suc zero))))))))) ∷ bs) = numbered-bind (byte bs) _ (byte-numbered bs) (λ k. numbered-need 8 (ltb (k .0) (length arities)) _ (omega arith) (numbered-bind (readNames free d (getD arities (k .0) 0) (k .1)) _ (names-numbered free d (getD arities (k .0) 0) (k .1)) (λ p. tt)))
+  term-numbered (suc n) d ((suc (suc (suc (suc (suc (suc (suc (suc (suc zero))))))))) ∷ bs) = numbered-bind (byte bs) _ (byte-numbered bs)
+      (λ k. numbered-need 8 (ltb (k .0) (length arities)) _ (omega arith)
+      (numbered-bind (readNames free d (getD arities (k .0) 0) (k .1)) _ (names-numbered free d (getD arities (k .0) 0) (k .1)) (λ p. tt)))
   term-numbered (suc n) d ((suc (suc (suc (suc (suc (suc (suc (suc (suc (suc b)))))))))) ∷ bs) = omega arith
 
   whole-numbered : (d : ℕ) (bs : List ℕ) → Numbered (readWhole free arities d bs)

@@ -82,5 +82,12 @@ expected [] = []
 expected (e ∷ es) = e .answer ∷ expected es
 
 pub worked-exchanges : judged (exchanges ++ turnings) ≡ expected (exchanges ++ turnings)
-unfolding judged expected exchanges turnings ask askWith judgeOf _>>=_ _>>_ need checkOf checkFields checkTerms version framed cut field fields all fits readBodies readPart readWhole readTerm readName readNames byte tagOf sequential parallelOutermost guarded readApart differentNames readPairs joined sized allSized write fieldsOf bodyFields pairBytes encode nameByte verdictOf startOf decided rounds strike allAnswered answered found unseen together withRow explore fieldOf successors withSteps ledTo someBinds bindsName moves updatedBy extrudedBy answers implies permitted select freeFrom freeIn pairsOf situation missing newName sameBytes sameSituation settingOf stepsIn holdsApart among keep fn lowerL bodyOf listing limited collect insert order allFit bytes resultBytes canonStep listedAs kindOf channelOf objectOf classesOf classIn namesFrom visible silent visibleCalls silentCalls visibleOf silentOf restricted restrictedAction outside sparesRestricted spares communications communication meet leftSteps rightSteps matching cls join
+unfolding judged expected exchanges turnings ask askWith judgeOf _>>=_ _>>_ need checkOf checkFields checkTerms version framed cut field fields all
+    fits readBodies readPart readWhole readTerm readName readNames byte tagOf sequential parallelOutermost guarded readApart differentNames readPairs
+    joined sized allSized write fieldsOf bodyFields pairBytes encode nameByte verdictOf startOf decided rounds strike allAnswered answered found
+    unseen together withRow explore fieldOf successors withSteps ledTo someBinds bindsName moves updatedBy extrudedBy answers implies permitted
+    select freeFrom freeIn pairsOf situation missing newName sameBytes sameSituation settingOf stepsIn holdsApart among keep fn lowerL bodyOf listing
+    limited collect insert order allFit bytes resultBytes canonStep listedAs kindOf channelOf objectOf classesOf classIn namesFrom visible silent
+    visibleCalls silentCalls visibleOf silentOf restricted restrictedAction outside sparesRestricted spares communications communication meet
+    leftSteps rightSteps matching cls join
 worked-exchanges = refl

@@ -35,7 +35,10 @@ list-tallied-requires c κs =
     let c9 = c .before .before .before .before .before .before .before .before .before in
     (omega (arith, length-take-le labelPlace (c9 .args .area .now) (omega (arith, c9 .pre .6 .room))), c9 .pre .4, c9 .pre .1, c9 .pre .2, c9 .pre .3)
 
-front-size : (c : tie.After-list-tallied) → length (c .list-tallied .last .1 .1 .1 .1 .1 .1 .0 ++ drop labelPlace (c .before .before .before .before .before .before .before .before .before .before .args .area .now)) ≡ length (c .before .before .before .before .before .before .before .before .before .before .args .area .now)
+front-size : (c : tie.After-list-tallied) → length
+    (c .list-tallied .last .1 .1 .1 .1 .1 .1 .0 ++ drop labelPlace
+    (c .before .before .before .before .before .before .before .before .before .before .args .area .now)) ≡ length
+    (c .before .before .before .before .before .before .before .before .before .before .args .area .now)
 front-size c =
     let c10 = c .before .before .before .before .before .before .before .before .before .before in
     length-front (c10 .args .area .now) (c .list-tallied .last .1 .1 .1 .1 .1 .1 .0) labelPlace (c .list-tallied .kept .1 .1 .1 .1 .1 .1 .0)

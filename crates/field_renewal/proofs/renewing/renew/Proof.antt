@@ -76,7 +76,10 @@ renew-steps-requires c κs =
       ),
     )
 
-front-size : (c : tie.After-renew-steps) → length (c .renew-steps .last .1 .1 .1 .1 .1 .0 ++ drop labelPlace (c .before .before .before .before .before .before .before .before .before .before .before .before .before .args .area .now)) ≡ length (c .before .before .before .before .before .before .before .before .before .before .before .before .before .args .area .now)
+front-size : (c : tie.After-renew-steps) → length
+    (c .renew-steps .last .1 .1 .1 .1 .1 .0 ++ drop labelPlace
+    (c .before .before .before .before .before .before .before .before .before .before .before .before .before .args .area .now)) ≡ length
+    (c .before .before .before .before .before .before .before .before .before .before .before .before .before .args .area .now)
 front-size c =
     let c13 = c .before .before .before .before .before .before .before .before .before .before .before .before .before in
     length-front (c13 .args .area .now) (c .renew-steps .last .1 .1 .1 .1 .1 .0) labelPlace (c .renew-steps .kept .1 .1 .1 .1 .1 .0)

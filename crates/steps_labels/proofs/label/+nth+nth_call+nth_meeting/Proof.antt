@@ -68,7 +68,26 @@ nth-meeting-below t =
     and 5 nth-meeting-kinds.ps (falls 5 nth-meeting-kinds.ps _<_ μ-nth-meeting t) nth-meeting.Pre
 
 abbrev nth-claims : ℕ → nth-lts.Claims
-nth-claims t = (side-of-reads.Asked, side-of-reads.Learnt, nth-meeting-below t, nth-meeting.Post, blocked-reads.Asked, blocked-reads.Learnt, nth-prefix-reads.Asked, nth-prefix-reads.Learnt, nth-call-below t, nth-call.Post, restrictions-at-reads.Asked, restrictions-at-reads.Learnt, past-reads.Asked, past-reads.Learnt, nth-below t, nth.Post, outside-of-reads.Asked, outside-of-reads.Learnt)
+nth-claims t = (
+  side-of-reads.Asked,
+  side-of-reads.Learnt,
+  nth-meeting-below t,
+  nth-meeting.Post,
+  blocked-reads.Asked,
+  blocked-reads.Learnt,
+  nth-prefix-reads.Asked,
+  nth-prefix-reads.Learnt,
+  nth-call-below t,
+  nth-call.Post,
+  restrictions-at-reads.Asked,
+  restrictions-at-reads.Learnt,
+  past-reads.Asked,
+  past-reads.Learnt,
+  nth-below t,
+  nth.Post,
+  outside-of-reads.Asked,
+  outside-of-reads.Learnt,
+)
 
 abbrev nth-call-claims : ℕ → nth-call-lts.Claims
 nth-call-claims t = (call-at-reads.Asked, call-at-reads.Learnt, blocked-reads.Asked, blocked-reads.Learnt, arguments-reads.Asked, arguments-reads.Learnt, body-at-reads.Asked, body-at-reads.Learnt, body-tally-reads.Asked, body-tally-reads.Learnt, nth-below t, nth.Post)

@@ -131,10 +131,44 @@ write-restriction-below t =
     write-restriction.Pre
 
 abbrev write-claims : ℕ → write-lts.Claims
-write-claims t = (write-term-reads.Asked, write-term-reads.Learnt, get-reads.Asked, get-reads.Learnt, write-prefix-reads.Asked, write-prefix-reads.Learnt, write-below t, write.Post, branch-of-reads.Asked, branch-of-reads.Learnt, with-number-reads.Asked, with-number-reads.Learnt, write-beside-below t, write-beside.Post, write-restriction-below t, write-restriction.Post, write-call-below t, write-call.Post)
+write-claims t = (
+  write-term-reads.Asked,
+  write-term-reads.Learnt,
+  get-reads.Asked,
+  get-reads.Learnt,
+  write-prefix-reads.Asked,
+  write-prefix-reads.Learnt,
+  write-below t,
+  write.Post,
+  branch-of-reads.Asked,
+  branch-of-reads.Learnt,
+  with-number-reads.Asked,
+  with-number-reads.Learnt,
+  write-beside-below t,
+  write-beside.Post,
+  write-restriction-below t,
+  write-restriction.Post,
+  write-call-below t,
+  write-call.Post,
+)
 
 abbrev write-beside-claims : ℕ → write-beside-lts.Claims
-write-beside-claims t = (alone-reads.Asked, alone-reads.Learnt, write-parallel-below t, write-parallel.Post, room-reads.Asked, room-reads.Learnt, copy-reads.Asked, copy-reads.Learnt, with-number-reads.Asked, with-number-reads.Learnt, write-below t, write.Post, copy-behind-reads.Asked, copy-behind-reads.Learnt)
+write-beside-claims t = (
+  alone-reads.Asked,
+  alone-reads.Learnt,
+  write-parallel-below t,
+  write-parallel.Post,
+  room-reads.Asked,
+  room-reads.Learnt,
+  copy-reads.Asked,
+  copy-reads.Learnt,
+  with-number-reads.Asked,
+  with-number-reads.Learnt,
+  write-below t,
+  write.Post,
+  copy-behind-reads.Asked,
+  copy-behind-reads.Learnt,
+)
 
 abbrev write-call-claims : ℕ → write-call-lts.Claims
 write-call-claims t = (call-at-reads.Asked, call-at-reads.Learnt, enter-reads.Asked, enter-reads.Learnt, body-at-reads.Asked, body-at-reads.Learnt, body-tally-reads.Asked, body-tally-reads.Learnt, called-reads.Asked, called-reads.Learnt, write-below t, write.Post)

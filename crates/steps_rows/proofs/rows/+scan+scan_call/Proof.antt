@@ -54,7 +54,26 @@ scan-call-below t =
     and 5 scan-call-kinds.ps (falls 5 scan-call-kinds.ps _<_ μ-scan-call t) scan-call.Pre
 
 abbrev scan-claims : ℕ → scan-lts.Claims
-scan-claims t = (is-trivial-reads.Asked, is-trivial-reads.Learnt, scan-below t, scan.Post, adds-nothing-reads.Asked, adds-nothing-reads.Learnt, visible-at-reads.Asked, visible-at-reads.Learnt, put-repeated-reads.Asked, put-repeated-reads.Learnt, scan-prefix-reads.Asked, scan-prefix-reads.Learnt, scan-call-below t, scan-call.Post, middle-of-reads.Asked, middle-of-reads.Learnt, root-of-reads.Asked, root-of-reads.Learnt)
+scan-claims t = (
+  is-trivial-reads.Asked,
+  is-trivial-reads.Learnt,
+  scan-below t,
+  scan.Post,
+  adds-nothing-reads.Asked,
+  adds-nothing-reads.Learnt,
+  visible-at-reads.Asked,
+  visible-at-reads.Learnt,
+  put-repeated-reads.Asked,
+  put-repeated-reads.Learnt,
+  scan-prefix-reads.Asked,
+  scan-prefix-reads.Learnt,
+  scan-call-below t,
+  scan-call.Post,
+  middle-of-reads.Asked,
+  middle-of-reads.Learnt,
+  root-of-reads.Asked,
+  root-of-reads.Learnt,
+)
 
 abbrev scan-call-claims : ℕ → scan-call-lts.Claims
 scan-call-claims t = (call-at-reads.Asked, call-at-reads.Learnt, arguments-reads.Asked, arguments-reads.Learnt, body-at-reads.Asked, body-at-reads.Learnt, body-tally-reads.Asked, body-tally-reads.Learnt, scan-below t, scan.Post)

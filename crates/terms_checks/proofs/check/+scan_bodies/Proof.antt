@@ -31,7 +31,22 @@ scan-bodies-below t =
     and 2 scan-bodies-kinds.ps (falls 2 scan-bodies-kinds.ps _<_ μ-scan-bodies t) scan-bodies.Pre
 
 abbrev scan-bodies-claims : ℕ → scan-bodies-lts.Claims
-scan-bodies-claims t = (passed-reads.Asked, passed-reads.Learnt, get-reads.Asked, get-reads.Learnt, field-at-reads.Asked, field-at-reads.Learnt, scan-whole-reads.Asked, scan-whole-reads.Learnt, after-field-reads.Asked, after-field-reads.Learnt, scan-bodies-below t, scan-bodies.Post, meet-reads.Asked, meet-reads.Learnt)
+scan-bodies-claims t = (
+  passed-reads.Asked,
+  passed-reads.Learnt,
+  get-reads.Asked,
+  get-reads.Learnt,
+  field-at-reads.Asked,
+  field-at-reads.Learnt,
+  scan-whole-reads.Asked,
+  scan-whole-reads.Learnt,
+  after-field-reads.Asked,
+  after-field-reads.Learnt,
+  scan-bodies-below t,
+  scan-bodies.Post,
+  meet-reads.Asked,
+  meet-reads.Learnt,
+)
 
 scan-bodies-passed-requires : (t : ℕ) → scan-bodies-lts.Need-passed-requires (scan-bodies-claims t) (scan-bodies-at t) scan-bodies.Post
 scan-bodies-passed-requires t c κs = search needs

@@ -45,7 +45,15 @@ returns : tie.Need-returns Inv-loop μ-loop
 returns c = let a = c .before .before .before .before .before .before .before .before .before .before .before .args in
     implied-classes (a .self .class) (a .other .class) false (record {
       everywhere = λ q. absurd (false≢true q);
-      somewhere = λ q. (c .before .before .before .before .before .before .before .before .loop .i, search needs, λ z. c .if1 .taken (c .before .before .before .before .before .get .ensures ∙ z ∙ sym (c .before .get3 .ensures ∙ ap (λ (k : ℕ). getD (c .before .before .before .before .before .before .before .before .before .before .before .args .self .class) k 0) (c .before .before .get2 .ensures))));
+      somewhere = λ q. (
+        c .before .before .before .before .before .before .before .before .loop .i,
+        search needs,
+        λ z. c .if1 .taken
+            (c .before .before .before .before .before .get .ensures ∙ z ∙ sym
+            (c .before .get3 .ensures ∙ ap
+            (λ (k : ℕ). getD (c .before .before .before .before .before .before .before .before .before .before .before .args .self .class) k 0)
+            (c .before .before .get2 .ensures))),
+      );
     })
 
 add-i : tie.Need-add-i Inv-loop μ-loop
