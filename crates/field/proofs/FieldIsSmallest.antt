@@ -11,7 +11,7 @@ use Rattle.steps.proofs.Membership.{all-imp}
 use Rattle.field.specs.Setting.{Setting}
 use Rattle.field.specs.Situation.{Situation}
 use Rattle.field.specs.Successors.{Outcome, pastLimit, leads, successors}
-use Rattle.field.specs.Exploration.{Row, incomplete, explored, fieldOf}
+use Rattle.field.specs.Exploration.{Row, incomplete, explored, fieldOf, HoldsField}
 use Rattle.field.specs.Field.{Successor, Past, InField, at-start, successor, PastLimit}
 use Rattle.field.specs.Situation.{Proper}
 use Rattle.field.proofs.Proper.{same-equal}
@@ -21,11 +21,6 @@ use Rattle.field.proofs.Reached as reach
 use Rattle.field.proofs.Run.{selves}
 use Rattle.field.proofs.SuccessorsLinked.{successors-linked}
 use Rattle.field.proofs.Explored.{explored-all, explored-none}
-
--- the situations of rs are those of the field, each once
-pub record HoldsField (Δ : Defs) (S : Setting) (start : Situation) (rs : List Row) : Type 0 where
-  pub distinct : Distinct (selves rs)
-  pub members : (s : Situation) → (s ∈ selves rs) ↔ InField Δ S start s
 
 module _ (Δ : Defs) (S : Setting) (arities : List ℕ) (setting : SettingFor Δ S arities) where
   abbrev Good : Situation → Type 0

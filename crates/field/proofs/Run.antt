@@ -11,12 +11,9 @@ use Rattle.field.specs.Setting.{Setting}
 use Rattle.field.specs.Situation.{Situation}
 use Rattle.field.specs.Successors.{Outcome, pastLimit, leads, successors}
 use Rattle.field.specs.Exploration.{unseen, together, Row, Exploration, incomplete, explored, withRow, explore}
+pub use Rattle.field.specs.Exploration.{selves}
 use Rattle.field.proofs.Unseen.{unseen-∈, unseen-distinct, unseen-all}
 use Rattle.field.proofs.Reached.{LeadsTo, together-leads, Invariant}
-
--- the situations of rows, in their order
-abbrev pub selves : List Row → List Situation
-selves rs = map (λ r. r .self) rs
 
 -- what a row leads to that is not known yet
 abbrev pub freshIn : List Situation → List (List Situation) → List Situation

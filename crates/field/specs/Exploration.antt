@@ -1,11 +1,15 @@
 -- Exploration of the field, up to a capacity: the situations found are taken up one by one. That it finds the field is a theorem
 -- (proofs/FieldIsSmallest).
 use mathlib.Core.Bool.{Bool, false, cond, _||_}
-use mathlib.Core.List.{List, [], _∷_, _++_}
+use mathlib.Core.List.{List, [], _∷_, _++_, map}
+use mathlib.Core.Logic.{_↔_}
 use Prim.Native.Nat.{ℕ, zero, suc}
+use Rattle.calculus.specs.Definitions.{Defs}
+use Rattle.steps.specs.Lists.{_∈_, Distinct}
 use Rattle.field.specs.Setting.{Setting}
 use Rattle.field.specs.Situation.{Situation, sameSituation}
 use Rattle.field.specs.Successors.{pastLimit, leads, successors}
+use Rattle.field.specs.Field.{InField}
 
 unfoldable pub found : List Situation → Situation → Bool
 found [] s = false
@@ -24,6 +28,9 @@ together (m ∷ ms) = m ++ together ms
 pub record Row : Type 0 where
   pub self : Situation
   pub wants : List (List Situation)
+
+abbrev pub selves : List Row → List Situation
+selves rs = map (λ r. r .self) rs
 
 pub data Exploration : Type 0 where
   incomplete : Exploration
@@ -48,3 +55,8 @@ module _ (S : Setting) where
 
   unfoldable pub fieldOf : ℕ → Situation → Exploration
   fieldOf capacity start = explore capacity (start ∷ []) (start ∷ [])
+
+-- the situations of rs are those of the field, each once
+pub record HoldsField (Δ : Defs) (S : Setting) (start : Situation) (rs : List Row) : Type 0 where
+  pub distinct : Distinct (selves rs)
+  pub members : (s : Situation) → (s ∈ selves rs) ↔ InField Δ S start s

@@ -25,6 +25,7 @@ use Rattle.steps.proofs.Calls.{Opens}
 use Rattle.steps.proofs.QuestionDefinitions.{bodies-in-scope, opens-one}
 use Rattle.steps.proofs.Scope.{CallsInScope, scope-calls}
 use Rattle.steps.specs.Derived.{Derived, ListsExactly}
+use Rattle.steps.specs.Operations.{ListsSide}
 use Rattle.steps.specs.Limits.{mostSteps, stepBytes}
 use Rattle.steps.specs.Listed.{ListedStep}
 use Rattle.steps.specs.Listing.{Listing, listed, listing, stepsOf}
@@ -69,19 +70,6 @@ side-allowed q w side P e =
     go : (b : Bool) → cond b (q .first) (q .second) ≡ P → PartAllowed (q .arities) P
     go true e = subst (PartAllowed (q .arities)) e (w .first)
     go false e = subst (PartAllowed (q .arities)) e (w .second)
-
--- What a listing that no check turns back answers: the list for one side of the accepted question.
-pub record ListsSide (question : List ℕ) (side x : ℕ) (r : Listing) : Type 0 where
-  pub asked : Question
-  pub accepted : checkOf question ≡ result asked
-  pub part : Term
-  pub chosen : sideOf asked side ≡ result part
-  pub below : x < nameCount
-  pub fresh : ¬ Free x part
-  pub steps : r ≡ stepsOf (asked .bodies) x part
-  -- for the question's definitions, of which QuestionDefinitions.definitions has one
-  pub exact : (Δ : Defs) → ((k : ℕ) → Δ .arity k ≡ getD (asked .arities) k 0) → Δ .body ≡ bodyOf (asked .bodies)
-      → ListsExactly Δ nameCount longestTerm mostSteps x part r
 
 pub listed-iff-derived : (question : List ℕ) (side x room : ℕ) (r : Listing) → listOf question side x room ≡ result r → ListsSide question side x r
 unfolding listOf isNew

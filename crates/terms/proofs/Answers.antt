@@ -6,6 +6,7 @@ use Prim.Native.Nat.{ℕ}
 use native.Mathlib.Omega.{arith}
 use Rattle.terms.specs.Answer.{Answer, refused, result, _>>=_, _>>_, need}
 use Rattle.terms.specs.Question.{all}
+unfoldable pub use Rattle.terms.specs.WellFormed.{Every}
 
 module _ {A : Type 0} where
   pub result-injective : {a b : A} → _≡_ {A = Answer A} (result a) (result b) → a ≡ b
@@ -79,10 +80,6 @@ true-both x y p q = rw (p, q)
 
 -- A test that holds of every element of a list, as a type.
 module _ {A : Type 0} where
-  unfoldable pub Every : (A → Type 0) → List A → Type 0
-  Every T [] = Unit {0}
-  Every T (x ∷ xs) = T x × Every T xs
-
   pub all-every : (p : A → Bool) (T : A → Type 0) → ((x : A) → p x ≡ true → T x) → (xs : List A) → all p xs ≡ true → Every T xs
   unfolding all Every
   all-every p T h [] e = tt

@@ -4,6 +4,7 @@ pub mod BesideLaws
 pub mod DeclareLaws
 pub mod EncodeRead
 pub mod Examples
+pub mod FiniteControlLaws
 pub mod FramingLaws
 pub mod LiteralBytes
 pub mod MergeLaws

@@ -14,9 +14,9 @@ use Rattle.calculus.proofs.Conditions.{join-cases}
 use Rattle.calculus.proofs.Renaming.{ren-id}
 use Rattle.terms.specs.Answer.{Answer, refused, result, _>>=_, _>>_, need}
 use Rattle.terms.specs.Encoding.{encode}
-use Rattle.terms.specs.Framing.{Fields, sized, allSized, joined}
+use Rattle.terms.specs.Framing.{Fields, sized, allSized, joined, beforeApart}
 use Rattle.terms.specs.Limits.{nameCount}
-use Rattle.terms.specs.Operations.{holdsApart, mergedQuestion, merged, besideQuestion, placedBeside, declaredFields, writtenWithin, mergeOf, besideOf}
+use Rattle.terms.specs.Operations.{holdsApart, mergedQuestion, merged, besideQuestion, placedBeside, besideFields, declaredFields, writtenWithin, mergeOf, besideOf}
 use Rattle.terms.specs.Question.{Question, checkOf, bodyFields, pairBytes, fieldsOf, write}
 use Rattle.terms.proofs.Answers.{Every, bind-to, need-passed}
 use Rattle.terms.proofs.BesideLaws.{PlacedBeside, placed-beside}
@@ -70,17 +70,6 @@ merge-itself question q e a room l h =
     bind-to _ (bind-to _ e ∙ need-passed 14 _ _ test ∙ ap (λ r. result r) (merged-itself a q))
     ∙ need-passed 15 (leb (length (write q)) room) _ (le-leb (length (write q)) room (rw k h)) ∙ ap (λ r. result r) k
 
--- The question with byte 07, the side and the third part for each side, and both lengths to match.
-unfoldable pub besideFields : List ℕ → Fields → Fields
-besideFields third f =
-    record {
-      arities = f .arities;
-      bodies = f .bodies;
-      first = 7 ∷ (f .first ++ third);
-      second = 7 ∷ (f .second ++ third);
-      apart = f .apart;
-    }
-
 pub beside-bytes : (question third : List ℕ) (q : Question) → checkOf question ≡ result q → (room : ℕ) (next : List ℕ)
     → besideOf question third room ≡ result next → (question ≡ joined (fieldsOf q)) × (next ≡ joined (besideFields third (fieldsOf q)))
 unfolding besideOf write besideQuestion besideFields fieldsOf encode
@@ -100,10 +89,6 @@ beside-bytes question third q e room next m =
       second = 7 ∷ (encode 0 (p .second) ++ l);
       apart = pairBytes (p .apart);
     })) (sym t)
-
--- What stands before the apart list.
-unfoldable pub beforeApart : Fields → List ℕ
-beforeApart f = 1 ∷ length (f .arities) ∷ (f .arities ++ (allSized (f .bodies) ++ (sized (f .first) ++ sized (f .second))))
 
 joined-apart : (f : Fields) → joined f ≡ beforeApart f ++ sized (f .apart)
 unfolding joined beforeApart

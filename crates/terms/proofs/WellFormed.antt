@@ -17,45 +17,13 @@ use Rattle.terms.specs.Reading.{readWhole}
 use Rattle.terms.specs.Grammar.{sequential, parallelOutermost, guarded}
 use Rattle.terms.specs.Framing.{Fields, framed, sized, allSized, joined}
 use Rattle.terms.specs.Question.{Question, all, version, fits, readBodies, readPart, differentNames, readPairs, readApart, checkTerms, checkFields, checkOf, bodyFields, pairBytes, fieldsOf, write}
-use Rattle.terms.proofs.Answers.{result-injective, refused-not-result, bind-result, bind-to, then-result, bind-id, bind-assoc, need-result, need-passed, both-true, true-both, Every, all-every, every-all}
+use Rattle.terms.proofs.Answers.{result-injective, refused-not-result, bind-result, bind-to, then-result, bind-id, bind-assoc, need-result, need-passed, both-true, true-both, all-every, every-all}
+use Rattle.terms.specs.WellFormed.{Every}
+pub use Rattle.terms.specs.WellFormed.{BodyAllowed, PartAllowed, PairAllowed, WellFormed}
+unfoldable pub use Rattle.terms.specs.WellFormed.{BodiesAllowed}
 use Rattle.terms.proofs.ReadEncoded.{encode-some, read-whole}
 use Rattle.terms.proofs.EncodeRead.{whole-read}
 use Rattle.terms.proofs.FramingLaws.{Short, ShortLast, behindVersion, framed-out, framed-in, framed-counts, Framable}
-
--- What checks 6 to 11 ask of a body with a parameters.
-pub record BodyAllowed (arities : List ℕ) (a : ℕ) (P : Term) : Type 0 where
-  pub scope : InScope 0 arities a P
-  pub size : length (encode a P) ≤ longestTerm
-  pub noParallel : sequential P ≡ true
-  pub callsGuarded : guarded P ≡ true
-
--- What checks 6 to 10 ask of a part.
-pub record PartAllowed (arities : List ℕ) (P : Term) : Type 0 where
-  pub scope : InScope nameCount arities 0 P
-  pub size : length (encode 0 P) ≤ longestTerm
-  pub parallelsOutermost : parallelOutermost P ≡ true
-
--- What check 12 asks of a pair of the apart list.
-pub record PairAllowed (p : ℕ × ℕ) : Type 0 where
-  pub left : p .0 < nameCount
-  pub right : p .1 < nameCount
-  pub differ : p .0 ≡ p .1 → ⊥
-
--- A body for each arity, each allowed.
-unfoldable pub BodiesAllowed : List ℕ → List ℕ → List Term → Type 0
-BodiesAllowed arities (a ∷ as′) (P ∷ Ps) = BodyAllowed arities a P × BodiesAllowed arities as′ Ps
-BodiesAllowed arities (a ∷ as′) [] = ⊥
-BodiesAllowed arities [] (P ∷ Ps) = ⊥
-BodiesAllowed arities [] [] = Unit {0}
-
-pub record WellFormed (q : Question) : Type 0 where
-  pub definitions : length (q .arities) ≤ mostDefinitions
-  pub parameters : Every (λ a. a ≤ greatestArity) (q .arities)
-  pub bodies : BodiesAllowed (q .arities) (q .arities) (q .bodies)
-  pub first : PartAllowed (q .arities) (q .first)
-  pub second : PartAllowed (q .arities) (q .second)
-  pub apart : Every PairAllowed (q .apart)
-  pub apartSize : length (pairBytes (q .apart)) ≤ longestApart
 
 -- An accepted body or part.
 fits-size : (bs : List ℕ) → fits bs ≡ true → (1 ≤ length bs) × (length bs ≤ longestTerm)

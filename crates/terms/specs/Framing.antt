@@ -54,3 +54,7 @@ allSized (f ∷ fs) = sized f ++ allSized fs
 unfoldable pub joined : Fields → List ℕ
 joined f =
     1 ∷ length (f .arities) ∷ (f .arities ++ (allSized (f .bodies) ++ (sized (f .first) ++ (sized (f .second) ++ sized (f .apart)))))
+
+-- What stands before the apart list.
+unfoldable pub beforeApart : Fields → List ℕ
+beforeApart f = 1 ∷ length (f .arities) ∷ (f .arities ++ (allSized (f .bodies) ++ (sized (f .first) ++ sized (f .second))))

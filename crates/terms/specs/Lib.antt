@@ -13,5 +13,7 @@ pub mod Grammar
 pub mod Framing
 -- a question, all of its checks, and its writing
 pub mod Question
+-- what an accepted question is
+pub mod WellFormed
 -- merge, beside and declaring
 pub mod Operations

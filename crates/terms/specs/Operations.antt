@@ -66,6 +66,17 @@ placedBeside question third = do
   need 10 (parallelOutermost R)
   result (besideQuestion R q)
 
+-- The same in bytes: 07, the side and the third part on each side. That this is what beside writes is a theorem (proofs/LiteralBytes).
+unfoldable pub besideFields : List ℕ → Fields → Fields
+besideFields third f =
+    record {
+      arities = f .arities;
+      bodies = f .bodies;
+      first = 7 ∷ (f .first ++ third);
+      second = 7 ∷ (f .second ++ third);
+      apart = f .apart;
+    }
+
 -- Declaring two names apart is no operation: document 01, "A list of changes". The two bytes go to the end of the apart list, whose length
 -- grows by 2, and the question so made is checked.
 unfoldable pub declaredFields : ℕ → ℕ → Fields → Fields

@@ -1,6 +1,5 @@
 mod BesideChecks
 mod BesideWriting
-mod GrammarLaws
 mod MergeChecks
 mod MergeWriting
 mod TurnedBack

@@ -14,8 +14,8 @@ use Rattle.terms.specs.Question.{Question, checkOf}
 use Rattle.terms.proofs.Answers.{result-injective, bind-result, need-result, need-passed, bind-to}
 use Rattle.verdict.specs.Entries.{Defines}
 use Rattle.verdict.specs.Judge.{greatestCapacity, slotBytes, judgeOf, workAfter}
-use Rattle.verdict.specs.Meaning.{Means}
-use Rattle.verdict.specs.Outcome.{Outcome, turnedBack, Says, ofVerdict}
+use Rattle.verdict.specs.Meaning.{Decision}
+use Rattle.verdict.specs.Outcome.{turnedBack, Says, ofVerdict}
 use Rattle.verdict.specs.Promises.{JudgeIs}
 use Rattle.verdict.specs.Verdict.{Verdict, verdictOf}
 use Rattle.verdict.proofs.VerdictIsDefinition13.{verdict-means}
@@ -52,12 +52,6 @@ judge-answers question q a capacity room l g h =
     need-passed 1 (leb 1 capacity && leb capacity greatestCapacity) _ (rw (le-leb 1 capacity l, le-leb capacity greatestCapacity g) refl)
     ∙ need-passed 2 (leb (slotBytes * capacity) room) _ (le-leb (slotBytes * capacity) room h)
     ∙ bind-to _ a
-
--- what an answer says and means
-pub record Decision (Δ : Defs) (q : Question) (capacity answer : ℕ) : Type 1 where
-  pub outcome : Outcome
-  pub says : Says answer outcome
-  pub means : Means Δ q capacity outcome
 
 pub judge-is-definition-13 : (question : List ℕ) (q : Question) → checkOf question ≡ result q → (Δ : Defs) → Defines q Δ → (capacity : ℕ) (work : List ℕ)
     → 1 ≤ capacity → capacity ≤ greatestCapacity → slotBytes * capacity ≤ length work → (answer : ℕ) (after : List ℕ)

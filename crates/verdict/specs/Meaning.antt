@@ -6,7 +6,7 @@ use Rattle.terms.specs.Question.{Question}
 use Rattle.field.specs.Field.{PastLimit, FieldSize}
 use Rattle.field.specs.Setting.{settingOf}
 use Rattle.field.specs.Situation.{startOf}
-use Rattle.verdict.specs.Outcome.{Outcome, unsettledOutcome, sameOf, differentOf}
+use Rattle.verdict.specs.Outcome.{Outcome, unsettledOutcome, sameOf, differentOf, Says}
 
 module _ (Δ : Defs) (q : Question) where
   -- some open bisimulation relates the two parts under the pairs of the apart list
@@ -26,3 +26,9 @@ module _ (Δ : Defs) (q : Question) where
     means-same : (n : ℕ) → ¬ Exceeds capacity → PartsRelated → HasField n → Means capacity (sameOf n)
     means-different : (n : ℕ) → ¬ Exceeds capacity → ¬ PartsRelated → HasField n → Means capacity (differentOf n)
     means-unsettled : Exceeds capacity → Means capacity unsettledOutcome
+
+-- what an answer says and means
+pub record Decision (Δ : Defs) (q : Question) (capacity answer : ℕ) : Type 1 where
+  pub outcome : Outcome
+  pub says : Says answer outcome
+  pub means : Means Δ q capacity outcome
