@@ -25,7 +25,9 @@ use Rattle.field_pairs.specs.Entry.{EntryAt, TrivialIs, SameHeaderIs, AnswersIs
 use Rattle.field.specs.Exploration.{found, together}
 use Rattle.field_growth.specs.Holding.{unanswered}
 use Rattle.field_successors.specs.Fits.{Fits}
-use Rattle.field_growth.specs.Growing.{Fitting, grownBy, grown, Knows, GrowsTo, AllFound, Puts, Grows, slotWith, KeepsStruck, several, LedTo, joined, LeadsWhere, AddIs, Gone, AddedIs, Flagged, answered, Mirrored, GrowsAnswer, AnswerIs, GrowsAnswers, AnswersAre, FirstAnswerIs, moved, Strikes, LeadsAfter, GrowsStep, GrowsSide, GrowsSides}
+use Rattle.field_growth.specs.Growing.{Fitting, grownBy, grown, Knows, GrowsTo, AllFound, Puts, Grows, slotWith, KeepsStruck, several, LedTo}
+use Rattle.field_growth.specs.Growing.{joined, LeadsWhere, AddIs, Gone, AddedIs, Flagged, answered, Mirrored, GrowsAnswer, AnswerIs}
+use Rattle.field_growth.specs.Growing.{GrowsAnswers, AnswersAre, FirstAnswerIs, moved, Strikes, LeadsAfter, GrowsStep, GrowsSide, GrowsSides}
 use Rattle.field.specs.Situation.{Proper}
 use Rattle.field_successors.specs.Leading.{placed, leading, SuccessorIs}
 use Rattle.field_slots.specs.Noted.{noteAt, SpareOnly, NotesOne, Stands, SoleIn}

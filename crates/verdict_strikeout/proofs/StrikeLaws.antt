@@ -27,7 +27,9 @@ use Rattle.field_slots.proofs.NotedLaws.{spare-none, spare-then}
 use Rattle.field.proofs.Run.{selves}
 use Rattle.field.proofs.Members.{getD-∈}
 use Rattle.verdict_survival.specs.Notes.{NoteIs, RestsIs, SoleStruckIs}
-use Rattle.verdict_survival.specs.Striking.{marks, living, zeros, leftOf, EqualParts, Searching, SurvivesIs, ExaminedIs, AllNoted, NotesHold, EqualPartsIs, Strikes, none-struck, one-struck, notes-changed, StrikesSole, StrikesOne, AllSurvive, Run, PassIs, FirstStruckIs, StartSurvivesIs, blockSlots, turned}
+use Rattle.verdict_survival.specs.Striking.{marks, living, zeros, leftOf, EqualParts, Searching, SurvivesIs, ExaminedIs, AllNoted, NotesHold}
+use Rattle.verdict_survival.specs.Striking.{EqualPartsIs, Strikes, none-struck, one-struck, notes-changed, StrikesSole, StrikesOne, AllSurvive, Run}
+use Rattle.verdict_survival.specs.Striking.{PassIs, FirstStruckIs, StartSurvivesIs, blockSlots, turned}
 use Rattle.verdict.specs.Verdict.{allAnswered}
 use Rattle.verdict_survival.specs.declared.survive.Answered.{Answered}
 use Rattle.verdict_strikeout.proofs.AnyOrder.{StrikesTo, all-left}

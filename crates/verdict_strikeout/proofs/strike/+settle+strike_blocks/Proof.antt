@@ -445,5 +445,14 @@ pub +settle+strike-blocks-spec : {M : Type 1} → statement M
     close
     μ-settle
     μ-strike-blocks
-    (λ t. settle-lts.spec (settle-claims t) (settle-at t) settle.Post settle-Inv-loop settle-μ-loop (settle-strike-one-requires t) (settle-same-length t) (settle-same-length-2 t) (settle-same-length-3 t) (settle-same-length-4 t) (settle-same-length-5 t) (settle-returns t) (settle-loop-holds t) (settle-sub-strike-blocks t) (settle-strike-blocks-requires t) (settle-same-length-6 t) (settle-same-length-7 t) (settle-same-length-8 t) (settle-same-length-9 t) (settle-same-length-10 t) (settle-returns-2 t) (settle-loop-less t) (settle-loop-again t))
-    (λ t. strike-blocks-lts.spec (strike-blocks-claims t) (strike-blocks-at t) strike-blocks.Post strike-blocks-Inv-loop strike-blocks-μ-loop (strike-blocks-width-requires t) (strike-blocks-add-blocks t) (strike-blocks-sub-blocks t) (strike-blocks-div-blocks t) (strike-blocks-loop-holds t) (strike-blocks-sub-i t) (strike-blocks-turn-requires t) (strike-blocks-mul-at t) (strike-blocks-add-at t) (strike-blocks-add-block-size t) (strike-blocks-block-size-requires t) (strike-blocks-settle-requires t) (strike-blocks-loop-less t) (strike-blocks-loop-again t) (strike-blocks-loop-less-2 t) (strike-blocks-loop-again-2 t) (strike-blocks-same-length t) (strike-blocks-same-length-2 t) (strike-blocks-same-length-3 t) (strike-blocks-same-length-4 t) (strike-blocks-same-length-5 t) (strike-blocks-returns t))
+    (λ t. settle-lts.spec (settle-claims t) (settle-at t) settle.Post settle-Inv-loop settle-μ-loop (settle-strike-one-requires t)
+    (settle-same-length t) (settle-same-length-2 t) (settle-same-length-3 t) (settle-same-length-4 t) (settle-same-length-5 t) (settle-returns t)
+    (settle-loop-holds t) (settle-sub-strike-blocks t) (settle-strike-blocks-requires t) (settle-same-length-6 t) (settle-same-length-7 t)
+    (settle-same-length-8 t) (settle-same-length-9 t) (settle-same-length-10 t) (settle-returns-2 t) (settle-loop-less t) (settle-loop-again t))
+    (λ t. strike-blocks-lts.spec (strike-blocks-claims t) (strike-blocks-at t) strike-blocks.Post strike-blocks-Inv-loop strike-blocks-μ-loop
+    (strike-blocks-width-requires t) (strike-blocks-add-blocks t) (strike-blocks-sub-blocks t) (strike-blocks-div-blocks t)
+    (strike-blocks-loop-holds t) (strike-blocks-sub-i t) (strike-blocks-turn-requires t) (strike-blocks-mul-at t) (strike-blocks-add-at t)
+    (strike-blocks-add-block-size t) (strike-blocks-block-size-requires t) (strike-blocks-settle-requires t) (strike-blocks-loop-less t)
+    (strike-blocks-loop-again t) (strike-blocks-loop-less-2 t) (strike-blocks-loop-again-2 t) (strike-blocks-same-length t)
+    (strike-blocks-same-length-2 t) (strike-blocks-same-length-3 t) (strike-blocks-same-length-4 t) (strike-blocks-same-length-5 t)
+    (strike-blocks-returns t))
