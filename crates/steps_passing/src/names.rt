@@ -9,9 +9,6 @@ ghost use Rattle.steps_conditions.specs.Names.{mostBinders, nameSlots, turn, Ca
 use terms_bytes::bytes::get;
 use terms_bytes::limits::TABLE_NAMES;
 
-// The most binders around a term: a body's parameters, and one for each of its bytes.
-pub const MOST_BINDERS: usize = 120;
-
 // A slot for each name that may stand free and for each binder.
 pub const NAME_SLOTS: usize = 137;
 

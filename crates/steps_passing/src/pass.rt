@@ -21,11 +21,11 @@ use terms_bytes::bytes::get;
 use terms_bytes::limits::TABLE_NAMES;
 
 // Kinds of actions, as document 01 numbers them.
-pub const SILENT: usize = 0;
+const SILENT: usize = 0;
 
 pub const OUTPUT: usize = 2;
 
-pub const NEW_OUTPUT: usize = 3;
+const NEW_OUTPUT: usize = 3;
 
 // What a candidate's action does, and the slot of the name that a free output sends.
 pub struct Passed {
