@@ -23,6 +23,7 @@ use Rattle.field.specs.Exploration.{found}
 pub use Rattle.field_successors.specs.Fits.{Fits}
 use Rattle.field_growth.specs.Holding.{SlotsHold}
 use Rattle.field_slots.specs.Key.{SituationAt, bitAt, keyAt, FoundIs}
+use Rattle.field_pairs.specs.PairNumbers.{numberOf}
 use Rattle.field_pairs.specs.PairFlags.{pairCount}
 use Rattle.field.specs.Situation.{Situation, situation}
 use Rattle.field_pairs.specs.Slot.{partBytes, flag, flagsOf, packed, keyOf, keyBytes, slotBytes}
@@ -30,7 +31,7 @@ use Rattle.field_slots.specs.declared.find.Found.the-variants.{At, Nothing}
 use Rattle.field_slots.proofs.KeyLaws.{length-part, length-packed, packed-bit}
 use Rattle.field.proofs.Members.{getD-∈, ∈-number}
 use Rattle.field_pairs.proofs.PairLaws.{length-flags, flag-at}
-use Rattle.field_pairs.proofs.PairTables.{rows, number-right}
+use Rattle.field_pairs.proofs.NamePairs.{number-right}
 use Rattle.field.specs.Situation.{Proper}
 use Rattle.field.proofs.Proper.{situation-agreed, either-below, encode-same, same-equal}
 use Rattle.field.proofs.Unseen.{∈-found, found-∈}
@@ -81,7 +82,7 @@ flags-apart D E irr e a b l m d = either (decLt a b)
     ordered a b l h d = holds-apart E a b (go (holdsApart E a b) refl)
       where
         k : ℕ
-        k = getD rows a 0 + (b - a - 1)
+        k = numberOf nameCount a b
 
         test : (F : Pairs) → getD (flagsOf F) k 0 ≡ flag (holdsApart F a b)
         test F =

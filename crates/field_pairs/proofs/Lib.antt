@@ -2,4 +2,5 @@ pub mod Counting
 pub mod EntryLaws
 mod NameFlagLaws
 pub mod PairLaws
-pub mod PairTables
+pub mod PairNumbering
+pub mod NamePairs

@@ -19,28 +19,29 @@ use Rattle.terms.specs.Operations.{holdsApart}
 use Rattle.terms.proofs.ApartLaws.{holds-apart, apart-holds}
 use Rattle.steps.specs.Listed.{ListedStep, classIn}
 use Rattle.field_pairs.specs.Entry.{EntryAt, ClassOfIs, TrivialIs}
-use Rattle.field_pairs.specs.PairFlags.{pairCount, pairAt, NumberIs, AddsPair, NoneApartIs, HeldIs, MergedPair, MergesIs, PermittedIs}
-use Rattle.field_pairs.specs.Slot.{allPairs, flag, flagsOf}
+use Rattle.field_pairs.specs.PairNumbers.{allPairs, pairAt, numberOf}
+use Rattle.field_pairs.specs.PairFlags.{pairCount, NumberIs, AddsPair, NoneApartIs, HeldIs, MergedPair, MergesIs, PermittedIs}
+use Rattle.field_pairs.specs.Slot.{flag, flagsOf}
 use Rattle.field.specs.Successors.{permitted}
 use Rattle.field.proofs.ClassTests.{apart-permitted}
 use Rattle.field_pairs.proofs.Counting.{Passing}
 use Rattle.field_pairs.proofs.EntryLaws.{inside, entry-alone}
-use Rattle.field_pairs.proofs.PairTables.{rows, number-right, pair-ordered, pair-below, pair-once, length-pairs}
+use Rattle.field_pairs.proofs.NamePairs.{number-right, pair-ordered, pair-below, pair-once, length-pairs}
 
 pub length-flags : (D : Pairs) → length (flagsOf D) ≡ pairCount
 unfolding flagsOf
-length-flags D = length-map allPairs (λ p. flag (holdsApart D (p .0) (p .1))) ∙ length-pairs
+length-flags D = length-map (allPairs nameCount) (λ p. flag (holdsApart D (p .0) (p .1))) ∙ length-pairs
 
 -- what the flag of pair k says
-pub flag-at : (D : Pairs) (k : ℕ) → k < pairCount → getD (flagsOf D) k 0 ≡ flag (holdsApart D (pairAt k .0) (pairAt k .1))
+pub flag-at : (D : Pairs) (k : ℕ) → k < pairCount → getD (flagsOf D) k 0 ≡ flag (holdsApart D (pairAt nameCount k .0) (pairAt nameCount k .1))
 unfolding flagsOf pairAt
 flag-at D k h =
     inside (flagsOf D) k 0 (flag (holdsApart D 0 0)) (omega (arith, length-flags D))
-    ∙ List·getD-map (λ p. flag (holdsApart D (p .0) (p .1))) allPairs k (0, 0)
+    ∙ List·getD-map (λ p. flag (holdsApart D (p .0) (p .1))) (allPairs nameCount) k (0, 0)
 
 -- Flags are those of D where each says so.
 pub flags-are : (D : Pairs) (l : List ℕ) → length l ≡ pairCount
-    → ((k : ℕ) → k < pairCount → getD l k 0 ≡ flag (holdsApart D (pairAt k .0) (pairAt k .1))) → l ≡ flagsOf D
+    → ((k : ℕ) → k < pairCount → getD l k 0 ≡ flag (holdsApart D (pairAt nameCount k .0) (pairAt nameCount k .1))) → l ≡ flagsOf D
 flags-are D l n h =
     ext-getD 0 l (flagsOf D) (n ∙ sym (length-flags D)) (λ k lt. h k (omega arith) ∙ sym (flag-at D k (omega arith)))
 
@@ -62,27 +63,27 @@ module _ (flags : List ℕ) (a b : ℕ) where
   unfolding AddsPair
   adds-nothing never le D e = flags-are ((a, b) ∷ D) flags (ap length e ∙ length-flags D) at
     where
-      at : (k : ℕ) → k < pairCount → getD flags k 0 ≡ flag (holdsApart ((a, b) ∷ D) (pairAt k .0) (pairAt k .1))
+      at : (k : ℕ) → k < pairCount → getD flags k 0 ≡ flag (holdsApart ((a, b) ∷ D) (pairAt nameCount k .0) (pairAt nameCount k .1))
       at k h =
           let o = pair-ordered k h in
           let l = pair-below k h in
           ap (λ l. getD l k 0) e ∙ flag-at D k h
-          ∙ ap flag (sym (other-pair a b (pairAt k .0) (pairAt k .1) D (λ p q. never (omega arith, omega arith)) (λ p q. omega arith)))
+          ∙ ap flag (sym (other-pair a b (pairAt nameCount k .0) (pairAt nameCount k .1) D (λ p q. never (omega arith, omega arith)) (λ p q. omega arith)))
 
   pub adds-number : (n : ℕ) → NumberIs a b n → AddsPair flags a b (set flags n 1)
   unfolding AddsPair flag
   adds-number n is D e = flags-are ((a, b) ∷ D) (set flags n 1) (length-set flags n 1 ∙ ap length e ∙ length-flags D) (λ k h. at k h (ℕ-discrete k n))
     where
-      at : (k : ℕ) → k < pairCount → Dec (k ≡ n) → getD (set flags n 1) k 0 ≡ flag (holdsApart ((a, b) ∷ D) (pairAt k .0) (pairAt k .1))
+      at : (k : ℕ) → k < pairCount → Dec (k ≡ n) → getD (set flags n 1) k 0 ≡ flag (holdsApart ((a, b) ∷ D) (pairAt nameCount k .0) (pairAt nameCount k .1))
       at k h (yes q) =
           rw q
           (getD-set-same flags n 1 0 (omega (arith, ap length e, length-flags D, is .below))
-          ∙ ap flag (sym (apart-holds ((a, b) ∷ D) (pairAt n .0) (pairAt n .1) (inl (sym (is .first), sym (is .second))))))
+          ∙ ap flag (sym (apart-holds ((a, b) ∷ D) (pairAt nameCount n .0) (pairAt nameCount n .1) (inl (sym (is .first), sym (is .second))))))
       at k h (no d) =
           let o = pair-ordered n (is .below) in
           let p = pair-ordered k h in
           getD-set-other flags n k 1 0 d ∙ ap (λ l. getD l k 0) e ∙ flag-at D k h
-          ∙ ap flag (sym (other-pair a b (pairAt k .0) (pairAt k .1) D
+          ∙ ap flag (sym (other-pair a b (pairAt nameCount k .0) (pairAt nameCount k .1) D
           (λ x y. d (pair-once k n h (is .below) (sym (is .first ∙ x)) (sym (is .second ∙ y))))
           (λ x y. omega (arith, is .first, is .second))))
 
@@ -102,7 +103,7 @@ may-be-apart flags q = let z : _≡_ {A = ℕ} 0 1 = cc in absurd (omega arith)
 pub adds-swapped : (flags : List ℕ) (a b : ℕ) (flags′ : List ℕ) → AddsPair flags b a flags′ → AddsPair flags a b flags′
 unfolding AddsPair holdsApart
 adds-swapped flags a b flags′ h D e =
-    h D e ∙ flags-are ((a, b) ∷ D) (flagsOf ((b, a) ∷ D)) (length-flags ((b, a) ∷ D)) (λ k l. flag-at ((b, a) ∷ D) k l ∙ ap flag (swap (pairAt k .0) (pairAt k .1)))
+    h D e ∙ flags-are ((a, b) ∷ D) (flagsOf ((b, a) ∷ D)) (length-flags ((b, a) ∷ D)) (λ k l. flag-at ((b, a) ∷ D) k l ∙ ap flag (swap (pairAt nameCount k .0) (pairAt nameCount k .1)))
   where
     or-swap : (s t : Bool) → (s || t) ≡ (t || s)
     or-swap true true = refl
@@ -274,8 +275,8 @@ permitted-none flags area at r n q = none-merged flags area at nameCount (omega 
     ordered : (D : Pairs) → flags ≡ flagsOf D → (a b : ℕ) → a < b → b < nameCount → Apart D a b → ⊥
     ordered D e a b l h d =
         let i = number-right a b l h in
-        let z = held flags a b (getD rows a 0 + (b - a - 1)) i D e in
-        omega (arith, z, ap flag (apart-holds D a b d), n q (getD rows a 0 + (b - a - 1)) (i .below))
+        let z = held flags a b (numberOf nameCount a b) i D e in
+        omega (arith, z, ap flag (apart-holds D a b d), n q (numberOf nameCount a b) (i .below))
 
     go : (D : Pairs) → flags ≡ flagsOf D → (m j : ℕ) → Apart D m j → m < nameCount → j < nameCount → (m ≡ j → ⊥) → Dec (m < j) → ⊥
     go D e m j d h l k (yes b) = ordered D e m j b l d

@@ -2,7 +2,7 @@
 use mathlib.Core.Path.{_≡_}
 use mathlib.Core.Bool.{Bool, true, false}
 use mathlib.Core.List.{List, _∷_}
-use Prim.Native.Nat.{ℕ, _<_}
+use Prim.Native.Nat.{ℕ, _*_, _-_, _/_, _<_}
 use lib.ListN.{getD}
 use Rattle.calculus.specs.Cond.{Pairs}
 use Rattle.calculus.specs.Distinction.{Apart, Irr}
@@ -10,23 +10,21 @@ use Rattle.terms.specs.Limits.{nameCount}
 use Rattle.terms.specs.Operations.{holdsApart}
 use Rattle.steps.specs.Listed.{ListedStep, classIn}
 use Rattle.field_pairs.specs.Entry.{EntryAt}
-use Rattle.field_pairs.specs.Slot.{allPairs, flagsOf}
+use Rattle.field_pairs.specs.PairNumbers.{pairAt}
+use Rattle.field_pairs.specs.Slot.{flagsOf}
 use Rattle.field.specs.Successors.{permitted}
 use Rattle.field_pairs.specs.declared.pairs.Pair.{Pair}
 
+-- how many pairs of names there are
 abbrev pub pairCount : ℕ
-pairCount = 120
-
--- pair k
-unfoldable pub pairAt : ℕ → ℕ × ℕ
-pairAt k = getD allPairs k (0, 0)
+pairCount = nameCount * (nameCount - 1) / 2
 
 pub record FirstIs (k r : ℕ) : Type 0 where
-  pub is : r ≡ pairAt k .0
+  pub is : r ≡ pairAt nameCount k .0
   pub below : r < nameCount
 
 pub record SecondIs (k r : ℕ) : Type 0 where
-  pub is : r ≡ pairAt k .1
+  pub is : r ≡ pairAt nameCount k .1
   pub below : r < nameCount
 
 pub record PairOfIs (k : ℕ) (r : Pair) : Type 0 where
@@ -35,8 +33,8 @@ pub record PairOfIs (k : ℕ) (r : Pair) : Type 0 where
 
 pub record NumberIs (a b r : ℕ) : Type 0 where
   pub below : r < pairCount
-  pub first : pairAt r .0 ≡ a
-  pub second : pairAt r .1 ≡ b
+  pub first : pairAt nameCount r .0 ≡ a
+  pub second : pairAt nameCount r .1 ≡ b
 
 -- One pair is put to those that the flags say.
 unfoldable pub AddsPair : List ℕ → ℕ → ℕ → List ℕ → Type 0

@@ -12,22 +12,20 @@ use Rattle.terms.specs.Encoding.{encode}
 use Rattle.terms.specs.Limits.{nameCount, longestTerm}
 use Rattle.terms.specs.Operations.{holdsApart}
 use Rattle.steps.specs.Listed.{namesFrom}
-use Rattle.field.specs.Situation.{Situation, pairsOf}
+use Rattle.field.specs.Situation.{Situation}
+use Rattle.field_pairs.specs.PairNumbers.{allPairs}
 
 -- a part, its length first, filled with 0
 unfoldable pub partBytes : Term → List ℕ
 partBytes P = let bs = encode 0 P in length bs ∷ (bs ++ replicate (longestTerm - length bs) 0)
 
--- the pairs of names in the order 0-1, 0-2 up to 14-15, and one flag for each
-unfoldable pub allPairs : Pairs
-allPairs = pairsOf (namesFrom 0 nameCount)
-
 unfoldable pub flag : Bool → ℕ
 flag true = 1
 flag false = 0
 
+-- one flag for each pair of names
 unfoldable pub flagsOf : Pairs → List ℕ
-flagsOf D = map (λ p. flag (holdsApart D (p .0) (p .1))) allPairs
+flagsOf D = map (λ p. flag (holdsApart D (p .0) (p .1))) (allPairs nameCount)
 
 -- eight flags in a byte, the lowest bit first; 120 flags in 15 bytes
 unfoldable pub octet : List ℕ → ℕ → ℕ

@@ -9,12 +9,12 @@ use crate::entries::trivial;
 use terms_bytes::bytes::get;
 use terms_bytes::limits::NAME_COUNT;
 
-pub const PAIR_COUNT: usize = 120;
+pub const PAIR_COUNT: usize = NAME_COUNT * LAST_NAME / 2;
 
-const LAST_NAME: usize = 15;
+const LAST_NAME: usize = NAME_COUNT - 1;
 
-// Where the pairs begin whose smaller name is the index.
-const ROWS: [u8; NAME_COUNT] = [
+// The number of the first pair whose smaller name is the index, wide enough for 496 pairs of 32 names.
+const ROWS: [u16; NAME_COUNT] = [
     0,
     15,
     29,

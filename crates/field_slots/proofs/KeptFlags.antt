@@ -7,9 +7,11 @@ use Prim.Native.Nat.{ℕ, _+_, _*_, _<_, _≤_}
 use lib.Dec.{eqb}
 use lib.ListN.{getD}
 use borrow.Author.Tests.{eq-eqb, ne-eqb}
+use Rattle.terms.specs.Limits.{nameCount}
 use Rattle.field_slots.specs.Chains.{WordIs}
 use Rattle.field_slots.specs.Key.{BitIs, OctetIs}
-use Rattle.field_pairs.specs.PairFlags.{pairCount, pairAt, FirstIs, SecondIs}
+use Rattle.field_pairs.specs.PairNumbers.{pairAt}
+use Rattle.field_pairs.specs.PairFlags.{pairCount, FirstIs, SecondIs}
 use Rattle.field_pairs.specs.Slot.{octets, octet}
 use Rattle.field_slots.specs.Update.{ifFree, keptFlag, keptFlags}
 use Rattle.field_slots.proofs.KeyLaws.{word-none}
@@ -36,7 +38,7 @@ module _ (flags free : List ℕ) (i : ℕ) (inside : i < pairCount) where
   unfolding keptFlag
   kept-none z =
       kept-at flags free i inside
-      ∙ no-flag (getD free (pairAt i .0) 0) (ifFree (getD free (pairAt i .1) 0) (getD flags i 0)) (no-flag (getD free (pairAt i .1) 0) (getD flags i 0) z)
+      ∙ no-flag (getD free (pairAt nameCount i .0) 0) (ifFree (getD free (pairAt nameCount i .1) 0) (getD flags i 0)) (no-flag (getD free (pairAt nameCount i .1) 0) (getD flags i 0) z)
 
   bit-none : getD (keptFlags flags free) i 0 ≡ 0 → BitIs (keptFlags flags free) i 0
   bit-none z = record { small = omega arith; is = λ l. sym z }
@@ -49,7 +51,7 @@ module _ (flags free : List ℕ) (i : ℕ) (inside : i < pairCount) where
     unfolding keptFlag
     bit-first z = bit-none (
         kept-at flags free i inside
-        ∙ free-not (getD free (pairAt i .0) 0) (ifFree (getD free (pairAt i .1) 0) (getD flags i 0)) (ap (λ n. getD free n 0) (sym (first .is)) ∙ z)
+        ∙ free-not (getD free (pairAt nameCount i .0) 0) (ifFree (getD free (pairAt nameCount i .1) 0) (getD flags i 0)) (ap (λ n. getD free n 0) (sym (first .is)) ∙ z)
         )
 
     module _ (b : ℕ) (second : SecondIs i b) where
@@ -57,8 +59,8 @@ module _ (flags free : List ℕ) (i : ℕ) (inside : i < pairCount) where
       unfolding keptFlag
       bit-second z = bit-none (
           kept-at flags free i inside
-          ∙ no-flag (getD free (pairAt i .0) 0) (ifFree (getD free (pairAt i .1) 0) (getD flags i 0))
-          (free-not (getD free (pairAt i .1) 0) (getD flags i 0) (ap (λ n. getD free n 0) (sym (second .is)) ∙ z))
+          ∙ no-flag (getD free (pairAt nameCount i .0) 0) (ifFree (getD free (pairAt nameCount i .1) 0) (getD flags i 0))
+          (free-not (getD free (pairAt nameCount i .1) 0) (getD flags i 0) (ap (λ n. getD free n 0) (sym (second .is)) ∙ z))
           )
 
       module _ (apart : getD flags i 0 ≡ 0 → ⊥) (f : getD free a 0 ≡ 0 → ⊥) (s : getD free b 0 ≡ 0 → ⊥) where
@@ -66,8 +68,8 @@ module _ (flags free : List ℕ) (i : ℕ) (inside : i < pairCount) where
         unfolding keptFlag
         kept-all =
             kept-at flags free i inside
-            ∙ free-so (getD free (pairAt i .0) 0) (ifFree (getD free (pairAt i .1) 0) (getD flags i 0)) (λ z. f (ap (λ n. getD free n 0) (first .is) ∙ z))
-            ∙ free-so (getD free (pairAt i .1) 0) (getD flags i 0) (λ z. s (ap (λ n. getD free n 0) (second .is) ∙ z))
+            ∙ free-so (getD free (pairAt nameCount i .0) 0) (ifFree (getD free (pairAt nameCount i .1) 0) (getD flags i 0)) (λ z. f (ap (λ n. getD free n 0) (first .is) ∙ z))
+            ∙ free-so (getD free (pairAt nameCount i .1) 0) (getD flags i 0) (λ z. s (ap (λ n. getD free n 0) (second .is) ∙ z))
 
         pub bit-on : BitIs (keptFlags flags free) i 1
         bit-on = record { small = omega arith; is = λ l. omega (arith, apart, kept-all, l) }

@@ -18,21 +18,22 @@ use Rattle.terms.specs.Operations.{holdsApart}
 use Rattle.terms.proofs.ApartLaws.{holds-apart, apart-holds}
 use Rattle.steps.specs.Listed.{ListedStep, namesFrom, classIn}
 use Rattle.field_pairs.specs.Entry.{EntryAt}
-use Rattle.field_pairs.specs.PairFlags.{pairCount, pairAt}
+use Rattle.field_pairs.specs.PairNumbers.{allPairs, pairAt, numberOf}
+use Rattle.field_pairs.specs.PairFlags.{pairCount}
 use Rattle.field.specs.Situation.{freeFrom, freeIn, pairsOf, situation}
-use Rattle.field_pairs.specs.Slot.{allPairs, flag, flagsOf}
+use Rattle.field_pairs.specs.Slot.{flag, flagsOf}
 use Rattle.field_pairs.proofs.EntryLaws.{entry-alone}
 use Rattle.field_pairs.proofs.PairLaws.{length-flags, flag-at, flags-are}
-use Rattle.field_pairs.proofs.PairTables.{rows, number-right, pair-ordered, pair-below, length-pairs}
+use Rattle.field_pairs.proofs.NamePairs.{number-right, pair-ordered, pair-below, length-pairs}
 
 -- one pair more, from the back
 pub keep-drop : (f : ℕ → ℕ → Bool) (k : ℕ) → k < pairCount
-    → keep f (drop k allPairs) ≡ cond (f (pairAt k .0) (pairAt k .1)) (pairAt k ∷ keep f (drop (k + 1) allPairs)) (keep f (drop (k + 1) allPairs))
+    → keep f (drop k (allPairs nameCount)) ≡ cond (f (pairAt nameCount k .0) (pairAt nameCount k .1)) (pairAt nameCount k ∷ keep f (drop (k + 1) (allPairs nameCount))) (keep f (drop (k + 1) (allPairs nameCount)))
 unfolding keep pairAt
 keep-drop f k h =
     let e : suc k ≡ k + 1 = omega arith in
-    ap (keep f) (drop-cons allPairs k (0, 0) (omega (arith, length-pairs)))
-    ∙ ap (λ j. cond (f (pairAt k .0) (pairAt k .1)) (pairAt k ∷ keep f (drop j allPairs)) (keep f (drop j allPairs))) e
+    ap (keep f) (drop-cons (allPairs nameCount) k (0, 0) (omega (arith, length-pairs)))
+    ∙ ap (λ j. cond (f (pairAt nameCount k .0) (pairAt nameCount k .1)) (pairAt nameCount k ∷ keep f (drop j (allPairs nameCount))) (keep f (drop j (allPairs nameCount)))) e
 
 keep-++ : (f : ℕ → ℕ → Bool) (D E : Pairs) → keep f (D ++ E) ≡ keep f D ++ keep f E
 unfolding keep
@@ -95,7 +96,7 @@ module _ (G : List ℕ) where
           ∙ sym (keep-++ both (map (λ b. (n, b)) (namesFrom (suc n) k)) (pairsOf (namesFrom (suc n) k)))
 
 pub situation-kept : (P Q : Term) (E : Pairs)
-    → keep (λ a b. holdsApart E a b && (among (fn P ++ fn Q) a && among (fn P ++ fn Q) b)) allPairs ≡ situation nameCount P Q E .apart
+    → keep (λ a b. holdsApart E a b && (among (fn P ++ fn Q) a && among (fn P ++ fn Q) b)) (allPairs nameCount) ≡ situation nameCount P Q E .apart
 unfolding situation freeIn allPairs
 situation-kept P Q E =
     sym (ap (keep (holdsApart E)) (pairs-kept (fn P ++ fn Q) 0 nameCount) ∙ keep-keep (holdsApart E) (both (fn P ++ fn Q)) (pairsOf (namesFrom 0 nameCount)))
@@ -106,12 +107,12 @@ unfolding keep
 keep-none f [] h = refl
 keep-none f (p ∷ L) h = rw (h 0 (omega arith)) (keep-none f L (λ k l. h (suc k) (omega arith)))
 
-pub none-kept : (P Q : Term) (E : Pairs) → ((k : ℕ) → k < pairCount → holdsApart E (pairAt k .0) (pairAt k .1) ≡ false)
+pub none-kept : (P Q : Term) (E : Pairs) → ((k : ℕ) → k < pairCount → holdsApart E (pairAt nameCount k .0) (pairAt nameCount k .1) ≡ false)
     → situation nameCount P Q E .apart ≡ []
 unfolding pairAt
 none-kept P Q E h =
     sym (situation-kept P Q E)
-    ∙ keep-none (λ a b. holdsApart E a b && (among (fn P ++ fn Q) a && among (fn P ++ fn Q) b)) allPairs
+    ∙ keep-none (λ a b. holdsApart E a b && (among (fn P ++ fn Q) a && among (fn P ++ fn Q) b)) (allPairs nameCount)
     (λ k l. rw (h k (omega (arith, length-pairs))))
 
 -- The pairs of names that a distinction holds apart.
@@ -150,23 +151,23 @@ kept-passed f (p ∷ L) o a b l d = go (f (p .0) (p .1)) refl d (λ h. kept-pass
     go false e h r = r h
 
 -- of all pairs of names those are kept that pass
-pub kept-holds : (f : ℕ → ℕ → Bool) (k : ℕ) → k < pairCount → holdsApart (keep f allPairs) (pairAt k .0) (pairAt k .1) ≡ f (pairAt k .0) (pairAt k .1)
+pub kept-holds : (f : ℕ → ℕ → Bool) (k : ℕ) → k < pairCount → holdsApart (keep f (allPairs nameCount)) (pairAt nameCount k .0) (pairAt nameCount k .1) ≡ f (pairAt nameCount k .0) (pairAt nameCount k .1)
 unfolding pairAt
 kept-holds f k h = go (f a b) refl (holdsApart K a b) refl
   where
     a : ℕ
-    a = pairAt k .0
+    a = pairAt nameCount k .0
 
     b : ℕ
-    b = pairAt k .1
+    b = pairAt nameCount k .1
 
     K : Pairs
-    K = keep f allPairs
+    K = keep f (allPairs nameCount)
 
     go : (s : Bool) → f a b ≡ s → (t : Bool) → holdsApart K a b ≡ t → holdsApart K a b ≡ f a b
-    go true p t q = apart-holds K a b (apart-kept f allPairs k (pairAt k) (omega (arith, length-pairs)) refl p) ∙ sym p
+    go true p t q = apart-holds K a b (apart-kept f (allPairs nameCount) k (pairAt nameCount k) (omega (arith, length-pairs)) refl p) ∙ sym p
     go false p true q =
-        q ∙ sym (kept-passed f allPairs (λ j l. pair-ordered j (omega (arith, length-pairs))) a b (pair-ordered k h) (holds-apart K a b q))
+        q ∙ sym (kept-passed f (allPairs nameCount) (λ j l. pair-ordered j (omega (arith, length-pairs))) a b (pair-ordered k h) (holds-apart K a b q))
     go false p false q = q ∙ sym p
 
 -- Distinctions that hold the same pairs of names apart have the same flags.
@@ -177,14 +178,14 @@ same-flags D E f g = flags-are E (flagsOf D) (length-flags D) (λ k h. flag-at D
     clash : {A : Type 0} → _≡_ {A = Bool} true false → A
     clash e = let z : _≡_ {A = ℕ} 0 1 = cc in absurd (omega arith)
 
-    at : (k : ℕ) → k < pairCount → holdsApart D (pairAt k .0) (pairAt k .1) ≡ holdsApart E (pairAt k .0) (pairAt k .1)
+    at : (k : ℕ) → k < pairCount → holdsApart D (pairAt nameCount k .0) (pairAt nameCount k .1) ≡ holdsApart E (pairAt nameCount k .0) (pairAt nameCount k .1)
     at k h = go (holdsApart D a b) refl (holdsApart E a b) refl
       where
         a : ℕ
-        a = pairAt k .0
+        a = pairAt nameCount k .0
 
         b : ℕ
-        b = pairAt k .1
+        b = pairAt nameCount k .1
 
         go : (s : Bool) → holdsApart D a b ≡ s → (t : Bool) → holdsApart E a b ≡ t → holdsApart D a b ≡ holdsApart E a b
         go true p true q = p ∙ sym q
@@ -197,12 +198,12 @@ module _ (area : List ℕ) (at : ℕ) (s : ListedStep) (f : EntryAt area at s) (
   c : ℕ → ℕ
   c = classIn (s .classes)
 
-  names-apart : (a b : ℕ) → a < b → b < nameCount → Apart E a b → Apart (keep (holdsApart E) allPairs) a b
+  names-apart : (a b : ℕ) → a < b → b < nameCount → Apart E a b → Apart (keep (holdsApart E) (allPairs nameCount)) a b
   unfolding pairAt
   names-apart a b l h d =
       let n = number-right a b l h in
-      let m : ℕ = getD rows a 0 + (b - a - 1) in
-      apart-kept (holdsApart E) allPairs m (a, b) (omega (arith, n .below, length-pairs)) (λ i. (n .first i, n .second i)) (apart-holds E a b d)
+      let m : ℕ = numberOf nameCount a b in
+      apart-kept (holdsApart E) (allPairs nameCount) m (a, b) (omega (arith, n .below, length-pairs)) (λ i. (n .first i, n .second i)) (apart-holds E a b d)
 
   -- whose class is a name is a name
   from-name : (x : ℕ) → c x < nameCount → x < nameCount
@@ -213,17 +214,17 @@ module _ (area : List ℕ) (at : ℕ) (s : ListedStep) (f : EntryAt area at s) (
       go (yes l) = l
       go (no l) = absurd (omega (arith, entry-alone area at s f x (omega arith)))
 
-  pub flags-rewritten : flagsOf (mapP (classIn (s .classes)) (keep (holdsApart E) allPairs)) ≡ flagsOf (mapP (classIn (s .classes)) E)
+  pub flags-rewritten : flagsOf (mapP (classIn (s .classes)) (keep (holdsApart E) (allPairs nameCount))) ≡ flagsOf (mapP (classIn (s .classes)) E)
   unfolding c
   flags-rewritten = same-flags (mapP c K) (mapP c E) there back
     where
       K : Pairs
-      K = keep (holdsApart E) allPairs
+      K = keep (holdsApart E) (allPairs nameCount)
 
       there : (a b : ℕ) → a < b → b < nameCount → Apart (mapP c K) a b → Apart (mapP c E) a b
       there a b l h d =
           let (x, y, k, p, q) = of-apart-map c K a b d in
-          apart-at (mapP c E) p q (apart-map c E x y (kept-apart E allPairs x y k))
+          apart-at (mapP c E) p q (apart-map c E x y (kept-apart E (allPairs nameCount) x y k))
 
       -- two names that are apart, in either order
       either : (x y : ℕ) → x < nameCount → y < nameCount → (x ≡ y → ⊥) → Apart E x y → Dec (x < y) → Apart K x y
@@ -239,7 +240,7 @@ module _ (area : List ℕ) (at : ℕ) (s : ListedStep) (f : EntryAt area at s) (
           apart-at (mapP c K) p q (apart-map c K x y (either x y m n z k (decLt x y)))
 
   -- where no two names are apart, no two classes are
-  pub none-rewritten : ((k : ℕ) → k < pairCount → holdsApart E (pairAt k .0) (pairAt k .1) ≡ false) → flagsOf [] ≡ flagsOf (mapP (classIn (s .classes)) E)
+  pub none-rewritten : ((k : ℕ) → k < pairCount → holdsApart E (pairAt nameCount k .0) (pairAt nameCount k .1) ≡ false) → flagsOf [] ≡ flagsOf (mapP (classIn (s .classes)) E)
   unfolding pairAt
   none-rewritten h =
-      ap (λ K. flagsOf (mapP (classIn (s .classes)) K)) (sym (keep-none (holdsApart E) allPairs (λ k l. h k (omega (arith, length-pairs))))) ∙ flags-rewritten
+      ap (λ K. flagsOf (mapP (classIn (s .classes)) K)) (sym (keep-none (holdsApart E) (allPairs nameCount) (λ k l. h k (omega (arith, length-pairs))))) ∙ flags-rewritten

@@ -13,14 +13,15 @@ use lib.Seq.{sets, drop-drop, drop-at, take-at, getD-take, getD-drop, length-tak
 use Rattle.calculus.specs.Cond.{Pairs}
 use Rattle.calculus.specs.Term.{Term}
 use Rattle.terms.specs.Encoding.{encode}
-use Rattle.terms.specs.Limits.{longestTerm}
+use Rattle.terms.specs.Limits.{nameCount, longestTerm}
 use Rattle.terms.specs.Operations.{holdsApart}
 use Rattle.terms_renaming.proofs.Filling.{Filling}
 use Rattle.terms_bytes.proofs.Stores.{getD-front, length-span, sets-more, run-whole}
 use Rattle.steps.specs.Listed.{namesFrom}
 use Rattle.field_slots.specs.Chains.{wordAt, WordIs}
 use Rattle.field_slots.specs.Key.{SituationAt, PartIs, FirstPartIs, SecondPartIs, ApartFlagsIs, bitAt, bitsOf, BitIs, OctetIs, Packs, Unpacks, keyAt, SameKeyIs, FoundIs}
-use Rattle.field_pairs.specs.PairFlags.{pairCount, pairAt}
+use Rattle.field_pairs.specs.PairNumbers.{pairAt}
+use Rattle.field_pairs.specs.PairFlags.{pairCount}
 use Rattle.field.specs.Situation.{Situation}
 use Rattle.field_pairs.specs.Slot.{partBytes, flag, flagsOf, octet, octets, packed, keyOf, keyBytes, slotBytes}
 use Rattle.field_slots.specs.declared.find.Found.the-variants.{At}
@@ -74,7 +75,7 @@ flag-small D i = go (decLt i pairCount)
     bit false = omega arith
 
     go : Dec (i < pairCount) → getD (flagsOf D) i 0 ≤ 1
-    go (yes h) = rw (flag-at D i h) (bit (holdsApart D (pairAt i .0) (pairAt i .1)))
+    go (yes h) = rw (flag-at D i h) (bit (holdsApart D (pairAt nameCount i .0) (pairAt nameCount i .1)))
     go (no h) = omega (arith, List·getD-eq-default (flagsOf D) 0 {n = i} (omega (arith, length-flags D)))
 
 -- Eight bits and their byte.

@@ -17,15 +17,16 @@ use Rattle.terms.specs.Operations.{holdsApart}
 use Rattle.steps.specs.Listed.{ListedStep, namesFrom, classIn}
 use Rattle.field_pairs.specs.Entry.{EntryAt, ClassOfIs, TrivialIs}
 use Rattle.field_pairs.specs.NameFlags.{HasNames}
-use Rattle.field_pairs.specs.PairFlags.{pairCount, pairAt, AddsPair, NoneApartIs}
+use Rattle.field_pairs.specs.PairNumbers.{allPairs, pairAt}
+use Rattle.field_pairs.specs.PairFlags.{pairCount, AddsPair, NoneApartIs}
 use Rattle.field.specs.Situation.{freeFrom, pairsOf, situation}
-use Rattle.field_pairs.specs.Slot.{allPairs, flag, flagsOf}
+use Rattle.field_pairs.specs.Slot.{flag, flagsOf}
 use Rattle.field.specs.Successors.{extrudedBy, updatedBy}
 use Rattle.field_slots.specs.Update.{AddsIfFree, AddsRow, AddsExtruded, AddsRewritten, RewritesPairs, UpdatedIs, ifFree, keptFlag, keptFlags, KeptIs}
 use Rattle.field_pairs.proofs.EntryLaws.{entry-kind, entry-object}
 use Rattle.field_slots.proofs.KeptPairs.{keep-drop, situation-kept, kept-holds, flags-rewritten, none-rewritten}
 use Rattle.field_pairs.proofs.PairLaws.{length-flags, flag-at, flags-are}
-use Rattle.field_pairs.proofs.PairTables.{pair-ordered, pair-below, length-pairs}
+use Rattle.field_pairs.proofs.NamePairs.{pair-ordered, pair-below, length-pairs}
 use Rattle.field_slots.proofs.Runs.{length-mapped, mapped-at}
 
 -- no flag is set at first
@@ -38,7 +39,7 @@ name-test : (free : List ℕ) (n : ℕ) (G : List ℕ) → n < nameCount → Has
 unfolding HasNames
 name-test free n G l h t e = h n l ∙ ap flag e
 
-pair-test : (flags : List ℕ) (k : ℕ) (E : Pairs) → k < pairCount → flags ≡ flagsOf E → (t : Bool) → holdsApart E (pairAt k .0) (pairAt k .1) ≡ t
+pair-test : (flags : List ℕ) (k : ℕ) (E : Pairs) → k < pairCount → flags ≡ flagsOf E → (t : Bool) → holdsApart E (pairAt nameCount k .0) (pairAt nameCount k .1) ≡ t
     → getD flags k 0 ≡ flag t
 pair-test flags k E l h t e = ap (λ f. getD f k 0) h ∙ flag-at E k l ∙ ap flag e
 
@@ -60,11 +61,11 @@ module _ (free : List ℕ) (n : ℕ) (l : n < nameCount) (G : List ℕ) (h : Has
   name-on z = flag-on (among G n) (getD free n 0) (name-test free n G l h (among G n) refl) z
 
 module _ (flags : List ℕ) (k : ℕ) (l : k < pairCount) (E : Pairs) (h : flags ≡ flagsOf E) where
-  pub pair-off : getD flags k 0 ≡ 0 → holdsApart E (pairAt k .0) (pairAt k .1) ≡ false
-  pair-off z = flag-off (holdsApart E (pairAt k .0) (pairAt k .1)) (getD flags k 0) (pair-test flags k E l h (holdsApart E (pairAt k .0) (pairAt k .1)) refl) z
+  pub pair-off : getD flags k 0 ≡ 0 → holdsApart E (pairAt nameCount k .0) (pairAt nameCount k .1) ≡ false
+  pair-off z = flag-off (holdsApart E (pairAt nameCount k .0) (pairAt nameCount k .1)) (getD flags k 0) (pair-test flags k E l h (holdsApart E (pairAt nameCount k .0) (pairAt nameCount k .1)) refl) z
 
-  pair-on : (getD flags k 0 ≡ 0 → ⊥) → holdsApart E (pairAt k .0) (pairAt k .1) ≡ true
-  pair-on z = flag-on (holdsApart E (pairAt k .0) (pairAt k .1)) (getD flags k 0) (pair-test flags k E l h (holdsApart E (pairAt k .0) (pairAt k .1)) refl) z
+  pair-on : (getD flags k 0 ≡ 0 → ⊥) → holdsApart E (pairAt nameCount k .0) (pairAt nameCount k .1) ≡ true
+  pair-on z = flag-on (holdsApart E (pairAt nameCount k .0) (pairAt nameCount k .1)) (getD flags k 0) (pair-test flags k E l h (holdsApart E (pairAt nameCount k .0) (pairAt nameCount k .1)) refl) z
 
 -- The extruded name and one other.
 module _ (flags free : List ℕ) (x n : ℕ) (l : n < nameCount) where
@@ -122,7 +123,7 @@ module _ (flags : List ℕ) (k : ℕ) (l : k < pairCount) (area : List ℕ) (at 
   unfolding AddsRewritten
   rewritten-not z E D s h e f = rw (pair-off flags k l E h z) e
 
-  pub rewritten-pair : (getD flags k 0 ≡ 0 → ⊥) → (a b : ℕ) → ClassOfIs area at (pairAt k .0) a → ClassOfIs area at (pairAt k .1) b
+  pub rewritten-pair : (getD flags k 0 ≡ 0 → ⊥) → (a b : ℕ) → ClassOfIs area at (pairAt nameCount k .0) a → ClassOfIs area at (pairAt nameCount k .1) b
       → (new′ : List ℕ) → AddsPair new a b new′ → AddsRewritten flags k area at new new′
   unfolding AddsRewritten AddsPair ClassOfIs
   rewritten-pair z a b p q new′ add E D s h e f = rw (pair-on flags k l E h z, ← p s f, ← q s f) (add D e)
@@ -131,10 +132,10 @@ module _ (flags : List ℕ) (k : ℕ) (l : k < pairCount) (area : List ℕ) (at 
 abbrev pub Rewritten : List ℕ → List ℕ → ℕ → List ℕ → List ℕ → ℕ → Type 0
 Rewritten flags area at new₀ new k =
     (E : Pairs) (s : ListedStep) → flags ≡ flagsOf E → new₀ ≡ flagsOf [] → EntryAt area at s
-    → new ≡ flagsOf (mapP (classIn (s .classes)) (keep (holdsApart E) (drop k allPairs)))
+    → new ≡ flagsOf (mapP (classIn (s .classes)) (keep (holdsApart E) (drop k (allPairs nameCount))))
 
-none-left : drop pairCount allPairs ≡ []
-none-left = rw (← length-pairs) (drop-length allPairs)
+none-left : drop pairCount (allPairs nameCount) ≡ []
+none-left = rw (← length-pairs) (drop-length (allPairs nameCount))
 
 pub rewritten-start : (flags area : List ℕ) (at : ℕ) (new : List ℕ) → Rewritten flags area at new new pairCount
 unfolding keep
@@ -145,11 +146,11 @@ pub rewritten-next : (flags area : List ℕ) (at : ℕ) (new₀ new : List ℕ) 
 unfolding AddsRewritten
 rewritten-next flags area at new₀ new k new′ l m so a E s h e f =
     let j : k - 1 + 1 ≡ k = omega arith in
-    let K : Pairs = keep (holdsApart E) (drop k allPairs) in
-    let t : Bool = holdsApart E (pairAt (k - 1) .0) (pairAt (k - 1) .1) in
+    let K : Pairs = keep (holdsApart E) (drop k (allPairs nameCount)) in
+    let t : Bool = holdsApart E (pairAt nameCount (k - 1) .0) (pairAt nameCount (k - 1) .1) in
     let c : ℕ → ℕ = classIn (s .classes) in
     a E (mapP c K) s h (so E s h e f) f
-    ∙ ap flagsOf (go c (pairAt (k - 1)) t K ∙ ap (mapP c) (ap (λ i. cond t (pairAt (k - 1) ∷ keep (holdsApart E) (drop i allPairs)) (keep (holdsApart E) (drop i allPairs))) (sym j) ∙ sym (keep-drop (holdsApart E) (k - 1) (omega arith))))
+    ∙ ap flagsOf (go c (pairAt nameCount (k - 1)) t K ∙ ap (mapP c) (ap (λ i. cond t (pairAt nameCount (k - 1) ∷ keep (holdsApart E) (drop i (allPairs nameCount))) (keep (holdsApart E) (drop i (allPairs nameCount)))) (sym j) ∙ sym (keep-drop (holdsApart E) (k - 1) (omega arith))))
   where
     go : (c : ℕ → ℕ) (p : ℕ × ℕ) (t : Bool) (K : Pairs) → cond t ((c (p .0), c (p .1)) ∷ mapP c K) (mapP c K) ≡ mapP c (cond t (p ∷ K) K)
     go c p true K = refl
@@ -159,7 +160,7 @@ pub rewritten-whole : (flags area : List ℕ) (at : ℕ) (new new′ : List ℕ)
     → RewritesPairs flags area at new new′
 unfolding RewritesPairs
 rewritten-whole flags area at new new′ k q so E s h e f =
-    so E s h e f ∙ ap (λ i. flagsOf (mapP (classIn (s .classes)) (keep (holdsApart E) (drop i allPairs)))) q ∙ flags-rewritten area at s f E
+    so E s h e f ∙ ap (λ i. flagsOf (mapP (classIn (s .classes)) (keep (holdsApart E) (drop i (allPairs nameCount))))) q ∙ flags-rewritten area at s f E
 
 -- Definition 15.
 pub updated-is : (flags free area : List ℕ) (at : ℕ) (more new : List ℕ) → AddsExtruded flags free area at more
@@ -195,7 +196,7 @@ kept-at flags free i h = mapped-at (keptFlag flags free) pairCount i h
 pub kept-is : (flags free : List ℕ) → KeptIs flags free (keptFlags flags free)
 unfolding KeptIs keptFlags keptFlag ifFree HasNames flag
 kept-is flags free P Q E h f =
-    flags-are (keep test allPairs) (keptFlags flags free) (length-mapped (keptFlag flags free) pairCount) (λ i l. kept-at flags free i l ∙ at i l)
+    flags-are (keep test (allPairs nameCount)) (keptFlags flags free) (length-mapped (keptFlag flags free) pairCount) (λ i l. kept-at flags free i l ∙ at i l)
     ∙ ap flagsOf (situation-kept P Q E)
   where
     G : List ℕ
@@ -212,7 +213,7 @@ kept-is flags free P Q E h f =
     both false t true = refl
     both false t false = refl
 
-    at : (i : ℕ) → i < pairCount → keptFlag flags free i ≡ flag (holdsApart (keep test allPairs) (pairAt i .0) (pairAt i .1))
+    at : (i : ℕ) → i < pairCount → keptFlag flags free i ≡ flag (holdsApart (keep test (allPairs nameCount)) (pairAt nameCount i .0) (pairAt nameCount i .1))
     at i l =
-        rw (f, flag-at E i l, h (pairAt i .0) (omega (arith, pair-ordered i l, pair-below i l)), h (pairAt i .1) (pair-below i l), kept-holds test i l)
-        (both (among G (pairAt i .0)) (among G (pairAt i .1)) (holdsApart E (pairAt i .0) (pairAt i .1)))
+        rw (f, flag-at E i l, h (pairAt nameCount i .0) (omega (arith, pair-ordered i l, pair-below i l)), h (pairAt nameCount i .1) (pair-below i l), kept-holds test i l)
+        (both (among G (pairAt nameCount i .0)) (among G (pairAt nameCount i .1)) (holdsApart E (pairAt nameCount i .0) (pairAt nameCount i .1)))

@@ -15,7 +15,8 @@ use Rattle.terms.specs.Operations.{holdsApart}
 use Rattle.steps.specs.Listed.{ListedStep, namesFrom, classIn}
 use Rattle.field_pairs.specs.Entry.{EntryAt}
 use Rattle.field_pairs.specs.NameFlags.{HasNames}
-use Rattle.field_pairs.specs.PairFlags.{pairCount, pairAt}
+use Rattle.field_pairs.specs.PairNumbers.{pairAt}
+use Rattle.field_pairs.specs.PairFlags.{pairCount}
 use Rattle.field.specs.Situation.{freeFrom, situation}
 use Rattle.field_pairs.specs.Slot.{flagsOf}
 use Rattle.field.specs.Successors.{extrudedBy, updatedBy}
@@ -40,7 +41,7 @@ AddsExtruded flags free area at flags′ =
 unfoldable pub AddsRewritten : List ℕ → ℕ → List ℕ → ℕ → List ℕ → List ℕ → Type 0
 AddsRewritten flags k area at new new′ =
     (E D : Pairs) (s : ListedStep) → flags ≡ flagsOf E → new ≡ flagsOf D → EntryAt area at s
-    → new′ ≡ flagsOf (cond (holdsApart E (pairAt k .0) (pairAt k .1)) ((classIn (s .classes) (pairAt k .0), classIn (s .classes) (pairAt k .1)) ∷ D) D)
+    → new′ ≡ flagsOf (cond (holdsApart E (pairAt nameCount k .0) (pairAt nameCount k .1)) ((classIn (s .classes) (pairAt nameCount k .0), classIn (s .classes) (pairAt nameCount k .1)) ∷ D) D)
 
 -- All of E, rewritten.
 unfoldable pub RewritesPairs : List ℕ → List ℕ → ℕ → List ℕ → List ℕ → Type 0
@@ -59,7 +60,7 @@ ifFree free v = cond (eqb free 0) 0 v
 
 -- the flag of pair k, if both its names are free
 unfoldable pub keptFlag : List ℕ → List ℕ → ℕ → ℕ
-keptFlag flags free k = ifFree (getD free (pairAt k .0) 0) (ifFree (getD free (pairAt k .1) 0) (getD flags k 0))
+keptFlag flags free k = ifFree (getD free (pairAt nameCount k .0) 0) (ifFree (getD free (pairAt nameCount k .1) 0) (getD flags k 0))
 
 unfoldable pub keptFlags : List ℕ → List ℕ → List ℕ
 keptFlags flags free = map (keptFlag flags free) (namesFrom 0 pairCount)

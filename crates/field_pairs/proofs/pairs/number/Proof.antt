@@ -1,16 +1,31 @@
--- `field::pairs::number` meets its contract. Assumes nothing.
+-- `field_pairs::pairs::number` meets its contract: its table has the starts of rows. Assumes nothing.
+use mathlib.Core.List.{map}
 use native.Mathlib.Omega.{arith}
-use Rattle.field_pairs.proofs.PairTables.{rows, number-right}
+use Prim.Native.Nat.{_-_, _<_}
+use Rattle.terms.specs.Limits.{nameCount}
+use Rattle.steps.specs.Listed.{namesFrom}
+use Rattle.field_pairs.specs.PairNumbers.{rowStart}
+use Rattle.field_pairs.proofs.PairNumbering.{row-table}
+use Rattle.field_pairs.proofs.NamePairs.{number-from-row}
 use borrow.Author.Needs.{needs}
 use Rattle.field_pairs.proofs.pairs.number.Statement.{statement}
 use Rattle.field_pairs.proofs.pairs.number.Tie as tie
 
+mul-result : tie.Need-mul-result
+mul-result c = search needs
+
 array-read-result : tie.Need-array-read-result
 array-read-result c = search needs
 
+returns : tie.Need-returns
+unfolding rowStart namesFrom
+returns c = number-from-row (c .args .a) (c .args .b) _ (search needs) (search needs) (row-table nameCount (c .args .a) 0 (omega arith))
+
 cast-result : tie.Need-cast-result
-unfolding rows
-cast-result c = let n = number-right (c .args .a) (c .args .b) (search needs) (search needs) in omega (arith, n .below)
+unfolding rowStart namesFrom
+cast-result c =
+    let n = number-from-row (c .args .a) (c .args .b) _ (search needs) (search needs) (row-table nameCount (c .args .a) 0 (omega arith)) in
+    omega (arith, n .below)
 
 sub-result : tie.Need-sub-result
 sub-result c = search needs
@@ -19,13 +34,11 @@ sub-result-2 : tie.Need-sub-result-2
 sub-result-2 c = search needs
 
 add-result : tie.Need-add-result
-unfolding rows
-add-result c = let n = number-right (c .args .a) (c .args .b) (search needs) (search needs) in record { fits = omega (arith, n .below) }
-
-returns : tie.Need-returns
-unfolding rows
-returns c = number-right (c .args .a) (c .args .b) (search needs) (search needs)
+unfolding rowStart namesFrom
+add-result c =
+    let n = number-from-row (c .args .a) (c .args .b) _ (search needs) (search needs) (row-table nameCount (c .args .a) 0 (omega arith)) in
+    record { fits = omega (arith, n .below) }
 
 pub number-spec : {M : Type 1} → statement M
 number-spec =
-    tie.close (tie.spec array-read-result cast-result sub-result sub-result-2 add-result returns)
+    tie.close (tie.spec mul-result array-read-result cast-result sub-result sub-result-2 add-result returns)
