@@ -12,6 +12,7 @@ use Rattle.calculus.specs.Definitions.{Defs}
 use Rattle.terms.specs.Answer.{Answer, refused, result, _>>=_, _>>_}
 use Rattle.terms.specs.Question.{Question, checkOf}
 use Rattle.terms.proofs.Answers.{result-injective, bind-result, need-result, need-passed, bind-to}
+use Rattle.terms.proofs.WellFormed.{accepted-well-formed}
 use Rattle.verdict.specs.Entries.{Defines}
 use Rattle.verdict.specs.Judge.{greatestCapacity, slotBytes, judgeOf, workAfter}
 use Rattle.verdict.specs.Meaning.{Decision}
@@ -60,5 +61,5 @@ judge-is-definition-13 question q a Δ d capacity work l g h answer after j =
     record {
       outcome = ofVerdict (result (verdictOf q capacity));
       says = subst (λ m. Says answer (ofVerdict m)) (judge-answers question q a capacity (length work) l g h) (j .answer);
-      means = verdict-means question q a Δ d capacity;
+      means = verdict-means q (accepted-well-formed question q a) Δ d capacity;
     }

@@ -1,3 +1,4 @@
+pub mod ClosedRelated
 pub mod Completeness
 pub mod DecidedField
 pub mod EntriesKeep

@@ -60,7 +60,7 @@ judge-told hand capacity work answer after j =
     let w = accepted-well-formed hand q (a .accepted) .bodies in
     let Δ : Defs = definitions (q .arities) (q .bodies) w in
     let d : Defines q Δ = question-defines q w in
-    judged q (a .accepted) Δ d (ofVerdict (result (verdictOf q capacity))) (a .says) (verdict-means hand q (a .accepted) Δ d capacity) (a .cleared))
+    judged q (a .accepted) Δ d (ofVerdict (result (verdictOf q capacity))) (a .says) (verdict-means q (accepted-well-formed hand q (a .accepted)) Δ d capacity) (a .cleared))
 
 told : (hand : List ℕ) (e : Entry) → Kept hand e → Told hand e
 unfolding Kept Told

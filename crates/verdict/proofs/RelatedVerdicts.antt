@@ -19,13 +19,13 @@ question-defines q w = record { arities = λ k. refl; bodies = refl }
 module _ (question : List ℕ) (q : Question) (accepted : checkOf question ≡ result q) (capacity n : ℕ) where
   pub same-related-parts : verdictOf q capacity ≡ same n → RelatedParts question
   same-related-parts e =
-      let w = accepted-well-formed question q accepted .bodies in
-      let Δ : Defs = definitions (q .arities) (q .bodies) w in
-      let d : Defines q Δ = question-defines q w in
-      record { read = q; accepted = accepted; definitions = Δ; defines = d; related = same-is-related question q accepted Δ d capacity n e }
+      let w = accepted-well-formed question q accepted in
+      let Δ : Defs = definitions (q .arities) (q .bodies) (w .bodies) in
+      let d : Defines q Δ = question-defines q (w .bodies) in
+      record { read = q; accepted = accepted; definitions = Δ; defines = d; related = same-is-related q w Δ d capacity n e }
 
   -- related parts are never called different
   pub related-never-different : RelatedParts question → ¬ (verdictOf q capacity ≡ different n)
   related-never-different r e =
-      different-is-unrelated question (r .read) (r .accepted) (r .definitions) (r .defines) capacity n
+      different-is-unrelated (r .read) (accepted-well-formed question (r .read) (r .accepted)) (r .definitions) (r .defines) capacity n
       (subst (λ p. verdictOf p capacity ≡ different n) (accepted-once question q (r .read) accepted (r .accepted)) e) (r .related)

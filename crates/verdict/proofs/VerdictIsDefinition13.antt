@@ -1,7 +1,6 @@
--- The verdict on an accepted question is Definition 13's, whose names are unlimited, under the whole apart list; it is unsettled exactly in the
+-- The verdict on a well-formed question, so on an accepted one (accepted-well-formed), is Definition 13's, whose names are unlimited, under the whole apart list; it is unsettled exactly in the
 -- cases that document 01 lists ("The field and the verdict"); and its number is the size of the field. Assumes nothing.
 use mathlib.Core.Path.{_≡_, refl, sym, _∙_}
-use mathlib.Core.List.{List}
 use mathlib.Core.Logic.{_↔_, inl, inr}
 use Prim.Native.Nat.{ℕ, _<_, _≤_}
 use native.Mathlib.Omega.{arith}
@@ -9,9 +8,9 @@ use Rattle.calculus.specs.Definitions.{Defs}
 use Rattle.calculus.specs.OpenBisimulation.{Related}
 use Rattle.terms.specs.Answer.{result}
 use Rattle.terms.specs.Limits.{nameCount}
-use Rattle.terms.specs.Question.{Question, checkOf}
+use Rattle.terms.specs.Question.{Question}
 use Rattle.terms.proofs.ApartLaws.{apart-irreflexive}
-use Rattle.terms.proofs.WellFormed.{WellFormed, accepted-well-formed}
+use Rattle.terms.proofs.WellFormed.{WellFormed}
 use Rattle.field.specs.Field.{PastLimit, FieldSize}
 use Rattle.field.specs.Setting.{settingOf}
 use Rattle.field.specs.Situation.{situation, startOf}
@@ -34,10 +33,7 @@ start-related q w Δ =
     (either-below nameCount (q .arities) (q .first) (q .second) (w .first .scope) (w .second .scope)) (q .apart)
     (apart-irreflexive (q .apart) (w .apart)) Δ
 
-module _ (question : List ℕ) (q : Question) (accepted : checkOf question ≡ result q) (Δ : Defs) (defines : Defines q Δ) (capacity : ℕ) where
-  well : WellFormed q
-  well = accepted-well-formed question q accepted
-
+module _ (q : Question) (well : WellFormed q) (Δ : Defs) (defines : Defines q Δ) (capacity : ℕ) where
   setting : SettingFor Δ (settingOf (q .bodies)) (q .arities)
   setting = question-setting q well Δ (defines .arities) (defines .bodies)
 
