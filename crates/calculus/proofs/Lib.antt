@@ -15,7 +15,11 @@ pub mod Sanity
 pub mod SanityRelated
 pub mod Selection
 pub mod Theorems
+pub mod TidySteps
+pub mod TidyTransitions
+pub mod Tidying
 pub mod UpToRenaming
+pub mod UpToTidying
 pub mod Working
 pub mod WorkingBisimulation
 pub mod WorkingNames

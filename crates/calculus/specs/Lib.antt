@@ -19,5 +19,7 @@ pub mod OpenBisimulation
 pub mod Rearranged
 -- a pair of parts inside a larger exchange: request 2026-13
 pub mod Inside
+-- a part without the restrictions that bind nothing: request 2026-04
+pub mod Tidy
 -- actions with their bound name as the innermost binder, for candidates of a step
 pub mod Abstraction
