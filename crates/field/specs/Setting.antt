@@ -25,3 +25,7 @@ settingOf bodies =
 -- the list of a part's steps for the new name x
 unfoldable pub stepsIn : Setting → ℕ → Term → Listing
 stepsIn S x P = listing (S .names) (S .longest) (S .most) (S .body) (S .calls) x P
+
+-- the bytes of the work area for each situation of the capacity
+abbrev pub slotBytes : ℕ
+slotBytes = 256

@@ -12,6 +12,7 @@ use Rattle.terms.specs.Encoding.{encode}
 use Rattle.terms.specs.Limits.{nameCount, longestTerm}
 use Rattle.terms.specs.Operations.{holdsApart}
 use Rattle.steps.specs.Listed.{namesFrom}
+pub use Rattle.field.specs.Setting.{slotBytes}
 use Rattle.field.specs.Situation.{Situation}
 use Rattle.field_pairs.specs.PairNumbers.{allPairs}
 
@@ -43,12 +44,9 @@ packed fs = map (octet fs) (namesFrom 0 octets)
 unfoldable pub keyOf : Situation → List ℕ
 keyOf s = partBytes (s .first) ++ (partBytes (s .second) ++ packed (flagsOf (s .apart)))
 
--- how many these are, and how many a slot has
+-- how many these are
 abbrev pub keyBytes : ℕ
 keyBytes = 241
-
-abbrev pub slotBytes : ℕ
-slotBytes = 256
 
 -- The byte of slot i behind its key: 0 while the situation is left, 1 once it is struck out.
 abbrev pub struckAt : ℕ → ℕ

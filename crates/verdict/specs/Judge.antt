@@ -6,15 +6,12 @@ use lib.ListN.{drop, replicate}
 use lib.Dec.{leb}
 use Rattle.terms.specs.Answer.{Answer, refused, result, _>>=_, _>>_, need}
 use Rattle.terms.specs.Question.{checkOf}
+pub use Rattle.field.specs.Setting.{slotBytes}
 use Rattle.verdict.specs.Verdict.{Verdict, verdictOf}
 
 -- Check 1.
 abbrev pub greatestCapacity : ℕ
 greatestCapacity = 4096
-
--- the bytes of the work area for each situation of the capacity
-abbrev pub slotBytes : ℕ
-slotBytes = 256
 
 -- Checks 1 and 2, then 3 to 12, then the verdict. `room` is the length of the work area.
 unfoldable pub judgeOf : List ℕ → ℕ → ℕ → Answer Verdict
