@@ -19,6 +19,7 @@ use Rattle.verdict.specs.Meaning.{Decision}
 use Rattle.verdict.specs.Outcome.{turnedBack, Says, ofVerdict}
 use Rattle.verdict.specs.Promises.{JudgeIs}
 use Rattle.verdict.specs.Verdict.{Verdict, verdictOf}
+use Rattle.verdict.proofs.CapacityLaws.{Within, within-passes, passed-within}
 use Rattle.verdict.proofs.VerdictIsDefinition13.{verdict-means}
 
 -- What is known of an answered verdict.
@@ -39,20 +40,17 @@ module _ {ℓ} (C : Type ℓ) where
       go : (m : Answer Verdict) → judgeOf hand capacity (length work) ≡ m → Says answer (ofVerdict m) → after ≡ workAfter m capacity work → C
       go (refused k) e s f = turned k e s f
       go (result v) e s f =
-          let (_, e₁) = need-result 1 (leb 1 capacity && leb capacity greatestCapacity) _ v e in
-          let (_, e₂) = need-result 2 (leb (slotBytes * capacity) (length work)) _ v e₁ in
-          let (q, a, e₃) = bind-result (checkOf hand) _ v e₂ in
-          let is : verdictOf q capacity ≡ v = result-injective {a = verdictOf q capacity} e₃ in
+          let (_, e₁) = passed-within capacity (slotBytes * capacity) (length work) _ v e in
+          let (q, a, e₂) = bind-result (checkOf hand) _ v e₁ in
+          let is : verdictOf q capacity ≡ v = result-injective {a = verdictOf q capacity} e₂ in
           given (record { read = q; accepted = a; says = subst (λ w. Says answer (ofVerdict (result w))) (sym is) s; cleared = f })
 
 -- within the bounds of checks 1 and 2 an accepted question is answered by its verdict
-judge-answers : (question : List ℕ) (q : Question) → checkOf question ≡ result q → (capacity room : ℕ) → 1 ≤ capacity → capacity ≤ greatestCapacity
+pub judge-answers : (question : List ℕ) (q : Question) → checkOf question ≡ result q → (capacity room : ℕ) → 1 ≤ capacity → capacity ≤ greatestCapacity
     → slotBytes * capacity ≤ room → judgeOf question capacity room ≡ result (verdictOf q capacity)
 unfolding judgeOf
 judge-answers question q a capacity room l g h =
-    need-passed 1 (leb 1 capacity && leb capacity greatestCapacity) _ (rw (le-leb 1 capacity l, le-leb capacity greatestCapacity g) refl)
-    ∙ need-passed 2 (leb (slotBytes * capacity) room) _ (le-leb (slotBytes * capacity) room h)
-    ∙ bind-to _ a
+    within-passes capacity (slotBytes * capacity) room _ (record { some = l; most = g; fits = h }) ∙ bind-to _ a
 
 pub judge-is-definition-13 : (question : List ℕ) (q : Question) → checkOf question ≡ result q → (Δ : Defs) → Defines q Δ → (capacity : ℕ) (work : List ℕ)
     → 1 ≤ capacity → capacity ≤ greatestCapacity → slotBytes * capacity ≤ length work → (answer : ℕ) (after : List ℕ)

@@ -1,3 +1,4 @@
+pub mod CapacityLaws
 pub mod ClosedRelated
 pub mod Completeness
 pub mod DecidedField

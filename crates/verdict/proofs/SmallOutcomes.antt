@@ -30,6 +30,7 @@ use Rattle.verdict.specs.Outcome.{Small, ofNumber, ofListing, ofVerdict}
 use Rattle.verdict.specs.Verdict.{Verdict, same, different, verdictOf}
 use Rattle.verdict.specs.Verdict.{Numbered as VerdictNumbered}
 use Rattle.verdict.specs.Verdict.{unsettled as unsettledVerdict}
+use Rattle.verdict.proofs.CapacityLaws.{Within, passed-within, within-numbered}
 use Rattle.verdict.proofs.VerdictIsDefinition13.{number-at-most-capacity}
 
 number-small : (m : Answer ℕ) → Numbered m → ((n : ℕ) → m ≡ result n → n ≤ longestQuestion) → Small (ofNumber m)
@@ -95,8 +96,7 @@ list-small question side x room = go (listOf question side x room) refl (list-nu
 judge-numbered : (question : List ℕ) (capacity room : ℕ) → Numbered (judgeOf question capacity room)
 unfolding judgeOf Numbered
 judge-numbered question capacity room =
-    numbered-need 1 (leb 1 capacity && leb capacity greatestCapacity) _ (omega arith) (numbered-need 2 (leb (slotBytes * capacity) room) _ (omega arith)
-    (numbered-bind (checkOf question) _ (check-numbered question) (λ q. tt)))
+    within-numbered capacity (slotBytes * capacity) room _ (numbered-bind (checkOf question) _ (check-numbered question) (λ q. tt))
 
 verdict-small : (v : Verdict) (capacity : ℕ) → ((n : ℕ) → VerdictNumbered v n → n ≤ capacity) → capacity ≤ greatestCapacity → Small (ofVerdict (result v))
 unfolding ofVerdict Small
@@ -111,9 +111,7 @@ judge-small question capacity room = go (judgeOf question capacity room) refl (j
     go : (m : Answer Verdict) → judgeOf question capacity room ≡ m → Numbered m → Small (ofVerdict m)
     go (refused k) e h = h
     go (result v) e h =
-        let (c, e₁) = need-result 1 (leb 1 capacity && leb capacity greatestCapacity) _ v e in
-        let (_, e₂) = need-result 2 (leb (slotBytes * capacity) room) _ v e₁ in
-        let (q, a, e₃) = bind-result (checkOf question) _ v e₂ in
-        let l : capacity ≤ greatestCapacity = leb-true capacity greatestCapacity (both-true (leb 1 capacity) (leb capacity greatestCapacity) c .1) in
-        subst (λ w. Small (ofVerdict (result w))) (result-injective {a = verdictOf q capacity} e₃)
-        (verdict-small (verdictOf q capacity) capacity (number-at-most-capacity q capacity) l)
+        let (w, e₁) = passed-within capacity (slotBytes * capacity) room _ v e in
+        let (q, a, e₂) = bind-result (checkOf question) _ v e₁ in
+        subst (λ w. Small (ofVerdict (result w))) (result-injective {a = verdictOf q capacity} e₂)
+        (verdict-small (verdictOf q capacity) capacity (number-at-most-capacity q capacity) (w .most))

@@ -23,7 +23,7 @@ use Rattle.field.specs.Situation.{freeFrom, freeIn, pairsOf, situation, startOf
 use Rattle.field.specs.Successors.{select, permitted, implies, answers, extrudedBy, updatedBy, moves, bindsName, someBinds, ledTo, withSteps, successors}
 use Rattle.field.specs.Exploration.{found, unseen, together, withRow, explore, fieldOf}
 use Rattle.verdict.specs.Verdict.{Verdict, same, different, answered, allAnswered, strike, rounds, decided, verdictOf}
-use Rattle.verdict.specs.Judge.{judgeOf}
+use Rattle.verdict.specs.Judge.{judgeOf, withinCapacity}
 
 pub record Exchange : Type 0 where
   pub question : List ℕ
@@ -82,7 +82,7 @@ expected [] = []
 expected (e ∷ es) = e .answer ∷ expected es
 
 pub worked-exchanges : judged (exchanges ++ turnings) ≡ expected (exchanges ++ turnings)
-unfolding judged expected exchanges turnings ask askWith judgeOf _>>=_ _>>_ need checkOf checkFields checkTerms version framed cut field fields all
+unfolding judged expected exchanges turnings ask askWith judgeOf withinCapacity _>>=_ _>>_ need checkOf checkFields checkTerms version framed cut field fields all
     fits readBodies readPart readWhole readTerm readName readNames byte tagOf sequential parallelOutermost guarded readApart differentNames readPairs
     joined sized allSized write fieldsOf bodyFields pairBytes encode nameByte verdictOf startOf decided rounds strike allAnswered answered found
     unseen together withRow explore fieldOf successors withSteps ledTo someBinds bindsName moves updatedBy extrudedBy answers implies permitted

@@ -13,11 +13,14 @@ use Rattle.verdict.specs.Verdict.{Verdict, verdictOf}
 abbrev pub greatestCapacity : ℕ
 greatestCapacity = 4096
 
+-- Checks 1 and 2 of every operation with a capacity that needs so many bytes of a work area of `room` bytes.
+unfoldable pub withinCapacity : ℕ → ℕ → ℕ → Answer (Unit {0})
+withinCapacity capacity bytes room = need 1 (leb 1 capacity && leb capacity greatestCapacity) >> need 2 (leb bytes room)
+
 -- Checks 1 and 2, then 3 to 12, then the verdict. `room` is the length of the work area.
 unfoldable pub judgeOf : List ℕ → ℕ → ℕ → Answer Verdict
 judgeOf question capacity room = do
-  need 1 (leb 1 capacity && leb capacity greatestCapacity)
-  need 2 (leb (slotBytes * capacity) room)
+  withinCapacity capacity (slotBytes * capacity) room
   q ← checkOf question
   result (verdictOf q capacity)
 

@@ -1,20 +1,20 @@
 -- Judge: checks 1 and 2, those of check, and the verdict. Assumes nothing.
-use mathlib.Core.Bool.{true, _&&_, and-false}
 use mathlib.Core.List.{List, _++_}
 use mathlib.Core.Path.{_≡_, sym, ap, _∙_}
 use native.Mathlib.Omega.{arith}
-use Prim.Native.Nat.{ℕ, _*_, _<_, _≤_}
-use lib.Dec.{leb}
+use Prim.Native.Nat.{ℕ, _*_, _<_}
 use lib.ListN.{length, drop, replicate}
-use borrow.Author.Tests.{le-leb, lt-leb}
 use Rattle.terms.specs.Answer.{Answer, refused, result, _>>=_}
 use Rattle.terms_checks.specs.Checking.{checkedAnswer}
 use Rattle.terms.specs.Operations.{checkAnswer}
 use Rattle.terms.specs.Question.{Question, checkOf}
 use Rattle.terms_checks.specs.declared.check.Checked.{Checked}
 use Rattle.terms_checks.specs.declared.check.Checked.the-variants.{Accepted, Refused}
-use Rattle.terms.proofs.Answers.{need-passed, need-failed, bind-result, bind-to, true-both}
-use Rattle.verdict.specs.Judge.{greatestCapacity, slotBytes, judgeOf, workAfter}
+use Rattle.terms.proofs.Answers.{bind-result, bind-to}
+use Rattle.verdict.specs.Judge.{slotBytes, withinCapacity, judgeOf, workAfter}
+use Rattle.verdict.proofs.CapacityLaws.{Within, within-of, within-passes}
+use Rattle.verdict_capacity.specs.Numbers.{byNumber}
+use Rattle.verdict_capacity.proofs.NumberLaws.{number-refused, number-passed}
 use Rattle.verdict_judge.specs.Judging.{judgedAnswer, DecidesIs, AcceptedIs, JudgedIs}
 use Rattle.verdict.specs.Verdict.{verdictOf}
 use Rattle.verdict_judge.specs.declared.judge.Judged.{Judged}
@@ -34,27 +34,18 @@ module _ (question : List ℕ) (capacity : ℕ) (work : List ℕ) where
   unfolding judgedAnswer workAfter
   turned-back k e = record { answer = sym e; left = sym (ap (λ a. workAfter a capacity work) e) }
 
-  pub too-small : capacity < 1 → JudgedIs question capacity work (judged.Refused 1) work
-  unfolding judgeOf
-  too-small h = turned-back 1 (need-failed 1 _ _ (ap (λ b. b && leb capacity greatestCapacity) (lt-leb 1 capacity h)))
-
-  pub too-large : greatestCapacity < capacity → JudgedIs question capacity work (judged.Refused 1) work
-  unfolding judgeOf
-  too-large h = turned-back 1 (need-failed 1 _ _ (ap (λ b. leb 1 capacity && b) (lt-leb capacity greatestCapacity h) ∙ and-false (leb 1 capacity)))
-
-  module _ (low : 1 ≤ capacity) (high : capacity ≤ greatestCapacity) where
-    first-passed : (leb 1 capacity && leb capacity greatestCapacity) ≡ true
-    first-passed = true-both (leb 1 capacity) (leb capacity greatestCapacity) (le-leb 1 capacity low) (le-leb capacity greatestCapacity high)
-
-    pub no-room : length work < slotBytes * capacity → JudgedIs question capacity work (judged.Refused 2) work
+  module _ (k : ℕ) (capacity-check : byNumber k ≡ withinCapacity capacity (slotBytes * capacity) (length work)) where
+    pub not-within : 0 < k → JudgedIs question capacity work (judged.Refused k) work
     unfolding judgeOf
-    no-room h =
-        turned-back 2 (need-passed 1 _ _ first-passed ∙ need-failed 2 _ _ (lt-leb (slotBytes * capacity) (length work) h))
+    not-within h = turned-back k (number-refused k (withinCapacity capacity (slotBytes * capacity) (length work)) _ capacity-check h)
 
-    module _ (room : slotBytes * capacity ≤ length work) where
+    module _ (none : k ≡ 0) where
+      pub within : Within capacity (slotBytes * capacity) (length work)
+      within = within-of capacity (slotBytes * capacity) (length work) tt (number-passed k _ capacity-check none)
+
       checks-passed : judgeOf question capacity (length work) ≡ (checkOf question >>= λ q. result (verdictOf q capacity))
       unfolding judgeOf
-      checks-passed = need-passed 1 _ _ first-passed ∙ need-passed 2 _ _ (le-leb (slotBytes * capacity) (length work) room)
+      checks-passed = within-passes capacity (slotBytes * capacity) (length work) _ within
 
       pub question-refused : (k : ℕ) (r : Checked) → checkAnswer question ≡ checkedAnswer r → r ≡ Refused k → JudgedIs question capacity work (judged.Refused k) work
       unfolding checkAnswer checkedAnswer _>>=_

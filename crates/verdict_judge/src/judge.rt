@@ -14,9 +14,8 @@ use steps_tallies::tally::TALLY;
 use steps_tallies::tally::body_tallies;
 use terms_checks::check::Checked;
 use terms_checks::check::check;
+use verdict_capacity::capacity::capacity_check;
 use verdict_start::passes::start_survives;
-
-const GREATEST_CAPACITY: u64 = 4096;
 
 // The number of the check that turns back, or the verdict and the size of the field.
 pub enum Judged {
@@ -93,16 +92,11 @@ fn judge_accepted(question: &[u8], capacity: usize, work: &mut [u8]) -> Judged
 pub fn judge(question: &[u8], capacity: u64, work: &mut [u8]) -> Judged
     ensures { λ r. ⌜ JudgedIs (now (question .entry)) capacity (now (work .entry)) r (now (work .exit)) ⌝ }
 {
-    if capacity < 1 {
-        return Judged::Refused(1);
-    }
-    if GREATEST_CAPACITY < capacity {
-        return Judged::Refused(1);
+    let turned = capacity_check(capacity, work.len());
+    if turned != 0 {
+        return Judged::Refused(turned);
     }
     let slots = capacity as usize;
-    if work.len() < SLOT_BYTES * slots {
-        return Judged::Refused(2);
-    }
     let checked = check(question);
     match checked {
         Checked::Refused(k) => Judged::Refused(k),

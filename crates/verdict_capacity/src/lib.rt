@@ -1,0 +1,2 @@
+// Checks 1 and 2.
+pub mod capacity;
