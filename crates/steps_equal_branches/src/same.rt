@@ -14,9 +14,7 @@ use steps_labels::label::slot;
 use terms_bytes::bytes::get;
 use terms_bytes::bytes::room;
 use terms_bytes::shape::shape_at;
-
-// The byte of a match.
-pub const MATCH: u8 = 5;
+use terms_bytes::tags::MATCH;
 
 // Whether the `n` name bytes at `p` and those at `at` stand for the same names.
 fn same_names(

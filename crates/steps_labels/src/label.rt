@@ -21,6 +21,13 @@ use steps_tallies::tally::visible_at;
 use terms_bytes::bytes::get;
 use terms_bytes::limits::GREATEST_ARITY;
 use terms_bytes::limits::NAME_COUNT;
+use terms_bytes::tags::CHOICE;
+use terms_bytes::tags::INPUT;
+use terms_bytes::tags::MATCH;
+use terms_bytes::tags::OUTPUT;
+use terms_bytes::tags::PARALLEL;
+use terms_bytes::tags::RESTRICTION;
+use terms_bytes::tags::SILENT;
 
 // The slot of the name byte `b` beneath `inner` restrictions of the bytes at hand, `depth` in all.
 pub fn slot(b: u8, args: &[u8], inner: usize, depth: usize) -> u8
@@ -60,16 +67,16 @@ pub fn arguments(
 }
 
 // The action of a prefix by its first byte and its names.
-fn prefix_action(t: usize, a: u8, b: u8) -> Action
+fn prefix_action(t: u8, a: u8, b: u8) -> Action
     ensures { λ r. ⌜ r ≡ prefixAction t a b ⌝ }
 {
-    if t == 1 {
+    if t == SILENT {
         return Action::Silent;
     }
-    if t == 2 {
+    if t == INPUT {
         return Action::Input(a);
     }
-    if t == 3 {
+    if t == OUTPUT {
         return Action::Output(a, b);
     }
     Action::NewOutput(a)
@@ -80,7 +87,7 @@ fn nth_prefix(src: &[u8], at: usize, args: &[u8], inner: usize, depth: usize) ->
     requires { ⌜ (at < length (now src)) × (inner ≤ depth) × (nameCount + depth ≤ slotCount) ⌝ }
     ensures { λ r. ⌜ PrefixLabelIs (now (src .entry)) at (now (args .entry)) inner depth r ⌝ }
 {
-    let t = get(src, at) as usize;
+    let t = get(src, at);
     let a = slot(get(src, at + 1), args, inner, depth);
     let b = slot(get(src, at + 2), args, inner, depth);
     Label::found(prefix_action(t, a, b))
@@ -92,7 +99,7 @@ pub fn restrictions_at(src: &[u8], at: usize) -> usize
 {
     let mut k = at;
     while k < src.len() {
-        if src[k] != 8 {
+        if src[k] != RESTRICTION {
             return k - at;
         }
         k += 1;
@@ -118,7 +125,7 @@ fn leave(label: Label, depth: usize, count: usize) -> Label
 fn past(t: u8, count: usize) -> usize
     ensures { λ r. ⌜ r ≡ pastOf t count ⌝ }
 {
-    if t == 5 {
+    if t == MATCH {
         return 3;
     }
     count
@@ -174,10 +181,10 @@ fn side_of(src: &[u8], tally: &[u32], at: usize, i: usize, silent: bool) -> Side
     let mut n = i;
     while b < src.len() {
         let t = src[b];
-        if t < 6 {
+        if t < CHOICE {
             return single(b, n);
         }
-        if 7 < t {
+        if PARALLEL < t {
             return single(b, n);
         }
         let left = number_at(tally, b + 1, silent);
@@ -333,10 +340,10 @@ pub fn nth(
         return Label::blocked();
     }
     let t = src[b];
-    if t < 5 {
+    if t < MATCH {
         return nth_prefix(src, b, args, inner, depth);
     }
-    if 8 < t {
+    if RESTRICTION < t {
         return nth_call(
             question,
             bodies,

@@ -19,6 +19,11 @@ use steps_tallies::tally::number_at;
 use steps_tallies::tally::visible_at;
 use terms_bytes::bytes::get;
 use terms_bytes::limits::TABLE_NAMES;
+use terms_bytes::tags::CHOICE;
+use terms_bytes::tags::INPUT;
+use terms_bytes::tags::MATCH;
+use terms_bytes::tags::PARALLEL;
+use terms_bytes::tags::RESTRICTION;
 
 // Kinds of actions, as document 01 numbers them.
 const SILENT: usize = 0;
@@ -100,15 +105,13 @@ fn pass_prefix(src: &[u8], at: usize, binders: usize) -> Passed
     requires { ⌜ (at < length (now src)) × (getD (now src) at 0 < 5) × (binders ≤ mostBinders) ⌝ }
     ensures { λ r. ⌜ PrefixIs (now (src .entry)) at binders r ⌝ }
 {
-    let t = get(src, at) as usize;
-    if t < 2 {
+    let t = get(src, at);
+    if t < INPUT {
         return silent();
     }
     let object = slot_of(get(src, at + 2), binders);
-    Passed {
-        kind: t - 1,
-        object,
-    }
+    let kind = t as usize - 1;
+    Passed { kind, object }
 }
 
 // Where the right side of the choice or parallel at `at` stands.
@@ -137,7 +140,7 @@ pub fn branch_of(src: &[u8], tally: &[u32], at: usize, silently: bool, number: u
     let mut b = at;
     let mut n = number;
     while b < src.len() {
-        if src[b] != 6 {
+        if src[b] != CHOICE {
             return Branch { at: b, number: n };
         }
         let left = number_at(tally, b + 1, silently);
@@ -160,13 +163,13 @@ fn source_of(src: &[u8], tally: &[u32], at: usize, number: usize) -> Branch
     let mut n = number;
     while b < src.len() {
         let t = src[b];
-        if t < 5 {
+        if t < MATCH {
             return Branch { at: b, number: n };
         }
-        if 7 < t {
+        if PARALLEL < t {
             return Branch { at: b, number: n };
         }
-        if t == 5 {
+        if t == MATCH {
             b += 3;
         } else {
             let left = visible_at(tally, b + 1);
@@ -226,10 +229,10 @@ pub fn pass(
         return silent();
     }
     let t = src[b];
-    if t < 5 {
+    if t < MATCH {
         return pass_prefix(src, b, binders);
     }
-    if t == 8 {
+    if t == RESTRICTION {
         let p = pass(question, bodies, src, tally, b + 1, binders + 1, calls, n);
         return leaving(p, binders);
     }

@@ -10,6 +10,7 @@ use steps_tallies::tally::end_at;
 use steps_tallies::tally::number_at;
 use terms_bytes::bytes::copy;
 use terms_bytes::bytes::room;
+use terms_bytes::tags::PARALLEL;
 
 // From the parallel at `at` down to the component that has its candidate of this number, or to the parallel whose sides communicate.
 pub fn component_of(src: &[u8], tally: &[u32], at: usize, silently: bool, number: usize) -> Branch
@@ -19,7 +20,7 @@ pub fn component_of(src: &[u8], tally: &[u32], at: usize, silently: bool, number
     let mut b = at;
     let mut n = number;
     while b < src.len() {
-        if src[b] != 7 {
+        if src[b] != PARALLEL {
             return Branch { at: b, number: n };
         }
         let left = number_at(tally, b + 1, silently);

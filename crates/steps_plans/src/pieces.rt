@@ -16,6 +16,10 @@ use terms_bytes::bytes::copy;
 use terms_bytes::bytes::get;
 use terms_bytes::bytes::room;
 use terms_bytes::limits::TABLE_NAMES;
+use terms_bytes::tags::OUTPUT;
+use terms_bytes::tags::PARALLEL;
+use terms_bytes::tags::RESTRICTION;
+use terms_bytes::tags::SILENT;
 use terms_renaming::rename::rename;
 
 // One byte.
@@ -78,7 +82,7 @@ pub fn write_prefix(
 {
     let t = get(src, at);
     let levels = task.levels;
-    if t == 1 {
+    if t == SILENT {
         return write_term(
             question,
             src,
@@ -91,7 +95,7 @@ pub fn write_prefix(
             put,
         );
     }
-    if t == 3 {
+    if t == OUTPUT {
         return write_term(
             question,
             src,
@@ -124,11 +128,11 @@ pub fn open_pair(out: &mut [u8], put: usize, closed: bool) -> usize
     ensures { λ r. ⌜ StoreIs (now (out .entry)) put (opening closed) r (now (out .exit)) ⌝ }
 {
     if !closed {
-        return store(out, put, 7);
+        return store(out, put, PARALLEL);
     }
-    let e = store(out, put, 8);
+    let e = store(out, put, RESTRICTION);
     if out.len() < e {
         return e;
     }
-    store(out, e, 7)
+    store(out, e, PARALLEL)
 }

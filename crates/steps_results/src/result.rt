@@ -33,6 +33,10 @@ use terms_bytes::bytes::copy;
 use terms_bytes::bytes::get;
 use terms_bytes::bytes::room;
 use terms_bytes::limits::TABLE_NAMES;
+use terms_bytes::tags::CHOICE;
+use terms_bytes::tags::MATCH;
+use terms_bytes::tags::PARALLEL;
+use terms_bytes::tags::RESTRICTION;
 
 // The parallel at `at`: both sides.
 fn write_parallel(
@@ -202,7 +206,7 @@ fn write_restriction(
             put,
         );
     }
-    let e = store(out, put, 8);
+    let e = store(out, put, RESTRICTION);
     if out.len() < e {
         return e;
     }
@@ -292,10 +296,10 @@ pub fn write(
         );
     }
     let t = get(src, at);
-    if t < 5 {
+    if t < MATCH {
         return write_prefix(question, src, tally, at, binders, task, names, out, put);
     }
-    if t == 5 {
+    if t == MATCH {
         return write(
             question,
             bodies,
@@ -309,7 +313,7 @@ pub fn write(
             put,
         );
     }
-    if t == 6 {
+    if t == CHOICE {
         let b = branch_of(src, tally, at, task.silently, task.number);
         let n = b.number;
         return write(
@@ -325,7 +329,7 @@ pub fn write(
             put,
         );
     }
-    if t == 7 {
+    if t == PARALLEL {
         return write_beside(
             question,
             bodies,
@@ -339,7 +343,7 @@ pub fn write(
             put,
         );
     }
-    if t == 8 {
+    if t == RESTRICTION {
         return write_restriction(
             question,
             bodies,

@@ -10,7 +10,6 @@ ghost use Rattle.steps_conditions.specs.Slots.{slotCount};
 ghost use Rattle.steps_tallies.specs.Tally.{EndsInside, TallyIs, EndsTallied, BodiesTallied};
 ghost use Rattle.steps_rows.specs.Rows.{rowBytes, mostRows, PutRowIs, prefixKind, PrefixRowIs, PutRepeatedIs, rootOf, ScanIs, QuietIs};
 ghost use Rattle.steps_equal_branches.specs.BranchRows.{isTrivial, isFailing, behindPiece, RepeatedIs};
-use steps_equal_branches::same::MATCH;
 use steps_equal_branches::same::same_branch;
 use steps_labels::label::arguments;
 use steps_labels::label::slot;
@@ -24,6 +23,12 @@ use steps_tallies::tally::silent_at;
 use steps_tallies::tally::visible_at;
 use terms_bytes::bytes::get;
 use terms_bytes::limits::NAME_COUNT;
+use terms_bytes::tags::CALL;
+use terms_bytes::tags::CHOICE;
+use terms_bytes::tags::INPUT;
+use terms_bytes::tags::MATCH;
+use terms_bytes::tags::OUTPUT;
+use terms_bytes::tags::RESTRICTION;
 
 // What a candidate does (1 input, 2 output, 3 new-name output; 4 more beneath a match of free names; 4 if it adds no step), its channel and its
 // object; the fourth byte is not used.
@@ -36,10 +41,6 @@ pub const REPEATED: u8 = 4;
 pub const MATCHED: u8 = 4;
 
 // The byte of a choice.
-const CHOICE: u8 = 6;
-
-const CALL: u8 = 9;
-
 // No part has more visible candidates.
 pub const MOST_ROWS: usize = 1056;
 
@@ -103,7 +104,7 @@ fn scan_prefix(
     let t = get(src, at);
     let kind = prefix_kind(t, asked);
     let channel = slot(get(src, at + 1), args, inner, depth);
-    if t == 3 {
+    if t == OUTPUT {
         let object = slot(get(src, at + 2), args, inner, depth);
         return put_row(rows, n, kind, channel, object);
     }
@@ -198,7 +199,7 @@ fn may_be_same(src: &[u8], p: usize, at: usize, args: &[u8], inner: usize, depth
     if src[p] != t {
         return false;
     }
-    if t == 3 {
+    if t == OUTPUT {
         return begin_alike(src, p + 3, at + 3);
     }
     if t < MATCH {
@@ -323,7 +324,7 @@ pub fn scan(
         return n;
     }
     let t = src[at];
-    if t < 2 {
+    if t < INPUT {
         return n;
     }
     if is_trivial(src, at, args, inner, depth) {
@@ -348,7 +349,7 @@ pub fn scan(
             return put_repeated(rows, n, visible_at(tally, at));
         }
     }
-    if t < 5 {
+    if t < MATCH {
         return scan_prefix(src, at, asked, args, inner, depth, rows, n);
     }
     if t == MATCH {
@@ -368,7 +369,7 @@ pub fn scan(
             n,
         );
     }
-    if t == 8 {
+    if t == RESTRICTION {
         return scan(
             question,
             bodies,
@@ -385,7 +386,7 @@ pub fn scan(
             n,
         );
     }
-    if 8 < t {
+    if RESTRICTION < t {
         return scan_call(
             question,
             bodies,
@@ -468,16 +469,16 @@ pub fn quiet(
         return true;
     }
     let t = src[at];
-    if t < 5 {
+    if t < MATCH {
         return true;
     }
-    if t == 8 {
+    if t == RESTRICTION {
         return quiet(question, bodies, src, tally, at + 1, calls);
     }
-    if 8 < t {
+    if RESTRICTION < t {
         return quiet_call(question, bodies, src, at, calls);
     }
-    if t != 6 {
+    if t != CHOICE {
         return false;
     }
     let middle = middle_of(src, tally, at);

@@ -6,6 +6,8 @@ ghost use Rattle.steps_tallies.specs.Tally.{EndsInside};
 ghost use Rattle.steps_splicing.specs.Locating.{LocateIs};
 use steps_passing::pass::middle_of;
 use steps_tallies::tally::visible_at;
+use terms_bytes::tags::PARALLEL;
+use terms_bytes::tags::RESTRICTION;
 
 // A component, the restrictions around it, and the number of a candidate among its own.
 pub struct Located {
@@ -24,11 +26,11 @@ pub fn locate(src: &[u8], tally: &[u32], at: usize, depth: usize, i: usize) -> L
     let mut n = i;
     while a < src.len() {
         let t = src[a];
-        if t == 8 {
+        if t == RESTRICTION {
             a += 1;
             d += 1;
         } else {
-            if t != 7 {
+            if t != PARALLEL {
                 return Located {
                     at: a,
                     depth: d,

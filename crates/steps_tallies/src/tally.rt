@@ -14,6 +14,12 @@ use terms_bytes::frame::after_field;
 use terms_bytes::frame::field_place;
 use terms_bytes::limits::LONGEST_TERM;
 use terms_bytes::limits::MOST_DEFINITIONS;
+use terms_bytes::tags::CALL;
+use terms_bytes::tags::CHOICE;
+use terms_bytes::tags::INACTION;
+use terms_bytes::tags::MATCH;
+use terms_bytes::tags::PARALLEL;
+use terms_bytes::tags::SILENT;
 
 // Three times the longest term, at each place the visible candidates, the silent ones, and the end; and one number more.
 pub const TALLY: usize = 337;
@@ -97,7 +103,7 @@ fn tallied(tally: &[u32], at: usize, size: usize) -> Entry
 fn prefix_entry(t: u8, end: usize) -> Entry
     ensures { λ r. ⌜ r ≡ prefixEntry t end ⌝ }
 {
-    if t == 1 {
+    if t == SILENT {
         return Entry {
             visible: 0,
             silent: 1,
@@ -155,25 +161,25 @@ fn entry_at(src: &[u8], at: usize, arities: &[u8], bodies: &[u32], tally: &[u32]
     let h = front_at(src, at, arities);
     let t = h.tag;
     let next = h.next;
-    if t == 0 {
+    if t == INACTION {
         return Entry {
             visible: 0,
             silent: 0,
             end: at + 1,
         };
     }
-    if t == 9 {
+    if t == CALL {
         return call_entry(bodies, get(src, at + 1), next);
     }
     let p = tallied(tally, next, src.len());
-    if t < 5 {
+    if t < MATCH {
         return prefix_entry(t, p.end);
     }
     let q = tallied(tally, p.end, src.len());
-    if t == 6 {
+    if t == CHOICE {
         return choice(p, q);
     }
-    if t == 7 {
+    if t == PARALLEL {
         return parallel(p, q);
     }
     p

@@ -25,6 +25,7 @@ use steps_tallies::tally::silent_at;
 use terms_bytes::bytes::get;
 use terms_bytes::limits::GREATEST_ARITY;
 use terms_bytes::limits::NAME_COUNT;
+use terms_bytes::tags::PARALLEL;
 
 // How many rows are filled, and how many steps the list has.
 pub struct Walked {
@@ -459,7 +460,7 @@ pub fn walk(
     if part.len() <= place {
         return Walked { rows: n, count };
     }
-    if part[place] == 7 {
+    if part[place] == PARALLEL {
         return walk_parallel(
             question,
             bodies,

@@ -4,3 +4,4 @@ pub mod bytes;
 pub mod frame;
 pub mod limits;
 pub mod shape;
+pub mod tags;

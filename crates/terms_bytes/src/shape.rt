@@ -4,6 +4,15 @@ ghost use Prim.Native.Nat.{_<_};
 ghost use lib.ListN.{length};
 ghost use Rattle.terms_bytes.specs.Shape.{namesBehind, bindersAt, partsAt, ShapeIs};
 use crate::bytes::get;
+use crate::tags::CALL;
+use crate::tags::CHOICE;
+use crate::tags::INACTION;
+use crate::tags::INPUT;
+use crate::tags::MATCH;
+use crate::tags::NEW_OUTPUT;
+use crate::tags::OUTPUT;
+use crate::tags::PARALLEL;
+use crate::tags::RESTRICTION;
 
 pub struct Shape {
     // the bytes that no renaming changes: the first, and a call's number
@@ -17,52 +26,52 @@ pub struct Shape {
 }
 
 // How many names stand behind the first byte, unless it is a call's. Tests take less than a table, which would be made anew at each call.
-fn names_of(t: usize) -> usize
+fn names_of(t: u8) -> usize
     ensures { λ r. ⌜ r ≡ namesBehind t ⌝ }
 {
-    if t == 2 {
+    if t == INPUT {
         return 1;
     }
-    if t == 3 {
+    if t == OUTPUT {
         return 2;
     }
-    if t == 4 {
+    if t == NEW_OUTPUT {
         return 1;
     }
-    if t == 5 {
+    if t == MATCH {
         return 2;
     }
     0
 }
 
-fn binders_of(t: usize) -> usize
+fn binders_of(t: u8) -> usize
     ensures { λ r. ⌜ r ≡ bindersAt t ⌝ }
 {
-    if t == 2 {
+    if t == INPUT {
         return 1;
     }
-    if t == 4 {
+    if t == NEW_OUTPUT {
         return 1;
     }
-    if t == 8 {
+    if t == RESTRICTION {
         return 1;
     }
     0
 }
 
-fn parts_of(t: usize) -> usize
+fn parts_of(t: u8) -> usize
     ensures { λ r. ⌜ r ≡ partsAt t ⌝ }
 {
-    if t == 0 {
+    if t == INACTION {
         return 0;
     }
-    if t == 6 {
+    if t == CHOICE {
         return 2;
     }
-    if t == 7 {
+    if t == PARALLEL {
         return 2;
     }
-    if t < 9 {
+    if t < CALL {
         return 1;
     }
     0
@@ -73,8 +82,8 @@ pub fn shape_at(src: &[u8], at: usize, arities: &[u8]) -> Shape
     requires { ⌜ at < length (now src) ⌝ }
     ensures { λ r. ⌜ ShapeIs (now (src .entry)) at (now (arities .entry)) r ⌝ }
 {
-    let t = get(src, at) as usize;
-    if t == 9 {
+    let t = get(src, at);
+    if t == CALL {
         let k = get(src, at + 1) as usize;
         let n = get(arities, k) as usize;
         return Shape {

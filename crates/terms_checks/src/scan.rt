@@ -6,6 +6,11 @@ ghost use Prim.Native.Nat.{_+_, _≤_};
 ghost use Rattle.terms_checks.specs.Scanning.{nameAllowed, NamesIs, FrontIs, passing, combined, ScanIs, scannedWhole, wholeAnswer};
 use terms_bytes::bytes::get;
 use terms_bytes::shape::shape_at;
+use terms_bytes::tags::CALL;
+use terms_bytes::tags::NEW_OUTPUT;
+use terms_bytes::tags::PARALLEL;
+use terms_bytes::tags::RESTRICTION;
+use terms_bytes::tags::SILENT;
 
 // What checks 10 and 11 ask of a term: no parallel in it; parallels beneath nothing but parallels and restrictions; every call beneath a prefix.
 pub struct Control {
@@ -70,12 +75,12 @@ fn scan_front(src: &[u8], at: usize, depth: usize, free: usize, arities: &[u8]) 
         return Front::Wrong(7);
     }
     let t = get(src, at);
-    if 9 < t {
+    if CALL < t {
         return Front::Wrong(7);
     }
     let h = shape_at(src, at, arities);
     let names = h.names;
-    if t == 9 {
+    if t == CALL {
         if src.len() <= at + 1 {
             return Front::Wrong(7);
         }
@@ -113,22 +118,22 @@ fn combine(t: u8, p: Control, q: Control) -> Control
     let o = both(p.outermost, q.outermost);
     let g = both(p.guarded, q.guarded);
     match t {
-        1..=4 => Control {
+        SILENT..=NEW_OUTPUT => Control {
             sequential: s,
             outermost: s,
             guarded: true,
         },
-        7 => Control {
+        PARALLEL => Control {
             sequential: false,
             outermost: o,
             guarded: g,
         },
-        8 => Control {
+        RESTRICTION => Control {
             sequential: s,
             outermost: o,
             guarded: g,
         },
-        9 => Control {
+        CALL => Control {
             sequential: s,
             outermost: s,
             guarded: false,

@@ -19,6 +19,7 @@ use terms_bytes::frame::field_place;
 use terms_bytes::frame::size_at;
 use terms_bytes::limits::LONGEST_TERM;
 use terms_bytes::limits::NAME_COUNT;
+use terms_bytes::tags::PARALLEL;
 use terms_checks::check::Checked;
 use terms_checks::check::check;
 use terms_checks::scan::Scan;
@@ -39,7 +40,7 @@ fn write_side(
     let n = 1 + size + third.len();
     area[put] = (n / 256) as u8;
     area[put + 1] = (n % 256) as u8;
-    area[put + 2] = 7;
+    area[put + 2] = PARALLEL;
     copy(question, at, size, area, put + 3);
     copy(third, 0, third.len(), area, put + 3 + size);
     put + 2 + n

@@ -1,4 +1,4 @@
--- `candidates::pass::pass_prefix` meets its contract. Assumes nothing.
+-- `steps_passing::pass::pass_prefix` meets its contract. Assumes nothing.
 use mathlib.Core.Path.{ap, _∙_}
 use Prim.Native.Nat.{ℕ, _-_}
 use native.Mathlib.Omega.{arith}
@@ -11,9 +11,6 @@ use Rattle.steps_passing.proofs.pass.pass_prefix.Tie as tie
 
 get-requires : tie.Need-get-requires
 get-requires c κs = search needs
-
-cast-t : tie.Need-cast-t
-cast-t c = search needs
 
 silent-requires : tie.Need-silent-requires
 silent-requires c κs = search needs
@@ -41,8 +38,11 @@ get-requires-2 c κs = search needs
 slot-of-requires : tie.Need-slot-of-requires
 slot-of-requires c κs = search needs
 
-sub-t8 : tie.Need-sub-t8
-sub-t8 c = search needs
+cast-kind : tie.Need-cast-kind
+cast-kind c = search needs
+
+sub-kind : tie.Need-sub-kind
+sub-kind c = search needs
 
 returns-2 : tie.Need-returns-2
 returns-2 c =
@@ -61,11 +61,11 @@ pass-prefix-spec =
     tie.close
     (tie.spec
     get-requires
-    cast-t
     silent-requires
     returns
     add-get
     get-requires-2
     slot-of-requires
-    sub-t8
+    cast-kind
+    sub-kind
     returns-2)

@@ -15,9 +15,6 @@ use Rattle.terms_bytes.proofs.shape.shape_at.Tie as tie
 get-requires : tie.Need-get-requires
 get-requires c κs = search needs
 
-cast-t : tie.Need-cast-t
-cast-t c = search needs
-
 add-get : tie.Need-add-get
 add-get c = search needs
 
@@ -87,7 +84,6 @@ shape-at-spec =
     tie.close
     (tie.spec
     get-requires
-    cast-t
     add-get
     get-requires-2
     cast-k
