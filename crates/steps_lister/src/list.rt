@@ -15,6 +15,11 @@ use steps_tallies::tally::body_tallies;
 use steps_tallies::tally::tally;
 use steps_walk::walk::walk;
 
+// The scratch that a listing wants of its caller: numbers for the part's tally, bytes for its rows.
+pub const SCRATCH_NUMBERS: usize = TALLY;
+
+pub const SCRATCH_ROWS: usize = TABLE_OF_ROWS;
+
 pub enum ListAnswer {
     Unsettled,
     Count(usize),
@@ -63,7 +68,7 @@ pub fn list_part(question: &[u8], part: &[u8], x: u8, area: &mut [u8]) -> ListAn
     ensures { λ r. ⌜ ListPartIs (now (question .entry)) (now (part .entry)) x r (now (area .exit)) ⌝ }
 {
     let bodies = body_tallies(question);
-    let mut numbers = [0u32; TALLY];
-    let mut rows = [0u8; TABLE_OF_ROWS];
+    let mut numbers = [0u32; SCRATCH_NUMBERS];
+    let mut rows = [0u8; SCRATCH_ROWS];
     list_tallied(question, &bodies, part, x, &mut numbers, &mut rows, area)
 }

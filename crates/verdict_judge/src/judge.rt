@@ -9,8 +9,8 @@ use field_exploration::explore::Explored;
 use field_exploration::explore::explore;
 use field_kept_lists::list_area::LIST_AREA;
 use field_slots::find::SLOT_BYTES;
-use steps_rows::rows::TABLE_OF_ROWS;
-use steps_tallies::tally::TALLY;
+use steps_lister::list::SCRATCH_NUMBERS;
+use steps_lister::list::SCRATCH_ROWS;
 use steps_tallies::tally::body_tallies;
 use terms_checks::check::Checked;
 use terms_checks::check::check;
@@ -43,8 +43,8 @@ fn decide(question: &[u8], capacity: usize, work: &mut [u8]) -> Judged
     ensures { λ r. ⌜ DecidesIs (now (question .entry)) capacity (now (work .entry)) r (now (work .exit)) ⌝ }
 {
     let bodies = body_tallies(question);
-    let mut numbers = [0u32; TALLY];
-    let mut rows = [0u8; TABLE_OF_ROWS];
+    let mut numbers = [0u32; SCRATCH_NUMBERS];
+    let mut rows = [0u8; SCRATCH_ROWS];
     let mut firsts = [0u8; LIST_AREA];
     let mut seconds = [0u8; LIST_AREA];
     let explored = explore(
