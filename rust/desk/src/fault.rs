@@ -31,6 +31,8 @@ pub struct Fault {
     pub span: Span,
     /// What belongs there, said beneath the place.
     pub label: String,
+    /// Further places, each with what stands there: `opened`, `the first`.
+    pub elsewhere: Vec<(&'static str, Span)>,
     /// Further lines: the rule that is broken, what to try.
     pub notes: Vec<String>,
     /// The rule of the library that is broken, if it is one.
@@ -41,7 +43,13 @@ impl Fault {
     /// A fault without further lines.
     pub fn new(span: Span, message: impl Into<String>, label: impl Into<String>) -> Fault {
         let (message, label) = (message.into(), label.into());
-        Fault { message, span, label, notes: Vec::new(), refusal: None }
+        Fault { message, span, label, elsewhere: Vec::new(), notes: Vec::new(), refusal: None }
+    }
+
+    /// The fault with another place that belongs to it.
+    pub fn elsewhere(mut self, what: &'static str, span: Span) -> Fault {
+        self.elsewhere.push((what, span));
+        self
     }
 
     /// The fault with advice.
@@ -75,7 +83,11 @@ impl Fault {
             "{margin}--> {file}:{number}:{}\n{margin} |\n{number} | {}\n{margin} | {mark} {}\n",
             place.column, place.shown, self.label
         );
-        for (place, note) in self.notes.iter().enumerate() {
+        let elsewhere = self.elsewhere.iter().map(|&(what, span)| {
+            let Place { line, column, .. } = Place::of(source, span);
+            format!("note: {what} at {file}:{line}:{column}")
+        });
+        for (place, note) in elsewhere.chain(self.notes.iter().cloned()).enumerate() {
             if place == 0 {
                 let _ = writeln!(text, "{margin} |");
             }

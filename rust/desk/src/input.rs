@@ -59,7 +59,10 @@ impl Unreadable {
 
 /// The bytes of a file, or of standard input.
 pub fn bytes(file: &str) -> Result<Vec<u8>, Unreadable> {
-    let told = |error: io::Error| Unreadable::plain(file, &error.to_string());
+    let told = |error: io::Error| match Path::new(file).is_dir() {
+        true => Unreadable::plain(file, "this is a folder, and one file is needed"),
+        false => Unreadable::plain(file, &error.to_string()),
+    };
     let mut bytes = Vec::new();
     let read = match file {
         STANDARD_INPUT => io::stdin().lock().take(FILE_BYTES + 1).read_to_end(&mut bytes),

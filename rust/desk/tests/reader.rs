@@ -60,11 +60,16 @@ fn faults_are_told_with_their_place() {
     assert_eq!(fault("a = 0\na = 0"), "f:2:1: both parts are called `a`");
     assert_eq!(
         fault("a = 0\nb = 0\napart: a\n"),
-        "f:4:1: expected another name, found the end of the file"
+        "f:3:9: expected another name, found the end of the file"
     );
     assert_eq!(fault("K(a) = 0\nK = 0"), "f:2:1: `K` is defined twice");
     assert_eq!(fault("K(a, a) = 0"), "f:1:6: two parameters are called `a`");
     assert_eq!(fault("K(a) = 0\nold = K(b, c)"), "f:2:7: `K` takes 1 name, found 2 names");
+    assert_eq!(fault("K(a, = 0"), "f:1:6: expected a name, found `=`");
+    assert_eq!(fault("old = 0\nK(a)"), "f:2:5: expected `=`, found the end of the file");
+    assert_eq!(fault("K(a) = 0\nold = K(b,)"), "f:2:11: expected a name, found `)`");
+    let one_line = "f:1:9: expected `+`, `|` or the end of the line, found `new`";
+    assert_eq!(fault("old = 0 new = 0"), one_line);
     assert_eq!(
         fault("old = a(x).0\nnames: a"),
         "f:2:1: the list of names comes after a name was used"
@@ -72,9 +77,27 @@ fn faults_are_told_with_their_place() {
     assert_eq!(fault("old = éé\u{7}"), "f:1:9: no exchange has the character '\\u{7}'");
 }
 
+/// All that is told of a fault.
+fn full(source: &str) -> String {
+    exchange_of("f", source.as_bytes()).expect_err(source).full
+}
+
+#[test]
+fn faults_come_with_advice() {
+    let told = |source: &str, note: &str| {
+        let full = full(source);
+        assert!(full.lines().any(|line| line.ends_with(note)), "{full}");
+    };
+    told("old = tau.\n (a(x).0\nnew = 0", "= note: it was opened at f:2:2");
+    told("K = 0\nK = 0", "= note: the first is at f:1:1");
+    told("K(a) = 0\nold = K", "= note: it is defined at f:1:1");
+    told("old = τ.0", "= help: a silent step is written `tau.`");
+    told("old = (νx)a<x>.0", "= help: a restriction is written `(new x)P`");
+    told("Confirm = 0\nold = Confrim\nnew = 0", "= help: did you mean `Confirm`?");
+}
+
 #[test]
 fn broken_rules_are_told_with_their_place() {
-    let full = |source: &str| exchange_of("f", source.as_bytes()).expect_err(source).full;
     let told = |source: &str, place: &str, rule: &str| {
         let full = full(source);
         assert!(full.contains(&format!("--> f:{place}\n")), "{full}");

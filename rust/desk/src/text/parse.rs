@@ -40,16 +40,17 @@ fn headers<'a>(lexemes: &[Lexeme<'a>]) -> Result<Vec<Header<'a>>, Fault> {
         else {
             continue;
         };
-        if headers.iter().any(|header| header.name == name) {
+        if let Some(first) = headers.iter().find(|header| header.name == name) {
             let message = format!("{} is defined twice", lexeme.token.told());
-            return Err(Fault::new(lexeme.span, message, "the second definition"));
+            let fault = Fault::new(lexeme.span, message, "the second definition");
+            return Err(fault.elsewhere("the first is", first.span));
         }
         if headers.len() == DEFINITIONS {
             let message = format!("there are more than {DEFINITIONS} definitions");
             let label = "one definition too many";
             return Err(Fault::new(lexeme.span, message, label).rule(Refusal::Definitions));
         }
-        headers.push(Header { name, arity });
+        headers.push(Header { name, arity, span: lexeme.span });
     }
     Ok(headers)
 }
@@ -81,6 +82,7 @@ fn header_arity(lexemes: &[Lexeme<'_>]) -> Option<usize> {
 pub(super) struct Header<'a> {
     pub name: &'a str,
     pub arity: usize,
+    pub span: Span,
 }
 
 /// The statements read so far.
@@ -157,15 +159,17 @@ impl<'a> Parser<'a> {
     }
 
     /// The fault that something else stands here. What is missing at the end of a line is missed
-    /// there, and not where the next line begins.
+    /// there, and not where the next line begins or the file ends.
     pub fn expected(&self, what: &str, label: &str) -> Fault {
         let here = self.here();
+        let found = match (here.begins_line, here.token) {
+            (true, Token::End) | (false, _) => here.token.told(),
+            (true, _) => "the end of the line".to_string(),
+        };
         let before = self.at.checked_sub(1).map(|before| self.lexemes[before].span);
-        let (found, span) = match (here.begins_line && here.token != Token::End, before) {
-            (true, Some(Span { end, .. })) => {
-                ("the end of the line".to_string(), Span { start: end, end: end + 1 })
-            }
-            _ => (here.token.told(), here.span),
+        let span = match (here.begins_line, before) {
+            (true, Some(Span { end, .. })) => Span { start: end, end: end + 1 },
+            _ => here.span,
         };
         Fault::new(span, format!("expected {what}, found {found}"), label)
     }
@@ -189,25 +193,20 @@ impl<'a> Parser<'a> {
         }
     }
 
-    /// Whether a definition begins here.
-    fn at_definition(&self) -> bool {
-        header_arity(&self.lexemes[self.at.min(self.lexemes.len())..]).is_some()
-    }
-
     fn statement(&mut self, statements: &mut Statements) -> Result<(), Fault> {
         let here = self.here();
         match (here.token, self.ahead(1).token) {
+            _ if !here.begins_line => Err(self
+                .expected("`+`, `|` or the end of the line", "the term has ended before this")
+                .help("a term that stands in a longer one may need parentheses")),
             (Token::Small("names"), Token::Sign(':')) => self.names(),
             (Token::Small("apart"), Token::Sign(':')) => self.apart(statements),
             (Token::Small(label), Token::Sign('=')) => self.part(label, statements),
-            (Token::Capital(name), _) if self.at_definition() => {
+            (Token::Capital(name), _) => {
                 let definition = self.definition(name)?;
                 statements.definitions.push(definition);
                 Ok(())
             }
-            _ if !here.begins_line => Err(self
-                .expected("`+`, `|` or the end of the line", "the term has ended before this")
-                .help("a term that stands in a longer one may need parentheses")),
             _ => {
                 let what = "a definition, a part or a list of names";
                 let message = format!("expected {what}, found {}", here.token.told());

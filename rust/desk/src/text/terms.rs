@@ -57,15 +57,26 @@ impl<'a> Parser<'a> {
             (Token::Sign('('), Token::Small("new")) => self.restriction(),
             (Token::Sign('('), _) => self.parentheses(),
             (Token::Sign('['), _) => self.matching(),
-            (Token::Small(_), _) if !here.begins_line => {
+            (Token::Small(word), _) if !here.begins_line => {
                 self.pass();
-                Err(self
-                    .expected("`(` or `<`", "a name begins an input `a(x).` or an output `a<b>.`"))
+                Err(self.no_prefix(word))
             }
             _ => Err(self.expected(TERM, "a term is missing here")),
         };
         self.depth -= 1;
         term
+    }
+
+    /// The fault that a word begins no prefix. Who writes as papers do is told how it is written
+    /// here.
+    fn no_prefix(&self, word: &str) -> Fault {
+        let label = "a name begins an input `a(x).` or an output `a<b>.`";
+        let fault = self.expected("`(` or `<`", label);
+        match self.here().token {
+            _ if word.starts_with('ν') => fault.help("a restriction is written `(new x)P`"),
+            Token::Sign('.') => fault.help("a silent step is written `tau.`"),
+            _ => fault,
+        }
     }
 
     fn nil(&mut self) -> Result<Term, Fault> {
@@ -165,10 +176,10 @@ impl<'a> Parser<'a> {
     }
 
     fn parentheses(&mut self) -> Result<Term, Fault> {
-        self.pass();
+        let opened = self.pass().span;
         let term = self.term()?;
-        self.sign(')', "a parenthesis was opened and not closed")?;
-        Ok(term)
+        let closed = self.sign(')', "a parenthesis was opened and not closed");
+        closed.map(|_| term).map_err(|fault| fault.elsewhere("it was opened", opened))
     }
 
     /// `[a=b]P`
@@ -191,13 +202,12 @@ impl<'a> Parser<'a> {
         let mut names = Vec::new();
         let mut end = start.span;
         if self.passes('(') {
-            while self.here().token != Token::Sign(')') {
+            let mut goes_on = self.here().token != Token::Sign(')');
+            while goes_on {
                 let (word, span) = self.name("a name for a parameter")?;
                 self.scope.spend(1, span)?;
                 names.push(self.scope.name(word, span)?);
-                if !self.passes(',') {
-                    break;
-                }
+                goes_on = self.passes(',');
             }
             end = self.sign(')', "the names of a call are separated by `,` and end in `)`")?;
         }
@@ -212,13 +222,14 @@ impl<'a> Parser<'a> {
         let Some(number) = self.headers.iter().position(called) else {
             return Ok(self.headers.len() as u8);
         };
-        let arity = self.headers[number].arity;
+        let super::parse::Header { arity, span: defined, .. } = self.headers[number];
         if arity == given {
             return Ok(number as u8);
         }
         let names = |count| if count == 1 { "1 name".into() } else { format!("{count} names") };
         let message = format!("{} takes {}, found {}", token.told(), names(arity), names(given));
         Err(Fault::new(span, message, format!("expected {}", names(arity)))
+            .elsewhere("it is defined", defined)
             .help("give one name for each parameter of the definition"))
     }
 }
