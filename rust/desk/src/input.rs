@@ -101,6 +101,15 @@ pub fn question(file: &str, bytes: &[u8]) -> Result<Exchange, Unreadable> {
     Ok(Exchange::of(question))
 }
 
+/// The exchange of a file that must be a question and not text.
+pub fn only_question(file: &str, bytes: &[u8]) -> Result<Exchange, Unreadable> {
+    let begins = |text: &str| text.starts_with(|first: char| !first.is_control());
+    match std::str::from_utf8(bytes).is_ok_and(begins) {
+        true => Err(Unreadable::plain(file, "this is text, and no question in bytes")),
+        false => question(file, bytes),
+    }
+}
+
 /// A file that is neither text nor a question, from this byte on.
 fn not_text(file: &str, bytes: &[u8], from: usize) -> Unreadable {
     let source = String::from_utf8_lossy(bytes);

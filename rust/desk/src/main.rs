@@ -33,7 +33,7 @@ fn main() -> ExitCode {
 
 fn run(command: Command) -> Result<u8, Unreadable> {
     match command {
-        Command::Help(text) => write(None, text.as_bytes()).map(|()| 0),
+        Command::Print(text) => write(None, text.as_bytes()).map(|()| 0),
         Command::Judge(named, capacity) => judge(&named, capacity),
         Command::Explain(file, capacity) => {
             let explanation = explain(&input::exchange(&file)?, capacity);
@@ -42,7 +42,7 @@ fn run(command: Command) -> Result<u8, Unreadable> {
         }
         Command::Bytes(file, output) => write(output, &input::exchange(&file)?.bytes()).map(|()| 0),
         Command::Text(file, output) => {
-            let exchange = input::question(&file, &input::bytes(&file)?)?;
+            let exchange = input::only_question(&file, &input::bytes(&file)?)?;
             write(output, text::file(&exchange).as_bytes()).map(|()| 0)
         }
         Command::Draw(file, merged, output, capacity) => {

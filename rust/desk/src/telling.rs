@@ -3,6 +3,9 @@
 /// The width to which running text is laid out.
 const WIDTH: usize = 92;
 
+/// The most letters of a term that is not shortened.
+const LONG: usize = 240;
+
 /// A piece of what is told.
 #[derive(Clone, PartialEq, Eq, Debug)]
 pub enum Block {
@@ -29,7 +32,10 @@ pub fn lines(blocks: &[Block]) -> String {
         match block {
             Block::Verdict(told) => text.push_str(&wrapped(told, "", "")),
             Block::Position(number) => text.push_str(&format!("Position {number}\n")),
-            Block::Term(label, term) => text.push_str(&format!("    {label} = {term}\n")),
+            Block::Term(label, term) => {
+                let lines = wrapped_term(&format!("{label} = {term}"), WIDTH - 8);
+                text.push_str(&format!("    {}\n", lines.join("\n        ")));
+            }
             Block::Text(told) => text.push_str(&wrapped(told, "", "")),
             Block::Item(told) => text.push_str(&wrapped(told, "  - ", "    ")),
         }
@@ -60,10 +66,46 @@ pub fn wrapped_words(text: &str, letters: usize) -> Vec<String> {
     filled(words, letters)
 }
 
-/// A term in lines of so many letters, broken after signs, but not between `new` and its name.
+/// A term in lines of so many letters. It may be read again in these lines.
 pub fn wrapped_term(term: &str, letters: usize) -> Vec<String> {
-    let unbroken = term.replace("new ", "new\u{A0}");
-    filled(unbroken.split_inclusive(['.', ' ', ',', ']', ')']).map(str::to_string), letters)
+    filled(pieces(term).into_iter().map(str::to_string), letters)
+}
+
+/// A term too long to be read, without its middle.
+pub fn shortened(term: &str) -> String {
+    if term.chars().count() <= LONG {
+        return term.to_string();
+    }
+    let pieces = pieces(term);
+    let front = fitting(pieces.iter(), LONG / 2);
+    let back = pieces.len() - fitting(pieces.iter().rev(), LONG / 4);
+    format!("{} … {}", pieces[..front].concat().trim_end(), pieces[back..].concat())
+}
+
+/// How many of the pieces have no more than so many letters.
+fn fitting<'a>(pieces: impl Iterator<Item = &'a &'a str>, letters: usize) -> usize {
+    let mut length = 0;
+    let fits = |piece: &&&str| {
+        length += piece.chars().count();
+        length <= letters
+    };
+    pieces.take_while(fits).count()
+}
+
+/// A term in pieces that end after signs, but not between `new` and its name.
+fn pieces(term: &str) -> Vec<&str> {
+    let mut pieces = Vec::new();
+    let mut start = 0;
+    for (at, sign) in term.match_indices(['.', ' ', ',', ']', ')']) {
+        let end = at + sign.len();
+        let goes_on = term[end..].starts_with(['.', ' ', ',', ']', ')']);
+        if !goes_on && !term[start..end].ends_with("new ") {
+            pieces.push(&term[start..end]);
+            start = end;
+        }
+    }
+    pieces.push(&term[start..]);
+    pieces
 }
 
 /// Pieces in lines. A piece that is too long has a line of its own.
@@ -92,5 +134,14 @@ mod tests {
         assert!(lines.starts_with("  - word word") && lines.contains("\n    word"));
         assert_eq!(lines.split_whitespace().filter(|&word| word == "word").count(), 60);
         assert_eq!(wrapped_term("a(x).b<c>.0 + tau.0", 9), ["a(x).", "b<c>.0 +", "tau.0"]);
+        assert_eq!(wrapped_term("[a=b](new x)K(x, a)", 8), ["[a=b]", "(new x)", "K(x, a)"]);
+    }
+
+    #[test]
+    fn long_terms_lose_their_middle() {
+        let long = "(new x)".repeat(50) + "K(a)";
+        let [front, back] = ["(new x)".repeat(17), "(new x)".repeat(8) + "K(a)"];
+        assert_eq!(shortened(&long), format!("{front} … {back}"));
+        assert_eq!(shortened("tau.0"), "tau.0");
     }
 }

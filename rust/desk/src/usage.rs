@@ -1,5 +1,6 @@
 //! Commands and their options.
 
+use crate::words::alike;
 use exchange::Capacity;
 use std::ffi::OsString;
 
@@ -19,8 +20,11 @@ pub enum Command {
     /// Write a question as text.
     Text(String, Option<String>),
     /// Print this.
-    Help(&'static str),
+    Print(&'static str),
 }
+
+/// The version.
+const VERSION: &str = concat!("desk ", env!("CARGO_PKG_VERSION"), "\n");
 
 /// All commands.
 pub const HELP: &str = "\
@@ -33,6 +37,7 @@ desk reads exchanges as text, judges, explains and draws them.
     desk bytes FILE -o FILE              the question that a file says
     desk text FILE                       a question as such a file
     desk COMMAND --help                  more on one of them
+    desk --version
 
 A file has definitions, two parts and the names held apart:
 
@@ -132,12 +137,13 @@ pub fn command(arguments: impl IntoIterator<Item = OsString>) -> Result<Command,
         "report" => REPORT,
         "bytes" => BYTES,
         "text" => TEXT,
-        "help" | "--help" | "-h" => return Ok(Command::Help(HELP)),
-        _ => return Err(format!("there is no command `{name}`")),
+        "help" | "--help" | "-h" => return Ok(Command::Print(HELP)),
+        "--version" | "-V" => return Ok(Command::Print(VERSION)),
+        _ => return Err(unknown(name)),
     };
     let given = Given::read(rest, name)?;
     if given.help {
-        return Ok(Command::Help(help));
+        return Ok(Command::Print(help));
     }
     match name.as_str() {
         "judge" => Ok(Command::Judge(given.some()?, given.capacity)),
@@ -146,6 +152,15 @@ pub fn command(arguments: impl IntoIterator<Item = OsString>) -> Result<Command,
         "report" => Ok(Command::Report(given.some()?, given.output, given.capacity)),
         "bytes" => Ok(Command::Bytes(given.one()?, given.output)),
         _ => Ok(Command::Text(given.one()?, given.output)),
+    }
+}
+
+/// What is wrong with a command that there is not.
+fn unknown(name: &str) -> String {
+    let commands = ["judge", "explain", "draw", "report", "bytes", "text", "help"];
+    match alike(name, commands) {
+        Some(command) => format!("there is no command `{name}`; did you mean `{command}`?"),
+        None => format!("there is no command `{name}`"),
     }
 }
 
@@ -253,7 +268,8 @@ mod tests {
             read("draw f --merge a=b -o g"),
             Ok(Command::Draw("f".into(), merged, Some("g".into()), default))
         );
-        assert_eq!(read("text --help"), Ok(Command::Help(TEXT)));
+        assert_eq!(read("text --help"), Ok(Command::Print(TEXT)));
+        assert_eq!(read("--version"), Ok(Command::Print(VERSION)));
     }
 
     #[test]
@@ -272,5 +288,7 @@ mod tests {
         ] {
             assert!(read(words).is_err(), "{words}");
         }
+        let wrong = "there is no command `jugde`; did you mean `judge`?".to_string();
+        assert_eq!(read("jugde a"), Err(wrong));
     }
 }

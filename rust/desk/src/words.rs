@@ -42,6 +42,28 @@ pub fn counted(count: usize, thing: &str) -> String {
     }
 }
 
+/// The one of these words that a person may have meant: at most two letters are other ones.
+pub fn alike<'a>(word: &str, known: impl IntoIterator<Item = &'a str>) -> Option<&'a str> {
+    let known = known.into_iter().map(|known| (distance(known, word), known));
+    known.min().filter(|&(distance, _)| distance <= 2).map(|(_, known)| known)
+}
+
+/// How many letters must be put in, left out or changed to make one word of the other.
+fn distance(one: &str, other: &str) -> usize {
+    let other: Vec<char> = other.chars().take(64).collect();
+    let mut row: Vec<usize> = (0..=other.len()).collect();
+    for (line, letter) in one.chars().take(64).enumerate() {
+        let mut diagonal = row[0];
+        row[0] = line + 1;
+        for column in 0..other.len() {
+            let changed = diagonal + usize::from(letter != other[column]);
+            diagonal = row[column + 1];
+            row[column + 1] = changed.min(diagonal + 1).min(row[column] + 1);
+        }
+    }
+    row[other.len()]
+}
+
 impl<'a> Speaker<'a> {
     /// The speaker for an exchange.
     pub fn new(exchange: &'a Exchange) -> Speaker<'a> {

@@ -136,7 +136,7 @@ fn explain_tells_what_had_to_be_apart() {
     let folder = Folder::new("apart");
     let apart = format!("{NEWCOMER}apart: entry office, entry card");
     let same = told(&["explain", &folder.file("a.exchange", apart)]);
-    let fewest = "The fewest that had to be apart: entry and office (1 of the 2 pairs listed).";
+    let fewest = "The fewest that had to be apart: entry and office (1 of 2 pairs listed).";
     assert!(same.contains(fewest), "{same}");
 }
 
@@ -165,7 +165,11 @@ fn bytes_and_text_are_inverse() {
     let text = text.to_str().expect("a path");
     assert_eq!(status(&desk(&["text", &bytes, "-o", text])), 0);
     assert_eq!(desk(&["bytes", text]).stdout, question);
-    assert_eq!(status(&desk(&["text", &file])), 3);
+    for (file, reason) in [(&file, "this is text"), (&folder.file("empty", ""), "rule 3")] {
+        let refused = desk(&["text", file]);
+        assert_eq!(status(&refused), 3);
+        assert!(complained(&refused).contains(reason));
+    }
 }
 
 #[test]
@@ -192,7 +196,9 @@ fn files_that_are_none() {
     let empty = desk(&["judge", Path::new(&empty).to_str().expect("a path")]);
     assert_eq!(status(&empty), 3);
     assert!(printed(&empty).contains("no file in this folder ends in .exchange"));
-    assert_eq!(status(&desk(&["explain", folder.path()])), 3);
+    let explained = desk(&["explain", folder.path()]);
+    assert_eq!(status(&explained), 3);
+    assert!(complained(&explained).contains("this is a folder, and one file is needed"));
     assert_eq!(status(&desk(&["draw", &long, "-o", folder.path()])), 3);
 }
 

@@ -4,7 +4,7 @@ use super::Teller;
 use crate::fewest::{fewest, Fewest};
 use crate::position::{ordered, Pairs, Position, Table};
 use crate::telling::Block;
-use crate::words::{listed, Naming};
+use crate::words::{counted, listed, Naming};
 use exchange::Judge;
 
 impl Teller<'_> {
@@ -53,9 +53,10 @@ impl Teller<'_> {
                 "Nothing had to be held apart: without the apart list they are the same too.".into()
             }
             Fewest::Pairs(pairs) => format!(
-                "The fewest that had to be apart: {} ({} of the {listed} pairs listed).",
+                "The fewest that had to be apart: {} ({} of {} listed).",
                 self.speaker.pairs(pairs, &names),
-                pairs.len()
+                pairs.len(),
+                counted(listed, "pair")
             ),
             Fewest::Enough(pairs) => format!(
                 "It is enough to hold apart {}; whether fewer pairs are enough was not found within \

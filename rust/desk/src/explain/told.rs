@@ -211,7 +211,8 @@ impl<'a> Told<'a> {
                 Some(number) => format!("position {number}"),
                 None => "not told any more".to_string(),
             };
-            self.blocks.push(Block::Item(format!("it {action} and becomes {becomes}: {goes_on}")));
+            let told = format!("it {action} and becomes `{becomes}`: {goes_on}");
+            self.blocks.push(Block::Item(told));
         }
     }
 

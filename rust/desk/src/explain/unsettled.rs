@@ -5,7 +5,7 @@ use super::Teller;
 use crate::model::place;
 use crate::play::{Field, Stopped};
 use crate::position::{Limit, Position, Table};
-use crate::telling::Block;
+use crate::telling::{shortened, Block};
 use crate::words::{counted, Naming};
 use exchange::{Capacity, Judge, Side, Verdict};
 
@@ -130,17 +130,5 @@ impl Teller<'_> {
             names = after;
         }
         (names, moves)
-    }
-}
-
-/// A term too long to be read, without its middle.
-fn shortened(term: &str) -> String {
-    let letters: Vec<char> = term.chars().collect();
-    match letters.len() {
-        0..=240 => term.to_string(),
-        length => {
-            let ends = [&letters[..100], &letters[length - 60..]];
-            ends.map(|end| end.iter().collect::<String>()).join(" … ")
-        }
     }
 }

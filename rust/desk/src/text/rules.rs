@@ -3,6 +3,7 @@
 use super::parse::Reading;
 use crate::fault::{Fault, Span};
 use crate::term::{Head, Name, Term};
+use crate::words::alike;
 use exchange::Refusal;
 
 /// The fault for a refusal by the library.
@@ -51,27 +52,11 @@ fn missing_definition(reading: &Reading, source: &str) -> Option<Fault> {
     let called = source[span.start..span.end].split('(').next()?.trim();
     let message = format!("there is no definition of `{called}`");
     let fault = Fault::new(span, message, "called here");
-    let alike = reading.exchange.definitions.iter().map(|definition| definition.name.as_str());
-    Some(match alike.min_by_key(|name| distance(name, called)) {
-        Some(name) if distance(name, called) <= 2 => fault.help(format!("did you mean `{name}`?")),
-        _ => fault.help(format!("add a line `{called}(…) = …`")),
+    let known = reading.exchange.definitions.iter().map(|definition| definition.name.as_str());
+    Some(match alike(called, known) {
+        Some(name) => fault.help(format!("did you mean `{name}`?")),
+        None => fault.help(format!("add a line `{called}(…) = …`")),
     })
-}
-
-/// How many letters must be put in, left out or changed to make one word of the other.
-fn distance(one: &str, other: &str) -> usize {
-    let other: Vec<char> = other.chars().take(64).collect();
-    let mut row: Vec<usize> = (0..=other.len()).collect();
-    for (line, letter) in one.chars().take(64).enumerate() {
-        let mut diagonal = row[0];
-        row[0] = line + 1;
-        for column in 0..other.len() {
-            let changed = diagonal + usize::from(letter != other[column]);
-            diagonal = row[column + 1];
-            row[column + 1] = changed.min(diagonal + 1).min(row[column] + 1);
-        }
-    }
-    row[other.len()]
 }
 
 fn free_in_body(reading: &Reading, source: &str) -> Option<Fault> {
