@@ -39,8 +39,9 @@ padding:.5rem .7rem;margin:.3rem 0}\
 .drawing svg{flex:0 1 auto;min-width:0;max-width:100%;height:auto}\
 code{font-family:'DejaVu Sans Mono',Menlo,Consolas,monospace;font-size:.9rem;background:#f4f7fb}\
 .move{color:#b02020}.legend{font-size:.85rem;color:#50607a}\
-@media print{body{max-width:none;padding:0;font-size:11pt}h2,h3{break-after:avoid}\
-.drawing,pre,.term,li{break-inside:avoid}a{color:inherit;text-decoration:none}}";
+@media print{body{max-width:none;padding:0;font-size:10.5pt}h2,h3,.lead{break-after:avoid}\
+.drawing{flex-wrap:nowrap;break-after:avoid}h2,.drawing,pre,.term,li,tr{break-inside:avoid}\
+p{orphans:3;widows:3}a{color:inherit;text-decoration:none}}";
 
 /// The page on these files, worst first.
 pub fn report(found: Found, capacity: Capacity) -> Report {
@@ -49,7 +50,15 @@ pub fn report(found: Found, capacity: Capacity) -> Report {
     let mut sections: Vec<Section> = sections.into_iter().chain(unreadable).collect();
     sections.sort_by_key(|section| Reverse(section.outcome.status()));
     let status = sections.first().map_or(0, |section| section.outcome.status());
-    Report { page: page(&sections), status }
+    Report { page: page(&sections, common_folder(&found.files)), status }
+}
+
+/// The innermost folder that several files have in common, with its last sign; else nothing.
+fn common_folder(files: &[String]) -> &str {
+    let [first, others @ ..] = files else { return "" };
+    let folders = first.match_indices('/').map(|(at, sign)| &first[..at + sign.len()]);
+    let common = |folder: &&str| others.iter().all(|file| file.starts_with(folder));
+    folders.filter(common).last().filter(|_| !others.is_empty()).unwrap_or("")
 }
 
 /// What the page says of one file.
@@ -82,11 +91,11 @@ impl Section {
         format!("<span class=\"badge {class}\">{verdict}</span>")
     }
 
-    /// The file, or what is wrong with a folder.
-    fn title(&self) -> &str {
+    /// The file without the folder that is told once for all, or what is wrong with a folder.
+    fn title(&self, folder: &str) -> &str {
         match &self.outcome {
             Outcome::Unreadable(reason) if self.file.is_empty() => &reason.line,
-            _ => &self.file,
+            _ => self.file.strip_prefix(folder).unwrap_or(&self.file),
         }
     }
 }
@@ -142,7 +151,7 @@ fn drawing(scenes: &[(String, Scene)]) -> String {
             drawing += &format!("<p class=\"move\">{}</p>\n", escaped(move_told));
         }
         if !scene.apart.is_empty() {
-            drawing += &format!("<p>Held apart: {}.</p>\n", escaped(&scene.apart.join(", ")));
+            drawing += &format!("<p>Held apart: {}.</p>\n", escaped(&scene.apart.join("; ")));
         }
     }
     drawing
@@ -152,7 +161,8 @@ fn drawing(scenes: &[(String, Scene)]) -> String {
 fn told(blocks: &[Block]) -> String {
     let mut html = String::new();
     let mut in_list = false;
-    for block in blocks {
+    for (place, block) in blocks.iter().enumerate() {
+        let leads = matches!(blocks.get(place + 1), Some(Block::Term(..) | Block::Item(_)));
         let is_item = matches!(block, Block::Item(_));
         if is_item != in_list {
             html += if is_item { "<ul>\n" } else { "</ul>\n" };
@@ -162,8 +172,11 @@ fn told(blocks: &[Block]) -> String {
             Block::Verdict(told) => format!("<p><strong>{}</strong></p>\n", with_code(told)),
             Block::Position(number) => format!("<h3>Position {number}</h3>\n"),
             Block::Term(label, term) => {
-                format!("<p class=\"term\">{} = {}</p>\n", escaped(label), escaped(term))
+                // `new` stays in the line of its name
+                let term = escaped(term).replace("new ", "new\u{A0}");
+                format!("<p class=\"term\">{} = {term}</p>\n", escaped(label))
             }
+            Block::Text(told) if leads => format!("<p class=\"lead\">{}</p>\n", with_code(told)),
             Block::Text(told) => format!("<p>{}</p>\n", with_code(told)),
             Block::Item(told) => format!("<li>{}</li>\n", with_code(told)),
         };
@@ -171,12 +184,12 @@ fn told(blocks: &[Block]) -> String {
     html + if in_list { "</ul>\n" } else { "" }
 }
 
-fn page(sections: &[Section]) -> String {
+fn page(sections: &[Section], folder: &str) -> String {
     let line = |(number, section): (usize, &Section)| {
         format!(
             "<tr><td>{}</td><td><a href=\"#file{number}\">{}</a></td></tr>\n",
             section.badge(),
-            escaped(section.title())
+            escaped(section.title(folder))
         )
     };
     let lines: String = sections.iter().enumerate().map(line).collect();
@@ -184,19 +197,23 @@ fn page(sections: &[Section]) -> String {
         format!(
             "<section id=\"file{number}\">\n<h2>{} {}</h2>\n{}</section>\n",
             section.badge(),
-            escaped(section.title()),
+            escaped(section.title(folder)),
             section.body
         )
     };
     let bodies: String = sections.iter().enumerate().map(body).collect();
+    let place = match folder {
+        "" => String::new(),
+        _ => format!("<p>In <code>{}</code></p>\n", escaped(folder)),
+    };
     let outcomes: Vec<(String, Outcome)> =
         sections.iter().map(|section| (section.file.clone(), section.outcome.clone())).collect();
     format!(
         "<!DOCTYPE html>\n<html lang=\"en\">\n<head>\n<meta charset=\"utf-8\"/>\n\
          <meta name=\"viewport\" content=\"width=device-width, initial-scale=1\"/>\n\
          <title>Exchanges</title>\n<style>{PAGE_STYLE}{STYLE}</style>\n</head>\n<body>\n\
-         <h1>Exchanges</h1>\n<p>{}</p>\n<table>\n{lines}</table>\n<p class=\"legend\">{}</p>\n\
-         {bodies}</body>\n</html>\n",
+         <h1>Exchanges</h1>\n{place}<p>{}</p>\n<table>\n{lines}</table>\n\
+         <p class=\"legend\">{}</p>\n{bodies}</body>\n</html>\n",
         escaped(&counts(&outcomes)),
         escaped(LEGEND),
     )

@@ -87,7 +87,7 @@ impl Scene {
         });
         let pairs = ordered(exchange.apart.iter().copied());
         let word = |byte| merged.label(byte);
-        let apart = pairs.iter().map(|&(a, b)| format!("{} ≠ {}", word(a), word(b))).collect();
+        let apart = pairs.iter().map(|&(a, b)| format!("{} and {}", word(a), word(b))).collect();
         Scene { panels, apart, told: shown.map(|shown| shown.told) }
     }
 }

@@ -299,8 +299,8 @@ fn lines(svg: &mut String, y: &mut usize, lines: impl IntoIterator<Item = (&'sta
 
 /// What the signs of a drawing mean.
 pub const LEGEND: &str = "An arrow into a box: it receives on that name; into a name: it sends. \
-Dotted: it only mentions the name. Dashed name: private. ≠: held apart. Red: the move of the \
-shortest play.";
+Dotted: it only mentions the name. Dashed name: private. Names joined at the right: held apart. \
+Red and thick: the move of the shortest play.";
 
 /// The lines below the parts, with their classes.
 fn told(scene: &Scene, letters: usize) -> Vec<(&'static str, String)> {
@@ -312,7 +312,7 @@ fn told(scene: &Scene, letters: usize) -> Vec<(&'static str, String)> {
         tell("told moves", move_told);
     }
     if !scene.apart.is_empty() {
-        tell("told", &format!("Held apart: {}.", scene.apart.join(", ")));
+        tell("told", &format!("Held apart: {}.", scene.apart.join("; ")));
     }
     lines
 }
