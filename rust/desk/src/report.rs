@@ -176,6 +176,7 @@ fn told(blocks: &[Block]) -> String {
                 let term = escaped(term).replace("new ", "new\u{A0}");
                 format!("<p class=\"term\">{} = {term}</p>\n", escaped(label))
             }
+            Block::Apart(list) => format!("<p class=\"term\">apart: {}</p>\n", escaped(list)),
             Block::Text(told) if leads => format!("<p class=\"lead\">{}</p>\n", with_code(told)),
             Block::Text(told) => format!("<p>{}</p>\n", with_code(told)),
             Block::Item(told) => format!("<li>{}</li>\n", with_code(told)),

@@ -15,6 +15,8 @@ pub enum Block {
     Position(usize),
     /// A term, with what it is the term of.
     Term(String, String),
+    /// The names held apart, as a file lists them.
+    Apart(String),
     /// Running text.
     Text(String),
     /// One of several things.
@@ -36,6 +38,7 @@ pub fn lines(blocks: &[Block]) -> String {
                 let lines = wrapped_term(&format!("{label} = {term}"), WIDTH - 8);
                 text.push_str(&format!("    {}\n", lines.join("\n        ")));
             }
+            Block::Apart(list) => text.push_str(&wrapped(list, "    apart: ", "        ")),
             Block::Text(told) => text.push_str(&wrapped(told, "", "")),
             Block::Item(told) => text.push_str(&wrapped(told, "  - ", "    ")),
         }
@@ -54,15 +57,16 @@ fn needs_space(after: Option<&Block>, block: &Block) -> bool {
 
 /// Text in lines of limited width, which begin so.
 fn wrapped(text: &str, first: &str, later: &str) -> String {
-    let lines = wrapped_words(text, WIDTH - later.chars().count());
+    let lines = wrapped_words(text, WIDTH - first.chars().count().max(later.chars().count()));
     let starts = std::iter::once(first).chain(std::iter::repeat(later));
     let line = |(start, line): (&str, String)| format!("{start}{line}\n");
     starts.zip(lines).map(line).collect()
 }
 
-/// The words of a text in lines of so many letters.
+/// The words of a text in lines of so many letters; `new` stays with its name.
 pub fn wrapped_words(text: &str, letters: usize) -> Vec<String> {
-    let words = text.split_whitespace().map(|word| format!("{word} "));
+    let kept = text.replace("(new ", "(new\0");
+    let words = kept.split_whitespace().map(|word| word.replace('\0', " ") + " ");
     filled(words, letters)
 }
 
@@ -92,13 +96,13 @@ fn fitting<'a>(pieces: impl Iterator<Item = &'a &'a str>, letters: usize) -> usi
     pieces.take_while(fits).count()
 }
 
-/// A term in pieces that end after signs, but not between `new` and its name.
+/// A term in pieces that end after signs, but not between `new` and its name or before `0`.
 fn pieces(term: &str) -> Vec<&str> {
     let mut pieces = Vec::new();
     let mut start = 0;
     for (at, sign) in term.match_indices(['.', ' ', ',', ']', ')']) {
         let end = at + sign.len();
-        let goes_on = term[end..].starts_with(['.', ' ', ',', ']', ')']);
+        let goes_on = term[end..].starts_with(['.', ' ', ',', ']', ')', '0']);
         if !goes_on && !term[start..end].ends_with("new ") {
             pieces.push(&term[start..end]);
             start = end;
@@ -134,7 +138,8 @@ mod tests {
         assert!(lines.starts_with("  - word word") && lines.contains("\n    word"));
         assert_eq!(lines.split_whitespace().filter(|&word| word == "word").count(), 60);
         assert_eq!(wrapped_term("a(x).b<c>.0 + tau.0", 9), ["a(x).", "b<c>.0 +", "tau.0"]);
-        assert_eq!(wrapped_term("[a=b](new x)K(x, a)", 8), ["[a=b]", "(new x)", "K(x, a)"]);
+        assert_eq!(wrapped_term("[a=b](new x)K(x, a).0", 8), ["[a=b]", "(new x)", "K(x,", "a).0"]);
+        assert_eq!(wrapped_words("becomes (new x)a<x>.0", 13), ["becomes", "(new x)a<x>.0"]);
     }
 
     #[test]

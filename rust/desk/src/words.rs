@@ -85,11 +85,14 @@ impl<'a> Speaker<'a> {
         Printer { free: names, definitions: &self.exchange.definitions, words: &self.words }
     }
 
-    /// Pairs of names: a and b, c and d.
+    /// Pairs of names: a and b; c and d.
     pub fn pairs(&self, pairs: &[(u8, u8)], names: &Naming) -> String {
-        let pair =
-            |&(a, b): &(u8, u8)| format!("{} and {}", names[usize::from(a)], names[usize::from(b)]);
-        pairs.iter().map(pair).collect::<Vec<_>>().join("; ")
+        paired(pairs, names, " and ").join("; ")
+    }
+
+    /// Pairs of names as a file holds them apart: a b, c d.
+    pub fn apart_list(&self, pairs: &[(u8, u8)], names: &Naming) -> String {
+        paired(pairs, names, " ").join(", ")
     }
 
     /// The names after a step of this side: a name that it brings gets a word that no other name
@@ -209,6 +212,12 @@ impl<'a> Speaker<'a> {
         let condition = self.condition(other, names).unwrap_or_default();
         format!("it {told} only if {condition}, and the move does not ask for that")
     }
+}
+
+/// The two names of each pair with a word between them.
+fn paired(pairs: &[(u8, u8)], names: &Naming, between: &str) -> Vec<String> {
+    let word = |byte: u8| names[usize::from(byte)].as_str();
+    pairs.iter().map(|&(a, b)| [word(a), word(b)].join(between)).collect()
 }
 
 /// What is different about two actions.

@@ -4,7 +4,7 @@ use super::Teller;
 use crate::fewest::{fewest, Fewest};
 use crate::position::{ordered, Pairs, Position, Table};
 use crate::telling::Block;
-use crate::words::{counted, listed, Naming};
+use crate::words::{counted, listed};
 use exchange::Judge;
 
 impl Teller<'_> {
@@ -90,12 +90,7 @@ impl Teller<'_> {
             }
             Fewest::Unknown => return None,
         };
-        let list: Vec<String> = pairs.iter().map(|pair| apart_words(pair, &names)).collect();
-        Some(format!("With `apart: {}` they would be the same{fewer}.", list.join(", ")))
+        let list = self.speaker.apart_list(&pairs, &names);
+        Some(format!("With `apart: {list}` they would be the same{fewer}."))
     }
-}
-
-/// A pair as an apart list has it.
-fn apart_words(pair: &(u8, u8), names: &Naming) -> String {
-    format!("{} {}", names[usize::from(pair.0)], names[usize::from(pair.1)])
 }

@@ -141,8 +141,7 @@ impl<'a> Told<'a> {
             self.blocks.push(Block::Term(label.clone(), speaker.term(part, names)));
         }
         if !here.apart.is_empty() {
-            let pairs = speaker.pairs(&here.apart, names);
-            self.blocks.push(Block::Item(format!("held apart: {pairs}")));
+            self.blocks.push(Block::Apart(speaker.apart_list(&here.apart, names)));
         }
         self.moved(position, expanded, best, names);
     }
