@@ -38,7 +38,10 @@ pub fn lines(blocks: &[Block]) -> String {
                 let lines = wrapped_term(&format!("{label} = {term}"), WIDTH - 8);
                 text.push_str(&format!("    {}\n", lines.join("\n        ")));
             }
-            Block::Apart(list) => text.push_str(&wrapped(list, "    apart: ", "        ")),
+            Block::Apart(list) => {
+                let lines = filled(list.split_inclusive(", ").map(str::to_string), WIDTH - 12);
+                text.push_str(&format!("    apart: {}\n", lines.join("\n        ")));
+            }
             Block::Text(told) => text.push_str(&wrapped(told, "", "")),
             Block::Item(told) => text.push_str(&wrapped(told, "  - ", "    ")),
         }
@@ -57,7 +60,7 @@ fn needs_space(after: Option<&Block>, block: &Block) -> bool {
 
 /// Text in lines of limited width, which begin so.
 fn wrapped(text: &str, first: &str, later: &str) -> String {
-    let lines = wrapped_words(text, WIDTH - first.chars().count().max(later.chars().count()));
+    let lines = wrapped_words(text, WIDTH - later.chars().count());
     let starts = std::iter::once(first).chain(std::iter::repeat(later));
     let line = |(start, line): (&str, String)| format!("{start}{line}\n");
     starts.zip(lines).map(line).collect()

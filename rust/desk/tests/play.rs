@@ -108,6 +108,7 @@ fn fields_and_plays_of_random_questions() {
 #[test]
 fn explanations_of_random_questions() {
     let mut judge = Judge::default();
+    let (mut greatest, mut told) = (Judge::new(Capacity::MAX), 0);
     each_seed(400, |random| {
         let bytes = generate::any(random);
         let Ok(question) = Question::new(&bytes) else { return };
@@ -115,7 +116,27 @@ fn explanations_of_random_questions() {
         assert_eq!(explanation.answer, judge.judge(question));
         let text = desk::telling::lines(&explanation.blocks);
         assert!(!text.contains("do not rely"), "{text}");
+        told += assert_positions_are_files(&Exchange::of(question), &text, &mut greatest);
     });
+    assert!(told > 100, "{told} positions are told");
+}
+
+/// Each position that is told, with the definitions, is a file that the library judges different.
+/// Its names get other bytes there, so that its field may be larger.
+fn assert_positions_are_files(exchange: &Exchange, told: &str, judge: &mut Judge) -> usize {
+    let file = desk::text::file(exchange);
+    let definitions: Vec<&str> = file.lines().filter(|line| line.starts_with('K')).collect();
+    let positions = told.split("\nPosition ").skip(1);
+    let count = positions.clone().count();
+    for position in positions {
+        let lines = position.lines().skip(1).map_while(|line| line.strip_prefix("    "));
+        let file = definitions.iter().copied().chain(lines).collect::<Vec<_>>().join("\n");
+        let read = desk::text::read(&file);
+        let bytes = read.unwrap_or_else(|fault| panic!("{}", fault.render("f", &file))).bytes();
+        let verdict = judge.judge(Question::new(&bytes).expect("it was read"));
+        assert!(matches!(verdict, Answer::Result(Verdict::Different(_))), "{verdict}: {file}");
+    }
+    count
 }
 
 #[test]
