@@ -206,11 +206,12 @@ impl<'a> Speaker<'a> {
     pub fn no_answer(&self, other: Step<'_>, step: Step<'_>, names: &Naming) -> String {
         let other_action = action_under(other, step);
         let told = self.kind(other_action, names);
-        if other_action != step.action() {
-            return format!("it {told}: {}", difference(other_action, step.action()));
+        let condition = self.condition(other, names).filter(|_| !step.implies(other));
+        let condition = condition.map_or(String::new(), |these| format!(" only if {these}"));
+        match other_action == step.action() {
+            true => format!("it {told}{condition}, and the move does not ask for that"),
+            false => format!("it {told}{condition}: {}", difference(other_action, step.action())),
         }
-        let condition = self.condition(other, names).unwrap_or_default();
-        format!("it {told} only if {condition}, and the move does not ask for that")
     }
 }
 
@@ -223,13 +224,11 @@ fn paired(pairs: &[(u8, u8)], names: &Naming, between: &str) -> Vec<String> {
 /// What is different about two actions.
 fn difference(one: Action, other: Action) -> &'static str {
     match (one, other) {
-        (Action::Input(a, _), Action::Input(b, _))
-        | (Action::Output(a, _), Action::Output(b, _))
-        | (Action::NewOutput(a, _), Action::NewOutput(b, _))
-            if a != b =>
-        {
-            "another channel"
-        }
+        (Action::Input(a, _), Action::Input(b, _)) if a != b => "another channel",
+        (
+            Action::Output(a, _) | Action::NewOutput(a, _),
+            Action::Output(b, _) | Action::NewOutput(b, _),
+        ) if a != b => "another channel",
         (Action::Output(..), Action::Output(..)) => "another name is sent",
         (Action::Output(..), Action::NewOutput(..)) => "the name sent is not new",
         (Action::NewOutput(..), Action::Output(..)) => "the name sent is new",

@@ -131,6 +131,18 @@ fn explain_tells_the_play() {
     }
 }
 
+/// Moves that names held apart forbid are not told; others are told with their conditions.
+#[test]
+fn explain_tells_what_the_other_can_do() {
+    let folder = Folder::new("other");
+    let file = "old = [a=b]c<c>.0 + [a=c]tau.0 + [a=b]d<d>.0\nnew = c<c>.0\napart: a c, c d\n";
+    let different = told(&["explain", &folder.file("a.exchange", file)]);
+    let all = "old has no answer. All that it can do: \
+               - it sends c on c only if a and b are one name, and the move does not ask for that \
+               - it sends d on d only if a and b are one name: another channel The library";
+    assert!(different.contains(all), "{different}");
+}
+
 #[test]
 fn explain_tells_what_had_to_be_apart() {
     let folder = Folder::new("apart");

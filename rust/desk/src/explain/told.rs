@@ -3,7 +3,7 @@
 use super::Teller;
 use crate::model::place;
 use crate::play::{Expanded, Field, Move, Play, Stopped};
-use crate::position::{action_under, Limit, Listed, Position, Table};
+use crate::position::{action_under, permitted, Limit, Listed, Position, Table};
 use crate::telling::Block;
 use crate::words::{counted, Naming};
 use exchange::{Answer, Judge, Step, Verdict};
@@ -161,22 +161,29 @@ impl<'a> Told<'a> {
         let result = speaker.term(&table.term(step.result()), &after);
         self.blocks.push(Block::Term(label.to_string(), result));
         match best.answers.is_empty() {
-            true => self.no_answer(expanded, best, &after, other),
+            true => self.no_answer(expanded, best, &here.apart, &after, other),
             false => self.answers(expanded, best, &after, other),
         }
     }
 
-    fn no_answer(&mut self, expanded: &Expanded, best: &Move, names: &Naming, other: &str) {
+    /// All moves of the other side that the apart pairs permit, and why none is an answer.
+    fn no_answer(
+        &mut self,
+        expanded: &Expanded,
+        best: &Move,
+        apart: &[(u8, u8)],
+        names: &Naming,
+        other: &str,
+    ) {
         let step = expanded.lists[place(best.side)][best.step].step();
-        let others = &expanded.lists[place(best.side.other())];
-        if others.is_empty() {
-            self.blocks
-                .push(Block::Text(format!("{other} has no answer: it makes no move at all.")));
-            return;
+        let others = expanded.lists[place(best.side.other())].iter().map(Listed::step);
+        let mut steps: Vec<Step<'_>> = others.filter(|&other| permitted(other, apart)).collect();
+        if steps.is_empty() {
+            let told = format!("{other} has no answer: it makes no move at all.");
+            return self.blocks.push(Block::Text(told));
         }
         self.blocks.push(Block::Text(format!("{other} has no answer. All that it can do:")));
         // Those that come closest first.
-        let mut steps: Vec<Step<'_>> = others.iter().map(Listed::step).collect();
         steps.sort_by_key(|&other| action_under(other, step) != step.action());
         let mut reasons: Vec<String> = Vec::new();
         for other in steps {
