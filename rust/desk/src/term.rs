@@ -222,6 +222,14 @@ impl Term {
         std::iter::once(self.head.byte()).chain(number)
     }
 
+    /// The term with the words of one that has the same outline.
+    pub fn worded(mut self, like: &Term) -> Term {
+        self.word.clone_from(&like.word);
+        let beneath = self.beneath.into_iter().zip(&like.beneath);
+        self.beneath = beneath.map(|(term, like)| term.worded(like)).collect();
+        self
+    }
+
     /// The term with another for each name that is bound outside of it. The function sees names
     /// as they are at the root, and must give free ones or leave them.
     pub fn opened(&self, of: &impl Fn(usize) -> Option<u8>) -> Term {

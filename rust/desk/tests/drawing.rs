@@ -108,6 +108,7 @@ fn merged_names_are_one_node() {
     let svg = drawing(&exchange, &[("office", "entry")]).expect("a drawing");
     assert_well_formed(&svg);
     assert!(svg.contains(">entry = office</text>") && !svg.contains(">office</text>"));
+    assert!(svg.contains(">slip(y).entry&lt;card&gt;.0</text>"), "{svg}");
     let unknown = drawing(&exchange, &[("office", "slip")]);
     assert_eq!(unknown, Err(Unmerged::Unknown("slip".into())));
     let apart = drawing(&exchange, &[("office", "entry"), ("office", "card")]);

@@ -44,9 +44,10 @@ impl Merged {
         let mut area = vec![0; QUESTION_BYTES];
         let question = Question::new(&bytes).map_err(refused)?;
         let question = question.merge(first, second, &mut area).map_err(refused)?;
-        let with_names = Exchange::of(question);
-        self.exchange.parts = with_names.parts;
-        self.exchange.apart = with_names.apart;
+        let Exchange { parts: [one, other], apart, .. } = Exchange::of(question);
+        let [like_one, like_other] = &self.exchange.parts;
+        self.exchange.parts = [one.worded(like_one), other.worded(like_other)];
+        self.exchange.apart = apart;
         if first != second {
             let (kept, gone) = (first.min(second), first.max(second));
             let words = std::mem::take(&mut self.stands_for[gone.place()]);

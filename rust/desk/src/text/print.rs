@@ -13,29 +13,35 @@ pub fn bound_words() -> impl Iterator<Item = String> {
     first.chain((1..).flat_map(more))
 }
 
-/// What people called the bound names, by the shape of the term that binds them. Steps put names
-/// for others and leave shapes, so a result can be printed in the words of its file.
+/// What people called the bound names, by the term that binds them. Steps put names for others and
+/// leave shapes, so a result can be printed in the words of its file.
 #[derive(Clone, Debug, Default)]
-pub struct Words(HashMap<Vec<u8>, String>);
+pub struct Words {
+    by_bytes: HashMap<Vec<u8>, String>,
+    by_shape: HashMap<Vec<u8>, String>,
+}
 
 impl Words {
     /// The words of an exchange.
     pub fn of(exchange: &Exchange) -> Words {
-        let mut words = HashMap::new();
+        let mut words = Words::default();
         let bodies = exchange.definitions.iter().map(|definition| &definition.body);
         for term in exchange.parts.iter().chain(bodies) {
             term.walk(&mut |term, _| {
                 if let Some(word) = &term.word {
-                    words.entry(term.shape()).or_insert_with(|| word.clone());
+                    words.by_bytes.entry(term.bytes()).or_insert_with(|| word.clone());
+                    words.by_shape.entry(term.shape()).or_insert_with(|| word.clone());
                 }
             });
         }
-        Words(words)
+        words
     }
 
     /// The word for the name that a term binds.
     pub fn word<'a>(&'a self, term: &'a Term) -> Option<&'a str> {
-        term.word.as_deref().or_else(|| self.0.get(&term.shape()).map(String::as_str))
+        let written =
+            || self.by_bytes.get(&term.bytes()).or_else(|| self.by_shape.get(&term.shape()));
+        term.word.as_deref().or_else(|| written().map(String::as_str))
     }
 }
 
