@@ -12,4 +12,6 @@ fi
 if cargo fmt --version >/dev/null 2>&1; then
     cargo fmt --check
 fi
+# the wrapper without a heap
+cargo check --release --offline --package exchange --no-default-features
 cargo test --release --offline --workspace

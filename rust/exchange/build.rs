@@ -7,8 +7,10 @@ use std::path::{Path, PathBuf};
 
 /// The folder to look in instead of the one that `rt staticlib exchange` writes to.
 const FOLDER: &str = "EXCHANGE_LIB_DIR";
-/// The architecture and operating system for which the library is made.
-const TARGET: (&str, &str) = ("x86_64", "linux");
+/// The target for which the library is made, and what of it must be so: any C library will do.
+const TARGET: &str = "x86_64-unknown-linux-gnu";
+const ARCH: &str = "x86_64";
+const OS: &str = "linux";
 
 fn main() {
     println!("cargo::rerun-if-env-changed={FOLDER}");
@@ -27,12 +29,9 @@ fn main() {
 
 /// Why the library cannot be linked, if it cannot.
 fn obstacle(library: &Path) -> Option<String> {
-    let (arch, os) = (variable("CARGO_CFG_TARGET_ARCH"), variable("CARGO_CFG_TARGET_OS"));
-    if (arch.as_str(), os.as_str()) != TARGET {
-        let (needed_arch, needed_os) = TARGET;
-        return Some(format!(
-            "libexchange.a is made for {needed_arch} {needed_os}, and the target is {arch} {os}"
-        ));
+    if variable("CARGO_CFG_TARGET_ARCH") != ARCH || variable("CARGO_CFG_TARGET_OS") != OS {
+        let target = variable("TARGET");
+        return Some(format!("libexchange.a is made for {TARGET}, and the target is {target}"));
     }
     if !library.is_file() {
         return Some(format!(
@@ -48,11 +47,13 @@ fn obstacle(library: &Path) -> Option<String> {
 /// this script in the folder of the crate, so a relative one is taken from that of the workspace,
 /// where `test.sh` looks too.
 fn folder() -> PathBuf {
-    let workspace = PathBuf::from(variable("CARGO_MANIFEST_DIR")).join("..");
+    let package = PathBuf::from(variable("CARGO_MANIFEST_DIR"));
+    let workspace = package.parent().unwrap_or(&package);
+    let repository = workspace.parent().unwrap_or(workspace);
     let given = env::var_os(FOLDER).filter(|folder| !folder.is_empty());
     match given {
         Some(folder) => workspace.join(folder),
-        None => workspace.join("../target/staticlib"),
+        None => repository.join("target/staticlib"),
     }
 }
 

@@ -58,7 +58,7 @@ fn common_folder(files: &[String]) -> &str {
     let [first, others @ ..] = files else { return "" };
     let folders = first.match_indices('/').map(|(at, sign)| &first[..at + sign.len()]);
     let common = |folder: &&str| others.iter().all(|file| file.starts_with(folder));
-    folders.filter(common).last().filter(|_| !others.is_empty()).unwrap_or("")
+    folders.rev().find(common).filter(|_| !others.is_empty()).unwrap_or("")
 }
 
 /// What the page says of one file.

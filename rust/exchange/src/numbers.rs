@@ -19,7 +19,7 @@ impl Side {
 
     /// The number by which [`steps`](crate::steps) knows it: 1 or 2.
     #[must_use]
-    pub fn number(self) -> u64 {
+    pub const fn number(self) -> u64 {
         match self {
             Side::First => 1,
             Side::Second => 2,
@@ -28,7 +28,7 @@ impl Side {
 
     /// The other side.
     #[must_use]
-    pub fn other(self) -> Side {
+    pub const fn other(self) -> Side {
         match self {
             Side::First => Side::Second,
             Side::Second => Side::First,
@@ -54,8 +54,12 @@ impl Name {
 
     /// The name of this byte, if it is one.
     #[must_use]
-    pub fn new(byte: u8) -> Option<Name> {
-        (usize::from(byte) < Name::COUNT).then_some(Name(byte))
+    pub const fn new(byte: u8) -> Option<Name> {
+        if (byte as usize) < Name::COUNT {
+            Some(Name(byte))
+        } else {
+            None
+        }
     }
 
     /// All names in ascending order.
@@ -65,14 +69,14 @@ impl Name {
 
     /// Its byte.
     #[must_use]
-    pub fn byte(self) -> u8 {
+    pub const fn byte(self) -> u8 {
         self.0
     }
 
     /// Its byte as a place in a table of all names.
     #[must_use]
-    pub fn place(self) -> usize {
-        usize::from(self.0)
+    pub const fn place(self) -> usize {
+        self.0 as usize
     }
 }
 
@@ -83,6 +87,11 @@ impl Name {
 ///
 /// assert_eq!(Capacity::default().situations(), 256);
 /// assert_eq!(Capacity::new(4097), None);
+///
+/// // a work area without a heap
+/// const CAPACITY: Capacity = Capacity::MIN;
+/// let work = [0_u8; CAPACITY.work_bytes()];
+/// assert_eq!(work.len(), 256);
 /// assert_eq!(Capacity::MAX.work_bytes(), 4096 * 256);
 /// ```
 #[derive(Clone, Copy, PartialEq, Eq, PartialOrd, Ord, Hash, Debug)]
@@ -96,20 +105,23 @@ impl Capacity {
 
     /// The capacity of this many situations, if it is one.
     #[must_use]
-    pub fn new(situations: u64) -> Option<Capacity> {
-        (1..=CAPACITY).contains(&situations).then_some(Capacity(situations as u16))
+    pub const fn new(situations: u64) -> Option<Capacity> {
+        match situations {
+            1..=CAPACITY => Some(Capacity(situations as u16)),
+            _ => None,
+        }
     }
 
     /// The number of situations.
     #[must_use]
-    pub fn situations(self) -> u64 {
-        self.0.into()
+    pub const fn situations(self) -> u64 {
+        self.0 as u64
     }
 
     /// The length of the work area that it needs.
     #[must_use]
-    pub fn work_bytes(self) -> usize {
-        usize::from(self.0) * SITUATION_BYTES
+    pub const fn work_bytes(self) -> usize {
+        self.0 as usize * SITUATION_BYTES
     }
 }
 

@@ -33,7 +33,7 @@ impl<'a> Question<'a> {
 
     /// The bytes.
     #[must_use]
-    pub fn bytes(self) -> &'a [u8] {
+    pub const fn bytes(self) -> &'a [u8] {
         self.0
     }
 
@@ -102,6 +102,15 @@ impl<'a> Question<'a> {
             rest = &rest[2 + length(rest)..];
         }
         &rest[2..2 + length(rest)]
+    }
+}
+
+/// The check of [`Question::new`].
+impl<'a> TryFrom<&'a [u8]> for Question<'a> {
+    type Error = Refusal;
+
+    fn try_from(bytes: &'a [u8]) -> Result<Question<'a>, Refusal> {
+        Question::new(bytes)
     }
 }
 
