@@ -174,34 +174,44 @@ fn sound(random: &mut Random) -> Vec<u8> {
     text::file(&Exchange::of(question)).into_bytes()
 }
 
+/// Pieces of files, and bytes that belong in none.
+const PIECES: [&[u8]; 32] = [
+    b"(",
+    b")",
+    b"<",
+    b">",
+    b"[",
+    b"]",
+    b"=",
+    b"+",
+    b"|",
+    b".",
+    b",",
+    b":",
+    b"0",
+    b" ",
+    b"\n",
+    b"#",
+    b"new ",
+    b"tau.",
+    b"a",
+    b"b(x).",
+    b"a<b>.",
+    b"[a=b]",
+    b"(new x)",
+    b"K0(",
+    b"K0(a) = ",
+    b"old = ",
+    b"apart: ",
+    b"names: ",
+    b"\xFF",
+    b"\xE2\x82",
+    b"\xC3\xBC",
+    b"\x00",
+];
+
 /// Puts something into the file, takes something out, or doubles a piece of it.
 fn damage(random: &mut Random, file: &mut Vec<u8>) {
-    const PIECES: [&[u8]; 24] = [
-        b"(",
-        b")",
-        b"<",
-        b">",
-        b"[",
-        b"]",
-        b"=",
-        b"+",
-        b"|",
-        b".",
-        b",",
-        b":",
-        b"0",
-        b"new ",
-        b"tau.",
-        b"K0(",
-        b"\n",
-        b"apart: ",
-        b"names: ",
-        b"#",
-        b"\xFF",
-        b"\xE2\x82",
-        "ü".as_bytes(),
-        b"\x00",
-    ];
     let at = random.below(file.len() + 1);
     let end = (at + random.below(12)).min(file.len());
     match random.below(6) {
@@ -221,25 +231,31 @@ fn damage(random: &mut Random, file: &mut Vec<u8>) {
     }
 }
 
+/// A sound file with some damage, or nothing but pieces.
+fn damaged(random: &mut Random) -> Vec<u8> {
+    if random.chance(20) {
+        return (0..random.below(40)).flat_map(|_| *random.pick(&PIECES)).copied().collect();
+    }
+    let mut file = sound(random);
+    for _ in 0..random.between(1, 4) {
+        damage(random, &mut file);
+    }
+    file
+}
+
 #[test]
 fn damaged_files() {
     let (mut read, mut wrong) = (0_u64, 0_u64);
-    each_seed(10_000, |random| {
-        let mut file = sound(random);
-        for _ in 0..random.between(1, 4) {
-            damage(random, &mut file);
+    each_seed(10_000, |random| match exchange_of("f", &damaged(random)) {
+        Ok(exchange) => {
+            read += 1;
+            let again = text::read(&text::file(&exchange)).expect("what is printed is read");
+            assert_eq!(again.bytes(), exchange.bytes());
         }
-        match exchange_of("f", &file) {
-            Ok(exchange) => {
-                read += 1;
-                let again = text::read(&text::file(&exchange)).expect("what is printed is read");
-                assert_eq!(again.bytes(), exchange.bytes());
-            }
-            Err(unreadable) => {
-                wrong += 1;
-                assert!(unreadable.line.starts_with("f:") && unreadable.full.starts_with("error:"));
-                assert!(!unreadable.line.contains("the library refuses this exchange"));
-            }
+        Err(unreadable) => {
+            wrong += 1;
+            assert!(unreadable.line.starts_with("f:") && unreadable.full.starts_with("error:"));
+            assert!(!unreadable.line.contains("the library refuses this exchange"));
         }
     });
     println!("{read} read, {wrong} told what is wrong");
