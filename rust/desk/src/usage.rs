@@ -83,7 +83,7 @@ Draws the two parts side by side: components as boxes, names as nodes, a line fr
 that it uses. Names merged are one node, names held apart are marked, and the first move of the play
 that tells the parts apart is drawn in another colour; below, if the play is longer, its last move.
 
-    --merge a=b     draw a and b as one name; may be given several times
+    --merge a=b     draw a and b as one name; a=b=c for more, and may be given several times
     --capacity N    look at up to N situations for the play, 1 to 4096; 256 if not given
     -o FILE.svg     where to write it; standard output if not given
 
@@ -220,10 +220,12 @@ impl Given {
                 self.capacity = capacity.ok_or_else(|| format!("{text}: `{value}`"))?;
             }
             "--merge" => {
-                let (a, b) = value
-                    .split_once('=')
-                    .ok_or_else(|| format!("`--merge` takes two names, a=b, not `{value}`"))?;
-                self.merged.push((a.trim().to_string(), b.trim().to_string()));
+                let names: Vec<String> = value.split('=').map(|name| name.trim().into()).collect();
+                if names.len() < 2 || names.iter().any(String::is_empty) {
+                    return Err(format!("`--merge` takes names, a=b or a=b=c, not `{value}`"));
+                }
+                let pairs = names.windows(2).map(|pair| (pair[0].clone(), pair[1].clone()));
+                self.merged.extend(pairs);
             }
             _ => self.output = Some(value),
         }
@@ -263,9 +265,10 @@ mod tests {
             read("judge --capacity 4096 -- -a"),
             Ok(Command::Judge(files(&["-a"]), Capacity::MAX))
         );
-        let merged = vec![("a".to_string(), "b".to_string())];
+        let merged =
+            [("a", "b"), ("c", "d"), ("d", "e")].map(|(a, b)| (a.into(), b.into())).to_vec();
         assert_eq!(
-            read("draw f --merge a=b -o g"),
+            read("draw f --merge a=b --merge c=d=e -o g"),
             Ok(Command::Draw("f".into(), merged, Some("g".into()), default))
         );
         assert_eq!(read("text --help"), Ok(Command::Print(TEXT)));
@@ -284,6 +287,7 @@ mod tests {
             "judge --capacity 4097 a",
             "judge --capacity",
             "draw a --merge ab",
+            "draw a --merge a=",
             "bytes --capacity 3 a",
         ] {
             assert!(read(words).is_err(), "{words}");

@@ -214,7 +214,15 @@ fn files_that_are_none() {
     assert_eq!(status(&desk(&["draw", &long, "-o", folder.path()])), 3);
 }
 
-/// A thousand random questions as text get the library's verdicts.
+/// The processor time of all programs that were run and have ended, in hundredths of a second.
+fn spent() -> u64 {
+    let stat = fs::read_to_string("/proc/self/stat").expect("Linux tells");
+    let (_, fields) = stat.rsplit_once(')').expect("the name of the program stands in parentheses");
+    fields.split_whitespace().skip(13).take(2).filter_map(|ticks| ticks.parse::<u64>().ok()).sum()
+}
+
+/// A thousand random questions as text get the library's verdicts, in less than a second of
+/// processor time, the library's own included.
 #[test]
 fn a_thousand_files() {
     let folder = Folder::new("thousand");
@@ -228,7 +236,10 @@ fn a_thousand_files() {
         let text = desk::text::file(&desk::model::Exchange::of(question));
         folder.file(&format!("{number}.exchange"), text);
     }
+    let before = spent();
     let judged = desk(&["judge", folder.path()]);
+    let spent = spent() - before;
+    assert!(cfg!(debug_assertions) || spent < 100, "{spent} hundredths of a second");
     let [same, different, unsettled] = counts;
     let last = format!(
         "1000 files: {same} same, {different} different, {unsettled} unsettled, \
