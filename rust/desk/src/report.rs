@@ -7,7 +7,7 @@ use crate::judging::{at_once, counts, Outcome};
 use crate::markup::{escaped, with_code};
 use crate::model::Exchange;
 use crate::play::Play;
-use crate::telling::Block;
+use crate::telling::{pieces, Block};
 use crate::text;
 use exchange::{Answer, Capacity, Verdict};
 use std::cmp::Reverse;
@@ -39,7 +39,8 @@ padding:.5rem .7rem;margin:.3rem 0}\
 .drawing svg{flex:0 1 auto;min-width:0;max-width:100%;height:auto}\
 code{font-family:'DejaVu Sans Mono',Menlo,Consolas,monospace;font-size:.9rem;background:#f4f7fb}\
 .move{color:#b02020}.legend{font-size:.85rem;color:#50607a}\
-@media print{body{max-width:none;padding:0;font-size:10.5pt}h2,h3,.lead{break-after:avoid}\
+@media print{body{max-width:none;padding:0;font-size:10.5pt}\
+h2,h3,pre:not(:last-child),.lead{break-after:avoid}\
 .drawing{flex-wrap:nowrap;break-after:avoid}h2,.drawing,pre,.term,li,tr{break-inside:avoid}\
 p{orphans:3;widows:3}a{color:inherit;text-decoration:none}}";
 
@@ -172,9 +173,7 @@ fn told(blocks: &[Block]) -> String {
             Block::Verdict(told) => format!("<p><strong>{}</strong></p>\n", with_code(told)),
             Block::Position(number) => format!("<h3>Position {number}</h3>\n"),
             Block::Term(label, term) => {
-                // `new` stays in the line of its name
-                let term = escaped(term).replace("new ", "new\u{A0}");
-                format!("<p class=\"term\">{} = {term}</p>\n", escaped(label))
+                format!("<p class=\"term\">{} = {}</p>\n", escaped(label), breakable(term))
             }
             Block::Apart(list) => format!("<p class=\"term\">apart: {}</p>\n", escaped(list)),
             Block::Text(told) if leads => format!("<p class=\"lead\">{}</p>\n", with_code(told)),
@@ -183,6 +182,12 @@ fn told(blocks: &[Block]) -> String {
         };
     }
     html + if in_list { "</ul>\n" } else { "" }
+}
+
+/// A term that may be broken where lines of a terminal may.
+fn breakable(term: &str) -> String {
+    let unbroken = |piece: &str| escaped(piece).replace("new ", "new\u{A0}");
+    pieces(term).into_iter().map(unbroken).collect::<Vec<_>>().join("<wbr/>")
 }
 
 fn page(sections: &[Section], folder: &str) -> String {

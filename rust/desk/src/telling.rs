@@ -100,7 +100,7 @@ fn fitting<'a>(pieces: impl Iterator<Item = &'a &'a str>, letters: usize) -> usi
 }
 
 /// A term in pieces that end after signs, but not between `new` and its name or before `0`.
-fn pieces(term: &str) -> Vec<&str> {
+pub fn pieces(term: &str) -> Vec<&str> {
     let mut pieces = Vec::new();
     let mut start = 0;
     for (at, sign) in term.match_indices(['.', ' ', ',', ']', ')']) {
