@@ -4,7 +4,9 @@ pub mod FieldIsSmallest
 pub mod Link
 pub mod Members
 pub mod MoveLaws
+pub mod Moves
 pub mod NameLimit
+pub mod NamedSide
 pub mod NewNames
 pub mod OneSide
 pub mod Proper

@@ -1,7 +1,8 @@
 -- What links `successors`, which computes, with the published transitions: the statement. That it holds of every proper situation is
 -- proofs/SuccessorsLinked. Assumes nothing.
-use mathlib.Core.List.{List}
-use mathlib.Core.Logic.{_↔_}
+use mathlib.Core.Bool.{false}
+use mathlib.Core.List.{List, _++_}
+use mathlib.Core.Logic.{_⊎_, _↔_}
 use mathlib.Core.Path.{_≡_}
 use Prim.Native.Nat.{ℕ, _<_}
 use Rattle.calculus.specs.Term.{Term, ren}
@@ -12,9 +13,12 @@ use Rattle.calculus.specs.OpenBisimulation.{update}
 use Rattle.steps.specs.Lists.{_∈_}
 use Rattle.steps.proofs.Calls.{Opens}
 use Rattle.steps.proofs.Scope.{CallsInScope}
-use Rattle.field.specs.Setting.{Setting}
-use Rattle.field.specs.Situation.{Situation, situation}
-use Rattle.field.specs.Successors.{pastLimit, leads, successors}
+use Rattle.steps.specs.Derived.{Derived}
+use Rattle.steps.specs.Listed.{ListedStep}
+use Rattle.steps.specs.Listing.{listed}
+use Rattle.field.specs.Setting.{Setting, stepsIn}
+use Rattle.field.specs.Situation.{Situation, freeIn, situation}
+use Rattle.field.specs.Successors.{pastLimit, leads, moves, successors}
 use Rattle.field.specs.Exploration.{together}
 use Rattle.field.specs.Field.{fresh, Move, Matches, Successor, Past}
 use Rattle.field.specs.Situation.{Proper}
@@ -52,7 +56,12 @@ module _ (Δ : Defs) (S : Setting) where
     of-second : (m : Move Δ S (fresh Δ S s) (s .second)) → ListOf secondMoves (s .apart) (s .first) m w → ListOfSome s w
 
   module _ (arities : List ℕ) where
-    -- what the lists ms that `successors` gives for s are
+    -- What the lists ms that `successors` gives for s are: together they hold the successors.
+    pub record LeadsWithin (s : Situation) (ms : List (List Situation)) : Type 0 where
+      pub members : (t : Situation) → (t ∈ together ms) ↔ Successor Δ S s t
+      pub proper : (t : Situation) → t ∈ together ms → Proper (S .names) arities t
+
+    -- Where names may merge
     pub record LeadsExactly (s : Situation) (ms : List (List Situation)) : Type 0 where
       -- each is the list of a permitted move of one side
       pub each : (w : List Situation) → w ∈ ms → ListOfSome s w
@@ -61,10 +70,22 @@ module _ (Δ : Defs) (S : Setting) where
           → (w : List Situation) × (w ∈ ms) × ListOf firstMoves (s .apart) (s .second) m w
       pub second : (m : Move Δ S (fresh Δ S s) (s .second)) → Resp (m .condition) (s .apart)
           → (w : List Situation) × (w ∈ ms) × ListOf secondMoves (s .apart) (s .first) m w
-      -- together they hold the successors
-      pub members : (t : Situation) → (t ∈ together ms) ↔ Successor Δ S s t
-      pub proper : (t : Situation) → t ∈ together ms → Proper (S .names) arities t
+
+    -- the lists of steps that they come from
+    pub record ListedFor (s : Situation) (ms : List (List Situation)) : Type 0 where
+      pub firsts : List ListedStep
+      pub seconds : List ListedStep
+      pub first-list : stepsIn S (fresh Δ S s) (s .first) ≡ listed firsts
+      pub second-list : stepsIn S (fresh Δ S s) (s .second) ≡ listed seconds
+      pub first-steps : (r : ListedStep) → (r ∈ firsts) ↔ Derived Δ (S .names) (fresh Δ S s) (s .first) r
+      pub second-steps : (r : ListedStep) → (r ∈ seconds) ↔ Derived Δ (S .names) (fresh Δ S s) (s .second) r
+      -- an input is listed only if the new name is one of the names
+      pub receives : (r : ListedStep) → (r ∈ firsts) ⊎ (r ∈ seconds) → r .kind ≡ 1 → fresh Δ S s < S .names
+      pub is : ms ≡ moves (S .differ) (S .names) firstMoves (freeIn (S .names) (s .first) (s .second)) (s .apart) firsts seconds
+          ++ moves (S .differ) (S .names) secondMoves (freeIn (S .names) (s .first) (s .second)) (s .apart) seconds firsts
 
     pub record Linked (s : Situation) : Type 0 where
       pub past : (successors S s ≡ pastLimit) ↔ Past Δ S s
-      pub given : (ms : List (List Situation)) → successors S s ≡ leads ms → LeadsExactly s ms
+      pub given : (ms : List (List Situation)) → successors S s ≡ leads ms → LeadsWithin s ms
+      pub open-given : S .differ ≡ false → (ms : List (List Situation)) → successors S s ≡ leads ms → LeadsExactly s ms
+      pub lists : (ms : List (List Situation)) → successors S s ≡ leads ms → ListedFor s ms

@@ -1,6 +1,6 @@
--- The lists that `moves` makes of one side's steps and the other's: one for each permitted move, with the results of its answers.
+-- The lists that `moves` makes of one side's steps and the other's, where names may merge: one for each permitted move, with the results of its answers.
 -- Assumes nothing.
-use mathlib.Core.Bool.{true}
+use mathlib.Core.Bool.{true, false}
 use mathlib.Core.List.{List, _∷_, _++_, map}
 use mathlib.Core.Logic.{_⊎_, inl, inr, _↔_}
 use mathlib.Core.Path.{_≡_, refl, sym, _∙_, ap, subst}
@@ -28,6 +28,7 @@ use Rattle.field.proofs.ClassTests.{listed-class, permitted-iff, answer
 use Rattle.field.proofs.Link.{ResultOf, ListOf}
 use Rattle.field.proofs.Members.{map-∈}
 use Rattle.field.proofs.MoveLaws.{listedMove, move-derived, move-fixes, move-within, derived-move}
+use Rattle.field.proofs.Moves.{moves-open}
 use Rattle.field.proofs.Proper.{row}
 use Rattle.field.proofs.Selections.{∈-select, select-∈}
 
@@ -140,20 +141,19 @@ module _ (Δ : Defs) (S : Setting) (arities : List ℕ) (x : ℕ) (P Q : Term) (
     permitted-move = permitted-iff (S .names) (m .condition) (m .action) (m .result) within D
 
     -- a permitted move has its list
-    pub move-listed : Resp (m .condition) D → (w : List Situation) × (w ∈ moves (S .names) make F D ps qs) × ListOf Δ S make D Q m w
-    unfolding moves
+    pub move-listed : Resp (m .condition) D → (w : List Situation) × (w ∈ moves false (S .names) make F D ps qs) × ListOf Δ S make D Q m w
     move-listed r = (
       listFor (listedMove Δ S m),
-      ∈-map listFor (listedMove Δ S m) (select (permitted D) ps)
-          (∈-select (permitted D) (listedMove Δ S m) ps (lists (listedMove Δ S m) .1 (move-derived Δ S m)) (permitted-move .1 r)),
+      subst (λ ms. listFor (listedMove Δ S m) ∈ ms) (sym (moves-open (S .names) make F D ps qs))
+          (∈-map listFor (listedMove Δ S m) (select (permitted D) ps)
+          (∈-select (permitted D) (listedMove Δ S m) ps (lists (listedMove Δ S m) .1 (move-derived Δ S m)) (permitted-move .1 r))),
       record { permitted = r; members = list-members },
     )
 
   -- and each list is that of a permitted move
-  pub listed-move : (w : List Situation) → w ∈ moves (S .names) make F D ps qs → (m : Move Δ S x P) × ListOf Δ S make D Q m w
-  unfolding moves
+  pub listed-move : (w : List Situation) → w ∈ moves false (S .names) make F D ps qs → (m : Move Δ S x P) × ListOf Δ S make D Q m w
   listed-move w k =
-      let (s, l, e) = map-∈ listFor w (select (permitted D) ps) k in
+      let (s, l, e) = map-∈ listFor w (select (permitted D) ps) (subst (λ ms. w ∈ ms) (moves-open (S .names) make F D ps qs) k) in
       let (i, a) = select-∈ (permitted D) s ps l in
       let (m, d) = derived-move Δ S (lists s .0 i) in (
         m,

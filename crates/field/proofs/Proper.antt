@@ -54,7 +54,7 @@ apart-∈ (p ∷ D) a b (inr (inr h)) = go (apart-∈ D a b h)
 ∈-apart-back (p ∷ D) a b (inr m) = inr (inr (∈-apart-back D a b m))
 
 -- The free names below a number.
-free-from : (F : List ℕ) (n k m : ℕ) → In m (freeFrom F n k) → In m F
+pub free-from : (F : List ℕ) (n k m : ℕ) → In m (freeFrom F n k) → In m F
 unfolding freeFrom
 free-from F n (suc k) m i = go (among F n) refl i (λ j. free-from F (suc n) k m j)
   where
@@ -63,7 +63,7 @@ free-from F n (suc k) m i = go (among F n) refl i (λ j. free-from F (suc n) k m
     go true e (inr j) r = r j
     go false e j r = r j
 
-from-free : (F : List ℕ) (n k m : ℕ) → In m F → n ≤ m → m < n + k → In m (freeFrom F n k)
+pub from-free : (F : List ℕ) (n k m : ℕ) → In m F → n ≤ m → m < n + k → In m (freeFrom F n k)
 unfolding freeFrom
 from-free F n zero m i h l = absurd (omega arith)
 from-free F n (suc k) m i h l = go (among F n) refl (ℕ-discrete m n) (λ h′. from-free F (suc n) k m i h′ (omega arith))

@@ -1,4 +1,6 @@
 -- What an accepted question gives the field: its definitions, and a proper start. Assumes nothing.
+use mathlib.Core.Bool.{Bool, true, false}
+use mathlib.Core.List.{[]}
 use mathlib.Core.Path.{_≡_}
 use native.Mathlib.Omega.{arith}
 use Prim.Native.Nat.{ℕ}
@@ -17,18 +19,20 @@ use Rattle.field.proofs.Link.{SettingFor}
 use Rattle.field.proofs.Proper.{situation-proper}
 
 -- what the field asks of the definitions
-pub question-setting : (q : Question) → WellFormed q → (Δ : Defs) → ((k : ℕ) → Δ .arity k ≡ getD (q .arities) k 0) → Δ .body ≡ bodyOf (q .bodies)
-    → SettingFor Δ (settingOf (q .bodies)) (q .arities)
+pub question-setting : (differ : Bool) (q : Question) → WellFormed q → (Δ : Defs) → ((k : ℕ) → Δ .arity k ≡ getD (q .arities) k 0) → Δ .body ≡ bodyOf (q .bodies)
+    → SettingFor Δ (settingOf differ (q .bodies)) (q .arities)
 unfolding settingOf
-question-setting q w Δ arities bodies = record {
+question-setting differ q w Δ arities bodies = record {
   bodies = bodies;
   calls = bodies-in-scope (q .arities) (q .bodies) (w .bodies) Δ arities bodies;
   opens = opens-one (q .arities) (q .bodies) (w .bodies) Δ arities bodies;
   few = omega arith;
 }
 
-pub start-proper : (q : Question) → WellFormed q → Proper nameCount (q .arities) (startOf q)
+pub start-proper : (differ : Bool) (q : Question) → WellFormed q → Proper nameCount (q .arities) (startOf differ q)
 unfolding startOf
-start-proper q w =
+start-proper false q w =
     situation-proper nameCount (q .arities) (q .first) (q .second) (w .first .scope) (w .second .scope) (q .apart)
     (apart-irreflexive (q .apart) (w .apart))
+start-proper true q w =
+    situation-proper nameCount (q .arities) (q .first) (q .second) (w .first .scope) (w .second .scope) [] (λ a b d. absurd d)

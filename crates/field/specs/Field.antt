@@ -1,15 +1,16 @@
 -- The field and its limits in the terms of the published transitions: document 01, "The field and the verdict".
-use mathlib.Core.List.{List}
-use mathlib.Core.Logic.{_⊎_, _↔_}
+use mathlib.Core.Bool.{true, false}
+use mathlib.Core.List.{List, []}
+use mathlib.Core.Logic.{_≢_, _⊎_, _↔_}
 use mathlib.Core.Path.{_≡_}
 use Prim.Native.Nat.{ℕ, _<_}
 use lib.ListN.{length}
-use Rattle.calculus.specs.Term.{Term, ren}
-use Rattle.calculus.specs.Free.{In}
+use Rattle.calculus.specs.Term.{Term, ren, put}
+use Rattle.calculus.specs.Free.{In, Free}
 use Rattle.calculus.specs.Cond.{Cond, cls, _▷_}
 use Rattle.calculus.specs.Distinction.{Resp}
 use Rattle.calculus.specs.Definitions.{Defs}
-use Rattle.calculus.specs.Published.{Action, boundNames, renAction, Transition}
+use Rattle.calculus.specs.Published.{Action, input, boundNames, renAction, Transition}
 use Rattle.calculus.specs.OpenBisimulation.{update}
 use Rattle.steps.specs.Lists.{_∈_, All, Distinct}
 use Rattle.steps.specs.Derived.{TooMany, TooLong}
@@ -36,14 +37,20 @@ module _ (Δ : Defs) (S : Setting) where
 
   -- The resulting situation: both results rewritten by the condition, the apart pairs updated as in Definition 15.
   pub data Successor (s t : Situation) : Type 0 where
-    first-moves : (m : Move (fresh s) (s .first)) (n : Move (fresh s) (s .second)) → Resp (m .condition) (s .apart) → Matches m n
+    first-moves : S .differ ≡ false → (m : Move (fresh s) (s .first)) (n : Move (fresh s) (s .second)) → Resp (m .condition) (s .apart) → Matches m n
         → t ≡ situation (S .names) (m .result) (ren (cls (m .condition)) (n .result))
         (update (s .apart) (s .first) (s .second) (m .action) (m .condition))
         → Successor s t
-    second-moves : (m : Move (fresh s) (s .second)) (n : Move (fresh s) (s .first)) → Resp (m .condition) (s .apart) → Matches m n
+    second-moves : S .differ ≡ false → (m : Move (fresh s) (s .second)) (n : Move (fresh s) (s .first)) → Resp (m .condition) (s .apart) → Matches m n
         → t ≡ situation (S .names) (ren (cls (m .condition)) (n .result)) (m .result)
         (update (s .apart) (s .second) (s .first) (m .action) (m .condition))
         → Successor s t
+    -- Where all names differ: matched steps whose conditions are trivial, an input with a name that is free in one of the parts, or the new one.
+    both-do : S .differ ≡ true → (α : Action) → ((y : ℕ) → In y (boundNames α) → y ≡ fresh s) → ((a y : ℕ) → α ≢ input a y) → (P Q : Term)
+        → Transition Δ (s .first) [] α P → Transition Δ (s .second) [] α Q → t ≡ situation (S .names) P Q [] → Successor s t
+    both-receive : S .differ ≡ true → (a y : ℕ) → (y ≡ fresh s) ⊎ Free y (s .first) ⊎ Free y (s .second) → (P Q : Term)
+        → Transition Δ (s .first) [] (input a (fresh s)) P → Transition Δ (s .second) [] (input a (fresh s)) Q
+        → t ≡ situation (S .names) (ren (put (fresh s) y) P) (ren (put (fresh s) y) Q) [] → Successor s t
 
   -- The limits of one part of a situation whose new name is x: steps, a result, and names, where all of them are free and a step binds one.
   pub data PartPast (x : ℕ) (P : Term) : Type 0 where

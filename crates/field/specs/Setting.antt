@@ -1,4 +1,5 @@
 -- What stays the same while one question is judged: the definitions and the limits of document 01.
+use mathlib.Core.Bool.{Bool}
 use mathlib.Core.List.{List}
 use Prim.Native.Nat.{ℕ}
 use Rattle.calculus.specs.Term.{Term}
@@ -17,10 +18,12 @@ pub record Setting : Type 0 where
   -- how many calls a step may open: one, since a call in a body is beneath a prefix (check 11)
   pub calls : ℕ
   pub body : ℕ → Term
+  -- whether all names differ, as for late and early verdicts (request 2026-02); else those not held apart may merge
+  pub differ : Bool
 
-unfoldable pub settingOf : List Term → Setting
-settingOf bodies =
-    record { names = nameCount; longest = longestTerm; most = mostSteps; calls = 1; body = bodyOf bodies }
+unfoldable pub settingOf : Bool → List Term → Setting
+settingOf differ bodies =
+    record { names = nameCount; longest = longestTerm; most = mostSteps; calls = 1; body = bodyOf bodies; differ = differ }
 
 -- the list of a part's steps for the new name x
 unfoldable pub stepsIn : Setting → ℕ → Term → Listing

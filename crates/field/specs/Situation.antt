@@ -38,9 +38,9 @@ pairsOf (a ∷ bs) = map (λ b. (a, b)) bs ++ pairsOf bs
 unfoldable pub situation : ℕ → Term → Term → Pairs → Situation
 situation names P Q D = record { first = P; second = Q; apart = keep (holdsApart D) (pairsOf (freeIn names P Q)) }
 
--- The start: the two parts under the apart list.
-unfoldable pub startOf : Question → Situation
-startOf q = situation nameCount (q .first) (q .second) (q .apart)
+-- The start: the two parts under the apart list, which plays no part where all names differ.
+unfoldable pub startOf : Bool → Question → Situation
+startOf differ q = situation nameCount (q .first) (q .second) (cond differ [] (q .apart))
 
 -- the smallest name that is not in F, of those from n on, k of them; the one behind them if all are in F
 unfoldable pub missing : List ℕ → ℕ → ℕ → ℕ

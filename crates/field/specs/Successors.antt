@@ -5,11 +5,11 @@ use Prim.Native.Nat.{ℕ}
 use lib.Dec.{eqb}
 use Rattle.calculus.specs.Cond.{Pairs, mapP}
 use Rattle.calculus.specs.OpenBisimulation.{times}
-use Rattle.calculus.specs.Term.{Term, ren}
+use Rattle.calculus.specs.Term.{Term, ren, put}
 use Rattle.steps.specs.Listed.{ListedStep, namesFrom, classIn}
 use Rattle.steps.specs.Listing.{Listing, unsettled, listed}
 use Rattle.field.specs.Setting.{Setting, stepsIn}
-use Rattle.field.specs.Situation.{Situation, freeIn, situation, newName}
+use Rattle.field.specs.Situation.{Situation, freeFrom, freeIn, situation, newName}
 
 module _ {A : Type 0} where
   unfoldable pub select : (A → Bool) → List A → List A
@@ -40,13 +40,46 @@ extrudedBy s = cond (eqb (s .kind) 3) (s .object ∷ []) []
 unfoldable pub updatedBy : List ℕ → Pairs → ListedStep → Pairs
 updatedBy F D s = mapP (classIn (s .classes)) (times (extrudedBy s) F ++ D)
 
--- For each permitted step s of one side, the situations that the other side's answers lead to: both results rewritten by the condition of s.
--- `make` puts the two results on their sides.
-unfoldable pub moves : ℕ → (Term → Term → Pairs → Situation) → List ℕ → Pairs → List ListedStep → List ListedStep → List (List Situation)
-moves names make F D ss ts =
-    map
-    (λ s. map (λ t. make (s .result) (ren (classIn (s .classes)) (t .result)) (updatedBy F D s)) (select (answers names s) ts))
-    (select (permitted D) ss)
+-- Where all names differ (request 2026-02) the condition must be trivial: each name is its own class.
+unfoldable pub ownClasses : List ℕ → List ℕ → Bool
+ownClasses c [] = true
+ownClasses c (n ∷ ns) = eqb (classIn c n) n && ownClasses c ns
+
+unfoldable pub unconditional : ℕ → ListedStep → Bool
+unconditional names s = ownClasses (s .classes) (namesFrom 0 names)
+
+-- the steps that must be answered
+unfoldable pub allowed : Bool → ℕ → Pairs → ListedStep → Bool
+allowed false names D s = permitted D s
+allowed true names D s = unconditional names s
+
+-- What is put for the object of a step: for the name that an input receives, where all names differ, each of the names F, free in the two parts, and
+-- the new one, which is its object. Else the object stays.
+unfoldable pub received : Bool → ℕ → List ℕ → ListedStep → List ℕ
+received false names F s = s .object ∷ []
+received true names F s = cond (eqb (s .kind) 1) (freeFrom (s .object ∷ F) 0 names) (s .object ∷ [])
+
+-- Where the answer t to the step s leads: both results rewritten by the condition of s; or both with the received name y. `make` puts the two results
+-- on their sides.
+unfoldable pub led : Bool → (Term → Term → Pairs → Situation) → List ℕ → Pairs → ListedStep → ListedStep → ℕ → Situation
+led false make F D s t y = make (s .result) (ren (classIn (s .classes)) (t .result)) (updatedBy F D s)
+led true make F D s t y = make (ren (put (s .object) y) (s .result)) (ren (put (s .object) y) (t .result)) []
+
+module _ {A : Type 0} where
+  unfoldable pub joinAll : List (List A) → List A
+  joinAll [] = []
+  joinAll (xs ∷ xss) = xs ++ joinAll xss
+
+-- For each allowed step s of one side, and each name received, the situations that the other side's answers lead to.
+module _ (differ : Bool) (names : ℕ) (make : Term → Term → Pairs → Situation) (F : List ℕ) (D : Pairs) where
+  unfoldable pub answersTo : List ListedStep → ListedStep → ℕ → List Situation
+  answersTo ts s y = map (λ t. led differ make F D s t y) (select (answers names s) ts)
+
+  unfoldable pub movesOf : List ListedStep → ListedStep → List (List Situation)
+  movesOf ts s = map (answersTo ts s) (received differ names F s)
+
+  unfoldable pub moves : List ListedStep → List ListedStep → List (List Situation)
+  moves ss ts = joinAll (map (movesOf ts) (select (allowed differ names D) ss))
 
 -- an input or a new-name output
 unfoldable pub bindsName : ListedStep → Bool
@@ -56,7 +89,7 @@ unfoldable pub someBinds : List ListedStep → Bool
 someBinds [] = false
 someBinds (s ∷ ss) = bindsName s || someBinds ss
 
--- A situation past a limit has no successors; else there is a list of them for each permitted step of either side.
+-- A situation past a limit has no successors; else there is a list of them for each allowed step of either side and each name received.
 pub data Outcome : Type 0 where
   pastLimit : Outcome
   leads : List (List Situation) → Outcome
@@ -68,7 +101,7 @@ ledTo S s ps qs =
     let F = freeIn n (s .first) (s .second) in
     let D = s .apart in
     cond (eqb (newName n (s .first) (s .second)) n && (someBinds ps || someBinds qs)) pastLimit
-    (leads (moves n (situation n) F D ps qs ++ moves n (λ Q P E. situation n P Q E) F D qs ps))
+    (leads (moves (S .differ) n (situation n) F D ps qs ++ moves (S .differ) n (λ Q P E. situation n P Q E) F D qs ps))
 
 -- the limits of steps and of results are the list's own
 unfoldable pub withSteps : Setting → Situation → Listing → Listing → Outcome

@@ -55,7 +55,7 @@ module _ (question : List ℕ) (q : Question) (accepted : checkOf question ≡ r
   well = accepted-well-formed question q accepted
 
   abbrev S : Setting
-  S = settingOf (q .bodies)
+  S = settingOf false (q .bodies)
 
   together-proper : (s : Situation) (ms : List (List Situation)) → Proper nameCount (q .arities) s → successors S s ≡ leads ms
       → All (Proper nameCount (q .arities)) (together ms)
@@ -63,11 +63,11 @@ module _ (question : List ℕ) (q : Question) (accepted : checkOf question ≡ r
   together-proper s ms p e =
       let Δ : Defs = definitions (q .arities) (q .bodies) (well .bodies) in
       ∈-all (Proper nameCount (q .arities)) (together ms)
-      (λ t i. invariant Δ S (q .arities) (question-setting q well Δ (λ k. refl) refl) .kept s t p (together-leads S s ms e t i))
+      (λ t i. invariant Δ S (q .arities) (question-setting false q well Δ (λ k. refl) refl) .kept s t p (together-leads S s ms e t i))
 
-  start-fitting : Fitting (q .arities) (startOf q)
+  start-fitting : Fitting (q .arities) (startOf false q)
   unfolding startOf situation
-  start-fitting = record { proper = start-proper q well; fits = record { first = well .first .size; second = well .second .size } }
+  start-fitting = record { proper = start-proper false q well; fits = record { first = well .first .size; second = well .second .size } }
 
 -- The situation of number `taken`.
 module _ (question : List ℕ) (taken capacity : ℕ) (work : List ℕ) (known : ℕ) (waits : taken < known) (up : TakenUp) (firsts seconds : List ℕ)
@@ -85,10 +85,10 @@ module _ (question : List ℕ) (taken capacity : ℕ) (work : List ℕ) (known :
     taken-as : TakenAs q s up firsts seconds
     taken-as = T .is q s accepted (K .slots .held taken d inside) (proper .first) (proper .second)
 
-    follows-past : up .lists ≡ Past → Follows (q .arities) capacity taken (successors (settingOf (q .bodies)) s) work known Full work
+    follows-past : up .lists ≡ Past → Follows (q .arities) capacity taken (successors (settingOf false (q .bodies)) s) work known Full work
     unfolding ListsAre Follows
     follows-past e =
-        let p : successors (settingOf (q .bodies)) s ≡ pastLimit = subst (λ l. ListsAre q s l firsts seconds) e (taken-as .lists) in
+        let p : successors (settingOf false (q .bodies)) s ≡ pastLimit = subst (λ l. ListsAre q s l firsts seconds) e (taken-as .lists) false in
         subst (λ o. Follows (q .arities) capacity taken o work known Full work) (sym p) refl
 
     module _ (n m : ℕ) (e : up .lists ≡ Listed n m) (r : Growth) (work′ : List ℕ)
@@ -101,22 +101,22 @@ module _ (question : List ℕ) (taken capacity : ℕ) (work : List ℕ) (known :
       names = fn (s .first) ++ fn (s .second)
 
       abbrev ms : List (List Situation)
-      ms = moves nameCount (placed false) (freeIn nameCount (s .first) (s .second)) (s .apart) (sides .ps) (sides .qs)
-          ++ moves nameCount (placed true) (freeIn nameCount (s .first) (s .second)) (s .apart) (sides .qs) (sides .ps)
+      ms = moves false nameCount (placed false) (freeIn nameCount (s .first) (s .second)) (s .apart) (sides .ps) (sides .qs)
+          ++ moves false nameCount (placed true) (freeIn nameCount (s .first) (s .second)) (s .apart) (sides .qs) (sides .ps)
 
       both : ms ≡ moved false names (s .apart) (sides .ps) (sides .qs) ++ moved true names (s .apart) (sides .qs) (sides .ps)
       unfolding moved freeIn
       both = refl
 
-      follows-listed : Follows (q .arities) capacity taken (successors (settingOf (q .bodies)) s) work known r work′
+      follows-listed : Follows (q .arities) capacity taken (successors (settingOf false (q .bodies)) s) work known r work′
       unfolding Follows
       follows-listed =
           let flags : Flagged (up .free) (up .apart) names (s .apart) =
           record { names = taken-as .free; pairs = taken-as .apart; distinction = proper .distinction } in
-          subst (λ o. Follows (q .arities) capacity taken o work known r work′) (sym (sides .leading))
+          subst (λ o. Follows (q .arities) capacity taken o work known r work′) (sym (sides .leading false))
           (subst (λ l. Leads (q .arities) capacity taken l work known r work′) (sym both)
           (g .is names (s .apart) (sides .ps) (sides .qs) flags (sides .first) (sides .second)
-          (subst (λ l. All (Proper nameCount (q .arities)) (together l)) both (together-proper question q accepted s ms proper (sides .leading)))))
+          (subst (λ l. All (Proper nameCount (q .arities)) (together l)) both (together-proper question q accepted s ms proper (sides .leading false)))))
 
   pub grow-past : up .lists ≡ Past → GrowIs question taken capacity work known Full work
   grow-past e = record { grows = grows-full capacity work known; is = λ q a ks d K. follows-past q a ks d K e }
@@ -142,12 +142,12 @@ pub record StruckBy (work : List ℕ) (ks : List Situation) (i : ℕ) (ms : List
 -- Exploration: the known situations, of which the first `taken` have been taken up.
 pub record Explorer (q : Question) (capacity : ℕ) (work : List ℕ) (known taken : ℕ) : Type 0 where
   pub ks : List Situation
-  pub exploring : Exploring (settingOf (q .bodies)) capacity (startOf q) ks taken
+  pub exploring : Exploring (settingOf false (q .bodies)) capacity (startOf false q) ks taken
   pub knows : Knows (q .arities) capacity work known ks
-  pub struck : (i : ℕ) (ms : List (List Situation)) → i < taken → successors (settingOf (q .bodies)) (getD ks i (startOf q)) ≡ leads ms
+  pub struck : (i : ℕ) (ms : List (List Situation)) → i < taken → successors (settingOf false (q .bodies)) (getD ks i (startOf false q)) ≡ leads ms
       → StruckBy work ks i ms
   pub left : (i : ℕ) → taken ≤ i → i < known → getD work (struckAt i) 0 ≡ 0
-  pub sole : (i k : ℕ) (ms : List (List Situation)) → i < taken → k < notedCount → successors (settingOf (q .bodies)) (getD ks i (startOf q)) ≡ leads ms
+  pub sole : (i k : ℕ) (ms : List (List Situation)) → i < taken → k < notedCount → successors (settingOf false (q .bodies)) (getD ks i (startOf false q)) ≡ leads ms
       → SoleIn ks ms (noteAt work i k)
 
 -- Nothing is noted in the slot that is taken up next.
@@ -174,7 +174,7 @@ explorer-cleared q capacity work known taken work′ c y = record {
 
 -- One more is taken up.
 module _ (q : Question) (capacity : ℕ) (work : List ℕ) (known taken : ℕ) (y : Explorer q capacity work known taken) (waits : taken < known)
-    (ms : List (List Situation)) (e : successors (settingOf (q .bodies)) (getD (y .ks) taken (startOf q)) ≡ leads ms)
+    (ms : List (List Situation)) (e : successors (settingOf false (q .bodies)) (getD (y .ks) taken (startOf false q)) ≡ leads ms)
     (empty : (k : ℕ) → k < notedCount → noteAt work taken k ≡ 0)
     (n : ℕ) (few : n ≤ capacity) (more : known ≤ n) (work′ : List ℕ) (f : Leads (q .arities) capacity taken ms work known (Known n) work′) where
   abbrev all : List Situation
@@ -210,17 +210,17 @@ module _ (q : Question) (capacity : ℕ) (work : List ℕ) (known taken : ℕ) (
         (w, i, all-imp (Gone work (y .ks)) (Below work′ all taken) w (λ t o. below-now taken (omega arith) t (gone-below t o)) a);
   }
 
-  struck-now : (i : ℕ) (ns : List (List Situation)) → i < taken + 1 → successors (settingOf (q .bodies)) (getD all i (startOf q)) ≡ leads ns
+  struck-now : (i : ℕ) (ns : List (List Situation)) → i < taken + 1 → successors (settingOf false (q .bodies)) (getD all i (startOf false q)) ≡ leads ns
       → StruckBy work′ all i ns
   struck-now i ns h k = go (ℕ-discrete i taken)
     where
-      there : successors (settingOf (q .bodies)) (getD (y .ks) i (startOf q)) ≡ leads ns
-      there = ap (successors (settingOf (q .bodies))) (sym (front i (startOf q) (omega arith))) ∙ k
+      there : successors (settingOf false (q .bodies)) (getD (y .ks) i (startOf false q)) ≡ leads ns
+      there = ap (successors (settingOf false (q .bodies))) (sym (front i (startOf false q) (omega arith))) ∙ k
 
       go : Dec (i ≡ taken) → StruckBy work′ all i ns
       go (yes d) =
-          let t : successors (settingOf (q .bodies)) (getD (y .ks) taken (startOf q)) ≡ leads ns =
-          subst (λ j. successors (settingOf (q .bodies)) (getD (y .ks) j (startOf q)) ≡ leads ns) d there in
+          let t : successors (settingOf false (q .bodies)) (getD (y .ks) taken (startOf false q)) ≡ leads ns =
+          subst (λ j. successors (settingOf false (q .bodies)) (getD (y .ks) j (startOf false q)) ≡ leads ns) d there in
           let z : ms ≡ ns = cc in
           rw (d, ← z) struck-taken
       go (no d) =
@@ -248,17 +248,17 @@ module _ (q : Question) (capacity : ℕ) (work : List ℕ) (known taken : ℕ) (
       go (inl z) = absurd (omega (arith, e, z, empty k g))
       go (inr x) = x j e
 
-  sole-now : (i k : ℕ) (ns : List (List Situation)) → i < taken + 1 → k < notedCount → successors (settingOf (q .bodies)) (getD all i (startOf q)) ≡ leads ns
+  sole-now : (i k : ℕ) (ns : List (List Situation)) → i < taken + 1 → k < notedCount → successors (settingOf false (q .bodies)) (getD all i (startOf false q)) ≡ leads ns
       → SoleIn all ns (noteAt work′ i k)
   sole-now i k ns h g l = go (ℕ-discrete i taken)
     where
-      there : successors (settingOf (q .bodies)) (getD (y .ks) i (startOf q)) ≡ leads ns
-      there = ap (successors (settingOf (q .bodies))) (sym (front i (startOf q) (omega arith))) ∙ l
+      there : successors (settingOf false (q .bodies)) (getD (y .ks) i (startOf false q)) ≡ leads ns
+      there = ap (successors (settingOf false (q .bodies))) (sym (front i (startOf false q) (omega arith))) ∙ l
 
       go : Dec (i ≡ taken) → SoleIn all ns (noteAt work′ i k)
       go (yes d) =
-          let t : successors (settingOf (q .bodies)) (getD (y .ks) taken (startOf q)) ≡ leads ns =
-          subst (λ j. successors (settingOf (q .bodies)) (getD (y .ks) j (startOf q)) ≡ leads ns) d there in
+          let t : successors (settingOf false (q .bodies)) (getD (y .ks) taken (startOf false q)) ≡ leads ns =
+          subst (λ j. successors (settingOf false (q .bodies)) (getD (y .ks) j (startOf false q)) ≡ leads ns) d there in
           let z : ms ≡ ns = cc in
           rw (d, ← z) (sole-taken k g)
       go (no d) =
@@ -267,7 +267,7 @@ module _ (q : Question) (capacity : ℕ) (work : List ℕ) (known taken : ℕ) (
   explorer-next : Explorer q capacity work′ n (taken + 1)
   explorer-next = record {
     ks = all;
-    exploring = rw add-one (exploring-on (settingOf (q .bodies)) capacity (startOf q) (y .ks) taken (y .exploring) (omega (arith, y .knows .count)) ms e
+    exploring = rw add-one (exploring-on (settingOf false (q .bodies)) capacity (startOf false q) (y .ks) taken (y .exploring) (omega (arith, y .knows .count)) ms e
         (omega (arith, knows-all .count)));
     knows = knows-all;
     struck = struck-now;
@@ -277,15 +277,15 @@ module _ (q : Question) (capacity : ℕ) (work : List ℕ) (known taken : ℕ) (
 
 -- all rows, once all are taken up
 struck-first : (q : Question) (capacity : ℕ) (work : List ℕ) (known taken : ℕ) (y : Explorer q capacity work known taken) (rs : List Row) → length rs ≤ taken
-    → fieldOf (settingOf (q .bodies)) capacity (startOf q) ≡ explored rs → map (λ r. r .self) rs ≡ y .ks → StruckFirst work rs
+    → fieldOf (settingOf false (q .bodies)) capacity (startOf false q) ≡ explored rs → map (λ r. r .self) rs ≡ y .ks → StruckFirst work rs
 unfolding StruckFirst
 struck-first q capacity work known taken y rs m e s i d h =
-    let S : Setting = settingOf (q .bodies) in
+    let S : Setting = settingOf false (q .bodies) in
     let r : Row = getD rs i d in
-    let there : getD (y .ks) i (startOf q) ≡ r .self =
-    getD-within (y .ks) i (startOf q) (d .self) (omega (arith, ap length s, length-map rs (λ (r : Row). r .self))) ∙ sym (self i d) in
+    let there : getD (y .ks) i (startOf false q) ≡ r .self =
+    getD-within (y .ks) i (startOf false q) (d .self) (omega (arith, ap length s, length-map rs (λ (r : Row). r .self))) ∙ sym (self i d) in
     let x = y .struck i (r .wants) (omega arith)
-    (ap (successors S) there ∙ all-∈ (λ r. successors S (r .self) ≡ leads (r .wants)) rs (explored-leads S (startOf q) capacity rs e) r (getD-∈ rs i d h)) in
+    (ap (successors S) there ∙ all-∈ (λ r. successors S (r .self) ≡ leads (r .wants)) rs (explored-leads S (startOf false q) capacity rs e) r (getD-∈ rs i d h)) in
     record {
       must = x .must;
       why = λ g.
@@ -301,17 +301,17 @@ struck-first q capacity work known taken y rs m e s i d h =
     self j c = sym (List·getD-map (λ (r : Row). r .self) rs j c) ∙ ap (λ l. getD l j (c .self)) s
 
 sole-noted : (q : Question) (capacity : ℕ) (work : List ℕ) (known taken : ℕ) (y : Explorer q capacity work known taken) (rs : List Row) → length rs ≤ taken
-    → fieldOf (settingOf (q .bodies)) capacity (startOf q) ≡ explored rs → map (λ r. r .self) rs ≡ y .ks → SoleNoted work rs
+    → fieldOf (settingOf false (q .bodies)) capacity (startOf false q) ≡ explored rs → map (λ r. r .self) rs ≡ y .ks → SoleNoted work rs
 unfolding SoleNoted
 sole-noted q capacity work known taken y rs m e s i k d h g =
-    let S : Setting = settingOf (q .bodies) in
+    let S : Setting = settingOf false (q .bodies) in
     let r : Row = getD rs i d in
-    let there : getD (y .ks) i (startOf q) ≡ r .self =
-    getD-within (y .ks) i (startOf q) (d .self) (omega (arith, ap length s, length-map rs (λ (r : Row). r .self)))
+    let there : getD (y .ks) i (startOf false q) ≡ r .self =
+    getD-within (y .ks) i (startOf false q) (d .self) (omega (arith, ap length s, length-map rs (λ (r : Row). r .self)))
     ∙ sym (sym (List·getD-map (λ (r : Row). r .self) rs i d) ∙ ap (λ l. getD l i (d .self)) s) in
     subst (λ ks. SoleIn ks (r .wants) (noteAt work i k)) (sym s)
     (y .sole i k (r .wants) (omega arith) g
-    (ap (successors S) there ∙ all-∈ (λ r. successors S (r .self) ≡ leads (r .wants)) rs (explored-leads S (startOf q) capacity rs e) r (getD-∈ rs i d h)))
+    (ap (successors S) there ∙ all-∈ (λ r. successors S (r .self) ≡ leads (r .wants)) rs (explored-leads S (startOf false q) capacity rs e) r (getD-∈ rs i d h)))
 
 module _ (question : List ℕ) (capacity : ℕ) (work₀ : List ℕ) where
   pub record Explorers (work : List ℕ) (known taken : ℕ) : Type 0 where
@@ -332,10 +332,10 @@ module _ (question : List ℕ) (capacity : ℕ) (work₀ : List ℕ) where
       rest = g .grows .rest ∙ x .rest;
       is = λ q a.
           let y = x .is q a in
-          next q y (successors (settingOf (q .bodies)) (getD (y .ks) taken (startOf q))) refl (g .is q a (y .ks) (startOf q) (y .knows));
+          next q y (successors (settingOf false (q .bodies)) (getD (y .ks) taken (startOf false q))) refl (g .is q a (y .ks) (startOf false q) (y .knows));
     }
       where
-        next : (q : Question) (y : Explorer q capacity work known taken) (o : Outcome) → successors (settingOf (q .bodies)) (getD (y .ks) taken (startOf q)) ≡ o
+        next : (q : Question) (y : Explorer q capacity work known taken) (o : Outcome) → successors (settingOf false (q .bodies)) (getD (y .ks) taken (startOf false q)) ≡ o
             → Follows (q .arities) capacity taken o work known (Known n) work′ → Explorer q capacity work′ n (taken + 1)
         next q y pastLimit e f = let z : _≡_ {A = ℕ} 0 1 = cc in absurd (omega arith)
         next q y (leads ms) e f =
@@ -349,15 +349,15 @@ module _ (question : List ℕ) (capacity : ℕ) (work₀ : List ℕ) where
       within = λ n e. let z : _≡_ {A = ℕ} 0 1 = cc in absurd (omega arith);
       is = λ q a.
           let y = x .is q a in
-          rw (none q y (successors (settingOf (q .bodies)) (getD (y .ks) taken (startOf q))) refl (g .is q a (y .ks) (startOf q) (y .knows))) refl;
+          rw (none q y (successors (settingOf false (q .bodies)) (getD (y .ks) taken (startOf false q))) refl (g .is q a (y .ks) (startOf false q) (y .knows))) refl;
       chained = λ q a n e. let z : _≡_ {A = ℕ} 0 1 = cc in absurd (omega arith);
     }
       where
-        none : (q : Question) (y : Explorer q capacity work known taken) (o : Outcome) → successors (settingOf (q .bodies)) (getD (y .ks) taken (startOf q)) ≡ o
-            → Follows (q .arities) capacity taken o work known Full work′ → fieldOf (settingOf (q .bodies)) capacity (startOf q) ≡ incomplete
-        none q y pastLimit e f = exploring-past (settingOf (q .bodies)) capacity (startOf q) (y .ks) taken (y .exploring) (omega (arith, y .knows .count)) e
+        none : (q : Question) (y : Explorer q capacity work known taken) (o : Outcome) → successors (settingOf false (q .bodies)) (getD (y .ks) taken (startOf false q)) ≡ o
+            → Follows (q .arities) capacity taken o work known Full work′ → fieldOf (settingOf false (q .bodies)) capacity (startOf false q) ≡ incomplete
+        none q y pastLimit e f = exploring-past (settingOf false (q .bodies)) capacity (startOf false q) (y .ks) taken (y .exploring) (omega (arith, y .knows .count)) e
         none q y (leads ms) e f =
-            exploring-full (settingOf (q .bodies)) capacity (startOf q) (y .ks) taken (y .exploring) (omega (arith, y .knows .count)) ms e (f .puts (y .ks) (y .knows) tt)
+            exploring-full (settingOf false (q .bodies)) capacity (startOf false q) (y .ks) taken (y .exploring) (omega (arith, y .knows .count)) ms e (f .puts (y .ks) (y .knows) tt)
 
   pub explorers-end : (work : List ℕ) (known taken : ℕ) → Explorers work known taken → taken ≡ known → 1 ≤ known → known ≤ capacity
       → ExploreIs question capacity work₀ (Field known) work
@@ -369,12 +369,12 @@ module _ (question : List ℕ) (capacity : ℕ) (work₀ : List ℕ) where
     chained = λ q a n e. let z : known ≡ n = cc in rw (← z) (x .is q a .knows .chained);
   }
     where
-      whole : (q : Question) → Explorer q capacity work known taken → Explores (fieldOf (settingOf (q .bodies)) capacity (startOf q)) (Field known) work
+      whole : (q : Question) → Explorer q capacity work known taken → Explores (fieldOf (settingOf false (q .bodies)) capacity (startOf false q)) (Field known) work
       whole q y =
           let n : taken ≡ length (y .ks) = omega (arith, y .knows .count) in
-          let z : Exploring (settingOf (q .bodies)) capacity (startOf q) (y .ks) (length (y .ks)) = subst (Exploring (settingOf (q .bodies)) capacity (startOf q) (y .ks)) n (y .exploring) in
+          let z : Exploring (settingOf false (q .bodies)) capacity (startOf false q) (y .ks) (length (y .ks)) = subst (Exploring (settingOf false (q .bodies)) capacity (startOf false q) (y .ks)) n (y .exploring) in
           let m : known ≡ length (z .rows) = omega (arith, z .count, y .knows .count) in
-          let e = exploring-end (settingOf (q .bodies)) capacity (startOf q) (y .ks) z in
+          let e = exploring-end (settingOf false (q .bodies)) capacity (startOf false q) (y .ks) z in
           let selves = z .selves ∙ take-all (length (y .ks)) (y .ks) (omega arith) in
           rw e (ap Field m, rw selves (y .knows .slots), struck-first q capacity work known taken y (z .rows) (omega arith) e selves, sole-noted q capacity work known taken y (z .rows) (omega arith) e selves)
 
@@ -393,9 +393,9 @@ module _ (question : List ℕ) (capacity : ℕ) (some : 1 ≤ capacity) (work : 
         let none : Knows (q .arities) capacity work 0 [] =
         record { count = refl; fitting = tt; slots = record { held = λ i d k. absurd (omega arith) }; chained = chained-none capacity work } in
         record {
-          ks = startOf q ∷ [];
-          exploring = exploring-start (settingOf (q .bodies)) capacity (startOf q) some;
-          knows = knows-more work key 0 slot long (q .arities) capacity [] none (startOf q) f (whole-key key (startOf q) (f .fits) (S q a)) work₀ L;
+          ks = startOf false q ∷ [];
+          exploring = exploring-start (settingOf false (q .bodies)) capacity (startOf false q) some;
+          knows = knows-more work key 0 slot long (q .arities) capacity [] none (startOf false q) f (whole-key key (startOf false q) (f .fits) (S q a)) work₀ L;
           struck = λ i ms h. absurd (omega arith);
           sole = λ i k ms h. absurd (omega arith);
           left = slot-struck work key 0 slot long capacity work₀ L .fresh;

@@ -1,5 +1,5 @@
 -- The situations found, in the slots of the work area, and what exploration promises.
-use mathlib.Core.Bool.{true}
+use mathlib.Core.Bool.{true, false}
 use mathlib.Core.List.{List, map}
 use mathlib.Core.Path.{_≡_}
 use Prim.Native.Nat.{ℕ, _*_, _<_, _≤_}
@@ -41,5 +41,5 @@ Explores (explored rs) r work′ = (r ≡ Field (length rs)) × SlotsHold work�
 pub record ExploreIs (question : List ℕ) (capacity : ℕ) (work : List ℕ) (r : Explored) (work′ : List ℕ) : Type 0 where
   pub rest : drop (slotBytes * capacity) work′ ≡ drop (slotBytes * capacity) work
   pub within : (n : ℕ) → r ≡ Field n → (1 ≤ n) × (n ≤ capacity)
-  pub is : (q : Question) → checkOf question ≡ result q → Explores (fieldOf (settingOf (q .bodies)) capacity (startOf q)) r work′
+  pub is : (q : Question) → checkOf question ≡ result q → Explores (fieldOf (settingOf false (q .bodies)) capacity (startOf false q)) r work′
   pub chained : (q : Question) → checkOf question ≡ result q → (n : ℕ) → r ≡ Field n → Chained capacity work′ n

@@ -1,5 +1,6 @@
 -- The known situations grow while exploration takes one up: each situation that it leads to is looked for among them and put behind them if it is
 -- new. What the code promises of it.
+use mathlib.Core.Bool.{false}
 use mathlib.Core.Path.{_≡_}
 use mathlib.Core.List.{List}
 use Prim.Native.Nat.{ℕ}
@@ -23,4 +24,4 @@ Follows arities capacity taken (leads ms) work known r work′ = Leads arities c
 pub record GrowIs (question : List ℕ) (taken capacity : ℕ) (work : List ℕ) (known : ℕ) (r : Growth) (work′ : List ℕ) : Type 0 where
   pub grows : Grows capacity work known r work′
   pub is : (q : Question) → checkOf question ≡ result q → (ks : List Situation) (d : Situation) → Knows (q .arities) capacity work known ks
-      → Follows (q .arities) capacity taken (successors (settingOf (q .bodies)) (getD ks taken d)) work known r work′
+      → Follows (q .arities) capacity taken (successors (settingOf false (q .bodies)) (getD ks taken d)) work known r work′

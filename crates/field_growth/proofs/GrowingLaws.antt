@@ -34,7 +34,7 @@ use Rattle.field_slots.specs.Noted.{noteAt, SpareOnly, NotesOne, Stands, SoleIn
 use Rattle.field_pairs.specs.PairFlags.{PermittedIs}
 use Rattle.field.specs.Situation.{Situation, freeFrom, situation}
 use Rattle.field_pairs.specs.Slot.{keyOf, keyBytes, slotBytes, struckAt, LeftAtIs}
-use Rattle.field.specs.Successors.{select, permitted, answers, moves}
+use Rattle.field.specs.Successors.{select, permitted, answers, joinAll, moves}
 use Rattle.field_renewal.specs.ListedEntries.{ListAt, EntriesAt}
 use Rattle.field_growth.specs.declared.growth.Added.{Added}
 use Rattle.field_growth.specs.declared.growth.Growth.{Growth}
@@ -43,7 +43,7 @@ use Rattle.field_slots.specs.declared.find.Found.the-variants.{At, Nothing}
 use Rattle.field_pairs.proofs.EntryLaws.{trivial-header}
 use Rattle.field_growth.proofs.GrownSituations.{grown-front, grown-longer, all-kept, all-grown, grown-found}
 use Rattle.field_growth.proofs.KeysDiffer.{length-key, slot-holds, found-slot, found-no-slot}
-use Rattle.field_growth.proofs.Loops.{select-++, grown-++, together-++, answersTo, moves-are}
+use Rattle.field_growth.proofs.Loops.{select-++, grown-++, together-++, led, answersTo, moves-are}
 use Rattle.field.proofs.Members.{map-∈, getD-∈, ∈-number}
 use Rattle.field_growth.proofs.MirroredLaws.{mirrored, all-rewritten, first-mirrored, one-of, one-answer-mirrored, one-step-mirrored}
 use Rattle.field_slots.proofs.NotedLaws.{note-flag}
@@ -500,12 +500,12 @@ module _ (second : Bool) (G : List ℕ) (D : Pairs) where
   together-moved ts xs ys = ap together (moved-++ ts xs ys) ∙ together-++ (moved second G D xs ts) (moved second G D ys ts)
 
   moved-one : (s : ListedStep) (ts : List ListedStep) → permitted D s ≡ true → moved second G D (s ∷ []) ts ≡ answered second G D s ts ∷ []
-  unfolding moved moves select answered leading
-  moved-one s ts e = rw e
+  unfolding moved select answered leading answersTo led
+  moved-one s ts e = moves-are nameCount (placed second) (freeFrom G 0 nameCount) D (s ∷ []) ts ∙ rw e refl
 
   moved-none : (s : ListedStep) (ts : List ListedStep) → permitted D s ≡ false → moved second G D (s ∷ []) ts ≡ []
-  unfolding moved moves select
-  moved-none s ts e = rw e
+  unfolding moved select
+  moved-none s ts e = moves-are nameCount (placed second) (freeFrom G 0 nameCount) D (s ∷ []) ts ∙ rw e refl
 
   together-one : (xs : List Situation) → together (xs ∷ []) ≡ xs
   unfolding together
@@ -958,7 +958,7 @@ module _ (arities free apart : List ℕ) (second : Bool) (taken : ℕ) (area : L
         → LeadsAfter arities capacity taken before (moved second G D (take i ss) ts) work₀ known (Known now) work
 
   pub steps-start : known ≤ capacity → Steps work₀ known 0
-  unfolding moved moves select
+  unfolding moved moves select joinAll
   steps-start few = record { grows = grows-none capacity work₀ known few; is = λ G D ss ts before flags k l m p. leads-none arities capacity work₀ known before taken }
 
   module _ (waits : taken < known) (work : List ℕ) (now i : ℕ) (x : Steps work now i) (more : i < steps) (r : Growth) (work′ : List ℕ)

@@ -9,6 +9,7 @@ use Rattle.steps.specs.Listed.{ListedStep, classIn}
 use Rattle.field.specs.Situation.{Situation}
 use Rattle.field.specs.Successors.{select, permitted, answers, updatedBy, moves}
 use Rattle.field.specs.Exploration.{together}
+use Rattle.field.proofs.Moves.{moves-open}
 use Rattle.field_growth.specs.Growing.{grownBy, grown}
 
 pub grown-++ : (known xs ys : List Situation) → grown known (xs ++ ys) ≡ grown (grown known xs) ys
@@ -40,6 +41,6 @@ module _ (names : ℕ) (make : Term → Term → Pairs → Situation) (F : List 
   unfoldable pub answersTo : ListedStep → List ListedStep → List Situation
   answersTo s ts = map (led s) (select (answers names s) ts)
 
-  pub moves-are : (ss ts : List ListedStep) → moves names make F D ss ts ≡ map (λ s. answersTo s ts) (select (permitted D) ss)
-  unfolding moves answersTo led
-  moves-are ss ts = refl
+  pub moves-are : (ss ts : List ListedStep) → moves false names make F D ss ts ≡ map (λ s. answersTo s ts) (select (permitted D) ss)
+  unfolding answersTo led
+  moves-are ss ts = moves-open names make F D ss ts

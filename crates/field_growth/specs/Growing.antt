@@ -211,7 +211,7 @@ pub record FirstAnswerIs (area : List ℕ) (at : ℕ) (others : List ℕ) (count
 
 -- what the permitted of ss lead to, each by its answers
 unfoldable pub moved : Bool → List ℕ → Pairs → List ListedStep → List ListedStep → List (List Situation)
-moved second G D ss ts = moves nameCount (placed second) (freeFrom G 0 nameCount) D ss ts
+moved second G D ss ts = moves false nameCount (placed second) (freeFrom G 0 nameCount) D ss ts
 
 -- Of the situation of number `taken` the moves ms were looked at: it is struck out if one of them has no answer, and it is only if all answers of one
 -- lead to situations that were struck out before. The others keep their bytes. What is noted of it newly are only answers to moves.

@@ -70,7 +70,7 @@ module _ (question part : List ℕ) (x : ℕ) (q : Question) (P : Term) (l : Lis
   Δ = definitions (q .arities) (q .bodies) (well .bodies)
 
   abbrev S : Setting
-  S = settingOf (q .bodies)
+  S = settingOf false (q .bodies)
 
   closed : (k : ℕ) → CallsInScope (q .arities) (Δ .body k)
   unfolding definitions

@@ -60,4 +60,4 @@ SuccessorIs arities free apart second area at others place key =
     → key ≡ keyOf (leading second (freeFrom G 0 nameCount) D s t)
 
 unfoldable pub StartIs : List ℕ → List ℕ → Type 0
-StartIs question key = (q : Question) → checkOf question ≡ result q → key ≡ keyOf (startOf q)
+StartIs question key = (q : Question) → checkOf question ≡ result q → key ≡ keyOf (startOf false q)

@@ -102,10 +102,10 @@ module _ (question part : List ℕ) (x n : ℕ) (area : List ℕ) (held : ListIn
       }
 
 -- What the steps of both sides lead to.
-abbrev led : Situation → List ListedStep → List ListedStep → List (List Situation)
-led s ps qs =
-    moves nameCount (placed false) (freeIn nameCount (s .first) (s .second)) (s .apart) ps qs
-    ++ moves nameCount (placed true) (freeIn nameCount (s .first) (s .second)) (s .apart) qs ps
+abbrev led : Bool → Situation → List ListedStep → List ListedStep → List (List Situation)
+led differ s ps qs =
+    moves differ nameCount (placed false) (freeIn nameCount (s .first) (s .second)) (s .apart) ps qs
+    ++ moves differ nameCount (placed true) (freeIn nameCount (s .first) (s .second)) (s .apart) qs ps
 
 module _ (question first second : List ℕ) (x : ℕ) (q : Question) (s : Situation) (h : Sides question first second x q s) where
   below : (n : ℕ) → Either n (s .first) (s .second) → n < nameCount
@@ -117,34 +117,34 @@ module _ (question first second : List ℕ) (x : ℕ) (q : Question) (s : Situat
   new-second : ¬ Free x (s .second)
   new-second f = new-free nameCount (s .first) (s .second) below (inr (subst (λ y. Free y (s .second)) (h .new) f))
 
-  successors-by : (k l : Listing) → stepsOf (q .bodies) x (s .first) ≡ k → stepsOf (q .bodies) x (s .second) ≡ l
-      → successors (settingOf (q .bodies)) s ≡ withSteps (settingOf (q .bodies)) s k l
+  successors-by : (differ : Bool) (k l : Listing) → stepsOf (q .bodies) x (s .first) ≡ k → stepsOf (q .bodies) x (s .second) ≡ l
+      → successors (settingOf differ (q .bodies)) s ≡ withSteps (settingOf differ (q .bodies)) s k l
   unfolding successors settingOf stepsIn stepsOf
-  successors-by k l e f =
-      ap (λ y. withSteps (settingOf (q .bodies)) s (stepsOf (q .bodies) y (s .first)) (stepsOf (q .bodies) y (s .second))) (sym (h .new))
-      ∙ ap₂ (withSteps (settingOf (q .bodies)) s) e f
+  successors-by differ k l e f =
+      ap (λ y. withSteps (settingOf differ (q .bodies)) s (stepsOf (q .bodies) y (s .first)) (stepsOf (q .bodies) y (s .second))) (sym (h .new))
+      ∙ ap₂ (withSteps (settingOf differ (q .bodies)) s) e f
 
-  past-first : stepsOf (q .bodies) x (s .first) ≡ unsettled → successors (settingOf (q .bodies)) s ≡ pastLimit
+  past-first : stepsOf (q .bodies) x (s .first) ≡ unsettled → (differ : Bool) → successors (settingOf differ (q .bodies)) s ≡ pastLimit
   unfolding withSteps
-  past-first e = successors-by unsettled (stepsOf (q .bodies) x (s .second)) e refl
+  past-first e differ = successors-by differ unsettled (stepsOf (q .bodies) x (s .second)) e refl
 
-  past-second : stepsOf (q .bodies) x (s .second) ≡ unsettled → successors (settingOf (q .bodies)) s ≡ pastLimit
+  past-second : stepsOf (q .bodies) x (s .second) ≡ unsettled → (differ : Bool) → successors (settingOf differ (q .bodies)) s ≡ pastLimit
   unfolding withSteps
-  past-second e = go (stepsOf (q .bodies) x (s .first)) refl
+  past-second e differ = go (stepsOf (q .bodies) x (s .first)) refl
     where
-      go : (k : Listing) → stepsOf (q .bodies) x (s .first) ≡ k → successors (settingOf (q .bodies)) s ≡ pastLimit
-      go unsettled d = successors-by unsettled unsettled d e
-      go (listed ps) d = successors-by (listed ps) unsettled d e
+      go : (k : Listing) → stepsOf (q .bodies) x (s .first) ≡ k → successors (settingOf differ (q .bodies)) s ≡ pastLimit
+      go unsettled d = successors-by differ unsettled unsettled d e
+      go (listed ps) d = successors-by differ (listed ps) unsettled d e
 
   -- both sides listed, and the limit of names tested
   led-by : (ps qs : List ListedStep) → stepsOf (q .bodies) x (s .first) ≡ listed ps → stepsOf (q .bodies) x (s .second) ≡ listed qs
       → (t : Bool) → (eqb x nameCount && (someBinds ps || someBinds qs)) ≡ t
-      → successors (settingOf (q .bodies)) s ≡ cond t pastLimit (leads (led s ps qs))
+      → (differ : Bool) → successors (settingOf differ (q .bodies)) s ≡ cond t pastLimit (leads (led differ s ps qs))
   unfolding withSteps ledTo settingOf placed
-  led-by ps qs e f t d =
-      successors-by (listed ps) (listed qs) e f
-      ∙ ap (λ y. cond (eqb y nameCount && (someBinds ps || someBinds qs)) pastLimit (leads (led s ps qs))) (sym (h .new))
-      ∙ ap (λ b. cond b pastLimit (leads (led s ps qs))) d
+  led-by ps qs e f t d differ =
+      successors-by differ (listed ps) (listed qs) e f
+      ∙ ap (λ y. cond (eqb y nameCount && (someBinds ps || someBinds qs)) pastLimit (leads (led differ s ps qs))) (sym (h .new))
+      ∙ ap (λ b. cond b pastLimit (leads (led differ s ps qs))) d
 
 -- Within the limit of names no step binds a name where none is left.
 within-first : (x : ℕ) (b c : Bool) → (eqb x nameCount && (b || c)) ≡ false → x ≡ nameCount → b ≡ false
@@ -192,7 +192,7 @@ module _ (question first second : List ℕ) (x : ℕ) (firsts seconds : List ℕ
       unfolding PastNamesIs
       tested t e = sym (past (ps .steps) (qs .steps) (ps .entries) (qs .entries)) ∙ e
 
-      leads-to : (t : Bool) → p ≡ t → successors (settingOf (q .bodies)) s ≡ cond t pastLimit (leads (led s (ps .steps) (qs .steps)))
+      leads-to : (t : Bool) → p ≡ t → (differ : Bool) → successors (settingOf differ (q .bodies)) s ≡ cond t pastLimit (leads (led differ s (ps .steps) (qs .steps)))
       leads-to t e = led-by question first second x q s h (ps .steps) (qs .steps) (ps .given) (qs .given) t (tested t e)
 
       lists : p ≡ false → SidesListed q s n m firsts seconds
@@ -201,6 +201,8 @@ module _ (question first second : List ℕ) (x : ℕ) (firsts seconds : List ℕ
         qs = qs .steps;
         first = ps .list (within-first x (someBinds (ps .steps)) (someBinds (qs .steps)) (tested false e));
         second = qs .list (within-second x (someBinds (ps .steps)) (someBinds (qs .steps)) (tested false e));
+        first-list = ap (λ y. stepsOf (q .bodies) y (s .first)) (sym (h .new)) ∙ ps .given;
+        second-list = ap (λ y. stepsOf (q .bodies) y (s .second)) (sym (h .new)) ∙ qs .given;
         leading = leads-to false e;
       }
 

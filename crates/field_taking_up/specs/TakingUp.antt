@@ -11,6 +11,7 @@ use Rattle.terms.specs.Limits.{nameCount}
 use Rattle.terms.specs.Question.{Question, checkOf}
 use Rattle.steps.specs.Limits.{mostSteps}
 use Rattle.steps.specs.Listed.{ListedStep}
+use Rattle.steps.specs.Listing.{listed, stepsOf}
 use Rattle.steps_splicing.specs.ListedParts as lister
 use Rattle.field_slots.specs.Key.{SituationAt}
 use Rattle.field_successors.specs.Leading.{placed}
@@ -33,18 +34,20 @@ unfoldable pub PastNamesIs : ℕ → List ℕ → ℕ → List ℕ → ℕ → B
 PastNamesIs x firsts n seconds m r =
     (ps qs : List ListedStep) → EntriesAt firsts n ps → EntriesAt seconds m qs → r ≡ (eqb x nameCount && (someBinds ps || someBinds qs))
 
--- The lists of both sides, n and m steps, and that the situation's successors come of them.
+-- The lists of both sides, n and m steps, and that the situation's successors come of them, whether all names differ or not.
 pub record SidesListed (q : Question) (s : Situation) (n m : ℕ) (firsts seconds : List ℕ) : Type 0 where
   pub ps : List ListedStep
   pub qs : List ListedStep
   pub first : ListAt (q .arities) firsts n ps
   pub second : ListAt (q .arities) seconds m qs
-  pub leading : successors (settingOf (q .bodies)) s
-      ≡ leads (moves nameCount (placed false) (freeIn nameCount (s .first) (s .second)) (s .apart) ps qs
-      ++ moves nameCount (placed true) (freeIn nameCount (s .first) (s .second)) (s .apart) qs ps)
+  pub first-list : stepsOf (q .bodies) (newName nameCount (s .first) (s .second)) (s .first) ≡ listed ps
+  pub second-list : stepsOf (q .bodies) (newName nameCount (s .first) (s .second)) (s .second) ≡ listed qs
+  pub leading : (differ : Bool) → successors (settingOf differ (q .bodies)) s
+      ≡ leads (moves differ nameCount (placed false) (freeIn nameCount (s .first) (s .second)) (s .apart) ps qs
+      ++ moves differ nameCount (placed true) (freeIn nameCount (s .first) (s .second)) (s .apart) qs ps)
 
 unfoldable pub ListsAre : Question → Situation → Lists → List ℕ → List ℕ → Type 0
-ListsAre q s Past firsts seconds = successors (settingOf (q .bodies)) s ≡ pastLimit
+ListsAre q s Past firsts seconds = (differ : Bool) → successors (settingOf differ (q .bodies)) s ≡ pastLimit
 ListsAre q s (Listed n m) firsts seconds = SidesListed q s n m firsts seconds
 
 -- The bytes of the two parts of s, of a question with the definitions of q, and its new name.

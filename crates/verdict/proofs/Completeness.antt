@@ -1,7 +1,8 @@
 -- Completeness of the verdict: related situations of the field are never struck out, since related parts answer each other's moves with
 -- related parts. Assumes nothing.
-use mathlib.Core.Path.{refl, sym, _∙_, ap, subst}
-use mathlib.Core.List.{List}
+use mathlib.Core.Path.{_≡_, refl, sym, _∙_, ap, subst}
+use mathlib.Core.Bool.{false}
+use mathlib.Core.List.{List, map}
 use Prim.Native.Nat.{ℕ}
 use Rattle.calculus.specs.Term.{Term, ren}
 use Rattle.calculus.specs.Free.{In, Free}
@@ -19,10 +20,12 @@ use Rattle.field.specs.Situation.{Situation, situation}
 use Rattle.field.specs.Exploration.{Row}
 use Rattle.field.specs.Field.{fresh, Move, Matches}
 use Rattle.field.proofs.Link.{ListOfSome, of-first, of-second}
+use Rattle.field.proofs.Members.{map-∈}
 use Rattle.field.proofs.NewNames.{new-away}
 use Rattle.field.proofs.Proper.{either-below, related-situation}
 use Rattle.field.proofs.Run.{selves}
-use Rattle.verdict.proofs.Rounds.{survivors, Some, Closed, self-in, closed-survives}
+use Rattle.verdict.proofs.Rounds.{single, Met, some-met, survivors, Some, Closed, self-in, closed-survives}
+use Rattle.verdict.specs.Verdict.{openly, demandsOf}
 use Rattle.verdict.proofs.FieldRows.{FieldRows}
 
 module _ (Δ : Defs) (S : Setting) where
@@ -48,7 +51,7 @@ module _ (Δ : Defs) (S : Setting) where
         related = o .related;
       }
 
-module _ (Δ : Defs) (S : Setting) (arities : List ℕ) (rs : List Row) (field : FieldRows Δ S arities rs) where
+module _ (Δ : Defs) (S : Setting) (arities : List ℕ) (rs : List Row) (field : FieldRows Δ S arities rs) (merging : S .differ ≡ false) where
   abbrev RelatedIn : Situation → Type 1
   RelatedIn s = Related Δ (s .apart) (s .first) (s .second)
 
@@ -74,11 +77,16 @@ module _ (Δ : Defs) (S : Setting) (arities : List ℕ) (rs : List Row) (field :
         let a = related-answer Δ S (related-sym Δ related) (record { left = away .right; right = away .left; dist = away .dist }) m (l .permitted) in
         related-member w i _ _ _ (related-sym Δ (a .related)) (l .members _ .1 (record { answer = a .answer; matches = a .matches; result = refl }))
 
-  related-closed : Closed RelatedIn rs
-  related-closed = record {
-    answers = λ r m h. record { some = λ w i. some r m h w i (field .links r m .each w i) };
-  }
+  related-closed : Closed (demandsOf openly S) RelatedIn rs
+  unfolding demandsOf
+  related-closed = record { answers = λ r m h. record { some = λ d i. met r m h d (map-∈ (map single) d (r .wants) i) } }
+    where
+      met : (r : Row) → r ∈ rs → RelatedIn (r .self) → (d : List (List Situation)) → (w : List Situation) × (w ∈ r .wants) × (d ≡ map single w)
+          → Met (λ s. RelatedIn s × (s ∈ selves rs)) d
+      met r m h d (w, i, e) =
+          subst (Met (λ s. RelatedIn s × (s ∈ selves rs))) (sym e)
+          (some-met (some r m h w i (field .linked r m .open-given merging (r .wants) (field .leading r m) .each w i)))
 
   -- Related situations of the field survive.
-  pub related-survives : (s : Situation) → s ∈ selves rs → Related Δ (s .apart) (s .first) (s .second) → s ∈ selves (survivors rs)
-  related-survives s m h = closed-survives RelatedIn rs related-closed s m h
+  pub related-survives : (s : Situation) → s ∈ selves rs → Related Δ (s .apart) (s .first) (s .second) → s ∈ selves (survivors (demandsOf openly S) rs)
+  related-survives s m h = closed-survives (demandsOf openly S) RelatedIn rs related-closed s m h

@@ -9,7 +9,7 @@ use Rattle.calculus.proofs.Theorems.{related-larger, inside-related}
 use Rattle.terms.specs.Answer.{result}
 use Rattle.terms.specs.Question.{Question, checkOf, bodyOf}
 use Rattle.terms.proofs.WellFormed.{accepted-once}
-use Rattle.verdict.specs.Verdict.{same, verdictOf}
+use Rattle.verdict.specs.Verdict.{openly, same, verdictOf}
 use Rattle.verdict.specs.Outcome.{sameOf, Says}
 use Rattle.verdict.specs.Promises.{JudgeIs}
 use Rattle.verdict.specs.Entries.{Defines, RelatedParts}
@@ -49,4 +49,4 @@ module _ (question larger : List ℕ) (q q′ : Question) (accepted : checkOf qu
       → (n : ℕ) → Says r (sameOf n) → NeverDifferent larger
   inside-never-different capacity work r after j n s =
       never-different larger q′ accepted′
-      (inside-parts (same-related-parts question q accepted capacity n (judged-same question q accepted capacity work r after j n s)))
+      (inside-parts (same-related-parts question q accepted capacity n (judged-same question q accepted openly capacity work r after j n s)))

@@ -14,50 +14,50 @@ use Rattle.terms.specs.Question.{Question, checkOf}
 use Rattle.terms.proofs.Answers.{result-injective, bind-result, need-result, need-passed, bind-to}
 use Rattle.terms.proofs.WellFormed.{accepted-well-formed}
 use Rattle.verdict.specs.Entries.{Defines}
-use Rattle.verdict.specs.Judge.{greatestCapacity, slotBytes, judgeOf, workAfter}
+use Rattle.verdict.specs.Judge.{judgeBy, greatestCapacity, slotBytes, judgeOf, workAfter}
 use Rattle.verdict.specs.Meaning.{Decision}
 use Rattle.verdict.specs.Outcome.{turnedBack, Says, ofVerdict}
-use Rattle.verdict.specs.Promises.{JudgeIs}
-use Rattle.verdict.specs.Verdict.{Verdict, verdictOf}
+use Rattle.verdict.specs.Promises.{JudgesBy, JudgeIs}
+use Rattle.verdict.specs.Verdict.{Manner, openly, Verdict, verdictBy, verdictOf}
 use Rattle.verdict.proofs.CapacityLaws.{Within, within-passes, passed-within}
 use Rattle.verdict.proofs.VerdictIsDefinition13.{verdict-means}
 
 -- What is known of an answered verdict.
-pub record Answered (hand : List ℕ) (capacity : ℕ) (work : List ℕ) (answer : ℕ) (after : List ℕ) : Type 0 where
+pub record Answered (m : Manner) (hand : List ℕ) (capacity : ℕ) (work : List ℕ) (answer : ℕ) (after : List ℕ) : Type 0 where
   pub read : Question
   pub accepted : checkOf hand ≡ result read
-  pub says : Says answer (ofVerdict (result (verdictOf read capacity)))
+  pub says : Says answer (ofVerdict (result (verdictBy m read capacity)))
   pub cleared : after ≡ replicate (slotBytes * capacity) 0 ++ drop (slotBytes * capacity) work
 
 module _ {ℓ} (C : Type ℓ) where
   -- refused or answered
-  pub judge-cases : (hand : List ℕ) (capacity : ℕ) (work : List ℕ) (answer : ℕ) (after : List ℕ) → JudgeIs hand capacity work answer after
-      → ((k : ℕ) → judgeOf hand capacity (length work) ≡ refused k → Says answer (turnedBack k) → after ≡ work → C)
-      → (Answered hand capacity work answer after → C) → C
-  unfolding workAfter judgeOf ofVerdict
-  judge-cases hand capacity work answer after j turned given = go (judgeOf hand capacity (length work)) refl (j .answer) (j .left)
+  pub judge-cases : (m : Manner) (hand : List ℕ) (capacity : ℕ) (work : List ℕ) (answer : ℕ) (after : List ℕ) → JudgesBy m hand capacity work answer after
+      → ((k : ℕ) → judgeBy m hand capacity (length work) ≡ refused k → Says answer (turnedBack k) → after ≡ work → C)
+      → (Answered m hand capacity work answer after → C) → C
+  unfolding workAfter judgeBy ofVerdict
+  judge-cases m hand capacity work answer after j turned given = go (judgeBy m hand capacity (length work)) refl (j .answer) (j .left)
     where
-      go : (m : Answer Verdict) → judgeOf hand capacity (length work) ≡ m → Says answer (ofVerdict m) → after ≡ workAfter m capacity work → C
+      go : (a : Answer Verdict) → judgeBy m hand capacity (length work) ≡ a → Says answer (ofVerdict a) → after ≡ workAfter a capacity work → C
       go (refused k) e s f = turned k e s f
       go (result v) e s f =
           let (_, e₁) = passed-within capacity (slotBytes * capacity) (length work) _ v e in
           let (q, a, e₂) = bind-result (checkOf hand) _ v e₁ in
-          let is : verdictOf q capacity ≡ v = result-injective {a = verdictOf q capacity} e₂ in
+          let is : verdictBy m q capacity ≡ v = result-injective {a = verdictBy m q capacity} e₂ in
           given (record { read = q; accepted = a; says = subst (λ w. Says answer (ofVerdict (result w))) (sym is) s; cleared = f })
 
 -- within the bounds of checks 1 and 2 an accepted question is answered by its verdict
-pub judge-answers : (question : List ℕ) (q : Question) → checkOf question ≡ result q → (capacity room : ℕ) → 1 ≤ capacity → capacity ≤ greatestCapacity
-    → slotBytes * capacity ≤ room → judgeOf question capacity room ≡ result (verdictOf q capacity)
-unfolding judgeOf
-judge-answers question q a capacity room l g h =
+pub judge-answers : (m : Manner) (question : List ℕ) (q : Question) → checkOf question ≡ result q → (capacity room : ℕ) → 1 ≤ capacity → capacity ≤ greatestCapacity
+    → slotBytes * capacity ≤ room → judgeBy m question capacity room ≡ result (verdictBy m q capacity)
+unfolding judgeBy
+judge-answers m question q a capacity room l g h =
     within-passes capacity (slotBytes * capacity) room _ (record { some = l; most = g; fits = h }) ∙ bind-to _ a
 
 pub judge-is-definition-13 : (question : List ℕ) (q : Question) → checkOf question ≡ result q → (Δ : Defs) → Defines q Δ → (capacity : ℕ) (work : List ℕ)
     → 1 ≤ capacity → capacity ≤ greatestCapacity → slotBytes * capacity ≤ length work → (answer : ℕ) (after : List ℕ)
-    → JudgeIs question capacity work answer after → Decision Δ q capacity answer
+    → JudgeIs question capacity work answer after → Decision openly Δ q capacity answer
 judge-is-definition-13 question q a Δ d capacity work l g h answer after j =
     record {
       outcome = ofVerdict (result (verdictOf q capacity));
-      says = subst (λ m. Says answer (ofVerdict m)) (judge-answers question q a capacity (length work) l g h) (j .answer);
+      says = subst (λ m. Says answer (ofVerdict m)) (judge-answers openly question q a capacity (length work) l g h) (j .answer);
       means = verdict-means q (accepted-well-formed question q a) Δ d capacity;
     }

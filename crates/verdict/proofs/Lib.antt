@@ -7,6 +7,9 @@ pub mod FieldRows
 pub mod InsideVerdict
 pub mod JudgeIsDefinition13
 pub mod ListOfEntries
+pub mod NamedClauses
+pub mod NamedDemands
+pub mod NamedStrike
 pub mod NeverDifferentLaws
 pub mod OutcomeLaws
 pub mod RearrangedVerdict
@@ -15,4 +18,5 @@ pub mod Rounds
 pub mod SmallOutcomes
 pub mod Soundness
 pub mod VerdictIsDefinition13
+pub mod VerdictsAreDefinitions7To10
 pub mod WorkedExchanges

@@ -11,7 +11,7 @@ use Rattle.terms.specs.Operations.{checkAnswer, mergeOf, besideOf, lengthWritte
 use Rattle.terms.specs.Question.{Question, checkOf}
 use Rattle.terms.proofs.WellFormed.{accepted-well-formed, accepted-once}
 use Rattle.steps.proofs.QuestionDefinitions.{definitions}
-use Rattle.verdict.specs.Verdict.{Numbered, Verdict, unsettled, same, different, verdictOf}
+use Rattle.verdict.specs.Verdict.{openly, Numbered, Verdict, unsettled, same, different, verdictOf}
 use Rattle.verdict.specs.Outcome.{Outcome, gave, turnedBack, unsettledOutcome, sameOf, differentOf, codeOf, Says, ofNumber, ofVerdict}
 use Rattle.verdict.specs.Promises.{CheckIs, JudgeIs}
 use Rattle.verdict.specs.Entries.{Defines, RelatedParts, Entry, merging, besiding, declaring, judging, handAfter, hands, Kept, AllKept}
@@ -55,7 +55,7 @@ wrote (result next) area answer after s f = written next refl s f
 judge-told : (hand : List ℕ) (capacity : ℕ) (work : List ℕ) (answer : ℕ) (after : List ℕ) → JudgeIs hand capacity work answer after
     → Judged hand capacity work answer after
 judge-told hand capacity work answer after j =
-    judge-cases (Judged hand capacity work answer after) hand capacity work answer after j (λ k e s f. not-judged k e s f) (λ a.
+    judge-cases (Judged hand capacity work answer after) openly hand capacity work answer after j (λ k e s f. not-judged k e s f) (λ a.
     let q : Question = a .read in
     let w = accepted-well-formed hand q (a .accepted) .bodies in
     let Δ : Defs = definitions (q .arities) (q .bodies) w in
@@ -70,10 +70,10 @@ told hand (declaring x y) k = tt
 told hand (judging capacity work answer after) k = judge-told hand capacity work answer after k
 
 answered : (start : List ℕ) (es : List Entry) → AllKept start es → (hand : List ℕ) (capacity answer : ℕ)
-    → (j : JudgedIn start es hand capacity answer) → Answered hand capacity (j .work) answer (j .after)
+    → (j : JudgedIn start es hand capacity answer) → Answered openly hand capacity (j .work) answer (j .after)
 unfolding Kept
 answered start es k hand capacity answer j =
-    judge-cases (Answered hand capacity (j .work) answer (j .after)) hand capacity (j .work) answer (j .after)
+    judge-cases (Answered openly hand capacity (j .work) answer (j .after)) openly hand capacity (j .work) answer (j .after)
     (kept-at start es k hand (judging capacity (j .work) answer (j .after)) (j .stands)) (λ n e s f. absurd (j .verdict n s)) (λ a. a)
 
 -- which verdict an outcome is
@@ -127,8 +127,8 @@ module _ (start : List ℕ) (zero′ : (r : ℕ) → CheckIs start r → Says r 
       let e : ofVerdict (result (verdictOf q c)) ≡ o n = says-once _ (o n) (a .says) u in
       let h : Numbered (verdictOf q c) n = is-decided o decides (verdictOf q c) n e in
       let t : Says s (ofVerdict (result (verdictOf q d))) = subst (λ z. Says s (ofVerdict (result (verdictOf z d)))) p (b .says) in (
-        λ l. subst (Says s) (ap (λ v. ofVerdict (result v)) (enough-capacity q c n h d l) ∙ e) t,
-        λ l. subst (λ v. Says s (ofVerdict (result v))) (too-little-capacity q c n h d l) t,
+        λ l. subst (Says s) (ap (λ v. ofVerdict (result v)) (enough-capacity openly q c n h d l) ∙ e) t,
+        λ l. subst (λ v. Says s (ofVerdict (result v))) (too-little-capacity openly q c n h d l) t,
       )
 
   pub list-of-entries : ListHolds start es

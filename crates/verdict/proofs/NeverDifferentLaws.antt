@@ -12,9 +12,9 @@ use Rattle.terms.specs.Question.{Question, checkOf}
 use Rattle.terms.proofs.ApartLaws.{apart-irreflexive}
 use Rattle.terms.proofs.WellFormed.{accepted-well-formed, accepted-once}
 use Rattle.steps.proofs.QuestionDefinitions.{definitions}
-use Rattle.verdict.specs.Verdict.{Verdict, unsettled, same, different, verdictOf}
+use Rattle.verdict.specs.Verdict.{Manner, openly, verdictBy, Verdict, unsettled, same, different, verdictOf}
 use Rattle.verdict.specs.Outcome.{Outcome, turnedBack, unsettledOutcome, sameOf, differentOf, Says, ofVerdict}
-use Rattle.verdict.specs.Promises.{JudgeIs}
+use Rattle.verdict.specs.Promises.{JudgesBy, JudgeIs}
 use Rattle.verdict.specs.Entries.{RelatedParts}
 use Rattle.verdict.specs.NeverDifferent.{SameOrUnsettled, is-same, is-unsettled, NeverDifferent}
 use Rattle.verdict.proofs.JudgeIsDefinition13.{judge-cases}
@@ -39,25 +39,25 @@ module _ (question : List ℕ) (q : Question) (accepted : checkOf question ≡ r
       record { read = q; accepted = accepted; definitions = Δ; defines = question-defines q w; related = r Δ }
 
   -- A judging that answers "same" or "different" gives the verdict.
-  judged-outcome : (capacity : ℕ) (work : List ℕ) (r : ℕ) (after : List ℕ) → JudgeIs question capacity work r after
-      → (o : Outcome) → ((k : ℕ) → ¬ (turnedBack k ≡ o)) → Says r o → ofVerdict (result (verdictOf q capacity)) ≡ o
-  judged-outcome capacity work r after j o h s =
-      judge-cases (ofVerdict (result (verdictOf q capacity)) ≡ o) question capacity work r after j
+  judged-outcome : (m : Manner) (capacity : ℕ) (work : List ℕ) (r : ℕ) (after : List ℕ) → JudgesBy m question capacity work r after
+      → (o : Outcome) → ((k : ℕ) → ¬ (turnedBack k ≡ o)) → Says r o → ofVerdict (result (verdictBy m q capacity)) ≡ o
+  judged-outcome m capacity work r after j o h s =
+      judge-cases (ofVerdict (result (verdictBy m q capacity)) ≡ o) m question capacity work r after j
       (λ k e t f. absurd (h k (says-once (turnedBack k) o t s)))
-      (λ a. subst (λ z. ofVerdict (result (verdictOf z capacity)) ≡ o) (accepted-once question (a .read) q (a .accepted) accepted)
-      (says-once (ofVerdict (result (verdictOf (a .read) capacity))) o (a .says) s))
+      (λ a. subst (λ z. ofVerdict (result (verdictBy m z capacity)) ≡ o) (accepted-once question (a .read) q (a .accepted) accepted)
+      (says-once (ofVerdict (result (verdictBy m (a .read) capacity))) o (a .says) s))
 
-  pub judged-same : (capacity : ℕ) (work : List ℕ) (r : ℕ) (after : List ℕ) → JudgeIs question capacity work r after
-      → (n : ℕ) → Says r (sameOf n) → verdictOf q capacity ≡ same n
-  judged-same capacity work r after j n s =
-      outcome-same (verdictOf q capacity) n
-      (judged-outcome capacity work r after j (sameOf n) (λ k e. let z : _≡_ {A = ℕ} 0 1 = cc in absurd (omega arith)) s)
+  pub judged-same : (m : Manner) (capacity : ℕ) (work : List ℕ) (r : ℕ) (after : List ℕ) → JudgesBy m question capacity work r after
+      → (n : ℕ) → Says r (sameOf n) → verdictBy m q capacity ≡ same n
+  judged-same m capacity work r after j n s =
+      outcome-same (verdictBy m q capacity) n
+      (judged-outcome m capacity work r after j (sameOf n) (λ k e. let z : _≡_ {A = ℕ} 0 1 = cc in absurd (omega arith)) s)
 
-  judged-different : (capacity : ℕ) (work : List ℕ) (r : ℕ) (after : List ℕ) → JudgeIs question capacity work r after
-      → (n : ℕ) → Says r (differentOf n) → verdictOf q capacity ≡ different n
-  judged-different capacity work r after j n s =
-      outcome-different (verdictOf q capacity) n
-      (judged-outcome capacity work r after j (differentOf n) (λ k e. let z : _≡_ {A = ℕ} 0 1 = cc in absurd (omega arith)) s)
+  pub judged-different : (m : Manner) (capacity : ℕ) (work : List ℕ) (r : ℕ) (after : List ℕ) → JudgesBy m question capacity work r after
+      → (n : ℕ) → Says r (differentOf n) → verdictBy m q capacity ≡ different n
+  judged-different m capacity work r after j n s =
+      outcome-different (verdictBy m q capacity) n
+      (judged-outcome m capacity work r after j (differentOf n) (λ k e. let z : _≡_ {A = ℕ} 0 1 = cc in absurd (omega arith)) s)
 
   module _ (r : RelatedParts question) where
     pub same-or-unsettled : (capacity : ℕ) → SameOrUnsettled (verdictOf q capacity)
@@ -71,13 +71,13 @@ module _ (question : List ℕ) (q : Question) (accepted : checkOf question ≡ r
     answered : (capacity : ℕ) (work : List ℕ) (s : ℕ) (after : List ℕ) → JudgeIs question capacity work s after
         → ((k : ℕ) → ¬ Says s (turnedBack k)) → ((n : ℕ) × Says s (sameOf n)) ⊎ Says s unsettledOutcome
     answered capacity work s after j h =
-        judge-cases (((n : ℕ) × Says s (sameOf n)) ⊎ Says s unsettledOutcome) question capacity work s after j (λ k e t f. absurd (h k t))
+        judge-cases (((n : ℕ) × Says s (sameOf n)) ⊎ Says s unsettledOutcome) openly question capacity work s after j (λ k e t f. absurd (h k t))
         (λ a. said s (same-or-unsettled capacity)
         (subst (λ z. Says s (ofVerdict (result (verdictOf z capacity)))) (accepted-once question (a .read) q (a .accepted) accepted) (a .says)))
 
     pub never-different : NeverDifferent question
     never-different = record {
       never = λ capacity work s after j n t.
-          related-never-different question q accepted capacity n r (judged-different capacity work s after j n t);
+          related-never-different question q accepted capacity n r (judged-different openly capacity work s after j n t);
       answers = answered;
     }

@@ -25,9 +25,9 @@ use Rattle.steps.specs.Listed.{ListedStep}
 use Rattle.steps.specs.Listing.{Listing, unsettled, listed, stepsOf, listing}
 use Rattle.steps.specs.Operations.{sideOf, isNew, listOf}
 use Rattle.steps.proofs.Limited.{limited-few}
-use Rattle.verdict.specs.Judge.{greatestCapacity, slotBytes, judgeOf}
+use Rattle.verdict.specs.Judge.{greatestCapacity, slotBytes, judgeBy}
 use Rattle.verdict.specs.Outcome.{Small, ofNumber, ofListing, ofVerdict}
-use Rattle.verdict.specs.Verdict.{Verdict, same, different, verdictOf}
+use Rattle.verdict.specs.Verdict.{Manner, Verdict, same, different, verdictBy}
 use Rattle.verdict.specs.Verdict.{Numbered as VerdictNumbered}
 use Rattle.verdict.specs.Verdict.{unsettled as unsettledVerdict}
 use Rattle.verdict.proofs.CapacityLaws.{Within, passed-within, within-numbered}
@@ -93,9 +93,9 @@ list-small question side x room = go (listOf question side x room) refl (list-nu
         let few = steps-few (q .bodies) x P ss (result-injective {a = stepsOf (q .bodies) x P} e₄) in
         omega arith
 
-judge-numbered : (question : List ℕ) (capacity room : ℕ) → Numbered (judgeOf question capacity room)
-unfolding judgeOf Numbered
-judge-numbered question capacity room =
+judge-numbered : (m : Manner) (question : List ℕ) (capacity room : ℕ) → Numbered (judgeBy m question capacity room)
+unfolding judgeBy Numbered
+judge-numbered m question capacity room =
     within-numbered capacity (slotBytes * capacity) room _ (numbered-bind (checkOf question) _ (check-numbered question) (λ q. tt))
 
 verdict-small : (v : Verdict) (capacity : ℕ) → ((n : ℕ) → VerdictNumbered v n → n ≤ capacity) → capacity ≤ greatestCapacity → Small (ofVerdict (result v))
@@ -104,14 +104,14 @@ verdict-small unsettledVerdict capacity h l = tt
 verdict-small (same n) capacity h l = let k = h n (inl refl) in omega arith
 verdict-small (different n) capacity h l = let k = h n (inr refl) in omega arith
 
-pub judge-small : (question : List ℕ) (capacity room : ℕ) → Small (ofVerdict (judgeOf question capacity room))
-unfolding judgeOf ofVerdict Small Numbered
-judge-small question capacity room = go (judgeOf question capacity room) refl (judge-numbered question capacity room)
+pub judge-small : (m : Manner) (question : List ℕ) (capacity room : ℕ) → Small (ofVerdict (judgeBy m question capacity room))
+unfolding judgeBy ofVerdict Small Numbered
+judge-small m question capacity room = go (judgeBy m question capacity room) refl (judge-numbered m question capacity room)
   where
-    go : (m : Answer Verdict) → judgeOf question capacity room ≡ m → Numbered m → Small (ofVerdict m)
+    go : (a : Answer Verdict) → judgeBy m question capacity room ≡ a → Numbered a → Small (ofVerdict a)
     go (refused k) e h = h
     go (result v) e h =
         let (w, e₁) = passed-within capacity (slotBytes * capacity) room _ v e in
         let (q, a, e₂) = bind-result (checkOf question) _ v e₁ in
-        subst (λ w. Small (ofVerdict (result w))) (result-injective {a = verdictOf q capacity} e₂)
-        (verdict-small (verdictOf q capacity) capacity (number-at-most-capacity q capacity) (w .most))
+        subst (λ w. Small (ofVerdict (result w))) (result-injective {a = verdictBy m q capacity} e₂)
+        (verdict-small (verdictBy m q capacity) capacity (number-at-most-capacity m q capacity) (w .most))

@@ -6,7 +6,8 @@ use Prim.Native.Nat.{ℕ}
 use Rattle.calculus.specs.Cond.{Pairs, join, cls}
 use Rattle.calculus.specs.Distinction.{among, keep}
 use Rattle.calculus.specs.Free.{lowerL, fn}
-use Rattle.calculus.specs.Term.{Term, nil, tau, inp, out, bout, mat, sum, par, res, call}
+use Rattle.calculus.specs.Term.{Term, nil, tau, inp, out, bout, mat, sum, par, res, call, put}
+use Rattle.late_early.specs.LateEarly.{late, early}
 use Rattle.terms.specs.Answer.{Answer, result, _>>=_, _>>_, need}
 use Rattle.terms.specs.Encoding.{nameByte, encode}
 use Rattle.terms.specs.Framing.{cut, field, fields, framed, joined, sized, allSized}
@@ -20,10 +21,11 @@ use Rattle.steps.specs.Listed.{namesFrom, classesOf, classIn, kindOf, channelOf
 use Rattle.steps.specs.Listing.{order, insert, allFit, collect, limited, listing}
 use Rattle.field.specs.Setting.{settingOf, stepsIn}
 use Rattle.field.specs.Situation.{freeFrom, freeIn, pairsOf, situation, startOf, missing, newName, sameBytes, sameSituation}
-use Rattle.field.specs.Successors.{select, permitted, implies, answers, extrudedBy, updatedBy, moves, bindsName, someBinds, ledTo, withSteps, successors}
+use Rattle.field.specs.Successors.{select, permitted, implies, answers, extrudedBy, updatedBy, ownClasses, unconditional, allowed, received, led, joinAll, answersTo, movesOf, moves, bindsName, someBinds, ledTo, withSteps, successors}
 use Rattle.field.specs.Exploration.{found, unseen, together, withRow, explore, fieldOf}
-use Rattle.verdict.specs.Verdict.{Verdict, same, different, answered, allAnswered, strike, rounds, decided, verdictOf}
-use Rattle.verdict.specs.Judge.{judgeOf, withinCapacity}
+use Rattle.verdict.specs.Received.{lots, demandOf, namedMoves, sidesDemand, namedDemands}
+use Rattle.verdict.specs.Verdict.{Manner, openly, named, differs, demandsOf, Verdict, same, different, allFound, answered, allAnswered, strike, rounds, decided, verdictBy}
+use Rattle.verdict.specs.Judge.{judgeBy, withinCapacity}
 
 pub record Exchange : Type 0 where
   pub question : List ℕ
@@ -72,22 +74,57 @@ turnings =
     ∷ ask (res (par (out 0 0 nil) (inp 0 (out 0 2 nil)))) (tau nil) [] (same 2)
     ∷ []
 
--- by `judge`, whose capacity is 256
-unfoldable pub judged : List Exchange → List (Answer Verdict)
-judged [] = []
-judged (e ∷ es) = judgeOf (e .question) 256 65536 ∷ judged es
+-- Request 2026-02: rows for the late and the early verdict. Only the last but one tells the two apart.
+unfoldable pub named-exchanges : Verdict → List Exchange
+named-exchanges v =
+    ask (mat 0 1 (tau nil)) nil [] (same 1)
+    ∷ ask (par (inp 0 nil) (out 1 2 nil)) (sum (inp 0 (out 2 3 nil)) (out 1 2 (inp 0 nil))) [] (same 4)
+    ∷ ask (inp 0 (mat 0 2 (tau nil))) (inp 0 nil) [] (different 4)
+    ∷ ask (sum (inp 0 (tau nil)) (inp 0 nil)) (sum (sum (inp 0 (tau nil)) (inp 0 nil)) (inp 0 (mat 0 2 (tau nil)))) [] v
+    ∷ ask (bout 0 (mat 0 2 (tau nil))) (bout 0 nil) [] (same 2)
+    ∷ []
+
+-- at the capacity of `judge`, 256
+unfoldable pub judged : Manner → List Exchange → List (Answer Verdict)
+judged m [] = []
+judged m (e ∷ es) = judgeBy m (e .question) 256 65536 ∷ judged m es
 
 unfoldable pub expected : List Exchange → List (Answer Verdict)
 expected [] = []
 expected (e ∷ es) = e .answer ∷ expected es
 
-pub worked-exchanges : judged (exchanges ++ turnings) ≡ expected (exchanges ++ turnings)
-unfolding judged expected exchanges turnings ask askWith judgeOf withinCapacity _>>=_ _>>_ need checkOf checkFields checkTerms version framed cut field fields all
-    fits readBodies readPart readWhole readTerm readName readNames byte tagOf sequential parallelOutermost guarded readApart differentNames readPairs
-    joined sized allSized write fieldsOf bodyFields pairBytes encode nameByte verdictOf startOf decided rounds strike allAnswered answered found
-    unseen together withRow explore fieldOf successors withSteps ledTo someBinds bindsName moves updatedBy extrudedBy answers implies permitted
-    select freeFrom freeIn pairsOf situation missing newName sameBytes sameSituation settingOf stepsIn holdsApart among keep fn lowerL bodyOf listing
-    limited collect insert order allFit bytes resultBytes canonStep listedAs kindOf channelOf objectOf classesOf classIn namesFrom visible silent
-    visibleCalls silentCalls visibleOf silentOf restricted restrictedAction outside sparesRestricted spares communications communication meet
-    leftSteps rightSteps matching cls join
+pub worked-exchanges : judged openly (exchanges ++ turnings) ≡ expected (exchanges ++ turnings)
+unfolding judged expected exchanges turnings named-exchanges ask askWith judgeBy withinCapacity _>>=_ _>>_ need checkOf checkFields checkTerms
+    version framed cut field fields all fits readBodies readPart readWhole readTerm readName readNames byte tagOf sequential parallelOutermost
+    guarded readApart differentNames readPairs joined sized allSized write fieldsOf bodyFields pairBytes encode nameByte verdictBy differs demandsOf
+    namedDemands sidesDemand namedMoves demandOf lots startOf decided rounds strike allAnswered answered allFound found unseen together withRow
+    explore fieldOf successors withSteps ledTo someBinds bindsName moves movesOf answersTo joinAll led received allowed unconditional ownClasses put
+    updatedBy extrudedBy answers implies permitted select freeFrom freeIn pairsOf situation missing newName sameBytes sameSituation settingOf stepsIn
+    holdsApart among keep fn lowerL bodyOf listing limited collect insert order allFit bytes resultBytes canonStep listedAs kindOf channelOf objectOf
+    classesOf classIn namesFrom visible silent visibleCalls silentCalls visibleOf silentOf restricted restrictedAction outside sparesRestricted
+    spares communications communication meet leftSteps rightSteps matching cls join
 worked-exchanges = refl
+
+pub late-exchanges : judged (named late) (named-exchanges (different 11)) ≡ expected (named-exchanges (different 11))
+unfolding judged expected exchanges turnings named-exchanges ask askWith judgeBy withinCapacity _>>=_ _>>_ need checkOf checkFields checkTerms
+    version framed cut field fields all fits readBodies readPart readWhole readTerm readName readNames byte tagOf sequential parallelOutermost
+    guarded readApart differentNames readPairs joined sized allSized write fieldsOf bodyFields pairBytes encode nameByte verdictBy differs demandsOf
+    namedDemands sidesDemand namedMoves demandOf lots startOf decided rounds strike allAnswered answered allFound found unseen together withRow
+    explore fieldOf successors withSteps ledTo someBinds bindsName moves movesOf answersTo joinAll led received allowed unconditional ownClasses put
+    updatedBy extrudedBy answers implies permitted select freeFrom freeIn pairsOf situation missing newName sameBytes sameSituation settingOf stepsIn
+    holdsApart among keep fn lowerL bodyOf listing limited collect insert order allFit bytes resultBytes canonStep listedAs kindOf channelOf objectOf
+    classesOf classIn namesFrom visible silent visibleCalls silentCalls visibleOf silentOf restricted restrictedAction outside sparesRestricted
+    spares communications communication meet leftSteps rightSteps matching cls join
+late-exchanges = refl
+
+pub early-exchanges : judged (named early) (named-exchanges (same 11)) ≡ expected (named-exchanges (same 11))
+unfolding judged expected exchanges turnings named-exchanges ask askWith judgeBy withinCapacity _>>=_ _>>_ need checkOf checkFields checkTerms
+    version framed cut field fields all fits readBodies readPart readWhole readTerm readName readNames byte tagOf sequential parallelOutermost
+    guarded readApart differentNames readPairs joined sized allSized write fieldsOf bodyFields pairBytes encode nameByte verdictBy differs demandsOf
+    namedDemands sidesDemand namedMoves demandOf lots startOf decided rounds strike allAnswered answered allFound found unseen together withRow
+    explore fieldOf successors withSteps ledTo someBinds bindsName moves movesOf answersTo joinAll led received allowed unconditional ownClasses put
+    updatedBy extrudedBy answers implies permitted select freeFrom freeIn pairsOf situation missing newName sameBytes sameSituation settingOf stepsIn
+    holdsApart among keep fn lowerL bodyOf listing limited collect insert order allFit bytes resultBytes canonStep listedAs kindOf channelOf objectOf
+    classesOf classIn namesFrom visible silent visibleCalls silentCalls visibleOf silentOf restricted restrictedAction outside sparesRestricted
+    spares communications communication meet leftSteps rightSteps matching cls join
+early-exchanges = refl

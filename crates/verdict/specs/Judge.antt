@@ -7,7 +7,7 @@ use lib.Dec.{leb}
 use Rattle.terms.specs.Answer.{Answer, refused, result, _>>=_, _>>_, need}
 use Rattle.terms.specs.Question.{checkOf}
 pub use Rattle.field.specs.Setting.{slotBytes}
-use Rattle.verdict.specs.Verdict.{Verdict, verdictOf}
+use Rattle.verdict.specs.Verdict.{Manner, openly, Verdict, verdictBy}
 
 -- Check 1.
 abbrev pub greatestCapacity : ℕ
@@ -18,11 +18,15 @@ unfoldable pub withinCapacity : ℕ → ℕ → ℕ → Answer (Unit {0})
 withinCapacity capacity bytes room = need 1 (leb 1 capacity && leb capacity greatestCapacity) >> need 2 (leb bytes room)
 
 -- Checks 1 and 2, then 3 to 12, then the verdict. `room` is the length of the work area.
-unfoldable pub judgeOf : List ℕ → ℕ → ℕ → Answer Verdict
-judgeOf question capacity room = do
+unfoldable pub judgeBy : Manner → List ℕ → ℕ → ℕ → Answer Verdict
+judgeBy m question capacity room = do
   withinCapacity capacity (slotBytes * capacity) room
   q ← checkOf question
-  result (verdictOf q capacity)
+  result (verdictBy m q capacity)
+
+-- the open verdict
+abbrev pub judgeOf : List ℕ → ℕ → ℕ → Answer Verdict
+judgeOf question capacity room = judgeBy openly question capacity room
 
 -- After every verdict the first 256 × capacity bytes are 0 and the rest untouched; after a refusal nothing is changed.
 unfoldable pub workAfter : Answer Verdict → ℕ → List ℕ → List ℕ

@@ -1,4 +1,6 @@
 -- The verdict, the promises and the demands, in reading order.
+-- what is demanded where all names differ: request 2026-02
+pub mod Received
 -- the verdict of a question
 pub mod Verdict
 -- what judge answers and leaves in its work area

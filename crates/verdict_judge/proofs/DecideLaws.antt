@@ -43,7 +43,9 @@ use Rattle.field.proofs.Members.{getD-∈}
 use Rattle.field_growth.proofs.KeysDiffer.{key-equal, slot-key}
 use Rattle.verdict_judge.specs.Judging.{judgedAnswer, DecidesIs}
 use Rattle.verdict_survival.specs.Striking.{leftOf, marks, Standing, EqualParts, LeadsToEqual, FieldIn, Searching, SurvivesIs, AllSole, Strikes, AllSurvive, StartSurvivesIs}
-use Rattle.verdict.specs.Verdict.{same, different, decided, allAnswered, verdictOf}
+use Rattle.verdict.specs.Verdict.{openly, differs, demandsOf, same, different, decided, verdictBy, verdictOf}
+use Rattle.verdict.specs.Verdict as demanded
+use Rattle.verdict_strikeout.proofs.Unanswered.{singly}
 use Rattle.verdict_judge.specs.declared.judge.Judged.{Judged}
 use Rattle.verdict_judge.specs.declared.judge.Judged.the-variants.{Unsettled, Same, Different}
 use Rattle.verdict_strikeout.proofs.AnyOrder.{StrikesTo, NoneToStrike, survivors-left, same-found}
@@ -60,12 +62,19 @@ use Rattle.verdict_strikeout.proofs.StrikeLaws.{still, still-with, strikes-rest
 
 -- The explored field of an accepted question in the slots.
 module _ (question : List ℕ) (q : Question) (accepted : checkOf question ≡ result q) (capacity : ℕ) (rs : List Row)
-    (field : fieldOf (settingOf (q .bodies)) capacity (startOf q) ≡ explored rs) (work : List ℕ) (holds : SlotsHold work (selves rs))
+    (field : fieldOf (settingOf false (q .bodies)) capacity (startOf false q) ≡ explored rs) (work : List ℕ) (holds : SlotsHold work (selves rs))
     (first : StruckFirst work rs)
     (chained : Chained capacity work (length rs))
     (room : slotBytes * length rs ≤ length work) where
   abbrev S : Setting
-  S = settingOf (q .bodies)
+  S = settingOf false (q .bodies)
+
+  abbrev demands : Row → List (List (List Situation))
+  demands = demandsOf openly S
+
+  merging : S .differ ≡ false
+  unfolding settingOf
+  merging = refl
 
   well : WellFormed q
   well = accepted-well-formed question q accepted
@@ -75,20 +84,20 @@ module _ (question : List ℕ) (q : Question) (accepted : checkOf question ≡ r
 
   setting : SettingFor Δ S (q .arities)
   unfolding Δ
-  setting = let d = question-defines q (well .bodies) in question-setting q well Δ (d .arities) (d .bodies)
+  setting = let d = question-defines q (well .bodies) in question-setting false q well Δ (d .arities) (d .bodies)
 
   abbrev Good : Situation → Type 0
   Good = Proper (S .names) (q .arities)
 
-  start : Good (startOf q)
+  start : Good (startOf false q)
   unfolding settingOf
-  start = start-proper q well
+  start = start-proper false q well
 
-  rows : Rows S (startOf q) rs
-  rows = explored-rows Δ S (q .arities) setting (startOf q) start capacity rs field
+  rows : Rows S (startOf false q) rs
+  rows = explored-rows Δ S (q .arities) setting (startOf false q) start capacity rs field
 
   those : FieldRows Δ S (q .arities) rs
-  those = rows-field Δ S (q .arities) setting (startOf q) start rs rows
+  those = rows-field Δ S (q .arities) setting (startOf false q) start rs rows
 
   count : length (selves rs) ≡ length rs
   count = length-map rs (λ (r : Row). r .self)
@@ -100,12 +109,12 @@ module _ (question : List ℕ) (q : Question) (accepted : checkOf question ≡ r
   slot-once : (i j : ℕ) → i < length (selves rs) → j < length (selves rs) → keyAt work i ≡ keyAt work j → i ≡ j
   unfolding settingOf
   slot-once i j h k e =
-      let s : Situation = getD (selves rs) i (startOf q) in
-      let t : Situation = getD (selves rs) j (startOf q) in
-      let a = holds .held i (startOf q) h in
-      let b = holds .held j (startOf q) k in
-      distinct-number (selves rs) (rows .distinct) i j (startOf q) (startOf q) h k
-      (key-equal (q .arities) s t (those .proper s (getD-∈ (selves rs) i (startOf q) h)) (those .proper t (getD-∈ (selves rs) j (startOf q) k))
+      let s : Situation = getD (selves rs) i (startOf false q) in
+      let t : Situation = getD (selves rs) j (startOf false q) in
+      let a = holds .held i (startOf false q) h in
+      let b = holds .held j (startOf false q) k in
+      distinct-number (selves rs) (rows .distinct) i j (startOf false q) (startOf false q) h k
+      (key-equal (q .arities) s t (those .proper s (getD-∈ (selves rs) i (startOf false q) h)) (those .proper t (getD-∈ (selves rs) j (startOf false q) k))
       (record { first = a .first; second = a .second }) (record { first = b .first; second = b .second })
       (sym (slot-key work i s a) ∙ e ∙ slot-key work j t b))
 
@@ -123,7 +132,7 @@ module _ (question : List ℕ) (q : Question) (accepted : checkOf question ≡ r
   leads-within : (s : Situation) → s ∈ selves rs → (ms : List (List Situation)) → successors S s ≡ leads ms
       → (w : List Situation) → w ∈ ms → (t : Situation) → t ∈ w → t ∈ selves rs
   leads-within s m ms e w i t k =
-      let (r, j, d) = row-of S (startOf q) rs (rows .within) s m in
+      let (r, j, d) = row-of S (startOf false q) rs (rows .within) s m in
       let z : ms ≡ r .wants = cc in
       those .closed r j w (subst (λ ms. w ∈ ms) z i) t k
 
@@ -142,11 +151,11 @@ module _ (question : List ℕ) (q : Question) (accepted : checkOf question ≡ r
   -- one with equal parts leads to such, and is left
   leads-equal : (s : Situation) → s ∈ selves rs → EqualParts s → LeadsToEqual q s
   leads-equal s m e =
-      let (r, j, d) = row-of S (startOf q) rs (rows .within) s m in
+      let (r, j, d) = row-of S (startOf false q) rs (rows .within) s m in
       record {
         wants = r .wants;
         leading = d;
-        some = λ w k. some-equal Δ S s w e (successors-linked Δ S (q .arities) setting s (those .proper s m) .given (r .wants) d .each w k);
+        some = λ w k. some-equal Δ S s w e (successors-linked Δ S (q .arities) setting s (those .proper s m) .open-given merging (r .wants) d .each w k);
       }
 
   -- by the numbers below k: a struck one would lead to equal parts that are struck out and have a smaller number
@@ -201,17 +210,17 @@ module _ (question : List ℕ) (q : Question) (accepted : checkOf question ≡ r
 
     known-is : f .known ≡ selves rs
     unfolding settingOf
-    known-is = ext-getD (startOf q) (f .known) (selves rs) (f .number ∙ sym count) (λ i h. same i h (omega (arith, f .number, count)))
+    known-is = ext-getD (startOf false q) (f .known) (selves rs) (f .number ∙ sym count) (λ i h. same i h (omega (arith, f .number, count)))
       where
-        same : (i : ℕ) → i < length (f .known) → i < length (selves rs) → getD (f .known) i (startOf q) ≡ getD (selves rs) i (startOf q)
+        same : (i : ℕ) → i < length (f .known) → i < length (selves rs) → getD (f .known) i (startOf false q) ≡ getD (selves rs) i (startOf false q)
         same i h k =
-            let s : Situation = getD (f .known) i (startOf q) in
-            let t : Situation = getD (selves rs) i (startOf q) in
-            let a = f .standing .held i (startOf q) h in
-            let b = holds .held i (startOf q) k in
+            let s : Situation = getD (f .known) i (startOf false q) in
+            let t : Situation = getD (selves rs) i (startOf false q) in
+            let a = f .standing .held i (startOf false q) h in
+            let b = holds .held i (startOf false q) k in
             key-equal (q .arities) s t
-            (subst (λ q. Proper nameCount (q .arities) s) read-is (f .proper s (getD-∈ (f .known) i (startOf q) h)))
-            (those .proper t (getD-∈ (selves rs) i (startOf q) k))
+            (subst (λ q. Proper nameCount (q .arities) s) read-is (f .proper s (getD-∈ (f .known) i (startOf false q) h)))
+            (those .proper t (getD-∈ (selves rs) i (startOf false q) k))
             (record { first = a .first; second = a .second }) (record { first = b .first; second = b .second })
             (sym (slot-key work i s a) ∙ slot-key work i t b)
 
@@ -225,19 +234,19 @@ module _ (question : List ℕ) (q : Question) (accepted : checkOf question ≡ r
       let same : r .self ≡ getD (f .known) i d =
       sym (List·getD-map (λ (r : Row). r .self) rs i o) ∙ ap (λ ks. getD ks i d) (sym (known-is f)) in
       let t : successors S (r .self) ≡ leads ms =
-      ap (successors S) same ∙ subst (λ (q : Question). successors (settingOf (q .bodies)) (getD (f .known) i d) ≡ leads ms) (read-is f) e in
+      ap (successors S) same ∙ subst (λ (q : Question). successors (settingOf false (q .bodies)) (getD (f .known) i d) ≡ leads ms) (read-is f) e in
       let w : r .wants ≡ ms = cc in
       subst (λ ks. SoleIn ks ms (noteAt work i k)) (sym (known-is f))
       (subst (λ ms. SoleIn (selves rs) ms (noteAt work i k)) w (sole i k o h g))
 
-  start-here : getD (selves rs) 0 (startOf q) ≡ startOf q
-  start-here = let (ts, e) = rows .first in ap (λ l. getD l 0 (startOf q)) e
+  start-here : getD (selves rs) 0 (startOf false q) ≡ startOf false q
+  start-here = let (ts, e) = rows .first in ap (λ l. getD l 0 (startOf false q)) e
 
   some : 0 < length (selves rs)
   some = let (ts, e) = rows .first in omega (arith, ap length e)
 
   module _ (v : List ℕ) (strikes : Strikes question capacity (length rs) work v) where
-    struck : StrikesTo rs (leftOf v (selves rs))
+    struck : StrikesTo demands rs (leftOf v (selves rs))
     unfolding searching
     struck = strikes-to question capacity work rs searching refl room within first strikes
 
@@ -245,61 +254,62 @@ module _ (question : List ℕ) (q : Question) (accepted : checkOf question ≡ r
     search = still question capacity (length rs) strikes searching
 
     -- the byte of slot 0
-    start-left : found (leftOf v (selves rs)) (startOf q) ≡ eqb (getD v (struckAt 0) 0) 0
+    start-left : found (leftOf v (selves rs)) (startOf false q) ≡ eqb (getD v (struckAt 0) 0) 0
     unfolding search still still-with field-kept searching
-    start-left = left-found v (selves rs) (search .field .standing) 0 (startOf q) (startOf q) some start-here
+    start-left = left-found v (selves rs) (search .field .standing) 0 (startOf false q) (startOf false q) some start-here
 
-    none-to-strike : AllSurvive question capacity v (length rs) → NoneToStrike rs (leftOf v (selves rs))
-    unfolding AllSurvive SurvivesIs search still still-with field-kept searching
+    none-to-strike : AllSurvive question capacity v (length rs) → NoneToStrike demands rs (leftOf v (selves rs))
+    unfolding AllSurvive SurvivesIs demandsOf search still still-with field-kept searching
     none-to-strike a = record { answers = each }
       where
-        each : (r : Row) → r ∈ rs → r .self ∈ leftOf v (selves rs) → allAnswered (leftOf v (selves rs)) (r .wants) ≡ true
+        each : (r : Row) → r ∈ rs → r .self ∈ leftOf v (selves rs) → demanded.allAnswered (leftOf v (selves rs)) (demands r) ≡ true
         each r m k =
+            singly (leftOf v (selves rs)) (r .wants) ∙
             let l = living-at (marks v (length (selves rs))) (selves rs) (r .self) k in
             sym (a (l .number) (omega (arith, l .within, count))
             (sym (marks-at v (length (selves rs)) (l .number) 1 (l .within)) ∙ l .flag)
             search (r .self) (r .wants) (ap (successors S) (l .is) ∙ within r m))
 
   -- whether the start survives the rounds
-  start-verdict : (r : Bool) (v : List ℕ) → StartSurvivesIs question capacity work (length rs) r v → found (selves (survivors rs)) (startOf q) ≡ r
+  start-verdict : (r : Bool) (v : List ℕ) → StartSurvivesIs question capacity work (length rs) r v → found (selves (survivors demands rs)) (startOf false q) ≡ r
   start-verdict true v s =
       let (z, a) = s .stays refl in
-      sym (same-found Good decides rs (good-rows those) (rows .distinct) (leftOf v (selves rs)) (struck v (s .strikes)) (none-to-strike v (s .strikes) a)
-      (startOf q) start)
+      sym (same-found Good decides demands rs (good-rows those) (rows .distinct) (leftOf v (selves rs)) (struck v (s .strikes)) (none-to-strike v (s .strikes) a)
+      (startOf false q) start)
       ∙ start-left v (s .strikes) ∙ eq-eqb (getD v (struckAt 0) 0) 0 z
-  start-verdict false v s = go (found (selves (survivors rs)) (startOf q)) refl
+  start-verdict false v s = go (found (selves (survivors demands rs)) (startOf false q)) refl
     where
-      go : (b : Bool) → found (selves (survivors rs)) (startOf q) ≡ b → found (selves (survivors rs)) (startOf q) ≡ false
+      go : (b : Bool) → found (selves (survivors demands rs)) (startOf false q) ≡ b → found (selves (survivors demands rs)) (startOf false q) ≡ false
       go false e = e
       go true e =
-          let m = survivors-left Good decides rs (good-rows those) (rows .distinct) (struck v (s .strikes)) (startOf q)
-          (found-survives Good decides rs (good-rows those) (startOf q) start e) in
-          true-not-false (∈-found (leftOf v (selves rs)) (startOf q) m)
+          let m = survivors-left Good decides demands rs (good-rows those) (rows .distinct) (struck v (s .strikes)) (startOf false q)
+          (found-survives demands Good decides rs (good-rows those) (startOf false q) start e) in
+          true-not-false (∈-found (leftOf v (selves rs)) (startOf false q) m)
           (start-left v (s .strikes) ∙ ne-eqb (getD v (struckAt 0) 0) 0 (s .goes refl))
 
   pub verdict-is : (r : Bool) (v : List ℕ) → StartSurvivesIs question capacity work (length rs) r v → verdictOf q capacity ≡ cond r (same (length rs)) (different (length rs))
-  unfolding verdictOf decided survivors
+  unfolding verdictBy differs decided survivors
   verdict-is r v s =
-      ap (decided (startOf q)) field ∙ ap (λ b. cond b (same (length rs)) (different (length rs))) (start-verdict r v s)
+      ap (decided demands (startOf false q)) field ∙ ap (λ b. cond b (same (length rs)) (different (length rs))) (start-verdict r v s)
 
 -- decide
 module _ (question : List ℕ) (capacity : ℕ) (work w : List ℕ) (x : Explored) (e : ExploreIs question capacity work x w) where
   pub unsettled-is : x ≡ Incomplete → DecidesIs question capacity work Unsettled w
-  unfolding judgedAnswer verdictOf decided Explores
-  unsettled-is h = record { rest = e .rest; is = λ q a. go q (fieldOf (settingOf (q .bodies)) capacity (startOf q)) refl (e .is q a) }
+  unfolding judgedAnswer verdictBy differs decided Explores
+  unsettled-is h = record { rest = e .rest; is = λ q a. go q (fieldOf (settingOf false (q .bodies)) capacity (startOf false q)) refl (e .is q a) }
     where
-      go : (q : Question) (y : Exploration) → fieldOf (settingOf (q .bodies)) capacity (startOf q) ≡ y → Explores y x w
+      go : (q : Question) (y : Exploration) → fieldOf (settingOf false (q .bodies)) capacity (startOf false q) ≡ y → Explores y x w
           → judgedAnswer Unsettled ≡ result (verdictOf q capacity)
-      go q incomplete f k = sym (ap (λ y. result (decided (startOf q) y)) f)
+      go q incomplete f k = sym (ap (λ y. result (decided (demandsOf openly (settingOf false (q .bodies))) (startOf false q) y)) f)
       go q (explored rs) f k = let z : _≡_ {A = ℕ} 0 1 = cc (k .0) in absurd (omega arith)
 
   -- what is noted when strike-out begins
   pub sole-all : (n : ℕ) → x ≡ Field n → slotBytes * capacity ≤ length w → AllSole question capacity w n
   unfolding AllSole Explores
   sole-all n h room i k l g f =
-      go (f .read) (f .accepted) (fieldOf (settingOf (f .read .bodies)) capacity (startOf (f .read))) refl (e .is (f .read) (f .accepted)) i k l g f
+      go (f .read) (f .accepted) (fieldOf (settingOf false (f .read .bodies)) capacity (startOf false (f .read))) refl (e .is (f .read) (f .accepted)) i k l g f
     where
-      go : (q : Question) → checkOf question ≡ result q → (y : Exploration) → fieldOf (settingOf (q .bodies)) capacity (startOf q) ≡ y → Explores y x w
+      go : (q : Question) → checkOf question ≡ result q → (y : Exploration) → fieldOf (settingOf false (q .bodies)) capacity (startOf false q) ≡ y → Explores y x w
           → AllSole question capacity w n
       go q a incomplete f k = let z : _≡_ {A = ℕ} 0 1 = cc in absurd (omega arith)
       go q a (explored rs) f k =
@@ -312,10 +322,10 @@ module _ (question : List ℕ) (capacity : ℕ) (work w : List ℕ) (x : Explore
     unfolding Explores
     settled o j = record {
       rest = strikes-rest question capacity n capacity (e .within n h .1) (s .strikes) ∙ e .rest;
-      is = λ q a. go q a (fieldOf (settingOf (q .bodies)) capacity (startOf q)) refl (e .is q a);
+      is = λ q a. go q a (fieldOf (settingOf false (q .bodies)) capacity (startOf false q)) refl (e .is q a);
     }
       where
-        go : (q : Question) → checkOf question ≡ result q → (y : Exploration) → fieldOf (settingOf (q .bodies)) capacity (startOf q) ≡ y → Explores y x w
+        go : (q : Question) → checkOf question ≡ result q → (y : Exploration) → fieldOf (settingOf false (q .bodies)) capacity (startOf false q) ≡ y → Explores y x w
             → judgedAnswer o ≡ result (verdictOf q capacity)
         go q a incomplete f k = let z : _≡_ {A = ℕ} 0 1 = cc in absurd (omega arith)
         go q a (explored rs) f k =

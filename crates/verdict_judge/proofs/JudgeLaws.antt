@@ -11,7 +11,7 @@ use Rattle.terms.specs.Question.{Question, checkOf}
 use Rattle.terms_checks.specs.declared.check.Checked.{Checked}
 use Rattle.terms_checks.specs.declared.check.Checked.the-variants.{Accepted, Refused}
 use Rattle.terms.proofs.Answers.{bind-result, bind-to}
-use Rattle.verdict.specs.Judge.{slotBytes, withinCapacity, judgeOf, workAfter}
+use Rattle.verdict.specs.Judge.{slotBytes, withinCapacity, judgeBy, judgeOf, workAfter}
 use Rattle.verdict.proofs.CapacityLaws.{Within, within-of, within-passes}
 use Rattle.verdict_capacity.specs.Numbers.{byNumber}
 use Rattle.verdict_capacity.proofs.NumberLaws.{number-refused, number-passed}
@@ -36,7 +36,7 @@ module _ (question : List ℕ) (capacity : ℕ) (work : List ℕ) where
 
   module _ (k : ℕ) (capacity-check : byNumber k ≡ withinCapacity capacity (slotBytes * capacity) (length work)) where
     pub not-within : 0 < k → JudgedIs question capacity work (judged.Refused k) work
-    unfolding judgeOf
+    unfolding judgeBy
     not-within h = turned-back k (number-refused k (withinCapacity capacity (slotBytes * capacity) (length work)) _ capacity-check h)
 
     module _ (none : k ≡ 0) where
@@ -44,7 +44,7 @@ module _ (question : List ℕ) (capacity : ℕ) (work : List ℕ) where
       within = within-of capacity (slotBytes * capacity) (length work) tt (number-passed k _ capacity-check none)
 
       checks-passed : judgeOf question capacity (length work) ≡ (checkOf question >>= λ q. result (verdictOf q capacity))
-      unfolding judgeOf
+      unfolding judgeBy
       checks-passed = within-passes capacity (slotBytes * capacity) (length work) _ within
 
       pub question-refused : (k : ℕ) (r : Checked) → checkAnswer question ≡ checkedAnswer r → r ≡ Refused k → JudgedIs question capacity work (judged.Refused k) work

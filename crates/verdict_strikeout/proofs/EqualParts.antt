@@ -23,8 +23,7 @@ use Rattle.field.proofs.Link.{firstMoves, secondMoves, ListOf, ListOfSome, of-f
 use Rattle.field.proofs.Members.{getD-∈, ∈-number}
 use Rattle.field.proofs.MoveLaws.{move-rewritten}
 use Rattle.field.proofs.Proper.{encode-same}
-use Rattle.verdict_survival.specs.Striking.{leftOf, EqualParts, LeadsTo, Searching, EqualPartsIs}
-use Rattle.verdict.specs.Verdict.{answered, allAnswered}
+use Rattle.verdict_survival.specs.Striking.{answered, allAnswered, leftOf, EqualParts, LeadsTo, Searching, EqualPartsIs}
 use Rattle.verdict_survival.proofs.LeftLaws.{left-found}
 use Rattle.verdict_survival.proofs.SideLaws.{found-answered, each-answered}
 

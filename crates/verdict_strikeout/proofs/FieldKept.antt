@@ -18,8 +18,7 @@ use Rattle.field_slots.proofs.ChainLaws.{key-flag, keeps-key, chained-kept}
 use Rattle.field_slots.proofs.NotedLaws.{note-flag}
 use Rattle.field_growth.proofs.SlotWriting.{situation-kept}
 use Rattle.verdict_survival.specs.Notes.{NotedIn, Has, NoteIs, ClearsNotes, RestsIs, SoleStruckIs}
-use Rattle.verdict_survival.specs.Striking.{living, leftOf, Standing, ReliesOn, FieldIn, Searching, SurvivesIs, Relies, ExaminedIs, AllNoted, AllSole, NotesHold}
-use Rattle.verdict.specs.Verdict.{answered, allAnswered}
+use Rattle.verdict_survival.specs.Striking.{answered, allAnswered, living, leftOf, Standing, ReliesOn, FieldIn, Searching, SurvivesIs, Relies, ExaminedIs, AllNoted, AllSole, NotesHold}
 use Rattle.verdict_survival.specs.declared.survive.Answered.{Answered}
 use Rattle.verdict_survival.proofs.LeftLaws.{left-found}
 use Rattle.verdict_survival.proofs.Marks.{marks-kept}

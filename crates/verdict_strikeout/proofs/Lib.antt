@@ -3,4 +3,4 @@ mod BlockLaws
 pub mod EqualParts
 pub mod FieldKept
 pub mod StrikeLaws
-mod Unanswered
+pub mod Unanswered

@@ -12,7 +12,7 @@ use borrow.Author.Tests.{eqb-false}
 use Rattle.calculus.specs.Term.{nil}
 use Rattle.steps.specs.Lists.{_∈_}
 use Rattle.steps.proofs.Membership.{all-imp}
-use Rattle.field.specs.Exploration.{Row}
+use Rattle.field.specs.Exploration.{found, Row}
 use Rattle.field_growth.specs.Holding.{unanswered}
 use Rattle.field_exploration.specs.Exploring.{StruckFirst}
 use Rattle.field_slots.specs.Noted.{SpareOnly}
@@ -27,10 +27,11 @@ use Rattle.field_slots.proofs.NotedLaws.{spare-none, spare-then}
 use Rattle.field.proofs.Run.{selves}
 use Rattle.field.proofs.Members.{getD-∈}
 use Rattle.verdict_survival.specs.Notes.{NoteIs, RestsIs, SoleStruckIs}
-use Rattle.verdict_survival.specs.Striking.{marks, living, zeros, leftOf, EqualParts, Searching, SurvivesIs, ExaminedIs, AllNoted, NotesHold}
+use Rattle.verdict_survival.specs.Striking.{allAnswered, marks, living, zeros, leftOf, EqualParts, Searching, SurvivesIs, ExaminedIs, AllNoted, NotesHold}
 use Rattle.verdict_survival.specs.Striking.{EqualPartsIs, Strikes, none-struck, one-struck, notes-changed, StrikesSole, StrikesOne, AllSurvive, Run}
 use Rattle.verdict_survival.specs.Striking.{PassIs, FirstStruckIs, StartSurvivesIs, blockSlots, turned}
-use Rattle.verdict.specs.Verdict.{allAnswered}
+use Rattle.verdict.specs.Verdict.{openly, demandsOf}
+use Rattle.verdict.specs.Verdict as demanded
 use Rattle.verdict_survival.specs.declared.survive.Answered.{Answered}
 use Rattle.verdict_strikeout.proofs.AnyOrder.{StrikesTo, all-left}
 use Rattle.verdict_strikeout.proofs.AnyOrder as order
@@ -40,7 +41,7 @@ use Rattle.verdict_strikeout.proofs.FieldKept.{SameField, same-none, sa
 use Rattle.verdict_survival.proofs.Living.{struck-either, struck-within, all-living}
 use Rattle.verdict_survival.proofs.Marks.{length-marks, marks-at, marks-kept, marks-set, zeros-fewer}
 use Rattle.verdict.proofs.Rounds.{true-not-false}
-use Rattle.verdict_strikeout.proofs.Unanswered.{all-within, strikes-flagged}
+use Rattle.verdict_strikeout.proofs.Unanswered.{all-within, none-answered, one-fails, singly, strikes-flagged}
 
 -- first_struck
 pub first-gone : (work : List ℕ) (count i : ℕ) (r : Bool) → i < count → LeftAtIs work i r → r ≡ false → ((j : ℕ) → j < i → getD work (struckAt j) 0 ≡ 0)
@@ -391,9 +392,18 @@ module _ (question : List ℕ) (capacity count : ℕ) where
 -- Over the rows of the field, from a work area in which those are struck out that exploration strikes out.
 module _ (question : List ℕ) (capacity : ℕ) (work : List ℕ) (rs : List Row) (f : Searching question capacity work (length rs)) (those : f .field .known ≡ selves rs)
     (room : slotBytes * length rs ≤ length work)
-    (rows : (r : Row) → r ∈ rs → successors (settingOf (f .field .read .bodies)) (r .self) ≡ leads (r .wants))
+    (rows : (r : Row) → r ∈ rs → successors (settingOf false (f .field .read .bodies)) (r .self) ≡ leads (r .wants))
     (first : StruckFirst work rs) where
   -- equal situations have one number
+  abbrev demands : Row → List (List (List Situation))
+  demands = demandsOf openly (settingOf false (f .field .read .bodies))
+
+  -- a step whose answers lead to none that is left is not answered
+  unmet : (left : List Situation) (r : Row) → r ∈ rs → (w : List Situation) → w ∈ r .wants → ((t : Situation) → t ∈ w → found left t ≡ false)
+      → demanded.allAnswered left (demands r) ≡ false
+  unfolding demandsOf
+  unmet left r m w i h = singly left (r .wants) ∙ one-fails left w (r .wants) i (none-answered left w h)
+
   number-once : (i j : ℕ) (d : Situation) → i < length rs → j < length rs → getD (selves rs) i d ≡ getD (selves rs) j d → i ≡ j
   number-once i j d h k e =
       let st = f .field .standing in
@@ -403,22 +413,22 @@ module _ (question : List ℕ) (capacity : ℕ) (work : List ℕ) (rs : List Row
       (slot-key work i (getD (f .field .known) i d) (st .held i d (omega arith)) ∙ ap keyOf same
       ∙ sym (slot-key work j (getD (f .field .known) j d) (st .held j d (omega arith))))
 
-  struck-at-first : StrikesTo rs (leftOf work (selves rs))
+  struck-at-first : StrikesTo demands rs (leftOf work (selves rs))
   unfolding StruckFirst
   struck-at-first =
       let n : length (selves rs) ≡ length rs = length-map rs (λ (r : Row). r .self) in
       let fs : List ℕ = marks work (length (selves rs)) in
       let flag : (i : ℕ) → i < length rs → getD fs i 0 ≡ getD work (struckAt i) 0 = λ i h. marks-at work (length (selves rs)) i 0 (omega arith) in
-      strikes-flagged rs fs (length-marks work (length (selves rs)) ∙ n)
+      strikes-flagged demands rs unmet fs (length-marks work (length (selves rs)) ∙ n)
       (λ s t i j. f .field .standing .exact s t (subst (λ l. s ∈ l) (sym those) i) (subst (λ l. t ∈ l) (sym those) j)) number-once
       (λ i d h g.
       let (w, m, a) = first i d h .why (λ z. g (flag i h ∙ z)) in
       (w, m, all-imp _ _ w (λ t (j, l, is, o). (j, l, is, λ z. o (sym (flag j (omega arith)) ∙ z))) a))
 
-  pub strikes-to : {v : List ℕ} → Strikes question capacity (length rs) work v → StrikesTo rs (leftOf v (f .field .known))
-  unfolding still still-with field-kept SurvivesIs
+  pub strikes-to : {v : List ℕ} → Strikes question capacity (length rs) work v → StrikesTo demands rs (leftOf v (f .field .known))
+  unfolding still still-with field-kept SurvivesIs demandsOf
   strikes-to none-struck =
-      subst (λ k. StrikesTo rs (leftOf work k)) (sym those) struck-at-first
+      subst (λ k. StrikesTo demands rs (leftOf work k)) (sym those) struck-at-first
   strikes-to (one-struck {v} t i h z d) =
       order.one-struck (strikes-to t) r (getD-∈ rs i blank h) unanswered either within
     where
@@ -437,10 +447,11 @@ module _ (question : List ℕ) (capacity : ℕ) (work : List ℕ) (rs : List Row
       wide : slotBytes * n ≤ length v
       wide = omega (arith, strikes-length question capacity (length rs) t, f .field .number)
 
-      unanswered : allAnswered (leftOf v (f .field .known)) (r .wants) ≡ false
+      unanswered : demanded.allAnswered (leftOf v (f .field .known)) (demands r) ≡ false
       unanswered =
-          sym (d (still question capacity (length rs) t f) (blank .self) (r .wants)
-          (ap (successors (settingOf (f .field .read .bodies))) self ∙ rows r (getD-∈ rs i blank h)))
+          singly (leftOf v (f .field .known)) (r .wants)
+          ∙ sym (d (still question capacity (length rs) t f) (blank .self) (r .wants)
+          (ap (successors (settingOf false (f .field .read .bodies))) self ∙ rows r (getD-∈ rs i blank h)))
 
       set-is : marks (set v (struckAt i) 1) n ≡ set (marks v n) i 1
       set-is = marks-set v n i (omega (arith, f .field .number)) wide
@@ -453,4 +464,4 @@ module _ (question : List ℕ) (capacity : ℕ) (work : List ℕ) (rs : List Row
       within : (s : Situation) → s ∈ leftOf (set v (struckAt i) 1) (f .field .known) → s ∈ leftOf v (f .field .known)
       within s m = struck-within (marks v n) (f .field .known) i s (rw set-is at m)
   strikes-to (notes-changed {v} {u} t c) =
-      subst (StrikesTo rs) (sym (spare-left question capacity (length rs) v u c (f .field .known))) (strikes-to t)
+      subst (StrikesTo demands rs) (sym (spare-left question capacity (length rs) v u c (f .field .known))) (strikes-to t)

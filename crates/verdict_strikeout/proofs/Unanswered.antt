@@ -1,9 +1,9 @@
 -- What exploration strikes out: situations with a permitted step whose answers, if any, are all struck out and come before them. They may be struck out
 -- one after the other, and where there are none, all are answered. Assumes nothing.
-use mathlib.Core.Bool.{Bool, true, false, cond, _&&_}
-use mathlib.Core.List.{List, [], _∷_}
+use mathlib.Core.Bool.{Bool, true, false, cond, _&&_, _||_}
+use mathlib.Core.List.{List, [], _∷_, map}
 use mathlib.Core.Logic.{_⊎_, inl, inr}
-use mathlib.Core.Path.{_≡_, refl, sym, ap, _∙_, subst}
+use mathlib.Core.Path.{_≡_, refl, sym, ap, ap₂, _∙_, subst}
 use native.Mathlib.Decide.{ℕ-discrete}
 use native.Mathlib.Omega.{arith}
 use Prim.Native.Nat.{ℕ, zero, suc, _<_, _≤_}
@@ -19,11 +19,11 @@ use Rattle.field.specs.Situation.{Situation, sameSituation}
 use Rattle.field.proofs.Members.{getD-∈, getD-within}
 use Rattle.field.proofs.Run.{selves}
 use Rattle.field.proofs.Unseen.{∈-found}
-use Rattle.verdict_survival.specs.Striking.{living}
-use Rattle.verdict.specs.Verdict.{answered, allAnswered}
+use Rattle.verdict_survival.specs.Striking.{answered, allAnswered, living}
 use Rattle.verdict_strikeout.proofs.AnyOrder.{StrikesTo, all-left, one-struck}
 use Rattle.verdict_survival.proofs.Living.{living-at, struck-either, struck-within, all-living}
-use Rattle.verdict.proofs.Rounds.{true-not-false, member-found}
+use Rattle.verdict.specs.Verdict as demanded
+use Rattle.verdict.proofs.Rounds.{true-not-false, member-found, single}
 
 pub all-within : (left : List Situation) (ms : List (List Situation)) → unanswered ms ≡ false
     → ((w : List Situation) → w ∈ ms → (t : Situation) → t ∈ w → t ∈ left) → allAnswered left ms ≡ true
@@ -58,8 +58,24 @@ living-alike (f ∷ fs) [] ss n h = absurd (omega arith)
 living-alike (f ∷ fs) (g ∷ gs) [] n h = refl
 living-alike (f ∷ fs) (g ∷ gs) (s ∷ ss) n h = rw (h 0 (omega arith), living-alike fs gs ss (omega arith) (λ i l. h (suc i) (omega arith)))
 
--- The rows with a flag each; `why` is what exploration promises.
-module _ (rs : List Row) (fs : List ℕ) (number : length fs ≡ length rs)
+-- Where each answer leads to one situation, the demands are met exactly if the steps are answered.
+pub singly : (left : List Situation) (ms : List (List Situation)) → demanded.allAnswered left (map (map single) ms) ≡ allAnswered left ms
+unfolding demanded.allAnswered demanded.answered demanded.allFound allAnswered answered
+singly left [] = refl
+singly left (m ∷ ms) = ap₂ _&&_ (one m) (singly left ms)
+  where
+    just : (b : Bool) → (b && true) ≡ b
+    just true = refl
+    just false = refl
+
+    one : (m : List Situation) → demanded.answered left (map single m) ≡ answered left m
+    one [] = refl
+    one (t ∷ m) = ap₂ _||_ (just (found left t)) (one m)
+
+-- The rows with a flag each; `why` is what exploration promises. A demand is not met where nothing that a move leads to is left.
+module _ (d : Row → List (List (List Situation))) (rs : List Row)
+    (unmet : (left : List Situation) (r : Row) → r ∈ rs → (w : List Situation) → w ∈ r .wants → ((t : Situation) → t ∈ w → found left t ≡ false) → demanded.allAnswered left (d r) ≡ false)
+    (fs : List ℕ) (number : length fs ≡ length rs)
     (exact : (s t : Situation) → s ∈ selves rs → t ∈ selves rs → sameSituation s t ≡ true → s ≡ t)
     (once : (i j : ℕ) (d : Situation) → i < length rs → j < length rs → getD (selves rs) i d ≡ getD (selves rs) j d → i ≡ j)
     (why : (i : ℕ) (d : Row) → i < length rs → (getD fs i 0 ≡ 0 → ⊥)
@@ -135,9 +151,9 @@ module _ (rs : List Row) (fs : List ℕ) (number : length fs ≡ length rs)
           let one : getD (upTo k) (x .number) 0 ≡ 1 = ap (λ i. getD (upTo k) i 0) same ∙ one-to k j l h z in
           absurd (omega (arith, one, getD-within (upTo k) (x .number) 0 1 (x .below), x .flag))
 
-  struck-to : (k : ℕ) → k ≤ length rs → StrikesTo rs (leftTo k)
+  struck-to : (k : ℕ) → k ≤ length rs → StrikesTo d rs (leftTo k)
   unfolding upTo
-  struck-to zero h = subst (StrikesTo rs) (sym (ap (λ n. living (replicate n 0) (selves rs)) (sym (length-map rs (λ (r : Row). r .self))) ∙ all-living (selves rs))) all-left
+  struck-to zero h = subst (StrikesTo d rs) (sym (ap (λ n. living (replicate n 0) (selves rs)) (sym (length-map rs (λ (r : Row). r .self))) ∙ all-living (selves rs))) all-left
   struck-to (suc k) h = go (ℕ-discrete (getD fs k 0) 0) (struck-to k (omega arith))
     where
       blank : Row
@@ -150,24 +166,23 @@ module _ (rs : List Row) (fs : List ℕ) (number : length fs ≡ length rs)
       r : Row
       r = getD rs k blank
 
-      fails : (getD fs k 0 ≡ 0 → ⊥) → allAnswered (leftTo k) (r .wants) ≡ false
+      fails : (getD fs k 0 ≡ 0 → ⊥) → demanded.allAnswered (leftTo k) (d r) ≡ false
       fails e =
           let (w, i, a) = why k blank (omega arith) e in
-          one-fails (leftTo k) w (r .wants) i
-          (none-answered (leftTo k) w (λ t m. let (j, l, is, z) = all-∈ _ w a t m in not-left k j l (omega arith) z t is))
+          unmet (leftTo k) r (getD-∈ rs k blank (omega arith)) w i (λ t m. let (j, l, is, z) = all-∈ _ w a t m in not-left k j l (omega arith) z t is)
 
-      go : Dec (getD fs k 0 ≡ 0) → StrikesTo rs (leftTo k) → StrikesTo rs (leftTo (suc k))
-      go (yes e) before = subst (λ l. StrikesTo rs (living l (selves rs))) (sym (kept k e)) before
+      go : Dec (getD fs k 0 ≡ 0) → StrikesTo d rs (leftTo k) → StrikesTo d rs (leftTo (suc k))
+      go (yes e) before = subst (λ l. StrikesTo d rs (living l (selves rs))) (sym (kept k e)) before
       go (no e) before =
-          subst (λ l. StrikesTo rs (living l (selves rs))) (sym (gone k e))
+          subst (λ l. StrikesTo d rs (living l (selves rs))) (sym (gone k e))
           (one-struck before r (getD-∈ rs k blank (omega arith)) (fails e)
           (λ s m. subst (λ u. (s ≡ u) ⊎ (s ∈ living (set (upTo k) k 1) (selves rs))) (self-at k blank)
           (struck-either (upTo k) (selves rs) k (blank .self) s m))
           (λ s m. struck-within (upTo k) (selves rs) k s m))
 
-  pub strikes-flagged : StrikesTo rs (living fs (selves rs))
+  pub strikes-flagged : StrikesTo d rs (living fs (selves rs))
   strikes-flagged =
-      subst (StrikesTo rs)
+      subst (StrikesTo d rs)
       (living-alike (upTo (length rs)) fs (selves rs) (length-to (length rs) ∙ sym number) (λ i h. alike i (omega (arith, length-to (length rs))) (ℕ-discrete (getD fs i 0) 0)))
       (struck-to (length rs) (omega arith))
     where

@@ -25,8 +25,7 @@ use Rattle.field_growth.proofs.Loops.{led, answersTo, moves-are}
 use Rattle.field.proofs.Members.{map-∈, getD-∈, ∈-number}
 use Rattle.field.proofs.Selections.{∈-select, select-∈}
 use Rattle.verdict_survival.specs.Notes.{Has, Few, Numbers, Within, WithIs}
-use Rattle.verdict_survival.specs.Striking.{leftOf, isAt, AnswerLeftIs, Side, ReliesOn, SideAnsweredIs}
-use Rattle.verdict.specs.Verdict.{answered, allAnswered}
+use Rattle.verdict_survival.specs.Striking.{answered, allAnswered, leftOf, isAt, AnswerLeftIs, Side, ReliesOn, SideAnsweredIs}
 use Rattle.verdict_survival.specs.declared.relied.Relied.{Relied}
 use Rattle.verdict.proofs.Rounds.{true-not-false}
 
@@ -78,7 +77,7 @@ module _ (arities : List ℕ) (capacity : ℕ) (work : List ℕ) (count : ℕ) (
   reachedAll p k = answersTo nameCount (placed second) (freeFrom (p .names) 0 nameCount) (p .pairs) (step p k) (p .replies)
 
   abbrev allMoves : These → List (List Situation)
-  allMoves p = moves nameCount (placed second) (freeFrom (p .names) 0 nameCount) (p .pairs) (p .steps) (p .replies)
+  allMoves p = moves false nameCount (placed second) (freeFrom (p .names) 0 nameCount) (p .pairs) (p .steps) (p .replies)
 
   -- step k is answered, if it is permitted
   abbrev StepAnswered : ℕ → Type 0

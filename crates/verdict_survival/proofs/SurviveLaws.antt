@@ -22,8 +22,7 @@ use Rattle.field_taking_up.specs.declared.taking.Lists.the-variants.{Past, List
 use Rattle.field_taking_up.specs.declared.taking.TakenUp.{TakenUp}
 use Rattle.field.proofs.Members.{getD-∈}
 use Rattle.verdict_survival.specs.Notes.{Has, Few, Numbers}
-use Rattle.verdict_survival.specs.Striking.{leftOf, Side, ReliesOn, SideAnsweredIs, FieldIn, LeadsTo, SurvivesIs, Relies, ExaminedIs}
-use Rattle.verdict.specs.Verdict.{answered, allAnswered}
+use Rattle.verdict_survival.specs.Striking.{answered, allAnswered, leftOf, Side, ReliesOn, SideAnsweredIs, FieldIn, LeadsTo, SurvivesIs, Relies, ExaminedIs}
 use Rattle.verdict_survival.specs.declared.relied.Relied.{Relied}
 use Rattle.verdict_survival.specs.declared.survive.Answered.{Answered}
 use Rattle.verdict.proofs.Rounds.{true-not-false}
@@ -53,19 +52,19 @@ module _ (question : List ℕ) (capacity : ℕ) (work : List ℕ) (count i : ℕ
 
     -- the two sides of a situation within the limits
     module _ (arities : List ℕ) (a : AritiesIs question arities) (n m : ℕ) (l : SidesListed (f .read) here n m firsts seconds)
-        (ms : List (List Situation)) (e : successors (settingOf (f .read .bodies)) here ≡ leads ms) where
+        (ms : List (List Situation)) (e : successors (settingOf false (f .read .bodies)) here ≡ leads ms) where
       abbrev F : List ℕ
       F = fn (here .first) ++ fn (here .second)
 
       abbrev ofFirst : List (List Situation)
-      ofFirst = moves nameCount (placed false) (freeFrom F 0 nameCount) (here .apart) (l .ps) (l .qs)
+      ofFirst = moves false nameCount (placed false) (freeFrom F 0 nameCount) (here .apart) (l .ps) (l .qs)
 
       abbrev ofSecond : List (List Situation)
-      ofSecond = moves nameCount (placed true) (freeFrom F 0 nameCount) (here .apart) (l .qs) (l .ps)
+      ofSecond = moves false nameCount (placed true) (freeFrom F 0 nameCount) (here .apart) (l .qs) (l .ps)
 
       those : ms ≡ ofFirst ++ ofSecond
       unfolding freeIn
-      those = cc (l .leading)
+      those = cc (l .leading false)
 
       read-arities : arities ≡ f .read .arities
       unfolding AritiesIs
@@ -119,7 +118,7 @@ module _ (question : List ℕ) (capacity : ℕ) (work : List ℕ) (count i : ℕ
       survives : (f : FieldIn question capacity work count) (d : Situation) (ms : List (List Situation)) → LeadsTo f i d ms
           → false ≡ allAnswered (leftOf work (f .known)) ms
       survives f d ms h =
-          let p = subst (λ k. ListsAre (f .read) (getD (f .known) i d) k firsts seconds) e (taken f d .lists) in
+          let p = subst (λ k. ListsAre (f .read) (getD (f .known) i d) k firsts seconds) e (taken f d .lists) false in
           let z : _≡_ {A = ℕ} 0 1 = cc in absurd (omega arith)
 
   module _ (n m : ℕ) (e : r .lists ≡ Listed n m) (arities : List ℕ) (a : AritiesIs question arities) (before : Relied) (first : Answered)

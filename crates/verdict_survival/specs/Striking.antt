@@ -1,5 +1,5 @@
 -- Strike-out in the work area (document 01, "The field and the verdict"): which situations are left, and what the code promises of them.
-use mathlib.Core.Bool.{Bool, true, false, cond, _&&_}
+use mathlib.Core.Bool.{Bool, true, false, cond, _&&_, _||_}
 use mathlib.Core.List.{List, [], _∷_}
 use mathlib.Core.Path.{_≡_}
 use Prim.Native.Nat.{ℕ, zero, suc, _+_, _-_, _*_, _<_, _≤_}
@@ -30,9 +30,18 @@ use Rattle.field_renewal.specs.ListedEntries.{ListAt}
 use Rattle.field_slots.specs.declared.find.Found.{Found}
 use Rattle.field_slots.specs.declared.find.Found.the-variants.{At, Nothing}
 use Rattle.verdict_survival.specs.Notes.{NotedIn, Has, Few, Numbers, Within, SoleStruckIs}
-use Rattle.verdict.specs.Verdict.{allAnswered}
 use Rattle.verdict_survival.specs.declared.relied.Relied.{Relied}
 use Rattle.verdict_survival.specs.declared.survive.Answered.{Answered}
+
+-- some situation of m is left: a step is answered, where each answer leads to one situation
+unfoldable pub answered : List Situation → List Situation → Bool
+answered left [] = false
+answered left (s ∷ m) = found left s || answered left m
+
+-- every permitted step is answered
+unfoldable pub allAnswered : List Situation → List (List Situation) → Bool
+allAnswered left [] = true
+allAnswered left (m ∷ ms) = answered left m && allAnswered left ms
 
 -- the bytes that say so of as many slots, from slot i on
 unfoldable pub marksFrom : List ℕ → ℕ → ℕ → List ℕ
@@ -102,13 +111,13 @@ pub record Side (arities : List ℕ) (capacity : ℕ) (work : List ℕ) (count :
   pub distinction : Irr pairs
   pub mine : ListAt arities area n steps
   pub theirs : ListAt arities others m replies
-  pub closed : (w : List Situation) → w ∈ moves nameCount (placed second) (freeFrom names 0 nameCount) pairs steps replies
+  pub closed : (w : List Situation) → w ∈ moves false nameCount (placed second) (freeFrom names 0 nameCount) pairs steps replies
       → (t : Situation) → t ∈ w → t ∈ known
 
 -- what its permitted steps lead to
 abbrev pub sideMoves : {arities : List ℕ} {capacity : ℕ} {work : List ℕ} {count : ℕ} {free apart : List ℕ} {second : Bool} {area : List ℕ} {n : ℕ} {others : List ℕ} {m : ℕ}
     → Side arities capacity work count free apart second area n others m → List (List Situation)
-sideMoves {second} p = moves nameCount (placed second) (freeFrom (p .names) 0 nameCount) (p .pairs) (p .steps) (p .replies)
+sideMoves {second} p = moves false nameCount (placed second) (freeFrom (p .names) 0 nameCount) (p .pairs) (p .steps) (p .replies)
 
 -- Each of the lists has one of the situations whose numbers are in H.
 unfoldable pub ReliesOn : (ℕ → Type 0) → List Situation → List (List Situation) → Type 0
@@ -129,7 +138,7 @@ EqualParts s = s .first ≡ s .second
 -- Each permitted step of s has an answer that leads to equal parts.
 pub record LeadsToEqual (q : Question) (s : Situation) : Type 0 where
   pub wants : List (List Situation)
-  pub leading : successors (settingOf (q .bodies)) s ≡ leads wants
+  pub leading : successors (settingOf false (q .bodies)) s ≡ leads wants
   pub some : (w : List Situation) → w ∈ wants → (t : Situation) × (t ∈ w) × EqualParts t
 
 -- The field of an accepted question in the work area: its situations lead to each other only, and those with equal parts, step by step, to such.
@@ -140,13 +149,13 @@ pub record FieldIn (question : List ℕ) (capacity : ℕ) (work : List ℕ) (cou
   pub number : length known ≡ count
   pub standing : Standing capacity work known
   pub proper : (s : Situation) → s ∈ known → Proper nameCount (read .arities) s
-  pub closed : (s : Situation) → s ∈ known → (ms : List (List Situation)) → successors (settingOf (read .bodies)) s ≡ leads ms
+  pub closed : (s : Situation) → s ∈ known → (ms : List (List Situation)) → successors (settingOf false (read .bodies)) s ≡ leads ms
       → (w : List Situation) → w ∈ ms → (t : Situation) → t ∈ w → t ∈ known
   pub equal : (s : Situation) → s ∈ known → EqualParts s → LeadsToEqual read s
 
 -- Situation i leads to ms.
 abbrev pub LeadsTo : {question : List ℕ} {capacity : ℕ} {work : List ℕ} {count : ℕ} → FieldIn question capacity work count → ℕ → Situation → List (List Situation) → Type 0
-LeadsTo f i d ms = successors (settingOf (f .read .bodies)) (getD (f .known) i d) ≡ leads ms
+LeadsTo f i d ms = successors (settingOf false (f .read .bodies)) (getD (f .known) i d) ≡ leads ms
 
 -- Those with a permitted step that has no answer at all are struck out, and those with equal parts are left.
 pub record Searching (question : List ℕ) (capacity : ℕ) (work : List ℕ) (count : ℕ) : Type 0 where

@@ -1,0 +1,4 @@
+pub mod ConcreteSteps
+pub mod LateEarlyLaws
+pub mod LateEarlyTheorems
+pub mod ReceivedNames
