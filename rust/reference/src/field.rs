@@ -1,6 +1,6 @@
 //! The field of a question: its situations, and what each of them needs to stay related.
 
-use crate::condition::{Apart, Names};
+use crate::condition::{Apart, Names, NAMES};
 use crate::question::{Definition, Question};
 use crate::steps::{steps, Action, Step};
 use crate::term::{Name, Term};
@@ -32,22 +32,34 @@ enum Lead {
     Second,
 }
 
-/// A permitted step of one side. One of the situations to which the other side's answers lead
-/// must stay related.
+/// Which bisimilarity is asked for.
+#[derive(Clone, Copy, PartialEq, Eq, Debug)]
+pub enum Kind {
+    /// Definition 13: names may merge unless they are held apart.
+    Open,
+    /// Definition 7: all names differ, and an input has one answer for all received names.
+    Late,
+    /// Definition 9: all names differ, and an input has an answer for each received name.
+    Early,
+}
+
+/// A step of one side that the other must answer. One of the answers must stay.
 #[derive(Debug)]
 pub struct Demand {
     /// The number of the situation that has the step.
     pub owner: u32,
-    /// How many situations its answers lead to.
+    /// How many answers it has.
     pub answers: u32,
 }
 
 /// The field as a graph. Situations are numbered as they were found, the start being 0.
 #[derive(Debug, Default)]
 pub struct Field {
-    /// All permitted steps of all situations.
+    /// All steps of all situations that must be answered.
     pub demands: Vec<Demand>,
-    /// For each situation the demands, by number, that have it among their answers.
+    /// For each answer its demand, by number. An answer stays while all situations that it leads to stay related.
+    pub answers: Vec<u32>,
+    /// For each situation the answers, by number, that lead to it.
     pub answering: Vec<Vec<u32>>,
 }
 
@@ -59,8 +71,9 @@ impl Field {
 }
 
 /// The field of the question, or nothing if the verdict is unsettled.
-pub fn field(question: &Question, capacity: usize) -> Option<Field> {
+pub fn field(question: &Question, kind: Kind, capacity: usize) -> Option<Field> {
     let mut search = Search {
+        kind,
         definitions: &question.definitions,
         capacity,
         situations: Vec::new(),
@@ -68,7 +81,10 @@ pub fn field(question: &Question, capacity: usize) -> Option<Field> {
         lists: StepLists::default(),
         field: Field::default(),
     };
-    let apart = Apart::of(&question.apart);
+    let apart = match kind {
+        Kind::Open => Apart::of(&question.apart),
+        Kind::Late | Kind::Early => Apart::of(&[]),
+    };
     search.place(Situation::new(question.first.clone(), question.second.clone(), &apart))?;
     let mut next = 0;
     while next < search.situations.len() {
@@ -80,6 +96,7 @@ pub fn field(question: &Question, capacity: usize) -> Option<Field> {
 
 /// The search for the field. Its functions give nothing once the verdict is unsettled.
 struct Search<'a> {
+    kind: Kind,
     definitions: &'a [Definition],
     capacity: usize,
     situations: Vec<Situation>,
@@ -143,8 +160,57 @@ impl Search<'_> {
         let setting = Setting { number: number as u32, apart, free, new };
         let first = Moves::new(first_steps, new);
         let second = Moves::new(second_steps, new);
-        self.follow(&setting, &first, &second, Lead::First)?;
-        self.follow(&setting, &second, &first, Lead::Second)
+        if self.kind == Kind::Open {
+            self.follow(&setting, &first, &second, Lead::First)?;
+            return self.follow(&setting, &second, &first, Lead::Second);
+        }
+        self.follow_unconditional(&setting, &first, &second, Lead::First)?;
+        self.follow_unconditional(&setting, &second, &first, Lead::Second)
+    }
+
+    /// Where all names differ: the leader's steps without a condition, each with its answers for
+    /// every name that is received.
+    fn follow_unconditional(
+        &mut self,
+        at: &Setting,
+        leader: &Moves,
+        other: &Moves,
+        lead: Lead,
+    ) -> Option<()> {
+        for step in leader.steps.iter().filter(|step| step.condition.is_empty()) {
+            let received: Vec<Option<u8>> = match step.action {
+                Action::Input(_) => (0..NAMES as u8)
+                    .filter(|&name| at.free.has(name) || at.new == Some(name))
+                    .map(Some)
+                    .collect(),
+                _ => vec![at.new],
+            };
+            let mut answers = Vec::new();
+            for answer in other.steps.iter().filter(|answer| answers_step(answer, step)) {
+                let mut situations = Vec::new();
+                for &name in &received {
+                    let with = |result: &Term| match name {
+                        Some(name) => result.received(Name::Free(name)),
+                        None => result.clone(),
+                    };
+                    let (first, second) = match lead {
+                        Lead::First => (with(&step.result), with(&answer.result)),
+                        Lead::Second => (with(&answer.result), with(&step.result)),
+                    };
+                    situations.push(self.place(Situation::new(first, second, &at.apart))?);
+                }
+                answers.push(situations);
+            }
+            if self.kind == Kind::Late {
+                self.demand(at.number, answers);
+                continue;
+            }
+            for place in 0..received.len() {
+                let each = answers.iter().map(|situations| vec![situations[place]]).collect();
+                self.demand(at.number, each);
+            }
+        }
+        Some(())
     }
 
     /// The leader's permitted steps, each with the situations of its answers.
@@ -163,7 +229,7 @@ impl Search<'_> {
                         Lead::First => (result.clone(), answered),
                         Lead::Second => (answered, result.clone()),
                     };
-                    answers.push(self.place(Situation::new(first, second, &apart))?);
+                    answers.push(vec![self.place(Situation::new(first, second, &apart))?]);
                 }
             }
             self.demand(at.number, answers);
@@ -171,12 +237,21 @@ impl Search<'_> {
         Some(())
     }
 
-    fn demand(&mut self, owner: u32, mut answers: Vec<u32>) {
+    /// A demand, and for each answer to it the situations that must all stay related.
+    fn demand(&mut self, owner: u32, mut answers: Vec<Vec<u32>>) {
+        for situations in &mut answers {
+            situations.sort_unstable();
+            situations.dedup();
+        }
         answers.sort_unstable();
         answers.dedup();
-        let number = self.field.demands.len() as u32;
-        for &answer in &answers {
-            self.field.answering[answer as usize].push(number);
+        let demand = self.field.demands.len() as u32;
+        for situations in &answers {
+            let number = self.field.answers.len() as u32;
+            self.field.answers.push(demand);
+            for &situation in situations {
+                self.field.answering[situation as usize].push(number);
+            }
         }
         self.field.demands.push(Demand { owner, answers: answers.len() as u32 });
     }

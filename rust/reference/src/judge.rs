@@ -1,7 +1,7 @@
-//! The verdict: the situations of the field that no open bisimulation relates are struck out.
+//! The verdict: the situations of the field that no bisimulation relates are struck out.
 
 use crate::answer::{Answer, Check};
-use crate::field::{field, Field};
+use crate::field::{field, Field, Kind};
 use crate::question::Question;
 
 /// The greatest capacity.
@@ -10,7 +10,12 @@ pub const CAPACITY: u64 = 4096;
 pub const SITUATION_BYTES: u64 = 256;
 
 /// Checks 1 to 12, then the verdict.
-pub fn judge(question: &[u8], capacity: u64, work: &mut [u8]) -> Result<Answer, Check> {
+pub fn judge(
+    question: &[u8],
+    kind: Kind,
+    capacity: u64,
+    work: &mut [u8],
+) -> Result<Answer, Check> {
     if !(1..=CAPACITY).contains(&capacity) {
         return Err(Check::Capacity);
     }
@@ -19,7 +24,7 @@ pub fn judge(question: &[u8], capacity: u64, work: &mut [u8]) -> Result<Answer, 
         return Err(Check::WorkArea);
     }
     let question = Question::read(question)?;
-    let verdict = match field(&question, capacity as usize) {
+    let verdict = match field(&question, kind, capacity as usize) {
         None => Answer::Unsettled,
         Some(field) if start_stays(&field) => Answer::Same(field.size() as u64),
         Some(field) => Answer::Different(field.size() as u64),
@@ -28,10 +33,12 @@ pub fn judge(question: &[u8], capacity: u64, work: &mut [u8]) -> Result<Answer, 
     Ok(verdict)
 }
 
-/// Whether the start is in the greatest set of situations in which every permitted step has an
-/// answer that stays in the set. A situation goes when the last answer to one of its steps goes.
+/// Whether the start is in the greatest set of situations in which every demand has an answer
+/// that leads into the set alone. A situation goes when the last answer to one of its demands
+/// goes, and an answer with the first of its situations.
 fn start_stays(field: &Field) -> bool {
     let mut left: Vec<u32> = field.demands.iter().map(|demand| demand.answers).collect();
+    let mut lost = vec![false; field.answers.len()];
     let mut struck = vec![false; field.size()];
     let mut going: Vec<u32> = Vec::new();
     let mut strike = |owner: u32, going: &mut Vec<u32>| {
@@ -43,10 +50,14 @@ fn start_stays(field: &Field) -> bool {
         strike(demand.owner, &mut going);
     }
     while let Some(gone) = going.pop() {
-        for &number in &field.answering[gone as usize] {
-            left[number as usize] -= 1;
-            if left[number as usize] == 0 {
-                strike(field.demands[number as usize].owner, &mut going);
+        for &answer in &field.answering[gone as usize] {
+            if std::mem::replace(&mut lost[answer as usize], true) {
+                continue;
+            }
+            let number = field.answers[answer as usize] as usize;
+            left[number] -= 1;
+            if left[number] == 0 {
+                strike(field.demands[number].owner, &mut going);
             }
         }
     }

@@ -21,6 +21,7 @@ pub use question::{APART_BYTES, ARITY, DEFINITIONS, PART_BYTES, QUESTION_BYTES};
 pub use steps::{Listed, STEPS, STEP_BYTES};
 
 use condition::{Apart, Condition};
+use field::Kind;
 use question::Question;
 use term::{Shape, Term};
 
@@ -121,7 +122,17 @@ fn with_third(bytes: &[u8], third: &[u8]) -> Result<Question, Check> {
 
 /// Judges a question: whether its parts are open bisimilar under its apart list.
 pub fn judge(question: &[u8], capacity: u64, work: &mut [u8]) -> Answer {
-    judge::judge(question, capacity, work).unwrap_or_else(Answer::from)
+    judge::judge(question, Kind::Open, capacity, work).unwrap_or_else(Answer::from)
+}
+
+/// Judges whether the parts of a question are late bisimilar; its apart list is only checked.
+pub fn judge_late(question: &[u8], capacity: u64, work: &mut [u8]) -> Answer {
+    judge::judge(question, Kind::Late, capacity, work).unwrap_or_else(Answer::from)
+}
+
+/// Judges whether the parts of a question are early bisimilar; its apart list is only checked.
+pub fn judge_early(question: &[u8], capacity: u64, work: &mut [u8]) -> Answer {
+    judge::judge(question, Kind::Early, capacity, work).unwrap_or_else(Answer::from)
 }
 
 /// A number given as a free name.
