@@ -10,12 +10,7 @@ pub const CAPACITY: u64 = 4096;
 pub const SITUATION_BYTES: u64 = 256;
 
 /// Checks 1 to 12, then the verdict.
-pub fn judge(
-    question: &[u8],
-    kind: Kind,
-    capacity: u64,
-    work: &mut [u8],
-) -> Result<Answer, Check> {
+pub fn judge(question: &[u8], kind: Kind, capacity: u64, work: &mut [u8]) -> Result<Answer, Check> {
     if !(1..=CAPACITY).contains(&capacity) {
         return Err(Check::Capacity);
     }

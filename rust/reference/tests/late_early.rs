@@ -1,21 +1,21 @@
 //! Late and early verdicts beside the open one (document 02, request 2026-02).
 
-use reference::Answer::{self, Different, Same, Unsettled};
+use generate::each_seed;
+use reference::Answer::{self, Different, Refused, Same, Unsettled};
 
 const CAPACITY: u64 = 256;
 
-fn bytes(hex: &str) -> Vec<u8> {
-    (0..hex.len()).step_by(2).map(|i| u8::from_str_radix(&hex[i..i + 2], 16).unwrap()).collect()
-}
-
 /// The open, the late and the early answer.
 fn answers(hex: &str) -> [Answer; 3] {
-    let question = bytes(hex);
+    judged(&generate::hex(hex))
+}
+
+fn judged(question: &[u8]) -> [Answer; 3] {
     let mut work = vec![0; 256 * CAPACITY as usize];
     [
-        reference::judge(&question, CAPACITY, &mut work),
-        reference::judge_late(&question, CAPACITY, &mut work),
-        reference::judge_early(&question, CAPACITY, &mut work),
+        reference::judge(question, CAPACITY, &mut work),
+        reference::judge_late(question, CAPACITY, &mut work),
+        reference::judge_early(question, CAPACITY, &mut work),
     ]
 }
 
@@ -80,5 +80,37 @@ fn definitions_limits_and_refusals() {
     );
     // a name apart from itself: the list is checked though it plays no other part
     let refused = answers("010000010000010000020000");
-    assert!(refused.iter().all(|answer| *answer == refused[0] && matches!(answer, Answer::Refused(_))));
+    assert!(refused.iter().all(|answer| *answer == refused[0] && matches!(answer, Refused(_))));
+}
+
+/// One field for late and early, and "same" is kept from open to late to early.
+#[test]
+fn random_questions() {
+    let (mut settled, mut told_apart) = (0, 0);
+    each_seed(2000, |random| {
+        let question = generate::any(random);
+        match judged(&question) {
+            [_, Unsettled, Unsettled] => {}
+            [Refused(open), Refused(late), Refused(early)] => {
+                assert!(open == late && late == early)
+            }
+            [open, Same(late), Same(early)] => {
+                assert_eq!(late, early, "{question:02x?}");
+                settled += usize::from(open != Unsettled);
+            }
+            [open, Different(late), Different(early)] => {
+                assert_eq!(late, early, "{question:02x?}");
+                assert!(!matches!(open, Same(_)), "{question:02x?}");
+                settled += usize::from(open != Unsettled);
+            }
+            [open, Different(late), Same(early)] => {
+                assert_eq!(late, early, "{question:02x?}");
+                assert!(!matches!(open, Same(_)), "{question:02x?}");
+                told_apart += 1;
+            }
+            answers => panic!("{answers:?} for {question:02x?}"),
+        }
+    });
+    println!("settled: {settled}; late different, early same: {told_apart}");
+    assert!(settled > 500);
 }
