@@ -19,6 +19,7 @@ use Rattle.terms_renaming.specs.FreeFlags.{IsFreeOf}
 use Rattle.terms.specs.Limits.{nameCount, longestTerm}
 use Rattle.terms.specs.Question.{Question}
 use Rattle.terms_renaming.specs.Renaming.{RenameIs}
+use Rattle.terms_bytes.proofs.Heights.{height-bytes}
 use Rattle.terms_bytes.proofs.NameTables.{represents-free}
 use Rattle.terms.proofs.RenamingKeeps.{length-ren}
 use Rattle.terms_bytes.proofs.Stores.{length-span, sets-append, sets-start}
@@ -152,7 +153,7 @@ module _ (src : List ℕ) (at : ℕ) (arities table : List ℕ) (x : ℕ) (area 
       ap (λ k. drop k src) n ∙ behind src (at + 19) P (e .rest) (entry-result src at s e) in
       let w = step-copied s e in
       let done = R nameCount 0 0 c P (fill ++ e .rest) (omega arith)
-      (represents-free table c (λ m l. (names m l, put-below y x m small l))) scope there (omega (arith, e .fits))
+      (represents-free table c (λ m l. (names m l, put-below y x m small l))) scope there (omega (arith, e .fits, height-bytes 0 P))
       (omega (arith, e .fits, ap length w, length-sets area to (bytes longestTerm s))) in
       ap (λ l. set l (to + 18) x)
       (done .1 ∙ ap (λ l. sets l (to + 18 + 2) (encode 0 (ren c P))) w

@@ -10,6 +10,7 @@ use Rattle.calculus.specs.Term.{ren}
 use Rattle.terms.specs.Encoding.{encode, InScope}
 use Rattle.terms.specs.Limits.{nameCount, longestTerm}
 use Rattle.terms_renaming.specs.Renaming.{RenameIs}
+use Rattle.terms_bytes.proofs.Heights.{height-bytes}
 use Rattle.terms_bytes.proofs.NameTables.{represents-free}
 use Rattle.terms.proofs.RenamingKeeps.{length-ren}
 use Rattle.steps.specs.Limits.{stepBytes}
@@ -69,7 +70,7 @@ module _ (area : List ℕ) (at : ℕ) (others : List ℕ) (place : ℕ) (arities
       (represents-free (take (length area - at) (drop at area)) c (λ m l. (
         getD-take (length area - at) (drop at area) m 0 (omega arith) ∙ getD-drop at area m 0 ∙ entry-class area at s e m l,
         e .within m l,
-      ))) scope there (omega (arith, f .fits)) (omega (arith, f .fits, ap length (w t f), length-sets slot put (partBytes P))) in
+      ))) scope there (omega (arith, f .fits, height-bytes 0 P)) (omega (arith, f .fits, ap length (w t f), length-sets slot put (partBytes P))) in
       let same : length (encode 0 (ren c P)) ≡ length (encode 0 P) = length-ren 0 0 c P in
       let q : put + 1 ≡ suc put = omega arith in
       y .1 ∙ rw (w t f, q, same) (sets-over (set slot put (length (encode 0 P))) (encode 0 P) (encode 0 (ren c P)) fill (suc put) (sym same))

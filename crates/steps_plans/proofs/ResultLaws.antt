@@ -17,6 +17,7 @@ use Rattle.terms.specs.Question.{Question, checkOf}
 use Rattle.terms_renaming.specs.Renaming.{RenameIs}
 use Rattle.terms.proofs.ReadEncoded.{encode-some}
 use Rattle.terms.proofs.RenamingKeeps.{length-ren}
+use Rattle.terms_bytes.proofs.Heights.{height-bytes}
 use Rattle.terms_bytes.proofs.Stores.{sets-join}
 use Rattle.steps_tallies.specs.Bodies.{AritiesIs, BodyIs, OpeningIs}
 use Rattle.terms.specs.Question.{bodyOf}
@@ -132,7 +133,7 @@ module _ (question s : List ℕ) (at D : ℕ) (names : List ℕ) (levels : ℕ) 
           let l = ends q free τ P rest ok scope st in
           let m = length-ren D levels τ P in
           let w = R free D levels τ P rest (omega arith) (names-represent free D levels names τ has table (omega arith) B)
-          (subst (λ (l : List ℕ). InScope free l D P) (sym (ar q ok)) scope) st (omega arith) (omega arith) in
+          (subst (λ (l : List ℕ). InScope free l D P) (sym (ar q ok)) scope) st (omega (arith, height-bytes D P)) (omega arith) in
           record { fits = λ f. (omega arith, w .1); over = λ f. absurd (omega arith) };
     }
 

@@ -1,3 +1,4 @@
+pub mod Heights
 pub mod NameTables
 pub mod Places
 pub mod QuestionPlaces

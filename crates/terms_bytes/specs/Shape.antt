@@ -2,7 +2,7 @@
 use mathlib.Core.Path.{_≡_}
 use mathlib.Core.Bool.{cond}
 use mathlib.Core.List.{List, [], _∷_, _++_, map}
-use Prim.Native.Nat.{ℕ, _+_, _<_, _≤_}
+use Prim.Native.Nat.{ℕ, _+_, _<_, _≤_, max}
 use lib.ListN.{getD}
 use lib.Dec.{eqb}
 use Rattle.calculus.specs.Term.{Term, nil, tau, inp, out, bout, mat, sum, par, res, call}
@@ -59,6 +59,19 @@ subterms (sum P Q) = P ∷ Q ∷ []
 subterms (par P Q) = P ∷ Q ∷ []
 subterms (res P) = P ∷ []
 subterms (call k ns) = []
+
+-- How many binders stand one within the other.
+unfoldable pub height : Term → ℕ
+height nil = 0
+height (tau P) = height P
+height (inp a P) = 1 + height P
+height (out a b P) = height P
+height (bout a P) = 1 + height P
+height (mat a b P) = height P
+height (sum P Q) = max (height P) (height Q)
+height (par P Q) = max (height P) (height Q)
+height (res P) = 1 + height P
+height (call k ns) = 0
 
 unfoldable pub frontBytes : ℕ → Term → List ℕ
 frontBytes d P = fixedBytes P ++ map (nameByte d) (ownNames P)

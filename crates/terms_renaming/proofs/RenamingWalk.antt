@@ -9,11 +9,12 @@ use Rattle.calculus.specs.Term.{Term, ren}
 use Rattle.terms_bytes.specs.NameTable.{tableNames}
 use Rattle.terms.specs.Encoding.{nameByte, encode, InScope}
 use Rattle.terms_bytes.specs.NameTable.{renamedByte, RepresentsBeneath}
-use Rattle.terms_bytes.specs.Shape.{fixedBytes, ownNames, binders, subterms, frontBytes, ShapeIs}
+use Rattle.terms_bytes.specs.Shape.{fixedBytes, ownNames, binders, subterms, height, frontBytes, ShapeIs}
 use Rattle.terms_renaming.specs.Renaming.{RenameIs, RenamedFrontIs, RenamedBeneath}
 use Rattle.terms_bytes.specs.declared.shape.Shape.{Shape}
 use Rattle.terms_renaming.specs.declared.rename.RenamedFront.{RenamedFront}
 use Rattle.terms_bytes.proofs.Stores.{span, sets-join}
+use Rattle.terms_bytes.proofs.Heights.{height-one, height-two}
 use Rattle.terms_bytes.proofs.NameTables.{liftBy, renamed-names, represents-under, represents-whole}
 use Rattle.terms_bytes.proofs.Shapes.{encodeAll, encode-parts, front-ren, encode-ren, length-front-ren, front-of, AllInScope, names-scope, subterms-scope, shape-fixed, shape-binds, shape-parts, span-fixed, span-names, length-front, front-inside, front-some, at-most-two}
 use Rattle.terms.proofs.RenamingKeeps.{length-ren}
@@ -86,7 +87,7 @@ module _ (s : List ℕ) (at : ℕ) (arities table out : List ℕ) (put inner fre
       → length F′ ≡ length F
       → InScope free arities d P
       → drop at s ≡ F ++ (encode d P ++ rest)
-      → d′ + length (encode d P) ≤ 128
+      → d′ + height P ≤ 128
       → put + (length F + length (encode d P)) ≤ length out
       → RenamedBeneath s (at + length F) arities inner table (sets out put F′) (put + length F) e out₂
       → (e ≡ at + (length F + length (encode d P))) × (out₂ ≡ sets out put (F′ ++ encode d′ (ren ρ P)))
@@ -155,12 +156,13 @@ module _ (s : List ℕ) (at : ℕ) (arities : List ℕ) (inner : ℕ) (table out
             let G = frontBytes d P in
             let G′ = frontBytes d′ (ren ρ P) in
             let l : length (encode d P) ≡ length G + length (encode (b + d) Q) = ap length (bytes-one d P Q q) ∙ length-append G (encode (b + d) Q) in
+            let t = height-one P Q q in
             let R′ : RenamedBeneath s (at + length G) arities (inner + b) table (sets out put G′) (put + length G) e out₂ = rw (← x .0, ← x .1, ← x .3) R in
             let y = subterm s at arities table out put (inner + b) free (b + d) (b + d′) (liftBy b ρ) few
-            (represents-under b inner free d d′ table ρ few (omega (arith, x .0, x .1, F .binds)) rep) G G′ Q rest e out₂ (length-front-ren d d′ ρ P)
+            (represents-under b inner free d d′ table ρ few (omega (arith, t)) rep) G G′ Q rest e out₂ (length-front-ren d d′ ρ P)
             (subst (AllInScope free arities (b + d)) q (subterms-scope free arities d P scope) .0)
             (st ∙ ap (λ (l : List ℕ). l ++ rest) (bytes-one d P Q q) ∙ append-assoc G (encode (b + d) Q) rest)
-            (omega (arith, x .0, x .1, F .binds)) (omega arith) R′ in
+            (omega (arith, t)) (omega arith) R′ in
             (omega (arith, y .0), y .1 ∙ ap (sets out put) (sym (ren-one d′ ρ P Q q)))
         go (Q ∷ Q₂ ∷ Qs) q = let n : length (subterms P) ≡ suc (suc (length Qs)) = ap length q in absurd (omega (arith, x .2))
 
@@ -191,10 +193,11 @@ module _ (s : List ℕ) (at : ℕ) (arities : List ℕ) (inner : ℕ) (table out
             ∙ ap (λ (l : List ℕ). G ++ l) (append-assoc E₁ E₂ rest) in
             let st₂ : drop at s ≡ (G ++ E₁) ++ (E₂ ++ rest) = st₁ ∙ sym (append-assoc G E₁ (E₂ ++ rest)) in
             let sc = subst (AllInScope free arities (b + d)) q (subterms-scope free arities d P scope) in
-            let rep′ = represents-under b inner free d d′ table ρ few (omega (arith, x .0, x .1, F .binds)) rep in
+            let t = height-two P Q₁ Q₂ q in
+            let rep′ = represents-under b inner free d d′ table ρ few (omega (arith, t)) rep in
             let R′ : RenamedBeneath s (at + length G) arities (inner + b) table (sets out put G′) (put + length G) e out₂ = rw (← x .0, ← x .1, ← x .3) R in
             let y = subterm s at arities table out put (inner + b) free (b + d) (b + d′) (liftBy b ρ) few rep′ G G′ Q₁ (E₂ ++ rest) e out₂
-            (length-front-ren d d′ ρ P) (sc .0) st₁ (omega (arith, x .0, x .1, F .binds)) (omega arith) R′ in
+            (length-front-ren d d′ ρ P) (sc .0) st₁ (omega (arith, t)) (omega arith) R′ in
             let ee : e ≡ at + length (G ++ E₁) = omega (arith, y .0) in
             let ep : put + (e - at) ≡ put + length (G ++ E₁) = omega (arith, y .0) in
             let S′ : RenamedBeneath s (at + length (G ++ E₁)) arities (inner + b) table (sets out put (G′ ++ E₁′)) (put + length (G ++ E₁)) r out₃ =
@@ -202,7 +205,7 @@ module _ (s : List ℕ) (at : ℕ) (arities : List ℕ) (inner : ℕ) (table out
             let same : length (G′ ++ E₁′) ≡ length (G ++ E₁) =
             length-append G′ E₁′ ∙ ap₂ _+_ (length-front-ren d d′ ρ P) (length-ren (b + d) (b + d′) (liftBy b ρ) Q₁) ∙ sym lG in
             let w = subterm s at arities table out put (inner + b) free (b + d) (b + d′) (liftBy b ρ) few rep′ (G ++ E₁) (G′ ++ E₁′) Q₂ rest r out₃
-            same (sc .1 .0) st₂ (omega (arith, x .0, x .1, F .binds)) (omega arith) S′ in
+            same (sc .1 .0) st₂ (omega (arith, t)) (omega arith) S′ in
             (omega (arith, w .0), w .1 ∙ ap (sets out put) (append-assoc G′ E₁′ E₂′ ∙ sym (ren-two d′ ρ P Q₁ Q₂ q)))
         go (Q₁ ∷ Q₂ ∷ Q₃ ∷ Qs) q = absurd (omega (arith, at-most-two P, ap length q))
 

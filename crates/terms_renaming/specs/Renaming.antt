@@ -8,11 +8,11 @@ use Rattle.calculus.specs.Term.{Term, ren}
 use Rattle.terms_bytes.specs.NameTable.{tableNames}
 use Rattle.terms.specs.Encoding.{encode, InScope}
 use Rattle.terms_bytes.specs.NameTable.{Represents, RepresentsBeneath}
-use Rattle.terms_bytes.specs.Shape.{frontBytes, binders, subterms}
+use Rattle.terms_bytes.specs.Shape.{frontBytes, binders, subterms, height}
 use Rattle.terms_renaming.specs.declared.rename.RenamedFront.{RenamedFront}
 
 -- Of terms alone: where the bytes from `at` begin with those of P, exactly the bytes of P renamed are stored from `put` on, and the answer is
--- their number. A renamed term is as long as it was. Every index of a binder has a byte: D′ + length ≤ 128.
+-- their number. A renamed term is as long as it was. Every index of a binder has a byte: D′ + height ≤ 128.
 unfoldable pub RenameIs : List ℕ → ℕ → List ℕ → List ℕ → List ℕ → ℕ → ℕ → List ℕ → Type 0
 RenameIs s at arities table out put r out′ =
     (free D D′ : ℕ) (ρ : ℕ → ℕ) (P : Term) (rest : List ℕ)
@@ -20,7 +20,7 @@ RenameIs s at arities table out put r out′ =
     → Represents free D D′ table ρ
     → InScope free arities D P
     → drop at s ≡ encode D P ++ rest
-    → D′ + length (encode D P) ≤ 128
+    → D′ + height P ≤ 128
     → put + length (encode D P) ≤ length out
     → (r ≡ length (encode D P)) × (out′ ≡ sets out put (encode D′ (ren ρ P)))
 
@@ -47,7 +47,7 @@ RenamedBeneath s at arities inner table out put r out′ =
     → RepresentsBeneath inner free d d′ table ρ
     → InScope free arities d P
     → drop at s ≡ encode d P ++ rest
-    → d′ + length (encode d P) ≤ 128
+    → d′ + height P ≤ 128
     → put + length (encode d P) ≤ length out
     → (r ≡ at + length (encode d P)) × (out′ ≡ sets out put (encode d′ (ren ρ P)))
 

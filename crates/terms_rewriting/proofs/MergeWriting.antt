@@ -19,6 +19,7 @@ use Rattle.terms_bytes.specs.Writing.{Writes, WritesMerged}
 use Rattle.terms.proofs.Answers.{Every}
 use Rattle.terms.proofs.FramingLaws.{Framable}
 use Rattle.terms.proofs.MergeLaws.{join-below}
+use Rattle.terms_bytes.proofs.Heights.{height-bytes}
 use Rattle.terms_bytes.proofs.NameTables.{renamed-free, beneath-free, represents-free}
 use Rattle.terms_bytes.proofs.Places.{arities-of}
 use Rattle.terms_bytes.proofs.QuestionPlaces.{framable, accepted-joined, halves, beforeParts, joined-split, firstPlace, secondPlace, apartPlace, first-bytes, second-bytes, apart-bytes, apart-size, first-is, second-is, apart-is, joined-length}
@@ -163,7 +164,7 @@ module _ (a b : ℕ) (q : Question) (w : WellFormed q) (small : a < nameCount) (
       let n : length (run .copied) ≡ length area = ap length (run .copying) ∙ length-sets area 0 (span (joined (fieldsOf q)) 0 (length (joined (fieldsOf q)))) in
       let p = w .first .size in
       run .renaming-first nameCount 0 0 (join a b) (q .first) _ (omega arith) (represents-free (run .table) (join a b) table-entries)
-      (rw arities-e (w .first .scope)) (ap (λ (k : ℕ). drop (k + 2) s) first-e ∙ first-bytes f fr) (omega arith)
+      (rw arities-e (w .first .scope)) (ap (λ (k : ℕ). drop (k + 2) s) first-e ∙ first-bytes f fr) (omega (arith, height-bytes 0 (q .first)))
       (omega (arith, n, first-e, bounds .0)) .1
 
   two-is : run .two ≡ sets (run .one) (run .second + 2) (mergedSecond a b q)
@@ -173,7 +174,7 @@ module _ (a b : ℕ) (q : Question) (w : WellFormed q) (small : a < nameCount) (
       let m : length (run .one) ≡ length (run .copied) = ap length one-is ∙ length-sets (run .copied) (run .first + 2) (mergedFirst a b q) in
       let p = w .second .size in
       run .renaming-second nameCount 0 0 (join a b) (q .second) _ (omega arith) (represents-free (run .table) (join a b) table-entries)
-      (rw arities-e (w .second .scope)) (ap (λ (k : ℕ). drop (k + 2) s) second-e ∙ second-bytes f fr) (omega arith)
+      (rw arities-e (w .second .scope)) (ap (λ (k : ℕ). drop (k + 2) s) second-e ∙ second-bytes f fr) (omega (arith, height-bytes 0 (q .second)))
       (omega (arith, n, m, second-e, bounds .1)) .1
 
   pairs-are : map (renamedByte 0 (run .table)) (span s (run .apart + 2) (run .pairs)) ≡ mergedApart a b q
