@@ -161,3 +161,55 @@ tidy-tidy (sum P Q) = ap₂ sum (tidy-tidy P) (tidy-tidy Q)
 tidy-tidy (par P Q) = ap₂ par (tidy-tidy P) (tidy-tidy Q)
 tidy-tidy (res P) = tidy-restrict (tidy P) (tidy-tidy P)
 tidy-tidy (call k xs) = refl
+
+-- Nothing is left to go: beneath every restriction of a tidied term, however deep, its name is free.
+abbrev pub UsesAll : Term → Type 0
+UsesAll nil = Unit {0}
+UsesAll (tau P) = UsesAll P
+UsesAll (inp a P) = UsesAll P
+UsesAll (out a b P) = UsesAll P
+UsesAll (bout a P) = UsesAll P
+UsesAll (mat a b P) = UsesAll P
+UsesAll (sum P Q) = UsesAll P × UsesAll Q
+UsesAll (par P Q) = UsesAll P × UsesAll Q
+UsesAll (res P) = Free 0 P × UsesAll P
+UsesAll (call k xs) = Unit {0}
+
+of-free-lift : (ρ : ℕ → ℕ) (P : Term) → Free 0 (ren (lift ρ) P) → Free 0 P
+of-free-lift ρ P f = let (n, g, e) = of-free-ren (lift ρ) P 0 f in go n g e
+  where
+    go : (n : ℕ) → Free n P → 0 ≡ lift ρ n → Free 0 P
+    go zero g e = g
+    go (suc n) g e = absurd (suc-ne-zero (ρ n) (sym e))
+
+of-uses-ren : (ρ : ℕ → ℕ) (P : Term) → UsesAll (ren ρ P) → UsesAll P
+of-uses-ren ρ nil u = tt
+of-uses-ren ρ (tau P) u = of-uses-ren ρ P u
+of-uses-ren ρ (inp a P) u = of-uses-ren (lift ρ) P u
+of-uses-ren ρ (out a b P) u = of-uses-ren ρ P u
+of-uses-ren ρ (bout a P) u = of-uses-ren (lift ρ) P u
+of-uses-ren ρ (mat a b P) u = of-uses-ren ρ P u
+of-uses-ren ρ (sum P Q) (u, v) = (of-uses-ren ρ P u, of-uses-ren ρ Q v)
+of-uses-ren ρ (par P Q) (u, v) = (of-uses-ren ρ P u, of-uses-ren ρ Q v)
+of-uses-ren ρ (res P) (f, u) = (of-free-lift ρ P f, of-uses-ren (lift ρ) P u)
+of-uses-ren ρ (call k xs) u = tt
+
+uses-restrict : (P : Term) → UsesAll P → UsesAll (restrictUsed P)
+uses-restrict P u = go (used? P)
+  where
+    go : Used P → UsesAll (restrictUsed P)
+    go (used f) = subst UsesAll (sym (restrict-used P f)) (f, u)
+    go (unused Q e) = subst UsesAll (sym (ap restrictUsed e ∙ restrict-lifted Q)) (of-uses-ren suc Q (subst UsesAll e u))
+
+pub tidied-uses-all : (P : Term) → UsesAll (tidy P)
+unfolding tidy
+tidied-uses-all nil = tt
+tidied-uses-all (tau P) = tidied-uses-all P
+tidied-uses-all (inp a P) = tidied-uses-all P
+tidied-uses-all (out a b P) = tidied-uses-all P
+tidied-uses-all (bout a P) = tidied-uses-all P
+tidied-uses-all (mat a b P) = tidied-uses-all P
+tidied-uses-all (sum P Q) = (tidied-uses-all P, tidied-uses-all Q)
+tidied-uses-all (par P Q) = (tidied-uses-all P, tidied-uses-all Q)
+tidied-uses-all (res P) = uses-restrict (tidy P) (tidied-uses-all P)
+tidied-uses-all (call k xs) = tt

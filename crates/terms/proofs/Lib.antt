@@ -12,5 +12,6 @@ pub mod ReadEncoded
 pub mod RefusalNumbers
 pub mod RenamingKeeps
 pub mod ScopeLaws
+pub mod TidyShorter
 pub mod WellFormed
 pub mod WrittenLaws
