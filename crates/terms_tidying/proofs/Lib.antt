@@ -1,0 +1,3 @@
+pub mod TidyCounts
+mod TidyWalk
+mod UnusedWalk

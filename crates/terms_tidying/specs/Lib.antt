@@ -1,0 +1,2 @@
+pub mod Tidying
+pub mod Unused
