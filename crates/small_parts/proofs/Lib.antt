@@ -1,0 +1,6 @@
+pub mod CensusOfWords
+pub mod Counting
+pub mod FewSteps
+pub mod ListOfParts
+pub mod Settled
+pub mod Size
