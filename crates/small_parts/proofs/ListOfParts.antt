@@ -35,11 +35,20 @@ parts (suc fuel) (suc n) d top =
     ∷ cond top (joinAll (map (λ i. crossed par (parts fuel i d true) (parts fuel (n - i) d true)) (namesFrom 0 (suc n)))) []
     ∷ [])
 
--- how many parts of each length there are
-pub number-of-parts : (length (parts 1 1 0 true) ≡ 1) × (length (parts 2 2 0 true) ≡ 2) × (length (parts 3 3 0 true) ≡ 10) × (length (parts 4 4 0 true) ≡ 45)
-    × (length (parts 5 5 0 true) ≡ 209)
+-- how many parts of each length there are, from 0 bytes on
+pub number-of-parts : (length (parts 0 0 0 true) ≡ 0) × (length (parts 1 1 0 true) ≡ 1) × (length (parts 2 2 0 true) ≡ 2)
+    × (length (parts 3 3 0 true) ≡ 10) × (length (parts 4 4 0 true) ≡ 45) × (length (parts 5 5 0 true) ≡ 209)
 unfolding parts crossed joinAll namesFrom
-number-of-parts = (refl, refl, refl, refl, refl)
+number-of-parts = (refl, refl, refl, refl, refl, refl)
+
+pub at-most-parts : (n : ℕ) → n ≤ 5 → length (parts n n 0 true) ≤ 209
+at-most-parts zero h = omega (arith, number-of-parts .0)
+at-most-parts (suc zero) h = omega (arith, number-of-parts .1)
+at-most-parts (suc (suc zero)) h = omega (arith, number-of-parts .2)
+at-most-parts (suc (suc (suc zero))) h = omega (arith, number-of-parts .3)
+at-most-parts (suc (suc (suc (suc zero)))) h = omega (arith, number-of-parts .4)
+at-most-parts (suc (suc (suc (suc (suc zero))))) h = omega (arith, number-of-parts .5)
+at-most-parts (suc (suc (suc (suc (suc (suc n)))))) h = absurd (omega arith)
 
 in-names : (k n j : ℕ) → k ≤ j → j < k + n → j ∈ namesFrom k n
 unfolding namesFrom
