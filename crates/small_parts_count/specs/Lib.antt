@@ -1,0 +1,4 @@
+-- pairs counted by their verdict
+pub mod Tallies
+-- what count promises
+pub mod Counts

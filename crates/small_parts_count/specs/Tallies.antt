@@ -1,0 +1,56 @@
+-- Pairs of words counted one by one by their verdict.
+use mathlib.Core.List.{List, [], _∷_, map}
+use mathlib.Core.Path.{_≡_}
+use Prim.Native.Nat.{ℕ, _+_, _*_, _≤_}
+use lib.ListN.{length}
+use Rattle.terms.specs.Answer.{Answer, refused, result}
+use Rattle.verdict.specs.Judge.{slotBytes}
+use Rattle.verdict.specs.Verdict.{Verdict, unsettled, same, different}
+use Rattle.small_parts.specs.Census.{censusCapacity, greatestLength, verdictOn}
+use Rattle.small_parts.proofs.Counting.{pairs}
+use Rattle.small_parts_words.specs.Words.{mostParts, wordOf}
+use Rattle.small_parts_count.specs.declared.tally.Tally.{Tally}
+
+unfoldable pub none : Tally
+none = record { same = 0; different = 0; unsettled = 0 }
+
+-- one more pair, whose question is answered so
+unfoldable pub added : Tally → Answer Verdict → Tally
+added t (refused k) = t
+added t (result (same n)) = record { same = t .same + 1; different = t .different; unsettled = t .unsettled }
+added t (result (different n)) = record { same = t .same; different = t .different + 1; unsettled = t .unsettled }
+added t (result unsettled) = record { same = t .same; different = t .different; unsettled = t .unsettled + 1 }
+
+unfoldable pub tallied : Tally → List (List ℕ × List ℕ) → Tally
+tallied t [] = t
+tallied t (p ∷ ps) = tallied (added t (verdictOn (p .0) (p .1))) ps
+
+-- the pairs of one word with all that are kept
+unfoldable pub rowOf : ℕ → ℕ → List ℕ → List (List ℕ × List ℕ)
+rowOf n first kept = map (λ k. (wordOf n first, wordOf n k)) kept
+
+unfoldable pub wordPairs : ℕ → List ℕ → List (List ℕ × List ℕ)
+wordPairs n kept = pairs (map (wordOf n) kept) (map (wordOf n) kept)
+
+abbrev pub total : Tally → ℕ
+total t = t .same + t .different + t .unsettled
+
+abbrev pub manyPairs : ℕ
+manyPairs = 65536
+
+-- The work area holds the field at the capacity of the census.
+pub record Room (n : ℕ) (work : List ℕ) : Type 0 where
+  pub short : n ≤ greatestLength
+  pub room : slotBytes * censusCapacity ≤ length work
+
+pub record MayAdd (t : Tally) : Type 0 where
+  pub small : total t ≤ manyPairs
+
+pub record MayTallyRow (n : ℕ) (kept work : List ℕ) (before : Tally) : Type 0 where
+  pub room : Room n work
+  pub few : length kept ≤ mostParts
+  pub small : total before + length kept ≤ manyPairs
+
+pub record MayTallyPairs (n : ℕ) (kept work : List ℕ) : Type 0 where
+  pub room : Room n work
+  pub few : length kept ≤ mostParts
