@@ -5,6 +5,8 @@
 
 extern crate compare as reference;
 
+#[path = "../../reference/tests/census.rs"]
+mod census;
 #[path = "../../reference/tests/changes.rs"]
 mod changes;
 #[path = "../../reference/tests/exchanges.rs"]
