@@ -23,7 +23,7 @@ use Rattle.small_parts.proofs.Counting.{crossed, pairs}
 use Rattle.small_parts_words.specs.Words.{mostParts, wordOf, partNumbers, CollectsIs}
 use Rattle.small_parts_words.proofs.WordLaws.{partWords, words-distinct, words-are-parts, few-parts}
 use Rattle.small_parts_count.specs.Counts.{CountIs}
-use Rattle.small_parts_count.specs.Tallies.{none, added, tallied, rowOf, wordPairs, total}
+use Rattle.small_parts_count.specs.Tallies.{none, plusOf, added, tallied, rowOf, wordPairs, total}
 use Rattle.small_parts_count.specs.declared.count.Counts.the-variants.{Numbers}
 use Rattle.small_parts_count.specs.declared.tally.Tally.{Tally}
 
@@ -41,20 +41,17 @@ module _ (t : Tally) (j : Judged) where
   unfolding added judgedAnswer
   add-refused k e = ap (λ i. added t (judgedAnswer i)) (sym e)
 
-  pub add-unsettled : j ≡ Unsettled
-      → _≡_ {A = Tally} (record { same = t .same; different = t .different; unsettled = t .unsettled + 1 }) (added t (judgedAnswer j))
+  pub add-unsettled : (r : Tally) → r ≡ plusOf t 0 0 1 → j ≡ Unsettled → r ≡ added t (judgedAnswer j)
   unfolding added judgedAnswer
-  add-unsettled e = ap (λ i. added t (judgedAnswer i)) (sym e)
+  add-unsettled r p e = p ∙ ap (λ i. added t (judgedAnswer i)) (sym e)
 
-  pub add-same : (k : ℕ) → j ≡ Same k
-      → _≡_ {A = Tally} (record { same = t .same + 1; different = t .different; unsettled = t .unsettled }) (added t (judgedAnswer j))
+  pub add-same : (r : Tally) (k : ℕ) → r ≡ plusOf t 1 0 0 → j ≡ Same k → r ≡ added t (judgedAnswer j)
   unfolding added judgedAnswer
-  add-same k e = ap (λ i. added t (judgedAnswer i)) (sym e)
+  add-same r k p e = p ∙ ap (λ i. added t (judgedAnswer i)) (sym e)
 
-  pub add-different : (k : ℕ) → j ≡ Different k
-      → _≡_ {A = Tally} (record { same = t .same; different = t .different + 1; unsettled = t .unsettled }) (added t (judgedAnswer j))
+  pub add-different : (r : Tally) (k : ℕ) → r ≡ plusOf t 0 1 0 → j ≡ Different k → r ≡ added t (judgedAnswer j)
   unfolding added judgedAnswer
-  add-different k e = ap (λ i. added t (judgedAnswer i)) (sym e)
+  add-different r k p e = p ∙ ap (λ i. added t (judgedAnswer i)) (sym e)
 
 -- What is counted stays small.
 total-added : (t : Tally) (a : Answer Verdict) → total (added t a) ≤ total t + 1
@@ -70,43 +67,44 @@ total-tallied t [] = omega arith
 total-tallied t (p ∷ ps) =
     omega (arith, total-added t (verdictOn (p .0) (p .1)), total-tallied (added t (verdictOn (p .0) (p .1))) ps)
 
-length-row : (n first : ℕ) (kept : List ℕ) → length (rowOf n first kept) ≡ length kept
-unfolding rowOf
-length-row n first kept = length-map kept (λ k. (wordOf n first, wordOf n k))
+-- the pairs of a word with each of a list
+abbrev withEach : ℕ → ℕ → List ℕ → List (List ℕ × List ℕ)
+withEach n first kept = map (λ k. (wordOf n first, wordOf n k)) kept
 
 -- One pair more of a row.
 next-in-row : (n first : ℕ) (kept : List ℕ) (j : ℕ) → j < length kept
-    → drop j (rowOf n first kept) ≡ (wordOf n first, wordOf n (getD kept j 0)) ∷ drop (j + 1) (rowOf n first kept)
-unfolding rowOf
+    → drop j (withEach n first kept) ≡ (wordOf n first, wordOf n (getD kept j 0)) ∷ drop (j + 1) (withEach n first kept)
 next-in-row n first [] j h = absurd (omega arith)
 next-in-row n first (k ∷ kept) zero h = refl
 next-in-row n first (k ∷ kept) (suc j) h =
     let e : suc j + 1 ≡ suc (j + 1) = omega arith in rw e (next-in-row n first kept j (omega arith))
 
-pair-more : (n first : ℕ) (kept : List ℕ) (j : ℕ) (t : Tally) (a : Answer Verdict) → j < length kept
-    → a ≡ verdictOn (wordOf n first) (wordOf n (getD kept j 0))
-    → tallied (added t a) (drop (j + 1) (rowOf n first kept)) ≡ tallied t (drop j (rowOf n first kept))
-unfolding tallied
-pair-more n first kept j t a h e =
-    ap (λ b. tallied (added t b) (drop (j + 1) (rowOf n first kept))) e ∙ ap (tallied t) (sym (next-in-row n first kept j h))
-
-pub row-step : (n first : ℕ) (kept : List ℕ) (j : ℕ) (before t t′ : Tally) (a : Answer Verdict) → j < length kept
-    → a ≡ verdictOn (wordOf n first) (wordOf n (getD kept j 0)) → t′ ≡ added t a → total t ≤ total before + j
-    → tallied t (drop j (rowOf n first kept)) ≡ tallied before (rowOf n first kept)
-    → (total t′ ≤ total before + (j + 1)) × (tallied t′ (drop (j + 1) (rowOf n first kept)) ≡ tallied before (rowOf n first kept))
-row-step n first kept j before t t′ a h v e l i = (
-  omega (arith, ap total e, total-added t a),
-  ap (λ u. tallied u (drop (j + 1) (rowOf n first kept))) e ∙ pair-more n first kept j t a h v ∙ i,
-)
-
-pub row-end : (n first : ℕ) (kept : List ℕ) (j : ℕ) (t : Tally) → length kept ≤ j → tallied t (drop j (rowOf n first kept)) ≡ t
+pub row-step : (n row : ℕ) (kept : List ℕ) (j : ℕ) (before t t′ : Tally) (a : Answer Verdict) → j < length kept
+    → a ≡ verdictOn (wordOf n (getD kept row 0)) (wordOf n (getD kept j 0)) → t′ ≡ added t a → total t ≤ total before + j
+    → tallied t (drop j (rowOf n row kept)) ≡ tallied before (rowOf n row kept)
+    → (total t′ ≤ total before + (j + 1)) × (tallied t′ (drop (j + 1) (rowOf n row kept)) ≡ tallied before (rowOf n row kept))
 unfolding tallied rowOf
-row-end n first [] zero t h = refl
-row-end n first [] (suc j) t h = refl
-row-end n first (k ∷ kept) zero t h = absurd (omega arith)
-row-end n first (k ∷ kept) (suc j) t h = row-end n first kept j t (omega arith)
+row-step n row kept j before t t′ a h v e l i =
+    let rest = drop (j + 1) (rowOf n row kept) in (
+      omega (arith, ap total e, total-added t a),
+      ap (λ u. tallied u rest) (e ∙ ap (added t) v) ∙ ap (tallied t) (sym (next-in-row n (getD kept row 0) kept j h)) ∙ i,
+    )
+
+pub row-end : (n row : ℕ) (kept : List ℕ) (j : ℕ) (t : Tally) → length kept ≤ j → tallied t (drop j (rowOf n row kept)) ≡ t
+unfolding tallied rowOf
+row-end n row kept j t h = gone (getD kept row 0) kept j h
+  where
+    gone : (first : ℕ) (ks : List ℕ) (j : ℕ) → length ks ≤ j → tallied t (drop j (withEach n first ks)) ≡ t
+    gone first [] zero h = refl
+    gone first [] (suc j) h = refl
+    gone first (k ∷ ks) zero h = absurd (omega arith)
+    gone first (k ∷ ks) (suc j) h = gone first ks j (omega arith)
 
 -- One row more.
+length-row : (n row : ℕ) (kept : List ℕ) → length (rowOf n row kept) ≡ length kept
+unfolding rowOf
+length-row n row kept = length-map kept (λ k. (wordOf n (getD kept row 0), wordOf n k))
+
 tallied-both : (t : Tally) (ps qs : List (List ℕ × List ℕ)) → tallied t (ps ++ qs) ≡ tallied (tallied t ps) qs
 unfolding tallied
 tallied-both t [] qs = refl
@@ -116,8 +114,7 @@ tallied-both t (p ∷ ps) qs = tallied-both (added t (verdictOn (p .0) (p .1))) 
 abbrev pub pairsFrom : ℕ → List ℕ → ℕ → List (List ℕ × List ℕ)
 pairsFrom n kept i = pairs (map (wordOf n) (drop i kept)) (map (wordOf n) kept)
 
-row-mapped : (n first : ℕ) (kept : List ℕ) → map (λ w. (wordOf n first, w)) (map (wordOf n) kept) ≡ rowOf n first kept
-unfolding rowOf
+row-mapped : (n first : ℕ) (kept : List ℕ) → map (λ w. (wordOf n first, w)) (map (wordOf n) kept) ≡ withEach n first kept
 row-mapped n first [] = refl
 row-mapped n first (k ∷ kept) = ap (λ l. (wordOf n first, wordOf n k) ∷ l) (row-mapped n first kept)
 
@@ -126,11 +123,11 @@ next-kept [] i h = absurd (omega arith)
 next-kept (k ∷ kept) zero h = refl
 next-kept (k ∷ kept) (suc i) h = let e : suc i + 1 ≡ suc (i + 1) = omega arith in rw e (next-kept kept i (omega arith))
 
-row-more : (n : ℕ) (kept : List ℕ) (i : ℕ) (t t′ : Tally) → i < length kept → t′ ≡ tallied t (rowOf n (getD kept i 0) kept)
+row-more : (n : ℕ) (kept : List ℕ) (i : ℕ) (t t′ : Tally) → i < length kept → t′ ≡ tallied t (rowOf n i kept)
     → tallied t′ (pairsFrom n kept (i + 1)) ≡ tallied t (pairsFrom n kept i)
-unfolding crossed
+unfolding crossed rowOf
 row-more n kept i t t′ h e =
-    let row = rowOf n (getD kept i 0) kept in
+    let row = rowOf n i kept in
     let rest = pairsFrom n kept (i + 1) in
     ap (λ u. tallied u rest) e ∙ sym (tallied-both t row rest) ∙ ap (λ r. tallied t (r ++ rest)) (sym (row-mapped n (getD kept i 0) kept))
     ∙ ap (λ l. tallied t (pairs (map (wordOf n) l) (map (wordOf n) kept))) (sym (next-kept kept i h))
@@ -140,10 +137,10 @@ unfolding none wordPairs
 pairs-start n kept = refl
 
 pub pairs-step : (n : ℕ) (kept : List ℕ) (i : ℕ) (t t′ : Tally) → i < length kept → length kept ≤ mostParts
-    → t′ ≡ tallied t (rowOf n (getD kept i 0) kept) → total t ≤ mostParts * i → tallied t (pairsFrom n kept i) ≡ tallied none (wordPairs n kept)
+    → t′ ≡ tallied t (rowOf n i kept) → total t ≤ mostParts * i → tallied t (pairsFrom n kept i) ≡ tallied none (wordPairs n kept)
     → (total t′ ≤ mostParts * (i + 1)) × (tallied t′ (pairsFrom n kept (i + 1)) ≡ tallied none (wordPairs n kept))
 pairs-step n kept i t t′ h few e l g = (
-  omega (arith, ap total e, total-tallied t (rowOf n (getD kept i 0) kept), length-row n (getD kept i 0) kept),
+  omega (arith, ap total e, total-tallied t (rowOf n i kept), length-row n i kept),
   row-more n kept i t t′ h e ∙ g,
 )
 
@@ -172,13 +169,13 @@ tallies-kind k t (p ∷ ps) = tallies-kind k (added t (verdictOn (p .0) (p .1)))
         → numberIn k (added t a) + length (ofKindIn k ps) ≡ numberIn k t + length (cond (ofKind k a) (p ∷ ofKindIn k ps) (ofKindIn k ps))
     one k (refused i) = refl
     one isSame (result (same n)) = omega arith
-    one isSame (result (different n)) = refl
-    one isSame (result unsettled) = refl
-    one isDifferent (result (same n)) = refl
+    one isSame (result (different n)) = omega arith
+    one isSame (result unsettled) = omega arith
+    one isDifferent (result (same n)) = omega arith
     one isDifferent (result (different n)) = omega arith
-    one isDifferent (result unsettled) = refl
-    one isUnsettled (result (same n)) = refl
-    one isUnsettled (result (different n)) = refl
+    one isDifferent (result unsettled) = omega arith
+    one isUnsettled (result (same n)) = omega arith
+    one isUnsettled (result (different n)) = omega arith
     one isUnsettled (result unsettled) = omega arith
 
 -- The numbers of the census.

@@ -1,8 +1,8 @@
 -- Pairs of words counted one by one by their verdict.
 use mathlib.Core.List.{List, [], _∷_, map}
 use mathlib.Core.Path.{_≡_}
-use Prim.Native.Nat.{ℕ, _+_, _*_, _≤_}
-use lib.ListN.{length}
+use Prim.Native.Nat.{ℕ, _+_, _*_, _≤_, _<_}
+use lib.ListN.{length, getD}
 use Rattle.terms.specs.Answer.{Answer, refused, result}
 use Rattle.verdict.specs.Judge.{slotBytes}
 use Rattle.verdict.specs.Verdict.{Verdict, unsettled, same, different}
@@ -14,20 +14,23 @@ use Rattle.small_parts_count.specs.declared.tally.Tally.{Tally}
 unfoldable pub none : Tally
 none = record { same = 0; different = 0; unsettled = 0 }
 
+abbrev pub plusOf : Tally → ℕ → ℕ → ℕ → Tally
+plusOf t a b c = record { same = t .same + a; different = t .different + b; unsettled = t .unsettled + c }
+
 -- one more pair, whose question is answered so
 unfoldable pub added : Tally → Answer Verdict → Tally
 added t (refused k) = t
-added t (result (same n)) = record { same = t .same + 1; different = t .different; unsettled = t .unsettled }
-added t (result (different n)) = record { same = t .same; different = t .different + 1; unsettled = t .unsettled }
-added t (result unsettled) = record { same = t .same; different = t .different; unsettled = t .unsettled + 1 }
+added t (result (same n)) = plusOf t 1 0 0
+added t (result (different n)) = plusOf t 0 1 0
+added t (result unsettled) = plusOf t 0 0 1
 
 unfoldable pub tallied : Tally → List (List ℕ × List ℕ) → Tally
 tallied t [] = t
 tallied t (p ∷ ps) = tallied (added t (verdictOn (p .0) (p .1))) ps
 
--- the pairs of one word with all that are kept
+-- the pairs of the word kept at `row` with all that are kept
 unfoldable pub rowOf : ℕ → ℕ → List ℕ → List (List ℕ × List ℕ)
-rowOf n first kept = map (λ k. (wordOf n first, wordOf n k)) kept
+rowOf n row kept = map (λ k. (wordOf n (getD kept row 0), wordOf n k)) kept
 
 unfoldable pub wordPairs : ℕ → List ℕ → List (List ℕ × List ℕ)
 wordPairs n kept = pairs (map (wordOf n) kept) (map (wordOf n) kept)
@@ -43,12 +46,18 @@ pub record Room (n : ℕ) (work : List ℕ) : Type 0 where
   pub short : n ≤ greatestLength
   pub room : slotBytes * censusCapacity ≤ length work
 
-pub record MayAdd (t : Tally) : Type 0 where
+-- No number leaves its type.
+pub record Few (t : Tally) : Type 0 where
   pub small : total t ≤ manyPairs
 
-pub record MayTallyRow (n : ℕ) (kept work : List ℕ) (before : Tally) : Type 0 where
+pub record MayAdd (t : Tally) (a b c : ℕ) : Type 0 where
+  pub small : total t ≤ manyPairs
+  pub one : a + b + c ≤ 1
+
+pub record MayTallyRow (n row : ℕ) (kept work : List ℕ) (before : Tally) : Type 0 where
   pub room : Room n work
   pub few : length kept ≤ mostParts
+  pub there : row < length kept
   pub small : total before + length kept ≤ manyPairs
 
 pub record MayTallyPairs (n : ℕ) (kept work : List ℕ) : Type 0 where

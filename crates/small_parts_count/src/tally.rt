@@ -5,7 +5,7 @@ ghost use Prim.Native.Nat.{_*_, _≤_};
 ghost use lib.ListN.{length};
 ghost use Rattle.small_parts.specs.Census.{greatestLength, verdictOn};
 ghost use Rattle.small_parts_words.specs.Words.{wordOf};
-ghost use Rattle.small_parts_count.specs.Tallies.{added, tallied, none, rowOf, wordPairs, Room, MayAdd, MayTallyRow, MayTallyPairs};
+ghost use Rattle.small_parts_count.specs.Tallies.{plusOf, added, tallied, none, rowOf, wordPairs, Room, Few, MayAdd, MayTallyRow, MayTallyPairs};
 ghost use Rattle.verdict_judge.specs.Judging.{judgedAnswer};
 use small_parts_words::question::FRAME;
 use small_parts_words::question::question_about;
@@ -30,47 +30,40 @@ fn judge_words(size: usize, first: usize, second: usize, work: &mut [u8]) -> Jud
     judge(&question[..2 * size + FRAME], CAPACITY, work)
 }
 
-// One more pair with this verdict.
-fn add(tally: Tally, judged: Judged) -> Tally
-    requires { ⌜ MayAdd tally ⌝ }
-    ensures { λ r. ⌜ r ≡ added tally (judgedAnswer judged) ⌝ }
+// More pairs of each kind.
+fn plus(tally: Tally, same: usize, different: usize, unsettled: usize) -> Tally
+    requires { ⌜ MayAdd tally same different unsettled ⌝ }
+    ensures { λ r. ⌜ r ≡ plusOf tally same different unsettled ⌝ }
 {
-    let same = tally.same;
-    let different = tally.different;
-    let unsettled = tally.unsettled;
-    match judged {
-        Judged::Refused(_) => Tally {
-            same: same,
-            different: different,
-            unsettled: unsettled,
-        },
-        Judged::Unsettled => Tally {
-            same: same,
-            different: different,
-            unsettled: unsettled + 1,
-        },
-        Judged::Same(_) => Tally {
-            same: same + 1,
-            different: different,
-            unsettled: unsettled,
-        },
-        Judged::Different(_) => Tally {
-            same: same,
-            different: different + 1,
-            unsettled: unsettled,
-        },
+    Tally {
+        same: tally.same + same,
+        different: tally.different + different,
+        unsettled: tally.unsettled + unsettled,
     }
 }
 
-// The pairs of one word with every word that is kept.
-fn tally_row(size: usize, first: usize, kept: &[usize], work: &mut [u8], before: Tally) -> Tally
-    requires { ⌜ MayTallyRow size (now kept) (now work) before ⌝ }
-    ensures { λ r. ⌜ r ≡ tallied before (rowOf size first (now (kept .entry))) ⌝ }
+// One more pair with this verdict.
+fn add(tally: Tally, judged: Judged) -> Tally
+    requires { ⌜ Few tally ⌝ }
+    ensures { λ r. ⌜ r ≡ added tally (judgedAnswer judged) ⌝ }
+{
+    match judged {
+        Judged::Refused(_) => tally,
+        Judged::Unsettled => plus(tally, 0, 0, 1),
+        Judged::Same(_) => plus(tally, 1, 0, 0),
+        Judged::Different(_) => plus(tally, 0, 1, 0),
+    }
+}
+
+// The pairs of the word kept at `row` with every word that is kept.
+fn tally_row(size: usize, row: usize, kept: &[usize], work: &mut [u8], before: Tally) -> Tally
+    requires { ⌜ MayTallyRow size row (now kept) (now work) before ⌝ }
+    ensures { λ r. ⌜ r ≡ tallied before (rowOf size row (now (kept .entry))) ⌝ }
 {
     let mut tally = before;
     let mut j = 0;
     while j < kept.len() {
-        tally = add(tally, judge_words(size, first, kept[j], work));
+        tally = add(tally, judge_words(size, kept[row], kept[j], work));
         j += 1;
     }
     tally
@@ -88,7 +81,7 @@ pub fn tally_pairs(size: usize, kept: &[usize], work: &mut [u8]) -> Tally
     };
     let mut i = 0;
     while i < kept.len() {
-        tally = tally_row(size, kept[i], kept, work, tally);
+        tally = tally_row(size, i, kept, work, tally);
         i += 1;
     }
     tally

@@ -21,60 +21,46 @@ abbrev μ-loop : tie.MeasureT-loop
 loop-holds : tie.Need-loop-holds Inv-loop μ-loop
 loop-holds c = (search needs, refl, omega arith, pairs-start _ _)
 
-mul-tally-row : tie.Need-mul-tally-row Inv-loop μ-loop
-mul-tally-row c = omega (arith, c .before .before .before .before .pre .few, c .loop-test .taken)
-
-shared-slice-read-tally-row : tie.Need-shared-slice-read-tally-row Inv-loop μ-loop
-shared-slice-read-tally-row c = search needs
-
 tally-row-requires : tie.Need-tally-row-requires Inv-loop μ-loop
 tally-row-requires c κs =
-    let c3 = c .before .before .before in
-    let c6 = c3 .before .before .before in
-    let g = c6 .pre in
-    let l = c3 .loop in
-    record {
-      room = record { short = g .room .short; room = omega (arith, g .room .room, l .inv .1) };
+    let g = c .before .before .before .before .before .pre in let l = c .before .before .loop in record {
+      room = record {
+        short = g .room .short;
+        room
+            = omega (arith, g .room .room, l .inv .1);
+      };
       few = g .few;
+      there = search needs;
       small = omega (
         arith,
         g .few,
         l .inv .2,
-        c .before .before .loop-test .taken,
+        c .before .loop-test .taken,
       );
     }
 
 add-i : tie.Need-add-i Inv-loop μ-loop
 add-i c =
-    let c5 = c .before .before .before .before .before in
-    let c9 = c5 .before .before .before .before in
-    omega (arith, c9 .pre .few, c5 .loop-test .taken)
+    let c4 = c .before .before .before .before in
+    let c8 = c4 .before .before .before .before in
+    omega (arith, c8 .pre .few, c4 .loop-test .taken)
 
 loop-less : tie.Need-loop-less Inv-loop μ-loop
 loop-less c = search needs
 
 loop-again : tie.Need-loop-again Inv-loop μ-loop
 loop-again c =
-    let s = pairs-step (c .before .before .before .before .before .before .before .before .before .args .size)
-    (c .before .before .before .before .before .before .before .before .before .args .kept .now)
-    (c .before .before .before .before .before .before .loop .i) (c .before .before .before .before .before .before .loop .tally)
-    (c .before .before .tally-row .result) (search needs) (c .before .before .before .before .before .before .before .before .before .pre .few)
-    (c .before .before .tally-row .ensures) (c .before .before .before .before .before .before .loop .inv .2)
-    (c .before .before .before .before .before .before .loop .inv .3) in (
-      search needs,
-      c .before .before .tally-row .kept .1 .1 .1 .0 ∙
-          c .before .before .before .before .before .before .loop .inv .1,
-      s .0,
-      s .1,
-    )
+    let c8 = c .before .before .before .before .before .before .before .before in let l = c .before .before .before .before .before .loop in let r =
+    c .before .before .tally-row in let s = pairs-step (c8 .args .size) (c8 .args .kept .now) (l .i) (l .tally) (r .result) (search needs)
+    (c8 .pre .few) (r .ensures) (l .inv .2) (l .inv .3) in (search needs, r .kept .1 .1 .1 .0 ∙ l .inv .1, s .0, s .1)
 
 same-length : tie.Need-same-length Inv-loop μ-loop
 same-length c = c .before .loop .inv .1
 
 returns : tie.Need-returns Inv-loop μ-loop
 returns c =
-    sym (pairs-end (c .before .before .before .before .args .size) (c .before .before .before .before .args .kept .now) (c .before .loop .i)
-    (c .before .loop .tally) (search needs)) ∙ c .before .loop .inv .3
+    let a = c .before .before .before .before .args in let l = c .before .loop in sym (pairs-end (a .size) (a .kept .now) (l .i) (l .tally) (search
+    needs)) ∙ l .inv .3
 
 pub tally-pairs-spec : {M : Type 1} → statement M
 tally-pairs-spec =
@@ -83,8 +69,6 @@ tally-pairs-spec =
     Inv-loop
     μ-loop
     loop-holds
-    mul-tally-row
-    shared-slice-read-tally-row
     tally-row-requires
     add-i
     loop-less
