@@ -1,4 +1,5 @@
 pub mod CensusOfWords
+pub mod CensusTheorems
 pub mod Counting
 pub mod FewSteps
 pub mod ListOfParts

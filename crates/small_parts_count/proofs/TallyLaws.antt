@@ -112,11 +112,7 @@ tallied-both t (p ∷ ps) qs = tallied-both (added t (verdictOn (p .0) (p .1))) 
 
 -- the pairs whose first word is kept from place i on
 abbrev pub pairsFrom : ℕ → List ℕ → ℕ → List (List ℕ × List ℕ)
-pairsFrom n kept i = pairs (map (wordOf n) (drop i kept)) (map (wordOf n) kept)
-
-row-mapped : (n first : ℕ) (kept : List ℕ) → map (λ w. (wordOf n first, w)) (map (wordOf n) kept) ≡ withEach n first kept
-row-mapped n first [] = refl
-row-mapped n first (k ∷ kept) = ap (λ l. (wordOf n first, wordOf n k) ∷ l) (row-mapped n first kept)
+pairsFrom n kept i = wordPairs n (drop i kept) kept
 
 next-kept : (kept : List ℕ) (i : ℕ) → i < length kept → drop i kept ≡ getD kept i 0 ∷ drop (i + 1) kept
 next-kept [] i h = absurd (omega arith)
@@ -125,28 +121,26 @@ next-kept (k ∷ kept) (suc i) h = let e : suc i + 1 ≡ suc (i + 1) = omega ari
 
 row-more : (n : ℕ) (kept : List ℕ) (i : ℕ) (t t′ : Tally) → i < length kept → t′ ≡ tallied t (rowOf n i kept)
     → tallied t′ (pairsFrom n kept (i + 1)) ≡ tallied t (pairsFrom n kept i)
-unfolding crossed rowOf
+unfolding wordPairs rowOf
 row-more n kept i t t′ h e =
-    let row = rowOf n i kept in
     let rest = pairsFrom n kept (i + 1) in
-    ap (λ u. tallied u rest) e ∙ sym (tallied-both t row rest) ∙ ap (λ r. tallied t (r ++ rest)) (sym (row-mapped n (getD kept i 0) kept))
-    ∙ ap (λ l. tallied t (pairs (map (wordOf n) l) (map (wordOf n) kept))) (sym (next-kept kept i h))
+    ap (λ u. tallied u rest) e ∙ sym (tallied-both t (rowOf n i kept) rest) ∙ ap (λ l. tallied t (wordPairs n l kept)) (sym (next-kept kept i h))
 
-pub pairs-start : (n : ℕ) (kept : List ℕ) → tallied (record { same = 0; different = 0; unsettled = 0 }) (pairsFrom n kept 0) ≡ tallied none (wordPairs n kept)
-unfolding none wordPairs
+pub pairs-start : (n : ℕ) (kept : List ℕ) → tallied (record { same = 0; different = 0; unsettled = 0 }) (pairsFrom n kept 0) ≡ tallied none (wordPairs n kept kept)
+unfolding none
 pairs-start n kept = refl
 
 pub pairs-step : (n : ℕ) (kept : List ℕ) (i : ℕ) (t t′ : Tally) → i < length kept → length kept ≤ mostParts
-    → t′ ≡ tallied t (rowOf n i kept) → total t ≤ mostParts * i → tallied t (pairsFrom n kept i) ≡ tallied none (wordPairs n kept)
-    → (total t′ ≤ mostParts * (i + 1)) × (tallied t′ (pairsFrom n kept (i + 1)) ≡ tallied none (wordPairs n kept))
+    → t′ ≡ tallied t (rowOf n i kept) → total t ≤ mostParts * i → tallied t (pairsFrom n kept i) ≡ tallied none (wordPairs n kept kept)
+    → (total t′ ≤ mostParts * (i + 1)) × (tallied t′ (pairsFrom n kept (i + 1)) ≡ tallied none (wordPairs n kept kept))
 pairs-step n kept i t t′ h few e l g = (
   omega (arith, ap total e, total-tallied t (rowOf n i kept), length-row n i kept),
   row-more n kept i t t′ h e ∙ g,
 )
 
 pub pairs-end : (n : ℕ) (kept : List ℕ) (i : ℕ) (t : Tally) → length kept ≤ i → tallied t (pairsFrom n kept i) ≡ t
-unfolding crossed tallied
-pairs-end n kept i t h = ap (λ l. tallied t (pairs (map (wordOf n) l) (map (wordOf n) kept))) (gone kept i h)
+unfolding wordPairs tallied
+pairs-end n kept i t h = ap (λ l. tallied t (wordPairs n l kept)) (gone kept i h)
   where
     gone : (kept : List ℕ) (i : ℕ) → length kept ≤ i → drop i kept ≡ []
     gone [] zero h = refl
@@ -178,18 +172,36 @@ tallies-kind k t (p ∷ ps) = tallies-kind k (added t (verdictOn (p .0) (p .1)))
     one isUnsettled (result (different n)) = omega arith
     one isUnsettled (result unsettled) = omega arith
 
+-- The pairs of the words are the pairs of the parts.
+row-mapped : (n first : ℕ) (kept : List ℕ) → map (λ w. (wordOf n first, w)) (map (wordOf n) kept) ≡ withEach n first kept
+row-mapped n first [] = refl
+row-mapped n first (k ∷ kept) = ap (λ l. (wordOf n first, wordOf n k) ∷ l) (row-mapped n first kept)
+
+pairs-of-words : (n : ℕ) (ks kept : List ℕ) → wordPairs n ks kept ≡ pairs (map (wordOf n) ks) (map (wordOf n) kept)
+unfolding wordPairs crossed
+pairs-of-words n [] kept = refl
+pairs-of-words n (k ∷ ks) kept =
+    ap (λ l. l ++ wordPairs n ks kept) (sym (row-mapped n k kept))
+    ∙ ap (λ l. map (λ w. (wordOf n k, w)) (map (wordOf n) kept) ++ l) (pairs-of-words n ks kept)
+
 -- The numbers of the census.
 module _ (n : ℕ) (h : n ≤ 5) where
-  counts : (k : Kind) (t : Tally) → t ≡ tallied none (wordPairs n (partNumbers n)) → length (ofKindIn k (pairs (partWords n) (partWords n))) ≡ numberIn k t
-  unfolding wordPairs partWords none
-  counts k t e = sym (ap (numberIn k) e ∙ tallies-kind k none (wordPairs n (partNumbers n)) ∙ nothing k)
+  counts : (k : Kind) (t : Tally) → t ≡ tallied none (wordPairs n (partNumbers n) (partNumbers n))
+      → length (ofKindIn k (pairs (partWords n) (partWords n))) ≡ numberIn k t
+  unfolding partWords none
+  counts k t e =
+      ap (λ ps. length (ofKindIn k ps)) (sym (pairs-of-words n (partNumbers n) (partNumbers n)))
+      ∙ sym (ap (numberIn k) e ∙ tallies-kind k none (wordPairs n (partNumbers n) (partNumbers n)) ∙ nothing k)
     where
-      nothing : (k : Kind) → numberIn k none + length (ofKindIn k (wordPairs n (partNumbers n))) ≡ length (ofKindIn k (wordPairs n (partNumbers n)))
+      found : Kind → ℕ
+      found k = length (ofKindIn k (wordPairs n (partNumbers n) (partNumbers n)))
+
+      nothing : (k : Kind) → numberIn k none + found k ≡ found k
       nothing isSame = omega arith
       nothing isDifferent = omega arith
       nothing isUnsettled = omega arith
 
-  census : (t : Tally) → t ≡ tallied none (wordPairs n (partNumbers n)) → CensusIs n (t .same) (t .different) (t .unsettled)
+  census : (t : Tally) → t ≡ tallied none (wordPairs n (partNumbers n) (partNumbers n)) → CensusIs n (t .same) (t .different) (t .unsettled)
   census t e =
       coe 0 1 (i. CensusIs n (counts isSame t e i) (counts isDifferent t e i) (counts isUnsettled t e i))
       (census-of-words n h (partWords n) (words-distinct n) (words-are-parts n h))
@@ -201,9 +213,9 @@ module _ (n : ℕ) (h : n ≤ 5) where
       ∙ take-append-seam xs (drop (length xs) area)
 
   pub counted-numbers : (area kept : List ℕ) (r : ℕ) (t : Tally) → 209 ≤ length area → CollectsIs n area r kept
-      → t ≡ tallied none (wordPairs n (take r kept)) → CountIs n (Numbers t)
+      → t ≡ tallied none (wordPairs n (take r kept) (take r kept)) → CountIs n (Numbers t)
   unfolding CountIs
-  counted-numbers area kept r t l c e = (h, census t (e ∙ ap (λ ks. tallied none (wordPairs n ks)) (kept-numbers area kept r l c)))
+  counted-numbers area kept r t l c e = (h, census t (e ∙ ap (λ ks. tallied none (wordPairs n ks ks)) (kept-numbers area kept r l c)))
 
   -- as many are kept as fit
   pub few-kept : (area kept : List ℕ) (r : ℕ) → CollectsIs n area r kept → r ≤ mostParts

@@ -1,5 +1,5 @@
 -- Pairs of words counted one by one by their verdict.
-use mathlib.Core.List.{List, [], _∷_, map}
+use mathlib.Core.List.{List, [], _∷_, _++_, map}
 use mathlib.Core.Path.{_≡_}
 use Prim.Native.Nat.{ℕ, _+_, _*_, _≤_, _<_}
 use lib.ListN.{length, getD}
@@ -7,7 +7,6 @@ use Rattle.terms.specs.Answer.{Answer, refused, result}
 use Rattle.verdict.specs.Judge.{slotBytes}
 use Rattle.verdict.specs.Verdict.{Verdict, unsettled, same, different}
 use Rattle.small_parts.specs.Census.{censusCapacity, greatestLength, verdictOn}
-use Rattle.small_parts.proofs.Counting.{pairs}
 use Rattle.small_parts_words.specs.Words.{mostParts, wordOf}
 use Rattle.small_parts_count.specs.declared.tally.Tally.{Tally}
 
@@ -32,8 +31,10 @@ tallied t (p ∷ ps) = tallied (added t (verdictOn (p .0) (p .1))) ps
 unfoldable pub rowOf : ℕ → ℕ → List ℕ → List (List ℕ × List ℕ)
 rowOf n row kept = map (λ k. (wordOf n (getD kept row 0), wordOf n k)) kept
 
-unfoldable pub wordPairs : ℕ → List ℕ → List (List ℕ × List ℕ)
-wordPairs n kept = pairs (map (wordOf n) kept) (map (wordOf n) kept)
+-- the pairs of each word of the first list with each of the second
+unfoldable pub wordPairs : ℕ → List ℕ → List ℕ → List (List ℕ × List ℕ)
+wordPairs n [] kept = []
+wordPairs n (first ∷ rest) kept = map (λ k. (wordOf n first, wordOf n k)) kept ++ wordPairs n rest kept
 
 abbrev pub total : Tally → ℕ
 total t = t .same + t .different + t .unsettled

@@ -72,7 +72,7 @@ fn tally_row(size: usize, row: usize, kept: &[usize], work: &mut [u8], before: T
 // All ordered pairs of the words that are kept.
 pub fn tally_pairs(size: usize, kept: &[usize], work: &mut [u8]) -> Tally
     requires { ⌜ MayTallyPairs size (now kept) (now work) ⌝ }
-    ensures { λ r. ⌜ r ≡ tallied none (wordPairs size (now (kept .entry))) ⌝ }
+    ensures { λ r. ⌜ r ≡ tallied none (wordPairs size (now (kept .entry)) (now (kept .entry))) ⌝ }
 {
     let mut tally = Tally {
         same: 0,

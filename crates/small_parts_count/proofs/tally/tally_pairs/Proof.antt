@@ -13,7 +13,7 @@ use Rattle.small_parts_count.proofs.tally.tally_pairs.Tie as tie
 abbrev Inv-loop : tie.InvT-loop
 Inv-loop size kept work₀ tally₀ i₀ work tally i =
     (i ≤ length kept) × (length work ≡ length work₀) × (total tally ≤ mostParts * i)
-    × (tallied tally (pairsFrom size kept i) ≡ tallied none (wordPairs size kept))
+    × (tallied tally (pairsFrom size kept i) ≡ tallied none (wordPairs size kept kept))
 
 abbrev μ-loop : tie.MeasureT-loop
 μ-loop size kept work₀ tally₀ i₀ work tally i = length kept - i
