@@ -269,7 +269,7 @@ no-silent k xs = refl
 -- A short part's list.
 pub record FewSteps (x : ℕ) (P : Term) : Type 0 where
   pub steps : List ListedStep
-  pub is : stepsIn (settingOf []) x P ≡ listed steps
+  pub is : stepsIn (settingOf false []) x P ≡ listed steps
   pub few : 3 * length steps ≤ size P + 1
   pub short : All (Short (size P)) steps
 

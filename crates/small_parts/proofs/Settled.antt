@@ -20,10 +20,12 @@ use Rattle.steps.specs.Lists.{_∈_, All, Distinct}
 use Rattle.steps.specs.Listed.{ListedStep, namesFrom, classIn}
 use Rattle.steps.proofs.Membership.{all-++, all-imp, all-map, distinct-length}
 use Rattle.field.specs.Setting.{settingOf}
+use Rattle.field.proofs.Moves.{moves-open}
 use Rattle.field.specs.Situation.{Situation, freeIn, situation, startOf, missing, newName}
 use Rattle.field.specs.Successors.{select, permitted, answers, updatedBy, moves, pastLimit, leads, ledTo, withSteps, successors}
 use Rattle.field.specs.Exploration.{found, unseen, together, Row, Exploration, incomplete, explored, withRow, explore, fieldOf}
-use Rattle.verdict.specs.Verdict.{verdictOf, decided}
+use Rattle.verdict.specs.Verdict.{openly, differs, demandsOf, verdictBy, verdictOf, decided}
+use Rattle.verdict.proofs.DecidedField.{of-unsettled}
 use Rattle.small_parts.proofs.Size.{size, size-encode, size-ren, few-names}
 use Rattle.small_parts.proofs.FewSteps.{Short, FewSteps, few-listed}
 use Rattle.verdict.specs.Verdict as verdicts
@@ -120,23 +122,23 @@ together-++ [] ns = refl
 together-++ (m ∷ ms) ns = ap (λ r. m ++ r) (together-++ ms ns) ∙ sym (append-assoc m (together ms) (together ns))
 
 module _ (make : Term → Term → Pairs → Situation) (F : List ℕ) (D : Pairs) (ss ts : List ListedStep) where
-  moves-length : length (together (moves 16 make F D ss ts)) ≤ reps (length ss) (length ts)
-  unfolding moves
+  moves-length : length (together (moves false 16 make F D ss ts)) ≤ reps (length ss) (length ts)
   moves-length =
+      let e = moves-open 16 make F D ss ts in
       let l = together-length (λ s. map (λ t. make (s .result) (ren (classIn (s .classes)) (t .result)) (updatedBy F D s)) (select (answers 16 s) ts)) (length ts)
       (λ s. omega (arith, length-map (select (answers 16 s) ts) (λ t. make (s .result) (ren (classIn (s .classes)) (t .result)) (updatedBy F D s)), select-length (answers 16 s) ts))
       (select (permitted D) ss) in
-      omega (arith, l, reps-more (length (select (permitted D) ss)) (length ss) (length ts) (select-length (permitted D) ss))
+      rw e (omega (arith, l, reps-more (length (select (permitted D) ss)) (length ss) (length ts) (select-length (permitted D) ss)))
 
   moves-all : (n m : ℕ) (S : Situation → Type 0) → ((P Q : Term) (E : Pairs) → size P < n → size Q < m → S (make P Q E))
-      → All (Short n) ss → All (Short m) ts → All S (together (moves 16 make F D ss ts))
-  unfolding moves
+      → All (Short n) ss → All (Short m) ts → All S (together (moves false 16 make F D ss ts))
   moves-all n m S h hs ht =
-      together-all S (Short n) _
+      rw (moves-open 16 make F D ss ts)
+      (together-all S (Short n) _
       (λ s k. all-map (λ t. make (s .result) (ren (classIn (s .classes)) (t .result)) (updatedBy F D s)) (Short m) S (select (answers 16 s) ts)
       (λ t j. h (s .result) (ren (classIn (s .classes)) (t .result)) (updatedBy F D s) k (omega (arith, size-ren (classIn (s .classes)) (t .result), j)))
       (select-all (Short m) (answers 16 s) ts ht))
-      (select (permitted D) ss) (select-all (Short n) (permitted D) ss hs)
+      (select (permitted D) ss) (select-all (Short n) (permitted D) ss hs))
 
 -- What taking up a situation whose longer part has m bytes may cost in all.
 abbrev cost : ℕ → ℕ
@@ -212,7 +214,7 @@ Small s = larger s ≤ 5
 
 pub record Taken (s : Situation) : Type 0 where
   pub wants : List (List Situation)
-  pub leading : successors (settingOf []) s ≡ leads wants
+  pub leading : successors (settingOf false []) s ≡ leads wants
   pub cheap : suc (total (together wants)) ≤ cost (larger s)
   pub small : All Small (together wants)
 
@@ -261,10 +263,10 @@ taken s h = record {
     F = freeIn 16 P Q
 
     ms₁ : List (List Situation)
-    ms₁ = moves 16 (situation 16) F (s .apart) (ps .steps) (qs .steps)
+    ms₁ = moves false 16 (situation 16) F (s .apart) (ps .steps) (qs .steps)
 
     ms₂ : List (List Situation)
-    ms₂ = moves 16 (λ Q P E. situation 16 P Q E) F (s .apart) (qs .steps) (ps .steps)
+    ms₂ = moves false 16 (λ Q P E. situation 16 P Q E) F (s .apart) (qs .steps) (ps .steps)
 
     ms : List (List Situation)
     ms = ms₁ ++ ms₂
@@ -320,7 +322,7 @@ with-row r incomplete e = refl
 with-row r (explored rs) e = let z : _≡_ {A = ℕ} 0 1 = cc in absurd (omega arith)
 
 -- Exploration with enough capacity is complete.
-complete : (n : ℕ) (known waiting : List Situation) → All Small waiting → total waiting ≤ n → explore (settingOf []) n known waiting ≡ incomplete → ⊥
+complete : (n : ℕ) (known waiting : List Situation) → All Small waiting → total waiting ≤ n → explore (settingOf false []) n known waiting ≡ incomplete → ⊥
 unfolding explore
 complete zero known [] h l e = let z : _≡_ {A = ℕ} 0 1 = cc in omega arith
 complete zero known (s ∷ waiting) h l e = omega (arith, cost-some (larger s))
@@ -334,20 +336,10 @@ complete (suc n) known (s ∷ waiting) h l e =
     (with-row (record { self = s; wants = t .wants }) _ (subst (λ o. elim o [
       | pastLimit ↦ incomplete
       | leads ms ↦ (let fresh = unseen known (together ms) in
-          withRow (record { self = s; wants = ms }) (explore (settingOf []) n (known ++ fresh) (waiting ++ fresh)))
+          withRow (record { self = s; wants = ms }) (explore (settingOf false []) n (known ++ fresh) (waiting ++ fresh)))
     ] ≡ incomplete) (t .leading) e))
 
--- (in the project: of-unsettled of verdict/proofs/DecidedField, made public)
-undecided : (start : Situation) (x : Exploration) → decided start x ≡ verdicts.unsettled → x ≡ incomplete
-unfolding decided
-undecided start incomplete e = refl
-undecided start (explored rs) e = go (found (map (λ r. r .self) (verdicts.rounds (length rs) rs)) start) e
-  where
-    go : (b : Bool) → cond b (verdicts.same (length rs)) (verdicts.different (length rs)) ≡ verdicts.unsettled → explored rs ≡ incomplete
-    go true k = let z : _≡_ {A = ℕ} 0 1 = cc in absurd (omega arith)
-    go false k = let z : _≡_ {A = ℕ} 0 1 = cc in absurd (omega arith)
-
-start-small : (q : Question) → size (q .first) ≤ 5 → size (q .second) ≤ 5 → larger (startOf q) ≤ 5
+start-small : (q : Question) → size (q .first) ≤ 5 → size (q .second) ≤ 5 → larger (startOf false q) ≤ 5
 unfolding startOf situation
 start-small q h k = omega arith
 
@@ -362,11 +354,11 @@ cost-all (suc (suc (suc (suc (suc n))))) h = omega arith
 -- Neither the names nor the apart list matter.
 pub census-settled : (q : Question) → q .bodies ≡ [] → length (encode 0 (q .first)) ≤ 5 → length (encode 0 (q .second)) ≤ 5 → (capacity : ℕ)
     → 121 ≤ capacity → ¬ (verdictOf q capacity ≡ verdicts.unsettled)
-unfolding verdictOf fieldOf
+unfolding verdictBy differs fieldOf
 census-settled q b h k capacity l e =
-    let start : Situation = startOf q in
+    let start : Situation = startOf false q in
     let small : larger start ≤ 5 =
     start-small q (omega (arith, h, size-encode 0 (q .first))) (omega (arith, k, size-encode 0 (q .second))) in
     complete capacity (start ∷ []) (start ∷ []) (small, tt) (omega (arith, cost-all (larger start) small))
-    (undecided start (explore (settingOf []) capacity (start ∷ []) (start ∷ []))
-    (subst (λ bs. decided start (explore (settingOf bs) capacity (start ∷ []) (start ∷ [])) ≡ verdicts.unsettled) b e))
+    (of-unsettled (demandsOf openly (settingOf false [])) start (explore (settingOf false []) capacity (start ∷ []) (start ∷ []))
+    (subst (λ bs. decided (demandsOf openly (settingOf false bs)) start (explore (settingOf false bs) capacity (start ∷ []) (start ∷ [])) ≡ verdicts.unsettled) b e))

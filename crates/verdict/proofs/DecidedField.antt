@@ -54,7 +54,7 @@ module _ (d : Row → List (List (List Situation))) (start : Situation) where
       go true h k = let z : _≡_ {A = ℕ} 0 1 = cc in absurd (omega arith)
       go false h k = record { rows = rs; found-rows = refl; count = (cc); survives = h }
 
-  of-unsettled : (x : Exploration) → decided d start x ≡ unsettled → x ≡ incomplete
+  pub of-unsettled : (x : Exploration) → decided d start x ≡ unsettled → x ≡ incomplete
   unfolding decided survivors
   of-unsettled incomplete e = refl
   of-unsettled (explored rs) e = go (found (selves (survivors d rs)) start) e
