@@ -44,7 +44,7 @@ fn same_pair(x: u8, y: u8, a: u8, b: u8) -> bool
 }
 
 // Whether the apart list holds a and b apart.
-fn holds_apart(list: &[u8], a: u8, b: u8) -> bool
+pub fn holds_apart(list: &[u8], a: u8, b: u8) -> bool
     ensures { λ r. ⌜ ((D : Pairs) → now (list .entry) ≡ pairBytes D → r ≡ holdsApart D a b) ⌝ }
 {
     let mut i = 0;

@@ -7,13 +7,14 @@ use Rattle.steps.specs.Listing.{Listing, listed}
 use Rattle.steps.specs.Listing.{unsettled as unsettledListing}
 use Rattle.verdict.specs.Verdict.{Verdict, unsettled, same, different}
 
--- A result, a refusal by the number of its check, or a verdict.
+-- A result, a refusal by the number of its check, a verdict, or none where something was looked for.
 pub data Outcome : Type 0 where
   gave : ℕ → Outcome
   turnedBack : ℕ → Outcome
   unsettledOutcome : Outcome
   sameOf : ℕ → Outcome
   differentOf : ℕ → Outcome
+  noneOutcome : Outcome
 
 abbrev pub kindStep : ℕ
 kindStep = 4294967296
@@ -27,6 +28,7 @@ codeOf (turnedBack k) = coded 1 k
 codeOf unsettledOutcome = coded 2 0
 codeOf (sameOf n) = coded 3 n
 codeOf (differentOf n) = coded 4 n
+codeOf noneOutcome = coded 5 0
 
 -- the number leaves room for the kind
 unfoldable pub Small : Outcome → Type 0
@@ -35,6 +37,7 @@ Small (turnedBack k) = k < kindStep
 Small unsettledOutcome = Unit {0}
 Small (sameOf n) = n < kindStep
 Small (differentOf n) = n < kindStep
+Small noneOutcome = Unit {0}
 
 -- r says o: no number says two outcomes (proofs/OutcomeLaws)
 pub record Says (r : ℕ) (o : Outcome) : Type 0 where

@@ -1,0 +1,4 @@
+pub mod ChoiceLaws
+pub mod ChoiceOrder
+pub mod FewestIsDefinition13
+pub mod ListLaws

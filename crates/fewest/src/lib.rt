@@ -1,0 +1,1 @@
+// The fewest pairs of names to hold apart: definitions and theorems.

@@ -1,0 +1,5 @@
+pub mod BestLaws
+pub mod FlagLaws
+mod NameLaws
+pub mod PairWriting
+pub mod QuestionWriting
