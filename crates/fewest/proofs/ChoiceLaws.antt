@@ -97,7 +97,7 @@ some-passes f (d ∷ cs) e = go (f d) refl e (some-passes f cs)
     go true h e r = (d, inl refl, h)
     go false h e r = let (c, m, t) = r e in (c, inr m, t)
 
-first-decided : (f : Pairs → Bool) (cs : List Pairs) → firstOf f cs ≡ undecided → ⊥
+pub first-decided : (f : Pairs → Bool) (cs : List Pairs) → firstOf f cs ≡ undecided → ⊥
 unfolding firstOf
 first-decided f [] e = let z : _≡_ {A = ℕ} 0 1 = cc in absurd (omega arith)
 first-decided f (d ∷ cs) e = go (f d) e (first-decided f cs)

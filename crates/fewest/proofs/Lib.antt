@@ -2,3 +2,4 @@ pub mod ChoiceLaws
 pub mod ChoiceOrder
 pub mod FewestIsDefinition13
 pub mod ListLaws
+pub mod SmallOutcome

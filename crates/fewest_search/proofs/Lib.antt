@@ -1,0 +1,2 @@
+mod SearchLaws
+mod ApartLaws

@@ -1,0 +1,3 @@
+// The search for the fewest pairs to hold apart.
+pub mod apart;
+pub mod search;
