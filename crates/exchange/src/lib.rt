@@ -3,9 +3,12 @@ ghost use mathlib.Core.Path.{_≡_};
 ghost use Rattle.terms_checks.specs.Checking.{checkedAnswer};
 ghost use Rattle.terms_bytes.specs.Writing.{writtenAnswer};
 ghost use Rattle.verdict_judge.specs.Judging.{judgedAnswer};
-ghost use Rattle.verdict.specs.Outcome.{codeOf, gave, turnedBack, unsettledOutcome, sameOf, differentOf, ofNumber, ofVerdict, Small};
+ghost use Rattle.verdict.specs.Outcome.{codeOf, gave, turnedBack, unsettledOutcome, sameOf, differentOf, noneOutcome, ofNumber, ofVerdict, Small};
+ghost use Rattle.fewest.specs.Apart.{ApartIs};
+ghost use Rattle.fewest_lists.specs.Bests.{apartOutcome};
 ghost use Rattle.exchange.specs.Listed.{ofSteps};
 ghost use Rattle.verdict.specs.Promises.{CheckIs, StepsIs, MergeIs, BesideIs, JudgeIs};
+use fewest_lists::best::Apart;
 use steps_lister::operation::StepsAnswer;
 use terms_bytes::answer::Written;
 use terms_checks::check::Checked;
@@ -21,6 +24,8 @@ const UNSETTLED: u64 = 8589934592;
 const SAME: u64 = 12884901888;
 
 const DIFFERENT: u64 = 17179869184;
+
+const NONE: u64 = 21474836480;
 
 // The refusal by check `k`.
 fn refusal(k: u8) -> u64
@@ -54,6 +59,12 @@ fn different(n: usize) -> u64
     ensures { λ r. ⌜ r ≡ codeOf (differentOf n) ⌝ }
 {
     DIFFERENT + n as u64
+}
+
+fn none() -> u64
+    ensures { λ r. ⌜ r ≡ codeOf noneOutcome ⌝ }
+{
+    NONE
 }
 
 fn checked_code(answer: Checked) -> u64
@@ -96,6 +107,17 @@ fn judged_code(answer: Judged) -> u64
     }
 }
 
+fn apart_code(answer: Apart) -> u64
+    ensures { λ r. ⌜ r ≡ codeOf (apartOutcome answer) ⌝ }
+{
+    match answer {
+        Apart::Refused(k) => refusal(k),
+        Apart::Unsettled => unsettled(),
+        Apart::NoChoice => none(),
+        Apart::Length(n) => given(n),
+    }
+}
+
 // Checks a question.
 #[no_mangle]
 pub extern "C" fn exchange_check(question: &[u8]) -> u64
@@ -134,4 +156,18 @@ pub extern "C" fn exchange_judge(question: &[u8], capacity: u64, work: &mut [u8]
     ensures { λ r. ⌜ JudgeIs (now (question .entry)) capacity (now (work .entry)) r (now (work .exit)) ⌝ }
 {
     judged_code(verdict_judge::judge::judge(question, capacity, work))
+}
+
+// Writes the question's apart list, enlarged by the fewest pairs of the names that make the parts the same, into the area.
+#[no_mangle]
+pub extern "C" fn exchange_apart(
+    question: &[u8],
+    capacity: u64,
+    names: &[u8],
+    work: &mut [u8],
+    area: &mut [u8],
+) -> u64
+    ensures { λ r. ⌜ ApartIs (now (question .entry)) capacity (now (names .entry)) (now (work .entry)) (now (area .entry)) r (now (work .exit)) (now (area .exit)) ⌝ }
+{
+    apart_code(fewest_search::apart::apart(question, capacity, names, work, area))
 }

@@ -15,7 +15,7 @@ use Rattle.steps.proofs.Membership.{∈-left, ∈-right, ∈-either, ∈-map, �
 use Rattle.steps.proofs.ByteOrder.{Before}
 use Rattle.verdict.specs.Verdict.{Verdict, unsettled, same, different}
 use Rattle.fewest.specs.Choices.{Choice, empty, take-it, leave-it, choices, choicesFrom, allChoices}
-use Rattle.fewest.specs.Fewest.{Fewest, undecided, none, chosen, isUnsettled, isSame, firstOf, some, fewestBy}
+use Rattle.fewest.specs.Fewest.{undecided, none, chosen, isUnsettled, isSame, firstOf, some, fewestBy}
 
 none-chosen : (ps : Pairs) → Choice [] ps
 none-chosen [] = empty

@@ -1,16 +1,15 @@
 -- The pairs that may be chosen ascend, and only one choice wins; "unsettled" exactly if some choice is. Assumes nothing.
-use mathlib.Core.Path.{_≡_, refl, sym, _∙_, ap, subst}
+use mathlib.Core.Path.{_≡_, refl, sym, ap, subst}
 use mathlib.Core.Bool.{Bool, true, false, cond}
 use mathlib.Core.List.{List, [], _∷_, _++_, map}
-use mathlib.Core.Logic.{_⊎_, inl, inr, _↔_}
+use mathlib.Core.Logic.{_⊎_, inl, inr}
 use native.Mathlib.Omega.{arith}
 use Prim.Native.Nat.{ℕ, zero, suc, _<_, _≤_, Ordering, Ordering·lt, Ordering·eq, Ordering·gt}
-use lib.ListN.{length}
 use Rattle.calculus.specs.Cond.{Pairs}
 use Rattle.calculus.specs.Distinction.{keep}
 use Rattle.terms.specs.Question.{pairBytes}
 use Rattle.steps.specs.Lists.{_∈_, All}
-use Rattle.steps.proofs.Membership.{∈-all, ∈-either, ∈-mapped, all-∈, all-++, all-map}
+use Rattle.steps.proofs.Membership.{∈-all, ∈-either, ∈-mapped, all-++, all-map}
 use Rattle.steps.proofs.ByteOrder.{Before, Says, ordered, before-irreflexive, before-trans}
 use Rattle.steps.specs.Listed.{namesFrom}
 use Rattle.steps.specs.Listing.{order}

@@ -3,28 +3,28 @@
 use mathlib.Core.Bool.{true, false}
 use mathlib.Core.List.{List, _++_}
 use mathlib.Core.Logic.{_⊎_, inl, inr}
-use mathlib.Core.Path.{_≡_, refl, sym, ap, subst, _∙_}
+use mathlib.Core.Path.{_≡_, refl, sym, ap, subst}
 use native.Mathlib.Omega.{arith}
 use Prim.Native.Nat.{ℕ, _*_}
 use lib.Dec.{leb}
-use lib.ListN.{length, drop, replicate}
+use lib.ListN.{length}
 use Rattle.calculus.specs.Cond.{Pairs}
 use Rattle.calculus.specs.Definitions.{Defs}
-use Rattle.terms.specs.Answer.{Answer, refused, result, _>>=_, _>>_}
+use Rattle.terms.specs.Answer.{Answer, refused, result}
 use Rattle.terms.specs.Limits.{nameCount, longestApart}
-use Rattle.terms.specs.Question.{Question, checkOf, pairBytes, write}
+use Rattle.terms.specs.Question.{Question, checkOf, write}
 use Rattle.terms.proofs.Answers.{result-injective, bind-result, need-result}
 use Rattle.verdict.specs.Entries.{Defines}
 use Rattle.verdict.specs.Judge.{slotBytes}
-use Rattle.verdict.specs.Outcome.{Outcome, turnedBack, Says}
-use Rattle.verdict.specs.Verdict.{Verdict, unsettled, same, different, verdictOf}
+use Rattle.verdict.specs.Outcome.{Says}
+use Rattle.verdict.specs.Verdict.{Verdict, unsettled, same, different}
 use Rattle.verdict.proofs.CapacityLaws.{passed-within}
 use Rattle.verdict.proofs.VerdictIsDefinition13.{same-is-related, different-is-unrelated, unsettled-iff-past-a-limit}
 use Rattle.fewest.specs.Apart.{namesGiven, listFor, apartOf, ofFewest, workAfter, areaAfter, ApartIs}
-use Rattle.fewest.specs.Choices.{candidatePairs, Choice, Earlier, allChoices, enlarged, underList}
-use Rattle.fewest.specs.Fewest.{Fewest, undecided, none, chosen, isUnsettled, isSame, fewestBy, verdictUnder, fewestOf}
+use Rattle.fewest.specs.Choices.{candidatePairs, Earlier, enlarged, underList}
+use Rattle.fewest.specs.Fewest.{Fewest, undecided, none, chosen, isUnsettled, isSame, verdictUnder, fewestOf}
 use Rattle.fewest.specs.Meaning.{RelatedUnder, ExceedsUnder, FewestMeans, means-fewest, means-none, means-unsettled, Told, not-searched, searched}
-use Rattle.fewest.proofs.ChoiceLaws.{Ahead, PairsRise, Wins, fewest-wins, none-different, unsettled-some, settled-not}
+use Rattle.fewest.proofs.ChoiceLaws.{Ahead, fewest-wins, none-different, unsettled-some}
 use Rattle.fewest.proofs.ChoiceOrder.{candidates-rise, ahead-earlier, earlier-ahead, not-both}
 use Rattle.fewest.proofs.ListLaws.{under-accepted}
 

@@ -6,9 +6,9 @@ use Prim.Native.Nat.{ℕ, _*_, _≤_}
 use lib.Dec.{leb}
 use lib.ListN.{length}
 use Rattle.calculus.specs.Cond.{Pairs}
-use Rattle.terms.specs.Answer.{Answer, refused, result, _>>=_, _>>_}
+use Rattle.terms.specs.Answer.{Answer, refused, result}
 use Rattle.terms.specs.Limits.{nameCount, longestApart}
-use Rattle.terms.specs.Question.{Question, checkOf, pairBytes}
+use Rattle.terms.specs.Question.{checkOf, pairBytes}
 use Rattle.terms.proofs.Answers.{result-injective, bind-result, need-result}
 use Rattle.terms.proofs.RefusalNumbers.{Numbered, numbered-bind, numbered-need, check-numbered}
 use Rattle.verdict.specs.Judge.{slotBytes}

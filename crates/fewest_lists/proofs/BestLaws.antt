@@ -8,7 +8,6 @@ use lib.Dec.{eqb}
 use lib.ListN.{length, getD, drop}
 use lib.Seq.{getD-drop}
 use Rattle.calculus.specs.Cond.{Pairs}
-use Rattle.terms.specs.Answer.{result}
 use Rattle.terms.specs.Limits.{nameCount, longestApart}
 use Rattle.terms.specs.Operations.{holdsApart}
 use Rattle.terms.specs.Question.{pairBytes}
@@ -19,12 +18,11 @@ use Rattle.field_pairs.proofs.PairLaws.{length-flags, flag-at, flags-are}
 use Rattle.verdict.specs.Outcome.{gave}
 use Rattle.fewest.specs.Apart.{ofFewest, areaAfter}
 use Rattle.fewest.specs.Choices.{inOrder}
-use Rattle.fewest.specs.Fewest.{Fewest, undecided, none, chosen}
+use Rattle.fewest.specs.Fewest.{undecided, none, chosen}
 use Rattle.fewest_lists.specs.declared.best.Best.{Best}
-use Rattle.fewest_lists.specs.declared.best.Apart.{Apart}
 use Rattle.fewest_lists.specs.declared.best.Apart.the-variants.{Unsettled, NoChoice, Length}
-use Rattle.fewest_lists.specs.Bests.{BestIs, followedBy, SameIs, WithPair, mapped, apartOutcome, TellsOf, Tells}
-use Rattle.fewest_lists.specs.Lists.{flagged, PairsPut, PairsWritten}
+use Rattle.fewest_lists.specs.Bests.{BestIs, followedBy, SameIs, WithPair, mapped, apartOutcome, Tells}
+use Rattle.fewest_lists.specs.Lists.{flagged, PairsWritten}
 use Rattle.fewest_lists.proofs.FlagLaws.{flagged-apart}
 use Rattle.fewest_lists.proofs.PairWriting.{flagged-bytes}
 

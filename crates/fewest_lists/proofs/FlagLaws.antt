@@ -1,9 +1,9 @@
 -- Flags of pairs: those that an apart list sets, and those of pairs that may be chosen. Assumes nothing.
-use mathlib.Core.Bool.{Bool, true, false, cond, _&&_, _||_, not, and-false}
-use mathlib.Core.List.{List, [], _∷_, _++_, map}
+use mathlib.Core.Bool.{Bool, true, false, cond, _&&_, not, and-false}
+use mathlib.Core.List.{List, [], _∷_, map}
 use mathlib.Core.Path.{_≡_, refl, sym, ap, _∙_}
 use native.Mathlib.Omega.{arith}
-use Prim.Native.Nat.{ℕ, _<_, _≤_}
+use Prim.Native.Nat.{ℕ, _<_}
 use lib.Dec.{eqb}
 use lib.ListN.{length, getD, length-map, List·getD-map}
 use lib.Seq.{ext-getD}
@@ -14,10 +14,10 @@ use Rattle.terms.specs.Operations.{holdsApart}
 use Rattle.field_pairs.specs.PairFlags.{pairCount, pairAt}
 use Rattle.field_pairs.specs.Slot.{allPairs, flag, flagsOf}
 use Rattle.field_pairs.proofs.EntryLaws.{inside}
-use Rattle.field_pairs.proofs.PairLaws.{length-flags, flag-at, flags-are}
+use Rattle.field_pairs.proofs.PairLaws.{flag-at}
 use Rattle.field_pairs.proofs.PairTables.{length-pairs}
 use Rattle.fewest.specs.Choices.{pairsBelow, mayChoose, candidatePairs, inOrder}
-use Rattle.fewest_lists.specs.Lists.{ApartFlagIs, OpenFlagIs, openFlags, flagged}
+use Rattle.fewest_lists.specs.Lists.{openFlags, flagged}
 
 -- the flag that a test sets
 pub flag-set : (b : Bool) → true ≡ b → 1 ≡ flag b

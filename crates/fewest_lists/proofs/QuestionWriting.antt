@@ -2,7 +2,7 @@
 use mathlib.Core.List.{List, [], _∷_, _++_, append-assoc}
 use mathlib.Core.Path.{_≡_, refl, sym, ap, subst, _∙_}
 use native.Mathlib.Omega.{arith}
-use Prim.Native.Nat.{ℕ, suc, _+_, _-_, _*_, _/_, _%_, _<_, _≤_}
+use Prim.Native.Nat.{ℕ, suc, _+_, _-_, _/_, _%_, _<_, _≤_}
 use lib.ListN.{length, set, take, drop, length-append}
 use lib.Seq.{sets, set-comm, take-append-seam}
 use Rattle.calculus.specs.Cond.{Pairs}
@@ -18,11 +18,10 @@ use Rattle.terms_bytes.specs.FieldPlaces.{definitionsOf, afterField, fieldPlace
 use Rattle.terms_bytes.specs.Writing.{Accepted}
 use Rattle.terms_bytes.proofs.QuestionPlaces.{framable, accepted-joined, joined-length}
 use Rattle.terms_bytes.proofs.Stores.{span, sets-join, sets-start}
-use Rattle.field_pairs.specs.PairFlags.{pairCount}
-use Rattle.field_pairs.specs.Slot.{allPairs, flagsOf}
+use Rattle.field_pairs.specs.Slot.{allPairs}
 use Rattle.fewest.specs.Choices.{pairsBelow, inOrder, underList}
 use Rattle.fewest.proofs.ListLaws.{bytes-length, pairs-allowed, pairs-count, under-well-formed}
-use Rattle.fewest_lists.specs.Lists.{flagged, PairsPut, PairsWritten, QuestionWritten}
+use Rattle.fewest_lists.specs.Lists.{flagged, PairsWritten, QuestionWritten}
 use Rattle.fewest_lists.proofs.FlagLaws.{flagged-apart}
 use Rattle.fewest_lists.proofs.PairWriting.{flagged-bytes}
 

@@ -3,7 +3,7 @@ use mathlib.Core.Bool.{true, false}
 use mathlib.Core.List.{List, [], _∷_, _++_}
 use mathlib.Core.Path.{_≡_}
 use Prim.Native.Nat.{ℕ}
-use lib.ListN.{length, drop}
+use lib.ListN.{drop}
 use Rattle.calculus.specs.Cond.{Pairs}
 use Rattle.terms.specs.Answer.{Answer, result}
 use Rattle.terms.specs.Limits.{nameCount}

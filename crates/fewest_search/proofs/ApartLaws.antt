@@ -1,6 +1,6 @@
 -- The operation: its checks in their order, then what the search found. Assumes nothing.
 use mathlib.Core.Bool.{true, false}
-use mathlib.Core.List.{List, _++_, map}
+use mathlib.Core.List.{List, _++_}
 use mathlib.Core.Path.{_≡_, refl, sym, ap, subst, _∙_}
 use native.Mathlib.Omega.{arith}
 use Prim.Native.Nat.{ℕ, _+_, _*_, _<_, _≤_}
@@ -28,15 +28,15 @@ use Rattle.verdict_capacity.specs.Numbers.{byNumber}
 use Rattle.verdict_capacity.proofs.NumberLaws.{number-refused, number-passed}
 use Rattle.fewest.specs.Apart.{namesGiven, listFor, apartOf, ofFewest, workAfter, areaAfter}
 use Rattle.fewest.specs.Choices.{candidatePairs, allChoices, enlarged, inOrder}
-use Rattle.fewest.specs.Fewest.{Fewest, undecided, none, chosen, fewestBy, verdictUnder, fewestOf}
-use Rattle.fewest_lists.specs.Bests.{BestIs, mapped, apartOutcome, TellsOf, Tells}
-use Rattle.fewest_lists.specs.Lists.{ApartFlagsAre, OpenFlagsAre, openFlags, flagged, PairsPut, PairsWritten}
+use Rattle.fewest.specs.Fewest.{Fewest, undecided, none, chosen, verdictUnder, fewestOf}
+use Rattle.fewest_lists.specs.Bests.{BestIs, mapped, apartOutcome, Tells}
+use Rattle.fewest_lists.specs.Lists.{ApartFlagsAre, OpenFlagsAre, flagged, PairsWritten}
 use Rattle.fewest_lists.specs.declared.best.Best.{Best}
 use Rattle.fewest_lists.specs.declared.best.Apart.{Apart}
 use Rattle.fewest_lists.specs.declared.best.Apart.the-variants as told
 use Rattle.fewest_lists.proofs.FlagLaws.{flagged-open}
 use Rattle.fewest_lists.proofs.PairWriting.{flagged-bytes}
-use Rattle.fewest_search.specs.Searching.{Allowed, clearedBy, verdictOn, Knows, SizesIs, FoundIs, ApartDoes, CheckedIs}
+use Rattle.fewest_search.specs.Searching.{Allowed, clearedBy, verdictOn, SizesIs, FoundIs, ApartDoes, CheckedIs}
 use Rattle.fewest_search.proofs.SearchLaws.{fewest-map}
 
 -- find

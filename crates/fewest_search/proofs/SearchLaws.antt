@@ -4,15 +4,15 @@ use mathlib.Core.List.{List, [], _∷_, _++_, map, append-nil, append-assoc}
 use mathlib.Core.Path.{_≡_, refl, sym, ap, ap₂, subst, _∙_}
 use native.Mathlib.Omega.{arith}
 use Prim.Native.Nat.{ℕ, zero, suc, _+_, _-_, _*_, _/_, _<_, _≤_}
-use lib.ListN.{length, drop, replicate, length-replicate, drop-of-length-le, take, length-append, length-drop}
+use lib.ListN.{length, drop, replicate, length-replicate, drop-of-length-le, take, length-drop}
 use lib.Seq.{drop-append-seam, drop-drop}
 use Rattle.calculus.specs.Cond.{Pairs}
-use Rattle.terms.specs.Answer.{Answer, refused, result}
+use Rattle.terms.specs.Answer.{result}
 use Rattle.terms.specs.Limits.{nameCount}
-use Rattle.terms.specs.Question.{Question, checkOf, pairBytes, write}
+use Rattle.terms.specs.Question.{Question, checkOf, pairBytes}
 use Rattle.terms.proofs.Answers.{result-injective, refused-not-result}
 use Rattle.field_pairs.specs.Slot.{flagsOf}
-use Rattle.verdict.specs.Judge.{slotBytes, judgeOf, workAfter}
+use Rattle.verdict.specs.Judge.{slotBytes, workAfter}
 use Rattle.verdict.specs.Verdict.{Verdict, unsettled, same, different}
 use Rattle.verdict.proofs.JudgeIsDefinition13.{judge-answers}
 use Rattle.verdict_judge.specs.Judging.{judgedAnswer, JudgedIs}
@@ -25,7 +25,7 @@ use Rattle.fewest.proofs.ListLaws.{bytes-length, under-accepted}
 use Rattle.fewest_lists.specs.Bests.{BestIs, followedBy, SameIs, WithPair, mapped}
 use Rattle.fewest_lists.specs.Lists.{QuestionWritten}
 use Rattle.fewest_lists.specs.declared.best.Best.{Best}
-use Rattle.fewest_search.specs.Searching.{Allowed, clearedBy, verdictOn, Judges, ListJudged, Knows, NextIs, SearchedIs, SizesIs}
+use Rattle.fewest_search.specs.Searching.{Allowed, clearedBy, verdictOn, ListJudged, Knows, NextIs, SearchedIs, SizesIs}
 
 -- what more lists add
 pub followed-none : (f : Fewest) → followedBy f none ≡ f

@@ -5,8 +5,8 @@ use mathlib.Core.Path.{_≡_}
 use Prim.Native.Nat.{ℕ, _*_, _≤_}
 use lib.ListN.{length, drop, replicate}
 use Rattle.calculus.specs.Cond.{Pairs}
-use Rattle.terms.specs.Answer.{Answer, result, _>>=_, _>>_, need}
-use Rattle.terms.specs.Limits.{nameCount, longestApart}
+use Rattle.terms.specs.Answer.{Answer, result}
+use Rattle.terms.specs.Limits.{nameCount}
 use Rattle.terms.specs.Question.{Question, checkOf, pairBytes}
 use Rattle.field_pairs.specs.Slot.{flagsOf}
 use Rattle.verdict.specs.Judge.{slotBytes, greatestCapacity}
@@ -14,7 +14,7 @@ use Rattle.verdict.specs.Verdict.{Verdict, verdictOf}
 use Rattle.verdict_judge.specs.Judging.{judgedAnswer}
 use Rattle.verdict_judge.specs.declared.judge.Judged.{Judged}
 use Rattle.fewest.specs.Apart.{ofFewest, workAfter, areaAfter, apartOf}
-use Rattle.fewest.specs.Choices.{choices, allChoices, candidatePairs, inOrder, underList}
+use Rattle.fewest.specs.Choices.{choices, allChoices, inOrder, underList}
 use Rattle.fewest.specs.Fewest.{Fewest, fewestBy, fewestOf}
 use Rattle.fewest_lists.specs.Bests.{BestIs, followedBy, mapped, apartOutcome}
 use Rattle.fewest_lists.specs.declared.best.Best.{Best}

@@ -79,7 +79,16 @@ fn search(
         return best;
     }
     let more = with_pair(flags, pairs, at);
-    let next = search(question, pairs, at + 2, size - 1, more, best, capacity, work);
+    let next = search(
+        question,
+        pairs,
+        at + 2,
+        size - 1,
+        more,
+        best,
+        capacity,
+        work,
+    );
     search(question, pairs, at + 2, size, flags, next, capacity, work)
 }
 

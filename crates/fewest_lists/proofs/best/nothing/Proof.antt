@@ -1,13 +1,9 @@
-use mathlib.Core.Path.{_≡_, refl, sym, ap, subst, _∙_}
-use native.Mathlib.Omega.{arith}
-use borrow.Author.Needs.{needs}
+-- `fewest_lists::best::nothing` meets its contract. Assumes nothing.
+use mathlib.Core.Path.{refl}
 use Rattle.fewest_lists.specs.Bests.{BestIs}
 use Rattle.fewest_lists.proofs.best.nothing.Statement.{statement}
 use Rattle.fewest_lists.proofs.best.nothing.Tie as tie
-use Rattle.fewest_lists.proofs.best.nothing.Reads as reads
-use Rattle.fewest_lists.proofs.best.nothing.Lts as lts
 
--- src/best.rt:30:1
 returns : tie.Need-returns
 unfolding BestIs
 returns c = (refl, refl)

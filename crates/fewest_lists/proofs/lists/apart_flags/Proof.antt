@@ -1,4 +1,5 @@
-use mathlib.Core.Path.{_≡_, refl, sym, ap, subst, _∙_}
+-- `fewest_lists::lists::apart_flags` meets its contract. Assumes nothing.
+use mathlib.Core.Path.{_≡_, refl}
 use native.Mathlib.Omega.{arith}
 use borrow.Author.Needs.{needs}
 use Prim.Native.Nat.{_-_, _≤_}
@@ -13,9 +14,6 @@ use Rattle.field_pairs.proofs.PairLaws.{flags-are}
 use Rattle.fewest_lists.specs.Lists.{ApartFlagIs, ApartFlagsAre}
 use Rattle.fewest_lists.proofs.lists.apart_flags.Statement.{statement}
 use Rattle.fewest_lists.proofs.lists.apart_flags.Tie as tie
-use Rattle.fewest_lists.proofs.lists.apart_flags.Reads as reads
-use Rattle.fewest_lists.proofs.lists.apart_flags.Lts as lts
-use Rattle.fewest_lists.proofs.lists.apart_flag.Reads as apart-flag-reads
 
 abbrev Inv-loop : tie.InvT-loop
 Inv-loop list flags₀ k₀ flags k = (k ≤ pairCount) × (length flags ≡ pairCount) × ((D : Pairs) → list ≡ pairBytes D → Filling (λ k. flag (holdsApart D (pairAt k .0) (pairAt k .1))) flags₀ flags k)
@@ -23,32 +21,27 @@ Inv-loop list flags₀ k₀ flags k = (k ≤ pairCount) × (length flags ≡ pai
 abbrev μ-loop : tie.MeasureT-loop
 μ-loop list flags₀ k₀ flags k = pairCount - k
 
--- src/lists.rt:36:5
 loop-holds : tie.Need-loop-holds Inv-loop μ-loop
 loop-holds c = (search needs, refl, λ D e. fill-start _ _)
 
--- src/lists.rt:37:20
 apart-flag-requires : tie.Need-apart-flag-requires Inv-loop μ-loop
 apart-flag-requires c κs = search needs
 
--- src/lists.rt:37:9
 array-write-flags : tie.Need-array-write-flags Inv-loop μ-loop
 array-write-flags c = search needs
 
--- src/lists.rt:38:9
 add-k : tie.Need-add-k Inv-loop μ-loop
 add-k c = search needs
 
--- src/lists.rt:36:5
 loop-less : tie.Need-loop-less Inv-loop μ-loop
 loop-less c = search needs
 
--- src/lists.rt:36:5
 loop-again : tie.Need-loop-again Inv-loop μ-loop
 unfolding ApartFlagIs
-loop-again c = (search needs, search needs, λ D e. fill-step _ _ _ (c .before .before .loop .k) _ (omega arith) (c .apart-flag .ensures D e) (c .before .before .loop .inv .2 D e))
+loop-again c =
+    (search needs, search needs, λ D e. fill-step _ _ _ (c .before .before .loop .k) _ (omega arith) (c .apart-flag .ensures D e)
+    (c .before .before .loop .inv .2 D e))
 
--- src/lists.rt:31:1
 returns : tie.Need-returns Inv-loop μ-loop
 unfolding ApartFlagsAre
 returns c = λ D e. flags-are D _ (c .before .loop .inv .1) (λ k h. c .before .loop .inv .2 D e .done k (omega arith))

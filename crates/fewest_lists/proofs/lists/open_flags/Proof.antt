@@ -1,4 +1,5 @@
-use mathlib.Core.Path.{_≡_, refl, sym, ap, subst, _∙_}
+-- `fewest_lists::lists::open_flags` meets its contract. Assumes nothing.
+use mathlib.Core.Path.{_≡_, refl}
 use native.Mathlib.Omega.{arith}
 use borrow.Author.Needs.{needs}
 use Prim.Native.Nat.{_-_, _≤_}
@@ -12,9 +13,6 @@ use Rattle.fewest_lists.specs.Lists.{OpenFlagIs, OpenFlagsAre, openFlags
 use Rattle.fewest_lists.proofs.FlagLaws.{tested-are}
 use Rattle.fewest_lists.proofs.lists.open_flags.Statement.{statement}
 use Rattle.fewest_lists.proofs.lists.open_flags.Tie as tie
-use Rattle.fewest_lists.proofs.lists.open_flags.Reads as reads
-use Rattle.fewest_lists.proofs.lists.open_flags.Lts as lts
-use Rattle.fewest_lists.proofs.lists.open_flag.Reads as open-flag-reads
 
 abbrev Inv-loop : tie.InvT-loop
 Inv-loop names apart flags₀ k₀ flags k = (k ≤ pairCount) × (length flags ≡ pairCount) × ((D : Pairs) → apart ≡ flagsOf D → Filling (λ k. flag (mayChoose names D (pairAt k .0) (pairAt k .1))) flags₀ flags k)
@@ -22,35 +20,33 @@ Inv-loop names apart flags₀ k₀ flags k = (k ≤ pairCount) × (length flags 
 abbrev μ-loop : tie.MeasureT-loop
 μ-loop names apart flags₀ k₀ flags k = pairCount - k
 
--- src/lists.rt:68:5
 loop-holds : tie.Need-loop-holds Inv-loop μ-loop
 loop-holds c = (search needs, refl, λ D e. fill-start _ _)
 
--- src/lists.rt:69:20
 open-flag-requires : tie.Need-open-flag-requires Inv-loop μ-loop
 open-flag-requires c κs = search needs
 
--- src/lists.rt:69:9
 array-write-flags : tie.Need-array-write-flags Inv-loop μ-loop
 array-write-flags c = search needs
 
--- src/lists.rt:70:9
 add-k : tie.Need-add-k Inv-loop μ-loop
 add-k c = search needs
 
--- src/lists.rt:68:5
 loop-less : tie.Need-loop-less Inv-loop μ-loop
 loop-less c = search needs
 
--- src/lists.rt:68:5
 loop-again : tie.Need-loop-again Inv-loop μ-loop
 unfolding OpenFlagIs
-loop-again c = (search needs, search needs, λ D e. fill-step _ _ _ (c .before .before .loop .k) _ (omega arith) (c .open-flag .ensures D e) (c .before .before .loop .inv .2 D e))
+loop-again c =
+    (search needs, search needs, λ D e. fill-step _ _ _ (c .before .before .loop .k) _ (omega arith) (c .open-flag .ensures D e)
+    (c .before .before .loop .inv .2 D e))
 
--- src/lists.rt:62:1
 returns : tie.Need-returns Inv-loop μ-loop
 unfolding OpenFlagsAre openFlags
-returns c = λ D e. tested-are (mayChoose (c .before .before .before .before .args .names .now) D) _ (c .before .loop .inv .1) (λ k h. c .before .loop .inv .2 D e .done k (omega arith))
+returns c =
+    let c1 = c .before in
+    let c4 = c1 .before .before .before in
+    λ D e. tested-are (mayChoose (c4 .args .names .now) D) _ (c1 .loop .inv .1) (λ k h. c1 .loop .inv .2 D e .done k (omega arith))
 
 pub open-flags-spec : {M : Type 1} → statement M
 open-flags-spec =

@@ -1,4 +1,5 @@
-use mathlib.Core.Path.{_≡_, refl, sym, ap, subst, _∙_}
+-- `fewest_lists::names::names_given` meets its contract. Assumes nothing.
+use mathlib.Core.Path.{_≡_, sym, _∙_}
 use native.Mathlib.Omega.{arith}
 use borrow.Author.Needs.{needs}
 use Prim.Native.Nat.{_-_, _≤_}
@@ -7,9 +8,6 @@ use Rattle.fewest.specs.Apart.{namesGiven}
 use Rattle.fewest_lists.proofs.NameLaws.{each, too-many, few-enough, each-end, each-no-name, each-again, each-on}
 use Rattle.fewest_lists.proofs.names.names_given.Statement.{statement}
 use Rattle.fewest_lists.proofs.names.names_given.Tie as tie
-use Rattle.fewest_lists.proofs.names.names_given.Reads as reads
-use Rattle.fewest_lists.proofs.names.names_given.Lts as lts
-use Rattle.fewest_lists.proofs.names.has_name.Reads as has-name-reads
 
 abbrev Inv-loop : tie.InvT-loop
 Inv-loop names i₀ i = (i ≤ length names) × (namesGiven names ≡ each (drop i names))
@@ -17,47 +15,45 @@ Inv-loop names i₀ i = (i ≤ length names) × (namesGiven names ≡ each (drop
 abbrev μ-loop : tie.MeasureT-loop
 μ-loop names i₀ i = length names - i
 
--- src/names.rt:31:9
 returns : tie.Need-returns Inv-loop μ-loop
 returns c = too-many (c .before .before .args .names .now) (omega arith)
 
--- src/names.rt:34:5
 loop-holds : tie.Need-loop-holds Inv-loop μ-loop
 loop-holds c = (search needs, few-enough (c .before .before .args .names .now) (omega arith))
 
--- src/names.rt:35:17
 shared-slice-read-n : tie.Need-shared-slice-read-n Inv-loop μ-loop
 shared-slice-read-n c = search needs
 
--- src/names.rt:36:26
 cast-if2 : tie.Need-cast-if2 Inv-loop μ-loop
 cast-if2 c = omega (arith, c .shared-slice-known2 .given (c .before .before .loop .i))
 
--- src/names.rt:37:13
 returns-2 : tie.Need-returns-2 Inv-loop μ-loop
-returns-2 c = each-no-name (c .before .before .before .before .before .before .args .names .now) (c .before .before .before .loop .i) (omega arith) (c .if2 .taken) ∙ sym (c .before .before .before .loop .inv .1)
+returns-2 c =
+    let c3 = c .before .before .before in
+    let c6 = c3 .before .before .before in
+    each-no-name (c6 .args .names .now) (c3 .loop .i) (omega arith) (c .if2 .taken) ∙ sym (c3 .loop .inv .1)
 
--- src/names.rt:39:9
 add-i : tie.Need-add-i Inv-loop μ-loop
 add-i c = search needs
 
--- src/names.rt:40:12
 has-name-requires : tie.Need-has-name-requires Inv-loop μ-loop
 has-name-requires c κs = search needs
 
--- src/names.rt:41:13
 returns-3 : tie.Need-returns-3 Inv-loop μ-loop
-returns-3 c = each-again (c .before .before .before .before .before .before .before .before .args .names .now) (c .before .before .before .before .before .loop .i) (omega arith) (sym (c .if3 .taken) ∙ c .before .has-name .ensures) ∙ sym (c .before .before .before .before .before .loop .inv .1)
+returns-3 c =
+    let c5 = c .before .before .before .before .before in
+    let c8 = c5 .before .before .before in
+    each-again (c8 .args .names .now) (c5 .loop .i) (omega arith) (sym (c .if3 .taken) ∙ c .before .has-name .ensures) ∙ sym (c5 .loop .inv .1)
 
--- src/names.rt:34:5
 loop-less : tie.Need-loop-less Inv-loop μ-loop
 loop-less c = search needs
 
--- src/names.rt:34:5
 loop-again : tie.Need-loop-again Inv-loop μ-loop
-loop-again c = (search needs, c .before .before .before .before .before .loop .inv .1 ∙ each-on (c .before .before .before .before .before .before .before .before .args .names .now) (c .before .before .before .before .before .loop .i) (omega arith) (omega arith) (sym (c .if3 .left) ∙ c .before .has-name .ensures))
+loop-again c =
+    (search needs, c .before .before .before .before .before .loop .inv .1 ∙ each-on
+    (c .before .before .before .before .before .before .before .before .args .names .now) (c .before .before .before .before .before .loop .i) (omega
+    arith) (omega arith) (sym (c .if3 .left) ∙ c .before .has-name .ensures))
 
--- src/names.rt:27:1
 returns-4 : tie.Need-returns-4 Inv-loop μ-loop
 returns-4 c = each-end (c .before .before .before .before .args .names .now) (c .before .loop .i) (omega arith) ∙ sym (c .before .loop .inv .1)
 

@@ -1,4 +1,5 @@
-use mathlib.Core.Path.{_≡_, refl, sym, ap, subst, _∙_}
+-- `fewest_search::apart::find` meets its contract. Assumes nothing.
+use mathlib.Core.Path.{ap, subst, _∙_}
 use native.Mathlib.Omega.{arith}
 use borrow.Author.Needs.{needs}
 use Rattle.terms_bytes.specs.FieldPlaces.{fieldPlace}
@@ -6,7 +7,6 @@ use Rattle.fewest_lists.specs.Lists.{PairsWritten}
 use Rattle.fewest_lists.proofs.PairWriting.{flagged-bytes}
 use Rattle.fewest_search.specs.Searching.{SizesIs}
 use Rattle.fewest_search.proofs.ApartLaws.{found-is}
--- `fewest_search::apart::find` meets its contract. Assumes nothing.
 use Rattle.fewest_search.proofs.apart.find.Statement.{statement}
 use Rattle.fewest_search.proofs.apart.find.Tie as tie
 
@@ -48,16 +48,41 @@ slice-aggregate-front c = search needs
 
 front-requires : tie.Need-front-requires
 unfolding PairsWritten
-front-requires c κs = omega (arith, c .before .before .write-pairs .ensures .ends, flagged-bytes (c .before .before .before .before .before .open-flags .result))
+front-requires c κs =
+    let c5 = c .before .before .before .before .before in
+    omega (arith, c .before .before .write-pairs .ensures .ends, flagged-bytes (c5 .open-flags .result))
 
 search-sizes-requires : tie.Need-search-sizes-requires
-search-sizes-requires c κs = c .before .before .before .before .before .before .before .before .before .before .before .before .before .before .before .before .before .before .pre
+search-sizes-requires c κs =
+    let c18 = c .before .before .before .before .before .before .before .before .before .before .before .before .before .before .before .before .before .before in
+    c18 .pre
 
 same-length : tie.Need-same-length
 same-length c = search needs
 
 returns : tie.Need-returns
-returns c = found-is (c .before .before .before .before .before .before .before .before .before .before .before .before .before .before .before .before .before .before .before .before .before .args .question .now) (c .before .before .before .before .before .before .before .before .before .before .before .before .before .before .before .before .before .before .before .before .before .args .capacity) (c .before .before .before .before .before .before .before .before .before .before .before .before .before .before .before .before .before .before .before .before .before .args .names .now) (c .before .before .before .before .before .before .before .before .before .before .before .before .before .before .before .before .before .before .before .before .before .args .work .now) (c .before .before .before .before .before .before .before .before .before .before .before .before .before .before .before .before .field-place .result) (c .before .before .before .before .before .before .before .before .before .before .before .before .before .before .before .after-field .result) (c .before .before .before .before .before .before .before .before .before .before .before .before .before .before .after-field2 .result) _ (c .before .before .before .before .before .before .before .before .before .before .before .before .apart-flags .result) (c .before .before .before .before .before .before .before .before .before .before .open-flags .result) _ _ (c .before .before .before .before .before .before .before .write-pairs .result) (c .before .before .search-sizes .result) (c .before .before .search-sizes .last .1 .1 .1 .1 .0) (c .before .before .before .before .before .before .before .before .before .before .before .before .before .before .before .before .field-place .ensures ∙ ap (fieldPlace (c .before .before .before .before .before .before .before .before .before .before .before .before .before .before .before .before .before .before .before .before .before .args .question .now)) (c .before .before .before .before .before .before .before .before .before .before .before .before .before .before .before .before .before .definitions .ensures .0)) (c .before .before .before .before .before .before .before .before .before .before .before .before .before .before .before .after-field .ensures) (c .before .before .before .before .before .before .before .before .before .before .before .before .before .before .after-field2 .ensures) (c .before .before .before .before .before .before .before .before .before .before .before .before .before .field-at .ensures) (c .before .before .before .before .before .before .before .before .before .before .before .before .apart-flags .ensures) (c .before .before .before .before .before .before .before .before .before .before .open-flags .ensures) (search needs) (c .before .before .before .before .before .before .before .write-pairs .ensures) (subst (λ p. SizesIs (c .before .before .before .before .before .before .before .before .before .before .before .before .before .before .before .before .before .before .before .before .before .args .question .now) p (c .before .before .before .before .before .before .before .before .before .before .before .before .apart-flags .result) (c .before .before .before .before .before .before .before .before .before .before .before .before .before .before .before .before .before .before .before .before .before .args .capacity) (c .before .before .before .before .before .before .before .before .before .before .before .before .before .before .before .before .before .before .before .before .before .args .work .now) (c .before .before .search-sizes .result) (c .before .before .search-sizes .last .1 .1 .1 .1 .0)) (c .before .before .before .before .front .ensures) (c .before .before .search-sizes .ensures))
+returns c =
+    let v = c .before .before .before .before .before .before .before .before .before .before .before .before .before .before .before .before .before .before .before .before .before .args in
+    found-is (v .question .now) (v .capacity) (v .names .now) (v .work .now)
+    (c .before .before .before .before .before .before .before .before .before .before .before .before .before .before .before .before .field-place .result)
+    (c .before .before .before .before .before .before .before .before .before .before .before .before .before .before .before .after-field .result)
+    (c .before .before .before .before .before .before .before .before .before .before .before .before .before .before .after-field2 .result) _
+    (c .before .before .before .before .before .before .before .before .before .before .before .before .apart-flags .result)
+    (c .before .before .before .before .before .before .before .before .before .before .open-flags .result) _ _
+    (c .before .before .before .before .before .before .before .write-pairs .result) (c .before .before .search-sizes .result)
+    (c .before .before .search-sizes .last .1 .1 .1 .1 .0)
+    (c .before .before .before .before .before .before .before .before .before .before .before .before .before .before .before .before .field-place .ensures
+    ∙ ap (fieldPlace (v .question .now))
+    (c .before .before .before .before .before .before .before .before .before .before .before .before .before .before .before .before .before .definitions .ensures .0))
+    (c .before .before .before .before .before .before .before .before .before .before .before .before .before .before .before .after-field .ensures)
+    (c .before .before .before .before .before .before .before .before .before .before .before .before .before .before .after-field2 .ensures)
+    (c .before .before .before .before .before .before .before .before .before .before .before .before .before .field-at .ensures)
+    (c .before .before .before .before .before .before .before .before .before .before .before .before .apart-flags .ensures)
+    (c .before .before .before .before .before .before .before .before .before .before .open-flags .ensures) (search needs)
+    (c .before .before .before .before .before .before .before .write-pairs .ensures) (subst (λ p. SizesIs (v .question .now) p
+    (c .before .before .before .before .before .before .before .before .before .before .before .before .apart-flags .result) (v .capacity)
+    (v .work .now) (c .before .before .search-sizes .result) (c .before .before .search-sizes .last .1 .1 .1 .1 .0))
+    (c .before .before .before .before .front .ensures) (c .before .before .search-sizes .ensures))
 
 pub find-spec : {M : Type 1} → statement M
 find-spec =

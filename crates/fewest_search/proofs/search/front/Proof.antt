@@ -1,9 +1,9 @@
-use mathlib.Core.Path.{_≡_, refl, sym, ap, subst, _∙_}
+-- `fewest_search::search::front` meets its contract. Assumes nothing.
+use mathlib.Core.Path.{_≡_, ap}
 use native.Mathlib.Omega.{arith}
 use borrow.Author.Needs.{needs}
 use Prim.Native.Nat.{ℕ, _-_}
 use lib.ListN.{take}
--- `fewest_search::search::front` meets its contract. Assumes nothing.
 use Rattle.fewest_search.proofs.search.front.Statement.{statement}
 use Rattle.fewest_search.proofs.search.front.Tie as tie
 

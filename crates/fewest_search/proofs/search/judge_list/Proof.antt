@@ -1,9 +1,9 @@
-use mathlib.Core.Path.{_≡_, refl, sym, ap, subst, _∙_}
+-- `fewest_search::search::judge_list` meets its contract. Assumes nothing.
+use mathlib.Core.Path.{subst}
 use native.Mathlib.Omega.{arith}
 use borrow.Author.Needs.{needs}
 use Rattle.verdict_judge.specs.Judging.{JudgedIs}
 use Rattle.fewest_search.proofs.SearchLaws.{list-judged}
--- `fewest_search::search::judge_list` meets its contract. Assumes nothing.
 use Rattle.fewest_search.proofs.search.judge_list.Statement.{statement}
 use Rattle.fewest_search.proofs.search.judge_list.Tie as tie
 
@@ -29,7 +29,15 @@ same-length : tie.Need-same-length
 same-length c = search needs
 
 returns : tie.Need-returns
-returns c = list-judged (c .before .before .before .before .before .before .before .before .before .before .before .before .args .question .now) _ _ _ (c .before .before .before .before .before .before .before .write-question .result) (c .before .before .before .before .before .before .before .before .before .before .before .before .args .capacity) (c .before .before .before .before .before .before .before .before .before .before .before .before .args .work .now) (c .before .before .judge .result) (c .before .before .judge .last .1 .1 .0) (c .before .before .before .before .before .before .before .before .before .before .before .before .pre .1) (c .before .before .before .before .before .before .before .write-question .ensures) (subst (λ s. JudgedIs s (c .before .before .before .before .before .before .before .before .before .before .before .before .args .capacity) (c .before .before .before .before .before .before .before .before .before .before .before .before .args .work .now) (c .before .before .judge .result) (c .before .before .judge .last .1 .1 .0)) (c .before .before .before .before .front .ensures) (c .before .before .judge .ensures))
+returns c =
+    let c2 = c .before .before in
+    let c4 = c2 .before .before in
+    let c7 = c4 .before .before .before in
+    let c12 = c7 .before .before .before .before .before in
+    let v = c12 .args in
+    list-judged (v .question .now) _ _ _ (c7 .write-question .result) (v .capacity) (v .work .now) (c2 .judge .result) (c2 .judge .last .1 .1 .0)
+    (c12 .pre .1) (c7 .write-question .ensures) (subst (λ s. JudgedIs s (v .capacity) (v .work .now) (c2 .judge .result) (c2 .judge .last .1 .1 .0))
+    (c4 .front .ensures) (c2 .judge .ensures))
 
 pub judge-list-spec : {M : Type 1} → statement M
 judge-list-spec =

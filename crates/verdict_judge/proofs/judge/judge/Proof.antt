@@ -1,49 +1,58 @@
+-- `verdict_judge::judge::judge` meets its contract. Assumes nothing.
 use native.Mathlib.Omega.{arith}
 use Rattle.verdict_judge.proofs.JudgeLaws.{not-within, within, question-refused, question-accepted}
 use borrow.Author.Needs.{needs}
 use Rattle.verdict_judge.proofs.judge.judge.Statement.{statement}
 use Rattle.verdict_judge.proofs.judge.judge.Tie as tie
-use Rattle.verdict_judge.proofs.judge.judge.Reads as reads
-use Rattle.verdict_judge.proofs.judge.judge.Lts as lts
-use Rattle.terms_checks.proofs.check.check.Reads as check-reads
-use Rattle.verdict_capacity.proofs.capacity.capacity_check.Reads as capacity-check-reads
-use Rattle.verdict_judge.proofs.judge.judge_accepted.Reads as judge-accepted-reads
 
--- src/judge.rt:95:9
 capacity-check-requires : tie.Need-capacity-check-requires
 capacity-check-requires c κs = search needs
 
--- src/judge.rt:97:9
 returns : tie.Need-returns
-returns c = not-within (c .before .before .before .before .args .question .now) (c .before .before .before .before .args .capacity) (c .before .before .before .before .args .work .now) (c .before .capacity-check .result) (c .before .capacity-check .ensures) (omega arith)
+returns c =
+    let c1 = c .before in
+    let c4 = c1 .before .before .before in
+    let v = c4 .args in
+    not-within (v .question .now) (v .capacity) (v .work .now) (c1 .capacity-check .result) (c1 .capacity-check .ensures) (omega arith)
 
--- src/judge.rt:100:9
 check-requires : tie.Need-check-requires
 check-requires c κs = search needs
 
--- src/judge.rt:102:26
 enum-known-checked : tie.Need-enum-known-checked
 enum-known-checked c = search needs
 
--- src/judge.rt:103:62
 enum-told : tie.Need-enum-told
 enum-told c = search needs
 
--- src/judge.rt:103:30
 judge-accepted-requires : tie.Need-judge-accepted-requires
-judge-accepted-requires c κs = let w = within (c .before .before .before .before .before .before .before .before .args .question .now) (c .before .before .before .before .before .before .before .before .args .capacity) (c .before .before .before .before .before .before .before .before .args .work .now) (c .before .before .before .before .before .capacity-check .result) (c .before .before .before .before .before .capacity-check .ensures) (omega arith) in (w .some, w .most, w .fits)
+judge-accepted-requires c κs =
+    let c5 = c .before .before .before .before .before in
+    let c8 = c5 .before .before .before in
+    let v = c8 .args in
+    let w = within (v .question .now) (v .capacity) (v .work .now) (c5 .capacity-check .result) (c5 .capacity-check .ensures) (omega arith) in
+    (w .some, w .most, w .fits)
 
--- src/judge.rt:92:1
 returns-2 : tie.Need-returns-2
-returns-2 c = question-refused (c .before .before .before .before .before .before .before .before .args .question .now) (c .before .before .before .before .before .before .before .before .args .capacity) (c .before .before .before .before .before .before .before .before .args .work .now) (c .before .before .before .before .before .capacity-check .result) (c .before .before .before .before .before .capacity-check .ensures) (omega arith) _ _ (c .before .before .before .check .ensures) (c .before .checked .given .1)
+returns-2 c =
+    let c3 = c .before .before .before in
+    let c5 = c3 .before .before in
+    let c8 = c5 .before .before .before in
+    let v = c8 .args in
+    question-refused (v .question .now) (v .capacity) (v .work .now) (c5 .capacity-check .result) (c5 .capacity-check .ensures) (omega arith) _ _
+    (c3 .check .ensures) (c .before .checked .given .1)
 
--- src/judge.rt:92:1
 same-length : tie.Need-same-length
 same-length c = search needs
 
--- src/judge.rt:92:1
 returns-3 : tie.Need-returns-3
-returns-3 c = question-accepted (c .before .before .before .before .before .before .before .before .before .before .before .args .question .now) (c .before .before .before .before .before .before .before .before .before .before .before .args .capacity) (c .before .before .before .before .before .before .before .before .before .before .before .args .work .now) (c .before .before .before .before .before .before .before .before .capacity-check .result) (c .before .before .before .before .before .before .before .before .capacity-check .ensures) (omega arith) _ _ _ (c .before .before .before .before .before .before .check .ensures) (c .before .before .before .before .enum-told .given .1) (c .before .before .judge-accepted .ensures)
+returns-3 c =
+    let c4 = c .before .before .before .before in
+    let c6 = c4 .before .before in
+    let c8 = c6 .before .before in
+    let c11 = c8 .before .before .before in
+    let v = c11 .args in
+    question-accepted (v .question .now) (v .capacity) (v .work .now) (c8 .capacity-check .result) (c8 .capacity-check .ensures) (omega arith) _ _ _
+    (c6 .check .ensures) (c4 .enum-told .given .1) (c .before .before .judge-accepted .ensures)
 
 pub judge-spec : {M : Type 1} → statement M
 judge-spec =
