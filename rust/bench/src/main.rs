@@ -4,12 +4,14 @@
 //! bench                              all workloads
 //! bench NAME...                      the workloads named
 //! bench --list                       what the workloads are
+//! bench --choices                    a search over 64 choices against 64 judgings
 //! bench --once NAME IMPLEMENTATION   one workload once with `exchange` or `reference`, for a profiler
 //! ```
 
 #![deny(missing_docs)]
 #![deny(unsafe_code)]
 
+mod choices;
 #[allow(unsafe_code)]
 mod clock;
 mod table;
@@ -21,7 +23,7 @@ use std::process::ExitCode;
 use task::Implementation;
 use workloads::Workload;
 
-const USAGE: &str = "usage: bench [NAME... | --list | --once NAME exchange|reference]";
+const USAGE: &str = "usage: bench [NAME... | --list | --choices | --once NAME exchange|reference]";
 
 fn main() -> ExitCode {
     let words: Vec<String> = std::env::args().skip(1).collect();
@@ -30,6 +32,12 @@ fn main() -> ExitCode {
     let done = match words[..] {
         ["--list"] => {
             workloads.iter().for_each(|workload| println!("{}", table::described(workload)));
+            Some(())
+        }
+        ["--choices"] => {
+            let names = ["exchanges", "field-64", "blocked", "ladder"];
+            let named = workloads.iter().filter(|workload| names.contains(&workload.name));
+            choices::print(named);
             Some(())
         }
         ["--once", name, "exchange"] => once(&workloads, name, Implementation::Exchange),

@@ -39,7 +39,7 @@ fn row(name: &str, timed: &Timed) -> String {
 fn size(answers: &[Answer]) -> u32 {
     let size = |answer: &Answer| match *answer {
         Answer::Same(size) | Answer::Different(size) | Answer::Result(size) => size as u32,
-        Answer::Refused(_) | Answer::Unsettled => 0,
+        Answer::Refused(_) | Answer::Unsettled | Answer::None => 0,
     };
     answers.iter().map(size).sum()
 }

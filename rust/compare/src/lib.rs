@@ -62,6 +62,29 @@ pub fn judge(question: &[u8], capacity: u64, work: &mut [u8]) -> Answer {
     )
 }
 
+/// Finds the fewest pairs to hold apart.
+pub fn apart(
+    question: &[u8],
+    capacity: u64,
+    names: &[u8],
+    work: &mut [u8],
+    area: &mut [u8],
+) -> Answer {
+    let lent_names = Guarded::copy(names);
+    let mut lent_work = Guarded::copy(work);
+    let answer = both(
+        question,
+        area,
+        |question, area| {
+            proved::apart(question, capacity, lent_names.bytes(), lent_work.bytes_mut(), area)
+        },
+        |question, area| reference::apart(question, capacity, names, work, area),
+    );
+    lent_names.assert_holds(names, "the names");
+    lent_work.assert_holds(work, "the work area");
+    answer
+}
+
 /// Runs an operation of the proved library on copies, and of the reference on the arguments.
 fn both(
     question: &[u8],

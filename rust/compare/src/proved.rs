@@ -37,6 +37,22 @@ pub fn judge(question: &[u8], capacity: u64, work: &mut [u8]) -> Answer {
     }
 }
 
+/// Finds the fewest pairs to hold apart.
+pub fn apart(
+    question: &[u8],
+    capacity: u64,
+    names: &[u8],
+    work: &mut [u8],
+    area: &mut [u8],
+) -> Answer {
+    match exchange::apart(question, capacity, names, work, area) {
+        Ok(exchange::Answer::Result(Some(length))) => Answer::Result(length as u64),
+        Ok(exchange::Answer::Result(None)) => Answer::None,
+        Ok(exchange::Answer::Unsettled) => Answer::Unsettled,
+        Err(refusal) => refused(refusal),
+    }
+}
+
 fn written(answer: Result<usize, Refusal>) -> Answer {
     answer.map_or_else(refused, |length| Answer::Result(length as u64))
 }

@@ -1,7 +1,7 @@
-//! Random questions: all five operations with random numbers and areas, the two implementations
+//! Random questions: all six operations with random numbers and areas, the two implementations
 //! side by side. What may change in an area is tested beside their agreement.
 
-use compare::{Answer, CAPACITY, QUESTION_BYTES, SITUATION_BYTES, STEPS, STEP_BYTES};
+use compare::{Answer, APART_BYTES, CAPACITY, QUESTION_BYTES, SITUATION_BYTES, STEPS, STEP_BYTES};
 use generate::{each_seed, Draft, Random};
 use std::collections::BTreeMap;
 
@@ -48,6 +48,7 @@ impl Tally {
             Answer::Result(_) => "result".into(),
             Answer::Same(_) => "same".into(),
             Answer::Different(_) => "different".into(),
+            Answer::None => "none".into(),
         };
         *self.0.entry(format!("{operation}: {kind}")).or_default() += 1;
     }
@@ -64,8 +65,12 @@ impl Tally {
             refusals("merge", &[&question[..], &[14, 15]].concat()),
             refusals("beside", &[&question[..], &[15]].concat()),
             refusals("judge", &[&[1, 2], &question[..]].concat()),
-            ["check", "steps", "merge", "beside"].map(|name| format!("{name}: result")).to_vec(),
-            ["steps", "judge"].map(|name| format!("{name}: unsettled")).to_vec(),
+            refusals("apart", &[&[1, 2], &question[..], &[15, 18]].concat()),
+            ["check", "steps", "merge", "beside", "apart"]
+                .map(|name| format!("{name}: result"))
+                .to_vec(),
+            ["steps", "judge", "apart"].map(|name| format!("{name}: unsettled")).to_vec(),
+            vec!["apart: none".into()],
             ["same", "different"].map(|verdict| format!("judge: {verdict}")).to_vec(),
         ];
         for kind in kinds.concat() {
@@ -155,13 +160,18 @@ fn written(area: &Area, answer: Answer) {
     }
 }
 
-fn judge(random: &mut Random, question: &[u8], tally: &mut Tally) {
-    let capacity = match random.below(100) {
+/// A capacity, now and then one that check 1 turns back.
+fn capacity(random: &mut Random) -> u64 {
+    match random.below(100) {
         0..=2 => *random.pick(&[0, CAPACITY + 1, 1 << 32, u64::MAX]),
         3..=39 => random.between(1, 30) as u64,
         40..=97 => random.between(30, 256) as u64,
         _ => random.between(256, CAPACITY as usize) as u64,
-    };
+    }
+}
+
+fn judge(random: &mut Random, question: &[u8], tally: &mut Tally) {
+    let capacity = capacity(random);
     let used = (SITUATION_BYTES * capacity.min(CAPACITY)) as usize;
     let length = about(random, used);
     let mut area = Area::new(random, length);
@@ -170,6 +180,44 @@ fn judge(random: &mut Random, question: &[u8], tally: &mut Tally) {
     assert!(area.lent[..cleared].iter().all(|&byte| byte == 0), "the work area is not cleared");
     area.assert_untouched_past(cleared);
     tally.add("judge", answer);
+}
+
+/// Up to four names, often of the draft; now and then one too many, one that is none or a repeat.
+fn names(random: &mut Random, draft: &Draft) -> Vec<u8> {
+    let most = if random.chance(5) { 6 } else { 4 };
+    let count = random.below(most + 1);
+    let mut names: Vec<u8> = Vec::new();
+    for _ in 0..count {
+        let name = name(random, draft) as u8;
+        if !names.contains(&name) || random.chance(5) {
+            names.push(name);
+        }
+    }
+    names
+}
+
+fn apart(random: &mut Random, question: &[u8], draft: &Draft, tally: &mut Tally) {
+    let capacity = match capacity(random) {
+        allowed @ 1..=CAPACITY => allowed.min(64), // there are up to 64 choices
+        other => other,
+    };
+    let used = (SITUATION_BYTES * capacity.min(CAPACITY)) as usize;
+    let (length, result) = (about(random, used), about(random, APART_BYTES));
+    let (mut work, mut area) = (Area::new(random, length), Area::new(random, result));
+    let names = names(random, draft);
+    let answer = compare::apart(question, capacity, &names, &mut work.lent, &mut area.lent);
+    let cleared = if matches!(answer, Answer::Refused(_)) { 0 } else { used };
+    assert!(work.lent[..cleared].iter().all(|&byte| byte == 0), "the work area is not cleared");
+    work.assert_untouched_past(cleared);
+    let written = match answer {
+        Answer::Result(length) => length as usize,
+        _ => 0,
+    };
+    area.assert_untouched_past(written);
+    let list: Vec<&[u8]> = area.lent[..written].chunks(2).collect();
+    assert!(list.windows(2).all(|two| two[0] < two[1]), "the list does not ascend");
+    assert!(list.iter().all(|pair| pair[0] < pair[1]), "a pair's larger name is first");
+    tally.add("apart", answer);
 }
 
 #[test]
@@ -182,6 +230,7 @@ fn all_operations_agree() {
         merge(random, &question, &draft, &mut tally);
         beside(random, &question, &draft, &mut tally);
         judge(random, &question, &mut tally);
+        apart(random, &question, &draft, &mut tally);
     });
     for (kind, count) in &tally.0 {
         println!("{kind}: {count}");

@@ -52,6 +52,7 @@ pub(crate) enum Coded {
     Refused(Refusal),
     Unsettled,
     Verdict(Verdict),
+    None,
 }
 
 impl<T> Answer<T> {
@@ -83,6 +84,7 @@ impl Coded {
             2 if number == 0 => Some(Coded::Unsettled),
             3 => Some(Coded::Verdict(Verdict::Same(number))),
             4 => Some(Coded::Verdict(Verdict::Different(number))),
+            5 if number == 0 => Some(Coded::None),
             _ => None,
         }
     }
@@ -119,7 +121,8 @@ mod tests {
         assert_eq!(kind(2, 0), Some(Coded::Unsettled));
         assert_eq!(kind(3, 4096), Some(Coded::Verdict(Verdict::Same(4096))));
         assert_eq!(kind(4, 1), Some(Coded::Verdict(Verdict::Different(1))));
-        for no_answer in [(1, 0), (1, 16), (2, 1), (5, 0), (u32::MAX.into(), 1)] {
+        assert_eq!(kind(5, 0), Some(Coded::None));
+        for no_answer in [(1, 0), (1, 16), (2, 1), (5, 1), (6, 0), (u32::MAX.into(), 1)] {
             assert_eq!(kind(no_answer.0, no_answer.1), None);
         }
     }

@@ -1,4 +1,4 @@
-//! The C boundary: the five functions of `libexchange.a`, each over Rust slices. All unsafe code
+//! The C boundary: the six functions of `libexchange.a`, each over Rust slices. All unsafe code
 //! of the crate is here.
 //!
 //! The functions have no other duty for a caller than that each slice is what its pointer and
@@ -41,6 +41,17 @@ mod library {
             work: *mut u8,
             work_len: usize,
         ) -> u64;
+        pub fn exchange_apart(
+            question: *const u8,
+            question_len: usize,
+            capacity: u64,
+            names: *const u8,
+            names_len: usize,
+            work: *mut u8,
+            work_len: usize,
+            area: *mut u8,
+            area_len: usize,
+        ) -> u64;
     }
 }
 
@@ -76,4 +87,31 @@ pub fn judge(question: &[u8], capacity: u64, work: &mut [u8]) -> u64 {
     let (work, work_len) = (work.as_mut_ptr(), work.len());
     // SAFETY: as in `steps`.
     unsafe { library::exchange_judge(question, question_len, capacity, work, work_len) }
+}
+
+pub fn apart(
+    question: &[u8],
+    capacity: u64,
+    names: &[u8],
+    work: &mut [u8],
+    area: &mut [u8],
+) -> u64 {
+    let (question, question_len) = (question.as_ptr(), question.len());
+    let (names, names_len) = (names.as_ptr(), names.len());
+    let (work, work_len) = (work.as_mut_ptr(), work.len());
+    let (area, area_len) = (area.as_mut_ptr(), area.len());
+    // SAFETY: as in `beside`; the two areas are borrowed for the call alone.
+    unsafe {
+        library::exchange_apart(
+            question,
+            question_len,
+            capacity,
+            names,
+            names_len,
+            work,
+            work_len,
+            area,
+            area_len,
+        )
+    }
 }

@@ -1,5 +1,5 @@
 //! The exchange judge: are two parts open bisimilar? The work is done by the proved library
-//! `libexchange.a`; this crate links it and gives its five operations as safe functions over byte
+//! `libexchange.a`; this crate links it and gives its six operations as safe functions over byte
 //! slices and numbers.
 //!
 //! - [`check`] says whether a question is accepted.
@@ -7,6 +7,7 @@
 //! - [`merge`] makes two names of a question one.
 //! - [`beside`] sets a third part beside both sides.
 //! - [`judge`] says whether the two parts are the same.
+//! - [`apart`] finds the fewest pairs of names that, held apart besides, make them the same.
 //!
 //! The same with types: a [`Question`] is checked once, its methods take a [`Side`] and [`Name`]s,
 //! a [`Step`] reads a listed step, and a [`Judge`] owns the work area of a [`Capacity`]. Without
@@ -79,6 +80,8 @@ pub const STEP_BYTES: usize = 132;
 pub const CAPACITY: u64 = 4096;
 /// The bytes of work area for each situation of the capacity.
 pub const SITUATION_BYTES: usize = 256;
+/// The greatest length of an apart list. The result area of [`apart`] must have as many bytes.
+pub const APART_BYTES: usize = 240;
 
 /// Checks a question.
 ///
@@ -235,6 +238,54 @@ fn written(coded: Coded) -> Option<usize> {
 pub fn judge(question: &[u8], capacity: u64, work: &mut [u8]) -> Result<Answer<Verdict>, Refusal> {
     Coded::answered(boundary::judge(question, capacity, work), |coded| match coded {
         Coded::Verdict(verdict) => Some(Answer::Result(verdict)),
+        Coded::Unsettled => Some(Answer::Unsettled),
+        _ => None,
+    })
+}
+
+/// Finds the fewest pairs of the given names, at most four, that make the parts the same when they
+/// are added to the apart list. Of equally many those win whose bytes come first, each pair with
+/// its smaller name first and in ascending order.
+///
+/// The result is the length of the enlarged list, which stands at the front of the area in that
+/// same order without repeats; later bytes are untouched. It is `None` if no choice of pairs makes
+/// the parts the same, and the answer is unsettled if any choice is. The area must have
+/// [`APART_BYTES`], and the work area is as for [`judge`].
+///
+/// # Errors
+/// The first of the rules 1 to 12, 18 and 15, in this order, that turns the arguments back.
+///
+/// ```
+/// use exchange::{Answer, Refusal, APART_BYTES, SITUATION_BYTES};
+///
+/// // [a=b]τ.0 and 0: the same if a and b are held apart.
+/// let question = [
+///     0x01, 0x00, 0x00, 0x05, 0x05, 0x00, 0x01, 0x01, 0x00, 0x00, 0x01, 0x00, 0x00, 0x00,
+/// ];
+/// let mut work = [0; 4 * SITUATION_BYTES];
+/// let mut area = [0xFF; APART_BYTES];
+/// let found = exchange::apart(&question, 4, &[0, 1, 2], &mut work, &mut area)?;
+/// assert_eq!(found, Answer::Result(Some(2)));
+/// assert_eq!(area[..3], [0, 1, 0xFF]);
+///
+/// assert_eq!(exchange::apart(&question, 4, &[0, 2], &mut work, &mut area)?, Answer::Result(None));
+/// assert_eq!(
+///     exchange::apart(&question, 4, &[0, 0], &mut work, &mut area),
+///     Err(Refusal::Names)
+/// );
+/// # Ok::<(), exchange::Refusal>(())
+/// ```
+pub fn apart(
+    question: &[u8],
+    capacity: u64,
+    names: &[u8],
+    work: &mut [u8],
+    area: &mut [u8],
+) -> Result<Answer<Option<usize>>, Refusal> {
+    let code = boundary::apart(question, capacity, names, work, area);
+    Coded::answered(code, |coded| match coded {
+        Coded::Result(length) => Some(Answer::Result(Some(length))),
+        Coded::None => Some(Answer::Result(None)),
         Coded::Unsettled => Some(Answer::Unsettled),
         _ => None,
     })

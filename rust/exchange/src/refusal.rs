@@ -53,6 +53,8 @@ pub enum Refusal {
     Merging = 14,
     /// Rule 15: the length of the result area.
     ResultArea = 15,
+    /// Rule 18: the names given for the fewest pairs.
+    Names = 18,
 }
 
 impl Refusal {
@@ -73,6 +75,7 @@ impl Refusal {
         Refusal::Listing,
         Refusal::Merging,
         Refusal::ResultArea,
+        Refusal::Names,
     ];
 
     /// The refusal by the rule of this number, if there is such a rule.
@@ -123,6 +126,7 @@ impl Refusal {
             }
             Refusal::Merging => "a name is above 15 or the apart list holds the two apart",
             Refusal::ResultArea => "the lent result area is too short",
+            Refusal::Names => "there are more than four names, one is above 15, or one is repeated",
         }
     }
 }
@@ -141,13 +145,15 @@ mod tests {
 
     #[test]
     fn each_rule_has_its_number_and_a_text_of_its_own() {
-        for (place, &refusal) in Refusal::ALL.iter().enumerate() {
-            assert_eq!(usize::from(refusal.rule()), place + 1);
-            assert_eq!(Refusal::of_rule(place as u64 + 1), Some(refusal));
+        for &refusal in Refusal::ALL {
+            assert_eq!(Refusal::of_rule(refusal.rule().into()), Some(refusal));
             let alike = Refusal::ALL.iter().filter(|other| other.text() == refusal.text());
             assert_eq!(alike.count(), 1);
         }
-        for no_rule in [0, 16, 256 + 3, u64::MAX] {
+        let numbers: std::vec::Vec<u8> =
+            Refusal::ALL.iter().map(|refusal| refusal.rule()).collect();
+        assert!(numbers.windows(2).all(|two| two[0] < two[1]));
+        for no_rule in [0, 16, 17, 256 + 3, u64::MAX] {
             assert_eq!(Refusal::of_rule(no_rule), None);
         }
     }

@@ -1,6 +1,6 @@
 //! The deepest walks that were found, each called on a stack of 352 KiB.
 
-use exchange::{Answer, SITUATION_BYTES, STEPS, STEP_BYTES};
+use exchange::{Answer, APART_BYTES, SITUATION_BYTES, STEPS, STEP_BYTES};
 use generate::Fields;
 use std::thread;
 
@@ -62,6 +62,10 @@ fn every_call_fits_a_small_stack() {
                 let _ = exchange::steps(&question, 1, 15, &mut area).expect("the steps are listed");
                 let judged = exchange::judge(&question, CAPACITY as u64, &mut work);
                 assert!(!matches!(judged, Ok(Answer::Result(exchange::Verdict::Different(_)))));
+                let mut list = [0; APART_BYTES];
+                let found =
+                    exchange::apart(&question, CAPACITY as u64, &[0, 15], &mut work, &mut list);
+                assert!(matches!(found, Ok(Answer::Unsettled | Answer::Result(Some(0)))));
             };
             let thread = thread::Builder::new().stack_size(STACK_BYTES).spawn(call);
             thread.expect("a thread can be started").join().expect("the call returns");

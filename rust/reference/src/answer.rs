@@ -5,7 +5,7 @@ use std::fmt;
 /// What an operation answers.
 #[derive(Clone, Copy, PartialEq, Eq, Hash, Debug)]
 pub enum Answer {
-    /// Turned back by the check of this number, 1 to 15.
+    /// Turned back by the check of this number.
     Refused(u8),
     /// Beyond a limit of the listing or of the field.
     Unsettled,
@@ -15,6 +15,8 @@ pub enum Answer {
     Same(u64),
     /// The two parts are not related; the number is the size of the field.
     Different(u64),
+    /// No choice of pairs makes the parts the same.
+    None,
 }
 
 impl Answer {
@@ -26,6 +28,7 @@ impl Answer {
             Answer::Unsettled => (2, 0),
             Answer::Same(size) => (3, size),
             Answer::Different(size) => (4, size),
+            Answer::None => (5, 0),
         };
         (kind << 32) + number
     }
@@ -52,6 +55,7 @@ impl fmt::Display for Answer {
             Answer::Result(number) => write!(f, "result {number}"),
             Answer::Same(size) => write!(f, "same {size}"),
             Answer::Different(size) => write!(f, "different {size}"),
+            Answer::None => write!(f, "none 0"),
         }
     }
 }
@@ -90,4 +94,6 @@ pub enum Check {
     Merging = 14,
     /// The lent result area is too short.
     ResultArea = 15,
+    /// More than four names, one above 15, or a repeat.
+    Names = 18,
 }

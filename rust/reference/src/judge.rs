@@ -11,6 +11,15 @@ pub const SITUATION_BYTES: u64 = 256;
 
 /// Checks 1 to 12, then the verdict.
 pub fn judge(question: &[u8], kind: Kind, capacity: u64, work: &mut [u8]) -> Result<Answer, Check> {
+    let used = used(capacity, work)?;
+    let question = Question::read(question)?;
+    let verdict = verdict(&question, kind, capacity);
+    work[..used].fill(0);
+    Ok(verdict)
+}
+
+/// Checks 1 and 2: the bytes of the work area that are used.
+pub fn used(capacity: u64, work: &[u8]) -> Result<usize, Check> {
     if !(1..=CAPACITY).contains(&capacity) {
         return Err(Check::Capacity);
     }
@@ -18,14 +27,16 @@ pub fn judge(question: &[u8], kind: Kind, capacity: u64, work: &mut [u8]) -> Res
     if (work.len() as u64) < used {
         return Err(Check::WorkArea);
     }
-    let question = Question::read(question)?;
-    let verdict = match field(&question, kind, capacity as usize) {
+    Ok(used as usize)
+}
+
+/// The verdict on an accepted question.
+pub fn verdict(question: &Question, kind: Kind, capacity: u64) -> Answer {
+    match field(question, kind, capacity as usize) {
         None => Answer::Unsettled,
         Some(field) if start_stays(&field) => Answer::Same(field.size() as u64),
         Some(field) => Answer::Different(field.size() as u64),
-    };
-    work[..used as usize].fill(0);
-    Ok(verdict)
+    }
 }
 
 /// Whether the start is in the greatest set of situations in which every demand has an answer

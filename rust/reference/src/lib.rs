@@ -1,13 +1,14 @@
 //! A second implementation of the exchange judge, written from its paper alone and apart from the
 //! proved one. It parses a question into trees, works on trees and names, and prints them back.
 //!
-//! The five operations take numbers and byte areas and answer with an [`Answer`].
+//! The six operations take numbers and byte areas and answer with an [`Answer`].
 
 #![deny(missing_docs)]
 #![forbid(unsafe_code)]
 
 mod answer;
 mod condition;
+mod fewest;
 mod field;
 mod judge;
 mod question;
@@ -133,6 +134,18 @@ pub fn judge_late(question: &[u8], capacity: u64, work: &mut [u8]) -> Answer {
 /// Judges whether the parts of a question are early bisimilar; its apart list is only checked.
 pub fn judge_early(question: &[u8], capacity: u64, work: &mut [u8]) -> Answer {
     judge::judge(question, Kind::Early, capacity, work).unwrap_or_else(Answer::from)
+}
+
+/// Finds the fewest pairs of the names that, held apart besides, make the parts the same, and
+/// answers the length of the enlarged list written.
+pub fn apart(
+    question: &[u8],
+    capacity: u64,
+    names: &[u8],
+    work: &mut [u8],
+    area: &mut [u8],
+) -> Answer {
+    fewest::apart(question, capacity, names, work, area).unwrap_or_else(Answer::from)
 }
 
 /// A number given as a free name.

@@ -360,12 +360,13 @@ fn sides_of_112_and_113_bytes() {
 /// Answers as single numbers.
 #[test]
 fn codes() {
-    let answers: [(Answer, u64); 5] = [
+    let answers: [(Answer, u64); 6] = [
         (Number(7), 7),
         (Refused(15), (1 << 32) + 15),
         (Unsettled, 2 << 32),
         (Same(4096), (3 << 32) + 4096),
         (Answer::Different(1), (4 << 32) + 1),
+        (Answer::None, 5 << 32),
     ];
     for (answer, code) in answers {
         assert_eq!(answer.code(), code);

@@ -33,7 +33,7 @@ impl Shares {
                 self.different += 1;
                 self.field(size);
             }
-            Answer::Result(_) => unreachable!("judge answers no plain number"),
+            Answer::Result(_) | Answer::None => unreachable!("judge answers no such thing"),
         }
     }
 
