@@ -14,10 +14,12 @@ use Rattle.terms.specs.Answer.{Answer, refused, result}
 use Rattle.terms.specs.Limits.{nameCount, longestApart}
 use Rattle.terms.specs.Question.{Question, checkOf, write}
 use Rattle.terms.proofs.Answers.{result-injective, bind-result, need-result}
+use Rattle.terms.specs.WellFormed.{WellFormed}
+use Rattle.terms.proofs.WellFormed.{accepted-well-formed}
 use Rattle.verdict.specs.Entries.{Defines}
 use Rattle.verdict.specs.Judge.{slotBytes}
 use Rattle.verdict.specs.Outcome.{Says}
-use Rattle.verdict.specs.Verdict.{Verdict, unsettled, same, different}
+use Rattle.verdict.specs.Verdict.{differs, Verdict, unsettled, same, different}
 use Rattle.verdict.proofs.CapacityLaws.{passed-within}
 use Rattle.verdict.proofs.VerdictIsDefinition13.{same-is-related, different-is-unrelated, unsettled-iff-past-a-limit}
 use Rattle.fewest.specs.Apart.{namesGiven, listFor, apartOf, ofFewest, workAfter, areaAfter, ApartIs}
@@ -42,29 +44,29 @@ module _ (question : List ℕ) (q : Question) (accepted : checkOf question ≡ r
   abbrev candidates : Pairs
   candidates = candidatePairs nameCount names (q .apart)
 
-  accepts : (c : Pairs) → checkOf (write (under c)) ≡ result (under c)
+  well : (c : Pairs) → WellFormed (under c)
   unfolding enlarged
-  accepts c = under-accepted question q accepted (q .apart ++ c)
+  well c = accepted-well-formed (write (under c)) (under c) (under-accepted question q accepted (q .apart ++ c))
 
   defines-under : (c : Pairs) → Defines (under c) Δ
   unfolding underList
   defines-under c = record { arities = defines .arities; bodies = defines .bodies }
 
   same-related : (c : Pairs) (n : ℕ) → verdictUnder q capacity c ≡ same n → RelatedUnder Δ q capacity names c
-  unfolding verdictUnder underList accepts defines-under
-  same-related c n e = same-is-related (write (under c)) (under c) (accepts c) Δ (defines-under c) capacity n e
+  unfolding verdictUnder underList well defines-under
+  same-related c n e = same-is-related (under c) (well c) Δ (defines-under c) capacity n e
 
   different-unrelated : (c : Pairs) (n : ℕ) → verdictUnder q capacity c ≡ different n → ¬ RelatedUnder Δ q capacity names c
-  unfolding verdictUnder underList accepts defines-under
-  different-unrelated c n e = different-is-unrelated (write (under c)) (under c) (accepts c) Δ (defines-under c) capacity n e
+  unfolding verdictUnder underList well defines-under
+  different-unrelated c n e = different-is-unrelated (under c) (well c) Δ (defines-under c) capacity n e
 
   exceeds-unsettled : (c : Pairs) → ExceedsUnder Δ q capacity names c → verdictUnder q capacity c ≡ unsettled
-  unfolding verdictUnder
-  exceeds-unsettled c x = unsettled-iff-past-a-limit (write (under c)) (under c) (accepts c) Δ (defines-under c) capacity .1 x
+  unfolding verdictUnder differs
+  exceeds-unsettled c x = unsettled-iff-past-a-limit (under c) (well c) Δ (defines-under c) capacity .1 x
 
   unsettled-exceeds : (c : Pairs) → verdictUnder q capacity c ≡ unsettled → ExceedsUnder Δ q capacity names c
-  unfolding verdictUnder
-  unsettled-exceeds c e = unsettled-iff-past-a-limit (write (under c)) (under c) (accepts c) Δ (defines-under c) capacity .0 e
+  unfolding verdictUnder differs
+  unsettled-exceeds c e = unsettled-iff-past-a-limit (under c) (well c) Δ (defines-under c) capacity .0 e
 
   not-unsettled : (c : Pairs) → isUnsettled (verdictUnder q capacity c) ≡ false → ¬ ExceedsUnder Δ q capacity names c
   unfolding isUnsettled

@@ -13,6 +13,7 @@ use Rattle.terms.specs.Question.{Question, checkOf, pairBytes}
 use Rattle.verdict.specs.Entries.{Defines}
 use Rattle.verdict.specs.Judge.{slotBytes}
 use Rattle.verdict.specs.Meaning.{Exceeds}
+use Rattle.verdict.specs.Verdict.{openly}
 use Rattle.verdict.specs.Outcome.{Outcome, gave, turnedBack, unsettledOutcome, noneOutcome, Says}
 use Rattle.fewest.specs.Apart.{apartOf}
 use Rattle.fewest.specs.Choices.{candidatePairs, Choice, Earlier, enlarged, underList}
@@ -32,7 +33,7 @@ module _ (Δ : Defs) (q : Question) (capacity : ℕ) (names : List ℕ) where
 
   -- the question under the list of the choice exceeds a limit
   abbrev pub ExceedsUnder : Pairs → Type 0
-  ExceedsUnder c = Exceeds Δ (underList q (listOf c)) capacity
+  ExceedsUnder c = Exceeds openly Δ (underList q (listOf c)) capacity
 
   -- The winner's parts are related under its list, and under the list of no choice before it. Where there is none, they are related under no
   -- choice. Unsettled exactly if some choice exceeds a limit.

@@ -2,6 +2,7 @@
 
 use crate::answer::{Answer, Check};
 use crate::condition::NAMES;
+use crate::field::Kind;
 use crate::judge::{used, verdict};
 use crate::question::{Question, APART_BYTES};
 use std::collections::BTreeSet;
@@ -39,7 +40,7 @@ fn search(question: &Question, capacity: u64, given: &BTreeSet<u8>, area: &mut [
     for choice in choices(given, &held) {
         let list: Pairs = held.iter().chain(&choice).copied().collect();
         let enlarged = Question { apart: list.iter().copied().collect(), ..question.clone() };
-        match verdict(&enlarged, capacity) {
+        match verdict(&enlarged, Kind::Open, capacity) {
             Answer::Unsettled => return Answer::Unsettled,
             Answer::Same(_) if best.as_ref().map_or(true, |(other, _)| before(&choice, other)) => {
                 best = Some((choice, list));

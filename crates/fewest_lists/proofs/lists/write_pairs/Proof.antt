@@ -33,12 +33,20 @@ loop-less c = search needs
 loop-again : tie.Need-loop-again Inv-loop μ-loop
 unfolding PairWritten
 loop-again c =
-    let v = c .before .before .before .before .before .before .before .before .args in
-    (search needs, omega (arith, c .before .before .write-pair .ensures .ends, one-short (v .flags .now)
-    (c .before .before .before .before .before .loop .k)), search needs, pairs-more (v .flags .now) (v .out .now) (v .put)
-    (c .before .before .before .before .before .loop .k) (c .before .before .before .before .before .loop .end) _
-    (c .before .before .before .before .before .loop .out) _ (omega arith) (omega arith) (c .before .before .before .before .before .loop .inv .3)
-    (c .before .before .write-pair .ensures))
+    let v = c .before .before .before .before .before .before .before .before .args in (
+      search needs,
+      omega (
+        arith,
+        c .before .before .write-pair .ensures .ends,
+        one-short (v .flags .now)
+            (c .before .before .before .before .before .loop .k),
+      ),
+      search needs,
+      pairs-more (v .flags .now) (v .out .now) (v .put)
+          (c .before .before .before .before .before .loop .k) (c .before .before .before .before .before .loop .end) _
+          (c .before .before .before .before .before .loop .out) _ (omega arith) (omega arith) (c .before .before .before .before .before .loop .inv .3)
+          (c .before .before .write-pair .ensures),
+    )
 
 same-length : tie.Need-same-length Inv-loop μ-loop
 same-length c = search needs

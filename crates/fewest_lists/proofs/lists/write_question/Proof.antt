@@ -29,12 +29,20 @@ copy-requires c κs =
     let c3 = c2 .before in
     let c4 = c3 .before in
     let c8 = c4 .before .before .before .before in
-    let v = c8 .args in
-    (omega (arith, apart-inside (v .question .now) (c3 .field-place .result) (c2 .after-field .result) (c1 .after-field2 .result)
-    (c3 .field-place .ensures ∙ ap (fieldPlace (v .question .now)) (c4 .definitions .ensures .0)) (c2 .after-field .ensures)
-    (c1 .after-field2 .ensures) (c8 .pre .0)), omega (arith, apart-room (v .question .now) (c3 .field-place .result) (c2 .after-field .result)
-    (c1 .after-field2 .result) (c3 .field-place .ensures ∙ ap (fieldPlace (v .question .now)) (c4 .definitions .ensures .0))
-    (c2 .after-field .ensures) (c1 .after-field2 .ensures) (c8 .pre .0)))
+    let v = c8 .args in (
+      omega (
+        arith,
+        apart-inside (v .question .now) (c3 .field-place .result) (c2 .after-field .result) (c1 .after-field2 .result)
+            (c3 .field-place .ensures ∙ ap (fieldPlace (v .question .now)) (c4 .definitions .ensures .0)) (c2 .after-field .ensures)
+            (c1 .after-field2 .ensures) (c8 .pre .0),
+      ),
+      omega (
+        arith,
+        apart-room (v .question .now) (c3 .field-place .result) (c2 .after-field .result)
+            (c1 .after-field2 .result) (c3 .field-place .ensures ∙ ap (fieldPlace (v .question .now)) (c4 .definitions .ensures .0))
+            (c2 .after-field .ensures) (c1 .after-field2 .ensures) (c8 .pre .0),
+      ),
+    )
 
 add-write-pairs : tie.Need-add-write-pairs
 add-write-pairs c =
@@ -44,21 +52,29 @@ add-write-pairs c =
     let c7 = c6 .before in
     let c8 = c7 .before in
     let c12 = c8 .before .before .before .before in
-    omega (arith, apart-room (c12 .args .question .now) (c7 .field-place .result) (c6 .after-field .result) (c5 .after-field2 .result)
-    (c7 .field-place .ensures ∙ ap (fieldPlace (c12 .args .question .now)) (c8 .definitions .ensures .0)) (c6 .after-field .ensures)
-    (c5 .after-field2 .ensures) (c12 .pre .0))
+    omega (
+      arith,
+      apart-room (c12 .args .question .now) (c7 .field-place .result) (c6 .after-field .result) (c5 .after-field2 .result)
+          (c7 .field-place .ensures ∙ ap (fieldPlace (c12 .args .question .now)) (c8 .definitions .ensures .0)) (c6 .after-field .ensures)
+          (c5 .after-field2 .ensures) (c12 .pre .0),
+    )
 
 write-pairs-requires : tie.Need-write-pairs-requires
-write-pairs-requires c κs =
-    (search needs, omega (arith, apart-room
-    (c .before .before .before .before .before .before .before .before .before .before .before .before .args .question .now)
-    (c .before .before .before .before .before .before .before .field-place .result)
-    (c .before .before .before .before .before .before .after-field .result) (c .before .before .before .before .before .after-field2 .result)
-    (c .before .before .before .before .before .before .before .field-place .ensures ∙ ap (fieldPlace
-    (c .before .before .before .before .before .before .before .before .before .before .before .before .args .question .now))
-    (c .before .before .before .before .before .before .before .before .definitions .ensures .0))
-    (c .before .before .before .before .before .before .after-field .ensures) (c .before .before .before .before .before .after-field2 .ensures)
-    (c .before .before .before .before .before .before .before .before .before .before .before .before .pre .0)))
+write-pairs-requires c κs = (
+  search needs,
+  omega (
+    arith,
+    apart-room
+        (c .before .before .before .before .before .before .before .before .before .before .before .before .args .question .now)
+        (c .before .before .before .before .before .before .before .field-place .result)
+        (c .before .before .before .before .before .before .after-field .result) (c .before .before .before .before .before .after-field2 .result)
+        (c .before .before .before .before .before .before .before .field-place .ensures ∙ ap (fieldPlace
+        (c .before .before .before .before .before .before .before .before .before .before .before .before .args .question .now))
+        (c .before .before .before .before .before .before .before .before .definitions .ensures .0))
+        (c .before .before .before .before .before .before .after-field .ensures) (c .before .before .before .before .before .after-field2 .ensures)
+        (c .before .before .before .before .before .before .before .before .before .before .before .before .pre .0),
+  ),
+)
 
 sub-size : tie.Need-sub-size
 unfolding PairsWritten
@@ -83,9 +99,15 @@ slice-write-out c =
     let c10 = c9 .before in
     let c11 = c10 .before in
     let c15 = c11 .before .before .before .before in
-    omega (arith, apart-room (c15 .args .question .now) (c10 .field-place .result) (c9 .after-field .result) (c8 .after-field2 .result)
-    (c10 .field-place .ensures ∙ ap (fieldPlace (c15 .args .question .now)) (c11 .definitions .ensures .0)) (c9 .after-field .ensures)
-    (c8 .after-field2 .ensures) (c15 .pre .0), c .before .before .write-pairs .kept .1 .0, c6 .copy .kept .1 .1 .1 .0, c15 .pre .2)
+    omega (
+      arith,
+      apart-room (c15 .args .question .now) (c10 .field-place .result) (c9 .after-field .result) (c8 .after-field2 .result)
+          (c10 .field-place .ensures ∙ ap (fieldPlace (c15 .args .question .now)) (c11 .definitions .ensures .0)) (c9 .after-field .ensures)
+          (c8 .after-field2 .ensures) (c15 .pre .0),
+      c .before .before .write-pairs .kept .1 .0,
+      c6 .copy .kept .1 .1 .1 .0,
+      c15 .pre .2,
+    )
 
 cast-out-2 : tie.Need-cast-out-2
 cast-out-2 c = search needs
@@ -98,9 +120,12 @@ add-out c =
     let c10 = c9 .before in
     let c11 = c10 .before in
     let c15 = c11 .before .before .before .before in
-    omega (arith, apart-room (c15 .args .question .now) (c10 .field-place .result) (c9 .after-field .result) (c8 .after-field2 .result)
-    (c10 .field-place .ensures ∙ ap (fieldPlace (c15 .args .question .now)) (c11 .definitions .ensures .0)) (c9 .after-field .ensures)
-    (c8 .after-field2 .ensures) (c15 .pre .0))
+    omega (
+      arith,
+      apart-room (c15 .args .question .now) (c10 .field-place .result) (c9 .after-field .result) (c8 .after-field2 .result)
+          (c10 .field-place .ensures ∙ ap (fieldPlace (c15 .args .question .now)) (c11 .definitions .ensures .0)) (c9 .after-field .ensures)
+          (c8 .after-field2 .ensures) (c15 .pre .0),
+    )
 
 slice-write-out-2 : tie.Need-slice-write-out-2
 slice-write-out-2 c =
@@ -110,10 +135,15 @@ slice-write-out-2 c =
     let c10 = c9 .before in
     let c11 = c10 .before in
     let c15 = c11 .before .before .before .before in
-    simp length-set (omega (arith, apart-room (c15 .args .question .now) (c10 .field-place .result) (c9 .after-field .result)
-    (c8 .after-field2 .result) (c10 .field-place .ensures ∙ ap (fieldPlace (c15 .args .question .now)) (c11 .definitions .ensures .0))
-    (c9 .after-field .ensures) (c8 .after-field2 .ensures) (c15 .pre .0), c .before .before .write-pairs .kept .1 .0, c6 .copy .kept .1 .1 .1 .0,
-    c15 .pre .2))
+    simp length-set (omega (
+      arith,
+      apart-room (c15 .args .question .now) (c10 .field-place .result) (c9 .after-field .result)
+          (c8 .after-field2 .result) (c10 .field-place .ensures ∙ ap (fieldPlace (c15 .args .question .now)) (c11 .definitions .ensures .0))
+          (c9 .after-field .ensures) (c8 .after-field2 .ensures) (c15 .pre .0),
+      c .before .before .write-pairs .kept .1 .0,
+      c6 .copy .kept .1 .1 .1 .0,
+      c15 .pre .2,
+    ))
 
 same-length : tie.Need-same-length
 same-length c = simp length-set (c .before .before .write-pairs .kept .1 .0 ∙ c .before .before .before .before .before .before .copy .kept .1 .1 .1 .0)

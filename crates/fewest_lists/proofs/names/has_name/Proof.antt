@@ -34,9 +34,12 @@ loop-less : tie.Need-loop-less Inv-loop μ-loop
 loop-less c = search needs
 
 loop-again : tie.Need-loop-again Inv-loop μ-loop
-loop-again c =
-    (search needs, search needs, c .before .before .before .loop .inv .2 ∙ has-on (c .before .before .before .before .args .names .now)
-    (c .before .before .before .loop .i) (c .before .before .before .before .args .n) (omega arith) (c .if1 .left))
+loop-again c = (
+  search needs,
+  search needs,
+  c .before .before .before .loop .inv .2 ∙ has-on (c .before .before .before .before .args .names .now)
+      (c .before .before .before .loop .i) (c .before .before .before .before .args .n) (omega arith) (c .if1 .left),
+)
 
 returns-2 : tie.Need-returns-2 Inv-loop μ-loop
 returns-2 c =

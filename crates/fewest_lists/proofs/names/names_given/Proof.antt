@@ -49,10 +49,12 @@ loop-less : tie.Need-loop-less Inv-loop μ-loop
 loop-less c = search needs
 
 loop-again : tie.Need-loop-again Inv-loop μ-loop
-loop-again c =
-    (search needs, c .before .before .before .before .before .loop .inv .1 ∙ each-on
-    (c .before .before .before .before .before .before .before .before .args .names .now) (c .before .before .before .before .before .loop .i) (omega
-    arith) (omega arith) (sym (c .if3 .left) ∙ c .before .has-name .ensures))
+loop-again c = (
+  search needs,
+  c .before .before .before .before .before .loop .inv .1 ∙ each-on
+      (c .before .before .before .before .before .before .before .before .args .names .now) (c .before .before .before .before .before .loop .i) (omega
+      arith) (omega arith) (sym (c .if3 .left) ∙ c .before .has-name .ensures),
+)
 
 returns-4 : tie.Need-returns-4 Inv-loop μ-loop
 returns-4 c = each-end (c .before .before .before .before .args .names .now) (c .before .loop .i) (omega arith) ∙ sym (c .before .loop .inv .1)

@@ -31,9 +31,11 @@ apart-accepted-requires c κs =
     let c4 = c .before .before .before .before in
     let c6 = c4 .before .before in
     let c11 = c6 .before .before .before .before .before in
-    let v = c11 .args in
-    (is-accepted (v .question .now) (c4 .check .result) (c4 .check .ensures) (c .before .before .enum-told .given .1), is-allowed (v .question .now)
-    (v .capacity) (v .names .now) (v .work .now) (v .area .now) (c6 .capacity-check .result) (c6 .capacity-check .ensures) (omega arith))
+    let v = c11 .args in (
+      is-accepted (v .question .now) (c4 .check .result) (c4 .check .ensures) (c .before .before .enum-told .given .1),
+      is-allowed (v .question .now)
+          (v .capacity) (v .names .now) (v .work .now) (v .area .now) (c6 .capacity-check .result) (c6 .capacity-check .ensures) (omega arith),
+    )
 
 returns-2 : tie.Need-returns-2
 returns-2 c =

@@ -74,9 +74,21 @@ search-add-search-2 t c = search needs
 search-search-requires-2 : (t : ℕ) → search-lts.Need-search-requires-2 (search-claims t) (search-at t) search′.Post
 search-search-requires-2 t c κs =
     let c3 = c .before .before .before in
-    let c12 = c3 .before .before .before .before .before .before .before .before .before in
-    (omega (arith, c12 .pre .0), (c12 .pre .1 .0, record { some = c12 .pre .1 .1 .some; most = c12 .pre .1 .1 .most; fits = omega (arith,
-    c12 .pre .1 .1 .fits, c3 .search .kept .1 .1 .1 .1 .1 .1 .1 .0) }))
+    let c12 = c3 .before .before .before .before .before .before .before .before .before in (
+      omega (arith, c12 .pre .0),
+      (
+        c12 .pre .1 .0,
+        record {
+          some = c12 .pre .1 .1 .some;
+          most = c12 .pre .1 .1 .most;
+          fits = omega (
+            arith,
+            c12 .pre .1 .1 .fits,
+            c3 .search .kept .1 .1 .1 .1 .1 .1 .1 .0,
+          );
+        },
+      ),
+    )
 
 search-same-length-2 : (t : ℕ) → search-lts.Need-same-length-2 (search-claims t) (search-at t) search′.Post
 search-same-length-2 t c = search needs

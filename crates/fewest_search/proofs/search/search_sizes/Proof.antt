@@ -22,10 +22,13 @@ judge-next-requires c κs = c .before .before .before .before .before .pre
 
 loop-holds : tie.Need-loop-holds Inv-loop μ-loop
 loop-holds c =
-    let v = c .before .before .before .before .before .before .before .before .args in
-    (search needs, refl, sizes-start (v .question .now) (v .pairs .now) (v .flags) (v .capacity) (v .work .now)
-    (c .before .before .before .before .nothing .result) (c .before .before .judge-next .result) (c .before .before .judge-next .last .1 .1 .1 .1 .0)
-    (c .before .before .before .before .nothing .ensures) (c .before .before .judge-next .ensures))
+    let v = c .before .before .before .before .before .before .before .before .args in (
+      search needs,
+      refl,
+      sizes-start (v .question .now) (v .pairs .now) (v .flags) (v .capacity) (v .work .now)
+          (c .before .before .before .before .nothing .result) (c .before .before .judge-next .result) (c .before .before .judge-next .last .1 .1 .1 .1 .0)
+          (c .before .before .before .before .nothing .ensures) (c .before .before .judge-next .ensures),
+    )
 
 add-size : tie.Need-add-size Inv-loop μ-loop
 add-size c = search needs
@@ -33,21 +36,34 @@ add-size c = search needs
 search-requires : tie.Need-search-requires Inv-loop μ-loop
 search-requires c κs =
     let c5 = c .before .before .before .before .before in
-    let c11 = c5 .before .before .before .before .before .before in
-    (c11 .pre .0, record { some = c11 .pre .1 .some; most = c11 .pre .1 .most; fits = omega (arith, c11 .pre .1 .fits,
-    c .before .before .loop .inv .1, c5 .judge-next .kept .1 .1 .1 .1 .0) })
+    let c11 = c5 .before .before .before .before .before .before in (
+      c11 .pre .0,
+      record {
+        some = c11 .pre .1 .some;
+        most = c11 .pre .1 .most;
+        fits = omega (
+          arith,
+          c11 .pre .1 .fits,
+          c .before .before .loop .inv .1,
+          c5 .judge-next .kept .1 .1 .1 .1 .0,
+        );
+      },
+    )
 
 loop-less : tie.Need-loop-less Inv-loop μ-loop
 loop-less c = search needs
 
 loop-again : tie.Need-loop-again Inv-loop μ-loop
 loop-again c =
-    let v = c .before .before .before .before .before .before .before .before .before .before .before .before .before .before .args in
-    (search needs, search needs, sizes-more (v .question .now) (v .pairs .now) (v .flags) (v .capacity)
-    (c .before .before .before .before .before .before .before .before .judge-next .last .1 .1 .1 .1 .0)
-    (c .before .before .before .before .before .loop .size) (c .before .before .before .before .before .loop .best)
-    (c .before .before .search .result) (c .before .before .before .before .before .loop .work) _
-    (c .before .before .before .before .before .loop .inv .2) (c .before .before .search .ensures))
+    let v = c .before .before .before .before .before .before .before .before .before .before .before .before .before .before .args in (
+      search needs,
+      search needs,
+      sizes-more (v .question .now) (v .pairs .now) (v .flags) (v .capacity)
+          (c .before .before .before .before .before .before .before .before .judge-next .last .1 .1 .1 .1 .0)
+          (c .before .before .before .before .before .loop .size) (c .before .before .before .before .before .loop .best)
+          (c .before .before .search .result) (c .before .before .before .before .before .loop .work) _
+          (c .before .before .before .before .before .loop .inv .2) (c .before .before .search .ensures),
+    )
 
 same-length : tie.Need-same-length Inv-loop μ-loop
 same-length c = search needs
