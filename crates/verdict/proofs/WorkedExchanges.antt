@@ -93,7 +93,9 @@ unfoldable pub expected : List Exchange → List (Answer Verdict)
 expected [] = []
 expected (e ∷ es) = e .answer ∷ expected es
 
-pub worked-exchanges : judged openly (exchanges ++ turnings) ≡ expected (exchanges ++ turnings)
+computed : (judged openly (exchanges ++ turnings) ≡ expected (exchanges ++ turnings))
+    × (judged (named late) (named-exchanges (different 11)) ≡ expected (named-exchanges (different 11)))
+    × (judged (named early) (named-exchanges (same 11)) ≡ expected (named-exchanges (same 11)))
 unfolding judged expected exchanges turnings named-exchanges ask askWith judgeBy withinCapacity _>>=_ _>>_ need checkOf checkFields checkTerms
     version framed cut field fields all fits readBodies readPart readWhole readTerm readName readNames byte tagOf sequential parallelOutermost
     guarded readApart differentNames readPairs joined sized allSized write fieldsOf bodyFields pairBytes encode nameByte verdictBy differs demandsOf
@@ -103,28 +105,13 @@ unfolding judged expected exchanges turnings named-exchanges ask askWith judgeBy
     holdsApart among keep fn lowerL bodyOf listing limited collect insert order allFit bytes resultBytes canonStep listedAs kindOf channelOf objectOf
     classesOf classIn namesFrom visible silent visibleCalls silentCalls visibleOf silentOf restricted restrictedAction outside sparesRestricted
     spares communications communication meet leftSteps rightSteps matching cls join
-worked-exchanges = refl
+computed = (refl, refl, refl)
+
+pub worked-exchanges : judged openly (exchanges ++ turnings) ≡ expected (exchanges ++ turnings)
+worked-exchanges = computed .0
 
 pub late-exchanges : judged (named late) (named-exchanges (different 11)) ≡ expected (named-exchanges (different 11))
-unfolding judged expected exchanges turnings named-exchanges ask askWith judgeBy withinCapacity _>>=_ _>>_ need checkOf checkFields checkTerms
-    version framed cut field fields all fits readBodies readPart readWhole readTerm readName readNames byte tagOf sequential parallelOutermost
-    guarded readApart differentNames readPairs joined sized allSized write fieldsOf bodyFields pairBytes encode nameByte verdictBy differs demandsOf
-    namedDemands sidesDemand namedMoves demandOf lots startOf decided rounds strike allAnswered answered allFound found unseen together withRow
-    explore fieldOf successors withSteps ledTo someBinds bindsName moves movesOf answersTo joinAll led received allowed unconditional ownClasses put
-    updatedBy extrudedBy answers implies permitted select freeFrom freeIn pairsOf situation missing newName sameBytes sameSituation settingOf stepsIn
-    holdsApart among keep fn lowerL bodyOf listing limited collect insert order allFit bytes resultBytes canonStep listedAs kindOf channelOf objectOf
-    classesOf classIn namesFrom visible silent visibleCalls silentCalls visibleOf silentOf restricted restrictedAction outside sparesRestricted
-    spares communications communication meet leftSteps rightSteps matching cls join
-late-exchanges = refl
+late-exchanges = computed .1
 
 pub early-exchanges : judged (named early) (named-exchanges (same 11)) ≡ expected (named-exchanges (same 11))
-unfolding judged expected exchanges turnings named-exchanges ask askWith judgeBy withinCapacity _>>=_ _>>_ need checkOf checkFields checkTerms
-    version framed cut field fields all fits readBodies readPart readWhole readTerm readName readNames byte tagOf sequential parallelOutermost
-    guarded readApart differentNames readPairs joined sized allSized write fieldsOf bodyFields pairBytes encode nameByte verdictBy differs demandsOf
-    namedDemands sidesDemand namedMoves demandOf lots startOf decided rounds strike allAnswered answered allFound found unseen together withRow
-    explore fieldOf successors withSteps ledTo someBinds bindsName moves movesOf answersTo joinAll led received allowed unconditional ownClasses put
-    updatedBy extrudedBy answers implies permitted select freeFrom freeIn pairsOf situation missing newName sameBytes sameSituation settingOf stepsIn
-    holdsApart among keep fn lowerL bodyOf listing limited collect insert order allFit bytes resultBytes canonStep listedAs kindOf channelOf objectOf
-    classesOf classIn namesFrom visible silent visibleCalls silentCalls visibleOf silentOf restricted restrictedAction outside sparesRestricted
-    spares communications communication meet leftSteps rightSteps matching cls join
-early-exchanges = refl
+early-exchanges = computed .2
