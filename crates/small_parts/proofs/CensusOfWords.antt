@@ -1,19 +1,19 @@
 -- The census from a list of the parts: every ordered pair of them makes an accepted question, and is counted by the one verdict that it has.
 use mathlib.Core.Path.{_≡_, refl, sym, ap, subst, _∙_}
 use mathlib.Core.Bool.{Bool, true, false, cond}
-use mathlib.Core.List.{List, [], _∷_, _++_, map}
+use mathlib.Core.List.{List, [], _∷_}
 use mathlib.Core.Logic.{_↔_, inl, inr}
-use Prim.Native.Nat.{ℕ, zero, suc, _+_, _*_, _≤_, _<_}
+use Prim.Native.Nat.{ℕ, suc, _+_, _≤_}
 use native.Mathlib.Omega.{arith}
 use lib.ListN.{length}
 use Rattle.calculus.specs.Term.{Term}
-use Rattle.terms.specs.Answer.{Answer, refused, result, _>>=_}
+use Rattle.terms.specs.Answer.{Answer, refused, result}
 use Rattle.terms.specs.Encoding.{encode, InScope}
 use Rattle.terms.specs.Question.{Question, checkOf, bodyFields, pairBytes, fieldsOf, write}
-use Rattle.terms.proofs.Answers.{result-injective, refused-not-result, bind-to, Every}
+use Rattle.terms.proofs.Answers.{result-injective, bind-to, Every}
 use Rattle.terms.proofs.EncodeRead.{whole-read}
 use Rattle.terms.proofs.ScopeLaws.{free-below}
-use Rattle.terms.proofs.WellFormed.{PartAllowed, BodiesAllowed, WellFormed, well-formed-accepted}
+use Rattle.terms.proofs.WellFormed.{PartAllowed, BodiesAllowed, well-formed-accepted}
 use Rattle.steps.specs.Lists.{_∈_, Distinct}
 use Rattle.steps.proofs.Scope.{scope-calls, in-scope}
 use Rattle.field.specs.Successors.{select}
@@ -21,7 +21,7 @@ use Rattle.field.proofs.Selections.{∈-select, select-∈}
 use Rattle.verdict.specs.Verdict.{Verdict, unsettled, same, different, verdictOf}
 use Rattle.small_parts.specs.Counted.{Counted}
 use Rattle.small_parts.specs.Census.{freeNames, censusCapacity, SmallPart, asked, verdictOn, Kind, isSame, isDifferent, isUnsettled, kindOf, PairOf, CensusIs}
-use Rattle.small_parts.proofs.Counting.{crossed, pairs, ∈-crossed, crossed-∈, length-crossed, distinct-pairs, distinct-select, none-selected}
+use Rattle.small_parts.proofs.Counting.{pairs, ∈-crossed, crossed-∈, length-crossed, distinct-pairs, distinct-select, none-selected}
 use Rattle.small_parts.proofs.Settled.{census-settled}
 
 -- The bytes of a part are those of its term.

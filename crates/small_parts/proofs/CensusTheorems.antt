@@ -1,21 +1,19 @@
 -- What the census counts is what request 2026-14 says: its parts are those of accepted questions without definitions that have no free name but 0 and
 -- 1, and its numbers are determined.
 use mathlib.Core.Path.{_≡_, refl, sym, ap, subst, _∙_}
-use mathlib.Core.Bool.{true}
-use mathlib.Core.List.{List, [], _∷_}
+use mathlib.Core.List.{List, []}
 use mathlib.Core.Logic.{_↔_}
-use Prim.Native.Nat.{ℕ, _+_, _≤_, _<_}
+use Prim.Native.Nat.{ℕ, _≤_, _<_}
 use native.Mathlib.Omega.{arith}
 use lib.ListN.{length, drop}
 use Rattle.calculus.specs.Free.{Free}
-use Rattle.calculus.specs.Term.{Term}
 use Rattle.terms.specs.Answer.{result}
-use Rattle.terms.specs.Encoding.{encode, InScope}
+use Rattle.terms.specs.Encoding.{InScope}
 use Rattle.terms.specs.Framing.{Fields, joined, framed}
 use Rattle.terms.specs.Reading.{readWhole}
 use Rattle.terms.specs.Question.{Question, checkOf, pairBytes, fieldsOf, write}
 use Rattle.terms.proofs.Answers.{result-injective, Every}
-use Rattle.terms.proofs.FramingLaws.{Framable, behindVersion, framed-in}
+use Rattle.terms.proofs.FramingLaws.{behindVersion, framed-in}
 use Rattle.terms.proofs.ReadEncoded.{read-whole}
 use Rattle.terms.proofs.ScopeLaws.{free-below}
 use Rattle.terms.proofs.WellFormed.{WellFormed, withApart, fields-framable, accepted-well-formed, accepted-written}

@@ -1,7 +1,7 @@
 -- A list that has every part of the census as a term, and how many there are: the room that the words of the census need.
 use mathlib.Core.Path.{_≡_, refl, sym, subst}
 use mathlib.Core.Bool.{Bool, true, false, cond}
-use mathlib.Core.List.{List, [], _∷_, _++_, map}
+use mathlib.Core.List.{List, [], _∷_, map}
 use mathlib.Core.Logic.{inl, inr}
 use Prim.Native.Nat.{ℕ, zero, suc, _+_, _-_, _≤_, _<_}
 use native.Mathlib.Omega.{arith}
@@ -14,7 +14,7 @@ use Rattle.terms.specs.Grammar.{sequential, parallelOutermost}
 use Rattle.terms.proofs.Answers.{both-true}
 use Rattle.steps.specs.Lists.{_∈_}
 use Rattle.steps.specs.Listed.{namesFrom}
-use Rattle.steps.proofs.Membership.{∈-map, ∈-left, ∈-right}
+use Rattle.steps.proofs.Membership.{∈-map}
 use Rattle.small_parts.proofs.Counting.{joinAll, ∈-join, crossed, ∈-crossed}
 use Rattle.small_parts.proofs.Size.{size, some}
 

@@ -8,7 +8,6 @@ use Rattle.calculus.specs.Abstraction.{Act, tauA, inpA, outA, boutA, weak}
 use Rattle.calculus.specs.Term.{Term, nil, tau, inp, out, bout, mat, sum, par, res, call, ren, lift}
 use Rattle.calculus.specs.Free.{fn, lowerL}
 use Rattle.terms.specs.Encoding.{nameByte, encode}
-use Rattle.steps.specs.Listed.{bytes}
 
 -- The bytes of a term.
 abbrev pub size : Term → ℕ

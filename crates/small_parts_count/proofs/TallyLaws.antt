@@ -1,12 +1,12 @@
 -- Tallies of pairs of words: one verdict more, one row more, and what the whole counts.
 use mathlib.Core.Path.{_≡_, refl, sym, ap, _∙_}
-use mathlib.Core.Bool.{Bool, true, false, cond, _&&_}
+use mathlib.Core.Bool.{cond, _&&_}
 use mathlib.Core.List.{List, [], _∷_, _++_, map}
 use Prim.Native.Nat.{ℕ, zero, suc, _+_, _*_, _≤_, _<_}
 use native.Mathlib.Omega.{arith}
 use lib.Dec.{leb}
 use lib.ListN.{length, getD, take, drop, length-map}
-use lib.Seq.{sets, take-append-seam}
+use lib.Seq.{take-append-seam}
 use borrow.Author.Tests.{le-leb}
 use Rattle.terms.specs.Answer.{Answer, refused, result}
 use Rattle.terms.proofs.Answers.{need-passed}
@@ -23,7 +23,7 @@ use Rattle.small_parts.proofs.Counting.{crossed, pairs}
 use Rattle.small_parts_words.specs.Words.{mostParts, wordOf, partNumbers, CollectsIs}
 use Rattle.small_parts_words.proofs.WordLaws.{partWords, words-distinct, words-are-parts, few-parts}
 use Rattle.small_parts_count.specs.Counts.{CountIs}
-use Rattle.small_parts_count.specs.Tallies.{none, plusOf, added, tallied, rowOf, wordPairs, total}
+use Rattle.small_parts_count.specs.Tallies.{none, plusOf, added, tallied, withEach, rowOf, wordPairs, total}
 use Rattle.small_parts_count.specs.declared.count.Counts.the-variants.{Numbers}
 use Rattle.small_parts_count.specs.declared.tally.Tally.{Tally}
 
@@ -66,10 +66,6 @@ unfolding tallied
 total-tallied t [] = omega arith
 total-tallied t (p ∷ ps) =
     omega (arith, total-added t (verdictOn (p .0) (p .1)), total-tallied (added t (verdictOn (p .0) (p .1))) ps)
-
--- the pairs of a word with each of a list
-abbrev withEach : ℕ → ℕ → List ℕ → List (List ℕ × List ℕ)
-withEach n first kept = map (λ k. (wordOf n first, wordOf n k)) kept
 
 -- One pair more of a row.
 next-in-row : (n first : ℕ) (kept : List ℕ) (j : ℕ) → j < length kept

@@ -1,6 +1,5 @@
 -- Pairs of words counted one by one by their verdict.
 use mathlib.Core.List.{List, [], _∷_, _++_, map}
-use mathlib.Core.Path.{_≡_}
 use Prim.Native.Nat.{ℕ, _+_, _*_, _≤_, _<_}
 use lib.ListN.{length, getD}
 use Rattle.terms.specs.Answer.{Answer, refused, result}
@@ -27,18 +26,23 @@ unfoldable pub tallied : Tally → List (List ℕ × List ℕ) → Tally
 tallied t [] = t
 tallied t (p ∷ ps) = tallied (added t (verdictOn (p .0) (p .1))) ps
 
--- the pairs of the word kept at `row` with all that are kept
+-- the pairs of one word with each that is kept
+abbrev pub withEach : ℕ → ℕ → List ℕ → List (List ℕ × List ℕ)
+withEach n first kept = map (λ k. (wordOf n first, wordOf n k)) kept
+
+-- those of the word kept at `row`
 unfoldable pub rowOf : ℕ → ℕ → List ℕ → List (List ℕ × List ℕ)
-rowOf n row kept = map (λ k. (wordOf n (getD kept row 0), wordOf n k)) kept
+rowOf n row kept = withEach n (getD kept row 0) kept
 
 -- the pairs of each word of the first list with each of the second
 unfoldable pub wordPairs : ℕ → List ℕ → List ℕ → List (List ℕ × List ℕ)
 wordPairs n [] kept = []
-wordPairs n (first ∷ rest) kept = map (λ k. (wordOf n first, wordOf n k)) kept ++ wordPairs n rest kept
+wordPairs n (first ∷ rest) kept = withEach n first kept ++ wordPairs n rest kept
 
 abbrev pub total : Tally → ℕ
 total t = t .same + t .different + t .unsettled
 
+-- more than there are pairs
 abbrev pub manyPairs : ℕ
 manyPairs = 65536
 

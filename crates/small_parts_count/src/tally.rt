@@ -1,9 +1,6 @@
 // Pairs of words judged and counted by their verdict.
 ghost use mathlib.Core.Path.{_≡_};
-ghost use mathlib.Core.List.{map};
-ghost use Prim.Native.Nat.{_*_, _≤_};
-ghost use lib.ListN.{length};
-ghost use Rattle.small_parts.specs.Census.{greatestLength, verdictOn};
+ghost use Rattle.small_parts.specs.Census.{verdictOn};
 ghost use Rattle.small_parts_words.specs.Words.{wordOf};
 ghost use Rattle.small_parts_count.specs.Tallies.{plusOf, added, tallied, none, rowOf, wordPairs, Room, Few, MayAdd, MayTallyRow, MayTallyPairs};
 ghost use Rattle.verdict_judge.specs.Judging.{judgedAnswer};

@@ -1,5 +1,5 @@
 -- A word tested by the grammar walk; the numbers of the parts kept one behind the other; the question about two words.
-use mathlib.Core.Path.{_≡_, refl, sym, ap, subst, _∙_}
+use mathlib.Core.Path.{_≡_, refl, sym, ap, _∙_}
 use mathlib.Core.Bool.{Bool, true, false, cond}
 use mathlib.Core.List.{List, [], _∷_, _++_, append-nil}
 use Prim.Native.Nat.{ℕ, zero, suc, _+_, _-_, _*_, _≤_, _<_}
@@ -9,7 +9,7 @@ use lib.Seq.{sets, length-sets, take-append-seam}
 use Rattle.terms.specs.Answer.{Answer, refused, result, _>>=_}
 use Rattle.terms.specs.Framing.{sized, allSized, joined}
 use Rattle.terms.specs.Reading.{readWhole}
-use Rattle.terms.proofs.Answers.{bind-result, result-injective, refused-not-result}
+use Rattle.terms.proofs.Answers.{result-injective, refused-not-result}
 use Rattle.terms_bytes.proofs.Stores.{sets-join, sets-start}
 use Rattle.terms_checks.specs.Scanning.{controlOf, scannedWhole, wholeAnswer}
 use Rattle.terms_checks.specs.declared.scan.Control.{Control}
@@ -17,7 +17,7 @@ use Rattle.terms_checks.specs.declared.scan.Scan.{Scan}
 use Rattle.terms_checks.specs.declared.scan.Scan.the-variants.{End, Fault}
 use Rattle.calculus.specs.Term.{Term}
 use Rattle.small_parts.specs.Census.{freeNames, asked}
-use Rattle.small_parts_words.specs.Words.{wordOf, wordCount, byteOf, byteCount, hasOutermost, isPart, partsBelow, partNumbers, MayKeep, KeepsIs, CollectsIs}
+use Rattle.small_parts_words.specs.Words.{wordOf, wordCount, hasOutermost, isPart, partsBelow, partNumbers, MayKeep, KeepsIs, CollectsIs}
 use Rattle.small_parts_words.proofs.WordLaws.{length-word}
 
 -- What the walk says of the bytes.

@@ -6,12 +6,11 @@ use mathlib.Core.Logic.{_⊎_, _↔_, inl, inr}
 use Prim.Native.Nat.{ℕ, zero, suc, _+_, _-_, _*_, _/_, _%_, _≤_, _<_}
 use native.Mathlib.Omega.{arith}
 use lib.Dec.{ltb}
-use lib.ListN.{length, length-append, length-map}
+use lib.ListN.{length, length-map}
 use borrow.Author.Tests.{ltb-true, ltb-false, lt-ltb, le-ltb}
 use Rattle.calculus.specs.Term.{Term, nil, tau, inp, out, bout, mat, sum, par, res, call}
 use Rattle.terms.specs.Answer.{Answer, refused, result}
 use Rattle.terms.specs.Encoding.{nameByte, encode, InScope}
-use Rattle.terms.specs.Grammar.{parallelOutermost}
 use Rattle.terms.specs.Reading.{readWhole}
 use Rattle.steps.specs.Lists.{_∈_, All, Distinct}
 use Rattle.steps.proofs.Membership.{all-++, ∈-left, ∈-right, ∈-either, ∈-map, ∈-mapped, distinct-length}
@@ -20,7 +19,7 @@ use Rattle.small_parts.specs.Census.{freeNames, SmallPart}
 use Rattle.small_parts.proofs.CensusOfWords.{part-bytes, part-scope}
 use Rattle.small_parts.proofs.Counting.{distinct-map}
 use Rattle.small_parts.proofs.ListOfParts.{parts, listed, at-most-parts}
-use Rattle.small_parts.proofs.Size.{size, size-encode, some}
+use Rattle.small_parts.proofs.Size.{size, size-encode}
 use Rattle.small_parts_words.specs.Words.{byteCount, mostParts, byteOf, wordOf, wordCount, hasOutermost, isPart, partsBelow, partNumbers}
 
 pub length-word : (n k : ℕ) → length (wordOf n k) ≡ n
