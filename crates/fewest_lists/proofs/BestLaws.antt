@@ -12,8 +12,8 @@ use Rattle.terms.specs.Limits.{nameCount, longestApart}
 use Rattle.terms.specs.Operations.{holdsApart}
 use Rattle.terms.specs.Question.{pairBytes}
 use Rattle.terms_bytes.proofs.Stores.{sets-start}
-use Rattle.field_pairs.specs.PairFlags.{AddsPair, pairAt}
-use Rattle.field_pairs.specs.Slot.{allPairs, flag, flagsOf}
+use Rattle.field_pairs.specs.PairFlags.{AddsPair}
+use Rattle.field_pairs.specs.Slot.{flag, flagsOf}
 use Rattle.field_pairs.proofs.PairLaws.{length-flags, flag-at, flags-are}
 use Rattle.verdict.specs.Outcome.{gave}
 use Rattle.fewest.specs.Apart.{ofFewest, areaAfter}
@@ -25,6 +25,7 @@ use Rattle.fewest_lists.specs.Bests.{BestIs, followedBy, SameIs, WithPai
 use Rattle.fewest_lists.specs.Lists.{flagged, PairsWritten}
 use Rattle.fewest_lists.proofs.FlagLaws.{flagged-apart}
 use Rattle.fewest_lists.proofs.PairWriting.{flagged-bytes}
+use Rattle.field_pairs.specs.PairNumbers.{allPairs, pairAt}
 
 -- the first one stays
 pub same-stays : (best : Best) (flags : List ℕ) → best .found ≡ true → SameIs best flags best
@@ -68,7 +69,7 @@ holds-last (q ∷ D) p a b =
 
 flags-last : (D : Pairs) (p : ℕ × ℕ) → flagsOf (p ∷ D) ≡ flagsOf (D ++ (p ∷ []))
 flags-last D p =
-    flags-are (D ++ (p ∷ [])) (flagsOf (p ∷ D)) (length-flags (p ∷ D)) (λ k h. flag-at (p ∷ D) k h ∙ ap flag (holds-last D p (pairAt k .0) (pairAt k .1)))
+    flags-are (D ++ (p ∷ [])) (flagsOf (p ∷ D)) (length-flags (p ∷ D)) (λ k h. flag-at (p ∷ D) k h ∙ ap flag (holds-last D p (pairAt nameCount k .0) (pairAt nameCount k .1)))
 
 pub pair-added : (flags pairs : List ℕ) (at a b : ℕ) (r : List ℕ) → a ≡ getD pairs at 0 → b ≡ getD pairs (at + 1) 0 → AddsPair flags a b r
     → WithPair flags pairs at r
@@ -99,9 +100,9 @@ module _ (best : Best) (area : List ℕ) where
   tells-list t u room r area′ w undecided b = let z : _≡_ {A = ℕ} 0 1 = cc in absurd (omega arith)
   tells-list t u room r area′ w none b = let z : _≡_ {A = ℕ} 0 1 = cc (b .1) in absurd (omega arith)
   tells-list t u room r area′ w (chosen D) b =
-      let l : flagged (best .flags) allPairs ≡ inOrder nameCount D = ap (λ fs. flagged fs allPairs) (b .2) ∙ flagged-apart D in
+      let l : flagged (best .flags) (allPairs nameCount) ≡ inOrder nameCount D = ap (λ fs. flagged fs (allPairs nameCount)) (b .2) ∙ flagged-apart D in
       record {
         answer = ap gave (omega (arith, w .ends, ap (λ D. length (pairBytes D)) l));
-        left = w .written ∙ sets-start area (pairBytes (flagged (best .flags) allPairs)) (omega (arith, flagged-bytes (best .flags)))
+        left = w .written ∙ sets-start area (pairBytes (flagged (best .flags) (allPairs nameCount))) (omega (arith, flagged-bytes (best .flags)))
             ∙ ap (λ D. pairBytes D ++ drop (length (pairBytes D)) area) l;
       }

@@ -11,13 +11,14 @@ use Rattle.calculus.specs.Cond.{Pairs}
 use Rattle.calculus.specs.Distinction.{among, keep}
 use Rattle.terms.specs.Limits.{nameCount}
 use Rattle.terms.specs.Operations.{holdsApart}
-use Rattle.field_pairs.specs.PairFlags.{pairCount, pairAt}
-use Rattle.field_pairs.specs.Slot.{allPairs, flag, flagsOf}
+use Rattle.field_pairs.specs.PairFlags.{pairCount}
+use Rattle.field_pairs.specs.Slot.{flag, flagsOf}
 use Rattle.field_pairs.proofs.EntryLaws.{inside}
 use Rattle.field_pairs.proofs.PairLaws.{flag-at}
-use Rattle.field_pairs.proofs.PairTables.{length-pairs}
+use Rattle.field_pairs.proofs.NamePairs.{length-pairs}
 use Rattle.fewest.specs.Choices.{pairsBelow, mayChoose, candidatePairs, inOrder}
 use Rattle.fewest_lists.specs.Lists.{openFlags, flagged}
+use Rattle.field_pairs.specs.PairNumbers.{allPairs, pairAt}
 
 -- the flag that a test sets
 pub flag-set : (b : Bool) → true ≡ b → 1 ≡ flag b
@@ -44,16 +45,16 @@ module _ (f : ℕ → ℕ → Bool) where
   abbrev tested : ℕ × ℕ → ℕ
   tested p = flag (f (p .0) (p .1))
 
-  length-tested : length (map tested allPairs) ≡ pairCount
-  length-tested = length-map allPairs tested ∙ length-pairs
+  length-tested : length (map tested (allPairs nameCount)) ≡ pairCount
+  length-tested = length-map (allPairs nameCount) tested ∙ length-pairs
 
-  pub tested-are : (l : List ℕ) → length l ≡ pairCount → ((k : ℕ) → k < pairCount → getD l k 0 ≡ flag (f (pairAt k .0) (pairAt k .1)))
-      → l ≡ map (λ p. flag (f (p .0) (p .1))) allPairs
+  pub tested-are : (l : List ℕ) → length l ≡ pairCount → ((k : ℕ) → k < pairCount → getD l k 0 ≡ flag (f (pairAt nameCount k .0) (pairAt nameCount k .1)))
+      → l ≡ map (λ p. flag (f (p .0) (p .1))) (allPairs nameCount)
   unfolding pairAt
   tested-are l n h =
-      ext-getD 0 l (map tested allPairs) (n ∙ sym length-tested) (λ k lt.
+      ext-getD 0 l (map tested (allPairs nameCount)) (n ∙ sym length-tested) (λ k lt.
       h k (omega arith)
-      ∙ sym (inside (map tested allPairs) k 0 (flag (f 0 0)) (omega (arith, length-tested)) ∙ List·getD-map tested allPairs k (0, 0)))
+      ∙ sym (inside (map tested (allPairs nameCount)) k 0 (flag (f 0 0)) (omega (arith, length-tested)) ∙ List·getD-map tested (allPairs nameCount) k (0, 0)))
 
   -- the pairs whose flags are set are those that pass
   pub flagged-keep : (ps : Pairs) → flagged (map (λ p. flag (f (p .0) (p .1))) ps) ps ≡ keep f ps
@@ -67,13 +68,13 @@ module _ (f : ℕ → ℕ → Bool) where
       go true e = ap (p ∷_) e
       go false e = e
 
-pub flagged-apart : (D : Pairs) → flagged (flagsOf D) allPairs ≡ inOrder nameCount D
+pub flagged-apart : (D : Pairs) → flagged (flagsOf D) (allPairs nameCount) ≡ inOrder nameCount D
 unfolding flagsOf inOrder allPairs pairsBelow
-flagged-apart D = flagged-keep (holdsApart D) allPairs
+flagged-apart D = flagged-keep (holdsApart D) (allPairs nameCount)
 
-pub flagged-open : (names : List ℕ) (D : Pairs) → flagged (openFlags names D) allPairs ≡ candidatePairs nameCount names D
+pub flagged-open : (names : List ℕ) (D : Pairs) → flagged (openFlags names D) (allPairs nameCount) ≡ candidatePairs nameCount names D
 unfolding openFlags candidatePairs allPairs pairsBelow
-flagged-open names D = flagged-keep (mayChoose names D) allPairs
+flagged-open names D = flagged-keep (mayChoose names D) (allPairs nameCount)
 
 -- apart already; not one of the names; both of them
 module _ (names : List ℕ) (D : Pairs) (a b : ℕ) where
@@ -95,11 +96,11 @@ module _ (names : List ℕ) (D : Pairs) (a b : ℕ) where
 
 -- what a flag of an apart list says
 module _ (flags : List ℕ) (D : Pairs) (k : ℕ) (inside-all : k < pairCount) (are : flags ≡ flagsOf D) where
-  flag-is : getD flags k 0 ≡ flag (holdsApart D (pairAt k .0) (pairAt k .1))
+  flag-is : getD flags k 0 ≡ flag (holdsApart D (pairAt nameCount k .0) (pairAt nameCount k .1))
   flag-is = ap (λ l. getD l k 0) are ∙ flag-at D k inside-all
 
-  pub set-apart : (getD flags k 0 ≡ 0 → ⊥) → holdsApart D (pairAt k .0) (pairAt k .1) ≡ true
+  pub set-apart : (getD flags k 0 ≡ 0 → ⊥) → holdsApart D (pairAt nameCount k .0) (pairAt nameCount k .1) ≡ true
   set-apart n = was-set _ (λ z. n (flag-is ∙ z))
 
-  pub unset-apart : getD flags k 0 ≡ 0 → holdsApart D (pairAt k .0) (pairAt k .1) ≡ false
+  pub unset-apart : getD flags k 0 ≡ 0 → holdsApart D (pairAt nameCount k .0) (pairAt nameCount k .1) ≡ false
   unset-apart z = unset _ (sym flag-is ∙ z)

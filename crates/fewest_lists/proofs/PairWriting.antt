@@ -12,11 +12,12 @@ use Rattle.calculus.specs.Cond.{Pairs}
 use Rattle.terms.specs.Limits.{longestApart}
 use Rattle.terms.specs.Question.{pairBytes}
 use Rattle.terms_bytes.proofs.Stores.{sets-join}
-use Rattle.field_pairs.specs.PairFlags.{pairCount, pairAt}
-use Rattle.field_pairs.specs.Slot.{allPairs}
-use Rattle.field_pairs.proofs.PairTables.{length-pairs}
+use Rattle.field_pairs.specs.PairFlags.{pairCount}
+use Rattle.field_pairs.proofs.NamePairs.{length-pairs}
 use Rattle.fewest.proofs.ListLaws.{bytes-length}
 use Rattle.fewest_lists.specs.Lists.{flagged, flaggedAt, PairsPut, PairWritten, PairsWritten}
+use Rattle.field_pairs.specs.PairNumbers.{allPairs, pairAt}
+use Rattle.terms.specs.Limits.{nameCount}
 
 bytes-append : (D E : Pairs) → pairBytes (D ++ E) ≡ pairBytes D ++ pairBytes E
 unfolding pairBytes
@@ -28,14 +29,14 @@ module _ (flags : List ℕ) (k : ℕ) (out : List ℕ) (end : ℕ) where
   pub not-written : getD flags k 0 ≡ 0 → PairWritten flags k out end end out
   unfolding PairWritten flaggedAt pairBytes
   not-written e =
-      let z : cond (eqb (getD flags k 0) 0) [] (pairAt k ∷ []) ≡ [] = ap (λ t. cond t [] (pairAt k ∷ [])) (eq-eqb (getD flags k 0) 0 e) in
+      let z : cond (eqb (getD flags k 0) 0) [] (pairAt nameCount k ∷ []) ≡ [] = ap (λ t. cond t [] (pairAt nameCount k ∷ [])) (eq-eqb (getD flags k 0) 0 e) in
       record { ends = rw z (omega arith); written = rw z refl }
 
-  pub pair-written : (getD flags k 0 ≡ 0 → ⊥) → (a b : ℕ) → a ≡ pairAt k .0 → b ≡ pairAt k .1
+  pub pair-written : (getD flags k 0 ≡ 0 → ⊥) → (a b : ℕ) → a ≡ pairAt nameCount k .0 → b ≡ pairAt nameCount k .1
       → PairWritten flags k out end (end + 2) (set (set out end a) (end + 1) b)
   unfolding PairWritten flaggedAt pairBytes
   pair-written n a b x y =
-      let z : cond (eqb (getD flags k 0) 0) [] (pairAt k ∷ []) ≡ pairAt k ∷ [] = ap (λ t. cond t [] (pairAt k ∷ [])) (ne-eqb (getD flags k 0) 0 n) in
+      let z : cond (eqb (getD flags k 0) 0) [] (pairAt nameCount k ∷ []) ≡ pairAt nameCount k ∷ [] = ap (λ t. cond t [] (pairAt nameCount k ∷ [])) (ne-eqb (getD flags k 0) 0 n) in
       let s : end + 1 ≡ suc end = omega arith in
       record { ends = rw z refl; written = rw (z, x, y, s) refl }
 
@@ -43,7 +44,7 @@ pub one-short : (flags : List ℕ) (k : ℕ) → length (pairBytes (flaggedAt fl
 unfolding flaggedAt pairBytes
 one-short flags k = go (eqb (getD flags k 0) 0)
   where
-    go : (t : Bool) → length (pairBytes (cond t [] (pairAt k ∷ []))) ≤ 2
+    go : (t : Bool) → length (pairBytes (cond t [] (pairAt nameCount k ∷ []))) ≤ 2
     go true = omega arith
     go false = omega arith
 
@@ -63,7 +64,7 @@ flagged-more (suc k) (f ∷ fs) (p ∷ ps) d h l = go (eqb f 0) (flagged-more k 
     go false e = ap (p ∷_) e
 
 abbrev pub below : List ℕ → ℕ → Pairs
-below flags k = flagged (take k flags) (take k allPairs)
+below flags k = flagged (take k flags) (take k (allPairs nameCount))
 
 pub pairs-start : (flags out : List ℕ) (put : ℕ) → PairsPut (below flags 0) out put put out
 unfolding flagged pairBytes
@@ -75,8 +76,8 @@ unfolding PairWritten flaggedAt pairAt
 pairs-more flags out put k end r out₁ out₂ h l p w =
     let s : k + 1 ≡ suc k = omega arith in
     let D = below flags k in
-    let E : Pairs = cond (eqb (getD flags k 0) 0) [] (getD allPairs k (0, 0) ∷ []) in
-    let m : below flags (k + 1) ≡ D ++ E = rw s (flagged-more k flags allPairs (0, 0) (omega arith) (omega (arith, length-pairs))) in
+    let E : Pairs = cond (eqb (getD flags k 0) 0) [] (getD (allPairs nameCount) k (0, 0) ∷ []) in
+    let m : below flags (k + 1) ≡ D ++ E = rw s (flagged-more k flags (allPairs nameCount) (0, 0) (omega arith) (omega (arith, length-pairs))) in
     let b : pairBytes (below flags (k + 1)) ≡ pairBytes D ++ pairBytes E = ap pairBytes m ∙ bytes-append D E in
     record {
       ends = omega (arith, ap length b, length-append (pairBytes D) (pairBytes E), p .ends, w .ends);
@@ -89,8 +90,8 @@ pub pairs-whole : (flags out : List ℕ) (put k end : ℕ) (out₁ : List ℕ) �
 unfolding PairsWritten
 pairs-whole flags out put k end out₁ e l p =
     let x : take k flags ≡ flags = ap (λ (n : ℕ). take n flags) (e ∙ sym l) ∙ take-length flags in
-    let y : take k allPairs ≡ allPairs = ap (λ (n : ℕ). take n allPairs) (e ∙ sym length-pairs) ∙ take-length allPairs in
-    let z : flagged (take k flags) (take k allPairs) ≡ flagged flags allPairs = ap₂ flagged x y in
+    let y : take k (allPairs nameCount) ≡ (allPairs nameCount) = ap (λ (n : ℕ). take n (allPairs nameCount)) (e ∙ sym length-pairs) ∙ take-length (allPairs nameCount) in
+    let z : flagged (take k flags) (take k (allPairs nameCount)) ≡ flagged flags (allPairs nameCount) = ap₂ flagged x y in
     record { ends = p .ends ∙ ap (λ D. put + length (pairBytes D)) z; written = p .written ∙ ap (λ D. sets out put (pairBytes D)) z }
 
 flagged-length : (fs : List ℕ) (ps : Pairs) → length (flagged fs ps) ≤ length ps
@@ -104,5 +105,5 @@ flagged-length (f ∷ fs) (p ∷ ps) = go (eqb f 0) (flagged-length fs ps)
     go false h = omega arith
 
 -- as many bytes at most as check 12 allows
-pub flagged-bytes : (flags : List ℕ) → length (pairBytes (flagged flags allPairs)) ≤ longestApart
-flagged-bytes flags = omega (arith, bytes-length (flagged flags allPairs), flagged-length flags allPairs, length-pairs)
+pub flagged-bytes : (flags : List ℕ) → length (pairBytes (flagged flags (allPairs nameCount))) ≤ longestApart
+flagged-bytes flags = omega (arith, bytes-length (flagged flags (allPairs nameCount)), flagged-length flags (allPairs nameCount), length-pairs)

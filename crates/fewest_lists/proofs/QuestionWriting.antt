@@ -11,19 +11,20 @@ use Rattle.terms.specs.Encoding.{encode}
 use Rattle.terms.specs.Framing.{sized, allSized, joined}
 use Rattle.terms.specs.Limits.{nameCount, longestApart, longestQuestion}
 use Rattle.terms.specs.Question.{Question, checkOf, bodyFields, pairBytes, fieldsOf, write}
-use Rattle.terms.proofs.LiteralBytes.{beforeApart, declared-bytes}
+use Rattle.terms.specs.Framing.{beforeApart}
+use Rattle.terms.proofs.LiteralBytes.{declared-bytes}
 use Rattle.terms.proofs.RefusalNumbers.{accepted-length}
 use Rattle.terms.proofs.WellFormed.{accepted-well-formed, well-formed-accepted}
 use Rattle.terms_bytes.specs.FieldPlaces.{definitionsOf, afterField, fieldPlace}
 use Rattle.terms_bytes.specs.Writing.{Accepted}
 use Rattle.terms_bytes.proofs.QuestionPlaces.{framable, accepted-joined, joined-length}
 use Rattle.terms_bytes.proofs.Stores.{span, sets-join, sets-start}
-use Rattle.field_pairs.specs.Slot.{allPairs}
 use Rattle.fewest.specs.Choices.{pairsBelow, inOrder, underList}
 use Rattle.fewest.proofs.ListLaws.{bytes-length, pairs-allowed, pairs-count, under-well-formed}
 use Rattle.fewest_lists.specs.Lists.{flagged, PairsWritten, QuestionWritten}
 use Rattle.fewest_lists.proofs.FlagLaws.{flagged-apart}
 use Rattle.fewest_lists.proofs.PairWriting.{flagged-bytes}
+use Rattle.field_pairs.specs.PairNumbers.{allPairs}
 
 under-bytes : (q : Question) (D : Pairs) → write (underList q D) ≡ beforeApart (fieldsOf q) ++ sized (pairBytes D)
 unfolding write joined fieldsOf underList beforeApart
@@ -113,7 +114,7 @@ module _ (s flags out out₁ out₂ : List ℕ) (first second apart end size : �
     (second-at : second ≡ afterField s first) (apart-at : apart ≡ afterField s second) (accepted : Accepted s) (room : longestQuestion ≤ length out)
     (copied : out₁ ≡ sets out 0 (span s 0 apart)) (put : PairsWritten flags out₁ (apart + 2) end out₂) (sizes : size ≡ end - apart - 2) where
   L : List ℕ
-  L = pairBytes (flagged flags allPairs)
+  L = pairBytes (flagged flags (allPairs nameCount))
 
   end-is : end ≡ apart + 2 + length L
   unfolding PairsWritten L
@@ -140,6 +141,6 @@ module _ (s flags out out₁ out₂ : List ℕ) (first second apart end size : �
         let y : sets out 0 W ≡ W ++ drop (length W) out =
         sets-start out W (omega (arith, n, end-is, flagged-bytes flags, apart-room s first second apart first-at second-at apart-at accepted)) in
         let z : W ≡ write (underList q (inOrder nameCount D)) =
-        ap (λ D. F ++ sized (pairBytes D)) (ap (λ fs. flagged fs allPairs) f ∙ flagged-apart D) ∙ sym (under-bytes q (inOrder nameCount D)) in
+        ap (λ D. F ++ sized (pairBytes D)) (ap (λ fs. flagged fs (allPairs nameCount)) f ∙ flagged-apart D) ∙ sym (under-bytes q (inOrder nameCount D)) in
         ap (take end) (x ∙ y) ∙ ap (λ (k : ℕ). take k (W ++ drop (length W) out)) (sym n) ∙ take-append-seam W (drop (length W) out) ∙ z;
   }

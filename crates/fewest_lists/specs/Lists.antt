@@ -11,23 +11,23 @@ use Rattle.terms.specs.Answer.{result}
 use Rattle.terms.specs.Limits.{nameCount}
 use Rattle.terms.specs.Operations.{holdsApart}
 use Rattle.terms.specs.Question.{Question, checkOf, pairBytes, write}
-use Rattle.field_pairs.specs.PairFlags.{pairAt}
-use Rattle.field_pairs.specs.Slot.{allPairs, flag, flagsOf}
+use Rattle.field_pairs.specs.Slot.{flag, flagsOf}
 use Rattle.fewest.specs.Choices.{mayChoose, inOrder, underList}
+use Rattle.field_pairs.specs.PairNumbers.{allPairs, pairAt}
 
 -- of an apart list's bytes
 unfoldable pub ApartFlagIs : List ℕ → ℕ → ℕ → Type 0
-ApartFlagIs list k r = (D : Pairs) → list ≡ pairBytes D → r ≡ flag (holdsApart D (pairAt k .0) (pairAt k .1))
+ApartFlagIs list k r = (D : Pairs) → list ≡ pairBytes D → r ≡ flag (holdsApart D (pairAt nameCount k .0) (pairAt nameCount k .1))
 
 unfoldable pub ApartFlagsAre : List ℕ → List ℕ → Type 0
 ApartFlagsAre list r = (D : Pairs) → list ≡ pairBytes D → r ≡ flagsOf D
 
 -- the pairs that may be chosen, where the flags say which are apart
 unfoldable pub openFlags : List ℕ → Pairs → List ℕ
-openFlags names D = map (λ p. flag (mayChoose names D (p .0) (p .1))) allPairs
+openFlags names D = map (λ p. flag (mayChoose names D (p .0) (p .1))) (allPairs nameCount)
 
 unfoldable pub OpenFlagIs : List ℕ → List ℕ → ℕ → ℕ → Type 0
-OpenFlagIs names flags k r = (D : Pairs) → flags ≡ flagsOf D → r ≡ flag (mayChoose names D (pairAt k .0) (pairAt k .1))
+OpenFlagIs names flags k r = (D : Pairs) → flags ≡ flagsOf D → r ≡ flag (mayChoose names D (pairAt nameCount k .0) (pairAt nameCount k .1))
 
 unfoldable pub OpenFlagsAre : List ℕ → List ℕ → List ℕ → Type 0
 OpenFlagsAre names flags r = (D : Pairs) → flags ≡ flagsOf D → r ≡ openFlags names D
@@ -40,7 +40,7 @@ flagged (f ∷ fs) (p ∷ ps) = cond (eqb f 0) (flagged fs ps) (p ∷ flagged fs
 
 -- pair k, if its flag is set
 unfoldable pub flaggedAt : List ℕ → ℕ → Pairs
-flaggedAt flags k = cond (eqb (getD flags k 0) 0) [] (pairAt k ∷ [])
+flaggedAt flags k = cond (eqb (getD flags k 0) 0) [] (pairAt nameCount k ∷ [])
 
 -- The pairs D are written at a place, and where they end is answered.
 pub record PairsPut (D : Pairs) (out : List ℕ) (put r : ℕ) (out′ : List ℕ) : Type 0 where
@@ -51,7 +51,7 @@ unfoldable pub PairWritten : List ℕ → ℕ → List ℕ → ℕ → ℕ → L
 PairWritten flags k out end r out′ = PairsPut (flaggedAt flags k) out end r out′
 
 unfoldable pub PairsWritten : List ℕ → List ℕ → ℕ → ℕ → List ℕ → Type 0
-PairsWritten flags out put r out′ = PairsPut (flagged flags allPairs) out put r out′
+PairsWritten flags out put r out′ = PairsPut (flagged flags (allPairs nameCount)) out put r out′
 
 -- The question under the list that the flags say stands at the front.
 pub record QuestionWritten (question flags out : List ℕ) (r : ℕ) (out′ : List ℕ) : Type 0 where

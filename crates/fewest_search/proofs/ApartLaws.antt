@@ -21,7 +21,7 @@ use Rattle.terms_bytes.proofs.Stores.{sets-start}
 use Rattle.terms_checks.specs.Checking.{checkedAnswer}
 use Rattle.terms_checks.specs.declared.check.Checked.{Checked}
 use Rattle.terms_checks.specs.declared.check.Checked.the-variants as checked
-use Rattle.field_pairs.specs.Slot.{allPairs, flagsOf}
+use Rattle.field_pairs.specs.Slot.{flagsOf}
 use Rattle.verdict.specs.Judge.{slotBytes, withinCapacity}
 use Rattle.verdict.proofs.CapacityLaws.{Within, within-of, within-passes}
 use Rattle.verdict_capacity.specs.Numbers.{byNumber}
@@ -38,6 +38,7 @@ use Rattle.fewest_lists.proofs.FlagLaws.{flagged-open}
 use Rattle.fewest_lists.proofs.PairWriting.{flagged-bytes}
 use Rattle.fewest_search.specs.Searching.{Allowed, clearedBy, verdictOn, SizesIs, FoundIs, ApartDoes, CheckedIs}
 use Rattle.fewest_search.proofs.SearchLaws.{fewest-map}
+use Rattle.field_pairs.specs.PairNumbers.{allPairs}
 
 -- find
 pub found-is : (question : List ℕ) (capacity : ℕ) (names work : List ℕ) (first second apart : ℕ) (list flags choosable pairs pairs′ : List ℕ) (end : ℕ) (r : Best)
@@ -50,9 +51,9 @@ unfolding FoundIs SizesIs ApartFlagsAre OpenFlagsAre PairsWritten fewestOf verdi
 found-is question capacity names work first second apart list flags choosable pairs pairs′ end r work′ x y z l a o room w s q e =
     let D = q .apart in
     let C = candidatePairs nameCount names D in
-    let L = pairBytes (flagged choosable allPairs) in
+    let L = pairBytes (flagged choosable (allPairs nameCount)) in
     let i : flags ≡ flagsOf D = a D (l ∙ accepted-apart question q e first second apart x y z) in
-    let c : L ≡ pairBytes C = ap pairBytes (ap (λ fs. flagged fs allPairs) (o D i) ∙ flagged-open names D) in
+    let c : L ≡ pairBytes C = ap pairBytes (ap (λ fs. flagged fs (allPairs nameCount)) (o D i) ∙ flagged-open names D) in
     let n : end ≡ length L = omega (arith, w .ends) in
     let p : take end pairs′ ≡ pairBytes C =
     ap (take end) (w .written ∙ sets-start pairs L (omega (arith, flagged-bytes choosable)))

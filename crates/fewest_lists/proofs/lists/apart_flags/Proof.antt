@@ -8,15 +8,17 @@ use Rattle.calculus.specs.Cond.{Pairs}
 use Rattle.terms.specs.Operations.{holdsApart}
 use Rattle.terms.specs.Question.{pairBytes}
 use Rattle.terms_renaming.proofs.Filling.{Filling, fill-start, fill-step}
-use Rattle.field_pairs.specs.PairFlags.{pairCount, pairAt}
+use Rattle.field_pairs.specs.PairFlags.{pairCount}
 use Rattle.field_pairs.specs.Slot.{flag}
 use Rattle.field_pairs.proofs.PairLaws.{flags-are}
 use Rattle.fewest_lists.specs.Lists.{ApartFlagIs, ApartFlagsAre}
 use Rattle.fewest_lists.proofs.lists.apart_flags.Statement.{statement}
 use Rattle.fewest_lists.proofs.lists.apart_flags.Tie as tie
+use Rattle.field_pairs.specs.PairNumbers.{pairAt}
+use Rattle.terms.specs.Limits.{nameCount}
 
 abbrev Inv-loop : tie.InvT-loop
-Inv-loop list flags₀ k₀ flags k = (k ≤ pairCount) × (length flags ≡ pairCount) × ((D : Pairs) → list ≡ pairBytes D → Filling (λ k. flag (holdsApart D (pairAt k .0) (pairAt k .1))) flags₀ flags k)
+Inv-loop list flags₀ k₀ flags k = (k ≤ pairCount) × (length flags ≡ pairCount) × ((D : Pairs) → list ≡ pairBytes D → Filling (λ k. flag (holdsApart D (pairAt nameCount k .0) (pairAt nameCount k .1))) flags₀ flags k)
 
 abbrev μ-loop : tie.MeasureT-loop
 μ-loop list flags₀ k₀ flags k = pairCount - k

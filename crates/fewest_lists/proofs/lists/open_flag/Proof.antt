@@ -3,12 +3,13 @@ use borrow.Author.Tests.{not-true, not-false}
 use mathlib.Core.Path.{sym, ap, _∙_}
 use native.Mathlib.Omega.{arith}
 use Rattle.calculus.specs.Distinction.{among}
-use Rattle.field_pairs.specs.PairFlags.{pairAt}
 use Rattle.fewest_lists.specs.Lists.{OpenFlagIs}
 use Rattle.fewest_lists.proofs.FlagLaws.{flag-set, flag-unset, held-already, first-not-given, second-not-given, both-given, set-apart, unset-apart}
 use borrow.Author.Needs.{needs}
 use Rattle.fewest_lists.proofs.lists.open_flag.Statement.{statement}
 use Rattle.fewest_lists.proofs.lists.open_flag.Tie as tie
+use Rattle.field_pairs.specs.PairNumbers.{pairAt}
+use Rattle.terms.specs.Limits.{nameCount}
 
 shared-slice-read-if1 : tie.Need-shared-slice-read-if1
 shared-slice-read-if1 c = search needs
@@ -18,7 +19,7 @@ unfolding OpenFlagIs
 returns c =
     let c4 = c .before .before .before .before in
     let v = c4 .args in
-    λ D e. flag-unset _ (held-already (v .names .now) D (pairAt (v .k) .0) (pairAt (v .k) .1) (set-apart (v .apart .now) D (v .k) (omega arith) e
+    λ D e. flag-unset _ (held-already (v .names .now) D (pairAt nameCount (v .k) .0) (pairAt nameCount (v .k) .1) (set-apart (v .apart .now) D (v .k) (omega arith) e
     (c .if1 .taken)))
 
 pair-of-requires : tie.Need-pair-of-requires
@@ -36,7 +37,7 @@ returns-2 c =
     let c3 = c .before .before .before in
     let c8 = c3 .before .before .before .before .before in
     let v = c8 .args in
-    λ D e. flag-unset _ (first-not-given (v .names .now) D (pairAt (v .k) .0) (pairAt (v .k) .1) (sym (not-true _ (c .if2 .taken)) ∙
+    λ D e. flag-unset _ (first-not-given (v .names .now) D (pairAt nameCount (v .k) .0) (pairAt nameCount (v .k) .1) (sym (not-true _ (c .if2 .taken)) ∙
     c .before .has-name .ensures ∙ ap (among (v .names .now)) (c3 .pair-of .ensures .first .is)))
 
 cast-has-name-2 : tie.Need-cast-has-name-2
@@ -51,7 +52,7 @@ returns-3 c =
     let c6 = c .before .before .before .before .before .before in
     let c11 = c6 .before .before .before .before .before in
     let v = c11 .args in
-    λ D e. flag-unset _ (second-not-given (v .names .now) D (pairAt (v .k) .0) (pairAt (v .k) .1) (sym (not-true _ (c .if3 .taken)) ∙
+    λ D e. flag-unset _ (second-not-given (v .names .now) D (pairAt nameCount (v .k) .0) (pairAt nameCount (v .k) .1) (sym (not-true _ (c .if3 .taken)) ∙
     c .before .has-name2 .ensures ∙ ap (among (v .names .now)) (c6 .pair-of .ensures .second .is)))
 
 returns-4 : tie.Need-returns-4
@@ -63,7 +64,7 @@ returns-4 c =
     let c7 = c6 .before in
     let c11 = c7 .before .before .before .before in
     let v = c11 .args in
-    λ D e. flag-set _ (both-given (v .names .now) D (pairAt (v .k) .0) (pairAt (v .k) .1) (unset-apart (v .apart .now) D (v .k) (omega arith) e
+    λ D e. flag-set _ (both-given (v .names .now) D (pairAt nameCount (v .k) .0) (pairAt nameCount (v .k) .1) (unset-apart (v .apart .now) D (v .k) (omega arith) e
     (c7 .if1 .left)) (sym (not-false _ (c3 .if2 .left)) ∙ c4 .has-name .ensures ∙ ap (among (v .names .now)) (c6 .pair-of .ensures .first .is)) (sym
     (not-false _ (c .if3 .left)) ∙ c .before .has-name2 .ensures ∙ ap (among (v .names .now)) (c6 .pair-of .ensures .second .is)))
 

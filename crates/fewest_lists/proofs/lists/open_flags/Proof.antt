@@ -6,16 +6,18 @@ use Prim.Native.Nat.{_-_, _≤_}
 use lib.ListN.{length}
 use Rattle.calculus.specs.Cond.{Pairs}
 use Rattle.terms_renaming.proofs.Filling.{Filling, fill-start, fill-step}
-use Rattle.field_pairs.specs.PairFlags.{pairCount, pairAt}
+use Rattle.field_pairs.specs.PairFlags.{pairCount}
 use Rattle.field_pairs.specs.Slot.{flag, flagsOf}
 use Rattle.fewest.specs.Choices.{mayChoose}
 use Rattle.fewest_lists.specs.Lists.{OpenFlagIs, OpenFlagsAre, openFlags}
 use Rattle.fewest_lists.proofs.FlagLaws.{tested-are}
 use Rattle.fewest_lists.proofs.lists.open_flags.Statement.{statement}
 use Rattle.fewest_lists.proofs.lists.open_flags.Tie as tie
+use Rattle.field_pairs.specs.PairNumbers.{pairAt}
+use Rattle.terms.specs.Limits.{nameCount}
 
 abbrev Inv-loop : tie.InvT-loop
-Inv-loop names apart flags₀ k₀ flags k = (k ≤ pairCount) × (length flags ≡ pairCount) × ((D : Pairs) → apart ≡ flagsOf D → Filling (λ k. flag (mayChoose names D (pairAt k .0) (pairAt k .1))) flags₀ flags k)
+Inv-loop names apart flags₀ k₀ flags k = (k ≤ pairCount) × (length flags ≡ pairCount) × ((D : Pairs) → apart ≡ flagsOf D → Filling (λ k. flag (mayChoose names D (pairAt nameCount k .0) (pairAt nameCount k .1))) flags₀ flags k)
 
 abbrev μ-loop : tie.MeasureT-loop
 μ-loop names apart flags₀ k₀ flags k = pairCount - k
