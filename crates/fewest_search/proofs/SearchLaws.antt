@@ -13,7 +13,7 @@ use Rattle.terms.specs.Question.{Question, checkOf, pairBytes}
 use Rattle.terms.proofs.Answers.{result-injective, refused-not-result}
 use Rattle.field_pairs.specs.Slot.{flagsOf}
 use Rattle.verdict.specs.Judge.{slotBytes, workAfter}
-use Rattle.verdict.specs.Verdict.{Verdict, unsettled, same, different}
+use Rattle.verdict.specs.Verdict.{openly, Verdict, unsettled, same, different}
 use Rattle.verdict.proofs.JudgeIsDefinition13.{judge-answers}
 use Rattle.verdict_judge.specs.Judging.{judgedAnswer, JudgedIs}
 use Rattle.verdict_judge.specs.declared.judge.Judged.{Judged}
@@ -133,7 +133,7 @@ unfolding ListJudged verdictOn clearedBy workAfter
 list-judged question flags asked asked′ end capacity work r work′ a w j q D e f =
     let u = underList q (inOrder nameCount D) in
     let b : checkOf (take end asked′) ≡ result u = ap checkOf (w .is q D e f) ∙ under-accepted question q e D in
-    let v = judge-answers (take end asked′) u b capacity (length work) (a .some) (a .most) (a .fits) in
+    let v = judge-answers openly (take end asked′) u b capacity (length work) (a .some) (a .most) (a .fits) in
     record { verdict = j .answer ∙ v; cleared = j .left ∙ ap (λ m. workAfter m capacity work) v }
 
 -- judge_next

@@ -1,18 +1,16 @@
 -- Tallies of pairs of words: one verdict more, one row more, and what the whole counts.
 use mathlib.Core.Path.{_≡_, refl, sym, ap, _∙_}
-use mathlib.Core.Bool.{cond, _&&_}
+use mathlib.Core.Bool.{cond}
 use mathlib.Core.List.{List, [], _∷_, _++_, map}
 use Prim.Native.Nat.{ℕ, zero, suc, _+_, _*_, _≤_, _<_}
 use native.Mathlib.Omega.{arith}
-use lib.Dec.{leb}
 use lib.ListN.{length, getD, take, drop, length-map}
 use lib.Seq.{take-append-seam}
-use borrow.Author.Tests.{le-leb}
 use Rattle.terms.specs.Answer.{Answer, refused, result}
-use Rattle.terms.proofs.Answers.{need-passed}
 use Rattle.terms_bytes.proofs.Stores.{sets-start}
 use Rattle.field.specs.Successors.{select}
-use Rattle.verdict.specs.Judge.{judgeOf}
+use Rattle.verdict.specs.Judge.{slotBytes, judgeBy, judgeOf}
+use Rattle.verdict.proofs.CapacityLaws.{within-passes}
 use Rattle.verdict.specs.Verdict.{Verdict, unsettled, same, different}
 use Rattle.verdict_judge.specs.Judging.{judgedAnswer, JudgedIs}
 use Rattle.verdict_judge.specs.declared.judge.Judged.{Judged}
@@ -30,10 +28,10 @@ use Rattle.small_parts_count.specs.declared.tally.Tally.{Tally}
 -- The verdict is that of the judge, whose checks 1 and 2 pass.
 pub judge-verdict : (n a b : ℕ) (question work : List ℕ) (r : Judged) (work′ : List ℕ) → question ≡ asked (wordOf n a) (wordOf n b)
     → 47616 ≤ length work → JudgedIs question 186 work r work′ → judgedAnswer r ≡ verdictOn (wordOf n a) (wordOf n b)
-unfolding judgeOf verdictOn
+unfolding judgeBy verdictOn
 judge-verdict n a b question work r work′ e h d =
-    d .answer ∙ ap (λ q. judgeOf q 186 (length work)) e ∙ need-passed 1 (leb 1 186 && leb 186 4096) _ refl
-    ∙ need-passed 2 (leb 47616 (length work)) _ (le-leb 47616 (length work) h)
+    d .answer ∙ ap (λ q. judgeOf q 186 (length work)) e
+    ∙ within-passes 186 (slotBytes * 186) (length work) _ (record { some = omega arith; most = omega arith; fits = h })
 
 -- One verdict more.
 module _ (t : Tally) (j : Judged) where
