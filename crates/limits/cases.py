@@ -1,5 +1,5 @@
 #!/usr/bin/env python3
-"""The limits of document 01, one question a case, and what check answers.
+"""The limits of document 01 and of edition two (document 02, request 2026-05), one question a case, and what check answers.
 
 Writes stdin (the number of cases; for each its length in two bytes, the greater half first, then its bytes) and stdout (one line a case).
 Run it in this folder after a change of the cases.
@@ -10,11 +10,16 @@ def field(bs):
     return [len(bs) // 256, len(bs) % 256, *bs]
 
 
-def question(first=(0,), second=(0,), apart=(), arities=(), bodies=()):
-    bs = [1, len(arities), *arities]
+def question(first=(0,), second=(0,), apart=(), arities=(), bodies=(), version=1):
+    bs = [version, len(arities), *arities]
     for body in bodies:
         bs += field(body)
     return bs + field(first) + field(second) + field(apart)
+
+
+def two(first, arities=(1,), bodies=((0,),)):
+    """A question of edition two, with one definition of arity 1 unless others are given."""
+    return question(first=first, arities=arities, bodies=bodies, version=2)
 
 
 def taus(n):
@@ -26,7 +31,8 @@ CASES = [
     # the smallest question; check 3
     ("accepted", question()),
     ("refused 3", []),
-    ("refused 3", [2]),
+    ("refused 3", [3]),
+    ("refused 4", [2]),
     ("refused 3", [0] + question()[1:]),
     # check 4: cut anywhere, bytes left over, lengths that lie, 4,096 and 4,097 bytes
     *[("refused 4", question()[:n]) for n in range(1, len(question()))],
@@ -85,8 +91,26 @@ CASES = [
     ("refused 12", question(apart=[16, 0])),
     ("refused 12", question(apart=[0, 16])),
     ("refused 12", question(apart=[3, 3])),
+    # edition two, check 16 directly after 8: another number than the arity; missing, or names missing (7); no such definition first
+    ("accepted", two([9, 0, 1, 0])),
+    ("refused 16", two([9, 0, 0])),
+    ("refused 16", two([9, 0, 2, 0, 0])),
+    ("refused 7", two([9, 0])),
+    ("refused 7", two([9, 0, 1])),
+    ("refused 8", two([9, 1, 5])),
+    ("refused 16", two([9, 0, 0, 16])),
+    ("refused 9", two([9, 0, 1, 16])),
+    ("refused 16", two([6, 9, 0, 0, 10])),
+    ("refused 7", two([6, 10, 9, 0, 0])),
+    ("refused 7", two([9, 0, 1, 0, 0])),
+    ("refused 16", two([0], bodies=[[1, 9, 0, 0]])),
+    ("accepted", two([0], bodies=[[1, 9, 0, 1, 128]])),
+    # check 6 goes by the bytes of the file: 112 and 113 of edition two
+    ("accepted", two([1] * 108 + [9, 0, 1, 0])),
+    ("refused 6", two([1] * 109 + [9, 0, 1, 0])),
     # two faults at once: the smaller number, except that 7, 8 and 9 share one walk
-    ("refused 3", [2, 17]),
+    ("refused 3", [3, 17]),
+    ("refused 4", [2, 17]),
     ("refused 5", question(first=[], arities=[9], bodies=[[0]])),
     ("refused 6", question(first=[10], second=[])),
     ("refused 6", question(arities=[0], bodies=[[10]], second=taus(113))),

@@ -12,8 +12,8 @@ def field(bs):
     return [len(bs) // 256, len(bs) % 256, *bs]
 
 
-def question(first, second=(0,), definitions=()):
-    bs = [1, len(definitions), *(arity for arity, body in definitions)]
+def question(first, second=(0,), definitions=(), version=1):
+    bs = [version, len(definitions), *(arity for arity, body in definitions)]
     for _, body in definitions:
         bs += field(body)
     return bs + field(first) + field(second) + field([])
@@ -93,6 +93,13 @@ CASES = [
     (1, 0, question([7, 9, 0, 0], definitions=[(0, taus(112))])),
     # one of 113 that an outer restriction blocks
     (1, 0, question([8, 7, 9, 0, 128, 1, 0], definitions=[(1, [3, 128, 128, *taus(109)])])),
+    # edition two lists as edition one does, results in the edition-one form: a called body, 256 steps, a result of 112 and of 113 bytes, 16
+    (1, 3, question([8, 9, 0, 2, 0, 128], definitions=[(2, [8, 3, 130, 129, 3, 128, 129, 0])], version=2)),
+    (1, 15, question([7, 8, 7, 9, 0, 1, 128, 9, 1, 1, 128, 3, 0, 0, 0], definitions=[K, L], version=2)),
+    (1, 0, question([7, 9, 0, 0, 9, 1, 0], definitions=[(0, taus(109)), (0, [0])], version=2)),
+    (1, 0, question([7, 9, 0, 0, 9, 1, 0], definitions=[(0, taus(110)), (0, [0])], version=2)),
+    (1, 0, question([7, 9, 0, 0, 9, 1, 0], definitions=[(0, taus(111)), (0, [0])], version=2)),
+    (1, 3, question([9, 0, 1, 0], definitions=[(2, [0])], version=2)),
     # 37 parallel components
     (1, 0, question([7] * 36 + [1, 0] * 37)),
 ]

@@ -12,8 +12,8 @@ def field(bs):
     return [len(bs) // 256, len(bs) % 256, *bs]
 
 
-def question(first="00", second="00", definitions=(), apart=""):
-    bs = [1, len(definitions), *(arity for arity, body in definitions)]
+def question(first="00", second="00", definitions=(), apart="", version=1):
+    bs = [version, len(definitions), *(arity for arity, body in definitions)]
     for _, body in definitions:
         bs += field(bytes.fromhex(body))
     return bs + field(bytes.fromhex(first)) + field(bytes.fromhex(second)) + field(bytes.fromhex(apart))
@@ -21,6 +21,10 @@ def question(first="00", second="00", definitions=(), apart=""):
 
 LOOP = [(1, "03 80 80 09 00 80")]
 GROWING = [(1, "03 80 80 08 09 00 81")]
+
+# the same in edition two
+LOOP2 = [(1, "03 80 80 09 00 01 80")]
+GROWING2 = [(1, "03 80 80 08 09 00 01 81")]
 
 # Appendix B.1: names a to i are 00 to 08; definition 0 is K1, with K2 written out in its body, and 1 is K2. The output of b in P1 is of a
 # new name: b is no parameter of K1.
@@ -86,6 +90,14 @@ CASES = [
     ("same 2", 256, question("04 02 05 80 01 01 00", "04 02 00")),
     ("same 2", 256, question("02 02 05 00 01 01 00", "02 02 00", apart="00 01")),
     ("same 4", 256, question("08 06 01 03 01 02 05 80 01 01 00 04 01 00", "08 06 01 03 01 02 00 04 01 00")),
+    # request 2026-05: the first exchanges in edition two; a number that is not the arity; a part of 112 bytes, which edition one has in 111
+    ("same 2", 256, question("09 00 01 00", "03 00 00 09 00 01 00", LOOP2, version=2)),
+    ("unsettled 0", 1, question("09 00 01 00", "03 00 00 09 00 01 00", LOOP2, version=2)),
+    ("unsettled 0", 256, question("09 00 01 00", "09 00 01 00", GROWING2, version=2)),
+    ("same 2", 256, question("06 01 00 05 00 01 01 00", "01 00", version=2)),
+    ("refused 16", 256, question("09 00 00", "03 00 00 09 00 01 00", LOOP2, version=2)),
+    ("refused 3", 256, question(version=3)),
+    ("same 109", 256, question("01 " * 108 + "09 00 01 00", "01 " * 108 + "09 00 01 00", LOOP2, version=2)),
     # not promised: behind c(a), whose pair is lost; and τ.(0 | 0), which is no question
     ("different 2", 256, question("02 02 05 80 01 01 00", "02 02 00")),
     ("refused 10", 256, question("01 07 00 00", "01 00")),

@@ -7,7 +7,8 @@ ghost use Rattle.verdict.specs.Outcome.{codeOf, gave, turnedBack, unsettledOutc
 ghost use Rattle.fewest.specs.Apart.{ApartIs};
 ghost use Rattle.fewest_lists.specs.Bests.{apartOutcome};
 ghost use Rattle.exchange.specs.Listed.{ofSteps};
-ghost use Rattle.verdict.specs.Promises.{CheckIs, StepsIs, MergeIs, BesideIs, JudgeIs};
+ghost use Rattle.terms.specs.Edition.{one, two};
+ghost use Rattle.verdict.specs.Promises.{CheckIs, StepsIs, MergeIs, BesideIs, ConvertIs, JudgeIs};
 use fewest_lists::best::Apart;
 use steps_lister::operation::StepsAnswer;
 use terms_bytes::answer::Written;
@@ -148,6 +149,22 @@ pub extern "C" fn exchange_beside(question: &[u8], third: &[u8], area: &mut [u8]
     ensures { λ r. ⌜ BesideIs (now (question .entry)) (now (third .entry)) (now (area .entry)) r (now (area .exit)) ⌝ }
 {
     written_code(terms_rewriting::beside::beside(question, third, area))
+}
+
+// Writes the question, which must be of edition two, in edition one into the area.
+#[no_mangle]
+pub extern "C" fn exchange_convert_down(question: &[u8], area: &mut [u8]) -> u64
+    ensures { λ r. ⌜ ConvertIs one (now (question .entry)) (now (area .entry)) r (now (area .exit)) ⌝ }
+{
+    written_code(terms_converting::question::convert(question, true, area))
+}
+
+// Writes the question, which must be of edition one, in edition two into the area.
+#[no_mangle]
+pub extern "C" fn exchange_convert_up(question: &[u8], area: &mut [u8]) -> u64
+    ensures { λ r. ⌜ ConvertIs two (now (question .entry)) (now (area .entry)) r (now (area .exit)) ⌝ }
+{
+    written_code(terms_converting::question::convert(question, false, area))
 }
 
 // Judges the question within the capacity.

@@ -12,10 +12,10 @@ use Rattle.calculus.specs.Cond.{Pairs}
 use Rattle.calculus.specs.Definitions.{Defs}
 use Rattle.terms.specs.Answer.{Answer, refused, result}
 use Rattle.terms.specs.Limits.{nameCount, longestApart}
-use Rattle.terms.specs.Question.{Question, checkOf, write}
+use Rattle.terms.specs.Question.{Question, questionOf}
 use Rattle.terms.proofs.Answers.{result-injective, bind-result, need-result}
+use Rattle.terms.proofs.OwnEdition.{own-well-formed}
 use Rattle.terms.specs.WellFormed.{WellFormed}
-use Rattle.terms.proofs.WellFormed.{accepted-well-formed}
 use Rattle.verdict.specs.Entries.{Defines}
 use Rattle.verdict.specs.Judge.{slotBytes}
 use Rattle.verdict.specs.Outcome.{Says}
@@ -28,7 +28,7 @@ use Rattle.fewest.specs.Fewest.{Fewest, undecided, none, chosen, isUnset
 use Rattle.fewest.specs.Meaning.{RelatedUnder, ExceedsUnder, FewestMeans, means-fewest, means-none, means-unsettled, Told, not-searched, searched}
 use Rattle.fewest.proofs.ChoiceLaws.{Ahead, fewest-wins, none-different, unsettled-some}
 use Rattle.fewest.proofs.ChoiceOrder.{candidates-rise, ahead-earlier, earlier-ahead, not-both}
-use Rattle.fewest.proofs.ListLaws.{under-accepted}
+use Rattle.fewest.proofs.ListLaws.{listed-well-formed}
 
 is-same : (v : Verdict) → isSame v ≡ true → (n : ℕ) × (v ≡ same n)
 unfolding isSame
@@ -36,7 +36,7 @@ is-same unsettled e = let z : _≡_ {A = ℕ} 0 1 = cc in absurd (omega arith)
 is-same (same n) e = (n, refl)
 is-same (different n) e = let z : _≡_ {A = ℕ} 0 1 = cc in absurd (omega arith)
 
-module _ (question : List ℕ) (q : Question) (accepted : checkOf question ≡ result q) (Δ : Defs) (defines : Defines q Δ) (capacity : ℕ) (names : List ℕ) where
+module _ (question : List ℕ) (q : Question) (accepted : questionOf question ≡ result q) (Δ : Defs) (defines : Defines q Δ) (capacity : ℕ) (names : List ℕ) where
   -- the question under the list of a choice
   abbrev under : Pairs → Question
   under c = underList q (enlarged nameCount (q .apart) c)
@@ -46,7 +46,7 @@ module _ (question : List ℕ) (q : Question) (accepted : checkOf question ≡ r
 
   well : (c : Pairs) → WellFormed (under c)
   unfolding enlarged
-  well c = accepted-well-formed (write (under c)) (under c) (under-accepted question q accepted (q .apart ++ c))
+  well c = listed-well-formed q (own-well-formed question q accepted) (q .apart ++ c)
 
   defines-under : (c : Pairs) → Defines (under c) Δ
   unfolding underList
@@ -120,7 +120,7 @@ fewest-is-definition-13 question capacity names work area answer work′ area′
     go (refused k) e s w l = not-searched k e s w l
     go (result f) e s w l =
         let (_, e₁) = passed-within capacity (slotBytes * capacity) (length work) _ f e in
-        let (q, a, e₂) = bind-result (checkOf question) _ f e₁ in
+        let (q, a, e₂) = bind-result (questionOf question) _ f e₁ in
         let (_, e₃) = need-result 18 (namesGiven names) _ f e₂ in
         let (_, e₄) = need-result 15 (leb longestApart (length area)) _ f e₃ in
         let is : listFor (q .apart) (fewestOf q capacity names) ≡ f = result-injective {a = listFor (q .apart) (fewestOf q capacity names)} e₄ in

@@ -2,18 +2,20 @@
 use mathlib.Core.Bool.{Bool, true, false, cond}
 use mathlib.Core.List.{List, [], _∷_, map}
 use mathlib.Core.Logic.{_⊎_, inl, inr}
-use mathlib.Core.Path.{_≡_, refl, ap}
+use mathlib.Core.Path.{_≡_, refl, ap, _∙_}
 use native.Mathlib.Omega.{arith}
 use Prim.Native.Nat.{ℕ, suc, _+_, _*_, _<_, _≤_}
 use lib.ListN.{length}
 use Rattle.calculus.specs.Cond.{Pairs}
 use Rattle.calculus.specs.Distinction.{keep}
 use Rattle.terms.specs.Answer.{result}
+use Rattle.terms.specs.Edition.{Edition}
 use Rattle.terms.specs.Limits.{nameCount, longestApart}
 use Rattle.terms.specs.Operations.{holdsApart}
-use Rattle.terms.specs.Question.{Question, checkOf, pairBytes, write}
+use Rattle.terms.specs.Question.{Question, editionOf, questionOf, pairBytes, writeIn, fitsIn}
 use Rattle.terms.proofs.Answers.{Every}
-use Rattle.terms.proofs.WellFormed.{WellFormed, PairAllowed, accepted-well-formed, well-formed-accepted}
+use Rattle.terms.proofs.OwnEdition.{own-well-formed, own-fits, written-accepted}
+use Rattle.terms.proofs.WellFormed.{WellFormed, PairAllowed}
 use Rattle.steps.specs.Lists.{_∈_}
 use Rattle.steps.specs.Listed.{namesFrom}
 use Rattle.steps.proofs.Membership.{∈-either, ∈-mapped}
@@ -86,7 +88,7 @@ unfolding inOrder
 list-length D =
     omega (arith, pairs-count, bytes-length (keep (holdsApart D) (pairsBelow nameCount)), keep-length (holdsApart D) (pairsBelow nameCount))
 
--- The question under a list that check 12 allows is well formed; under the list D in order it is accepted.
+-- The question under a list that check 12 allows is well formed; under the list D in order it is accepted, written in its own edition.
 pub under-well-formed : (q : Question) → WellFormed q → (D : Pairs) → Every PairAllowed D → length (pairBytes D) ≤ longestApart
     → WellFormed (underList q D)
 unfolding underList
@@ -100,8 +102,16 @@ under-well-formed q w D allowed few = record {
   apartSize = few;
 }
 
-pub under-accepted : (question : List ℕ) (q : Question) → checkOf question ≡ result q → (D : Pairs)
-    → checkOf (write (underList q (inOrder nameCount D))) ≡ result (underList q (inOrder nameCount D))
+pub listed-well-formed : (q : Question) → WellFormed q → (D : Pairs) → WellFormed (underList q (inOrder nameCount D))
+listed-well-formed q w D = under-well-formed q w (inOrder nameCount D) (list-allowed D) (list-length D)
+
+-- check 6 does not ask for the list
+pub under-fits : (e : Edition) (q : Question) (D : Pairs) → fitsIn e (underList q D) ≡ fitsIn e q
+unfolding fitsIn underList
+under-fits e q D = refl
+
+pub under-accepted : (question : List ℕ) (q : Question) → questionOf question ≡ result q → (D : Pairs)
+    → questionOf (writeIn (editionOf question) (underList q (inOrder nameCount D))) ≡ result (underList q (inOrder nameCount D))
 under-accepted question q e D =
-    well-formed-accepted (underList q (inOrder nameCount D))
-    (under-well-formed q (accepted-well-formed question q e) (inOrder nameCount D) (list-allowed D) (list-length D))
+    written-accepted (editionOf question) (underList q (inOrder nameCount D)) (listed-well-formed q (own-well-formed question q e) D)
+    (under-fits (editionOf question) q (inOrder nameCount D) ∙ own-fits question q e)

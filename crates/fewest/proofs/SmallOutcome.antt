@@ -8,7 +8,7 @@ use lib.ListN.{length}
 use Rattle.calculus.specs.Cond.{Pairs}
 use Rattle.terms.specs.Answer.{Answer, refused, result}
 use Rattle.terms.specs.Limits.{nameCount, longestApart}
-use Rattle.terms.specs.Question.{checkOf, pairBytes}
+use Rattle.terms.specs.Question.{questionOf, pairBytes}
 use Rattle.terms.proofs.Answers.{result-injective, bind-result, need-result}
 use Rattle.terms.proofs.RefusalNumbers.{Numbered, numbered-bind, numbered-need, check-numbered}
 use Rattle.verdict.specs.Judge.{slotBytes}
@@ -30,7 +30,7 @@ apart-numbered : (question : List ℕ) (capacity : ℕ) (names : List ℕ) (room
 unfolding apartOf Numbered
 apart-numbered question capacity names room space =
     within-numbered capacity (slotBytes * capacity) room _
-    (numbered-bind (checkOf question) _ (check-numbered question) (λ q.
+    (numbered-bind (questionOf question) _ (check-numbered question) (λ q.
     numbered-need 18 (namesGiven names) _ (omega arith) (numbered-need 15 (leb longestApart space) _ (omega arith) tt)))
 
 pub apart-small : (question : List ℕ) (capacity : ℕ) (names : List ℕ) (room space : ℕ) → Small (ofFewest (apartOf question capacity names room space))
@@ -44,7 +44,7 @@ apart-small question capacity names room space =
     go (result none) e h = tt
     go (result (chosen D)) e h =
         let (_, e₁) = passed-within capacity (slotBytes * capacity) room _ (chosen D) e in
-        let (q, _, e₂) = bind-result (checkOf question) _ (chosen D) e₁ in
+        let (q, _, e₂) = bind-result (questionOf question) _ (chosen D) e₁ in
         let (_, e₃) = need-result 18 (namesGiven names) _ (chosen D) e₂ in
         let (_, e₄) = need-result 15 (leb longestApart space) _ (chosen D) e₃ in
         let few = list-short (q .apart) (fewestOf q capacity names) D (result-injective {a = listFor (q .apart) (fewestOf q capacity names)} e₄) in

@@ -9,7 +9,7 @@ use Rattle.calculus.specs.Cond.{Pairs}
 use Rattle.calculus.specs.Distinction.{among}
 use Rattle.terms.specs.Answer.{Answer, refused, result, _>>=_, _>>_, need}
 use Rattle.terms.specs.Limits.{nameCount, longestApart}
-use Rattle.terms.specs.Question.{checkOf, all, pairBytes}
+use Rattle.terms.specs.Question.{all, questionOf, pairBytes}
 use Rattle.verdict.specs.Judge.{slotBytes, withinCapacity}
 use Rattle.verdict.specs.Outcome.{Outcome, gave, turnedBack, unsettledOutcome, noneOutcome, Says}
 use Rattle.fewest.specs.Choices.{enlarged}
@@ -32,11 +32,11 @@ listFor apart undecided = undecided
 listFor apart none = none
 listFor apart (chosen c) = chosen (enlarged nameCount apart c)
 
--- Checks 1 and 2, then 3 to 12, then 18 and 15. `room` and `space` are the lengths of the work area and of the result area.
+-- Checks 1 and 2, then 3 to 12 in the question's own edition, then 18 and 15. `room` and `space` are the lengths of the work area and of the result area.
 unfoldable pub apartOf : List ℕ → ℕ → List ℕ → ℕ → ℕ → Answer Fewest
 apartOf question capacity names room space = do
   withinCapacity capacity (slotBytes * capacity) room
-  q ← checkOf question
+  q ← questionOf question
   need 18 (namesGiven names)
   need 15 (leb longestApart space)
   result (listFor (q .apart) (fewestOf q capacity names))

@@ -9,7 +9,7 @@ use Rattle.calculus.specs.Definitions.{Defs}
 use Rattle.calculus.specs.OpenBisimulation.{Related}
 use Rattle.terms.specs.Limits.{nameCount}
 use Rattle.terms.specs.Answer.{refused, result}
-use Rattle.terms.specs.Question.{Question, checkOf, pairBytes}
+use Rattle.terms.specs.Question.{Question, questionOf, pairBytes}
 use Rattle.verdict.specs.Entries.{Defines}
 use Rattle.verdict.specs.Judge.{slotBytes}
 use Rattle.verdict.specs.Meaning.{Exceeds}
@@ -51,7 +51,7 @@ module _ (Δ : Defs) (q : Question) (capacity : ℕ) (names : List ℕ) where
 pub data Told (question : List ℕ) (capacity : ℕ) (names work area : List ℕ) (answer : ℕ) (work′ area′ : List ℕ) : Type 1 where
   not-searched : (k : ℕ) → apartOf question capacity names (length work) (length area) ≡ refused k → Says answer (turnedBack k) → work′ ≡ work
       → area′ ≡ area → Told question capacity names work area answer work′ area′
-  searched : (q : Question) → checkOf question ≡ result q → (o : Outcome) → Says answer o
+  searched : (q : Question) → questionOf question ≡ result q → (o : Outcome) → Says answer o
       → ((Δ : Defs) → Defines q Δ → FewestMeans Δ q capacity names area o area′)
       → work′ ≡ replicate (slotBytes * capacity) 0 ++ drop (slotBytes * capacity) work
       → Told question capacity names work area answer work′ area′

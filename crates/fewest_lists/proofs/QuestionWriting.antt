@@ -7,51 +7,55 @@ use lib.ListN.{length, set, take, drop, length-append}
 use lib.Seq.{sets, set-comm, take-append-seam}
 use Rattle.calculus.specs.Cond.{Pairs}
 use Rattle.terms.specs.Answer.{result}
-use Rattle.terms.specs.Encoding.{encode}
-use Rattle.terms.specs.Framing.{sized, allSized, joined}
+use Rattle.terms.specs.Edition.{Edition, versionByte, encodeIn}
+use Rattle.terms.specs.Framing.{sized, allSized, joined, beforeApart}
 use Rattle.terms.specs.Limits.{nameCount, longestApart, longestQuestion}
-use Rattle.terms.specs.Question.{Question, checkOf, bodyFields, pairBytes, fieldsOf, write}
-use Rattle.terms.specs.Framing.{beforeApart}
+use Rattle.terms.specs.Question.{Question, editionOf, questionOf, bodyFieldsIn, pairBytes, fieldsIn, writeIn}
 use Rattle.terms.proofs.LiteralBytes.{declared-bytes}
-use Rattle.terms.proofs.RefusalNumbers.{accepted-length}
-use Rattle.terms.proofs.WellFormed.{accepted-well-formed, well-formed-accepted}
+use Rattle.terms.proofs.OwnEdition.{own-well-formed, own-fits}
+use Rattle.terms.proofs.WellFormed.{written-length}
 use Rattle.terms_bytes.specs.FieldPlaces.{definitionsOf, afterField, fieldPlace}
 use Rattle.terms_bytes.specs.Writing.{Accepted}
-use Rattle.terms_bytes.proofs.QuestionPlaces.{framable, accepted-joined, joined-length}
+use Rattle.terms_bytes.proofs.QuestionPlaces.{framable-of, joined-in, joined-length}
 use Rattle.terms_bytes.proofs.Stores.{span, sets-join, sets-start}
 use Rattle.fewest.specs.Choices.{pairsBelow, inOrder, underList}
-use Rattle.fewest.proofs.ListLaws.{bytes-length, pairs-allowed, pairs-count, under-well-formed}
+use Rattle.fewest.proofs.ListLaws.{bytes-length, pairs-allowed, pairs-count, under-well-formed, under-fits}
 use Rattle.fewest_lists.specs.Lists.{flagged, PairsWritten, QuestionWritten}
 use Rattle.fewest_lists.proofs.FlagLaws.{flagged-apart}
 use Rattle.fewest_lists.proofs.PairWriting.{flagged-bytes}
 use Rattle.field_pairs.specs.PairNumbers.{allPairs}
 
-under-bytes : (q : Question) (D : Pairs) → write (underList q D) ≡ beforeApart (fieldsOf q) ++ sized (pairBytes D)
-unfolding write joined fieldsOf underList beforeApart
-under-bytes q D =
+under-bytes : (e : Edition) (q : Question) (D : Pairs) → writeIn e (underList q D) ≡ beforeApart e (fieldsIn e q) ++ sized (pairBytes D)
+unfolding writeIn joined fieldsIn underList beforeApart
+under-bytes e q D =
     let A = q .arities in
-    let B = allSized (bodyFields (q .arities) (q .bodies)) in
-    let P = sized (encode 0 (q .first)) in
-    let Q = sized (encode 0 (q .second)) in
+    let B = allSized (bodyFieldsIn e (q .arities) (q .bodies)) in
+    let P = sized (encodeIn e 0 (q .first)) in
+    let Q = sized (encodeIn e 0 (q .second)) in
     let L = sized (pairBytes D) in
-    ap (λ l. 1 ∷ length A ∷ l)
+    ap (λ l. versionByte e ∷ length A ∷ l)
     (ap (λ l. A ++ l) (ap (λ l. B ++ l) (sym (append-assoc P Q L)) ∙ sym (append-assoc B (P ++ Q) L)) ∙ sym (append-assoc A (B ++ (P ++ Q)) L))
 
 length-sized : (xs : List ℕ) → length (sized xs) ≡ 2 + length xs
 unfolding sized
 length-sized xs = omega arith
 
+-- what stands before the list, in the question's own edition
+abbrev before : List ℕ → Question → List ℕ
+before s q = beforeApart (editionOf s) (fieldsIn (editionOf s) q)
+
 -- the list may be as long as check 12 allows
-before-short : (s : List ℕ) (q : Question) → checkOf s ≡ result q → length (beforeApart (fieldsOf q)) + (2 + longestApart) ≤ longestQuestion
-before-short s q e =
+before-short : (s : List ℕ) (q : Question) → questionOf s ≡ result q → length (before s q) + (2 + longestApart) ≤ longestQuestion
+before-short s q h =
+    let e = editionOf s in
     let r = underList q (pairsBelow nameCount) in
-    let w = under-well-formed q (accepted-well-formed s q e) (pairsBelow nameCount) pairs-allowed (omega (arith, bytes-length (pairsBelow nameCount), pairs-count)) in
-    let l = accepted-length (write r) r (well-formed-accepted r w) in
+    let w = under-well-formed q (own-well-formed s q h) (pairsBelow nameCount) pairs-allowed (omega (arith, bytes-length (pairsBelow nameCount), pairs-count)) in
+    let l = written-length e r w (under-fits e q (pairsBelow nameCount) ∙ own-fits s q h) in
     omega (
       arith,
       l,
-      ap length (under-bytes q (pairsBelow nameCount)),
-      length-append (beforeApart (fieldsOf q)) (sized (pairBytes (pairsBelow nameCount))),
+      ap length (under-bytes e q (pairsBelow nameCount)),
+      length-append (before s q) (sized (pairBytes (pairsBelow nameCount))),
       length-sized (pairBytes (pairsBelow nameCount)),
       bytes-length (pairsBelow nameCount),
       pairs-count,
@@ -60,21 +64,20 @@ before-short s q e =
 -- The place of the apart list, as the code computes it.
 module _ (s : List ℕ) (first second apart : ℕ) (first-at : first ≡ fieldPlace s (definitionsOf s)) (second-at : second ≡ afterField s first)
     (apart-at : apart ≡ afterField s second) where
-  place-is : (q : Question) → checkOf s ≡ result q → length s ≡ apart + (length (pairBytes (q .apart)) + 2)
-  unfolding fieldsOf
-  place-is q e =
-      let j = accepted-joined s q e in
-      let fr = framable q (accepted-well-formed s q e) in
+  place-is : (q : Question) → questionOf s ≡ result q → length s ≡ apart + (length (pairBytes (q .apart)) + 2)
+  unfolding questionOf fieldsIn
+  place-is q h =
+      let e = editionOf s in
       let y : second ≡ afterField s (fieldPlace s (definitionsOf s)) = second-at ∙ ap (afterField s) first-at in
       let z : apart ≡ afterField s (afterField s (fieldPlace s (definitionsOf s))) = apart-at ∙ ap (afterField s) y in
       rw z
-      (subst (λ (s : List ℕ). length s ≡ afterField s (afterField s (fieldPlace s (definitionsOf s))) + (length (pairBytes (q .apart)) + 2)) j
-      (joined-length (fieldsOf q) fr))
+      (subst (λ (s : List ℕ). length s ≡ afterField s (afterField s (fieldPlace s (definitionsOf s))) + (length (pairBytes (q .apart)) + 2)) (joined-in e s q h)
+      (joined-length e (fieldsIn e q) (framable-of e s q h)))
 
-  before-is : (q : Question) → checkOf s ≡ result q → (apart ≡ length (beforeApart (fieldsOf q))) × (span s 0 apart ≡ beforeApart (fieldsOf q))
+  before-is : (q : Question) → questionOf s ≡ result q → (apart ≡ length (before s q)) × (span s 0 apart ≡ before s q)
   before-is q e =
       let b = declared-bytes s q e 0 0 .0 in
-      let F = beforeApart (fieldsOf q) in
+      let F = before s q in
       let l : apart ≡ length F = omega (
         arith,
         place-is q e,
@@ -132,7 +135,7 @@ module _ (s flags out out₁ out₂ : List ℕ) (first second apart end size : �
     within = omega (arith, end-is, flagged-bytes flags, apart-room s first second apart first-at second-at apart-at accepted);
     is = λ q D e f.
         let (l, b) = before-is s first second apart first-at second-at apart-at q e in
-        let F = beforeApart (fieldsOf q) in
+        let F = before s q in
         let o : out₁ ≡ sets out 0 F = copied ∙ ap (sets out 0) b in
         let W = F ++ sized L in
         let n : length W ≡ end = omega (arith, end-is, l, length-append F (sized L), length-sized L) in
@@ -140,7 +143,8 @@ module _ (s flags out out₁ out₂ : List ℕ) (first second apart end size : �
         run ∙ ap (λ m. sets m apart (sized L)) o ∙ sets-join out 0 apart F (sized L) (omega (arith, l)) in
         let y : sets out 0 W ≡ W ++ drop (length W) out =
         sets-start out W (omega (arith, n, end-is, flagged-bytes flags, apart-room s first second apart first-at second-at apart-at accepted)) in
-        let z : W ≡ write (underList q (inOrder nameCount D)) =
-        ap (λ D. F ++ sized (pairBytes D)) (ap (λ fs. flagged fs (allPairs nameCount)) f ∙ flagged-apart D) ∙ sym (under-bytes q (inOrder nameCount D)) in
+        let z : W ≡ writeIn (editionOf s) (underList q (inOrder nameCount D)) =
+        ap (λ D. F ++ sized (pairBytes D)) (ap (λ fs. flagged fs (allPairs nameCount)) f ∙ flagged-apart D)
+        ∙ sym (under-bytes (editionOf s) q (inOrder nameCount D)) in
         ap (take end) (x ∙ y) ∙ ap (λ (k : ℕ). take k (W ++ drop (length W) out)) (sym n) ∙ take-append-seam W (drop (length W) out) ∙ z;
   }

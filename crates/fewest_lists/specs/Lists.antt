@@ -10,7 +10,7 @@ use Rattle.calculus.specs.Cond.{Pairs}
 use Rattle.terms.specs.Answer.{result}
 use Rattle.terms.specs.Limits.{nameCount}
 use Rattle.terms.specs.Operations.{holdsApart}
-use Rattle.terms.specs.Question.{Question, checkOf, pairBytes, write}
+use Rattle.terms.specs.Question.{Question, editionOf, questionOf, pairBytes, writeIn}
 use Rattle.field_pairs.specs.Slot.{flag, flagsOf}
 use Rattle.fewest.specs.Choices.{mayChoose, inOrder, underList}
 use Rattle.field_pairs.specs.PairNumbers.{allPairs, pairAt}
@@ -53,7 +53,8 @@ PairWritten flags k out end r out′ = PairsPut (flaggedAt flags k) out end r ou
 unfoldable pub PairsWritten : List ℕ → List ℕ → ℕ → ℕ → List ℕ → Type 0
 PairsWritten flags out put r out′ = PairsPut (flagged flags (allPairs nameCount)) out put r out′
 
--- The question under the list that the flags say stands at the front.
+-- The question under the list that the flags say stands at the front, in its own edition.
 pub record QuestionWritten (question flags out : List ℕ) (r : ℕ) (out′ : List ℕ) : Type 0 where
   pub within : r ≤ length out
-  pub is : (q : Question) (D : Pairs) → checkOf question ≡ result q → flags ≡ flagsOf D → take r out′ ≡ write (underList q (inOrder nameCount D))
+  pub is : (q : Question) (D : Pairs) → questionOf question ≡ result q → flags ≡ flagsOf D
+      → take r out′ ≡ writeIn (editionOf question) (underList q (inOrder nameCount D))

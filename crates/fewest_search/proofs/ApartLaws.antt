@@ -12,11 +12,11 @@ use Rattle.calculus.specs.Cond.{Pairs}
 use Rattle.terms.specs.Answer.{Answer, refused, result, _>>=_, _>>_, need}
 use Rattle.terms.specs.Limits.{nameCount, longestApart}
 use Rattle.terms.specs.Operations.{checkAnswer}
-use Rattle.terms.specs.Question.{Question, checkOf, pairBytes}
+use Rattle.terms.specs.Question.{Question, editionOf, questionOf, pairBytes}
 use Rattle.terms.proofs.Answers.{need-passed, need-failed, bind-result, bind-to}
 use Rattle.terms_bytes.specs.FieldPlaces.{definitionsOf, afterField, fieldAt, fieldPlace}
 use Rattle.terms_bytes.specs.Writing.{Accepted}
-use Rattle.terms_bytes.proofs.QuestionPlaces.{accepted-apart}
+use Rattle.terms_bytes.proofs.QuestionPlaces.{apart-in}
 use Rattle.terms_bytes.proofs.Stores.{sets-start}
 use Rattle.terms_checks.specs.Checking.{checkedAnswer}
 use Rattle.terms_checks.specs.declared.check.Checked.{Checked}
@@ -47,12 +47,12 @@ pub found-is : (question : List ℕ) (capacity : ℕ) (names work : List ℕ) (f
     → list ≡ fieldAt question apart → ApartFlagsAre list flags → OpenFlagsAre names flags choosable → longestApart ≤ length pairs
     → PairsWritten choosable pairs 0 end pairs′ → SizesIs question (take end pairs′) flags capacity work r work′
     → FoundIs question capacity names work r work′
-unfolding FoundIs SizesIs ApartFlagsAre OpenFlagsAre PairsWritten fewestOf verdictUnder enlarged verdictOn
+unfolding FoundIs SizesIs ApartFlagsAre OpenFlagsAre PairsWritten fewestOf verdictUnder enlarged verdictOn questionOf
 found-is question capacity names work first second apart list flags choosable pairs pairs′ end r work′ x y z l a o room w s q e =
     let D = q .apart in
     let C = candidatePairs nameCount names D in
     let L = pairBytes (flagged choosable (allPairs nameCount)) in
-    let i : flags ≡ flagsOf D = a D (l ∙ accepted-apart question q e first second apart x y z) in
+    let i : flags ≡ flagsOf D = a D (l ∙ apart-in (editionOf question) question q e first second apart x y z) in
     let c : L ≡ pairBytes C = ap pairBytes (ap (λ fs. flagged fs (allPairs nameCount)) (o D i) ∙ flagged-open names D) in
     let n : end ≡ length L = omega (arith, w .ends) in
     let p : take end pairs′ ≡ pairBytes C =
@@ -82,7 +82,7 @@ module _ (question : List ℕ) (capacity : ℕ) (names work area : List ℕ) whe
 
   -- apart_accepted
   module _ (accepted : Accepted question) (allowed : Allowed capacity (length work)) where
-    checks-passed : (q : Question) → checkOf question ≡ result q
+    checks-passed : (q : Question) → questionOf question ≡ result q
         → answers ≡ (need 18 (namesGiven names) >> (need 15 (leb longestApart (length area)) >> result (listFor (q .apart) (fewestOf q capacity names))))
     unfolding apartOf
     checks-passed q e =
@@ -137,7 +137,7 @@ module _ (question : List ℕ) (capacity : ℕ) (names work area : List ℕ) whe
       unfolding apartOf checkAnswer checkedAnswer _>>=_
       question-refused j c e h =
           does-refused answers capacity work area j
-          (within-passes capacity (slotBytes * capacity) (length work) _ within ∙ go (checkOf question) (e ∙ ap checkedAnswer h))
+          (within-passes capacity (slotBytes * capacity) (length work) _ within ∙ go (questionOf question) (e ∙ ap checkedAnswer h))
         where
           go : (m : Answer Question) → _>>=_ {B = ℕ} m (λ q. result 0) ≡ refused j
               → (m >>= λ q. (need 18 (namesGiven names) >> (need 15 (leb longestApart (length area)) >> result (listFor (q .apart) (fewestOf q capacity names))))) ≡ refused j
@@ -147,4 +147,4 @@ module _ (question : List ℕ) (capacity : ℕ) (names work area : List ℕ) whe
 pub is-accepted : (question : List ℕ) (c : Checked) → checkAnswer question ≡ checkedAnswer c → c ≡ checked.Accepted → Accepted question
 unfolding checkAnswer checkedAnswer Accepted
 is-accepted question c e h =
-    let (q, d, z) = bind-result (checkOf question) (λ q. result 0) 0 (e ∙ ap checkedAnswer h) in (q, d)
+    let (q, d, z) = bind-result (questionOf question) (λ q. result 0) 0 (e ∙ ap checkedAnswer h) in (q, d)

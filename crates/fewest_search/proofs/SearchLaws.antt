@@ -9,7 +9,7 @@ use lib.Seq.{drop-append-seam, drop-drop}
 use Rattle.calculus.specs.Cond.{Pairs}
 use Rattle.terms.specs.Answer.{result}
 use Rattle.terms.specs.Limits.{nameCount}
-use Rattle.terms.specs.Question.{Question, checkOf, pairBytes}
+use Rattle.terms.specs.Question.{Question, questionOf, pairBytes}
 use Rattle.terms.proofs.Answers.{result-injective, refused-not-result}
 use Rattle.field_pairs.specs.Slot.{flagsOf}
 use Rattle.verdict.specs.Judge.{slotBytes, workAfter}
@@ -132,7 +132,7 @@ pub list-judged : (question flags asked asked′ : List ℕ) (end capacity : ℕ
 unfolding ListJudged verdictOn clearedBy workAfter
 list-judged question flags asked asked′ end capacity work r work′ a w j q D e f =
     let u = underList q (inOrder nameCount D) in
-    let b : checkOf (take end asked′) ≡ result u = ap checkOf (w .is q D e f) ∙ under-accepted question q e D in
+    let b : questionOf (take end asked′) ≡ result u = ap questionOf (w .is q D e f) ∙ under-accepted question q e D in
     let v = judge-answers openly (take end asked′) u b capacity (length work) (a .some) (a .most) (a .fits) in
     record { verdict = j .answer ∙ v; cleared = j .left ∙ ap (λ m. workAfter m capacity work) v }
 
@@ -262,7 +262,7 @@ sizes-last ps (suc n) k =
 -- The choices of up to `size` pairs are judged; W is the work area, clear.
 abbrev pub SizesTo : List ℕ → List ℕ → List ℕ → ℕ → List ℕ → ℕ → Best → List ℕ → Type 0
 SizesTo question pairs flags capacity W size r work =
-    (q : Question) (D ps : Pairs) → checkOf question ≡ result q → flags ≡ flagsOf D → pairs ≡ pairBytes ps
+    (q : Question) (D ps : Pairs) → questionOf question ≡ result q → flags ≡ flagsOf D → pairs ≡ pairBytes ps
     → Knows q capacity (fewestBy (verdictOn q capacity) (map (D ++_) (choicesFrom ps 0 size))) r W work × (clearedBy capacity W ≡ W)
 
 module _ (question pairs flags : List ℕ) (capacity : ℕ) where

@@ -7,7 +7,7 @@ use lib.ListN.{length, drop, replicate}
 use Rattle.calculus.specs.Cond.{Pairs}
 use Rattle.terms.specs.Answer.{Answer, result}
 use Rattle.terms.specs.Limits.{nameCount}
-use Rattle.terms.specs.Question.{Question, checkOf, pairBytes}
+use Rattle.terms.specs.Question.{Question, questionOf, pairBytes}
 use Rattle.field_pairs.specs.Slot.{flagsOf}
 use Rattle.verdict.specs.Judge.{slotBytes, greatestCapacity}
 use Rattle.verdict.specs.Verdict.{Verdict, verdictOf}
@@ -41,7 +41,7 @@ pub record Judges (q : Question) (D : Pairs) (capacity : ℕ) (work : List ℕ) 
 
 unfoldable pub ListJudged : List ℕ → List ℕ → ℕ → List ℕ → Judged → List ℕ → Type 0
 ListJudged question flags capacity work r work′ =
-    (q : Question) (D : Pairs) → checkOf question ≡ result q → flags ≡ flagsOf D → Judges q D capacity work r work′
+    (q : Question) (D : Pairs) → questionOf question ≡ result q → flags ≡ flagsOf D → Judges q D capacity work r work′
 
 -- What is known after lists of pairs are judged, and the work area.
 pub record Knows (q : Question) (capacity : ℕ) (f : Fewest) (r : Best) (work work′ : List ℕ) : Type 0 where
@@ -50,24 +50,24 @@ pub record Knows (q : Question) (capacity : ℕ) (f : Fewest) (r : Best) (work w
 
 unfoldable pub NextIs : List ℕ → List ℕ → Best → ℕ → List ℕ → Best → List ℕ → Type 0
 NextIs question flags best capacity work r work′ =
-    (q : Question) (D : Pairs) (f : Fewest) → checkOf question ≡ result q → flags ≡ flagsOf D → BestIs best f → best .unsettled ≡ false
+    (q : Question) (D : Pairs) (f : Fewest) → questionOf question ≡ result q → flags ≡ flagsOf D → BestIs best f → best .unsettled ≡ false
     → Knows q capacity (followedBy f (fewestBy (verdictOn q capacity) (D ∷ []))) r (clearedBy capacity work) work′
 
 -- In a work area that is clear the choices of `size` of the pairs ps leave it so.
 unfoldable pub SearchedIs : List ℕ → List ℕ → ℕ → ℕ → List ℕ → Best → ℕ → List ℕ → Best → List ℕ → Type 0
 SearchedIs question pairs at size flags best capacity work r work′ =
-    (q : Question) (D ps : Pairs) (f : Fewest) → checkOf question ≡ result q → flags ≡ flagsOf D → drop at pairs ≡ pairBytes ps → BestIs best f
+    (q : Question) (D ps : Pairs) (f : Fewest) → questionOf question ≡ result q → flags ≡ flagsOf D → drop at pairs ≡ pairBytes ps → BestIs best f
     → clearedBy capacity work ≡ work
     → Knows q capacity (followedBy f (fewestBy (verdictOn q capacity) (map (D ++_) (choices ps size)))) r work work′
 
 unfoldable pub SizesIs : List ℕ → List ℕ → List ℕ → ℕ → List ℕ → Best → List ℕ → Type 0
 SizesIs question pairs flags capacity work r work′ =
-    (q : Question) (D ps : Pairs) → checkOf question ≡ result q → flags ≡ flagsOf D → pairs ≡ pairBytes ps
+    (q : Question) (D ps : Pairs) → questionOf question ≡ result q → flags ≡ flagsOf D → pairs ≡ pairBytes ps
     → Knows q capacity (fewestBy (verdictOn q capacity) (map (D ++_) (allChoices ps))) r (clearedBy capacity work) work′
 
 unfoldable pub FoundIs : List ℕ → ℕ → List ℕ → List ℕ → Best → List ℕ → Type 0
 FoundIs question capacity names work r work′ =
-    (q : Question) → checkOf question ≡ result q
+    (q : Question) → questionOf question ≡ result q
     → Knows q capacity (mapped (q .apart ++_) (fewestOf q capacity names)) r (clearedBy capacity work) work′
 
 -- The answer and both areas.

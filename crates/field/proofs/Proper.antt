@@ -22,10 +22,11 @@ use Rattle.calculus.proofs.Theorems.{Agree, related-cut}
 use Rattle.terms.specs.Encoding.{encode, InScope}
 use Rattle.terms.specs.Operations.{holdsApart}
 use Rattle.terms.specs.Question.{pairBytes}
-use Rattle.terms.specs.Reading.{readWhole}
+use Rattle.terms.specs.Edition.{one}
+use Rattle.terms.specs.Reading.{numbered, readWhole}
 use Rattle.terms.proofs.Answers.{result-injective, both-true}
 use Rattle.terms.proofs.ApartLaws.{holds-apart, apart-holds}
-use Rattle.terms.proofs.ReadEncoded.{read-whole}
+use Rattle.terms.proofs.EditionOne.{read-whole-first}
 use Rattle.terms.proofs.ScopeLaws.{free-below}
 use Rattle.steps.specs.Lists.{_∈_}
 pub use Rattle.field.specs.Situation.{Proper}
@@ -241,7 +242,7 @@ pairs-same (p ∷ D) (q ∷ E) e =
 module _ (names : ℕ) (few : names ≤ 128) (arities : List ℕ) where
   pub encode-same : (P Q : Term) → InScope names arities 0 P → InScope names arities 0 Q → encode 0 P ≡ encode 0 Q → P ≡ Q
   encode-same P Q g h e =
-      result-injective (sym (read-whole names few arities 0 P g) ∙ ap (readWhole names arities 0) e ∙ read-whole names few arities 0 Q h)
+      result-injective (sym (read-whole-first names few arities 0 P g) ∙ ap (readWhole one (numbered arities) names 0) e ∙ read-whole-first names few arities 0 Q h)
 
   -- on proper situations the test of equality is exact
   pub same-equal : (s t : Situation) → Proper names arities s → Proper names arities t → sameSituation s t ≡ true → s ≡ t

@@ -8,11 +8,15 @@ use native.Mathlib.Omega.{arith}
 use lib.ListN.{length}
 use Rattle.calculus.specs.Term.{Term}
 use Rattle.terms.specs.Answer.{Answer, refused, result}
+use Rattle.terms.specs.Edition.{one, versionByte}
 use Rattle.terms.specs.Encoding.{encode, InScope}
-use Rattle.terms.specs.Question.{Question, checkOf, bodyFields, pairBytes, fieldsOf, write}
+use Rattle.terms.specs.Reading.{numbered}
+use Rattle.terms.specs.Framing.{joined}
+use Rattle.terms.specs.Question.{Question, checkOf, editionOf, questionOf, bodyFields, pairBytes, fieldsOf, write}
 use Rattle.terms.proofs.Answers.{result-injective, bind-to, Every}
 use Rattle.terms.proofs.EncodeRead.{whole-read}
-use Rattle.terms.proofs.ScopeLaws.{free-below}
+use Rattle.terms.proofs.EditionOne.{encode-first}
+use Rattle.terms.proofs.ScopeLaws.{scope-from, free-below}
 use Rattle.terms.proofs.WellFormed.{PartAllowed, BodiesAllowed, well-formed-accepted}
 use Rattle.steps.specs.Lists.{_∈_, Distinct}
 use Rattle.steps.proofs.Scope.{scope-calls, in-scope}
@@ -26,10 +30,10 @@ use Rattle.small_parts.proofs.Settled.{census-settled}
 
 -- The bytes of a part are those of its term.
 pub part-bytes : (n : ℕ) (bytes : List ℕ) (p : SmallPart n bytes) → bytes ≡ encode 0 (p .term)
-part-bytes n bytes p = whole-read freeNames [] 0 bytes (p .term) (p .reads) .0
+part-bytes n bytes p = whole-read freeNames one (numbered []) 0 bytes (p .term) (p .reads) .0 ∙ encode-first 0 (p .term)
 
 pub part-scope : (n : ℕ) (bytes : List ℕ) (p : SmallPart n bytes) → InScope freeNames [] 0 (p .term)
-part-scope n bytes p = whole-read freeNames [] 0 bytes (p .term) (p .reads) .1
+part-scope n bytes p = scope-from [] freeNames 0 (p .term) (whole-read freeNames one (numbered []) 0 bytes (p .term) (p .reads) .1)
 
 part-allowed : (n : ℕ) → n ≤ 5 → (bytes : List ℕ) (p : SmallPart n bytes) → PartAllowed [] (p .term)
 part-allowed n h bytes p = record {
@@ -41,19 +45,19 @@ part-allowed n h bytes p = record {
 }
 
 -- the question that two parts make
-abbrev pub questionOf : Term → Term → Question
-questionOf P Q = record { arities = []; bodies = []; first = P; second = Q; apart = [] }
+abbrev pub pairQuestion : Term → Term → Question
+pairQuestion P Q = record { arities = []; bodies = []; first = P; second = Q; apart = [] }
 
 module _ (n : ℕ) (h : n ≤ 5) (first second : List ℕ) (p : SmallPart n first) (q : SmallPart n second) where
-  written : asked first second ≡ write (questionOf (p .term) (q .term))
+  written : asked first second ≡ write (pairQuestion (p .term) (q .term))
   unfolding asked write fieldsOf bodyFields pairBytes
   written = ap (λ l. asked l second) (part-bytes n first p) ∙ ap (λ l. asked (encode 0 (p .term)) l) (part-bytes n second q)
 
   -- Every pair makes an accepted question,
-  pub pair-accepted : checkOf (asked first second) ≡ result (questionOf (p .term) (q .term))
+  pub pair-accepted : checkOf (asked first second) ≡ result (pairQuestion (p .term) (q .term))
   unfolding BodiesAllowed Every pairBytes
   pair-accepted =
-      ap checkOf written ∙ well-formed-accepted (questionOf (p .term) (q .term)) (record {
+      ap checkOf written ∙ well-formed-accepted (pairQuestion (p .term) (q .term)) (record {
         definitions = omega arith;
         parameters = tt;
         bodies = tt;
@@ -63,14 +67,19 @@ module _ (n : ℕ) (h : n ≤ 5) (first second : List ℕ) (p : SmallPart n firs
         apartSize = omega arith;
       })
 
+  -- as the judge reads it,
+  pair-own : questionOf (asked first second) ≡ result (pairQuestion (p .term) (q .term))
+  unfolding questionOf editionOf checkOf asked joined versionByte
+  pair-own = pair-accepted
+
   -- whose verdict is settled.
-  pub pair-verdict : verdictOn first second ≡ result (verdictOf (questionOf (p .term) (q .term)) censusCapacity)
+  pub pair-verdict : verdictOn first second ≡ result (verdictOf (pairQuestion (p .term) (q .term)) censusCapacity)
   unfolding verdictOn
-  pair-verdict = bind-to _ pair-accepted
+  pair-verdict = bind-to _ pair-own
 
   pub pair-settled : ¬ (verdictOn first second ≡ result unsettled)
   pair-settled e =
-      census-settled (questionOf (p .term) (q .term)) refl
+      census-settled (pairQuestion (p .term) (q .term)) refl
       (omega (arith, ap (length {A = ℕ}) (part-bytes n first p), p .size)) (omega (arith, ap (length {A = ℕ}) (part-bytes n second q), q .size))
       censusCapacity (omega arith) (result-injective (sym pair-verdict ∙ e))
 

@@ -10,13 +10,14 @@ use Rattle.calculus.specs.Free.{Free}
 use Rattle.terms.specs.Answer.{result}
 use Rattle.terms.specs.Encoding.{InScope}
 use Rattle.terms.specs.Framing.{Fields, joined, framed}
-use Rattle.terms.specs.Reading.{readWhole}
-use Rattle.terms.specs.Question.{Question, checkOf, pairBytes, fieldsOf, write}
+use Rattle.terms.specs.Edition.{one}
+use Rattle.terms.specs.Reading.{numbered, readWhole}
+use Rattle.terms.specs.Question.{Question, checkOf, fieldsOf, write}
 use Rattle.terms.proofs.Answers.{result-injective, Every}
 use Rattle.terms.proofs.FramingLaws.{behindVersion, framed-in}
-use Rattle.terms.proofs.ReadEncoded.{read-whole}
+use Rattle.terms.proofs.EditionOne.{read-whole-first}
 use Rattle.terms.proofs.ScopeLaws.{free-below}
-use Rattle.terms.proofs.WellFormed.{WellFormed, withApart, fields-framable, accepted-well-formed, accepted-written}
+use Rattle.terms.proofs.WellFormed.{WellFormed, framable, accepted-well-formed, accepted-written}
 use Rattle.steps.proofs.Scope.{scope-calls, in-scope}
 use Rattle.small_parts.specs.Census.{freeNames, SmallPart, asked, isSame, isDifferent, isUnsettled, PairOf, CensusIs}
 use Rattle.small_parts.proofs.CensusOfWords.{part-scope, pair-accepted}
@@ -32,10 +33,10 @@ module _ (w : List ℕ) (short : length w ≤ 5) (q : Question) (accepted : chec
 
   -- Bytes determine their fields.
   same-fields : fieldsOf q ≡ fieldsAsked w
-  unfolding fieldsOf withApart write asked joined behindVersion Every
+  unfolding write asked joined behindVersion Every
   same-fields =
       result-injective (
-      sym (framed-in (fieldsOf q) (fields-framable q well (pairBytes (q .apart)) (omega (arith, well .apartSize))))
+      sym (framed-in (fieldsOf q) (framable q well))
       ∙ ap (λ bs. framed (drop 1 bs)) (accepted-written (asked w w) q accepted)
       ∙ framed-in (fieldsAsked w) (record { counts = refl; bodies = tt; first = omega arith; second = omega arith; apart = omega arith })
       )
@@ -44,7 +45,7 @@ module _ (w : List ℕ) (short : length w ≤ 5) (q : Question) (accepted : chec
   unfolding fieldsOf
   accepted-small few = record {
     term = q .first;
-    reads = subst (λ bs. readWhole freeNames [] 0 bs ≡ result (q .first)) (ap (λ f. f .first) same-fields) (read-whole freeNames (omega arith) [] 0 (q .first) scope);
+    reads = subst (λ bs. readWhole one (numbered []) freeNames 0 bs ≡ result (q .first)) (ap (λ f. f .first) same-fields) (read-whole-first freeNames (omega arith) [] 0 (q .first) scope);
     outermost = well .first .parallelsOutermost;
     size = refl;
   }

@@ -9,8 +9,9 @@ use Rattle.calculus.specs.Term.{Term}
 use Rattle.terms.specs.Answer.{Answer, result, _>>=_}
 use Rattle.terms.specs.Framing.{joined}
 use Rattle.terms.specs.Grammar.{parallelOutermost}
-use Rattle.terms.specs.Question.{checkOf}
-use Rattle.terms.specs.Reading.{readWhole}
+use Rattle.terms.specs.Question.{questionOf}
+use Rattle.terms.specs.Edition.{one}
+use Rattle.terms.specs.Reading.{numbered, readWhole}
 use Rattle.verdict.specs.Verdict.{Verdict, unsettled, same, different, verdictOf}
 use Rattle.small_parts.specs.Counted.{Counted}
 
@@ -28,17 +29,17 @@ greatestLength = 5
 -- The bytes of an accepted part of n bytes, without definitions: checks 7 to 10, with those free names alone.
 pub record SmallPart (n : ℕ) (bytes : List ℕ) : Type 0 where
   pub term : Term
-  pub reads : readWhole freeNames [] 0 bytes ≡ result term
+  pub reads : readWhole one (numbered []) freeNames 0 bytes ≡ result term
   pub outermost : parallelOutermost term ≡ true
   pub size : length bytes ≡ n
 
--- the question about two parts: no definitions, an empty apart list
+-- the question about two parts, of edition one: no definitions, an empty apart list
 unfoldable pub asked : List ℕ → List ℕ → List ℕ
-asked first second = joined (record { arities = []; bodies = []; first = first; second = second; apart = [] })
+asked first second = joined one (record { arities = []; bodies = []; first = first; second = second; apart = [] })
 
 unfoldable pub verdictOn : List ℕ → List ℕ → Answer Verdict
 verdictOn first second = do
-  question ← checkOf (asked first second)
+  question ← questionOf (asked first second)
   result (verdictOf question censusCapacity)
 
 -- What a verdict says, without the size of the field.

@@ -8,7 +8,8 @@ use lib.ListN.{length, take, drop, set, replicate, length-append}
 use lib.Seq.{sets, length-sets, take-append-seam}
 use Rattle.terms.specs.Answer.{Answer, refused, result, _>>=_}
 use Rattle.terms.specs.Framing.{sized, allSized, joined}
-use Rattle.terms.specs.Reading.{readWhole}
+use Rattle.terms.specs.Edition.{one, versionByte}
+use Rattle.terms.specs.Reading.{numbered, readWhole}
 use Rattle.terms.proofs.Answers.{result-injective, refused-not-result}
 use Rattle.terms_bytes.proofs.Stores.{sets-join, sets-start}
 use Rattle.terms_checks.specs.Scanning.{controlOf, scannedWhole, wholeAnswer}
@@ -21,17 +22,17 @@ use Rattle.small_parts_words.specs.Words.{wordOf, wordCount, hasOutermos
 use Rattle.small_parts_words.proofs.WordLaws.{length-word}
 
 -- What the walk says of the bytes.
-walked : (bs : List ℕ) (r : Scan) → scannedWhole freeNames [] 0 bs ≡ wholeAnswer r → (j : ℕ) → r ≡ Fault j → false ≡ isPart bs
+walked : (bs : List ℕ) (r : Scan) → scannedWhole one freeNames [] 0 bs ≡ wholeAnswer r → (j : ℕ) → r ≡ Fault j → false ≡ isPart bs
 unfolding scannedWhole wholeAnswer isPart hasOutermost _>>=_
-walked bs r h j e = go (readWhole freeNames [] 0 bs) (h ∙ ap wholeAnswer e)
+walked bs r h j e = go (readWhole one (numbered []) freeNames 0 bs) (h ∙ ap wholeAnswer e)
   where
     go : (a : Answer Term) → (a >>= λ P. result (controlOf P)) ≡ refused j → false ≡ hasOutermost a
     go (refused k) f = refl
     go (result P) f = refused-not-result (sym f)
 
-walked-whole : (bs : List ℕ) (r : Scan) → scannedWhole freeNames [] 0 bs ≡ wholeAnswer r → (j : ℕ) (c : Control) → r ≡ End j c → c .outermost ≡ isPart bs
+walked-whole : (bs : List ℕ) (r : Scan) → scannedWhole one freeNames [] 0 bs ≡ wholeAnswer r → (j : ℕ) (c : Control) → r ≡ End j c → c .outermost ≡ isPart bs
 unfolding scannedWhole wholeAnswer isPart hasOutermost controlOf _>>=_
-walked-whole bs r h j c e = go (readWhole freeNames [] 0 bs) (h ∙ ap wholeAnswer e)
+walked-whole bs r h j c e = go (readWhole one (numbered []) freeNames 0 bs) (h ∙ ap wholeAnswer e)
   where
     go : (a : Answer Term) → (a >>= λ P. result (controlOf P)) ≡ result c → c .outermost ≡ hasOutermost a
     go (refused k) f = refused-not-result f
@@ -45,13 +46,13 @@ in-area n k area after h e =
     ap (take n) (e ∙ sets-start area w (omega arith)) ∙ ap (λ m. take m (w ++ drop (length w) area)) (sym l) ∙ take-append-seam w (drop (length w) area)
 
 pub faulty-word : (n k : ℕ) (area after : List ℕ) (r : Scan) (j : ℕ) → n ≤ length area → after ≡ sets area 0 (wordOf n k)
-    → scannedWhole freeNames [] 0 (take n after) ≡ wholeAnswer r → r ≡ Fault j → false ≡ isPart (wordOf n k)
-faulty-word n k area after r j h e s f = walked (wordOf n k) r (ap (scannedWhole freeNames [] 0) (sym (in-area n k area after h e)) ∙ s) j f
+    → scannedWhole one freeNames [] 0 (take n after) ≡ wholeAnswer r → r ≡ Fault j → false ≡ isPart (wordOf n k)
+faulty-word n k area after r j h e s f = walked (wordOf n k) r (ap (scannedWhole one freeNames [] 0) (sym (in-area n k area after h e)) ∙ s) j f
 
 pub whole-word : (n k : ℕ) (area after : List ℕ) (r : Scan) (j : ℕ) (c : Control) → n ≤ length area → after ≡ sets area 0 (wordOf n k)
-    → scannedWhole freeNames [] 0 (take n after) ≡ wholeAnswer r → r ≡ End j c → c .outermost ≡ isPart (wordOf n k)
+    → scannedWhole one freeNames [] 0 (take n after) ≡ wholeAnswer r → r ≡ End j c → c .outermost ≡ isPart (wordOf n k)
 whole-word n k area after r j c h e s f =
-    walked-whole (wordOf n k) r (ap (scannedWhole freeNames [] 0) (sym (in-area n k area after h e)) ∙ s) j c f
+    walked-whole (wordOf n k) r (ap (scannedWhole one freeNames [] 0) (sym (in-area n k area after h e)) ∙ s) j c f
 
 -- Keeping numbers.
 pub count-few : (n : ℕ) → n ≤ 5 → wordCount n ≤ 759375
@@ -142,7 +143,7 @@ module _ (n : ℕ) where
 -- The bytes of the question: computed for each length.
 pub question-bytes : (n a b : ℕ) → n ≤ 5 → (l m : List ℕ) → l ≡ sets (set (set (replicate 18 0) 0 1) 3 n) 4 (wordOf n a)
     → m ≡ sets (set l (n + 5) n) (n + 6) (wordOf n b) → take (2 * n + 8) m ≡ asked (wordOf n a) (wordOf n b)
-unfolding asked joined sized allSized wordOf
+unfolding asked joined versionByte sized allSized wordOf
 question-bytes n a b h l m e f = ap (take (2 * n + 8)) (f ∙ ap (λ s. sets (set s (n + 5) n) (n + 6) (wordOf n b)) e) ∙ each n h
   where
     each : (n : ℕ) → n ≤ 5

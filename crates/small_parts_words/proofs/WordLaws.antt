@@ -11,7 +11,8 @@ use borrow.Author.Tests.{ltb-true, ltb-false, lt-ltb, le-ltb}
 use Rattle.calculus.specs.Term.{Term, nil, tau, inp, out, bout, mat, sum, par, res, call}
 use Rattle.terms.specs.Answer.{Answer, refused, result}
 use Rattle.terms.specs.Encoding.{nameByte, encode, InScope}
-use Rattle.terms.specs.Reading.{readWhole}
+use Rattle.terms.specs.Edition.{one}
+use Rattle.terms.specs.Reading.{numbered, readWhole}
 use Rattle.steps.specs.Lists.{_∈_, All, Distinct}
 use Rattle.steps.proofs.Membership.{all-++, ∈-left, ∈-right, ∈-either, ∈-map, ∈-mapped, distinct-length}
 use Rattle.field.proofs.Members.{distinct-++}
@@ -112,9 +113,9 @@ part-tested n w p = ap hasOutermost (p .reads) ∙ p .outermost
 
 tested-part : (w : List ℕ) → isPart w ≡ true → SmallPart (length w) w
 unfolding isPart hasOutermost
-tested-part w = go (readWhole freeNames [] 0 w) refl
+tested-part w = go (readWhole one (numbered []) freeNames 0 w) refl
   where
-    go : (a : Answer Term) → readWhole freeNames [] 0 w ≡ a → hasOutermost a ≡ true → SmallPart (length w) w
+    go : (a : Answer Term) → readWhole one (numbered []) freeNames 0 w ≡ a → hasOutermost a ≡ true → SmallPart (length w) w
     go (refused k) e t = let z : _≡_ {A = ℕ} 0 1 = cc in absurd (omega arith)
     go (result P) e t = record { term = P; reads = e; outermost = t; size = refl }
 

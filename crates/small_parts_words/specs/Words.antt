@@ -9,7 +9,8 @@ use lib.Seq.{sets}
 use Rattle.calculus.specs.Term.{Term}
 use Rattle.terms.specs.Answer.{Answer, refused, result}
 use Rattle.terms.specs.Grammar.{parallelOutermost}
-use Rattle.terms.specs.Reading.{readWhole}
+use Rattle.terms.specs.Edition.{one}
+use Rattle.terms.specs.Reading.{numbered, readWhole}
 use Rattle.small_parts.specs.Census.{freeNames, greatestLength}
 
 -- The bytes that a part of at most five bytes can have: 00 to 09 and 80 to 84.
@@ -35,7 +36,7 @@ hasOutermost (result P) = parallelOutermost P
 
 -- checks 7 to 10 of a part without definitions
 unfoldable pub isPart : List ℕ → Bool
-isPart bytes = hasOutermost (readWhole freeNames [] 0 bytes)
+isPart bytes = hasOutermost (readWhole one (numbered []) freeNames 0 bytes)
 
 -- The numbers below k of the words of n bytes that are parts, ascending.
 unfoldable pub partsBelow : ℕ → ℕ → List ℕ

@@ -22,7 +22,7 @@ fn is_part(size: usize, number: usize) -> bool
     let mut word = [0u8; GREATEST_LENGTH];
     write_word(size, number, &mut word, 0);
     let no_arities = [0u8; 0];
-    let scan = scan_whole(&word[..size], 0, FREE_NAMES, &no_arities);
+    let scan = scan_whole(&word[..size], 0, FREE_NAMES, &no_arities, false);
     match scan {
         Scan::Fault(_) => false,
         Scan::End(_, control) => control.outermost,

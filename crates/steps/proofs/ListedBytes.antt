@@ -10,9 +10,10 @@ use Rattle.calculus.specs.Term.{Term}
 use Rattle.terms.specs.Answer.{result}
 use Rattle.terms.specs.Encoding.{encode, InScope}
 use Rattle.terms.specs.Limits.{longestTerm}
-use Rattle.terms.specs.Reading.{readTerm}
+use Rattle.terms.specs.Edition.{one}
+use Rattle.terms.specs.Reading.{numbered, readTerm}
 use Rattle.terms.proofs.Answers.{result-injective}
-use Rattle.terms.proofs.ReadEncoded.{read-encoded}
+use Rattle.terms.proofs.EditionOne.{read-encoded-first}
 use Rattle.steps.specs.Lists.{All}
 use Rattle.steps.specs.Limits.{stepBytes}
 use Rattle.steps.specs.Listed.{ListedStep, resultBytes, bytes}
@@ -35,9 +36,9 @@ module _ (wide : ℕ) (few : wide ≤ 128) (arities : List ℕ) where
   reads-once : (D : ℕ) (P Q : Term) (us vs : List ℕ) → InScope wide arities D P → InScope wide arities D Q → encode D P ++ us ≡ encode D Q ++ vs → P ≡ Q
   reads-once D P Q us vs g h e =
       let n : ℕ = length (encode D P) + length (encode D Q) in
-      let p : readTerm wide arities n D (encode D P ++ us) ≡ result (P, us) = read-encoded wide few arities D P g n (omega arith) us in
-      let q : readTerm wide arities n D (encode D Q ++ vs) ≡ result (Q, vs) = read-encoded wide few arities D Q h n (omega arith) vs in
-      let r : _≡_ {A = Term × List ℕ} (P, us) (Q, vs) = result-injective (sym p ∙ ap (readTerm wide arities n D) e ∙ q) in
+      let p : readTerm one (numbered arities) wide n D (encode D P ++ us) ≡ result (P, us) = read-encoded-first wide few arities D P g n (omega arith) us in
+      let q : readTerm one (numbered arities) wide n D (encode D Q ++ vs) ≡ result (Q, vs) = read-encoded-first wide few arities D Q h n (omega arith) vs in
+      let r : _≡_ {A = Term × List ℕ} (P, us) (Q, vs) = result-injective (sym p ∙ ap (readTerm one (numbered arities) wide n D) e ∙ q) in
       ap (λ t. t .0) r
 
 module _ (names wide : ℕ) (few : wide ≤ 128) (arities : List ℕ) where

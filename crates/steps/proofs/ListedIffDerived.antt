@@ -17,9 +17,10 @@ use Rattle.calculus.proofs.Selection.{in-among}
 use Rattle.terms.specs.Answer.{result}
 use Rattle.terms.specs.Encoding.{InScope}
 use Rattle.terms.specs.Limits.{nameCount, longestTerm}
-use Rattle.terms.specs.Question.{Question, checkOf}
+use Rattle.terms.specs.Question.{Question, questionOf}
 use Rattle.terms.proofs.Answers.{result-injective, bind-result, need-result, both-true}
-use Rattle.terms.proofs.WellFormed.{BodiesAllowed, PartAllowed, WellFormed, accepted-well-formed}
+use Rattle.terms.proofs.OwnEdition.{own-well-formed}
+use Rattle.terms.proofs.WellFormed.{BodiesAllowed, PartAllowed, WellFormed}
 use Rattle.terms.specs.Question.{bodyOf}
 use Rattle.steps.proofs.Calls.{Opens}
 use Rattle.steps.proofs.QuestionDefinitions.{bodies-in-scope, opens-one}
@@ -74,12 +75,12 @@ side-allowed q w side P e =
 pub listed-iff-derived : (question : List ℕ) (side x room : ℕ) (r : Listing) → listOf question side x room ≡ result r → ListsSide question side x r
 unfolding listOf isNew
 listed-iff-derived question side x room r e =
-    let (q, a, e₁) = bind-result (checkOf question) _ r e in
+    let (q, a, e₁) = bind-result (questionOf question) _ r e in
     let (P, c, e₂) = bind-result (sideOf q side) _ r e₁ in
     let (n, e₃) = need-result 13 (ltb x nameCount && not (among (fn P) x)) _ r e₂ in
     let (_, e₄) = need-result 15 (leb (stepBytes * mostSteps) room) _ r e₃ in
     let (l, m) = both-true (ltb x nameCount) (not (among (fn P) x)) n in
-    let w = accepted-well-formed question q a in
+    let w = own-well-formed question q a in
     let h : x < nameCount = ltb-true x nameCount l in
     let fresh : ¬ Free x P = λ f. not-among (fn P) x (not-true (among (fn P) x) m) (free→fn x P f) in
     let s : stepsOf (q .bodies) x P ≡ r = result-injective e₄ in

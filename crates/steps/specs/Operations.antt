@@ -11,7 +11,7 @@ use Rattle.calculus.specs.Definitions.{Defs}
 use Rattle.calculus.specs.Term.{Term}
 use Rattle.terms.specs.Answer.{Answer, refused, result, _>>=_, _>>_, need}
 use Rattle.terms.specs.Limits.{nameCount, longestTerm}
-use Rattle.terms.specs.Question.{Question, checkOf, bodyOf}
+use Rattle.terms.specs.Question.{Question, questionOf, bodyOf}
 use Rattle.steps.specs.Limits.{mostSteps, stepBytes}
 use Rattle.steps.specs.Listed.{ListedStep, bytes}
 use Rattle.steps.specs.Listing.{Listing, unsettled, listed, stepsOf}
@@ -28,7 +28,7 @@ isNew x P = need 13 (ltb x nameCount && not (among (fn P) x))
 -- Checks 3 to 12, then 13 and 15: the area must hold 256 steps. `room` is its length.
 unfoldable pub listOf : List ℕ → ℕ → ℕ → ℕ → Answer Listing
 listOf question side x room = do
-  q ← checkOf question
+  q ← questionOf question
   P ← sideOf q side
   isNew x P
   need 15 (leb (stepBytes * mostSteps) room)
@@ -47,7 +47,7 @@ areaAfter (result (listed ss)) area = listBytes ss ++ drop (length (listBytes ss
 -- What a listing that no check turns back answers: the list for one side of the accepted question.
 pub record ListsSide (question : List ℕ) (side x : ℕ) (r : Listing) : Type 0 where
   pub asked : Question
-  pub accepted : checkOf question ≡ result asked
+  pub accepted : questionOf question ≡ result asked
   pub part : Term
   pub chosen : sideOf asked side ≡ result part
   pub below : x < nameCount

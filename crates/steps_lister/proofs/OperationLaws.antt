@@ -13,19 +13,22 @@ use Rattle.calculus.specs.Distinction.{among}
 use Rattle.calculus.specs.Free.{fn}
 use Rattle.calculus.specs.Term.{Term}
 use Rattle.terms.specs.Answer.{Answer, refused, result, _>>=_, _>>_, need}
+use Rattle.terms.specs.Edition.{one}
 use Rattle.terms.specs.Encoding.{encode, InScope}
 use Rattle.terms_bytes.specs.FieldPlaces.{definitionsOf, afterField, fieldAt, fieldPlace}
 use Rattle.terms.specs.Framing.{Fields, joined}
 use Rattle.terms_renaming.specs.FreeFlags.{IsFreeOf}
 use Rattle.terms.specs.Limits.{nameCount, longestTerm}
 use Rattle.terms.specs.Operations.{checkAnswer}
-use Rattle.terms.specs.Question.{Question, checkOf, fieldsOf}
-use Rattle.terms_bytes.specs.Writing.{Accepted}
+use Rattle.terms.specs.Question.{Question, checkOf, questionOf, fieldsOf}
+use Rattle.terms_bytes.specs.Writing.{Accepted, Plain}
 use Rattle.terms.proofs.Answers.{bind-result, bind-to, bind-refused, need-passed, need-failed}
 use Rattle.terms.proofs.FramingLaws.{Framable}
 use Rattle.terms_bytes.proofs.Places.{allFields, definitions-of, field-is}
-use Rattle.terms_bytes.proofs.QuestionPlaces.{framable, accepted-joined}
-use Rattle.terms.proofs.WellFormed.{PartAllowed, accepted-well-formed}
+use Rattle.terms_bytes.proofs.QuestionPlaces.{accepted-joined}
+use Rattle.terms.proofs.OwnEdition.{in-own}
+use Rattle.terms_converting.proofs.FittingLaws.{made-refused}
+use Rattle.terms.proofs.WellFormed.{PartAllowed, accepted-well-formed, framable}
 use Rattle.steps_tallies.specs.Bodies.{AritiesIs}
 use Rattle.steps.proofs.QuestionDefinitions.{definitions}
 use Rattle.steps_lister.specs.Answering.{stepsAnswer, DoesList, sideTerm, SideIs, ListsInto}
@@ -76,8 +79,8 @@ module _ (question bytes : List ℕ) (x : ℕ) (own′ area : List ℕ) (space :
 
 -- The parts of an accepted question stand where the code finds them.
 module _ (s : List ℕ) (q : Question) (accepted : checkOf s ≡ result q) where
-  count-bodies : (f : Fields) → Framable f → definitionsOf (joined f) ≡ length (f .bodies)
-  count-bodies f framed = definitions-of f framed ∙ sym (framed .counts)
+  count-bodies : (f : Fields) → Framable f → definitionsOf (joined one f) ≡ length (f .bodies)
+  count-bodies f framed = definitions-of one f framed ∙ sym (framed .counts)
 
   pub first-stands : fieldAt s (fieldPlace s (definitionsOf s)) ≡ encode 0 (q .first)
   unfolding allFields fieldsOf
@@ -85,8 +88,8 @@ module _ (s : List ℕ) (q : Question) (accepted : checkOf s ≡ result q) where
       let f : Fields = fieldsOf q in
       let framed = framable q (accepted-well-formed s q accepted) in
       ap (λ (t : List ℕ). fieldAt t (fieldPlace t (definitionsOf t))) (sym (accepted-joined s q accepted))
-      ∙ ap (λ k. fieldAt (joined f) (fieldPlace (joined f) k)) (count-bodies f framed)
-      ∙ field-is f framed (length (f .bodies)) (omega (arith, length-append (f .bodies) (f .first ∷ f .second ∷ f .apart ∷ [])))
+      ∙ ap (λ k. fieldAt (joined one f) (fieldPlace (joined one f) k)) (count-bodies f framed)
+      ∙ field-is one f framed (length (f .bodies)) (omega (arith, length-append (f .bodies) (f .first ∷ f .second ∷ f .apart ∷ [])))
       ∙ getD-append-seam (f .bodies) (f .first) (f .second ∷ f .apart ∷ []) []
 
   pub second-stands : fieldAt s (afterField s (fieldPlace s (definitionsOf s))) ≡ encode 0 (q .second)
@@ -97,8 +100,8 @@ module _ (s : List ℕ) (q : Question) (accepted : checkOf s ≡ result q) where
       let n : ℕ = length (f .bodies) in
       let k : n + 1 ≡ suc n = omega arith in
       ap (λ (t : List ℕ). fieldAt t (afterField t (fieldPlace t (definitionsOf t)))) (sym (accepted-joined s q accepted))
-      ∙ ap (λ k. fieldAt (joined f) (afterField (joined f) (fieldPlace (joined f) k))) (count-bodies f framed)
-      ∙ field-is f framed (suc n) (omega (arith, length-append (f .bodies) (f .first ∷ f .second ∷ f .apart ∷ [])))
+      ∙ ap (λ k. fieldAt (joined one f) (afterField (joined one f) (fieldPlace (joined one f) k))) (count-bodies f framed)
+      ∙ field-is one f framed (suc n) (omega (arith, length-append (f .bodies) (f .first ∷ f .second ∷ f .apart ∷ [])))
       ∙ ap (λ j. getD (f .bodies ++ (f .first ∷ f .second ∷ f .apart ∷ [])) j []) (sym k)
       ∙ getD-append-add (f .bodies) (f .first ∷ f .second ∷ f .apart ∷ []) 1 []
 
@@ -113,15 +116,11 @@ side-is s side = (
 -- The answers of checks 3 to 12.
 pub question-accepted : (s : List ℕ) → checkAnswer s ≡ result 0 → Accepted s
 unfolding checkAnswer Accepted
-question-accepted s e = let (q, a, _) = bind-result (checkOf s) _ 0 e in (q, a)
+question-accepted s e = let (q, a, _) = bind-result (questionOf s) _ 0 e in (q, a)
 
-question-refused : (s : List ℕ) (k : ℕ) → checkAnswer s ≡ refused k → checkOf s ≡ refused k
-unfolding checkAnswer _>>=_
-question-refused s k e = go (checkOf s) e
-  where
-    go : (m : Answer Question) → _≡_ {A = Answer ℕ} (m >>= λ q. result 0) (refused k) → m ≡ refused k
-    go (refused j) e = let h : j ≡ k = cc in ap refused h
-    go (result q) e = let z : _≡_ {A = ℕ} 0 1 = cc in absurd (omega arith)
+question-refused : (s : List ℕ) (k : ℕ) → checkAnswer s ≡ refused k → questionOf s ≡ refused k
+unfolding checkAnswer
+question-refused s k e = made-refused (questionOf s) (λ q. 0) k e
 
 does-refused : (m : Answer Listing) (area : List ℕ) (k : ℕ) → m ≡ refused k → DoesList m area (Refused k) area
 unfolding stepsAnswer areaAfter
@@ -142,8 +141,8 @@ module _ (s : List ℕ) (side x : ℕ) (area : List ℕ) where
     behind P = isNew x P >> (need 15 (leb (stepBytes * mostSteps) (length area)) >> result (stepsOf (q .bodies) x P))
 
     from-side : listOf s side x (length area) ≡ (sideOf q side >>= behind)
-    unfolding listOf
-    from-side = bind-to _ accepted
+    unfolding listOf checkOf
+    from-side = bind-to _ (in-own one s q accepted)
 
     no-side : (eqb side 1 || eqb side 2) ≡ false → listOf s side x (length area) ≡ refused 13
     unfolding sideOf
@@ -172,14 +171,14 @@ module _ (s : List ℕ) (side x : ℕ) (area : List ℕ) where
         lists : stepBytes * mostSteps ≤ length area → listOf s side x (length area) ≡ result (stepsOf (q .bodies) x (sideTerm q side))
         lists l = from-room ∙ need-passed 15 (leb (stepBytes * mostSteps) (length area)) _ (le-leb (stepBytes * mostSteps) (length area) l)
 
-  module _ (accepted : Accepted s) (t : Bool) (side-test : t ≡ (eqb side 1 || eqb side 2)) where
+  module _ (accepted : Plain s) (t : Bool) (side-test : t ≡ (eqb side 1 || eqb side 2)) where
     pub does-no-side : t ≡ false → DoesList (listOf s side x (length area)) area (Refused 13) area
-    unfolding Accepted
+    unfolding Plain
     does-no-side e = let (q, a) = accepted in does-refused _ area 13 (no-side q a (sym side-test ∙ e))
 
     module _ (is-side : t ≡ true) where
       pub does-no-name : nameCount ≤ x → DoesList (listOf s side x (length area)) area (Refused 13) area
-      unfolding Accepted
+      unfolding Plain
       does-no-name h =
           let (q, a) = accepted in
           does-refused _ area 13 (not-new q a (sym side-test ∙ is-side) (rw (le-ltb x nameCount h) refl))
@@ -190,7 +189,7 @@ module _ (s : List ℕ) (side x : ℕ) (area : List ℕ) where
             side-allowed q (accepted-well-formed s q a) side (sideTerm q side) (the-side q a (sym side-test ∙ is-side))
 
         pub part-fits : length bytes ≤ longestTerm
-        unfolding Accepted SideIs
+        unfolding Plain SideIs
         part-fits = let (q, a) = accepted in omega (arith, ap length (stands q a), scope-of q a .size)
 
         module _ (f : Bool) (free-test : IsFreeOf bytes arities x f) where
@@ -202,19 +201,19 @@ module _ (s : List ℕ) (side x : ℕ) (area : List ℕ) where
           new-test q a = rw (lt-ltb x nameCount named, is-free q a) refl
 
           pub does-free : f ≡ true → DoesList (listOf s side x (length area)) area (Refused 13) area
-          unfolding Accepted
+          unfolding Plain
           does-free e = let (q, a) = accepted in does-refused _ area 13 (not-new q a (sym side-test ∙ is-side) (new-test q a ∙ ap not e))
 
           module _ (new : f ≡ false) where
             pub does-short : length area < stepBytes * mostSteps → DoesList (listOf s side x (length area)) area (Refused 15) area
-            unfolding Accepted
+            unfolding Plain
             does-short l =
                 let (q, a) = accepted in
                 does-refused _ area 15 (short q a (sym side-test ∙ is-side) (new-test q a ∙ ap not new) l)
 
             pub does-list : stepBytes * mostSteps ≤ length area → (r : StepsAnswer) (area′ : List ℕ) → ListsInto s bytes x area r area′
                 → DoesList (listOf s side x (length area)) area r area′
-            unfolding Accepted ListsInto SideIs
+            unfolding Plain ListsInto SideIs
             does-list l r area′ i =
                 let (q, a) = accepted in
                 subst (λ m. DoesList m area r area′) (sym (lists q a (sym side-test ∙ is-side) (new-test q a ∙ ap not new) l))
@@ -225,3 +224,10 @@ module _ (s : List ℕ) (side x : ℕ) (area : List ℕ) where
                   size = scope-of q a .size;
                   new = omega arith;
                 }))
+
+-- Twins list alike: the list of a question of edition two is that of its edition-one form.
+pub does-alike : (s plain : List ℕ) (q : Question) → questionOf s ≡ result q → checkOf plain ≡ result q → (side x : ℕ) (area : List ℕ) (r : StepsAnswer)
+    (area′ : List ℕ) → DoesList (listOf plain side x (length area)) area r area′ → DoesList (listOf s side x (length area)) area r area′
+unfolding listOf checkOf
+does-alike s plain q a e side x area r area′ d =
+    subst (λ (m : Answer Listing). DoesList m area r area′) (bind-to _ (in-own one plain q e) ∙ sym (bind-to _ a)) d

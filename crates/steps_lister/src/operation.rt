@@ -1,11 +1,12 @@
 // The listing operation: checks 3 to 12, 13 and 15 of document 01, and the steps of one side.
-ghost use mathlib.Core.Bool.{_||_};
+ghost use mathlib.Core.Bool.{true, _||_};
 ghost use mathlib.Core.Path.{_≡_};
 ghost use Prim.Native.Nat.{_*_, _≤_};
 ghost use lib.Dec.{eqb};
 ghost use lib.ListN.{length};
 ghost use Rattle.terms.specs.Limits.{longestTerm};
-ghost use Rattle.terms_bytes.specs.Writing.{Accepted};
+ghost use Rattle.terms_bytes.specs.Writing.{Accepted, Plain};
+ghost use Rattle.terms_converting.specs.Questions.{AcceptedFrom};
 ghost use Rattle.steps_lister.specs.Answering.{DoesList, SideIs, ListsInto};
 ghost use Rattle.steps.specs.Limits.{stepBytes, mostSteps};
 ghost use Rattle.steps.specs.Operations.{listOf};
@@ -19,9 +20,12 @@ use terms_bytes::frame::after_field;
 use terms_bytes::frame::definitions;
 use terms_bytes::frame::field_at;
 use terms_bytes::frame::field_place;
+use terms_bytes::limits::LONGEST_QUESTION;
 use terms_bytes::limits::NAME_COUNT;
 use terms_checks::check::Checked;
 use terms_checks::check::check;
+use terms_checks::check::is_counted;
+use terms_converting::question::convert_question;
 use terms_renaming::free::is_free;
 
 // The bytes of as many steps as the limit allows.
@@ -73,9 +77,9 @@ fn side_of(question: &[u8], side: u64) -> &[u8]
     field_at(question, after_field(question, first))
 }
 
-// Checks 13 and 15 of an accepted question, then the list.
+// Checks 13 and 15 of an accepted question of edition one, then the list.
 fn steps_accepted(question: &[u8], side: u64, name: u64, area: &mut [u8]) -> StepsAnswer
-    requires { ⌜ Accepted (now question) ⌝ }
+    requires { ⌜ Plain (now question) ⌝ }
     ensures { λ r. ⌜ DoesList (listOf (now (question .entry)) side name (length (now (area .entry)))) (now (area .entry)) r (now (area .exit)) ⌝ }
 {
     if !is_side(side) {
@@ -94,6 +98,27 @@ fn steps_accepted(question: &[u8], side: u64, name: u64, area: &mut [u8]) -> Ste
     list_into(question, part, name as u8, area)
 }
 
+// The same of edition two, by its edition-one form.
+fn steps_counted(question: &[u8], side: u64, name: u64, area: &mut [u8]) -> StepsAnswer
+    requires { ⌜ AcceptedFrom (now question) true ⌝ }
+    ensures { λ r. ⌜ DoesList (listOf (now (question .entry)) side name (length (now (area .entry)))) (now (area .entry)) r (now (area .exit)) ⌝ }
+{
+    let mut plain = [0u8; LONGEST_QUESTION];
+    let n = convert_question(question, true, &mut plain);
+    steps_accepted(&plain[..n], side, name, area)
+}
+
+// The list of an accepted question, in either edition.
+fn steps_either(question: &[u8], side: u64, name: u64, area: &mut [u8]) -> StepsAnswer
+    requires { ⌜ Accepted (now question) ⌝ }
+    ensures { λ r. ⌜ DoesList (listOf (now (question .entry)) side name (length (now (area .entry)))) (now (area .entry)) r (now (area .exit)) ⌝ }
+{
+    if is_counted(question) {
+        return steps_counted(question, side, name, area);
+    }
+    steps_accepted(question, side, name, area)
+}
+
 // Lists the steps of one side of the question, for the new name, into the area.
 pub fn steps(question: &[u8], side: u64, name: u64, area: &mut [u8]) -> StepsAnswer
     ensures { λ r. ⌜ DoesList (listOf (now (question .entry)) side name (length (now (area .entry)))) (now (area .entry)) r (now (area .exit)) ⌝ }
@@ -101,6 +126,6 @@ pub fn steps(question: &[u8], side: u64, name: u64, area: &mut [u8]) -> StepsAns
     let checked = check(question);
     match checked {
         Checked::Refused(k) => StepsAnswer::Refused(k),
-        Checked::Accepted => steps_accepted(question, side, name, area),
+        Checked::Accepted => steps_either(question, side, name, area),
     }
 }

@@ -6,12 +6,13 @@ use native.Mathlib.Nat.{not-suc-le-zero, le-of-suc-le-suc}
 use native.Mathlib.Omega.{arith}
 use lib.ListN.{length, getD}
 use Rattle.calculus.specs.Term.{Term}
+use Rattle.terms.specs.Edition.{one}
 use Rattle.terms.specs.Encoding.{encode}
 use Rattle.terms_bytes.specs.FieldPlaces.{aritiesOf, fieldAt, fieldPlace}
 use Rattle.terms.specs.Question.{bodyFields, fieldsOf}
 use Rattle.terms_bytes.proofs.Places.{allFields, arities-of, field-is}
-use Rattle.terms_bytes.proofs.QuestionPlaces.{framable, accepted-joined}
-use Rattle.terms.proofs.WellFormed.{BodiesAllowed, accepted-well-formed}
+use Rattle.terms_bytes.proofs.QuestionPlaces.{accepted-joined}
+use Rattle.terms.proofs.WellFormed.{BodiesAllowed, accepted-well-formed, framable}
 use Rattle.steps_tallies.specs.Bodies.{AritiesIs, BodyIs}
 use Rattle.terms.specs.Question.{bodyOf}
 
@@ -19,7 +20,7 @@ pub arities-are : (question : List ℕ) → AritiesIs question (aritiesOf questi
 unfolding AritiesIs fieldsOf
 arities-are question q e =
     let w = accepted-well-formed question q e in
-    ap aritiesOf (sym (accepted-joined question q e)) ∙ arities-of (fieldsOf q) (framable q w)
+    ap aritiesOf (sym (accepted-joined question q e)) ∙ arities-of one (fieldsOf q) (framable q w)
 
 -- The bytes of body k, and that there is one.
 body-field : (arities sizes : List ℕ) (bodies : List Term) (rest : List (List ℕ)) → BodiesAllowed arities sizes bodies → (k : ℕ) → k < length sizes
@@ -38,5 +39,5 @@ body-is question k = record {
   is = λ q e h.
       let w = accepted-well-formed question q e in
       let f = body-field (q .arities) (q .arities) (q .bodies) _ (w .bodies) k h in
-      ap (λ (s : List ℕ). fieldAt s (fieldPlace s k)) (sym (accepted-joined question q e)) ∙ field-is (fieldsOf q) (framable q w) k (f .0) ∙ f .1;
+      ap (λ (s : List ℕ). fieldAt s (fieldPlace s k)) (sym (accepted-joined question q e)) ∙ field-is one (fieldsOf q) (framable q w) k (f .0) ∙ f .1;
 }

@@ -1,4 +1,5 @@
--- A third part set beside both sides: the question written is accepted, and its parts are the old ones in parallel with the third.
+-- A third part set beside both sides: the question written is accepted, in the same edition, and its parts are the old ones in parallel with the
+-- third.
 use mathlib.Core.Path.{_≡_, refl, sym, ap, _∙_}
 use mathlib.Core.List.{List, [], _∷_, _++_}
 use mathlib.Core.Bool.{Bool, true, false, _&&_}
@@ -6,16 +7,21 @@ use Prim.Native.Nat.{ℕ, _+_, _≤_}
 use native.Mathlib.Omega.{arith}
 use lib.ListN.{length, length-append}
 use lib.Dec.{leb}
-use borrow.Author.Tests.{leb-true}
+use borrow.Author.Tests.{leb-true, le-leb}
 use Rattle.calculus.specs.Term.{Term, par}
 use Rattle.terms.specs.Limits.{longestTerm}
 use Rattle.terms.specs.Answer.{Answer, refused, result, _>>=_, _>>_, need}
+use Rattle.terms.specs.Edition.{Edition, encodeIn}
 use Rattle.terms.specs.Encoding.{encode, InScope}
+use Rattle.terms.specs.Reading.{numbered}
 use Rattle.terms.specs.Grammar.{parallelOutermost}
 use Rattle.terms.specs.Operations.{besideQuestion, fitsBeside, placedBeside, writtenWithin, besideOf}
-use Rattle.terms.specs.Question.{Question, fits, readPart, checkOf, write}
+use Rattle.terms.specs.Question.{Question, all, fits, readPart, editionOf, questionOf, bodyFieldsIn, writeIn, fitsIn}
 use Rattle.terms.proofs.Answers.{result-injective, bind-result, need-result, both-true, true-both}
-use Rattle.terms.proofs.WellFormed.{PartAllowed, WellFormed, part-allowed, accepted-well-formed, well-formed-accepted}
+use Rattle.terms.proofs.EditionOne.{encode-shorter}
+use Rattle.terms.proofs.OwnEdition.{edition-written, own-well-formed, own-fits, written-accepted}
+use Rattle.terms.proofs.WellFormed.{PartAllowed, WellFormed, part-allowed}
+use Rattle.terms.proofs.WrittenLaws.{Written, written-within}
 
 -- Two parts in parallel, if they fit.
 pub parallel-allowed : (arities : List ℕ) (P R : Term) → PartAllowed arities P → PartAllowed arities R →
@@ -43,40 +49,79 @@ beside-well-formed q R w r l m =
       apartSize = w .apartSize;
     }
 
+-- A side with the third part, in either edition.
+beside-fits : (e : Edition) (third : List ℕ) (R P : Term) → third ≡ encodeIn e 0 R → fitsBeside e third P ≡ true →
+    (fits (encodeIn e 0 (par P R)) ≡ true) × (1 + length (encodeIn e 0 P) + length (encodeIn e 0 R) ≤ longestTerm)
+unfolding fitsBeside fits encodeIn
+beside-fits e third R P t f =
+    let l : 1 + length (encodeIn e 0 P) + length (encodeIn e 0 R) ≤ longestTerm = rw (← t) (leb-true (1 + length (encodeIn e 0 P) + length third) longestTerm f) in
+    let a = length-append (encodeIn e 0 P) (encodeIn e 0 R) in
+    let bs : List ℕ = 7 ∷ (encodeIn e 0 P ++ encodeIn e 0 R) in
+    (true-both (leb 1 (length bs)) (leb (length bs) longestTerm) (le-leb 1 (length bs) (omega arith)) (le-leb (length bs) longestTerm (omega arith)), l)
+
+fits-beside : (e : Edition) (q : Question) (R : Term) → fitsIn e q ≡ true → fits (encodeIn e 0 (par (q .first) R)) ≡ true →
+    fits (encodeIn e 0 (par (q .second) R)) ≡ true → fitsIn e (besideQuestion R q) ≡ true
+unfolding fitsIn besideQuestion
+fits-beside e q R f a b =
+    let x = both-true (all fits (bodyFieldsIn e (q .arities) (q .bodies)) && fits (encodeIn e 0 (q .first))) (fits (encodeIn e 0 (q .second))) f in
+    let y = both-true (all fits (bodyFieldsIn e (q .arities) (q .bodies))) (fits (encodeIn e 0 (q .first))) (x .0) in
+    true-both _ _ (true-both _ _ (y .0) a) b
+
 -- What a beside that no check turns back was given, and what it makes.
 pub record PlacedBeside (question third : List ℕ) (r : Question) : Type 0 where
   pub old : Question
-  pub accepted : checkOf question ≡ result old
+  pub accepted : questionOf question ≡ result old
   pub part : Term
-  pub thirdBytes : third ≡ encode 0 part
+  pub thirdBytes : third ≡ encodeIn (editionOf question) 0 part
   pub allowed : PartAllowed (old .arities) part
   pub is : r ≡ besideQuestion part old
   pub wellFormed : WellFormed r
-
-room : (third : List ℕ) (R P : Term) → third ≡ encode 0 R → fitsBeside third P ≡ true → 1 + length (encode 0 P) + length (encode 0 R) ≤ longestTerm
-unfolding fitsBeside
-room third R P e f = rw (← e) (leb-true (1 + length (encode 0 P) + length third) longestTerm f)
+  pub fitting : fitsIn (editionOf question) r ≡ true
 
 pub placed-beside : (question third : List ℕ) (r : Question) → placedBeside question third ≡ result r → PlacedBeside question third r
 unfolding placedBeside
-placed-beside question third r e =
-    let q = bind-result (checkOf question) _ r e in
-    let s = need-result 6 (fits third && fitsBeside third (q .0 .first) && fitsBeside third (q .0 .second)) _ r (q .2) in
-    let R = bind-result (readPart (q .0 .arities) third) _ r (s .1) in
+placed-beside question third r h =
+    let q = bind-result (questionOf question) _ r h in
+    let s = need-result 6 (fits third && fitsBeside e third (q .0 .first) && fitsBeside e third (q .0 .second)) _ r (q .2) in
+    let R = bind-result (readPart e (numbered (q .0 .arities)) third) _ r (s .1) in
     let g = need-result 10 (parallelOutermost (R .0)) _ r (R .2) in
     made (q .0) (R .0) (q .1) (s .0) (R .1) (g .0) (result-injective {a = besideQuestion (R .0) (q .0)} (g .1))
   where
-    made : (q : Question) (R : Term) → checkOf question ≡ result q → (fits third && fitsBeside third (q .first) && fitsBeside third (q .second)) ≡ true →
-        readPart (q .arities) third ≡ result R → parallelOutermost R ≡ true → besideQuestion R q ≡ r → PlacedBeside question third r
-    made q R c s t g e =
-        let x = both-true (fits third && fitsBeside third (q .first)) (fitsBeside third (q .second)) s in
-        let y = both-true (fits third) (fitsBeside third (q .first)) (x .0) in
-        let a = part-allowed (q .arities) third R (y .0) t g in
-        let l = room third R (q .first) (a .0) (y .1) in
-        let m = room third R (q .second) (a .0) (x .1) in
-        let w = beside-well-formed q R (accepted-well-formed question q c) (a .1) l m in
-        record { old = q; accepted = c; part = R; thirdBytes = a .0; allowed = a .1; is = sym e; wellFormed = rw (← e) w }
+    e : Edition
+    e = editionOf question
+
+    made : (q : Question) (R : Term) → questionOf question ≡ result q → (fits third && fitsBeside e third (q .first) && fitsBeside e third (q .second)) ≡ true →
+        readPart e (numbered (q .arities)) third ≡ result R → parallelOutermost R ≡ true → besideQuestion R q ≡ r → PlacedBeside question third r
+    made q R c s t g h =
+        let x = both-true (fits third && fitsBeside e third (q .first)) (fitsBeside e third (q .second)) s in
+        let y = both-true (fits third) (fitsBeside e third (q .first)) (x .0) in
+        let p = part-allowed e (q .arities) third R (y .0) t g in
+        let f₁ = beside-fits e third R (q .first) (p .0) (y .1) in
+        let f₂ = beside-fits e third R (q .second) (p .0) (x .1) in
+        let s₁ = f₁ .1 in
+        let s₂ = f₂ .1 in
+        let w = beside-well-formed q R (own-well-formed question q c) (p .1)
+        (omega (arith, encode-shorter e 0 (q .first), encode-shorter e 0 R)) (omega (arith, encode-shorter e 0 (q .second), encode-shorter e 0 R)) in
+        let f = fits-beside e q R (own-fits question q c) (f₁ .0) (f₂ .0) in
+        record { old = q; accepted = c; part = R; thirdBytes = p .0; allowed = p .1; is = sym h; wellFormed = rw (← h) w; fitting = rw (← h) f }
 
 -- The question that beside writes is accepted.
-pub beside-accepted : (question third : List ℕ) (r : Question) → placedBeside question third ≡ result r → checkOf (write r) ≡ result r
-beside-accepted question third r e = well-formed-accepted r (placed-beside question third r e .wellFormed)
+pub beside-accepted : (question third : List ℕ) (r : Question) → placedBeside question third ≡ result r
+    → questionOf (writeIn (editionOf question) r) ≡ result r
+beside-accepted question third r h = let p = placed-beside question third r h in written-accepted (editionOf question) r (p .wellFormed) (p .fitting)
+
+-- Beside keeps the edition: the third part came in the question's own, and what is written is of it.
+pub beside-keeps : (question third : List ℕ) (room : ℕ) (next : List ℕ) → besideOf question third room ≡ result next
+    → (q : Question) × (R : Term) × (questionOf question ≡ result q) × (third ≡ encodeIn (editionOf question) 0 R)
+    × (editionOf next ≡ editionOf question) × (questionOf next ≡ result (besideQuestion R q))
+unfolding besideOf
+beside-keeps question third room next h =
+    let w = written-within (editionOf question) (placedBeside question third) room next h in
+    let p = placed-beside question third (w .question) (w .made) in (
+      p .old,
+      p .part,
+      p .accepted,
+      p .thirdBytes,
+      ap editionOf (w .bytes) ∙ edition-written (editionOf question) (w .question),
+      ap questionOf (w .bytes) ∙ beside-accepted question third (w .question) (w .made) ∙ ap result (p .is),
+    )

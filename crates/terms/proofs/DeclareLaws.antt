@@ -9,11 +9,12 @@ use lib.Dec.{leb}
 use Rattle.calculus.specs.Cond.{Pairs}
 use Rattle.terms.specs.Limits.{longestApart}
 use Rattle.terms.specs.Answer.{Answer, refused, result, _>>=_, _>>_, need}
-use Rattle.terms.specs.Framing.{joined}
+use Rattle.terms.specs.Edition.{Edition}
+use Rattle.terms.specs.Framing.{Fields, joined}
 use Rattle.terms.specs.Operations.{declaredFields, declaredQuestion, mayDeclare}
-use Rattle.terms.specs.Question.{Question, differentNames, readPairs, readApart, checkOf, pairBytes, fieldsOf, write}
+use Rattle.terms.specs.Question.{Question, differentNames, readPairs, readApart, checkIn, pairBytes, fieldsIn, fitsIn}
 use Rattle.terms.proofs.Answers.{Every, need-both}
-use Rattle.terms.proofs.WellFormed.{WellFormed, PairAllowed, withApart, decided-by-apart, pairs-read-before, accepted-well-formed}
+use Rattle.terms.proofs.WellFormed.{WellFormed, PairAllowed, withApart, decided-by-apart, pairs-read-before}
 
 last-pair : (D : Pairs) (a b : ℕ) → Every PairAllowed D →
     readPairs (pairBytes D ++ (a ∷ b ∷ [])) ≡ (need 12 (differentNames a b) >> result (D ++ ((a, b) ∷ [])))
@@ -25,14 +26,14 @@ last-pair D a b h = pairs-read-before D (a ∷ b ∷ []) h ∙ go (differentName
     go true = refl
     go false = refl
 
-pub declared-answer : (q : Question) → WellFormed q → (a b : ℕ) →
-    checkOf (joined (declaredFields a b (fieldsOf q))) ≡ (need 12 (mayDeclare a b q) >> result (declaredQuestion a b q))
-unfolding declaredFields declaredQuestion mayDeclare fieldsOf withApart readApart
-declared-answer q w a b =
+pub declared-answer : (e : Edition) (q : Question) → WellFormed q → fitsIn e q ≡ true → (a b : ℕ) →
+    checkIn e (joined e (declaredFields a b (fieldsIn e q))) ≡ (need 12 (mayDeclare a b q) >> result (declaredQuestion a b q))
+unfolding declaredFields declaredQuestion mayDeclare fieldsIn withApart readApart
+declared-answer e q w fit a b =
     let xs = pairBytes (q .apart) ++ (a ∷ b ∷ []) in
     let l : length xs ≡ length (pairBytes (q .apart)) + 2 = length-append (pairBytes (q .apart)) (a ∷ b ∷ []) in
     let few = w .apartSize in
-    decided-by-apart q w xs (omega arith)
+    decided-by-apart e q w fit xs (omega arith)
     ∙ rw
     (last-pair (q .apart) a b (w .apart), l)
     (need-both

@@ -1,4 +1,4 @@
--- What reading takes is what `encode` writes of the term read, and that term is in scope (checks 8 and 9).
+-- What reading takes is what `encodeIn` writes of the term read, in either edition and whatever may be called, and that term is in scope.
 use mathlib.Core.Path.{_≡_, refl, sym, ap, _∙_}
 use mathlib.Core.List.{List, [], _∷_, _++_, map, append-assoc, append-nil}
 use mathlib.Core.Bool.{Bool, true, false, cond, _&&_}
@@ -9,13 +9,28 @@ use lib.Dec.{ltb, leb, eqb}
 use borrow.Author.Tests.{ltb-true, leb-true, eqb-true, le-ltb}
 use Rattle.calculus.specs.Term.{Term, nil, tau, inp, out, bout, mat, sum, par, res, call}
 use Rattle.terms.specs.Answer.{Answer, refused, result, _>>=_, _>>_, need}
-use Rattle.terms.specs.Encoding.{nameByte, encode, NamesInScope, InScope}
-use Rattle.terms.specs.Reading.{byte, readName, readNames, tagOf, readTerm, readWhole}
+use Rattle.terms.specs.Edition.{Edition, one, two, countBytes, encodeIn}
+use Rattle.terms.specs.Encoding.{nameByte, NamesInScope}
+use Rattle.terms.specs.Reading.{byte, readName, readNames, tagOf, Callees, readCount, readTerm, readWhole}
+use Rattle.terms.proofs.ScopeLaws.{InScopeBy}
 use Rattle.terms.proofs.Answers.{result-injective, refused-not-result, bind-result, need-result, both-true}
 
 empty : (bs : List ℕ) → length bs ≡ 0 → bs ≡ []
 empty [] e = refl
 empty (b ∷ bs) e = absurd (omega arith)
+
+-- The bytes of a call behind its definition.
+call-bytes : (e : Edition) (d m : ℕ) (bs cs ns rest : List ℕ) → bs ≡ countBytes e m ++ cs → cs ≡ map (nameByte d) ns ++ rest → length ns ≡ m →
+    bs ≡ (countBytes e (length ns) ++ map (nameByte d) ns) ++ rest
+call-bytes e d m bs cs ns rest p q l = rw (p, q, ← l, append-assoc)
+
+count-out : (e : Edition) (n : ℕ) (bs rest : List ℕ) → readCount e n bs ≡ result rest → bs ≡ countBytes e n ++ rest
+unfolding readCount countBytes byte _>>=_
+count-out one n bs rest h = result-injective h
+count-out two n [] rest h = refused-not-result h
+count-out two n (b ∷ bs) rest h =
+    let t = need-result 16 (eqb b n) (result bs) rest h in
+    rw (eqb-true b n (t .0), result-injective (t .1))
 
 module _ (free : ℕ) where
   -- The name read is in scope, and its byte stood first.
@@ -50,31 +65,30 @@ module _ (free : ℕ) where
       (← result-injective (u .2))
       (n .0 ∙ ap (λ l. nameByte d (t .0 .0) ∷ l) (ns .0), (n .1, ns .1), ap suc (ns .2))
 
-  module _ (arities : List ℕ) where
+  module _ (e : Edition) (callees : Callees) where
     -- The term read stood first, and is in scope.
     pub record Read (d : ℕ) (bs : List ℕ) (r : Term × List ℕ) : Type 0 where
-      pub bytes : bs ≡ encode d (r .0) ++ r .1
-      pub scope : InScope free arities d (r .0)
+      pub bytes : bs ≡ encodeIn e d (r .0) ++ r .1
+      pub scope : InScopeBy callees free d (r .0)
 
-    -- One lemma for each shape of a term: c builds it, its first byte is t, and reading the terms inside it is known to be right.
-    module _ (n : ℕ) (inner : (d : ℕ) (bs : List ℕ) (r : Term × List ℕ) → readTerm free arities n d bs ≡ result r → Read d bs r) (d t : ℕ) where
-      one-term : (d′ : ℕ) (c : Term → Term) → ((P : Term) → encode d (c P) ≡ t ∷ encode d′ P) →
-          ((P : Term) → InScope free arities d′ P → InScope free arities d (c P)) → (bs : List ℕ) (r : Term × List ℕ) →
-          (readTerm free arities n d′ bs >>= λ x. result (c (x .0), x .1)) ≡ result r → Read d (t ∷ bs) r
-      one-term d′ c written scoped bs r e =
-          let u = bind-result (readTerm free arities n d′ bs) _ r e in
+    module _ (n : ℕ) (inner : (d : ℕ) (bs : List ℕ) (r : Term × List ℕ) → readTerm e callees free n d bs ≡ result r → Read d bs r) (d t : ℕ) where
+      one-term : (d′ : ℕ) (c : Term → Term) → ((P : Term) → encodeIn e d (c P) ≡ t ∷ encodeIn e d′ P) →
+          ((P : Term) → InScopeBy callees free d′ P → InScopeBy callees free d (c P)) → (bs : List ℕ) (r : Term × List ℕ) →
+          (readTerm e callees free n d′ bs >>= λ x. result (c (x .0), x .1)) ≡ result r → Read d (t ∷ bs) r
+      one-term d′ c written scoped bs r h =
+          let u = bind-result (readTerm e callees free n d′ bs) _ r h in
           let P = inner d′ bs (u .0) (u .1) in
           rw
           (← result-injective {a = (c (u .0 .0), u .0 .1)} (u .2))
           (record { bytes = rw written (ap (λ l. t ∷ l) (P .bytes)); scope = scoped (u .0 .0) (P .scope) })
 
-      name-term : (d′ : ℕ) (c : ℕ → Term → Term) → ((a : ℕ) (P : Term) → encode d (c a P) ≡ t ∷ nameByte d a ∷ encode d′ P) →
-          ((a : ℕ) (P : Term) → a < d + free → InScope free arities d′ P → InScope free arities d (c a P)) → (bs : List ℕ) (r : Term × List ℕ) →
-          (readName free d bs >>= λ a. (readTerm free arities n d′ (a .1) >>= λ x. result (c (a .0) (x .0), x .1))) ≡ result r → Read d (t ∷ bs) r
-      name-term d′ c written scoped bs r e =
-          let a = bind-result (readName free d bs) _ r e in
+      name-term : (d′ : ℕ) (c : ℕ → Term → Term) → ((a : ℕ) (P : Term) → encodeIn e d (c a P) ≡ t ∷ nameByte d a ∷ encodeIn e d′ P) →
+          ((a : ℕ) (P : Term) → a < d + free → InScopeBy callees free d′ P → InScopeBy callees free d (c a P)) → (bs : List ℕ) (r : Term × List ℕ) →
+          (readName free d bs >>= λ a. (readTerm e callees free n d′ (a .1) >>= λ x. result (c (a .0) (x .0), x .1))) ≡ result r → Read d (t ∷ bs) r
+      name-term d′ c written scoped bs r h =
+          let a = bind-result (readName free d bs) _ r h in
           let A = name-read d bs (a .0) (a .1) in
-          let u = bind-result (readTerm free arities n d′ (a .0 .1)) _ r (a .2) in
+          let u = bind-result (readTerm e callees free n d′ (a .0 .1)) _ r (a .2) in
           let P = inner d′ (a .0 .1) (u .0) (u .1) in
           rw
           (← result-injective {a = (c (a .0 .0) (u .0 .0), u .0 .1)} (u .2))
@@ -83,17 +97,17 @@ module _ (free : ℕ) where
             scope = scoped (a .0 .0) (u .0 .0) (A .1) (P .scope);
           })
 
-      two-names-term : (c : ℕ → ℕ → Term → Term) → ((a b : ℕ) (P : Term) → encode d (c a b P) ≡ t ∷ nameByte d a ∷ nameByte d b ∷ encode d P) →
-          ((a b : ℕ) (P : Term) → a < d + free → b < d + free → InScope free arities d P → InScope free arities d (c a b P)) →
+      two-names-term : (c : ℕ → ℕ → Term → Term) → ((a b : ℕ) (P : Term) → encodeIn e d (c a b P) ≡ t ∷ nameByte d a ∷ nameByte d b ∷ encodeIn e d P) →
+          ((a b : ℕ) (P : Term) → a < d + free → b < d + free → InScopeBy callees free d P → InScopeBy callees free d (c a b P)) →
           (bs : List ℕ) (r : Term × List ℕ) →
-          (readName free d bs >>= λ a. (readName free d (a .1) >>= λ b. (readTerm free arities n d (b .1) >>= λ x. result (c (a .0) (b .0) (x .0), x .1))))
+          (readName free d bs >>= λ a. (readName free d (a .1) >>= λ b. (readTerm e callees free n d (b .1) >>= λ x. result (c (a .0) (b .0) (x .0), x .1))))
           ≡ result r → Read d (t ∷ bs) r
-      two-names-term c written scoped bs r e =
-          let a = bind-result (readName free d bs) _ r e in
+      two-names-term c written scoped bs r h =
+          let a = bind-result (readName free d bs) _ r h in
           let A = name-read d bs (a .0) (a .1) in
           let b = bind-result (readName free d (a .0 .1)) _ r (a .2) in
           let B = name-read d (a .0 .1) (b .0) (b .1) in
-          let u = bind-result (readTerm free arities n d (b .0 .1)) _ r (b .2) in
+          let u = bind-result (readTerm e callees free n d (b .0 .1)) _ r (b .2) in
           let P = inner d (b .0 .1) (u .0) (u .1) in
           rw
           (← result-injective {a = (c (a .0 .0) (b .0 .0) (u .0 .0), u .0 .1)} (u .2))
@@ -103,14 +117,14 @@ module _ (free : ℕ) where
             scope = scoped (a .0 .0) (b .0 .0) (u .0 .0) (A .1) (B .1) (P .scope);
           })
 
-      two-terms : (c : Term → Term → Term) → ((P Q : Term) → encode d (c P Q) ≡ t ∷ (encode d P ++ encode d Q)) →
-          ((P Q : Term) → InScope free arities d P → InScope free arities d Q → InScope free arities d (c P Q)) → (bs : List ℕ) (r : Term × List ℕ) →
-          (readTerm free arities n d bs >>= λ x. (readTerm free arities n d (x .1) >>= λ y. result (c (x .0) (y .0), y .1))) ≡ result r →
+      two-terms : (c : Term → Term → Term) → ((P Q : Term) → encodeIn e d (c P Q) ≡ t ∷ (encodeIn e d P ++ encodeIn e d Q)) →
+          ((P Q : Term) → InScopeBy callees free d P → InScopeBy callees free d Q → InScopeBy callees free d (c P Q)) → (bs : List ℕ) (r : Term × List ℕ) →
+          (readTerm e callees free n d bs >>= λ x. (readTerm e callees free n d (x .1) >>= λ y. result (c (x .0) (y .0), y .1))) ≡ result r →
           Read d (t ∷ bs) r
-      two-terms c written scoped bs r e =
-          let u = bind-result (readTerm free arities n d bs) _ r e in
+      two-terms c written scoped bs r h =
+          let u = bind-result (readTerm e callees free n d bs) _ r h in
           let P = inner d bs (u .0) (u .1) in
-          let v = bind-result (readTerm free arities n d (u .0 .1)) _ r (u .2) in
+          let v = bind-result (readTerm e callees free n d (u .0 .1)) _ r (u .2) in
           let Q = inner d (u .0 .1) (v .0) (v .1) in
           rw
           (← result-injective {a = (c (u .0 .0) (v .0 .0), v .0 .1)} (v .2))
@@ -120,46 +134,51 @@ module _ (free : ℕ) where
                 written
                 (ap
                 (λ l. t ∷ l)
-                (P .bytes ∙ ap (λ l. encode d (u .0 .0) ++ l) (Q .bytes) ∙ sym (append-assoc (encode d (u .0 .0)) (encode d (v .0 .0)) (v .0 .1))));
+                (P .bytes ∙ ap (λ l. encodeIn e d (u .0 .0) ++ l) (Q .bytes) ∙ sym (append-assoc (encodeIn e d (u .0 .0)) (encodeIn e d (v .0 .0)) (v .0 .1))));
             scope = scoped (u .0 .0) (v .0 .0) (P .scope) (Q .scope);
           })
 
       call-term : (k : ℕ) (bs : List ℕ) (r : Term × List ℕ) →
-          (need 8 (ltb k (length arities)) >> (readNames free d (getD arities k 0) bs >>= λ x. result (call k (x .0), x .1))) ≡ result r →
+          (callees k >>= λ m. (readCount e m bs >>= λ cs. (readNames free d m cs >>= λ x. result (call k (x .0), x .1)))) ≡ result r →
           Read d (9 ∷ k ∷ bs) r
-      unfolding encode InScope
-      call-term k bs r e =
-          let g = need-result 8 (ltb k (length arities)) _ r e in
-          let u = bind-result (readNames free d (getD arities k 0) bs) _ r (g .1) in
-          let ns = names-read d (getD arities k 0) bs (u .0) (u .1) in
+      unfolding encodeIn InScopeBy
+      call-term k bs r h =
+          let m = bind-result (callees k) _ r h in
+          let c = bind-result (readCount e (m .0) bs) _ r (m .2) in
+          let u = bind-result (readNames free d (m .0) (c .0)) _ r (c .2) in
+          let ns = names-read d (m .0) (c .0) (u .0) (u .1) in
+          let same : m .0 ≡ length (u .0 .0) = sym (ns .2) in
+          let stood : bs ≡ (countBytes e (length (u .0 .0)) ++ map (nameByte d) (u .0 .0)) ++ u .0 .1 =
+          call-bytes e d (m .0) bs (c .0) (u .0 .0) (u .0 .1) (count-out e (m .0) bs (c .0) (c .1)) (ns .0) (ns .2) in
           rw
           (← result-injective {a = (call k (u .0 .0), u .0 .1)} (u .2))
-          (record { bytes = ap (λ l. 9 ∷ k ∷ l) (ns .0); scope = (ltb-true k (length arities) (g .0), ns .2, ns .1) })
+          (record { bytes = ap (λ l. 9 ∷ k ∷ l) stood; scope = (m .1 ∙ ap result same, ns .1) })
 
-    pub term-read : (n d : ℕ) (bs : List ℕ) (r : Term × List ℕ) → readTerm free arities n d bs ≡ result r → Read d bs r
-    unfolding readTerm encode InScope byte tagOf _>>=_
-    term-read zero d bs r e = refused-not-result e
-    term-read (suc n) d [] r e = refused-not-result e
-    term-read (suc n) d (zero ∷ bs) r e = rw (← result-injective {a = (nil, bs)} e) (record { bytes = refl; scope = tt })
-    term-read (suc n) d (suc zero ∷ bs) r e = one-term n (term-read n) d 1 d tau (λ P. refl) (λ P s. s) bs r e
-    term-read (suc n) d (suc (suc zero) ∷ bs) r e = name-term n (term-read n) d 2 (1 + d) inp (λ a P. refl) (λ a P l s. (l, s)) bs r e
-    term-read (suc n) d (suc (suc (suc zero)) ∷ bs) r e = two-names-term n (term-read n) d 3 out (λ a b P. refl) (λ a b P l m s. (l, m, s)) bs r e
-    term-read (suc n) d (suc (suc (suc (suc zero))) ∷ bs) r e = name-term n (term-read n) d 4 (1 + d) bout (λ a P. refl) (λ a P l s. (l, s)) bs r e
-    term-read (suc n) d (suc (suc (suc (suc (suc zero)))) ∷ bs) r e = two-names-term n (term-read n) d 5 mat (λ a b P. refl) (λ a b P l m s. (l, m, s)) bs r e
-    term-read (suc n) d (suc (suc (suc (suc (suc (suc zero))))) ∷ bs) r e = two-terms n (term-read n) d 6 sum (λ P Q. refl) (λ P Q s u. (s, u)) bs r e
-    term-read (suc n) d (suc (suc (suc (suc (suc (suc (suc zero)))))) ∷ bs) r e = two-terms n (term-read n) d 7 par (λ P Q. refl) (λ P Q s u. (s, u)) bs r e
-    term-read (suc n) d (suc (suc (suc (suc (suc (suc (suc (suc zero))))))) ∷ bs) r e = one-term n (term-read n) d 8 (1 + d) res (λ P. refl) (λ P s. s) bs r e
-    term-read (suc n) d (suc (suc (suc (suc (suc (suc (suc (suc (suc zero)))))))) ∷ []) r e = refused-not-result e
-    term-read (suc n) d (suc (suc (suc (suc (suc (suc (suc (suc (suc zero)))))))) ∷ k ∷ bs) r e = call-term n (term-read n) d 9 k bs r e
-    term-read (suc n) d (suc (suc (suc (suc (suc (suc (suc (suc (suc (suc b))))))))) ∷ bs) r e = refused-not-result e
+    pub term-read : (n d : ℕ) (bs : List ℕ) (r : Term × List ℕ) → readTerm e callees free n d bs ≡ result r → Read d bs r
+    unfolding readTerm encodeIn InScopeBy byte tagOf _>>=_
+    term-read zero d bs r h = refused-not-result h
+    term-read (suc n) d [] r h = refused-not-result h
+    term-read (suc n) d (zero ∷ bs) r h = rw (← result-injective {a = (nil, bs)} h) (record { bytes = refl; scope = tt })
+    term-read (suc n) d (suc zero ∷ bs) r h = one-term n (term-read n) d 1 d tau (λ P. refl) (λ P s. s) bs r h
+    term-read (suc n) d (suc (suc zero) ∷ bs) r h = name-term n (term-read n) d 2 (1 + d) inp (λ a P. refl) (λ a P l s. (l, s)) bs r h
+    term-read (suc n) d (suc (suc (suc zero)) ∷ bs) r h = two-names-term n (term-read n) d 3 out (λ a b P. refl) (λ a b P l m s. (l, m, s)) bs r h
+    term-read (suc n) d (suc (suc (suc (suc zero))) ∷ bs) r h = name-term n (term-read n) d 4 (1 + d) bout (λ a P. refl) (λ a P l s. (l, s)) bs r h
+    term-read (suc n) d (suc (suc (suc (suc (suc zero)))) ∷ bs) r h = two-names-term n (term-read n) d 5 mat (λ a b P. refl) (λ a b P l m s. (l, m, s)) bs r h
+    term-read (suc n) d (suc (suc (suc (suc (suc (suc zero))))) ∷ bs) r h = two-terms n (term-read n) d 6 sum (λ P Q. refl) (λ P Q s u. (s, u)) bs r h
+    term-read (suc n) d (suc (suc (suc (suc (suc (suc (suc zero)))))) ∷ bs) r h = two-terms n (term-read n) d 7 par (λ P Q. refl) (λ P Q s u. (s, u)) bs r h
+    term-read (suc n) d (suc (suc (suc (suc (suc (suc (suc (suc zero))))))) ∷ bs) r h = one-term n (term-read n) d 8 (1 + d) res (λ P. refl) (λ P s. s) bs r h
+    term-read (suc n) d (suc (suc (suc (suc (suc (suc (suc (suc (suc zero)))))))) ∷ []) r h = refused-not-result h
+    term-read (suc n) d (suc (suc (suc (suc (suc (suc (suc (suc (suc zero)))))))) ∷ k ∷ bs) r h = call-term n (term-read n) d 9 k bs r h
+    term-read (suc n) d (suc (suc (suc (suc (suc (suc (suc (suc (suc (suc t))))))))) ∷ bs) r h = refused-not-result h
 
-    -- A whole body or part.
-    pub whole-read : (d : ℕ) (bs : List ℕ) (P : Term) → readWhole free arities d bs ≡ result P → (bs ≡ encode d P) × InScope free arities d P
+    pub whole-read : (d : ℕ) (bs : List ℕ) (P : Term) → readWhole e callees free d bs ≡ result P →
+        (bs ≡ encodeIn e d P) × InScopeBy callees free d P
     unfolding readWhole
-    whole-read d bs P e =
-        let t = bind-result (readTerm free arities (length bs) d bs) _ P e in
-        let w = term-read (length bs) d bs (t .0) (t .1) in
-        let u = need-result 7 _ _ P (t .2) in
-        let z = empty (t .0 .1) (eqb-true _ _ (u .0)) in
-        let f = result-injective (u .1) in
-        rw (← f) (w .bytes ∙ ap (λ l. encode d (t .0 .0) ++ l) z ∙ append-nil _, w .scope)
+    whole-read d bs P h =
+        let u = bind-result (readTerm e callees free (length bs) d bs) _ P h in
+        let z = need-result 7 (eqb (length (u .0 .1)) 0) (result (u .0 .0)) P (u .2) in
+        let r = term-read (length bs) d bs (u .0) (u .1) in
+        let rest : u .0 .1 ≡ [] = empty (u .0 .1) (eqb-true _ _ (z .0)) in
+        rw
+        (← result-injective {a = u .0 .0} (z .1))
+        (r .bytes ∙ ap (λ l. encodeIn e d (u .0 .0) ++ l) rest ∙ append-nil _, r .scope)

@@ -5,19 +5,21 @@ use Prim.Native.Nat.{ℕ, zero, suc}
 use Rattle.calculus.specs.Cond.{join}
 use Rattle.calculus.specs.Term.{Term, nil, tau, mat, sum, par}
 use Rattle.terms.specs.Answer.{Answer, refused, result, _>>=_, _>>_, need}
-use Rattle.terms.specs.Encoding.{encode, nameByte}
+use Rattle.terms.specs.Edition.{one, two, versionByte, countBytes, encodeIn}
+use Rattle.terms.specs.Encoding.{nameByte}
 use Rattle.terms.specs.Framing.{cut, field, fields, framed, sized, allSized, joined}
 use Rattle.terms.specs.Grammar.{sequential, parallelOutermost, guarded}
 use Rattle.terms.specs.Operations.{checkAnswer, holdsApart, mergedQuestion, merged, besideQuestion, fitsBeside, placedBeside, writtenWithin, mergeOf, besideOf}
-use Rattle.terms.specs.Question.{all, version, fits, readBodies, readPart, differentNames, readPairs, readApart, checkTerms, checkFields, checkOf, bodyFields, pairBytes, fieldsOf, write}
-use Rattle.terms.specs.Reading.{byte, readName, readNames, tagOf, readTerm, readWhole}
+use Rattle.terms.specs.Question.{all, version, fits, readBodies, readPart, differentNames, readPairs, readApart, checkTerms, checkFields, checkIn, checkOf, editionOf, questionOf, bodyFieldsIn, pairBytes, fieldsIn, writeIn, fitsIn}
+use Rattle.terms.specs.Reading.{byte, readName, readNames, tagOf, numbered, readCount, readTerm, readWhole}
 
 abbrev thirdExchange : List ℕ
 thirdExchange = 1 ∷ 0 ∷ 0 ∷ 8 ∷ 6 ∷ 1 ∷ 0 ∷ 5 ∷ 0 ∷ 1 ∷ 1 ∷ 0 ∷ 0 ∷ 2 ∷ 1 ∷ 0 ∷ 0 ∷ 0 ∷ []
 
 third-accepted : checkOf thirdExchange
     ≡ result (record { arities = []; bodies = []; first = sum (tau nil) (mat 0 1 (tau nil)); second = tau nil; apart = [] })
-unfolding checkOf checkFields checkTerms _>>=_ _>>_ need version framed cut field fields all fits readBodies readPart readWhole readTerm readName byte tagOf sequential parallelOutermost readApart differentNames readPairs
+unfolding checkOf checkIn versionByte numbered readCount checkFields checkTerms _>>=_ _>>_ need version framed cut field fields all fits
+    readBodies readPart readWhole readTerm readName byte tagOf sequential parallelOutermost readApart differentNames readPairs
 third-accepted = refl
 
 module _ {A : Type 0} where
@@ -27,16 +29,17 @@ module _ {A : Type 0} where
 
 -- questions without a definition, and with definitions
 abbrev parts : List ℕ → List ℕ → List ℕ → List ℕ
-parts P Q D = joined (record { arities = []; bodies = []; first = P; second = Q; apart = D })
+parts P Q D = joined one (record { arities = []; bodies = []; first = P; second = Q; apart = D })
 
 abbrev defining : List ℕ → List (List ℕ) → List ℕ → List ℕ → List ℕ
-defining arities bodies P D = joined (record { arities = arities; bodies = bodies; first = P; second = 0 ∷ []; apart = D })
+defining arities bodies P D = joined one (record { arities = arities; bodies = bodies; first = P; second = 0 ∷ []; apart = D })
 
 abbrev rows : List (List ℕ × Answer ℕ)
 rows =
     -- 3: nothing, another version; before 4
     ([], refused 3) ∷
-    (2 ∷ 0 ∷ 0 ∷ [], refused 3) ∷
+    (3 ∷ 0 ∷ 0 ∷ [], refused 3) ∷
+    (2 ∷ 0 ∷ 0 ∷ [], refused 4) ∷
     -- 4: ends at once, ends inside its first part, bytes left over; before 5
     (1 ∷ [], refused 4) ∷
     (1 ∷ 0 ∷ 255 ∷ 255 ∷ 0 ∷ [], refused 4) ∷
@@ -86,7 +89,9 @@ rows =
     []
 
 checks : map (λ r. checkAnswer (r .0)) rows ≡ map (λ r. r .1) rows
-unfolding checkAnswer checkOf checkFields checkTerms _>>=_ _>>_ need version framed cut field fields all fits readBodies readPart readWhole readTerm readName readNames byte tagOf sequential parallelOutermost guarded readApart differentNames readPairs joined sized allSized
+unfolding checkAnswer questionOf editionOf checkIn versionByte numbered readCount checkFields checkTerms _>>=_ _>>_ need version framed cut field
+    fields all fits readBodies readPart readWhole readTerm readName readNames byte tagOf sequential parallelOutermost guarded readApart
+    differentNames readPairs joined sized allSized
 checks = refl
 
 -- two names merged, in either order and with a room that is exact; a room too short, names apart, a name above 15, a name with itself
@@ -100,9 +105,10 @@ merges : map (λ (r : ℕ × ℕ × ℕ). mergeOf (parts (3 ∷ 3 ∷ 1 ∷ 2 �
     ∷ refused 14
     ∷ result (parts (3 ∷ 3 ∷ 1 ∷ 2 ∷ 3 ∷ 5 ∷ 3 ∷ 128 ∷ 0 ∷ []) (1 ∷ 0 ∷ []) (2 ∷ 3 ∷ []))
     ∷ []
-unfolding mergeOf merged mergedQuestion holdsApart writtenWithin write fieldsOf bodyFields pairBytes encode nameByte join checkOf checkFields
-    checkTerms _>>=_ _>>_ need version framed cut field fields all fits readBodies readPart readWhole readTerm readName readNames byte tagOf
-    sequential parallelOutermost guarded readApart differentNames readPairs joined sized allSized
+unfolding mergeOf merged mergedQuestion holdsApart writtenWithin writeIn fieldsIn bodyFieldsIn pairBytes encodeIn countBytes nameByte join
+    questionOf editionOf checkIn versionByte numbered readCount checkFields checkTerms _>>=_ _>>_ need version framed cut field fields all fits
+    readBodies readPart readWhole readTerm readName readNames byte tagOf sequential parallelOutermost guarded readApart differentNames readPairs
+    joined sized allSized
 merges = refl
 
 -- a part beside both sides; 6, 7 and 10 of the third part, a room that is exact and one too short, and 6 where a side would have 113 bytes
@@ -117,7 +123,8 @@ besides : map (λ (r : List ℕ × ℕ). besideOf (parts (8 ∷ 0 ∷ []) (1 ∷
     ∷ refused 7
     ∷ refused 6
     ∷ []
-unfolding besideOf placedBeside besideQuestion fitsBeside writtenWithin write fieldsOf bodyFields pairBytes encode nameByte checkOf checkFields
-    checkTerms _>>=_ _>>_ need version framed cut field fields all fits readBodies readPart readWhole readTerm readName readNames byte tagOf
-    sequential parallelOutermost guarded readApart differentNames readPairs joined sized allSized
+unfolding besideOf placedBeside besideQuestion fitsBeside writtenWithin writeIn fieldsIn bodyFieldsIn pairBytes encodeIn countBytes nameByte
+    questionOf editionOf checkIn versionByte numbered readCount checkFields checkTerms _>>=_ _>>_ need version framed cut field fields all fits
+    readBodies readPart readWhole readTerm readName readNames byte tagOf sequential parallelOutermost guarded readApart differentNames readPairs
+    joined sized allSized
 besides = refl

@@ -1,13 +1,17 @@
 pub mod Answers
 pub mod ApartLaws
 pub mod BesideLaws
+pub mod Converting
 pub mod DeclareLaws
+pub mod EditionExamples
+pub mod EditionOne
 pub mod EncodeRead
 pub mod Examples
 pub mod FiniteControlLaws
 pub mod FramingLaws
 pub mod LiteralBytes
 pub mod MergeLaws
+pub mod OwnEdition
 pub mod ReadEncoded
 pub mod RefusalNumbers
 pub mod RenamingKeeps

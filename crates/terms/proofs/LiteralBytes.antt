@@ -13,14 +13,15 @@ use Rattle.calculus.specs.Term.{Term, ren}
 use Rattle.calculus.proofs.Conditions.{join-cases}
 use Rattle.calculus.proofs.Renaming.{ren-id}
 use Rattle.terms.specs.Answer.{Answer, refused, result, _>>=_, _>>_, need}
-use Rattle.terms.specs.Encoding.{encode}
+use Rattle.terms.specs.Edition.{Edition, versionByte, encodeIn}
 use Rattle.terms.specs.Framing.{Fields, sized, allSized, joined, beforeApart}
 use Rattle.terms.specs.Limits.{nameCount}
 use Rattle.terms.specs.Operations.{holdsApart, mergedQuestion, merged, besideQuestion, placedBeside, besideFields, declaredFields, writtenWithin, mergeOf, besideOf}
-use Rattle.terms.specs.Question.{Question, checkOf, bodyFields, pairBytes, fieldsOf, write}
+use Rattle.terms.specs.Question.{Question, editionOf, questionOf, bodyFieldsIn, pairBytes, fieldsIn, writeIn}
 use Rattle.terms.proofs.Answers.{Every, bind-to, need-passed}
 use Rattle.terms.proofs.BesideLaws.{PlacedBeside, placed-beside}
-use Rattle.terms.proofs.WellFormed.{PairAllowed, WellFormed, accepted-well-formed, accepted-written, accepted-once}
+use Rattle.terms.proofs.OwnEdition.{own-well-formed, own-written, accepted-once}
+use Rattle.terms.proofs.WellFormed.{PairAllowed, WellFormed}
 use Rattle.terms.proofs.WrittenLaws.{Written, written-within}
 
 -- A name merged with itself changes nothing.
@@ -59,56 +60,64 @@ not-apart a (p ∷ D) h = go (eqb (p .0) a) refl (eqb (p .1) a) refl (not-apart 
     go true s false t r = r
     go false s t u r = r
 
-pub merge-itself : (question : List ℕ) (q : Question) → checkOf question ≡ result q → (a room : ℕ) → a < nameCount → length question ≤ room
+pub merge-itself : (question : List ℕ) (q : Question) → questionOf question ≡ result q → (a room : ℕ) → a < nameCount → length question ≤ room
     → mergeOf question a a room ≡ result question
 unfolding mergeOf merged writtenWithin
 merge-itself question q e a room l h =
-    let w = accepted-well-formed question q e in
-    let k = accepted-written question q e in
+    let w = own-well-formed question q e in
+    let k = own-written question q e in
     let test : (ltb a nameCount && ltb a nameCount && not (holdsApart (q .apart) a a)) ≡ true =
     rw (lt-ltb a nameCount l, not-apart a (q .apart) (w .apart)) refl in
     bind-to _ (bind-to _ e ∙ need-passed 14 _ _ test ∙ ap (λ r. result r) (merged-itself a q))
-    ∙ need-passed 15 (leb (length (write q)) room) _ (le-leb (length (write q)) room (rw k h)) ∙ ap (λ r. result r) k
+    ∙ need-passed 15 (leb (length (writeIn (editionOf question) q)) room) _ (le-leb (length (writeIn (editionOf question) q)) room (rw k h)) ∙ ap (λ r. result r) k
 
-pub beside-bytes : (question third : List ℕ) (q : Question) → checkOf question ≡ result q → (room : ℕ) (next : List ℕ)
-    → besideOf question third room ≡ result next → (question ≡ joined (fieldsOf q)) × (next ≡ joined (besideFields third (fieldsOf q)))
-unfolding besideOf write besideQuestion besideFields fieldsOf encode
-beside-bytes question third q e room next m =
-    let w : Written (placedBeside question third) room next = written-within (placedBeside question third) room next m in
+made : (e : Edition) (third : List ℕ) (R : Term) (p : Question) → third ≡ encodeIn e 0 R
+    → writeIn e (besideQuestion R p) ≡ joined e (besideFields third (fieldsIn e p))
+unfolding writeIn besideQuestion besideFields fieldsIn encodeIn
+made e third R p t = ap (λ l. joined e (record {
+  arities = p .arities;
+  bodies = bodyFieldsIn e (p .arities) (p .bodies);
+  first = 7 ∷ (encodeIn e 0 (p .first) ++ l);
+  second = 7 ∷ (encodeIn e 0 (p .second) ++ l);
+  apart = pairBytes (p .apart);
+})) (sym t)
+
+pub beside-bytes : (question third : List ℕ) (q : Question) → questionOf question ≡ result q → (room : ℕ) (next : List ℕ)
+    → besideOf question third room ≡ result next
+    → (question ≡ joined (editionOf question) (fieldsIn (editionOf question) q))
+    × (next ≡ joined (editionOf question) (besideFields third (fieldsIn (editionOf question) q)))
+unfolding besideOf writeIn
+beside-bytes question third q h room next m =
+    let w : Written e (placedBeside question third) room next = written-within e (placedBeside question third) room next m in
     let s : PlacedBeside question third (w .question) = placed-beside question third (w .question) (w .made) in
-    let o : s .old ≡ q = accepted-once question (s .old) q (s .accepted) e in (
-      sym (accepted-written question q e),
-      w .bytes ∙ ap write (s .is) ∙ made (s .part) (s .old) (s .thirdBytes) ∙ ap (λ p. joined (besideFields third (fieldsOf p))) o,
+    let o : s .old ≡ q = accepted-once question (s .old) q (s .accepted) h in (
+      sym (own-written question q h),
+      w .bytes ∙ ap (writeIn e) (s .is) ∙ made e third (s .part) (s .old) (s .thirdBytes) ∙ ap (λ p. joined e (besideFields third (fieldsIn e p))) o,
     )
   where
-    made : (R : Term) (p : Question) → third ≡ encode 0 R → write (besideQuestion R p) ≡ joined (besideFields third (fieldsOf p))
-    made R p t = ap (λ l. joined (record {
-      arities = p .arities;
-      bodies = bodyFields (p .arities) (p .bodies);
-      first = 7 ∷ (encode 0 (p .first) ++ l);
-      second = 7 ∷ (encode 0 (p .second) ++ l);
-      apart = pairBytes (p .apart);
-    })) (sym t)
+    e : Edition
+    e = editionOf question
 
-joined-apart : (f : Fields) → joined f ≡ beforeApart f ++ sized (f .apart)
+joined-apart : (e : Edition) (f : Fields) → joined e f ≡ beforeApart e f ++ sized (f .apart)
 unfolding joined beforeApart
-joined-apart f =
+joined-apart e f =
     let A = f .arities in
     let B = allSized (f .bodies) in
     let P = sized (f .first) in
     let Q = sized (f .second) in
     let D = sized (f .apart) in
-    ap (λ l. 1 ∷ length A ∷ l)
+    ap (λ l. versionByte e ∷ length A ∷ l)
     (ap (λ l. A ++ l) (ap (λ l. B ++ l) (sym (append-assoc P Q D)) ∙ sym (append-assoc B (P ++ Q) D)) ∙ sym (append-assoc A (B ++ (P ++ Q)) D))
 
 -- Declaring: the two bytes go to the end of the apart list, whose length grows by 2, and nothing else changes.
-pub declared-bytes : (question : List ℕ) (q : Question) → checkOf question ≡ result q → (a b : ℕ)
-    → (question ≡ beforeApart (fieldsOf q) ++ sized (pairBytes (q .apart)))
-    × (joined (declaredFields a b (fieldsOf q)) ≡ beforeApart (fieldsOf q) ++ sized (pairBytes (q .apart) ++ (a ∷ b ∷ [])))
+pub declared-bytes : (question : List ℕ) (q : Question) → questionOf question ≡ result q → (a b : ℕ)
+    → (question ≡ beforeApart (editionOf question) (fieldsIn (editionOf question) q) ++ sized (pairBytes (q .apart)))
+    × (joined (editionOf question) (declaredFields a b (fieldsIn (editionOf question) q))
+    ≡ beforeApart (editionOf question) (fieldsIn (editionOf question) q) ++ sized (pairBytes (q .apart) ++ (a ∷ b ∷ [])))
     × (length (pairBytes (q .apart) ++ (a ∷ b ∷ [])) ≡ length (pairBytes (q .apart)) + 2)
-unfolding write fieldsOf declaredFields beforeApart
-declared-bytes question q e a b = (
-  sym (accepted-written question q e) ∙ joined-apart (fieldsOf q),
-  joined-apart (declaredFields a b (fieldsOf q)),
+unfolding writeIn fieldsIn declaredFields beforeApart
+declared-bytes question q h a b = (
+  sym (own-written question q h) ∙ joined-apart (editionOf question) (fieldsIn (editionOf question) q),
+  joined-apart (editionOf question) (declaredFields a b (fieldsIn (editionOf question) q)),
   length-append (pairBytes (q .apart)) (a ∷ b ∷ []),
 )

@@ -1,26 +1,29 @@
--- Two names merged: the question written is accepted, its parts and apart list are the old ones renamed.
-use mathlib.Core.Path.{_≡_, refl, sym, ap, _∙_}
-use mathlib.Core.List.{List, [], _∷_, map}
+-- Two names merged: the question written is accepted, in the same edition; its parts and apart list are the old ones renamed.
+use mathlib.Core.Path.{_≡_, refl, sym, ap, ap₂, _∙_}
+use mathlib.Core.List.{List, [], _∷_, _++_, map}
 use mathlib.Core.Bool.{Bool, true, false, _&&_, _||_, not}
 use mathlib.Core.Logic.{_≢_, _⊎_, inl, inr}
-use Prim.Native.Nat.{ℕ, suc, _≤_, _<_, min, max}
+use Prim.Native.Nat.{ℕ, suc, _+_, _≤_, _<_, min, max}
 use native.Mathlib.Nat.{zero-add}
 use native.Mathlib.Omega.{arith}
-use lib.ListN.{length}
+use lib.ListN.{length, length-append, length-map}
 use lib.Dec.{ltb, leb, eqb}
 use borrow.Author.Tests.{ltb-true, leb-true, leb-false, eq-eqb, not-true}
 use Rattle.calculus.proofs.Conditions.{join-cases}
 use Rattle.calculus.specs.Cond.{Pairs, mapP, join}
-use Rattle.calculus.specs.Term.{Term, ren}
+use Rattle.calculus.specs.Term.{Term, nil, tau, inp, out, bout, mat, sum, par, res, call, lift, ren}
 use Rattle.terms.specs.Limits.{nameCount}
 use Rattle.terms.specs.Answer.{Answer, refused, result, _>>=_, _>>_, need}
-use Rattle.terms.specs.Encoding.{encode}
-use Rattle.terms.specs.Operations.{holdsApart, mergedQuestion, merged}
-use Rattle.terms.specs.Question.{Question, checkOf, pairBytes, write}
+use Rattle.terms.specs.Edition.{Edition, countBytes, encodeIn}
+use Rattle.terms.specs.Encoding.{nameByte}
+use Rattle.terms.specs.Operations.{holdsApart, mergedQuestion, merged, mergeOf}
+use Rattle.terms.specs.Question.{Question, all, fits, editionOf, questionOf, pairBytes, bodyFieldsIn, writeIn, fitsIn}
 use Rattle.terms.proofs.Answers.{Every, result-injective, bind-result, need-result, both-true}
 use Rattle.terms.proofs.RenamingKeeps.{scope-ren, outermost-ren}
 use Rattle.terms.proofs.RenamingKeeps.{length-ren}
-use Rattle.terms.proofs.WellFormed.{PartAllowed, PairAllowed, WellFormed, accepted-well-formed, well-formed-accepted}
+use Rattle.terms.proofs.OwnEdition.{edition-written, own-well-formed, own-fits, written-accepted}
+use Rattle.terms.proofs.WellFormed.{PartAllowed, PairAllowed, WellFormed}
+use Rattle.terms.proofs.WrittenLaws.{Written, written-within}
 
 pub join-below : (free a b n : ℕ) → a < free → b < free → n < free → join a b n < free
 join-below free a b n p q r = go (join-cases a b n)
@@ -103,24 +106,73 @@ merged-well-formed a b q l m h w =
       apartSize = rw (pairs-as-many (join a b) (q .apart)) (w .apartSize);
     }
 
+-- A renamed term is as long as it was, in either edition.
+length-ren-in : (e : Edition) (d d′ : ℕ) (ρ : ℕ → ℕ) (P : Term) → length (encodeIn e d′ (ren ρ P)) ≡ length (encodeIn e d P)
+unfolding encodeIn
+length-ren-in e d d′ ρ nil = refl
+length-ren-in e d d′ ρ (tau P) = omega (arith, length-ren-in e d d′ ρ P)
+length-ren-in e d d′ ρ (inp a P) = omega (arith, length-ren-in e (1 + d) (1 + d′) (lift ρ) P)
+length-ren-in e d d′ ρ (out a b P) = omega (arith, length-ren-in e d d′ ρ P)
+length-ren-in e d d′ ρ (bout a P) = omega (arith, length-ren-in e (1 + d) (1 + d′) (lift ρ) P)
+length-ren-in e d d′ ρ (mat a b P) = omega (arith, length-ren-in e d d′ ρ P)
+length-ren-in e d d′ ρ (sum P Q) =
+    omega (
+      arith,
+      length-ren-in e d d′ ρ P,
+      length-ren-in e d d′ ρ Q,
+      length-append (encodeIn e d P) (encodeIn e d Q),
+      length-append (encodeIn e d′ (ren ρ P)) (encodeIn e d′ (ren ρ Q)),
+    )
+length-ren-in e d d′ ρ (par P Q) =
+    omega (
+      arith,
+      length-ren-in e d d′ ρ P,
+      length-ren-in e d d′ ρ Q,
+      length-append (encodeIn e d P) (encodeIn e d Q),
+      length-append (encodeIn e d′ (ren ρ P)) (encodeIn e d′ (ren ρ Q)),
+    )
+length-ren-in e d d′ ρ (res P) = omega (arith, length-ren-in e (1 + d) (1 + d′) (lift ρ) P)
+length-ren-in e d d′ ρ (call k ns) =
+    let l : length (map ρ ns) ≡ length ns = length-map ns ρ in
+    let c : countBytes e (length (map ρ ns)) ≡ countBytes e (length ns) = ap (countBytes e) l in
+    omega (
+      arith,
+      length-append (countBytes e (length (map ρ ns))) (map (nameByte d′) (map ρ ns)),
+      length-append (countBytes e (length ns)) (map (nameByte d) ns),
+      length-map (map ρ ns) (nameByte d′),
+      length-map ns (nameByte d),
+      ap length c,
+    )
+
+fits-by : (bs cs : List ℕ) → length bs ≡ length cs → fits bs ≡ fits cs
+unfolding fits
+fits-by bs cs e = rw e
+
+fits-merged : (e : Edition) (a b : ℕ) (q : Question) → fitsIn e (mergedQuestion a b q) ≡ fitsIn e q
+unfolding fitsIn mergedQuestion
+fits-merged e a b q =
+    ap₂ (λ x y. all fits (bodyFieldsIn e (q .arities) (q .bodies)) && x && y)
+    (fits-by _ _ (length-ren-in e 0 0 (join a b) (q .first))) (fits-by _ _ (length-ren-in e 0 0 (join a b) (q .second)))
+
 -- What a merge that no check turns back was given, and what it makes.
 pub record Merged (question : List ℕ) (a b : ℕ) (r : Question) : Type 0 where
   pub old : Question
-  pub accepted : checkOf question ≡ result old
+  pub accepted : questionOf question ≡ result old
   pub left : a < nameCount
   pub right : b < nameCount
   pub notApart : holdsApart (old .apart) a b ≡ false
   pub is : r ≡ mergedQuestion a b old
   pub wellFormed : WellFormed r
+  pub fitting : fitsIn (editionOf question) r ≡ true
 
 pub merged-is : (question : List ℕ) (a b : ℕ) (r : Question) → merged question a b ≡ result r → Merged question a b r
 unfolding merged
 merged-is question a b r e =
-    let q = bind-result (checkOf question) _ r e in
+    let q = bind-result (questionOf question) _ r e in
     let s = need-result 14 (ltb a nameCount && ltb b nameCount && not (holdsApart (q .0 .apart) a b)) _ r (q .2) in
     made (q .0) (q .1) (s .0) (result-injective {a = mergedQuestion a b (q .0)} (s .1))
   where
-    made : (q : Question) → checkOf question ≡ result q → (ltb a nameCount && ltb b nameCount && not (holdsApart (q .apart) a b)) ≡ true →
+    made : (q : Question) → questionOf question ≡ result q → (ltb a nameCount && ltb b nameCount && not (holdsApart (q .apart) a b)) ≡ true →
         mergedQuestion a b q ≡ r → Merged question a b r
     made q c s e =
         let x = both-true (ltb a nameCount && ltb b nameCount) (not (holdsApart (q .apart) a b)) s in
@@ -128,9 +180,24 @@ merged-is question a b r e =
         let l = ltb-true a nameCount (y .0) in
         let m = ltb-true b nameCount (y .1) in
         let n = not-true (holdsApart (q .apart) a b) (x .1) in
-        let w = merged-well-formed a b q l m n (accepted-well-formed question q c) in
-        record { old = q; accepted = c; left = l; right = m; notApart = n; is = sym e; wellFormed = rw (← e) w }
+        let w = merged-well-formed a b q l m n (own-well-formed question q c) in
+        let f = fits-merged (editionOf question) a b q ∙ own-fits question q c in
+        record { old = q; accepted = c; left = l; right = m; notApart = n; is = sym e; wellFormed = rw (← e) w; fitting = rw (← e) f }
 
 -- The question that merge writes is accepted.
-pub merge-accepted : (question : List ℕ) (a b : ℕ) (r : Question) → merged question a b ≡ result r → checkOf (write r) ≡ result r
-merge-accepted question a b r e = well-formed-accepted r (merged-is question a b r e .wellFormed)
+pub merge-accepted : (question : List ℕ) (a b : ℕ) (r : Question) → merged question a b ≡ result r
+    → questionOf (writeIn (editionOf question) r) ≡ result r
+merge-accepted question a b r e = let m = merged-is question a b r e in written-accepted (editionOf question) r (m .wellFormed) (m .fitting)
+
+-- Merging keeps the edition: what it writes is of the question's own, and is the merged question.
+pub merge-keeps : (question : List ℕ) (a b room : ℕ) (next : List ℕ) → mergeOf question a b room ≡ result next
+    → (q : Question) × (questionOf question ≡ result q) × (editionOf next ≡ editionOf question) × (questionOf next ≡ result (mergedQuestion a b q))
+unfolding mergeOf
+merge-keeps question a b room next h =
+    let w = written-within (editionOf question) (merged question a b) room next h in
+    let m = merged-is question a b (w .question) (w .made) in (
+      m .old,
+      m .accepted,
+      ap editionOf (w .bytes) ∙ edition-written (editionOf question) (w .question),
+      ap questionOf (w .bytes) ∙ merge-accepted question a b (w .question) (w .made) ∙ ap result (m .is),
+    )

@@ -9,12 +9,13 @@ use lib.Dec.{ltb, leb, eqb}
 use borrow.Author.Tests.{leb-true}
 use Rattle.calculus.specs.Term.{Term, nil, tau, inp, out, bout, mat, sum, par, res, call}
 use Rattle.terms.specs.Answer.{Answer, refused, result, _>>=_, _>>_, need}
+use Rattle.terms.specs.Edition.{Edition, one, two, other, versionByte}
 use Rattle.terms.specs.Framing.{Fields, cut, field, fields, framed}
 use Rattle.terms.specs.Grammar.{parallelOutermost}
 use Rattle.terms.specs.Limits.{longestQuestion}
-use Rattle.terms.specs.Operations.{merged, placedBeside, writtenWithin, mergeOf, besideOf}
-use Rattle.terms.specs.Question.{Question, version, readBodies, readPart, readPairs, readApart, differentNames, checkTerms, checkFields, checkOf}
-use Rattle.terms.specs.Reading.{byte, readName, readNames, Tag, inaction, silent, input, output, newOutput, match, choice, parallel, restriction, calling, unknown, tagOf, readTerm, readWhole}
+use Rattle.terms.specs.Operations.{merged, placedBeside, writtenWithin, mergeOf, besideOf, convertOf}
+use Rattle.terms.specs.Question.{Question, version, readBodies, readPart, readPairs, readApart, differentNames, checkTerms, checkFields, checkIn, editionOf, questionOf, fitsIn}
+use Rattle.terms.specs.Reading.{byte, readName, readNames, Tag, inaction, silent, input, output, newOutput, match, choice, parallel, restriction, calling, unknown, tagOf, Callees, numbered, readCount, readTerm, readWhole}
 use Rattle.terms.proofs.Answers.{bind-result, need-result}
 
 -- numbers below this leave room for a kind: 2^32
@@ -74,46 +75,55 @@ names-numbered free d (suc n) bs =
     numbered-bind (readName free d bs) _ (name-numbered free d bs)
     (λ p. numbered-bind (readNames free d n (p .1)) _ (names-numbered free d n (p .1)) (λ q. done _))
 
-module _ (free : ℕ) (arities : List ℕ) where
+count-numbered : (e : Edition) (n : ℕ) (bs : List ℕ) → Numbered (readCount e n bs)
+unfolding readCount
+count-numbered one n bs = done _
+count-numbered two n bs = numbered-bind (byte bs) _ (byte-numbered bs) (λ p. numbered-need 16 (eqb (p .0) n) _ (omega arith) (done _))
+
+module _ (e : Edition) (callees : Callees) (rule : (k : ℕ) → Numbered (callees k)) (free : ℕ) where
   -- one name, then a subterm; two names, then a subterm; two subterms
   one-name : {A : Type 0} (d : ℕ) (bs : List ℕ) (f : ℕ × List ℕ → Answer A) → ((p : ℕ × List ℕ) → Numbered (f p)) → Numbered (readName free d bs >>= f)
   one-name d bs f h = numbered-bind (readName free d bs) f (name-numbered free d bs) h
 
-  term-numbered : (n d : ℕ) (bs : List ℕ) → Numbered (readTerm free arities n d bs)
+  term-numbered : (n d : ℕ) (bs : List ℕ) → Numbered (readTerm e callees free n d bs)
   unfolding readTerm byte tagOf _>>=_ _>>_ need Numbered
   term-numbered zero d bs = omega arith
   term-numbered (suc n) d [] = omega arith
   term-numbered (suc n) d (zero ∷ bs) = tt
-  term-numbered (suc n) d ((suc zero) ∷ bs) = numbered-bind (readTerm free arities n d bs) _ (term-numbered n d bs) (λ p. tt)
-  term-numbered (suc n) d ((suc (suc zero)) ∷ bs) = one-name d bs _ (λ a. numbered-bind (readTerm free arities n (1 + d) (a .1)) _ (term-numbered n (1 + d) (a .1)) (λ p. tt))
-  term-numbered (suc n) d ((suc (suc (suc zero))) ∷ bs) = one-name d bs _ (λ a. one-name d (a .1) _ (λ b. numbered-bind (readTerm free arities n d (b .1)) _ (term-numbered n d (b .1)) (λ p. tt)))
-  term-numbered (suc n) d ((suc (suc (suc (suc zero)))) ∷ bs) = one-name d bs _ (λ a. numbered-bind (readTerm free arities n (1 + d) (a .1)) _ (term-numbered n (1 + d) (a .1)) (λ p. tt))
-  term-numbered (suc n) d ((suc (suc (suc (suc (suc zero))))) ∷ bs) = one-name d bs _ (λ a. one-name d (a .1) _ (λ b. numbered-bind (readTerm free arities n d (b .1)) _ (term-numbered n d (b .1)) (λ p. tt)))
-  term-numbered (suc n) d ((suc (suc (suc (suc (suc (suc zero)))))) ∷ bs) = numbered-bind (readTerm free arities n d bs) _ (term-numbered n d bs) (λ p. numbered-bind (readTerm free arities n d (p .1)) _ (term-numbered n d (p .1)) (λ q. tt))
-  term-numbered (suc n) d ((suc (suc (suc (suc (suc (suc (suc zero))))))) ∷ bs) = numbered-bind (readTerm free arities n d bs) _ (term-numbered n d bs) (λ p. numbered-bind (readTerm free arities n d (p .1)) _ (term-numbered n d (p .1)) (λ q. tt))
-  term-numbered (suc n) d ((suc (suc (suc (suc (suc (suc (suc (suc zero)))))))) ∷ bs) = numbered-bind (readTerm free arities n (1 + d) bs) _ (term-numbered n (1 + d) bs) (λ p. tt)
+  term-numbered (suc n) d ((suc zero) ∷ bs) = numbered-bind (readTerm e callees free n d bs) _ (term-numbered n d bs) (λ p. tt)
+  term-numbered (suc n) d ((suc (suc zero)) ∷ bs) = one-name d bs _ (λ a. numbered-bind (readTerm e callees free n (1 + d) (a .1)) _ (term-numbered n (1 + d) (a .1)) (λ p. tt))
+  term-numbered (suc n) d ((suc (suc (suc zero))) ∷ bs) = one-name d bs _ (λ a. one-name d (a .1) _ (λ b. numbered-bind (readTerm e callees free n d (b .1)) _ (term-numbered n d (b .1)) (λ p. tt)))
+  term-numbered (suc n) d ((suc (suc (suc (suc zero)))) ∷ bs) = one-name d bs _ (λ a. numbered-bind (readTerm e callees free n (1 + d) (a .1)) _ (term-numbered n (1 + d) (a .1)) (λ p. tt))
+  term-numbered (suc n) d ((suc (suc (suc (suc (suc zero))))) ∷ bs) = one-name d bs _ (λ a. one-name d (a .1) _ (λ b. numbered-bind (readTerm e callees free n d (b .1)) _ (term-numbered n d (b .1)) (λ p. tt)))
+  term-numbered (suc n) d ((suc (suc (suc (suc (suc (suc zero)))))) ∷ bs) = numbered-bind (readTerm e callees free n d bs) _ (term-numbered n d bs) (λ p. numbered-bind (readTerm e callees free n d (p .1)) _ (term-numbered n d (p .1)) (λ q. tt))
+  term-numbered (suc n) d ((suc (suc (suc (suc (suc (suc (suc zero))))))) ∷ bs) = numbered-bind (readTerm e callees free n d bs) _ (term-numbered n d bs) (λ p. numbered-bind (readTerm e callees free n d (p .1)) _ (term-numbered n d (p .1)) (λ q. tt))
+  term-numbered (suc n) d ((suc (suc (suc (suc (suc (suc (suc (suc zero)))))))) ∷ bs) = numbered-bind (readTerm e callees free n (1 + d) bs) _ (term-numbered n (1 + d) bs) (λ p. tt)
   term-numbered (suc n) d ((suc (suc (suc (suc (suc (suc (suc (suc (suc zero))))))))) ∷ bs) = numbered-bind (byte bs) _ (byte-numbered bs)
-      (λ k. numbered-need 8 (ltb (k .0) (length arities)) _ (omega arith)
-      (numbered-bind (readNames free d (getD arities (k .0) 0) (k .1)) _ (names-numbered free d (getD arities (k .0) 0) (k .1)) (λ p. tt)))
+      (λ k. numbered-bind (callees (k .0)) _ (rule (k .0))
+      (λ m. numbered-bind (readCount e m (k .1)) _ (count-numbered e m (k .1)) (λ cs. numbered-bind (readNames free d m cs) _ (names-numbered free d m cs) (λ p. tt))))
   term-numbered (suc n) d ((suc (suc (suc (suc (suc (suc (suc (suc (suc (suc b)))))))))) ∷ bs) = omega arith
 
-  whole-numbered : (d : ℕ) (bs : List ℕ) → Numbered (readWhole free arities d bs)
+  whole-numbered : (d : ℕ) (bs : List ℕ) → Numbered (readWhole e callees free d bs)
   unfolding readWhole
   whole-numbered d bs =
-      numbered-bind (readTerm free arities (length bs) d bs) _ (term-numbered (length bs) d bs)
+      numbered-bind (readTerm e callees free (length bs) d bs) _ (term-numbered (length bs) d bs)
       (λ p. numbered-need 7 (eqb (length (p .1)) 0) _ (omega arith) (done _))
 
-part-numbered : (arities bs : List ℕ) → Numbered (readPart arities bs)
-unfolding readPart
-part-numbered arities bs = whole-numbered _ arities 0 bs
+arity-numbered : (arities : List ℕ) (k : ℕ) → Numbered (numbered arities k)
+unfolding numbered
+arity-numbered arities k = numbered-need 8 (ltb k (length arities)) _ (omega arith) (done _)
 
-bodies-numbered : (arities sizes : List ℕ) (bodies : List (List ℕ)) → Numbered (readBodies arities sizes bodies)
+part-numbered : (e : Edition) (arities bs : List ℕ) → Numbered (readPart e (numbered arities) bs)
+unfolding readPart
+part-numbered e arities bs = whole-numbered e (numbered arities) (arity-numbered arities) _ 0 bs
+
+bodies-numbered : (e : Edition) (arities sizes : List ℕ) (bodies : List (List ℕ)) → Numbered (readBodies e (numbered arities) sizes bodies)
 unfolding readBodies
-bodies-numbered arities (a ∷ as′) (b ∷ bs) =
-    numbered-bind (readWhole 0 arities a b) _ (whole-numbered 0 arities a b)
-    (λ P. numbered-bind (readBodies arities as′ bs) _ (bodies-numbered arities as′ bs) (λ Ps. done _))
-bodies-numbered arities (a ∷ as′) [] = done _
-bodies-numbered arities [] bs = done _
+bodies-numbered e arities (a ∷ as′) (b ∷ bs) =
+    numbered-bind (readWhole e (numbered arities) 0 a b) _ (whole-numbered e (numbered arities) (arity-numbered arities) 0 a b)
+    (λ P. numbered-bind (readBodies e (numbered arities) as′ bs) _ (bodies-numbered e arities as′ bs) (λ Ps. done _))
+bodies-numbered e arities (a ∷ as′) [] = done _
+bodies-numbered e arities [] bs = done _
 
 pairs-numbered : (bs : List ℕ) → Numbered (readPairs bs)
 unfolding readPairs
@@ -147,45 +157,58 @@ framed-numbered bs =
     numbered-bind (field (q .1)) _ (field-numbered (q .1)) (λ d.
     numbered-need 4 (eqb (length (d .1)) 0) _ (omega arith) (done _)))))))
 
-version-numbered : (bs : List ℕ) → Numbered (version bs)
+version-numbered : (e : Edition) (bs : List ℕ) → Numbered (version e bs)
 unfolding version
-version-numbered [] = turned _ 3 (omega arith)
-version-numbered (b ∷ bs) = numbered-need 3 (eqb b 1) _ (omega arith) (done _)
+version-numbered e [] = turned _ 3 (omega arith)
+version-numbered e (b ∷ bs) = numbered-need 3 (eqb b (versionByte e)) _ (omega arith) (done _)
 
-pub check-numbered : (bs : List ℕ) → Numbered (checkOf bs)
-unfolding checkOf checkFields checkTerms readApart
-check-numbered bs =
-    numbered-bind (version bs) _ (version-numbered bs) (λ rest.
+pub check-numbered-in : (e : Edition) (bs : List ℕ) → Numbered (checkIn e bs)
+unfolding checkIn checkFields checkTerms readApart
+check-numbered-in e bs =
+    numbered-bind (version e bs) _ (version-numbered e bs) (λ rest.
     numbered-need 4 _ _ (omega arith)
     (numbered-bind (framed rest) _ (framed-numbered rest) (λ f.
     numbered-need 5 _ _ (omega arith) (numbered-need 6 _ _ (omega arith)
-    (numbered-bind (readBodies (f .arities) (f .arities) (f .bodies)) _ (bodies-numbered (f .arities) (f .arities) (f .bodies)) (λ bodies.
-    numbered-bind (readPart (f .arities) (f .first)) _ (part-numbered (f .arities) (f .first)) (λ first.
-    numbered-bind (readPart (f .arities) (f .second)) _ (part-numbered (f .arities) (f .second)) (λ second.
+    (numbered-bind (readBodies e (numbered (f .arities)) (f .arities) (f .bodies)) _ (bodies-numbered e (f .arities) (f .arities) (f .bodies)) (λ bodies.
+    numbered-bind (readPart e (numbered (f .arities)) (f .first)) _ (part-numbered e (f .arities) (f .first)) (λ first.
+    numbered-bind (readPart e (numbered (f .arities)) (f .second)) _ (part-numbered e (f .arities) (f .second)) (λ second.
     numbered-need 10 _ _ (omega arith) (numbered-need 11 _ _ (omega arith)
     (numbered-bind (readApart (f .apart)) _ (numbered-need 12 _ _ (omega arith) (pairs-numbered (f .apart))) (λ D. done _)))))))))))
 
-written-numbered : (room : ℕ) (q : Question) → Numbered (writtenWithin room q)
+pub check-numbered : (bs : List ℕ) → Numbered (questionOf bs)
+unfolding questionOf
+check-numbered bs = check-numbered-in (editionOf bs) bs
+
+written-numbered : (e : Edition) (room : ℕ) (q : Question) → Numbered (writtenWithin e room q)
 unfolding writtenWithin
-written-numbered room q = numbered-need 15 _ _ (omega arith) (done _)
+written-numbered e room q = numbered-need 15 _ _ (omega arith) (done _)
 
 pub merge-numbered : (bs : List ℕ) (a b room : ℕ) → Numbered (mergeOf bs a b room)
 unfolding mergeOf merged
 merge-numbered bs a b room =
     numbered-bind (merged bs a b) _
-    (numbered-bind (checkOf bs) _ (check-numbered bs) (λ q. numbered-need 14 _ _ (omega arith) (done _))) (written-numbered room)
+    (numbered-bind (questionOf bs) _ (check-numbered bs) (λ q. numbered-need 14 _ _ (omega arith) (done _))) (written-numbered (editionOf bs) room)
 
 pub beside-numbered : (bs third : List ℕ) (room : ℕ) → Numbered (besideOf bs third room)
 unfolding besideOf placedBeside
 beside-numbered bs third room =
     numbered-bind (placedBeside bs third) _
-    (numbered-bind (checkOf bs) _ (check-numbered bs) (λ q.
-    numbered-need 6 _ _ (omega arith) (numbered-bind (readPart (q .arities) third) _ (part-numbered (q .arities) third) (λ R.
-    numbered-need 10 (parallelOutermost R) _ (omega arith) (done _))))) (written-numbered room)
+    (numbered-bind (questionOf bs) _ (check-numbered bs) (λ q.
+    numbered-need 6 _ _ (omega arith) (numbered-bind (readPart (editionOf bs) (numbered (q .arities)) third) _ (part-numbered (editionOf bs) (q .arities) third) (λ R.
+    numbered-need 10 (parallelOutermost R) _ (omega arith) (done _))))) (written-numbered (editionOf bs) room)
+
+pub convert-numbered : (e : Edition) (bs : List ℕ) (room : ℕ) → Numbered (convertOf e bs room)
+unfolding convertOf
+convert-numbered e bs room =
+    numbered-bind (checkIn (other e) bs) _ (check-numbered-in (other e) bs) (λ q. numbered-need 17 (fitsIn e q) _ (omega arith) (written-numbered e room q))
 
 -- An accepted question is not longer than check 4 allows.
-pub accepted-length : (bs : List ℕ) (q : Question) → checkOf bs ≡ result q → length bs ≤ longestQuestion
-unfolding checkOf
-accepted-length bs q e =
-    let (rest, _, e₁) = bind-result (version bs) _ q e in
-    leb-true (length bs) longestQuestion (need-result 4 (leb (length bs) longestQuestion) _ q e₁ .0)
+pub accepted-length-in : (e : Edition) (bs : List ℕ) (q : Question) → checkIn e bs ≡ result q → length bs ≤ longestQuestion
+unfolding checkIn
+accepted-length-in e bs q h =
+    let (rest, _, h₁) = bind-result (version e bs) _ q h in
+    leb-true (length bs) longestQuestion (need-result 4 (leb (length bs) longestQuestion) _ q h₁ .0)
+
+pub accepted-length : (bs : List ℕ) (q : Question) → questionOf bs ≡ result q → length bs ≤ longestQuestion
+unfolding questionOf
+accepted-length bs q h = accepted-length-in (editionOf bs) bs q h

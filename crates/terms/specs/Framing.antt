@@ -5,6 +5,7 @@ use Prim.Native.Nat.{ℕ, zero, suc, _+_, _*_, _/_, _%_}
 use lib.ListN.{length, getD, take, drop}
 use lib.Dec.{leb, eqb}
 use Rattle.terms.specs.Answer.{Answer, refused, result, _>>=_, _>>_, need}
+use Rattle.terms.specs.Edition.{Edition, versionByte}
 
 -- The first n bytes, and those behind them.
 unfoldable pub cut : ℕ → List ℕ → Answer (List ℕ × List ℕ)
@@ -51,10 +52,11 @@ allSized [] = []
 allSized (f ∷ fs) = sized f ++ allSized fs
 
 -- The bytes of a question, the version byte first.
-unfoldable pub joined : Fields → List ℕ
-joined f =
-    1 ∷ length (f .arities) ∷ (f .arities ++ (allSized (f .bodies) ++ (sized (f .first) ++ (sized (f .second) ++ sized (f .apart)))))
+unfoldable pub joined : Edition → Fields → List ℕ
+joined e f =
+    versionByte e
+    ∷ length (f .arities) ∷ (f .arities ++ (allSized (f .bodies) ++ (sized (f .first) ++ (sized (f .second) ++ sized (f .apart)))))
 
 -- What stands before the apart list.
-unfoldable pub beforeApart : Fields → List ℕ
-beforeApart f = 1 ∷ length (f .arities) ∷ (f .arities ++ (allSized (f .bodies) ++ (sized (f .first) ++ sized (f .second))))
+unfoldable pub beforeApart : Edition → Fields → List ℕ
+beforeApart e f = versionByte e ∷ length (f .arities) ∷ (f .arities ++ (allSized (f .bodies) ++ (sized (f .first) ++ sized (f .second))))

@@ -5,7 +5,9 @@ pub mod Limits
 pub mod Answer
 -- the bytes of a term, and names in scope
 pub mod Encoding
--- a term read from its bytes: checks 7, 8 and 9
+-- the two editions: the version byte, and the bytes of a term
+pub mod Edition
+-- a term read from its bytes: checks 7, 8, 16 and 9
 pub mod Reading
 -- checks 10 and 11
 pub mod Grammar

@@ -1,4 +1,5 @@
--- What check, merge and beside answer, and what they leave in the lent result area: document 01, "Turned back" and the end of "Steps".
+-- What check, merge, beside and the converters answer, and what they leave in the lent result area: document 01, "Turned back" and the end of
+-- "Steps"; document 02, request 2026-05. A question may be of either edition, and what is made of it is written in its own.
 use mathlib.Core.Bool.{Bool, false, _&&_, _||_, not}
 use mathlib.Core.List.{List, [], _∷_, _++_}
 use Prim.Native.Nat.{ℕ, _+_}
@@ -8,15 +9,16 @@ use Rattle.calculus.specs.Cond.{Pairs, mapP, join}
 use Rattle.calculus.specs.Term.{Term, par, ren}
 use Rattle.terms.specs.Limits.{nameCount, longestTerm, longestApart}
 use Rattle.terms.specs.Answer.{Answer, refused, result, _>>=_, _>>_, need}
-use Rattle.terms.specs.Encoding.{encode}
+use Rattle.terms.specs.Edition.{Edition, other, encodeIn}
+use Rattle.terms.specs.Reading.{numbered}
 use Rattle.terms.specs.Framing.{Fields}
 use Rattle.terms.specs.Grammar.{parallelOutermost}
-use Rattle.terms.specs.Question.{Question, fits, readPart, differentNames, checkOf, pairBytes, write}
+use Rattle.terms.specs.Question.{Question, fits, readPart, differentNames, checkIn, editionOf, questionOf, pairBytes, writeIn, fitsIn}
 
 -- Check answers 0 where it turns nothing back.
 unfoldable pub checkAnswer : List ℕ → Answer ℕ
 checkAnswer question = do
-  q ← checkOf question
+  q ← questionOf question
   result 0
 
 -- The apart list holds a and b apart; the order of a pair means nothing.
@@ -38,7 +40,7 @@ mergedQuestion a b q =
 -- Checks 3 to 12, then 14.
 unfoldable pub merged : List ℕ → ℕ → ℕ → Answer Question
 merged question a b = do
-  q ← checkOf question
+  q ← questionOf question
   need 14 (ltb a nameCount && ltb b nameCount && not (holdsApart (q .apart) a b))
   result (mergedQuestion a b q)
 
@@ -54,15 +56,15 @@ besideQuestion R q =
     }
 
 -- A side as long as P, byte 07 before it and the third part behind it, does not pass the limit of check 6.
-unfoldable pub fitsBeside : List ℕ → Term → Bool
-fitsBeside third P = leb (1 + length (encode 0 P) + length third) longestTerm
+unfoldable pub fitsBeside : Edition → List ℕ → Term → Bool
+fitsBeside e third P = leb (1 + length (encodeIn e 0 P) + length third) longestTerm
 
--- Checks 3 to 12, then 6 to 10 of the third part.
+-- Checks 3 to 12, then 6 to 10 of the third part, which comes in the question's own edition.
 unfoldable pub placedBeside : List ℕ → List ℕ → Answer Question
 placedBeside question third = do
-  q ← checkOf question
-  need 6 (fits third && fitsBeside third (q .first) && fitsBeside third (q .second))
-  R ← readPart (q .arities) third
+  q ← questionOf question
+  need 6 (fits third && fitsBeside (editionOf question) third (q .first) && fitsBeside (editionOf question) third (q .second))
+  R ← readPart (editionOf question) (numbered (q .arities)) third
   need 10 (parallelOutermost R)
   result (besideQuestion R q)
 
@@ -91,18 +93,26 @@ declaredQuestion a b q =
 unfoldable pub mayDeclare : ℕ → ℕ → Question → Bool
 mayDeclare a b q = leb (length (pairBytes (q .apart)) + 2) longestApart && differentNames a b
 
--- Check 15, last: the question is written if the result area holds it.
-unfoldable pub writtenWithin : ℕ → Question → Answer (List ℕ)
-writtenWithin room q = need 15 (leb (length (write q)) room) >> result (write q)
+-- Check 15, last: the question is written, in an edition, if the result area holds it.
+unfoldable pub writtenWithin : Edition → ℕ → Question → Answer (List ℕ)
+writtenWithin e room q = need 15 (leb (length (writeIn e q)) room) >> result (writeIn e q)
 
--- The bytes that merge and beside write into a result area of `room` bytes.
+-- The bytes that merge and beside write into a result area of `room` bytes, in the question's own edition.
 unfoldable pub mergeOf : List ℕ → ℕ → ℕ → ℕ → Answer (List ℕ)
-mergeOf question a b room = merged question a b >>= writtenWithin room
+mergeOf question a b room = merged question a b >>= writtenWithin (editionOf question) room
 
 unfoldable pub besideOf : List ℕ → List ℕ → ℕ → Answer (List ℕ)
-besideOf question third room = placedBeside question third >>= writtenWithin room
+besideOf question third room = placedBeside question third >>= writtenWithin (editionOf question) room
 
--- What merge and beside answer: the length written.
+-- The converter that writes edition e: check 3 fires for this edition too, then 4 to 12; 17 where a body or part is above 112 bytes once
+-- converted; 15.
+unfoldable pub convertOf : Edition → List ℕ → ℕ → Answer (List ℕ)
+convertOf e question room = do
+  q ← checkIn (other e) question
+  need 17 (fitsIn e q)
+  writtenWithin e room q
+
+-- What merge, beside and the converters answer: the length written.
 unfoldable pub lengthWritten : Answer (List ℕ) → Answer ℕ
 lengthWritten r = do
   bs ← r

@@ -1,4 +1,4 @@
--- A question: checks 3 to 12 of document 01 in their order, and its bytes.
+-- A question: checks 3 to 12 of document 01, with 16 of document 02, in their order, and its bytes in either edition.
 use mathlib.Core.Bool.{Bool, true, false, _&&_, not}
 use mathlib.Core.List.{List, [], _∷_, _++_}
 use Prim.Native.Nat.{ℕ}
@@ -9,7 +9,8 @@ use Rattle.calculus.specs.Term.{Term}
 use Rattle.terms.specs.Limits.{nameCount, longestQuestion, mostDefinitions, greatestArity, longestTerm, longestApart}
 use Rattle.terms.specs.Answer.{Answer, refused, result, _>>=_, _>>_, need}
 use Rattle.terms.specs.Encoding.{encode}
-use Rattle.terms.specs.Reading.{readWhole}
+use Rattle.terms.specs.Edition.{Edition, one, two, versionByte, encodeIn}
+use Rattle.terms.specs.Reading.{Callees, numbered, readWhole}
 use Rattle.terms.specs.Grammar.{sequential, parallelOutermost, guarded}
 use Rattle.terms.specs.Framing.{Fields, framed, joined}
 use lib.ListN.{getD}
@@ -28,27 +29,27 @@ module _ {A : Type 0} where
   all p [] = true
   all p (x ∷ xs) = p x && all p xs
 
--- Check 3: the version byte; the bytes behind it.
-unfoldable pub version : List ℕ → Answer (List ℕ)
-version [] = refused 3
-version (b ∷ bs) = need 3 (eqb b 1) >> result bs
+-- Check 3, of a question that must be of this edition: the version byte; the bytes behind it.
+unfoldable pub version : Edition → List ℕ → Answer (List ℕ)
+version e [] = refused 3
+version e (b ∷ bs) = need 3 (eqb b (versionByte e)) >> result bs
 
 -- Check 6.
 unfoldable pub fits : List ℕ → Bool
 fits bs = leb 1 (length bs) && leb (length bs) longestTerm
 
 -- Checks 7 to 9 over the bodies: a body's parameters are its outermost binders, and no name is free in it.
-unfoldable pub readBodies : List ℕ → List ℕ → List (List ℕ) → Answer (List Term)
-readBodies arities (a ∷ as′) (b ∷ bs) = do
-  P ← readWhole 0 arities a b
-  Ps ← readBodies arities as′ bs
+unfoldable pub readBodies : Edition → Callees → List ℕ → List (List ℕ) → Answer (List Term)
+readBodies e callees (a ∷ as′) (b ∷ bs) = do
+  P ← readWhole e callees 0 a b
+  Ps ← readBodies e callees as′ bs
   result (P ∷ Ps)
-readBodies arities (a ∷ as′) [] = result []
-readBodies arities [] bs = result []
+readBodies e callees (a ∷ as′) [] = result []
+readBodies e callees [] bs = result []
 
 -- Checks 7 to 9 over a part.
-unfoldable pub readPart : List ℕ → List ℕ → Answer Term
-readPart arities bs = readWhole nameCount arities 0 bs
+unfoldable pub readPart : Edition → Callees → List ℕ → Answer Term
+readPart e callees bs = readWhole e callees nameCount 0 bs
 
 -- Check 12.
 unfoldable pub differentNames : ℕ → ℕ → Bool
@@ -66,40 +67,75 @@ unfoldable pub readApart : List ℕ → Answer Pairs
 readApart bs = need 12 (leb (length bs) longestApart) >> readPairs bs
 
 -- Checks 7 to 12, over the fields that checks 4 to 6 have passed.
-unfoldable pub checkTerms : Fields → Answer Question
-checkTerms f = do
-  bodies ← readBodies (f .arities) (f .arities) (f .bodies)
-  first ← readPart (f .arities) (f .first)
-  second ← readPart (f .arities) (f .second)
+unfoldable pub checkTerms : Edition → Fields → Answer Question
+checkTerms e f = do
+  bodies ← readBodies e (numbered (f .arities)) (f .arities) (f .bodies)
+  first ← readPart e (numbered (f .arities)) (f .first)
+  second ← readPart e (numbered (f .arities)) (f .second)
   need 10 (all sequential bodies && parallelOutermost first && parallelOutermost second)
   need 11 (all guarded bodies)
   apart ← readApart (f .apart)
   result (record { arities = f .arities; bodies = bodies; first = first; second = second; apart = apart })
 
--- Checks 5 to 12.
-unfoldable pub checkFields : Fields → Answer Question
-checkFields f = do
+-- Checks 5 to 12. Check 6 goes by the bytes of the file.
+unfoldable pub checkFields : Edition → Fields → Answer Question
+checkFields e f = do
   need 5 (leb (length (f .arities)) mostDefinitions && all (λ a. leb a greatestArity) (f .arities))
   need 6 (all fits (f .bodies) && fits (f .first) && fits (f .second))
-  checkTerms f
+  checkTerms e f
 
--- Checks 3 to 12, in their order.
-unfoldable pub checkOf : List ℕ → Answer Question
-checkOf question = do
-  rest ← version question
+-- Checks 3 to 12, in their order, of a question that must be of this edition.
+unfoldable pub checkIn : Edition → List ℕ → Answer Question
+checkIn e question = do
+  rest ← version e question
   need 4 (leb (length question) longestQuestion)
   f ← framed rest
-  checkFields f
+  checkFields e f
 
--- The bytes of a question.
-unfoldable pub bodyFields : List ℕ → List Term → List (List ℕ)
-bodyFields (a ∷ as′) (P ∷ Ps) = encode a P ∷ bodyFields as′ Ps
-bodyFields (a ∷ as′) [] = []
-bodyFields [] Ps = []
+-- Those of edition one, whose bytes are what the lister and the judge walk.
+unfoldable pub checkOf : List ℕ → Answer Question
+checkOf question = checkIn one question
+
+-- The edition that a question's first byte says; of one that says none, check 3 is the first to fire in either.
+unfoldable pub editionOf : List ℕ → Edition
+editionOf question = elim (eqb (getD question 0 0) 2) [ true ↦ two | false ↦ one ]
+
+-- Checks 3 to 12 of a question in its own edition.
+unfoldable pub questionOf : List ℕ → Answer Question
+questionOf question = checkIn (editionOf question) question
+
+-- The bytes of a question in an edition.
+unfoldable pub bodyFieldsIn : Edition → List ℕ → List Term → List (List ℕ)
+bodyFieldsIn e (a ∷ as′) (P ∷ Ps) = encodeIn e a P ∷ bodyFieldsIn e as′ Ps
+bodyFieldsIn e (a ∷ as′) [] = []
+bodyFieldsIn e [] Ps = []
 
 unfoldable pub pairBytes : Pairs → List ℕ
 pairBytes [] = []
 pairBytes (p ∷ D) = p .0 ∷ p .1 ∷ pairBytes D
+
+unfoldable pub fieldsIn : Edition → Question → Fields
+fieldsIn e q =
+    record {
+      arities = q .arities;
+      bodies = bodyFieldsIn e (q .arities) (q .bodies);
+      first = encodeIn e 0 (q .first);
+      second = encodeIn e 0 (q .second);
+      apart = pairBytes (q .apart);
+    }
+
+unfoldable pub writeIn : Edition → Question → List ℕ
+writeIn e q = joined e (fieldsIn e q)
+
+-- No body or part is above 112 bytes in this edition.
+unfoldable pub fitsIn : Edition → Question → Bool
+fitsIn e q = all fits (bodyFieldsIn e (q .arities) (q .bodies)) && fits (encodeIn e 0 (q .first)) && fits (encodeIn e 0 (q .second))
+
+-- In edition one, by `encode`.
+unfoldable pub bodyFields : List ℕ → List Term → List (List ℕ)
+bodyFields (a ∷ as′) (P ∷ Ps) = encode a P ∷ bodyFields as′ Ps
+bodyFields (a ∷ as′) [] = []
+bodyFields [] Ps = []
 
 unfoldable pub fieldsOf : Question → Fields
 fieldsOf q =
@@ -112,7 +148,7 @@ fieldsOf q =
     }
 
 unfoldable pub write : Question → List ℕ
-write q = joined (fieldsOf q)
+write q = joined one (fieldsOf q)
 
 -- the body of definition k (from 0)
 unfoldable pub bodyOf : List Term → ℕ → Term

@@ -1,4 +1,5 @@
--- Reading a term from its bytes: checks 7, 8 and 9 of document 01 in one walk from left to right, where the first fault decides.
+-- Reading a term from its bytes: checks 7, 8, 16 and 9 in one walk from left to right, where the first fault decides. The edition and the rule
+-- for what may be called are parameters.
 use mathlib.Core.Bool.{Bool, cond, _&&_}
 use mathlib.Core.List.{List, [], _∷_}
 use Prim.Native.Nat.{ℕ, zero, suc, _+_, _-_}
@@ -6,6 +7,7 @@ use lib.ListN.{length, getD}
 use lib.Dec.{ltb, leb, eqb}
 use Rattle.calculus.specs.Term.{Term, nil, tau, inp, out, bout, mat, sum, par, res, call}
 use Rattle.terms.specs.Answer.{Answer, refused, result, _>>=_, _>>_, need}
+use Rattle.terms.specs.Edition.{Edition, one, two}
 
 -- The next byte and those behind it. Wherever a byte is missing, the part ends inside its term: check 7.
 unfoldable pub byte : List ℕ → Answer (ℕ × List ℕ)
@@ -25,6 +27,23 @@ readNames free d (suc n) bs = do
   (ns, bs) ← readNames free d n bs
   result (a ∷ ns, bs)
 
+-- What the walk says of a call of definition k: the check that turns it back, or the number of its names.
+abbrev pub Callees : Type 0
+Callees = ℕ → Answer ℕ
+
+-- Check 8: definitions by their number, each with its arity.
+unfoldable pub numbered : List ℕ → Callees
+numbered arities k = need 8 (ltb k (length arities)) >> result (getD arities k 0)
+
+-- Check 16, directly behind the definition's number: in edition two the number of names is written, and is the arity. Where it is missing, the
+-- part ends inside its term (7).
+unfoldable pub readCount : Edition → ℕ → List ℕ → Answer (List ℕ)
+readCount one n bs = result bs
+readCount two n bs = do
+  (b, bs) ← byte bs
+  need 16 (eqb b n)
+  result bs
+
 -- What the byte where a term begins stands for.
 pub data Tag : Type 0 where
   inaction silent input output newOutput match choice parallel restriction calling unknown : Tag
@@ -35,7 +54,7 @@ tagOf b =
 
 -- The term under d binders with which the bytes begin, and the bytes behind it. The number that falls bounds the bytes left: a term takes at
 -- least one, so where it is 0 there is no byte left.
-module _ (free : ℕ) (arities : List ℕ) where
+module _ (e : Edition) (callees : Callees) (free : ℕ) where
   unfoldable pub readTerm : ℕ → ℕ → List ℕ → Answer (Term × List ℕ)
   readTerm zero d bs = refused 7
   readTerm (suc n) d bs = do
@@ -76,8 +95,9 @@ module _ (free : ℕ) (arities : List ℕ) where
         result (res P, bs)
       | calling ↦ do
         (k, bs) ← byte bs
-        need 8 (ltb k (length arities))
-        (ns, bs) ← readNames free d (getD arities k 0) bs
+        m ← callees k
+        bs ← readCount e m bs
+        (ns, bs) ← readNames free d m bs
         result (call k ns, bs)
       | unknown ↦ refused 7
     ]

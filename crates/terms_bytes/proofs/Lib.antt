@@ -1,3 +1,4 @@
+pub mod CountedLaws
 pub mod Heights
 pub mod NameTables
 pub mod Places

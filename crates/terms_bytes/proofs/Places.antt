@@ -10,6 +10,7 @@ use lib.Seq.{drop-drop, drop-append-seam, take-append-seam, drop-cons}
 use lib.Dec.{leb}
 use borrow.Author.Tests.{leb-true, leb-false, le-leb, lt-leb}
 use Rattle.terms_bytes.specs.FieldPlaces.{definitionsOf, aritiesOf, sizeAt, afterField, fieldAt, fieldPlace}
+use Rattle.terms.specs.Edition.{Edition, versionByte}
 use Rattle.terms.specs.Framing.{Fields, sized, allSized, joined}
 use Rattle.terms.proofs.Answers.{Every}
 use Rattle.terms.proofs.FramingLaws.{Framable}
@@ -96,9 +97,9 @@ unfolding allSized
 all-sized-append [] ys = refl
 all-sized-append (x ∷ xs) ys = rw (all-sized-append xs ys) (sym (append-assoc (sized x) (allSized xs) (allSized ys)))
 
-pub joined-fields : (f : Fields) → joined f ≡ 1 ∷ length (f .arities) ∷ (f .arities ++ allSized (allFields f))
+pub joined-fields : (e : Edition) (f : Fields) → joined e f ≡ versionByte e ∷ length (f .arities) ∷ (f .arities ++ allSized (allFields f))
 unfolding joined allFields allSized
-joined-fields f = rw (all-sized-append, append-nil)
+joined-fields e f = rw (all-sized-append, append-nil)
 
 every-append : {A : Type 0} (T : A → Type 0) (xs ys : List A) → Every T xs → Every T ys → Every T (xs ++ ys)
 unfolding Every
@@ -111,24 +112,24 @@ every-at T a [] h k lt = absurd (not-suc-le-zero lt)
 every-at T a (x ∷ xs) h zero lt = h .0
 every-at T a (x ∷ xs) h (suc k) lt = every-at T a xs (h .1) k (le-of-suc-le-suc lt)
 
-module _ (f : Fields) (framable : Framable f) where
-  pub definitions-of : definitionsOf (joined f) ≡ length (f .arities)
+module _ (e : Edition) (f : Fields) (framable : Framable f) where
+  pub definitions-of : definitionsOf (joined e f) ≡ length (f .arities)
   unfolding definitionsOf
-  definitions-of = rw (joined-fields f)
+  definitions-of = rw (joined-fields e f)
 
-  pub arities-of : aritiesOf (joined f) ≡ f .arities
+  pub arities-of : aritiesOf (joined e f) ≡ f .arities
   unfolding aritiesOf
   arities-of =
-      let n : length (joined f) ≡ 2 + length (f .arities ++ allSized (allFields f)) = ap length (joined-fields f) ∙ omega arith in
+      let n : length (joined e f) ≡ 2 + length (f .arities ++ allSized (allFields f)) = ap length (joined-fields e f) ∙ omega arith in
       rw (
         definitions-of,
-        le-leb (2 + length (f .arities)) (length (joined f)) (omega (arith, n, length-append (f .arities) (allSized (allFields f)))),
-        joined-fields f,
+        le-leb (2 + length (f .arities)) (length (joined e f)) (omega (arith, n, length-append (f .arities) (allSized (allFields f)))),
+        joined-fields e f,
         take-append-seam,
       )
 
-  behind-arities : drop (2 + definitionsOf (joined f)) (joined f) ≡ allSized (allFields f)
-  behind-arities = rw (definitions-of, ← drop-drop, joined-fields f) (drop-append-seam (f .arities) (allSized (allFields f)))
+  behind-arities : drop (2 + definitionsOf (joined e f)) (joined e f) ≡ allSized (allFields f)
+  behind-arities = rw (definitions-of, ← drop-drop, joined-fields e f) (drop-append-seam (f .arities) (allSized (allFields f)))
 
   small : (k : ℕ) → k < length (allFields f) → length (getD (allFields f) k []) < 65536
   unfolding allFields Every
@@ -137,18 +138,18 @@ module _ (f : Fields) (framable : Framable f) where
       (framable .first, (framable .second, (framable .apart, tt))))
 
   -- Field k stands at its place, with those that follow it behind.
-  pub at-place : (k : ℕ) → k ≤ length (allFields f) → drop (fieldPlace (joined f) k) (joined f) ≡ allSized (drop k (allFields f))
+  pub at-place : (k : ℕ) → k ≤ length (allFields f) → drop (fieldPlace (joined e f) k) (joined e f) ≡ allSized (drop k (allFields f))
   unfolding fieldPlace allSized
   at-place zero h = behind-arities
   at-place (suc k) h =
-      behind-of (joined f) (fieldPlace (joined f) k) (getD (allFields f) k []) (allSized (drop (suc k) (allFields f))) (small k h)
+      behind-of (joined e f) (fieldPlace (joined e f) k) (getD (allFields f) k []) (allSized (drop (suc k) (allFields f))) (small k h)
       (at-place k (omega arith) ∙ ap allSized (drop-cons (allFields f) k [] h))
 
   pub field-at-place : (k : ℕ) → k < length (allFields f)
-      → drop (fieldPlace (joined f) k) (joined f) ≡ sized (getD (allFields f) k []) ++ allSized (drop (suc k) (allFields f))
+      → drop (fieldPlace (joined e f) k) (joined e f) ≡ sized (getD (allFields f) k []) ++ allSized (drop (suc k) (allFields f))
   unfolding allSized
   field-at-place k h = at-place k (omega arith) ∙ ap allSized (drop-cons (allFields f) k [] h)
 
-  pub field-is : (k : ℕ) → k < length (allFields f) → fieldAt (joined f) (fieldPlace (joined f) k) ≡ getD (allFields f) k []
+  pub field-is : (k : ℕ) → k < length (allFields f) → fieldAt (joined e f) (fieldPlace (joined e f) k) ≡ getD (allFields f) k []
   field-is k h =
-      field-of (joined f) (fieldPlace (joined f) k) (getD (allFields f) k []) (allSized (drop (suc k) (allFields f))) (small k h) (field-at-place k h)
+      field-of (joined e f) (fieldPlace (joined e f) k) (getD (allFields f) k []) (allSized (drop (suc k) (allFields f))) (small k h) (field-at-place k h)

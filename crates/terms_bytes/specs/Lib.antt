@@ -1,3 +1,4 @@
+pub mod Counted
 pub mod FieldPlaces
 pub mod NameTable
 pub mod Shape

@@ -9,12 +9,13 @@ use lib.Dec.{leb}
 use borrow.Author.Tests.{le-leb, lt-leb, lt-ltb, le-ltb, eq-eqb, ne-eqb}
 use Rattle.calculus.specs.Cond.{Pairs}
 use Rattle.calculus.specs.Term.{Term}
+use Rattle.terms.specs.Edition.{Edition}
 use Rattle.terms.specs.Answer.{Answer, refused, result, _>>=_, _>>_, need}
 use Rattle.terms_checks.specs.Checking.{zeroFor, fieldsFrom, met, controlOfAll, bodiesScanned}
 use Rattle.terms_bytes.specs.FieldPlaces.{afterField, fieldAt}
 use Rattle.terms.specs.Limits.{nameCount, longestTerm, longestApart}
 use Rattle.terms.specs.Question.{all, fits, differentNames, readBodies, readPairs, readApart}
-use Rattle.terms.specs.Reading.{readWhole}
+use Rattle.terms.specs.Reading.{numbered, readWhole}
 use Rattle.terms_checks.specs.Scanning.{controlOf, passing, scannedWhole, wholeAnswer}
 use Rattle.terms_checks.specs.declared.scan.Control.{Control}
 use Rattle.terms_checks.specs.declared.scan.Scan.the-variants.{End, Fault}
@@ -125,10 +126,10 @@ unfolding readApart zeroFor need _>>_ _>>=_
 apart-long s h = rw (lt-leb (length s) longestApart h)
 
 -- Checks 7 to 9 of the bodies, one after another.
-bodies-step : (arities : List ℕ) (a : ℕ) (sizes b : List ℕ) (bs : List (List ℕ)) → bodiesScanned arities (a ∷ sizes) (b ∷ bs)
-    ≡ (scannedWhole 0 arities a b >>= λ p. (bodiesScanned arities sizes bs >>= λ q. result (met p q)))
+bodies-step : (ed : Edition) (arities : List ℕ) (a : ℕ) (sizes b : List ℕ) (bs : List (List ℕ)) → bodiesScanned ed arities (a ∷ sizes) (b ∷ bs)
+    ≡ (scannedWhole ed 0 arities a b >>= λ p. (bodiesScanned ed arities sizes bs >>= λ q. result (met p q)))
 unfolding bodiesScanned scannedWhole readBodies controlOfAll _>>=_
-bodies-step arities a sizes b bs = go (readWhole 0 arities a b) (readBodies arities sizes bs)
+bodies-step ed arities a sizes b bs = go (readWhole ed (numbered arities) 0 a b) (readBodies ed (numbered arities) sizes bs)
   where
     go : (m : Answer Term) (n : Answer (List Term)) →
         ((m >>= λ P. (n >>= λ Ps. result (P ∷ Ps))) >>= λ Ps. result (controlOfAll Ps))
@@ -137,9 +138,9 @@ bodies-step arities a sizes b bs = go (readWhole 0 arities a b) (readBodies arit
     go (result P) (refused k) = refl
     go (result P) (result Ps) = refl
 
-module _ (s list : List ℕ) (i at : ℕ) where
+module _ (ed : Edition) (s list : List ℕ) (i at : ℕ) where
   abbrev bodiesLeft : Answer Control
-  bodiesLeft = bodiesScanned list (drop i list) (fieldsFrom s at (length (drop i list)))
+  bodiesLeft = bodiesScanned ed list (drop i list) (fieldsFrom s at (length (drop i list)))
 
   pub bodies-none : length list ≤ i → bodiesLeft ≡ wholeAnswer (End at passing)
   unfolding bodiesScanned readBodies controlOfAll wholeAnswer fieldsFrom _>>=_
@@ -147,17 +148,17 @@ module _ (s list : List ℕ) (i at : ℕ) where
 
   module _ (h : i < length list) where
     abbrev later : Answer Control
-    later = bodiesScanned list (drop (i + 1) list) (fieldsFrom s (afterField s at) (length (drop (i + 1) list)))
+    later = bodiesScanned ed list (drop (i + 1) list) (fieldsFrom s (afterField s at) (length (drop (i + 1) list)))
 
-    one-more : bodiesLeft ≡ (scannedWhole 0 list (getD list i 0) (fieldAt s at) >>= λ p. (later >>= λ q. result (met p q)))
+    one-more : bodiesLeft ≡ (scannedWhole ed 0 list (getD list i 0) (fieldAt s at) >>= λ p. (later >>= λ q. result (met p q)))
     unfolding fieldsFrom
-    one-more = rw (drop-here list i h) (bodies-step list (getD list i 0) (drop (i + 1) list) (fieldAt s at) _)
+    one-more = rw (drop-here list i h) (bodies-step ed list (getD list i 0) (drop (i + 1) list) (fieldAt s at) _)
 
-    pub bodies-fault : (k : ℕ) → scannedWhole 0 list (getD list i 0) (fieldAt s at) ≡ wholeAnswer (Fault k) → bodiesLeft ≡ wholeAnswer (Fault k)
+    pub bodies-fault : (k : ℕ) → scannedWhole ed 0 list (getD list i 0) (fieldAt s at) ≡ wholeAnswer (Fault k) → bodiesLeft ≡ wholeAnswer (Fault k)
     unfolding wholeAnswer
     bodies-fault k e = one-more ∙ bind-refused _ e
 
-    module _ (e : ℕ) (p : Control) (one : scannedWhole 0 list (getD list i 0) (fieldAt s at) ≡ wholeAnswer (End e p)) where
+    module _ (e : ℕ) (p : Control) (one : scannedWhole ed 0 list (getD list i 0) (fieldAt s at) ≡ wholeAnswer (End e p)) where
       pub bodies-later-fault : (k : ℕ) → later ≡ wholeAnswer (Fault k) → bodiesLeft ≡ wholeAnswer (Fault k)
       unfolding wholeAnswer
       bodies-later-fault k w = one-more ∙ bind-to _ one ∙ bind-refused _ w

@@ -6,23 +6,25 @@ use Prim.Native.Nat.{ℕ}
 use lib.ListN.{length, drop}
 use Rattle.terms_checks.specs.Checking.{fieldsFrom, firstPlace, secondPlace, apartPlace, fieldsAt, bodiesScanned, partsScanned}
 use Rattle.terms_bytes.specs.FieldPlaces.{aritiesOf, afterField, fieldAt, fieldPlace}
+use Rattle.terms.specs.Edition.{Edition}
 use Rattle.terms.specs.Question.{all, fits}
 use Rattle.terms_checks.specs.Scanning.{wholeAnswer}
 use Rattle.terms_checks.specs.declared.scan.Scan.{Scan}
 
-module _ (s list : List ℕ) (is : list ≡ aritiesOf s) where
+module _ (ed : Edition) (s list : List ℕ) (is : list ≡ aritiesOf s) where
   pub bodies-at : (at : ℕ) (r : Scan) → at ≡ fieldPlace s 0 →
-      bodiesScanned list (drop 0 list) (fieldsFrom s at (length (drop 0 list))) ≡ wholeAnswer r →
-      bodiesScanned (fieldsAt s .arities) (fieldsAt s .arities) (fieldsAt s .bodies) ≡ wholeAnswer r
+      bodiesScanned ed list (drop 0 list) (fieldsFrom s at (length (drop 0 list))) ≡ wholeAnswer r →
+      bodiesScanned ed (fieldsAt s .arities) (fieldsAt s .arities) (fieldsAt s .bodies) ≡ wholeAnswer r
   unfolding fieldsAt
   bodies-at at r p e = rw (← is, ← p) e
 
   pub parts-at : (first : ℕ) (r : Scan) → first ≡ firstPlace s →
-      partsScanned list (fieldAt s first) (fieldAt s (afterField s first)) ≡ wholeAnswer r →
-      partsScanned (fieldsAt s .arities) (fieldsAt s .first) (fieldsAt s .second) ≡ wholeAnswer r
+      partsScanned ed list (fieldAt s first) (fieldAt s (afterField s first)) ≡ wholeAnswer r →
+      partsScanned ed (fieldsAt s .arities) (fieldsAt s .first) (fieldsAt s .second) ≡ wholeAnswer r
   unfolding fieldsAt secondPlace
   parts-at first r p e = rw (← is, ← p) e
 
+module _ (s list : List ℕ) (is : list ≡ aritiesOf s) where
   pub arities-at : fieldsAt s .arities ≡ list
   unfolding fieldsAt
   arities-at = sym is

@@ -8,13 +8,14 @@ use lib.Dec.{leb}
 use borrow.Author.Tests.{le-leb, lt-leb}
 use Rattle.calculus.specs.Cond.{Pairs}
 use Rattle.calculus.specs.Term.{Term}
+use Rattle.terms.specs.Edition.{Edition}
 use Rattle.terms.specs.Answer.{Answer, refused, result, _>>=_, _>>_, need}
-use Rattle.terms_checks.specs.Checking.{checkedAnswer, zeroFor, met, controlOfAll, bodiesScanned, partsScanned, ofBoth, termsScanned}
+use Rattle.terms_checks.specs.Checking.{checkedAnswer, zeroFor, allFit, met, controlOfAll, bodiesScanned, partsScanned, ofBoth, termsScanned}
 use Rattle.terms.specs.Framing.{Fields}
 use Rattle.terms.specs.Grammar.{sequential, parallelOutermost, guarded}
 use Rattle.terms.specs.Limits.{nameCount, mostDefinitions, greatestArity}
 use Rattle.terms.specs.Question.{Question, all, fits, readBodies, readPart, readApart, checkTerms, checkFields}
-use Rattle.terms.specs.Reading.{readWhole}
+use Rattle.terms.specs.Reading.{numbered, readWhole}
 use Rattle.terms_checks.specs.Scanning.{controlOf, passing, scannedWhole, wholeAnswer}
 use Rattle.terms_checks.specs.declared.check.Checked.the-variants.{Accepted, Refused}
 use Rattle.terms_checks.specs.declared.scan.Control.{Control}
@@ -22,11 +23,11 @@ use Rattle.terms_checks.specs.declared.scan.Scan.the-variants.{End, Faul
 use Rattle.terms.proofs.Answers.{bind-to, bind-refused}
 
 -- Both parts.
-module _ (arities first second : List ℕ) where
-  parts-step : partsScanned arities first second
-      ≡ (scannedWhole nameCount arities 0 first >>= λ p. (scannedWhole nameCount arities 0 second >>= λ q. result (met p q)))
+module _ (ed : Edition) (arities first second : List ℕ) where
+  parts-step : partsScanned ed arities first second
+      ≡ (scannedWhole ed nameCount arities 0 first >>= λ p. (scannedWhole ed nameCount arities 0 second >>= λ q. result (met p q)))
   unfolding partsScanned scannedWhole readPart _>>=_
-  parts-step = go (readWhole nameCount arities 0 first) (readWhole nameCount arities 0 second)
+  parts-step = go (readWhole ed (numbered arities) nameCount 0 first) (readWhole ed (numbered arities) nameCount 0 second)
     where
       go : (m n : Answer Term) → (m >>= λ P. (n >>= λ Q. result (met (controlOf P) (controlOf Q))))
           ≡ ((m >>= λ P. result (controlOf P)) >>= λ p. ((n >>= λ Q. result (controlOf Q)) >>= λ q. result (met p q)))
@@ -34,34 +35,34 @@ module _ (arities first second : List ℕ) where
       go (result P) (refused k) = refl
       go (result P) (result Q) = refl
 
-  pub first-fault : (k : ℕ) → scannedWhole nameCount arities 0 first ≡ wholeAnswer (Fault k) → partsScanned arities first second ≡ wholeAnswer (Fault k)
+  pub first-fault : (k : ℕ) → scannedWhole ed nameCount arities 0 first ≡ wholeAnswer (Fault k) → partsScanned ed arities first second ≡ wholeAnswer (Fault k)
   unfolding wholeAnswer
   first-fault k e = parts-step ∙ bind-refused _ e
 
-  module _ (l : ℕ) (p : Control) (one : scannedWhole nameCount arities 0 first ≡ wholeAnswer (End l p)) where
-    pub second-fault : (k : ℕ) → scannedWhole nameCount arities 0 second ≡ wholeAnswer (Fault k) →
-        partsScanned arities first second ≡ wholeAnswer (Fault k)
+  module _ (l : ℕ) (p : Control) (one : scannedWhole ed nameCount arities 0 first ≡ wholeAnswer (End l p)) where
+    pub second-fault : (k : ℕ) → scannedWhole ed nameCount arities 0 second ≡ wholeAnswer (Fault k) →
+        partsScanned ed arities first second ≡ wholeAnswer (Fault k)
     unfolding wholeAnswer
     second-fault k e = parts-step ∙ bind-to _ one ∙ bind-refused _ e
 
-    pub parts-both : (l₁ l₂ : ℕ) (q c : Control) → scannedWhole nameCount arities 0 second ≡ wholeAnswer (End l₁ q) → c ≡ met p q →
-        partsScanned arities first second ≡ wholeAnswer (End l₂ c)
+    pub parts-both : (l₁ l₂ : ℕ) (q c : Control) → scannedWhole ed nameCount arities 0 second ≡ wholeAnswer (End l₁ q) → c ≡ met p q →
+        partsScanned ed arities first second ≡ wholeAnswer (End l₂ c)
     unfolding wholeAnswer
     parts-both l₁ l₂ q c e m = parts-step ∙ bind-to _ one ∙ bind-to _ e ∙ rw m
 
 -- All terms.
-module _ (f : Fields) where
-  pub bodies-wrong : (k : ℕ) → bodiesScanned (f .arities) (f .arities) (f .bodies) ≡ wholeAnswer (Fault k) → termsScanned f ≡ wholeAnswer (Fault k)
+module _ (ed : Edition) (f : Fields) where
+  pub bodies-wrong : (k : ℕ) → bodiesScanned ed (f .arities) (f .arities) (f .bodies) ≡ wholeAnswer (Fault k) → termsScanned ed f ≡ wholeAnswer (Fault k)
   unfolding termsScanned wholeAnswer
   bodies-wrong k e = bind-refused _ e
 
-  module _ (l : ℕ) (p : Control) (bodies : bodiesScanned (f .arities) (f .arities) (f .bodies) ≡ wholeAnswer (End l p)) where
-    pub parts-wrong : (k : ℕ) → partsScanned (f .arities) (f .first) (f .second) ≡ wholeAnswer (Fault k) → termsScanned f ≡ wholeAnswer (Fault k)
+  module _ (l : ℕ) (p : Control) (bodies : bodiesScanned ed (f .arities) (f .arities) (f .bodies) ≡ wholeAnswer (End l p)) where
+    pub parts-wrong : (k : ℕ) → partsScanned ed (f .arities) (f .first) (f .second) ≡ wholeAnswer (Fault k) → termsScanned ed f ≡ wholeAnswer (Fault k)
     unfolding termsScanned wholeAnswer
     parts-wrong k e = bind-to _ bodies ∙ bind-refused _ e
 
-    pub terms-right : (l₁ l₂ : ℕ) (q : Control) → partsScanned (f .arities) (f .first) (f .second) ≡ wholeAnswer (End l₁ q) →
-        termsScanned f ≡ wholeAnswer (End l₂ (record { sequential = p .sequential; outermost = q .outermost; guarded = p .guarded }))
+    pub terms-right : (l₁ l₂ : ℕ) (q : Control) → partsScanned ed (f .arities) (f .first) (f .second) ≡ wholeAnswer (End l₁ q) →
+        termsScanned ed f ≡ wholeAnswer (End l₂ (record { sequential = p .sequential; outermost = q .outermost; guarded = p .guarded }))
     unfolding termsScanned wholeAnswer ofBoth
     terms-right l₁ l₂ q e = bind-to _ bodies ∙ bind-to _ e
 
@@ -84,7 +85,7 @@ and-assoc false y z = refl
 unfoldable pub behindTerms : List ℕ → Control → Answer ℕ
 behindTerms apart c = need 10 (c .sequential && c .outermost) >> (need 11 (c .guarded) >> zeroFor (readApart apart))
 
-module _ (f : Fields) where
+module _ (ed : Edition) (f : Fields) where
   abbrev made : List Term → Term → Term → Pairs → Answer Question
   made B P Q D = result (record { arities = f .arities; bodies = B; first = P; second = Q; apart = D })
 
@@ -96,9 +97,9 @@ module _ (f : Fields) where
   tests-same true true (refused k) B P Q = refl
   tests-same true true (result D) B P Q = refl
 
-  pub terms-first : zeroFor (checkTerms f) ≡ (termsScanned f >>= behindTerms (f .apart))
+  pub terms-first : zeroFor (checkTerms ed f) ≡ (termsScanned ed f >>= behindTerms (f .apart))
   unfolding checkTerms termsScanned bodiesScanned partsScanned behindTerms ofBoth met controlOf zeroFor _>>=_
-  terms-first = go (readBodies (f .arities) (f .arities) (f .bodies)) (readPart (f .arities) (f .first)) (readPart (f .arities) (f .second))
+  terms-first = go (readBodies ed (numbered (f .arities)) (f .arities) (f .bodies)) (readPart ed (numbered (f .arities)) (f .first)) (readPart ed (numbered (f .arities)) (f .second))
     where
       go : (m : Answer (List Term)) (n o : Answer Term) →
           zeroFor
@@ -119,63 +120,68 @@ module _ (f : Fields) where
           (sym (all-guarded B))
 
   -- The ways out behind the walk.
-  pub terms-fault : (k : ℕ) → termsScanned f ≡ wholeAnswer (Fault k) → zeroFor (checkTerms f) ≡ checkedAnswer (Refused k)
+  pub terms-fault : (k : ℕ) → termsScanned ed f ≡ wholeAnswer (Fault k) → zeroFor (checkTerms ed f) ≡ checkedAnswer (Refused k)
   unfolding wholeAnswer checkedAnswer
   terms-fault k e = terms-first ∙ bind-refused _ e
 
-  module _ (l : ℕ) (c : Control) (walked : termsScanned f ≡ wholeAnswer (End l c)) where
-    behind : zeroFor (checkTerms f) ≡ behindTerms (f .apart) c
+  module _ (l : ℕ) (c : Control) (walked : termsScanned ed f ≡ wholeAnswer (End l c)) where
+    behind : zeroFor (checkTerms ed f) ≡ behindTerms (f .apart) c
     unfolding wholeAnswer
     behind = terms-first ∙ bind-to _ walked
 
-    pub parallel-refused : (c .sequential && c .outermost) ≡ false → zeroFor (checkTerms f) ≡ checkedAnswer (Refused 10)
+    pub parallel-refused : (c .sequential && c .outermost) ≡ false → zeroFor (checkTerms ed f) ≡ checkedAnswer (Refused 10)
     unfolding behindTerms checkedAnswer need _>>_
     parallel-refused e = behind ∙ rw e
 
     module _ (t : (c .sequential && c .outermost) ≡ true) where
-      pub call-refused : c .guarded ≡ false → zeroFor (checkTerms f) ≡ checkedAnswer (Refused 11)
+      pub call-refused : c .guarded ≡ false → zeroFor (checkTerms ed f) ≡ checkedAnswer (Refused 11)
       unfolding behindTerms checkedAnswer need _>>_
       call-refused e = behind ∙ rw (t, e)
 
       module _ (g : c .guarded ≡ true) where
-        last-check : zeroFor (checkTerms f) ≡ zeroFor (readApart (f .apart))
+        last-check : zeroFor (checkTerms ed f) ≡ zeroFor (readApart (f .apart))
         unfolding behindTerms need _>>_
         last-check = behind ∙ rw (t, g)
 
-        pub apart-refused : zeroFor (readApart (f .apart)) ≡ zeroFor (need 12 false) → zeroFor (checkTerms f) ≡ checkedAnswer (Refused 12)
+        pub apart-refused : zeroFor (readApart (f .apart)) ≡ zeroFor (need 12 false) → zeroFor (checkTerms ed f) ≡ checkedAnswer (Refused 12)
         unfolding checkedAnswer need zeroFor _>>=_
         apart-refused e = last-check ∙ e
 
-        pub all-accepted : zeroFor (readApart (f .apart)) ≡ zeroFor (need 12 true) → zeroFor (checkTerms f) ≡ checkedAnswer Accepted
+        pub all-accepted : zeroFor (readApart (f .apart)) ≡ zeroFor (need 12 true) → zeroFor (checkTerms ed f) ≡ checkedAnswer Accepted
         unfolding checkedAnswer need zeroFor _>>=_
         all-accepted e = last-check ∙ e
 
 -- Checks 5 and 6.
-module _ (f : Fields) where
-  pub many-refused : mostDefinitions < length (f .arities) → zeroFor (checkFields f) ≡ checkedAnswer (Refused 5)
+module _ (ed : Edition) (f : Fields) where
+  pub many-refused : mostDefinitions < length (f .arities) → zeroFor (checkFields ed f) ≡ checkedAnswer (Refused 5)
   unfolding checkFields checkedAnswer zeroFor need _>>_ _>>=_
   many-refused h = rw (lt-leb (length (f .arities)) mostDefinitions h)
 
   module _ (few : length (f .arities) ≤ mostDefinitions) where
-    pub arity-refused : all (λ a. leb a greatestArity) (f .arities) ≡ false → zeroFor (checkFields f) ≡ checkedAnswer (Refused 5)
+    pub arity-refused : all (λ a. leb a greatestArity) (f .arities) ≡ false → zeroFor (checkFields ed f) ≡ checkedAnswer (Refused 5)
     unfolding checkFields checkedAnswer zeroFor need _>>_ _>>=_
     arity-refused e = rw (le-leb (length (f .arities)) mostDefinitions few, e)
 
     module _ (small : all (λ a. leb a greatestArity) (f .arities) ≡ true) where
-      pub body-refused : all fits (f .bodies) ≡ false → zeroFor (checkFields f) ≡ checkedAnswer (Refused 6)
-      unfolding checkFields checkedAnswer zeroFor need _>>_ _>>=_
-      body-refused e = rw (le-leb (length (f .arities)) mostDefinitions few, small, e)
+      pub size-refused : allFit f ≡ false → zeroFor (checkFields ed f) ≡ checkedAnswer (Refused 6)
+      unfolding allFit checkFields checkedAnswer zeroFor need _>>_ _>>=_
+      size-refused e = rw (le-leb (length (f .arities)) mostDefinitions few, small, e)
 
-      module _ (bodies : all fits (f .bodies) ≡ true) where
-        pub first-refused : fits (f .first) ≡ false → zeroFor (checkFields f) ≡ checkedAnswer (Refused 6)
-        unfolding checkFields checkedAnswer zeroFor need _>>_ _>>=_
-        first-refused e = rw (le-leb (length (f .arities)) mostDefinitions few, small, bodies, e)
+      pub fields-right : allFit f ≡ true → zeroFor (checkFields ed f) ≡ zeroFor (checkTerms ed f)
+      unfolding allFit checkFields need _>>_
+      fields-right e = rw (le-leb (length (f .arities)) mostDefinitions few, small, e)
 
-        module _ (first : fits (f .first) ≡ true) where
-          pub second-refused : fits (f .second) ≡ false → zeroFor (checkFields f) ≡ checkedAnswer (Refused 6)
-          unfolding checkFields checkedAnswer zeroFor need _>>_ _>>=_
-          second-refused e = rw (le-leb (length (f .arities)) mostDefinitions few, small, bodies, first, e)
+-- Check 6, part by part.
+module _ (f : Fields) where
+  pub body-long : all fits (f .bodies) ≡ false → false ≡ allFit f
+  unfolding allFit
+  body-long e = rw e
 
-          pub fields-right : fits (f .second) ≡ true → zeroFor (checkFields f) ≡ zeroFor (checkTerms f)
-          unfolding checkFields need _>>_
-          fields-right e = rw (le-leb (length (f .arities)) mostDefinitions few, small, bodies, first, e)
+  module _ (bodies : all fits (f .bodies) ≡ true) where
+    pub first-long : fits (f .first) ≡ false → false ≡ allFit f
+    unfolding allFit
+    first-long e = rw (bodies, e)
+
+    pub second-decides : fits (f .first) ≡ true → (t : Bool) → t ≡ fits (f .second) → t ≡ allFit f
+    unfolding allFit
+    second-decides e t h = rw (bodies, e) h

@@ -3,7 +3,7 @@ mod CheckPlaces
 mod CheckTerms
 mod CheckWhole
 mod ControlLaws
-mod FramedPlaces
+pub mod FramedPlaces
 mod ScanLaws
 mod ScanShapes
 mod ScanTerms

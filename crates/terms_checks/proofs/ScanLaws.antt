@@ -9,9 +9,10 @@ use lib.ListN.{length, getD, drop, drop-of-length-le}
 use lib.Seq.{drop-cons}
 use lib.Dec.{ltb, leb, eqb}
 use borrow.Author.Tests.{ltb-true, ltb-false, lt-ltb, le-ltb, le-leb, lt-leb, eq-eqb, ne-eqb}
+use Rattle.terms.specs.Edition.{Edition, one, two}
 use Rattle.terms.specs.Answer.{Answer, refused, result, _>>=_, _>>_, need}
-use Rattle.terms.specs.Reading.{byte, readName, readNames, readTerm}
-use Rattle.terms_checks.specs.Scanning.{nameAllowed, behindNames, behindCall, behindFront, frontAnswer, NextWithin, NamesIs, FrontIs}
+use Rattle.terms.specs.Reading.{byte, readName, readNames, numbered, readCount}
+use Rattle.terms_checks.specs.Scanning.{nameAllowed, behindNames, behindCall, behindFront, frontAnswer, NextWithin, NamesIs, CallIs, FrontIs}
 use Rattle.terms_bytes.specs.Shape.{namesAt}
 use Rattle.terms.proofs.Answers.{bind-assoc}
 use Rattle.terms_checks.specs.declared.scan.Front.{Front}
@@ -102,47 +103,76 @@ pub next-within : (low high e : ℕ) (r : Front) → NextWithin low high r → r
 unfolding NextWithin
 next-within low high e r w q = subst (λ (x : Front). NextWithin low high x) q w
 
+-- A call from its definition's number on.
+module _ (ed : Edition) (free : ℕ) (arities : List ℕ) (d : ℕ) (s : List ℕ) (at : ℕ) where
+  pub call-short : length s ≤ at → CallIs ed free arities d s at (Wrong 7)
+  unfolding behindCall frontAnswer NextWithin byte _>>=_
+  call-short h = record { is = rw (drop-of-length-le s h); within = tt }
+
+  module _ (h : at < length s) where
+    pub call-unknown : length arities ≤ getD s at 0 → CallIs ed free arities d s at (Wrong 8)
+    unfolding behindCall numbered frontAnswer NextWithin byte _>>=_ _>>_ need
+    call-unknown u = record { is = rw (drop-here s at h, le-ltb (getD s at 0) (length arities) u); within = tt }
+
+    module _ (n : ℕ) (known : getD s at 0 < length arities) (count : n ≡ getD arities (getD s at 0) 0) where
+      at-count : behindCall ed free arities d (drop at s) ≡ (readCount ed n (drop (at + 1) s) >>= behindNames free d n)
+      unfolding behindCall numbered byte _>>=_ _>>_ need
+      at-count = rw (drop-here s at h, lt-ltb (getD s at 0) (length arities) known, ← count)
+
+-- In edition one the names follow, in edition two their number first: check 16.
+module _ (free : ℕ) (arities : List ℕ) (d : ℕ) (s : List ℕ) (at : ℕ) (h : at < length s) (n : ℕ) (known : getD s at 0 < length arities)
+    (count : n ≡ getD arities (getD s at 0) 0) where
+  pub call-names : (r : Front) → NamesIs free d n s (at + 1) r → CallIs one free arities d s at r
+  unfolding readCount _>>=_
+  call-names r w =
+      record {
+        is = at-count one free arities d s at h n known count ∙ w .is;
+        within = next-weaken at (at + 1) (max at (length s)) (max (at + 1) (length s)) r (omega arith) (omega arith) (w .within);
+      }
+
+  pub count-missing : length s ≤ at + 1 → CallIs two free arities d s at (Wrong 7)
+  unfolding readCount byte frontAnswer NextWithin _>>=_
+  count-missing l = record { is = at-count two free arities d s at h n known count ∙ rw (drop-of-length-le s l); within = tt }
+
+  module _ (l : at + 1 < length s) where
+    next-two : drop (at + 1) s ≡ getD s (at + 1) 0 ∷ drop (at + 2) s
+    next-two =
+        let p : at + 1 + 1 ≡ at + 2 = omega arith in
+        drop-here s (at + 1) l ∙ ap (λ n. getD s (at + 1) 0 ∷ drop n s) p
+
+    pub count-wrong : (getD s (at + 1) 0 ≡ n → ⊥) → CallIs two free arities d s at (Wrong 16)
+    unfolding readCount byte frontAnswer NextWithin need _>>_ _>>=_
+    count-wrong e = record { is = at-count two free arities d s at h n known count ∙ rw (next-two, ne-eqb (getD s (at + 1) 0) n e); within = tt }
+
+    pub counted-names : (r : Front) → getD s (at + 1) 0 ≡ n → NamesIs free d n s (at + 2) r → CallIs two free arities d s at r
+    unfolding readCount byte need _>>_ _>>=_
+    counted-names r e w =
+        record {
+          is = at-count two free arities d s at h n known count ∙ rw (next-two, eq-eqb (getD s (at + 1) 0) n e) (w .is);
+          within = next-weaken at (at + 2) (max at (length s)) (max (at + 2) (length s)) r (omega arith) (omega arith) (w .within);
+        }
+
 -- The front of a term.
-module _ (free : ℕ) (arities : List ℕ) (d : ℕ) (s : List ℕ) (at : ℕ) where
-  pub front-short : length s ≤ at → FrontIs free arities d s at (Wrong 7)
+module _ (ed : Edition) (free : ℕ) (arities : List ℕ) (d : ℕ) (s : List ℕ) (at : ℕ) where
+  pub front-short : length s ≤ at → FrontIs ed free arities d s at (Wrong 7)
   unfolding behindFront frontAnswer NextWithin byte _>>=_
   front-short h = record { is = rw (drop-of-length-le s h); within = tt }
 
   module _ (h : at < length s) where
-    pub front-unknown : 9 < getD s at 0 → FrontIs free arities d s at (Wrong 7)
+    pub front-unknown : 9 < getD s at 0 → FrontIs ed free arities d s at (Wrong 7)
     unfolding behindFront frontAnswer NextWithin byte _>>=_ _>>_ need
     front-unknown u = record { is = rw (drop-here s at h, lt-leb (getD s at 0) 9 u); within = tt }
 
-    at-call : getD s at 0 ≡ 9 → behindFront free arities d (drop at s) ≡ behindCall free arities d (drop (at + 1) s)
+    pub front-call : (r : Front) → getD s at 0 ≡ 9 → CallIs ed free arities d s (at + 1) r → FrontIs ed free arities d s at r
     unfolding behindFront byte _>>=_ _>>_ need
-    at-call e = rw (drop-here s at h, e)
-
-    pub call-short : getD s at 0 ≡ 9 → length s ≤ at + 1 → FrontIs free arities d s at (Wrong 7)
-    unfolding behindCall frontAnswer NextWithin byte _>>=_
-    call-short e l = record { is = at-call e ∙ rw (drop-of-length-le s l); within = tt }
-
-    module _ (e : getD s at 0 ≡ 9) (l : at + 1 < length s) where
-      next-two : drop (at + 1) s ≡ getD s (at + 1) 0 ∷ drop (at + 2) s
-      next-two =
-          let p : at + 1 + 1 ≡ at + 2 = omega arith in
-          drop-here s (at + 1) l ∙ ap (λ n. getD s (at + 1) 0 ∷ drop n s) p
-
-      pub call-unknown : length arities ≤ getD s (at + 1) 0 → FrontIs free arities d s at (Wrong 8)
-      unfolding behindCall frontAnswer NextWithin byte _>>=_ _>>_ need
-      call-unknown u = record { is = at-call e ∙ rw (next-two, le-ltb (getD s (at + 1) 0) (length arities) u); within = tt }
-
-      pub front-call : (n : ℕ) (r : Front) → getD s (at + 1) 0 < length arities → n ≡ namesAt arities (getD s at 0) (getD s (at + 1) 0) →
-          NamesIs free d n s (at + 2) r → FrontIs free arities d s at r
-      unfolding behindCall namesAt byte _>>=_ _>>_ need
-      front-call n r u m w =
-          let k : n ≡ getD arities (getD s (at + 1) 0) 0 = rw e at m in
-          record {
-            is = at-call e ∙ rw (next-two, lt-ltb (getD s (at + 1) 0) (length arities) u, ← k) (w .is);
-            within = next-weaken (at + 1) (at + 2) (length s) (max (at + 2) (length s)) r (omega arith) (omega arith) (w .within);
-          }
+    front-call r e w =
+        record {
+          is = rw (drop-here s at h, e) (w .is);
+          within = next-weaken (at + 1) (at + 1) (length s) (max (at + 1) (length s)) r (omega arith) (omega arith) (w .within);
+        }
 
     pub front-names : (n : ℕ) (r : Front) → getD s at 0 ≤ 9 → (getD s at 0 ≡ 9 → ⊥) → n ≡ namesAt arities (getD s at 0) (getD s (at + 1) 0) →
-        NamesIs free d n s (at + 1) r → FrontIs free arities d s at r
+        NamesIs free d n s (at + 1) r → FrontIs ed free arities d s at r
     unfolding behindFront namesAt byte _>>=_ _>>_ need
     front-names n r l e m w =
         let k : n ≡ getD (0 ∷ 0 ∷ 1 ∷ 2 ∷ 1 ∷ 2 ∷ 0 ∷ 0 ∷ 0 ∷ []) (getD s at 0) 0 = rw (ne-eqb (getD s at 0) 9 e) at m in

@@ -9,21 +9,22 @@ use lib.ListN.{length, getD}
 use lib.Dec.{ltb, leb, eqb}
 use borrow.Author.Tests.{lt-leb}
 use Rattle.calculus.specs.Term.{Term, nil, tau, inp, out, bout, mat, sum, par, res, call}
+use Rattle.terms.specs.Edition.{Edition}
 use Rattle.terms.specs.Answer.{Answer, refused, result, _>>=_, _>>_, need}
-use Rattle.terms.specs.Reading.{byte, readName, readNames, tagOf, readTerm}
+use Rattle.terms.specs.Reading.{byte, readName, readNames, tagOf, numbered, readCount, readTerm}
 use Rattle.terms_checks.specs.Scanning.{behindNames, behindCall, behindFront, controlOf, passing, combined, scanned}
 use Rattle.terms_bytes.specs.Shape.{namesAt, bindersAt, partsAt}
 use Rattle.terms_checks.specs.declared.scan.Control.{Control}
 use Rattle.terms_checks.proofs.ControlLaws.{control-nil, control-tau, control-inp, control-out, control-bout, control-mat, control-sum, control-par, control-res, control-call}
 
 -- The subterms under d binders of a term that begins with t.
-module _ (free : ℕ) (arities : List ℕ) where
+module _ (ed : Edition) (free : ℕ) (arities : List ℕ) where
   unfoldable pub subtermsScanned : ℕ → ℕ → ℕ → List ℕ → Answer (Control × List ℕ)
   subtermsScanned n t d bs =
       cond (eqb (partsAt t) 0) (result (combined t passing passing, bs))
-      (scanned free arities n d bs >>= λ x.
+      (scanned ed free arities n d bs >>= λ x.
       cond (eqb (partsAt t) 1) (result (combined t (x .0) passing, x .1))
-      (scanned free arities n d (x .1) >>= λ y. result (combined t (x .0) (y .0), y .1)))
+      (scanned ed free arities n d (x .1) >>= λ y. result (combined t (x .0) (y .0), y .1)))
 
 -- One lemma for each shape, over the answers of reading its pieces: what is kept of the term is found from what is kept of its subterms.
 abbrev pub kept : Term × List ℕ → Answer (Control × List ℕ)
@@ -80,40 +81,52 @@ module _ (free d : ℕ) where
       first (refused k) = refl
       first (result a) = second (a .0) (readName free d (a .1))
 
--- A call: its number, then its names.
-module _ (free : ℕ) (arities : List ℕ) (d k : ℕ) where
-  one-call : (t : Bool) (m : Answer (List ℕ × List ℕ)) → ((need 8 t >> (m >>= λ x. result (call k (x .0), x .1))) >>= kept)
-      ≡ ((need 8 t >> (m >>= λ x. result (x .1))) >>= λ bs. result (combined 9 passing passing, bs))
-  unfolding need _>>_ _>>=_
-  one-call false m = refl
-  one-call true (refused j) = refl
-  one-call true (result x) = ap (λ y. result (y, x .1)) (control-call k (x .0))
+-- A call: its number, in edition two the number of its names, and these.
+module _ (free d k : ℕ) where
+  called : ℕ → List ℕ → Answer (Term × List ℕ)
+  called m bs = readNames free d m bs >>= λ x. result (call k (x .0), x .1)
 
-module _ (free : ℕ) (arities : List ℕ) (n d : ℕ) where
-  pub scanned-by-shape : (t : ℕ) (bs : List ℕ) → scanned free arities (suc n) d (t ∷ bs)
-      ≡ (behindFront free arities d (t ∷ bs) >>= subtermsScanned free arities n t (bindersAt t + d))
-  unfolding scanned readTerm byte tagOf behindNames readNames behindFront behindCall namesAt bindersAt partsAt subtermsScanned need _>>_ _>>=_
+  named : (m : Answer (List ℕ × List ℕ)) → ((m >>= λ x. result (call k (x .0), x .1)) >>= kept)
+      ≡ ((m >>= rest) >>= λ bs. result (combined 9 passing passing, bs))
+  unfolding _>>=_
+  named (refused j) = refl
+  named (result x) = ap (λ y. result (y, x .1)) (control-call k (x .0))
+
+  one-call : (c : Answer ℕ) (f : ℕ → Answer (List ℕ)) → ((c >>= λ m. (f m >>= called m)) >>= kept)
+      ≡ ((c >>= λ m. (f m >>= behindNames free d m)) >>= λ bs. result (combined 9 passing passing, bs))
+  unfolding called behindNames _>>=_
+  one-call (refused j) f = refl
+  one-call (result m) f = go (f m)
+    where
+      go : (r : Answer (List ℕ)) → ((r >>= called m) >>= kept) ≡ ((r >>= behindNames free d m) >>= λ bs. result (combined 9 passing passing, bs))
+      go (refused j) = refl
+      go (result bs) = named (readNames free d m bs)
+
+module _ (ed : Edition) (free : ℕ) (arities : List ℕ) (n d : ℕ) where
+  pub scanned-by-shape : (t : ℕ) (bs : List ℕ) → scanned ed free arities (suc n) d (t ∷ bs)
+      ≡ (behindFront ed free arities d (t ∷ bs) >>= subtermsScanned ed free arities n t (bindersAt t + d))
+  unfolding called scanned readTerm byte tagOf behindNames readNames behindFront behindCall namesAt bindersAt partsAt subtermsScanned need _>>_ _>>=_
   scanned-by-shape zero bs = ap (λ c. result (c, bs)) control-nil
-  scanned-by-shape (suc zero) bs = rw zero-add (one-term tau (λ p. combined 1 p passing) control-tau (readTerm free arities n d bs))
+  scanned-by-shape (suc zero) bs = rw zero-add (one-term tau (λ p. combined 1 p passing) control-tau (readTerm ed (numbered arities) free n d bs))
   scanned-by-shape (suc (suc zero)) bs =
-      one-name free d (λ a bs. (readTerm free arities n (1 + d) bs >>= λ x. result (inp a (x .0), x .1))) (subtermsScanned free arities n 2 (1 + d))
-      (λ a bs. one-term (inp a) (λ p. combined 2 p passing) (control-inp a) (readTerm free arities n (1 + d) bs)) bs
+      one-name free d (λ a bs. (readTerm ed (numbered arities) free n (1 + d) bs >>= λ x. result (inp a (x .0), x .1))) (subtermsScanned ed free arities n 2 (1 + d))
+      (λ a bs. one-term (inp a) (λ p. combined 2 p passing) (control-inp a) (readTerm ed (numbered arities) free n (1 + d) bs)) bs
   scanned-by-shape (suc (suc (suc zero))) bs =
       rw
       zero-add
-      (two-names free d (λ a b bs. (readTerm free arities n d bs >>= λ x. result (out a b (x .0), x .1))) (subtermsScanned free arities n 3 d)
-      (λ a b bs. one-term (out a b) (λ p. combined 3 p passing) (control-out a b) (readTerm free arities n d bs)) bs)
+      (two-names free d (λ a b bs. (readTerm ed (numbered arities) free n d bs >>= λ x. result (out a b (x .0), x .1))) (subtermsScanned ed free arities n 3 d)
+      (λ a b bs. one-term (out a b) (λ p. combined 3 p passing) (control-out a b) (readTerm ed (numbered arities) free n d bs)) bs)
   scanned-by-shape (suc (suc (suc (suc zero)))) bs =
-      one-name free d (λ a bs. (readTerm free arities n (1 + d) bs >>= λ x. result (bout a (x .0), x .1))) (subtermsScanned free arities n 4 (1 + d))
-      (λ a bs. one-term (bout a) (λ p. combined 4 p passing) (control-bout a) (readTerm free arities n (1 + d) bs)) bs
+      one-name free d (λ a bs. (readTerm ed (numbered arities) free n (1 + d) bs >>= λ x. result (bout a (x .0), x .1))) (subtermsScanned ed free arities n 4 (1 + d))
+      (λ a bs. one-term (bout a) (λ p. combined 4 p passing) (control-bout a) (readTerm ed (numbered arities) free n (1 + d) bs)) bs
   scanned-by-shape (suc (suc (suc (suc (suc zero))))) bs =
       rw
       zero-add
-      (two-names free d (λ a b bs. (readTerm free arities n d bs >>= λ x. result (mat a b (x .0), x .1))) (subtermsScanned free arities n 5 d)
-      (λ a b bs. one-term (mat a b) (λ p. combined 5 p passing) (control-mat a b) (readTerm free arities n d bs)) bs)
-  scanned-by-shape (suc (suc (suc (suc (suc (suc zero)))))) bs = rw zero-add (two-terms sum (combined 6) control-sum (readTerm free arities n d bs) (readTerm free arities n d))
-  scanned-by-shape (suc (suc (suc (suc (suc (suc (suc zero))))))) bs = rw zero-add (two-terms par (combined 7) control-par (readTerm free arities n d bs) (readTerm free arities n d))
-  scanned-by-shape (suc (suc (suc (suc (suc (suc (suc (suc zero)))))))) bs = one-term res (λ p. combined 8 p passing) control-res (readTerm free arities n (1 + d) bs)
+      (two-names free d (λ a b bs. (readTerm ed (numbered arities) free n d bs >>= λ x. result (mat a b (x .0), x .1))) (subtermsScanned ed free arities n 5 d)
+      (λ a b bs. one-term (mat a b) (λ p. combined 5 p passing) (control-mat a b) (readTerm ed (numbered arities) free n d bs)) bs)
+  scanned-by-shape (suc (suc (suc (suc (suc (suc zero)))))) bs = rw zero-add (two-terms sum (combined 6) control-sum (readTerm ed (numbered arities) free n d bs) (readTerm ed (numbered arities) free n d))
+  scanned-by-shape (suc (suc (suc (suc (suc (suc (suc zero))))))) bs = rw zero-add (two-terms par (combined 7) control-par (readTerm ed (numbered arities) free n d bs) (readTerm ed (numbered arities) free n d))
+  scanned-by-shape (suc (suc (suc (suc (suc (suc (suc (suc zero)))))))) bs = one-term res (λ p. combined 8 p passing) control-res (readTerm ed (numbered arities) free n (1 + d) bs)
   scanned-by-shape (suc (suc (suc (suc (suc (suc (suc (suc (suc zero))))))))) [] = refl
-  scanned-by-shape (suc (suc (suc (suc (suc (suc (suc (suc (suc zero))))))))) (k ∷ bs) = one-call free arities d k (ltb k (length arities)) (readNames free d (getD arities k 0) bs)
+  scanned-by-shape (suc (suc (suc (suc (suc (suc (suc (suc (suc zero))))))))) (k ∷ bs) = one-call free d k (numbered arities k) (λ m. readCount ed m bs)
   scanned-by-shape (suc (suc (suc (suc (suc (suc (suc (suc (suc (suc t)))))))))) bs = rw (lt-leb (suc (suc (suc (suc (suc (suc (suc (suc (suc (suc t)))))))))) 9 (omega arith))

@@ -8,8 +8,9 @@ use lib.ListN.{length, getD, drop, drop-of-length-le, length-drop}
 use lib.Dec.{leb, ltb, eqb}
 use borrow.Author.Tests.{leb-true, leb-false, ne-eqb, eq-eqb}
 use Rattle.calculus.specs.Term.{Term}
+use Rattle.terms.specs.Edition.{Edition}
 use Rattle.terms.specs.Answer.{Answer, refused, result, _>>=_, _>>_, need}
-use Rattle.terms.specs.Reading.{byte, readTerm, readWhole}
+use Rattle.terms.specs.Reading.{byte, numbered, readTerm, readWhole}
 use Rattle.terms_checks.specs.Scanning.{behindFront, frontAnswer, NextWithin, FrontIs, controlOf, passing, combined, scanned, scanAnswer, EndWithin, ScanIs, scannedWhole, wholeAnswer}
 use Rattle.terms_bytes.specs.Shape.{bindersAt, partsAt}
 use Rattle.terms_checks.specs.declared.scan.Control.{Control}
@@ -25,46 +26,46 @@ unfolding EndWithin
 end-within low high e c r w q = subst (λ (x : Scan). EndWithin low high x) q w
 
 -- Where no byte is left, both the term and its front fail check 7.
-scanned-nothing : (free : ℕ) (arities : List ℕ) (n d : ℕ) → scanned free arities n d [] ≡ refused 7
+scanned-nothing : (ed : Edition) (free : ℕ) (arities : List ℕ) (n d : ℕ) → scanned ed free arities n d [] ≡ refused 7
 unfolding scanned readTerm byte _>>=_
-scanned-nothing free arities zero d = refl
-scanned-nothing free arities (suc n) d = refl
+scanned-nothing ed free arities zero d = refl
+scanned-nothing ed free arities (suc n) d = refl
 
-front-nothing : (free : ℕ) (arities : List ℕ) (d : ℕ) → behindFront free arities d [] ≡ refused 7
+front-nothing : (ed : Edition) (free : ℕ) (arities : List ℕ) (d : ℕ) → behindFront ed free arities d [] ≡ refused 7
 unfolding behindFront byte _>>=_
-front-nothing free arities d = refl
+front-nothing ed free arities d = refl
 
-module _ (free : ℕ) (arities : List ℕ) (d : ℕ) (s : List ℕ) (at : ℕ) where
+module _ (ed : Edition) (free : ℕ) (arities : List ℕ) (d : ℕ) (s : List ℕ) (at : ℕ) where
   abbrev firstByte : ℕ
   firstByte = getD s at 0
 
   -- Reading what stands at a position is reading its front and then its subterms.
-  scanned-at : (n : ℕ) → length s ≤ at + n → scanned free arities n d (drop at s)
-      ≡ (behindFront free arities d (drop at s) >>= subtermsScanned free arities (n - 1) firstByte (bindersAt firstByte + d))
+  scanned-at : (n : ℕ) → length s ≤ at + n → scanned ed free arities n d (drop at s)
+      ≡ (behindFront ed free arities d (drop at s) >>= subtermsScanned ed free arities (n - 1) firstByte (bindersAt firstByte + d))
   scanned-at n h = go (leb (length s) at) refl n h
     where
-      go : (t : Bool) → leb (length s) at ≡ t → (m : ℕ) → length s ≤ at + m → scanned free arities m d (drop at s)
-          ≡ (behindFront free arities d (drop at s) >>= subtermsScanned free arities (m - 1) firstByte (bindersAt firstByte + d))
+      go : (t : Bool) → leb (length s) at ≡ t → (m : ℕ) → length s ≤ at + m → scanned ed free arities m d (drop at s)
+          ≡ (behindFront ed free arities d (drop at s) >>= subtermsScanned ed free arities (m - 1) firstByte (bindersAt firstByte + d))
       go true e m h =
           let l = leb-true (length s) at e in
-          rw (drop-of-length-le s l) (scanned-nothing free arities m d ∙ sym (bind-refused _ (front-nothing free arities d)))
+          rw (drop-of-length-le s l) (scanned-nothing ed free arities m d ∙ sym (bind-refused _ (front-nothing ed free arities d)))
       go false e zero h = let l = leb-false (length s) at e in absurd (omega arith)
       go false e (suc m) h =
           let l = leb-false (length s) at e in
           let p : suc m - 1 ≡ m = omega arith in
-          rw (drop-here s at l, p) (scanned-by-shape free arities m d firstByte (drop (at + 1) s))
+          rw (drop-here s at l, p) (scanned-by-shape ed free arities m d firstByte (drop (at + 1) s))
 
-  pub scan-wrong : (k : ℕ) → FrontIs free arities d s at (Wrong k) → ScanIs free arities d s at (Fault k)
+  pub scan-wrong : (k : ℕ) → FrontIs ed free arities d s at (Wrong k) → ScanIs ed free arities d s at (Fault k)
   unfolding frontAnswer scanAnswer EndWithin
   scan-wrong k f = record { is = λ n h. scanned-at n h ∙ bind-refused _ (f .is); within = tt }
 
-  module _ (e : ℕ) (front : FrontIs free arities d s at (Next e)) where
+  module _ (e : ℕ) (front : FrontIs ed free arities d s at (Next e)) where
     inside : (at + 1 ≤ e) × (e ≤ length s)
     unfolding NextWithin
     inside = front .within
 
-    behind : (n : ℕ) → length s ≤ at + n → scanned free arities n d (drop at s)
-        ≡ subtermsScanned free arities (n - 1) firstByte (bindersAt firstByte + d) (drop e s)
+    behind : (n : ℕ) → length s ≤ at + n → scanned ed free arities n d (drop at s)
+        ≡ subtermsScanned ed free arities (n - 1) firstByte (bindersAt firstByte + d) (drop e s)
     unfolding frontAnswer
     behind n h = scanned-at n h ∙ bind-to _ (front .is)
 
@@ -72,7 +73,7 @@ module _ (free : ℕ) (arities : List ℕ) (d : ℕ) (s : List ℕ) (at : ℕ) w
     enough : (n l : ℕ) → length s ≤ at + n → e ≤ l → length s ≤ l + (n - 1)
     enough n l h g = let i = inside in omega arith
 
-    pub scan-leaf : (c : Control) → partsAt firstByte ≡ 0 → c ≡ combined firstByte passing passing → ScanIs free arities d s at (End e c)
+    pub scan-leaf : (c : Control) → partsAt firstByte ≡ 0 → c ≡ combined firstByte passing passing → ScanIs ed free arities d s at (End e c)
     unfolding scanAnswer EndWithin subtermsScanned
     scan-leaf c z q = record { is = λ n h. behind n h ∙ rw (z, q); within = inside }
 
@@ -81,23 +82,23 @@ module _ (free : ℕ) (arities : List ℕ) (d : ℕ) (s : List ℕ) (at : ℕ) w
       depth-is = omega arith
 
       -- The first subterm's answer goes on.
-      at-first : (n : ℕ) → length s ≤ at + n → scanned free arities n d (drop at s)
-          ≡ (scanned free arities (n - 1) d′ (drop e s) >>= λ x.
+      at-first : (n : ℕ) → length s ≤ at + n → scanned ed free arities n d (drop at s)
+          ≡ (scanned ed free arities (n - 1) d′ (drop e s) >>= λ x.
           cond (eqb (partsAt firstByte) 1) (result (combined firstByte (x .0) passing, x .1))
-          (scanned free arities (n - 1) d′ (x .1) >>= λ y. result (combined firstByte (x .0) (y .0), y .1)))
+          (scanned ed free arities (n - 1) d′ (x .1) >>= λ y. result (combined firstByte (x .0) (y .0), y .1)))
       unfolding subtermsScanned
       at-first n h = behind n h ∙ rw (depth-is, ne-eqb (partsAt firstByte) 0 some)
 
-      pub scan-first-wrong : (k : ℕ) → ScanIs free arities d′ s e (Fault k) → ScanIs free arities d s at (Fault k)
+      pub scan-first-wrong : (k : ℕ) → ScanIs ed free arities d′ s e (Fault k) → ScanIs ed free arities d s at (Fault k)
       unfolding scanAnswer EndWithin
       scan-first-wrong k p = record { is = λ n h. at-first n h ∙ bind-refused _ (p .is (n - 1) (enough n e h (omega arith))); within = tt }
 
-      module _ (l : ℕ) (p : Control) (first : ScanIs free arities d′ s e (End l p)) where
+      module _ (l : ℕ) (p : Control) (first : ScanIs ed free arities d′ s e (End l p)) where
         first-inside : (e + 1 ≤ l) × (l ≤ length s)
         unfolding EndWithin
         first-inside = first .within
 
-        pub scan-one : (c : Control) → partsAt firstByte ≡ 1 → c ≡ combined firstByte p passing → ScanIs free arities d s at (End l c)
+        pub scan-one : (c : Control) → partsAt firstByte ≡ 1 → c ≡ combined firstByte p passing → ScanIs ed free arities d s at (End l c)
         unfolding scanAnswer EndWithin
         scan-one c o q =
             let i = inside in
@@ -108,20 +109,20 @@ module _ (free : ℕ) (arities : List ℕ) (d : ℕ) (s : List ℕ) (at : ℕ) w
             }
 
         module _ (more : partsAt firstByte ≡ 1 → ⊥) where
-          at-second : (n : ℕ) → length s ≤ at + n → scanned free arities n d (drop at s)
-              ≡ (scanned free arities (n - 1) d′ (drop l s) >>= λ y. result (combined firstByte p (y .0), y .1))
+          at-second : (n : ℕ) → length s ≤ at + n → scanned ed free arities n d (drop at s)
+              ≡ (scanned ed free arities (n - 1) d′ (drop l s) >>= λ y. result (combined firstByte p (y .0), y .1))
           unfolding scanAnswer
           at-second n h =
               at-first n h ∙ bind-to _ (first .is (n - 1) (enough n e h (omega arith))) ∙ rw (ne-eqb (partsAt firstByte) 1 more)
 
-          pub scan-second-wrong : (k : ℕ) → ScanIs free arities d′ s l (Fault k) → ScanIs free arities d s at (Fault k)
+          pub scan-second-wrong : (k : ℕ) → ScanIs ed free arities d′ s l (Fault k) → ScanIs ed free arities d s at (Fault k)
           unfolding scanAnswer EndWithin
           scan-second-wrong k q =
               let j = first-inside in
               record { is = λ n h. at-second n h ∙ bind-refused _ (q .is (n - 1) (enough n l h (omega arith))); within = tt }
 
-          pub scan-two : (m : ℕ) (q c : Control) → ScanIs free arities d′ s l (End m q) → c ≡ combined firstByte p q →
-              ScanIs free arities d s at (End m c)
+          pub scan-two : (m : ℕ) (q c : Control) → ScanIs ed free arities d′ s l (End m q) → c ≡ combined firstByte p q →
+              ScanIs ed free arities d s at (End m c)
           unfolding scanAnswer EndWithin
           scan-two m q c second w =
               let i = inside in
@@ -133,11 +134,11 @@ module _ (free : ℕ) (arities : List ℕ) (d : ℕ) (s : List ℕ) (at : ℕ) w
               }
 
 -- A whole body or part is a term with nothing behind it.
-module _ (free : ℕ) (arities : List ℕ) (d : ℕ) (s : List ℕ) where
-  whole-by-scan : scannedWhole free arities d s
-      ≡ (scanned free arities (length s) d s >>= λ x. (need 7 (eqb (length (x .1)) 0) >> result (x .0)))
+module _ (ed : Edition) (free : ℕ) (arities : List ℕ) (d : ℕ) (s : List ℕ) where
+  whole-by-scan : scannedWhole ed free arities d s
+      ≡ (scanned ed free arities (length s) d s >>= λ x. (need 7 (eqb (length (x .1)) 0) >> result (x .0)))
   unfolding scannedWhole readWhole scanned need _>>_ _>>=_
-  whole-by-scan = go (readTerm free arities (length s) d s)
+  whole-by-scan = go (readTerm ed (numbered arities) free (length s) d s)
     where
       tested : (t : Bool) (P : Term) → ((need 7 t >> result P) >>= λ P. result (controlOf P)) ≡ (need 7 t >> result (controlOf P))
       tested true P = refl
@@ -149,19 +150,19 @@ module _ (free : ℕ) (arities : List ℕ) (d : ℕ) (s : List ℕ) where
       go (refused k) = refl
       go (result x) = tested (eqb (length (x .1)) 0) (x .0)
 
-  pub whole-wrong : (k : ℕ) → ScanIs free arities d s 0 (Fault k) → scannedWhole free arities d s ≡ wholeAnswer (Fault k)
+  pub whole-wrong : (k : ℕ) → ScanIs ed free arities d s 0 (Fault k) → scannedWhole ed free arities d s ≡ wholeAnswer (Fault k)
   unfolding scanAnswer wholeAnswer
   whole-wrong k w = whole-by-scan ∙ bind-refused _ (w .is (length s) (omega arith))
 
-  module _ (e : ℕ) (c : Control) (w : ScanIs free arities d s 0 (End e c)) where
-    at-end : scannedWhole free arities d s ≡ (need 7 (eqb (length (drop e s)) 0) >> result c)
+  module _ (e : ℕ) (c : Control) (w : ScanIs ed free arities d s 0 (End e c)) where
+    at-end : scannedWhole ed free arities d s ≡ (need 7 (eqb (length (drop e s)) 0) >> result c)
     unfolding scanAnswer
     at-end = whole-by-scan ∙ bind-to _ (w .is (length s) (omega arith))
 
-    pub whole-more : e < length s → scannedWhole free arities d s ≡ wholeAnswer (Fault 7)
+    pub whole-more : e < length s → scannedWhole ed free arities d s ≡ wholeAnswer (Fault 7)
     unfolding wholeAnswer need _>>_
     whole-more h = at-end ∙ rw (ne-eqb (length (drop e s)) 0 (λ z. omega (arith, length-drop e s)))
 
-    pub whole-term : (l : ℕ) → length s ≤ e → scannedWhole free arities d s ≡ wholeAnswer (End l c)
+    pub whole-term : (l : ℕ) → length s ≤ e → scannedWhole ed free arities d s ≡ wholeAnswer (End l c)
     unfolding wholeAnswer need _>>_
     whole-term l h = at-end ∙ rw (eq-eqb (length (drop e s)) 0 (omega (arith, length-drop e s)))

@@ -6,8 +6,10 @@ use lib.ListN.{length}
 use Rattle.calculus.specs.Term.{Term}
 use Rattle.terms.specs.Answer.{Answer, refused, result, _>>=_, _>>_, need}
 use Rattle.terms_bytes.specs.FieldPlaces.{definitionsOf, aritiesOf, afterField, fieldAt, fieldPlace}
+use Rattle.terms.specs.Edition.{Edition}
 use Rattle.terms.specs.Framing.{Fields}
-use Rattle.terms.specs.Question.{readBodies, readPart}
+use Rattle.terms.specs.Question.{all, fits, readBodies, readPart}
+use Rattle.terms.specs.Reading.{numbered}
 use Rattle.terms_checks.specs.Scanning.{controlOf, passing}
 use Rattle.terms_checks.specs.declared.check.Checked.{Checked}
 use Rattle.terms_checks.specs.declared.check.Checked.the-variants.{Accepted, Refused}
@@ -51,6 +53,10 @@ fieldsAt question =
       apart = fieldAt question (apartPlace question);
     }
 
+-- Check 6 of all bodies and of both parts.
+unfoldable pub allFit : Fields → Bool
+allFit f = all fits (f .bodies) && fits (f .first) && fits (f .second)
+
 -- The tests of checks 10 and 11 over all bodies.
 unfoldable pub met : Control → Control → Control
 met p q =
@@ -64,23 +70,23 @@ unfoldable pub controlOfAll : List Term → Control
 controlOfAll [] = passing
 controlOfAll (P ∷ Ps) = met (controlOf P) (controlOfAll Ps)
 
-unfoldable pub bodiesScanned : List ℕ → List ℕ → List (List ℕ) → Answer Control
-bodiesScanned arities sizes bodies = do
-  Ps ← readBodies arities sizes bodies
+unfoldable pub bodiesScanned : Edition → List ℕ → List ℕ → List (List ℕ) → Answer Control
+bodiesScanned e arities sizes bodies = do
+  Ps ← readBodies e (numbered arities) sizes bodies
   result (controlOfAll Ps)
 
 -- Both parts, and then all terms: what check 10 asks of the bodies and of the parts, and check 11 of the bodies.
-unfoldable pub partsScanned : List ℕ → List ℕ → List ℕ → Answer Control
-partsScanned arities first second = do
-  P ← readPart arities first
-  Q ← readPart arities second
+unfoldable pub partsScanned : Edition → List ℕ → List ℕ → List ℕ → Answer Control
+partsScanned e arities first second = do
+  P ← readPart e (numbered arities) first
+  Q ← readPart e (numbered arities) second
   result (met (controlOf P) (controlOf Q))
 
 unfoldable pub ofBoth : Control → Control → Control
 ofBoth bodies parts = record { sequential = bodies .sequential; outermost = parts .outermost; guarded = bodies .guarded }
 
-unfoldable pub termsScanned : Fields → Answer Control
-termsScanned f = do
-  bodies ← bodiesScanned (f .arities) (f .arities) (f .bodies)
-  parts ← partsScanned (f .arities) (f .first) (f .second)
+unfoldable pub termsScanned : Edition → Fields → Answer Control
+termsScanned e f = do
+  bodies ← bodiesScanned e (f .arities) (f .arities) (f .bodies)
+  parts ← partsScanned e (f .arities) (f .first) (f .second)
   result (ofBoth bodies parts)

@@ -7,8 +7,9 @@ use lib.ListN.{length, getD, drop}
 use lib.Dec.{ltb, leb, eqb}
 use Rattle.calculus.specs.Term.{Term}
 use Rattle.terms.specs.Answer.{Answer, refused, result, _>>=_, _>>_, need}
+use Rattle.terms.specs.Edition.{Edition}
 use Rattle.terms.specs.Grammar.{sequential, parallelOutermost, guarded}
-use Rattle.terms.specs.Reading.{byte, readNames, readTerm, readWhole}
+use Rattle.terms.specs.Reading.{byte, readNames, numbered, readCount, readTerm, readWhole}
 use Rattle.terms_bytes.specs.Shape.{namesAt}
 use Rattle.terms_checks.specs.declared.scan.Control.{Control}
 use Rattle.terms_checks.specs.declared.scan.Front.{Front}
@@ -26,18 +27,19 @@ behindNames free d n bs = do
   (ns, rest) ← readNames free d n bs
   result rest
 
--- The bytes behind the front of a term: its first byte, a call's number and its own names.
-unfoldable pub behindCall : ℕ → List ℕ → ℕ → List ℕ → Answer (List ℕ)
-behindCall free arities d bs = do
+-- The bytes behind the front of a term: its first byte, a call's numbers and its own names.
+unfoldable pub behindCall : Edition → ℕ → List ℕ → ℕ → List ℕ → Answer (List ℕ)
+behindCall e free arities d bs = do
   (k, bs) ← byte bs
-  need 8 (ltb k (length arities))
-  behindNames free d (getD arities k 0) bs
+  m ← numbered arities k
+  bs ← readCount e m bs
+  behindNames free d m bs
 
-unfoldable pub behindFront : ℕ → List ℕ → ℕ → List ℕ → Answer (List ℕ)
-behindFront free arities d bs = do
+unfoldable pub behindFront : Edition → ℕ → List ℕ → ℕ → List ℕ → Answer (List ℕ)
+behindFront e free arities d bs = do
   (t, bs) ← byte bs
   need 7 (leb t 9)
-  cond (eqb t 9) (behindCall free arities d bs) (behindNames free d (namesAt arities t 0) bs)
+  cond (eqb t 9) (behindCall e free arities d bs) (behindNames free d (namesAt arities t 0) bs)
 
 -- The paper's number, or the bytes from the position answered on.
 unfoldable pub frontAnswer : List ℕ → Front → Answer (List ℕ)
@@ -52,8 +54,12 @@ pub record NamesIs (free d n : ℕ) (s : List ℕ) (at : ℕ) (r : Front) : Type
   pub is : behindNames free d n (drop at s) ≡ frontAnswer s r
   pub within : NextWithin at (max at (length s)) r
 
-pub record FrontIs (free : ℕ) (arities : List ℕ) (d : ℕ) (s : List ℕ) (at : ℕ) (r : Front) : Type 0 where
-  pub is : behindFront free arities d (drop at s) ≡ frontAnswer s r
+pub record CallIs (e : Edition) (free : ℕ) (arities : List ℕ) (d : ℕ) (s : List ℕ) (at : ℕ) (r : Front) : Type 0 where
+  pub is : behindCall e free arities d (drop at s) ≡ frontAnswer s r
+  pub within : NextWithin at (max at (length s)) r
+
+pub record FrontIs (e : Edition) (free : ℕ) (arities : List ℕ) (d : ℕ) (s : List ℕ) (at : ℕ) (r : Front) : Type 0 where
+  pub is : behindFront e free arities d (drop at s) ≡ frontAnswer s r
   pub within : NextWithin (at + 1) (length s) r
 
 -- What checks 10 and 11 ask of a term, gathered while it is read.
@@ -74,9 +80,9 @@ combined t p q =
     }
 
 -- A term read, and the bytes behind it.
-unfoldable pub scanned : ℕ → List ℕ → ℕ → ℕ → List ℕ → Answer (Control × List ℕ)
-scanned free arities n d bs = do
-  (P, rest) ← readTerm free arities n d bs
+unfoldable pub scanned : Edition → ℕ → List ℕ → ℕ → ℕ → List ℕ → Answer (Control × List ℕ)
+scanned e free arities n d bs = do
+  (P, rest) ← readTerm e (numbered arities) free n d bs
   result (controlOf P, rest)
 
 unfoldable pub scanAnswer : List ℕ → Scan → Answer (Control × List ℕ)
@@ -88,14 +94,14 @@ EndWithin low high (End e c) = (low ≤ e) × (e ≤ high)
 EndWithin low high (Fault k) = Unit {0}
 
 -- Any n that is at least the number of bytes left will do for reading.
-pub record ScanIs (free : ℕ) (arities : List ℕ) (d : ℕ) (s : List ℕ) (at : ℕ) (r : Scan) : Type 0 where
-  pub is : (n : ℕ) → length s ≤ at + n → scanned free arities n d (drop at s) ≡ scanAnswer s r
+pub record ScanIs (e : Edition) (free : ℕ) (arities : List ℕ) (d : ℕ) (s : List ℕ) (at : ℕ) (r : Scan) : Type 0 where
+  pub is : (n : ℕ) → length s ≤ at + n → scanned e free arities n d (drop at s) ≡ scanAnswer s r
   pub within : EndWithin (at + 1) (length s) r
 
 -- A whole body or part.
-unfoldable pub scannedWhole : ℕ → List ℕ → ℕ → List ℕ → Answer Control
-scannedWhole free arities d bs = do
-  P ← readWhole free arities d bs
+unfoldable pub scannedWhole : Edition → ℕ → List ℕ → ℕ → List ℕ → Answer Control
+scannedWhole e free arities d bs = do
+  P ← readWhole e (numbered arities) free d bs
   result (controlOf P)
 
 unfoldable pub wholeAnswer : Scan → Answer Control

@@ -1,13 +1,15 @@
-// Checks 3 to 12 of document 01, in their order.
+// Checks 3 to 12, in their order. What differs by edition is told whether calls are counted, as they are in edition two.
 ghost use mathlib.Core.Path.{_≡_};
 ghost use lib.ListN.{length, drop};
 ghost use lib.Dec.{leb, eqb};
 ghost use Rattle.terms.specs.Answer.{need};
-ghost use Rattle.terms_checks.specs.Checking.{checkedAnswer, zeroFor, fieldsFrom, apartPlace, fieldsAt, met, bodiesScanned, partsScanned, termsScanned};
+ghost use Rattle.terms_checks.specs.Checking.{checkedAnswer, zeroFor, fieldsFrom, apartPlace, fieldsAt, allFit, met, bodiesScanned, partsScanned, termsScanned};
+ghost use Rattle.terms_bytes.specs.Counted.{editionFrom};
 ghost use Rattle.terms_bytes.specs.FieldPlaces.{afterField, fieldAt};
+ghost use Rattle.terms.specs.Edition.{versionByte};
 ghost use Rattle.terms.specs.Limits.{greatestArity};
 ghost use Rattle.terms.specs.Operations.{checkAnswer};
-ghost use Rattle.terms.specs.Question.{all, fits, differentNames, readApart, checkTerms, checkFields};
+ghost use Rattle.terms.specs.Question.{all, fits, differentNames, readApart, checkTerms, checkFields, checkIn, editionOf};
 ghost use Rattle.terms_checks.specs.Scanning.{wholeAnswer};
 use crate::scan::Control;
 use crate::scan::Scan;
@@ -89,18 +91,18 @@ fn meet(p: Control, q: Control) -> Control
 }
 
 // Checks 7 to 9 of the bodies from number `i` on, which begins at `at`.
-fn scan_bodies(question: &[u8], list: &[u8], i: usize, at: usize) -> Scan
-    ensures { λ r. ⌜ bodiesScanned (now (list .entry)) (drop i (now (list .entry))) (fieldsFrom (now (question .entry)) at (length (drop i (now (list .entry))))) ≡ wholeAnswer r ⌝ }
+fn scan_bodies(question: &[u8], list: &[u8], i: usize, at: usize, counted: bool) -> Scan
+    ensures { λ r. ⌜ bodiesScanned (editionFrom counted) (now (list .entry)) (drop i (now (list .entry))) (fieldsFrom (now (question .entry)) at (length (drop i (now (list .entry))))) ≡ wholeAnswer r ⌝ }
 {
     if list.len() <= i {
         return Scan::End(at, passed());
     }
     let parameters = get(list, i) as usize;
-    let one = scan_whole(field_at(question, at), parameters, 0, list);
+    let one = scan_whole(field_at(question, at), parameters, 0, list, counted);
     match one {
         Scan::Fault(k) => Scan::Fault(k),
         Scan::End(_, p) => {
-            let more = scan_bodies(question, list, i + 1, after_field(question, at));
+            let more = scan_bodies(question, list, i + 1, after_field(question, at), counted);
             match more {
                 Scan::Fault(k) => Scan::Fault(k),
                 Scan::End(e, q) => Scan::End(e, meet(p, q)),
@@ -146,15 +148,15 @@ fn apart_allowed(list: &[u8]) -> bool
 }
 
 // Checks 7 to 9 of both parts, the first of which begins at `first`.
-fn scan_parts(question: &[u8], list: &[u8], first: usize) -> Scan
-    ensures { λ r. ⌜ partsScanned (now (list .entry)) (fieldAt (now (question .entry)) first) (fieldAt (now (question .entry)) (afterField (now (question .entry)) first)) ≡ wholeAnswer r ⌝ }
+fn scan_parts(question: &[u8], list: &[u8], first: usize, counted: bool) -> Scan
+    ensures { λ r. ⌜ partsScanned (editionFrom counted) (now (list .entry)) (fieldAt (now (question .entry)) first) (fieldAt (now (question .entry)) (afterField (now (question .entry)) first)) ≡ wholeAnswer r ⌝ }
 {
-    let one = scan_whole(field_at(question, first), 0, NAME_COUNT, list);
+    let one = scan_whole(field_at(question, first), 0, NAME_COUNT, list, counted);
     match one {
         Scan::Fault(k) => Scan::Fault(k),
         Scan::End(_, p) => {
             let second = after_field(question, first);
-            let two = scan_whole(field_at(question, second), 0, NAME_COUNT, list);
+            let two = scan_whole(field_at(question, second), 0, NAME_COUNT, list, counted);
             match two {
                 Scan::Fault(k) => Scan::Fault(k),
                 Scan::End(e, q) => Scan::End(e, meet(p, q)),
@@ -164,16 +166,16 @@ fn scan_parts(question: &[u8], list: &[u8], first: usize) -> Scan
 }
 
 // Checks 7 to 9 of all terms: the bodies, then the parts.
-fn scan_terms(question: &[u8]) -> Scan
-    ensures { λ r. ⌜ termsScanned (fieldsAt (now (question .entry))) ≡ wholeAnswer r ⌝ }
+fn scan_terms(question: &[u8], counted: bool) -> Scan
+    ensures { λ r. ⌜ termsScanned (editionFrom counted) (fieldsAt (now (question .entry))) ≡ wholeAnswer r ⌝ }
 {
     let list = arities(question);
-    let bodies = scan_bodies(question, list, 0, field_place(question, 0));
+    let bodies = scan_bodies(question, list, 0, field_place(question, 0), counted);
     match bodies {
         Scan::Fault(k) => Scan::Fault(k),
         Scan::End(_, p) => {
             let first = field_place(question, definitions(question));
-            let parts = scan_parts(question, list, first);
+            let parts = scan_parts(question, list, first, counted);
             match parts {
                 Scan::Fault(k) => Scan::Fault(k),
                 Scan::End(e, q) => Scan::End(
@@ -199,10 +201,10 @@ fn apart_list(question: &[u8]) -> &[u8]
 }
 
 // Checks 7 to 12.
-fn check_terms(question: &[u8]) -> Checked
-    ensures { λ r. ⌜ zeroFor (checkTerms (fieldsAt (now (question .entry)))) ≡ checkedAnswer r ⌝ }
+fn check_terms(question: &[u8], counted: bool) -> Checked
+    ensures { λ r. ⌜ zeroFor (checkTerms (editionFrom counted) (fieldsAt (now (question .entry)))) ≡ checkedAnswer r ⌝ }
 {
-    let terms = scan_terms(question);
+    let terms = scan_terms(question, counted);
     match terms {
         Scan::Fault(k) => Checked::Refused(k),
         Scan::End(_, c) => {
@@ -222,9 +224,24 @@ fn check_terms(question: &[u8]) -> Checked
     }
 }
 
+// Check 6 of all bodies and of both parts.
+pub fn terms_fit(question: &[u8]) -> bool
+    ensures { λ r. ⌜ r ≡ allFit (fieldsAt (now (question .entry))) ⌝ }
+{
+    let list = arities(question);
+    if !bodies_fit(question, field_place(question, 0), list.len()) {
+        return false;
+    }
+    let first = field_place(question, definitions(question));
+    if !term_fits(field_at(question, first)) {
+        return false;
+    }
+    term_fits(field_at(question, after_field(question, first)))
+}
+
 // Checks 5 to 12.
-fn check_fields(question: &[u8]) -> Checked
-    ensures { λ r. ⌜ zeroFor (checkFields (fieldsAt (now (question .entry)))) ≡ checkedAnswer r ⌝ }
+fn check_fields(question: &[u8], counted: bool) -> Checked
+    ensures { λ r. ⌜ zeroFor (checkFields (editionFrom counted) (fieldsAt (now (question .entry)))) ≡ checkedAnswer r ⌝ }
 {
     let list = arities(question);
     if MOST_DEFINITIONS < list.len() {
@@ -233,17 +250,10 @@ fn check_fields(question: &[u8]) -> Checked
     if !arities_fit(list) {
         return Checked::Refused(5);
     }
-    if !bodies_fit(question, field_place(question, 0), list.len()) {
+    if !terms_fit(question) {
         return Checked::Refused(6);
     }
-    let first = field_place(question, definitions(question));
-    if !term_fits(field_at(question, first)) {
-        return Checked::Refused(6);
-    }
-    if !term_fits(field_at(question, after_field(question, first))) {
-        return Checked::Refused(6);
-    }
-    check_terms(question)
+    check_terms(question, counted)
 }
 
 // Whether the fields are all there with nothing left over: check 4.
@@ -259,14 +269,21 @@ fn framed_whole(question: &[u8]) -> bool
     false
 }
 
-// Checks 3 to 12, over any bytes.
-pub fn check(question: &[u8]) -> Checked
-    ensures { λ r. ⌜ checkAnswer (now (question .entry)) ≡ checkedAnswer r ⌝ }
+// The version byte of edition two where calls are counted, else of edition one.
+fn version_byte(counted: bool) -> u8
+    ensures { λ r. ⌜ r ≡ versionByte (editionFrom counted) ⌝ }
+{
+    if counted { 2 } else { 1 }
+}
+
+// Checks 3 to 12 of a question that must be of the one edition, over any bytes.
+pub fn check_in(question: &[u8], counted: bool) -> Checked
+    ensures { λ r. ⌜ zeroFor (checkIn (editionFrom counted) (now (question .entry))) ≡ checkedAnswer r ⌝ }
 {
     if question.len() == 0 {
         return Checked::Refused(3);
     }
-    if get(question, 0) != 1 {
+    if get(question, 0) != version_byte(counted) {
         return Checked::Refused(3);
     }
     if LONGEST_QUESTION < question.len() {
@@ -275,5 +292,22 @@ pub fn check(question: &[u8]) -> Checked
     if !framed_whole(question) {
         return Checked::Refused(4);
     }
-    check_fields(question)
+    check_fields(question, counted)
+}
+
+// Whether the question's first byte says edition two.
+pub fn is_counted(question: &[u8]) -> bool
+    ensures { λ r. ⌜ editionFrom r ≡ editionOf (now (question .entry)) ⌝ }
+{
+    if get(question, 0) == 2 {
+        return true;
+    }
+    false
+}
+
+// Checks 3 to 12 of a question in its own edition.
+pub fn check(question: &[u8]) -> Checked
+    ensures { λ r. ⌜ checkAnswer (now (question .entry)) ≡ checkedAnswer r ⌝ }
+{
+    check_in(question, is_counted(question))
 }

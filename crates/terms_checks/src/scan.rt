@@ -1,9 +1,10 @@
-// The grammar walk: checks 7, 8 and 9 in one pass over a term's bytes from left to right, the first fault deciding. It gathers what checks 10
-// and 11 will ask of the term, so that no later check walks again.
+// The grammar walk: checks 7, 8, 16 and 9 in one pass over a term's bytes from left to right, the first fault deciding. It gathers what checks 10
+// and 11 will ask of the term, so that no later check walks again. Calls are counted in edition two: the number of names stands before them.
 ghost use mathlib.Core.Path.{_≡_};
 ghost use mathlib.Core.Bool.{_&&_};
 ghost use Prim.Native.Nat.{_+_, _≤_};
-ghost use Rattle.terms_checks.specs.Scanning.{nameAllowed, NamesIs, FrontIs, passing, combined, ScanIs, scannedWhole, wholeAnswer};
+ghost use Rattle.terms_bytes.specs.Counted.{editionFrom};
+ghost use Rattle.terms_checks.specs.Scanning.{nameAllowed, NamesIs, CallIs, FrontIs, passing, combined, ScanIs, scannedWhole, wholeAnswer};
 use terms_bytes::bytes::get;
 use terms_bytes::shape::shape_at;
 use terms_bytes::tags::CALL;
@@ -67,9 +68,47 @@ fn scan_names(src: &[u8], from: usize, count: usize, depth: usize, free: usize) 
     Front::Next(at)
 }
 
-// The first byte of a term, a call's number and the names behind it.
-fn scan_front(src: &[u8], at: usize, depth: usize, free: usize, arities: &[u8]) -> Front
-    ensures { λ r. ⌜ FrontIs free (now (arities .entry)) depth (now (src .entry)) at r ⌝ }
+// A call from its definition's number on, which stands at `at`: in edition two the number of names, which must be the arity, then the names.
+fn scan_call(
+    src: &[u8],
+    at: usize,
+    depth: usize,
+    free: usize,
+    arities: &[u8],
+    counted: bool,
+) -> Front
+    ensures { λ r. ⌜ CallIs (editionFrom counted) free (now (arities .entry)) depth (now (src .entry)) at r ⌝ }
+{
+    if src.len() <= at {
+        return Front::Wrong(7);
+    }
+    let k = get(src, at) as usize;
+    if arities.len() <= k {
+        return Front::Wrong(8);
+    }
+    let names = get(arities, k);
+    if counted {
+        if src.len() <= at + 1 {
+            return Front::Wrong(7);
+        }
+        if get(src, at + 1) != names {
+            return Front::Wrong(16);
+        }
+        return scan_names(src, at + 2, names as usize, depth, free);
+    }
+    scan_names(src, at + 1, names as usize, depth, free)
+}
+
+// The first byte of a term, and what stands behind it before the subterms: a call's number and its names, or names.
+fn scan_front(
+    src: &[u8],
+    at: usize,
+    depth: usize,
+    free: usize,
+    arities: &[u8],
+    counted: bool,
+) -> Front
+    ensures { λ r. ⌜ FrontIs (editionFrom counted) free (now (arities .entry)) depth (now (src .entry)) at r ⌝ }
 {
     if src.len() <= at {
         return Front::Wrong(7);
@@ -78,17 +117,11 @@ fn scan_front(src: &[u8], at: usize, depth: usize, free: usize, arities: &[u8]) 
     if CALL < t {
         return Front::Wrong(7);
     }
+    if t == CALL {
+        return scan_call(src, at + 1, depth, free, arities, counted);
+    }
     let h = shape_at(src, at, arities);
     let names = h.names;
-    if t == CALL {
-        if src.len() <= at + 1 {
-            return Front::Wrong(7);
-        }
-        if arities.len() <= get(src, at + 1) as usize {
-            return Front::Wrong(8);
-        }
-        return scan_names(src, at + 2, names, depth, free);
-    }
     scan_names(src, at + 1, names, depth, free)
 }
 
@@ -147,11 +180,18 @@ fn combine(t: u8, p: Control, q: Control) -> Control
 }
 
 // The term at `at`.
-fn scan_term(src: &[u8], at: usize, depth: usize, free: usize, arities: &[u8]) -> Scan
+fn scan_term(
+    src: &[u8],
+    at: usize,
+    depth: usize,
+    free: usize,
+    arities: &[u8],
+    counted: bool,
+) -> Scan
     requires { ⌜ depth ≤ at + 255 ⌝ }
-    ensures { λ r. ⌜ ScanIs free (now (arities .entry)) depth (now (src .entry)) at r ⌝ }
+    ensures { λ r. ⌜ ScanIs (editionFrom counted) free (now (arities .entry)) depth (now (src .entry)) at r ⌝ }
 {
-    let f = scan_front(src, at, depth, free, arities);
+    let f = scan_front(src, at, depth, free, arities, counted);
     match f {
         Front::Wrong(k) => Scan::Fault(k),
         Front::Next(n) => {
@@ -162,14 +202,14 @@ fn scan_term(src: &[u8], at: usize, depth: usize, free: usize, arities: &[u8]) -
             if parts == 0 {
                 return Scan::End(n, combine(t, passed(), passed()));
             }
-            let one = scan_term(src, n, deeper, free, arities);
+            let one = scan_term(src, n, deeper, free, arities, counted);
             match one {
                 Scan::Fault(k) => Scan::Fault(k),
                 Scan::End(e, p) => {
                     if parts == 1 {
                         return Scan::End(e, combine(t, p, passed()));
                     }
-                    let two = scan_term(src, e, deeper, free, arities);
+                    let two = scan_term(src, e, deeper, free, arities, counted);
                     match two {
                         Scan::Fault(k) => Scan::Fault(k),
                         Scan::End(last, q) => Scan::End(last, combine(t, p, q)),
@@ -181,11 +221,11 @@ fn scan_term(src: &[u8], at: usize, depth: usize, free: usize, arities: &[u8]) -
 }
 
 // A whole body or part: nothing may follow its term.
-pub fn scan_whole(src: &[u8], depth: usize, free: usize, arities: &[u8]) -> Scan
+pub fn scan_whole(src: &[u8], depth: usize, free: usize, arities: &[u8], counted: bool) -> Scan
     requires { ⌜ depth ≤ 255 ⌝ }
-    ensures { λ r. ⌜ scannedWhole free (now (arities .entry)) depth (now (src .entry)) ≡ wholeAnswer r ⌝ }
+    ensures { λ r. ⌜ scannedWhole (editionFrom counted) free (now (arities .entry)) depth (now (src .entry)) ≡ wholeAnswer r ⌝ }
 {
-    let r = scan_term(src, 0, depth, free, arities);
+    let r = scan_term(src, 0, depth, free, arities, counted);
     match r {
         Scan::Fault(k) => Scan::Fault(k),
         Scan::End(e, c) => {

@@ -1,5 +1,6 @@
 mod BesideChecks
 mod BesideWriting
 mod MergeChecks
+mod MergeCounted
 mod MergeWriting
 mod TurnedBack

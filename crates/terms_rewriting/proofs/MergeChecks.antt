@@ -13,10 +13,8 @@ use borrow.Author.Tests.{lt-ltb, le-ltb, le-leb, lt-leb}
 use Rattle.calculus.specs.Cond.{Pairs}
 use Rattle.terms.specs.Limits.{nameCount}
 use Rattle.terms.specs.Answer.{Answer, refused, result, _>>=_, _>>_, need}
-use Rattle.terms.specs.Operations.{holdsApart, mergedQuestion, merged, writtenWithin, mergeOf, lengthWritten, areaAfter}
-use Rattle.terms.specs.Question.{Question, pairBytes, checkOf, write}
-use Rattle.terms_bytes.specs.Writing.{Does, Writes, writtenAnswer}
-use Rattle.terms_bytes.specs.declared.answer.Written.the-variants.{Length, Refused}
+use Rattle.terms.specs.Operations.{holdsApart, mergedQuestion, merged, writtenWithin, mergeOf}
+use Rattle.terms.specs.Question.{Question, pairBytes, editionOf, questionOf, writeIn}
 use Rattle.terms.proofs.Answers.{bind-to, bind-refused, need-passed, need-failed}
 use Rattle.terms_bytes.proofs.Stores.{getD-front}
 
@@ -79,38 +77,28 @@ module _ (list : List ℕ) (a b i : ℕ) (t : Bool)
       even [] q = omega (arith, length-drop i list, ap length q)
       even (p ∷ E) q = omega (arith, length-drop i list, ap length q)
 
--- An operation that is turned back, and one that writes.
-pub does-refused : (m : Answer (List ℕ)) (area : List ℕ) (k : ℕ) → m ≡ refused k → Does m area (Refused k) area
-unfolding writtenAnswer lengthWritten areaAfter _>>=_
-does-refused m area k e = record { answer = rw e; left = rw e }
-
-pub does-write : (m : Answer (List ℕ)) (area area′ : List ℕ) (q : Question) (n : ℕ) → m ≡ result (write q) → Writes q area n area′
-    → Does m area (Length n) area′
-unfolding Writes writtenAnswer lengthWritten _>>=_
-does-write m area area′ q n e w = record { answer = rw e (ap result (w .0)); left = rw e (w .1) }
-
 -- What merge makes of an accepted question.
-module _ (s : List ℕ) (q : Question) (e : checkOf s ≡ result q) (a b room : ℕ) where
+module _ (s : List ℕ) (q : Question) (e : questionOf s ≡ result q) (a b room : ℕ) where
   abbrev pub mayMerge : Bool
   mayMerge = ltb a nameCount && ltb b nameCount && not (holdsApart (q .apart) a b)
 
-  merge-is : mergeOf s a b room ≡ ((need 14 mayMerge >> result (mergedQuestion a b q)) >>= writtenWithin room)
+  merge-is : mergeOf s a b room ≡ ((need 14 mayMerge >> result (mergedQuestion a b q)) >>= writtenWithin (editionOf s) room)
   unfolding mergeOf merged
-  merge-is = ap (λ (m : Answer Question). m >>= writtenWithin room) (bind-to _ e)
+  merge-is = ap (λ (m : Answer Question). m >>= writtenWithin (editionOf s) room) (bind-to _ e)
 
   pub merge-turned : mayMerge ≡ false → mergeOf s a b room ≡ refused 14
-  merge-turned t = merge-is ∙ bind-refused (writtenWithin room) (need-failed 14 mayMerge (result (mergedQuestion a b q)) t)
+  merge-turned t = merge-is ∙ bind-refused (writtenWithin (editionOf s) room) (need-failed 14 mayMerge (result (mergedQuestion a b q)) t)
 
-  merge-passes : mayMerge ≡ true → mergeOf s a b room ≡ writtenWithin room (mergedQuestion a b q)
-  merge-passes t = merge-is ∙ bind-to (writtenWithin room) (need-passed 14 mayMerge (result (mergedQuestion a b q)) t)
+  merge-passes : mayMerge ≡ true → mergeOf s a b room ≡ writtenWithin (editionOf s) room (mergedQuestion a b q)
+  merge-passes t = merge-is ∙ bind-to (writtenWithin (editionOf s) room) (need-passed 14 mayMerge (result (mergedQuestion a b q)) t)
 
-  pub merge-short : mayMerge ≡ true → room < length (write (mergedQuestion a b q)) → mergeOf s a b room ≡ refused 15
+  pub merge-short : mayMerge ≡ true → room < length (writeIn (editionOf s) (mergedQuestion a b q)) → mergeOf s a b room ≡ refused 15
   unfolding writtenWithin
-  merge-short t h = merge-passes t ∙ need-failed 15 (leb (length (write (mergedQuestion a b q))) room) _ (lt-leb _ _ h)
+  merge-short t h = merge-passes t ∙ need-failed 15 (leb (length (writeIn (editionOf s) (mergedQuestion a b q))) room) _ (lt-leb _ _ h)
 
-  pub merge-writes : mayMerge ≡ true → length (write (mergedQuestion a b q)) ≤ room → mergeOf s a b room ≡ result (write (mergedQuestion a b q))
+  pub merge-writes : mayMerge ≡ true → length (writeIn (editionOf s) (mergedQuestion a b q)) ≤ room → mergeOf s a b room ≡ result (writeIn (editionOf s) (mergedQuestion a b q))
   unfolding writtenWithin
-  merge-writes t h = merge-passes t ∙ need-passed 15 (leb (length (write (mergedQuestion a b q))) room) _ (le-leb _ _ h)
+  merge-writes t h = merge-passes t ∙ need-passed 15 (leb (length (writeIn (editionOf s) (mergedQuestion a b q))) room) _ (le-leb _ _ h)
 
   pub name-too-large : (nameCount ≤ a) ⊎ (nameCount ≤ b) → mayMerge ≡ false
   name-too-large (inl h) = rw (le-ltb a nameCount h)

@@ -1,4 +1,5 @@
-// Setting a third part beside both sides of a question: document 01, the last paragraph of "Steps".
+// Setting a third part beside both sides of a question: document 01, the last paragraph of "Steps". The third part comes in the question's own
+// edition, and bytes are copied, so that one path serves both.
 ghost use mathlib.Core.Path.{_≡_};
 ghost use mathlib.Core.Bool.{_&&_};
 ghost use mathlib.Core.List.{_∷_, _++_};
@@ -22,6 +23,7 @@ use terms_bytes::limits::NAME_COUNT;
 use terms_bytes::tags::PARALLEL;
 use terms_checks::check::Checked;
 use terms_checks::check::check;
+use terms_checks::check::is_counted;
 use terms_checks::scan::Scan;
 use terms_checks::scan::scan_whole;
 
@@ -108,7 +110,13 @@ fn beside_accepted(question: &[u8], third: &[u8], area: &mut [u8]) -> Written
     ) {
         return Written::Refused(6);
     }
-    let scanned = scan_whole(third, 0, NAME_COUNT, arities(question));
+    let scanned = scan_whole(
+        third,
+        0,
+        NAME_COUNT,
+        arities(question),
+        is_counted(question),
+    );
     match scanned {
         Scan::Fault(k) => Written::Refused(k),
         Scan::End(_, c) => {

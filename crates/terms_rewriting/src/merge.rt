@@ -7,6 +7,7 @@ ghost use Rattle.calculus.specs.Cond.{Pairs};
 ghost use Rattle.terms.specs.Operations.{holdsApart, mergeOf};
 ghost use Rattle.terms.specs.Question.{pairBytes};
 ghost use Rattle.terms_bytes.specs.Writing.{Accepted, Does, MayMerge, WritesMerged};
+ghost use Rattle.terms_rewriting.specs.Counted.{MayMergeCounted, WritesMergedCounted};
 use terms_bytes::answer::Written;
 use terms_bytes::bytes::copy;
 use terms_bytes::bytes::get;
@@ -16,9 +17,12 @@ use terms_bytes::frame::definitions;
 use terms_bytes::frame::field_at;
 use terms_bytes::frame::field_place;
 use terms_bytes::frame::size_at;
+use terms_bytes::limits::LONGEST_QUESTION;
 use terms_bytes::limits::NAME_COUNT;
 use terms_checks::check::Checked;
 use terms_checks::check::check;
+use terms_checks::check::is_counted;
+use terms_converting::question::convert_question;
 use terms_renaming::rename::rename;
 use terms_renaming::rename::rename_bytes;
 use terms_renaming::tables::merging;
@@ -78,6 +82,18 @@ fn write_merged(question: &[u8], a: u8, b: u8, area: &mut [u8]) -> usize
     question.len()
 }
 
+// The same of edition two: its edition-one form is merged, and written in edition two again.
+fn write_merged_counted(question: &[u8], a: u8, b: u8, area: &mut [u8]) -> usize
+    requires { ⌜ MayMergeCounted (now question) a b (now area) ⌝ }
+    ensures { λ r. ⌜ WritesMergedCounted (now (question .entry)) a b (now (area .entry)) r (now (area .exit)) ⌝ }
+{
+    let mut plain = [0u8; LONGEST_QUESTION];
+    let n = convert_question(question, true, &mut plain);
+    let mut merged = [0u8; LONGEST_QUESTION];
+    let m = write_merged(&plain[..n], a, b, &mut merged);
+    convert_question(&merged[..m], false, area)
+}
+
 // Checks 14 and 15 of an accepted question, then the merged question.
 fn merge_accepted(question: &[u8], a: u64, b: u64, area: &mut [u8]) -> Written
     requires { ⌜ Accepted (now question) ⌝ }
@@ -97,6 +113,9 @@ fn merge_accepted(question: &[u8], a: u64, b: u64, area: &mut [u8]) -> Written
     }
     if area.len() < question.len() {
         return Written::Refused(15);
+    }
+    if is_counted(question) {
+        return Written::Length(write_merged_counted(question, a as u8, b as u8, area));
     }
     Written::Length(write_merged(question, a as u8, b as u8, area))
 }

@@ -7,8 +7,8 @@ use Rattle.calculus.specs.Definitions.{Defs}
 use Rattle.calculus.specs.OpenBisimulation.{Related}
 use Rattle.calculus.proofs.Theorems.{related-larger, inside-related}
 use Rattle.terms.specs.Answer.{result}
-use Rattle.terms.specs.Question.{Question, checkOf, bodyOf}
-use Rattle.terms.proofs.WellFormed.{accepted-once}
+use Rattle.terms.specs.Question.{Question, questionOf, bodyOf}
+use Rattle.terms.proofs.OwnEdition.{accepted-once}
 use Rattle.verdict.specs.Verdict.{openly, same, verdictOf}
 use Rattle.verdict.specs.Outcome.{sameOf, Says}
 use Rattle.verdict.specs.Promises.{JudgeIs}
@@ -24,7 +24,7 @@ larger-defines l Δ d = record {
   bodies = subst (λ bs. Δ .body ≡ bodyOf bs) (sym (l .bodies)) (d .bodies);
 }
 
-module _ (question larger : List ℕ) (q q′ : Question) (accepted : checkOf question ≡ result q) (accepted′ : checkOf larger ≡ result q′)
+module _ (question larger : List ℕ) (q q′ : Question) (accepted : questionOf question ≡ result q) (accepted′ : questionOf larger ≡ result q′)
     (l : LargerQuestion q q′) where
   pub inside-parts : RelatedParts question → RelatedParts larger
   inside-parts r =

@@ -10,9 +10,9 @@ use lib.Dec.{leb}
 use borrow.Author.Tests.{le-leb}
 use Rattle.calculus.specs.Definitions.{Defs}
 use Rattle.terms.specs.Answer.{Answer, refused, result, _>>=_, _>>_}
-use Rattle.terms.specs.Question.{Question, checkOf}
+use Rattle.terms.specs.Question.{Question, questionOf}
 use Rattle.terms.proofs.Answers.{result-injective, bind-result, need-result, need-passed, bind-to}
-use Rattle.terms.proofs.WellFormed.{accepted-well-formed}
+use Rattle.terms.proofs.OwnEdition.{own-well-formed}
 use Rattle.verdict.specs.Entries.{Defines}
 use Rattle.verdict.specs.Judge.{judgeBy, greatestCapacity, slotBytes, judgeOf, workAfter}
 use Rattle.verdict.specs.Meaning.{Decision}
@@ -25,7 +25,7 @@ use Rattle.verdict.proofs.VerdictIsDefinition13.{verdict-means}
 -- What is known of an answered verdict.
 pub record Answered (m : Manner) (hand : List ℕ) (capacity : ℕ) (work : List ℕ) (answer : ℕ) (after : List ℕ) : Type 0 where
   pub read : Question
-  pub accepted : checkOf hand ≡ result read
+  pub accepted : questionOf hand ≡ result read
   pub says : Says answer (ofVerdict (result (verdictBy m read capacity)))
   pub cleared : after ≡ replicate (slotBytes * capacity) 0 ++ drop (slotBytes * capacity) work
 
@@ -41,23 +41,23 @@ module _ {ℓ} (C : Type ℓ) where
       go (refused k) e s f = turned k e s f
       go (result v) e s f =
           let (_, e₁) = passed-within capacity (slotBytes * capacity) (length work) _ v e in
-          let (q, a, e₂) = bind-result (checkOf hand) _ v e₁ in
+          let (q, a, e₂) = bind-result (questionOf hand) _ v e₁ in
           let is : verdictBy m q capacity ≡ v = result-injective {a = verdictBy m q capacity} e₂ in
           given (record { read = q; accepted = a; says = subst (λ w. Says answer (ofVerdict (result w))) (sym is) s; cleared = f })
 
 -- within the bounds of checks 1 and 2 an accepted question is answered by its verdict
-pub judge-answers : (m : Manner) (question : List ℕ) (q : Question) → checkOf question ≡ result q → (capacity room : ℕ) → 1 ≤ capacity → capacity ≤ greatestCapacity
+pub judge-answers : (m : Manner) (question : List ℕ) (q : Question) → questionOf question ≡ result q → (capacity room : ℕ) → 1 ≤ capacity → capacity ≤ greatestCapacity
     → slotBytes * capacity ≤ room → judgeBy m question capacity room ≡ result (verdictBy m q capacity)
 unfolding judgeBy
 judge-answers m question q a capacity room l g h =
     within-passes capacity (slotBytes * capacity) room _ (record { some = l; most = g; fits = h }) ∙ bind-to _ a
 
-pub judge-is-definition-13 : (question : List ℕ) (q : Question) → checkOf question ≡ result q → (Δ : Defs) → Defines q Δ → (capacity : ℕ) (work : List ℕ)
+pub judge-is-definition-13 : (question : List ℕ) (q : Question) → questionOf question ≡ result q → (Δ : Defs) → Defines q Δ → (capacity : ℕ) (work : List ℕ)
     → 1 ≤ capacity → capacity ≤ greatestCapacity → slotBytes * capacity ≤ length work → (answer : ℕ) (after : List ℕ)
     → JudgeIs question capacity work answer after → Decision openly Δ q capacity answer
 judge-is-definition-13 question q a Δ d capacity work l g h answer after j =
     record {
       outcome = ofVerdict (result (verdictOf q capacity));
       says = subst (λ m. Says answer (ofVerdict m)) (judge-answers openly question q a capacity (length work) l g h) (j .answer);
-      means = verdict-means q (accepted-well-formed question q a) Δ d capacity;
+      means = verdict-means q (own-well-formed question q a) Δ d capacity;
     }

@@ -2,6 +2,7 @@ pub mod CapacityLaws
 pub mod ClosedRelated
 pub mod Completeness
 pub mod DecidedField
+pub mod EditionsAlike
 pub mod EntriesKeep
 pub mod FieldRows
 pub mod InsideVerdict

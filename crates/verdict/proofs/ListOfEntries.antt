@@ -8,8 +8,8 @@ use lib.ListN.{length}
 use Rattle.calculus.specs.Definitions.{Defs}
 use Rattle.terms.specs.Answer.{Answer, refused, result, _>>=_}
 use Rattle.terms.specs.Operations.{checkAnswer, mergeOf, besideOf, lengthWritten, areaAfter}
-use Rattle.terms.specs.Question.{Question, checkOf}
-use Rattle.terms.proofs.WellFormed.{accepted-well-formed, accepted-once}
+use Rattle.terms.specs.Question.{Question, questionOf}
+use Rattle.terms.proofs.OwnEdition.{own-well-formed, accepted-once}
 use Rattle.steps.proofs.QuestionDefinitions.{definitions}
 use Rattle.verdict.specs.Verdict.{openly, Numbered, Verdict, unsettled, same, different, verdictOf}
 use Rattle.verdict.specs.Outcome.{Outcome, gave, turnedBack, unsettledOutcome, sameOf, differentOf, codeOf, Says, ofNumber, ofVerdict}
@@ -57,10 +57,10 @@ judge-told : (hand : List ℕ) (capacity : ℕ) (work : List ℕ) (answer : ℕ)
 judge-told hand capacity work answer after j =
     judge-cases (Judged hand capacity work answer after) openly hand capacity work answer after j (λ k e s f. not-judged k e s f) (λ a.
     let q : Question = a .read in
-    let w = accepted-well-formed hand q (a .accepted) .bodies in
+    let w = own-well-formed hand q (a .accepted) .bodies in
     let Δ : Defs = definitions (q .arities) (q .bodies) w in
     let d : Defines q Δ = question-defines q w in
-    judged q (a .accepted) Δ d (ofVerdict (result (verdictOf q capacity))) (a .says) (verdict-means q (accepted-well-formed hand q (a .accepted)) Δ d capacity) (a .cleared))
+    judged q (a .accepted) Δ d (ofVerdict (result (verdictOf q capacity))) (a .says) (verdict-means q (own-well-formed hand q (a .accepted)) Δ d capacity) (a .cleared))
 
 told : (hand : List ℕ) (e : Entry) → Kept hand e → Told hand e
 unfolding Kept Told
@@ -98,9 +98,9 @@ answers-zero : (hand : List ℕ) → ((r : ℕ) → CheckIs hand r → Says r (g
 unfolding checkAnswer ofNumber _>>=_
 answers-zero hand h =
     let s : Says (codeOf (ofNumber (checkAnswer hand))) (ofNumber (checkAnswer hand)) = record { number = refl; small = check-small hand } in
-    go (checkOf hand) refl (says-once _ _ s (h (codeOf (ofNumber (checkAnswer hand))) (record { answer = s })))
+    go (questionOf hand) refl (says-once _ _ s (h (codeOf (ofNumber (checkAnswer hand))) (record { answer = s })))
   where
-    go : (m : Answer Question) → checkOf hand ≡ m → ofNumber (checkOf hand >>= λ q. result 0) ≡ gave 0 → Accepted hand
+    go : (m : Answer Question) → questionOf hand ≡ m → ofNumber (questionOf hand >>= λ q. result 0) ≡ gave 0 → Accepted hand
     go (result q) e z = record { read = q; accepted = e }
     go (refused k) e z =
         let y : turnedBack k ≡ gave 0 = subst (λ m. ofNumber (m >>= λ q. result 0) ≡ gave 0) e z in

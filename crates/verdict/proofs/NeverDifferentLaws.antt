@@ -8,9 +8,9 @@ use Rattle.calculus.specs.Definitions.{Defs}
 use Rattle.calculus.specs.Distinction.{Irr}
 use Rattle.calculus.specs.OpenBisimulation.{Related}
 use Rattle.terms.specs.Answer.{result}
-use Rattle.terms.specs.Question.{Question, checkOf}
+use Rattle.terms.specs.Question.{Question, questionOf}
 use Rattle.terms.proofs.ApartLaws.{apart-irreflexive}
-use Rattle.terms.proofs.WellFormed.{accepted-well-formed, accepted-once}
+use Rattle.terms.proofs.OwnEdition.{own-well-formed, accepted-once}
 use Rattle.steps.proofs.QuestionDefinitions.{definitions}
 use Rattle.verdict.specs.Verdict.{Manner, openly, verdictBy, Verdict, unsettled, same, different, verdictOf}
 use Rattle.verdict.specs.Outcome.{Outcome, turnedBack, unsettledOutcome, sameOf, differentOf, Says, ofVerdict}
@@ -27,14 +27,14 @@ unfolding ofVerdict
 said s (is-same n) t = inl (n, t)
 said s is-unsettled t = inr t
 
-module _ (question : List ℕ) (q : Question) (accepted : checkOf question ≡ result q) where
+module _ (question : List ℕ) (q : Question) (accepted : questionOf question ≡ result q) where
   pub apart-of : Irr (q .apart)
-  apart-of = apart-irreflexive (q .apart) (accepted-well-formed question q accepted .apart)
+  apart-of = apart-irreflexive (q .apart) (own-well-formed question q accepted .apart)
 
   -- parts that are related whatever the definitions
   pub related-parts : ((Δ : Defs) → Related Δ (q .apart) (q .first) (q .second)) → RelatedParts question
   related-parts r =
-      let w = accepted-well-formed question q accepted .bodies in
+      let w = own-well-formed question q accepted .bodies in
       let Δ : Defs = definitions (q .arities) (q .bodies) w in
       record { read = q; accepted = accepted; definitions = Δ; defines = question-defines q w; related = r Δ }
 

@@ -5,13 +5,13 @@ use Prim.Native.Nat.{ℕ}
 use Rattle.calculus.specs.Rearranged.{Rearranged}
 use Rattle.calculus.proofs.Theorems.{related-rearranged}
 use Rattle.terms.specs.Answer.{result}
-use Rattle.terms.specs.Question.{Question, checkOf}
+use Rattle.terms.specs.Question.{Question, questionOf}
 use Rattle.verdict.specs.Verdict.{verdictOf}
 use Rattle.verdict.specs.Entries.{RelatedParts}
 use Rattle.verdict.specs.NeverDifferent.{SameOrUnsettled, NeverDifferent}
 use Rattle.verdict.proofs.NeverDifferentLaws.{apart-of, related-parts, same-or-unsettled, never-different}
 
-module _ (question : List ℕ) (q : Question) (accepted : checkOf question ≡ result q) (rearranged : Rearranged (q .first) (q .second)) where
+module _ (question : List ℕ) (q : Question) (accepted : questionOf question ≡ result q) (rearranged : Rearranged (q .first) (q .second)) where
   pub rearranged-parts : RelatedParts question
   rearranged-parts = related-parts question q accepted (λ Δ. related-rearranged Δ (q .apart) (apart-of question q accepted) rearranged)
 

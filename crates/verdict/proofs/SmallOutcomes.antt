@@ -13,12 +13,14 @@ use Rattle.calculus.specs.Free.{fn}
 use Rattle.calculus.specs.Term.{Term}
 use Rattle.terms.specs.Answer.{Answer, refused, result, _>>=_, _>>_}
 use Rattle.terms.specs.Limits.{nameCount, longestQuestion, longestTerm}
-use Rattle.terms.specs.Operations.{checkAnswer, merged, placedBeside, mergeOf, besideOf, lengthWritten}
-use Rattle.terms.specs.Question.{Question, checkOf}
+use Rattle.terms.specs.Operations.{checkAnswer, merged, placedBeside, mergeOf, besideOf, convertOf, lengthWritten}
+use Rattle.terms.specs.Question.{Question, editionOf, questionOf}
 use Rattle.terms.proofs.Answers.{result-injective, bind-result, need-result, both-true}
 use Rattle.terms.proofs.BesideLaws.{beside-accepted}
 use Rattle.terms.proofs.MergeLaws.{merge-accepted}
-use Rattle.terms.proofs.RefusalNumbers.{Numbered, numbered-bind, numbered-need, check-numbered, merge-numbered, beside-numbered, accepted-length}
+use Rattle.terms.proofs.Converting.{converted, converted-read}
+use Rattle.terms.specs.Edition.{Edition}
+use Rattle.terms.proofs.RefusalNumbers.{Numbered, numbered-bind, numbered-need, check-numbered, merge-numbered, beside-numbered, accepted-length, convert-numbered, accepted-length-in}
 use Rattle.terms.proofs.WrittenLaws.{Written, written-within}
 use Rattle.steps.specs.Limits.{mostSteps, stepBytes}
 use Rattle.steps.specs.Listed.{ListedStep}
@@ -41,8 +43,8 @@ number-small (result n) h l = let k = l n refl in omega arith
 pub check-small : (question : List ℕ) → Small (ofNumber (checkAnswer question))
 unfolding checkAnswer Numbered
 check-small question =
-    number-small (checkAnswer question) (numbered-bind (checkOf question) _ (check-numbered question) (λ q. tt))
-    (λ n e. let (q, _, z) = bind-result (checkOf question) _ n e in let y : 0 ≡ n = result-injective {a = 0} z in omega arith)
+    number-small (checkAnswer question) (numbered-bind (questionOf question) _ (check-numbered question) (λ q. tt))
+    (λ n e. let (q, _, z) = bind-result (questionOf question) _ n e in let y : 0 ≡ n = result-injective {a = 0} z in omega arith)
 
 -- what merge and beside write is accepted, and so no longer than check 4 allows
 written-small : (m : Answer (List ℕ)) → Numbered m → ((bs : List ℕ) → m ≡ result bs → length bs ≤ longestQuestion) → Small (ofNumber (lengthWritten m))
@@ -55,21 +57,26 @@ pub merge-small : (question : List ℕ) (a b room : ℕ) → Small (ofNumber (le
 unfolding mergeOf
 merge-small question a b room =
     written-small (mergeOf question a b room) (merge-numbered question a b room) (λ bs e.
-    let w : Written (merged question a b) room bs = written-within (merged question a b) room bs e in
-    accepted-length bs (w .question) (ap checkOf (w .bytes) ∙ merge-accepted question a b (w .question) (w .made)))
+    let w : Written (editionOf question) (merged question a b) room bs = written-within (editionOf question) (merged question a b) room bs e in
+    accepted-length bs (w .question) (ap questionOf (w .bytes) ∙ merge-accepted question a b (w .question) (w .made)))
 
 pub beside-small : (question third : List ℕ) (room : ℕ) → Small (ofNumber (lengthWritten (besideOf question third room)))
 unfolding besideOf
 beside-small question third room =
     written-small (besideOf question third room) (beside-numbered question third room) (λ bs e.
-    let w : Written (placedBeside question third) room bs = written-within (placedBeside question third) room bs e in
-    accepted-length bs (w .question) (ap checkOf (w .bytes) ∙ beside-accepted question third (w .question) (w .made)))
+    let w : Written (editionOf question) (placedBeside question third) room bs = written-within (editionOf question) (placedBeside question third) room bs e in
+    accepted-length bs (w .question) (ap questionOf (w .bytes) ∙ beside-accepted question third (w .question) (w .made)))
+
+pub convert-small : (e : Edition) (question : List ℕ) (room : ℕ) → Small (ofNumber (lengthWritten (convertOf e question room)))
+convert-small e question room =
+    written-small (convertOf e question room) (convert-numbered e question room) (λ bs h.
+    accepted-length-in e bs _ (converted-read e question bs (converted e question room bs h)))
 
 -- a list has at most as many steps as the limit allows
 list-numbered : (question : List ℕ) (side x room : ℕ) → Numbered (listOf question side x room)
 unfolding listOf sideOf isNew Numbered
 list-numbered question side x room =
-    numbered-bind (checkOf question) _ (check-numbered question) (λ q.
+    numbered-bind (questionOf question) _ (check-numbered question) (λ q.
     numbered-bind (sideOf q side) _ (numbered-need 13 (eqb side 1 || eqb side 2) _ (omega arith) tt) (λ P.
     numbered-need 13 (ltb x nameCount && not (among (fn P) x)) _ (omega arith)
     (numbered-need 15 (leb (stepBytes * mostSteps) room) _ (omega arith) tt)))
@@ -86,7 +93,7 @@ list-small question side x room = go (listOf question side x room) refl (list-nu
     go (refused k) e h = h
     go (result unsettled) e h = tt
     go (result (listed ss)) e h =
-        let (q, _, e₁) = bind-result (checkOf question) _ (listed ss) e in
+        let (q, _, e₁) = bind-result (questionOf question) _ (listed ss) e in
         let (P, _, e₂) = bind-result (sideOf q side) _ (listed ss) e₁ in
         let (_, e₃) = need-result 13 (ltb x nameCount && not (among (fn P) x)) _ (listed ss) e₂ in
         let (_, e₄) = need-result 15 (leb (stepBytes * mostSteps) room) _ (listed ss) e₃ in
@@ -96,7 +103,7 @@ list-small question side x room = go (listOf question side x room) refl (list-nu
 judge-numbered : (m : Manner) (question : List ℕ) (capacity room : ℕ) → Numbered (judgeBy m question capacity room)
 unfolding judgeBy Numbered
 judge-numbered m question capacity room =
-    within-numbered capacity (slotBytes * capacity) room _ (numbered-bind (checkOf question) _ (check-numbered question) (λ q. tt))
+    within-numbered capacity (slotBytes * capacity) room _ (numbered-bind (questionOf question) _ (check-numbered question) (λ q. tt))
 
 verdict-small : (v : Verdict) (capacity : ℕ) → ((n : ℕ) → VerdictNumbered v n → n ≤ capacity) → capacity ≤ greatestCapacity → Small (ofVerdict (result v))
 unfolding ofVerdict Small
@@ -112,6 +119,6 @@ judge-small m question capacity room = go (judgeBy m question capacity room) ref
     go (refused k) e h = h
     go (result v) e h =
         let (w, e₁) = passed-within capacity (slotBytes * capacity) room _ v e in
-        let (q, a, e₂) = bind-result (checkOf question) _ v e₁ in
+        let (q, a, e₂) = bind-result (questionOf question) _ v e₁ in
         subst (λ w. Small (ofVerdict (result w))) (result-injective {a = verdictBy m q capacity} e₂)
         (verdict-small (verdictBy m q capacity) capacity (number-at-most-capacity m q capacity) (w .most))

@@ -13,8 +13,9 @@ use Rattle.late_early.specs.LateEarly.{Kind, late, early, Bisimilar}
 use Rattle.late_early.proofs.LateEarlyTheorems.{related-late, late-is-early}
 use Rattle.terms.specs.Answer.{result}
 use Rattle.terms.specs.Limits.{nameCount}
-use Rattle.terms.specs.Question.{Question, checkOf}
-use Rattle.terms.proofs.WellFormed.{WellFormed, accepted-well-formed}
+use Rattle.terms.specs.Question.{Question, questionOf}
+use Rattle.terms.proofs.OwnEdition.{own-well-formed}
+use Rattle.terms.proofs.WellFormed.{WellFormed}
 use Rattle.steps.specs.Lists.{_∈_}
 use Rattle.steps.proofs.Membership.{distinct-length}
 use Rattle.field.specs.Exploration.{Row, fieldOf}
@@ -65,12 +66,12 @@ module _ (Δ : Defs) (S : Setting) (naming : S .differ ≡ true) (arities : List
       let z : _≡_ {A = ℕ} 0 1 = cc (∈-found (selves (survivors demands (s .rows))) start i, s .survives) in
       omega arith
 
-module _ (question : List ℕ) (q : Question) (accepted : checkOf question ≡ result q) (Δ : Defs) (defines : Defines q Δ) (k : Kind) (capacity : ℕ) where
+module _ (question : List ℕ) (q : Question) (accepted : questionOf question ≡ result q) (Δ : Defs) (defines : Defines q Δ) (k : Kind) (capacity : ℕ) where
   abbrev S : Setting
   S = settingOf true (q .bodies)
 
   well : WellFormed q
-  well = accepted-well-formed question q accepted
+  well = own-well-formed question q accepted
 
   setting : SettingFor Δ S (q .arities)
   setting = question-setting true q well Δ (defines .arities) (defines .bodies)
@@ -110,7 +111,7 @@ module _ (question : List ℕ) (q : Question) (accepted : checkOf question ≡ r
   verdict-means = means-by (named k) Δ q capacity same-is-bisimilar different-is-not-bisimilar unsettled-iff-past-a-limit number-is-field-size
 
 -- On the promises of the exported operations, as demand 2 has it.
-pub judge-is-definitions-7-to-10 : (k : Kind) (question : List ℕ) (q : Question) → checkOf question ≡ result q → (Δ : Defs) → Defines q Δ → (capacity : ℕ) (work : List ℕ)
+pub judge-is-definitions-7-to-10 : (k : Kind) (question : List ℕ) (q : Question) → questionOf question ≡ result q → (Δ : Defs) → Defines q Δ → (capacity : ℕ) (work : List ℕ)
     → 1 ≤ capacity → capacity ≤ greatestCapacity → slotBytes * capacity ≤ length work → (answer : ℕ) (after : List ℕ)
     → JudgesBy (named k) question capacity work answer after → Decision (named k) Δ q capacity answer
 judge-is-definitions-7-to-10 k question q a Δ d capacity work l g h answer after j =
@@ -132,7 +133,7 @@ one-size Δ S start n m a b =
     )
 
 -- With one capacity late and early are settled together, with one number, and a late "same" is an early "same".
-pub late-same-is-early-same : (question : List ℕ) (q : Question) → checkOf question ≡ result q → (Δ : Defs) → Defines q Δ
+pub late-same-is-early-same : (question : List ℕ) (q : Question) → questionOf question ≡ result q → (Δ : Defs) → Defines q Δ
     → (capacity n : ℕ) → verdictBy (named late) q capacity ≡ same n → verdictBy (named early) q capacity ≡ same n
 late-same-is-early-same question q a Δ d capacity n h = go (verdictBy (named early) q capacity) refl
   where
@@ -147,15 +148,15 @@ late-same-is-early-same question q a Δ d capacity n h = go (verdictBy (named ea
         absurd (different-is-not-bisimilar question q a Δ d early capacity m e (late-is-early Δ (same-is-bisimilar question q a Δ d late capacity n h)))
 
 -- An open "same" under any apart list is never a late "different": q and q′ may differ in their apart lists. On the definitions,
-pub open-same-never-late-different : (question question′ : List ℕ) (q q′ : Question) → checkOf question ≡ result q → checkOf question′ ≡ result q′
+pub open-same-never-late-different : (question question′ : List ℕ) (q q′ : Question) → questionOf question ≡ result q → questionOf question′ ≡ result q′
     → q′ .first ≡ q .first → q′ .second ≡ q .second → (Δ : Defs) → Defines q Δ → Defines q′ Δ
     → (capacity capacity′ n m : ℕ) → verdictOf q capacity ≡ same n → ¬ (verdictBy (named late) q′ capacity′ ≡ different m)
 open-same-never-late-different question question′ q q′ a a′ e f Δ d d′ capacity capacity′ n m h j =
     different-is-not-bisimilar question′ q′ a′ Δ d′ late capacity′ m j
-    (subst₂ (Bisimilar Δ late) (sym e) (sym f) (related-late Δ (same-is-related q (accepted-well-formed question q a) Δ d capacity n h)))
+    (subst₂ (Bisimilar Δ late) (sym e) (sym f) (related-late Δ (same-is-related q (own-well-formed question q a) Δ d capacity n h)))
 
 -- and on the promises: whatever the capacities and the work areas.
-pub judged-same-never-late-different : (question question′ : List ℕ) (q q′ : Question) → checkOf question ≡ result q → checkOf question′ ≡ result q′
+pub judged-same-never-late-different : (question question′ : List ℕ) (q q′ : Question) → questionOf question ≡ result q → questionOf question′ ≡ result q′
     → q′ .first ≡ q .first → q′ .second ≡ q .second → (Δ : Defs) → Defines q Δ → Defines q′ Δ
     → (capacity capacity′ : ℕ) (work work′ : List ℕ) (r r′ : ℕ) (after after′ : List ℕ) → JudgeIs question capacity work r after
     → LateIs question′ capacity′ work′ r′ after′ → (n m : ℕ) → Says r (sameOf n) → ¬ Says r′ (differentOf m)
@@ -164,13 +165,13 @@ judged-same-never-late-different question question′ q q′ a a′ e f Δ d d�
     (judged-same question q a _ capacity work r after j n s) (judged-different question′ q′ a′ _ capacity′ work′ r′ after′ j′ m s′)
 
 -- A late "same" is never an early "different". On the definitions,
-pub late-same-never-early-different : (question : List ℕ) (q : Question) → checkOf question ≡ result q → (Δ : Defs) → Defines q Δ
+pub late-same-never-early-different : (question : List ℕ) (q : Question) → questionOf question ≡ result q → (Δ : Defs) → Defines q Δ
     → (capacity capacity′ n m : ℕ) → verdictBy (named late) q capacity ≡ same n → ¬ (verdictBy (named early) q capacity′ ≡ different m)
 late-same-never-early-different question q a Δ d capacity capacity′ n m h j =
     different-is-not-bisimilar question q a Δ d early capacity′ m j (late-is-early Δ (same-is-bisimilar question q a Δ d late capacity n h))
 
 -- and on the promises.
-pub late-judged-same-never-early-different : (question : List ℕ) (q : Question) → checkOf question ≡ result q → (Δ : Defs) → Defines q Δ
+pub late-judged-same-never-early-different : (question : List ℕ) (q : Question) → questionOf question ≡ result q → (Δ : Defs) → Defines q Δ
     → (capacity capacity′ : ℕ) (work work′ : List ℕ) (r r′ : ℕ) (after after′ : List ℕ) → LateIs question capacity work r after
     → EarlyIs question capacity′ work′ r′ after′ → (n m : ℕ) → Says r (sameOf n) → ¬ Says r′ (differentOf m)
 late-judged-same-never-early-different question q a Δ d capacity capacity′ work work′ r r′ after after′ j j′ n m s s′ =

@@ -6,7 +6,7 @@ use lib.ListN.{length, drop, replicate}
 use Rattle.calculus.specs.Definitions.{Defs}
 use Rattle.terms.specs.Answer.{Answer, refused, result}
 use Rattle.terms.specs.Operations.{mergeOf, besideOf}
-use Rattle.terms.specs.Question.{Question, checkOf}
+use Rattle.terms.specs.Question.{Question, questionOf}
 use Rattle.verdict.specs.Judge.{judgeOf, slotBytes}
 use Rattle.verdict.specs.Outcome.{gave, turnedBack, unsettledOutcome, sameOf, differentOf, Outcome, Says}
 use Rattle.verdict.specs.Meaning.{Means}
@@ -26,7 +26,7 @@ pub data Wrote (made : Answer (List ℕ)) (area : List ℕ) (answer : ℕ) (afte
 pub data Judged (hand : List ℕ) (capacity : ℕ) (work : List ℕ) (answer : ℕ) (after : List ℕ) : Type 1 where
   not-judged : (k : ℕ) → judgeOf hand capacity (length work) ≡ refused k → Says answer (turnedBack k) → after ≡ work
       → Judged hand capacity work answer after
-  judged : (q : Question) → checkOf hand ≡ result q → (Δ : Defs) → Defines q Δ → (o : Outcome) → Says answer o → Means openly Δ q capacity o
+  judged : (q : Question) → questionOf hand ≡ result q → (Δ : Defs) → Defines q Δ → (o : Outcome) → Says answer o → Means openly Δ q capacity o
       → after ≡ replicate (slotBytes * capacity) 0 ++ drop (slotBytes * capacity) work
       → Judged hand capacity work answer after
 

@@ -8,7 +8,7 @@ use Rattle.calculus.specs.OpenBisimulation.{Related}
 use Rattle.terms.specs.Answer.{Answer, refused, result, _>>=_}
 use Rattle.terms.specs.Framing.{joined}
 use Rattle.terms.specs.Operations.{mergeOf, besideOf, declaredFields}
-use Rattle.terms.specs.Question.{Question, checkOf, fieldsOf}
+use Rattle.terms.specs.Question.{Question, editionOf, questionOf, fieldsIn}
 use Rattle.terms.specs.Question.{bodyOf}
 use Rattle.verdict.specs.Promises.{MergeIs, BesideIs, JudgeIs}
 
@@ -20,7 +20,7 @@ pub record Defines (q : Question) (Δ : Defs) : Type 0 where
 -- The parts at hand are related: some open bisimulation of Definition 13 relates them under all pairs of the apart list at hand.
 pub record RelatedParts (question : List ℕ) : Type 1 where
   pub read : Question
-  pub accepted : checkOf question ≡ result read
+  pub accepted : questionOf question ≡ result read
   pub definitions : Defs
   pub defines : Defines read definitions
   pub related : Related definitions (read .apart) (read .first) (read .second)
@@ -35,9 +35,9 @@ pub data Entry : Type 0 where
 -- The two bytes go to the end of the apart list, whose length grows by 2. If check turns that question back, the entry is refused.
 unfoldable pub declareOf : List ℕ → ℕ → ℕ → Answer (List ℕ)
 declareOf question a b = do
-  q ← checkOf question
-  let longer = joined (declaredFields a b (fieldsOf q))
-  r ← checkOf longer
+  q ← questionOf question
+  let longer = joined (editionOf question) (declaredFields a b (fieldsIn (editionOf question) q))
+  r ← questionOf longer
   result longer
 
 -- a refused entry leaves the question as it was

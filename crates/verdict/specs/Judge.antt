@@ -5,7 +5,7 @@ use Prim.Native.Nat.{ℕ, _*_}
 use lib.ListN.{drop, replicate}
 use lib.Dec.{leb}
 use Rattle.terms.specs.Answer.{Answer, refused, result, _>>=_, _>>_, need}
-use Rattle.terms.specs.Question.{checkOf}
+use Rattle.terms.specs.Question.{questionOf}
 pub use Rattle.field.specs.Setting.{slotBytes}
 use Rattle.verdict.specs.Verdict.{Manner, openly, Verdict, verdictBy}
 
@@ -21,7 +21,7 @@ withinCapacity capacity bytes room = need 1 (leb 1 capacity && leb capacity grea
 unfoldable pub judgeBy : Manner → List ℕ → ℕ → ℕ → Answer Verdict
 judgeBy m question capacity room = do
   withinCapacity capacity (slotBytes * capacity) room
-  q ← checkOf question
+  q ← questionOf question
   result (verdictBy m q capacity)
 
 -- the open verdict

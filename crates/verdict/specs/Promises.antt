@@ -1,11 +1,12 @@
--- What check, listing, merge, beside, judge and the late and the early verdict promise: the answer and every lent byte. The contracts of the exported operations are these. The
--- answer is a number that says one outcome and no other (proofs/OutcomeLaws).
+-- What check, listing, merge, beside, the converters, judge and the late and the early verdict promise: the answer and every lent byte. The
+-- contracts of the exported operations are these. The answer is a number that says one outcome and no other (proofs/OutcomeLaws).
 use mathlib.Core.Path.{_≡_}
 use mathlib.Core.List.{List}
 use Prim.Native.Nat.{ℕ}
 use lib.ListN.{length}
 use Rattle.late_early.specs.LateEarly.{late, early}
-use Rattle.terms.specs.Operations.{checkAnswer, mergeOf, besideOf, lengthWritten, areaAfter}
+use Rattle.terms.specs.Operations.{checkAnswer, mergeOf, besideOf, convertOf, lengthWritten, areaAfter}
+use Rattle.terms.specs.Edition.{Edition}
 use Rattle.steps.specs.Operations.{listOf}
 use Rattle.steps.specs.Operations.{areaAfter as listingAfter}
 use Rattle.verdict.specs.Judge.{judgeBy, workAfter}
@@ -26,6 +27,11 @@ pub record MergeIs (question : List ℕ) (a b : ℕ) (area : List ℕ) (r : ℕ)
 pub record BesideIs (question third area : List ℕ) (r : ℕ) (after : List ℕ) : Type 0 where
   pub answer : Says r (ofNumber (lengthWritten (besideOf question third (length area))))
   pub left : after ≡ areaAfter (besideOf question third (length area)) area
+
+-- the converter that writes edition e
+pub record ConvertIs (e : Edition) (question area : List ℕ) (r : ℕ) (after : List ℕ) : Type 0 where
+  pub answer : Says r (ofNumber (lengthWritten (convertOf e question (length area))))
+  pub left : after ≡ areaAfter (convertOf e question (length area)) area
 
 -- judge, openly, late or early
 pub record JudgesBy (m : Manner) (question : List ℕ) (capacity : ℕ) (work : List ℕ) (r : ℕ) (after : List ℕ) : Type 0 where

@@ -5,9 +5,10 @@ use native.Mathlib.Omega.{arith}
 use Prim.Native.Nat.{ℕ, _*_, _<_}
 use lib.ListN.{length, drop, replicate}
 use Rattle.terms.specs.Answer.{Answer, refused, result, _>>=_}
+use Rattle.terms_bytes.specs.Writing.{Accepted as EitherAccepted}
 use Rattle.terms_checks.specs.Checking.{checkedAnswer}
 use Rattle.terms.specs.Operations.{checkAnswer}
-use Rattle.terms.specs.Question.{Question, checkOf}
+use Rattle.terms.specs.Question.{Question, checkOf, questionOf}
 use Rattle.terms_checks.specs.declared.check.Checked.{Checked}
 use Rattle.terms_checks.specs.declared.check.Checked.the-variants.{Accepted, Refused}
 use Rattle.terms.proofs.Answers.{bind-result, bind-to}
@@ -15,7 +16,7 @@ use Rattle.verdict.specs.Judge.{slotBytes, withinCapacity, judgeBy, judgeOf, wo
 use Rattle.verdict.proofs.CapacityLaws.{Within, within-of, within-passes}
 use Rattle.verdict_capacity.specs.Numbers.{byNumber}
 use Rattle.verdict_capacity.proofs.NumberLaws.{number-refused, number-passed}
-use Rattle.verdict_judge.specs.Judging.{judgedAnswer, DecidesIs, AcceptedIs, JudgedIs}
+use Rattle.verdict_judge.specs.Judging.{judgedAnswer, DecidesIs, AcceptedIs, OwnIs, JudgedIs}
 use Rattle.verdict.specs.Verdict.{verdictOf}
 use Rattle.verdict_judge.specs.declared.judge.Judged.{Judged}
 use Rattle.verdict_judge.specs.declared.judge.Judged.the-variants as judged
@@ -27,6 +28,11 @@ cleared question capacity work w u r d e = record {
   left = e ∙ ap (λ l. replicate (slotBytes * capacity) 0 ++ l) (d .rest);
   is = d .is;
 }
+
+-- judge_either: the verdict is that of the edition-one form
+pub own-of-plain : (question plain : List ℕ) (capacity : ℕ) (work : List ℕ) (r : Judged) (work′ : List ℕ) (q : Question) → questionOf question ≡ result q
+    → checkOf plain ≡ result q → AcceptedIs plain capacity work r work′ → OwnIs question capacity work r work′
+own-of-plain question plain capacity work r work′ q own e a = record { left = a .left; is = λ p h. a .is p (e ∙ sym own ∙ h) }
 
 module _ (question : List ℕ) (capacity : ℕ) (work : List ℕ) where
   -- a refusal changes nothing
@@ -43,22 +49,26 @@ module _ (question : List ℕ) (capacity : ℕ) (work : List ℕ) where
       pub within : Within capacity (slotBytes * capacity) (length work)
       within = within-of capacity (slotBytes * capacity) (length work) tt (number-passed k _ capacity-check none)
 
-      checks-passed : judgeOf question capacity (length work) ≡ (checkOf question >>= λ q. result (verdictOf q capacity))
+      checks-passed : judgeOf question capacity (length work) ≡ (questionOf question >>= λ q. result (verdictOf q capacity))
       unfolding judgeBy
       checks-passed = within-passes capacity (slotBytes * capacity) (length work) _ within
 
       pub question-refused : (k : ℕ) (r : Checked) → checkAnswer question ≡ checkedAnswer r → r ≡ Refused k → JudgedIs question capacity work (judged.Refused k) work
       unfolding checkAnswer checkedAnswer _>>=_
-      question-refused k r e h = turned-back k (checks-passed ∙ go (checkOf question) (e ∙ ap checkedAnswer h))
+      question-refused k r e h = turned-back k (checks-passed ∙ go (questionOf question) (e ∙ ap checkedAnswer h))
         where
           go : (m : Answer Question) → _>>=_ {B = ℕ} m (λ q. result 0) ≡ refused k → (m >>= λ q. result (verdictOf q capacity)) ≡ refused k
           go (refused j) e = ap refused (cc)
           go (result q) e = let z : _≡_ {A = ℕ} 0 1 = cc in absurd (omega arith)
 
       pub question-accepted : (c : Checked) (r : Judged) (u : List ℕ) → checkAnswer question ≡ checkedAnswer c → c ≡ Accepted
-          → AcceptedIs question capacity work r u → JudgedIs question capacity work r u
+          → OwnIs question capacity work r u → JudgedIs question capacity work r u
       unfolding checkAnswer checkedAnswer workAfter
       question-accepted c r u e h a =
-          let (q, d, z) = bind-result (checkOf question) (λ q. result 0) 0 (e ∙ ap checkedAnswer h) in
+          let (q, d, z) = bind-result (questionOf question) (λ q. result 0) 0 (e ∙ ap checkedAnswer h) in
           let v : judgeOf question capacity (length work) ≡ result (verdictOf q capacity) = checks-passed ∙ bind-to (λ q. result (verdictOf q capacity)) d in
           record { answer = a .is q d ∙ sym v; left = a .left ∙ sym (ap (λ x. workAfter x capacity work) v) }
+
+pub accepted-either : (question : List ℕ) (c : Checked) → checkAnswer question ≡ checkedAnswer c → c ≡ Accepted → EitherAccepted question
+unfolding checkAnswer checkedAnswer EitherAccepted
+accepted-either question c e h = let (q, d, z) = bind-result (questionOf question) (λ q. result 0) 0 (e ∙ ap checkedAnswer h) in (q, d)

@@ -4,7 +4,7 @@ use mathlib.Core.Path.{_≡_}
 use Prim.Native.Nat.{ℕ, _*_}
 use lib.ListN.{length, drop, replicate}
 use Rattle.terms.specs.Answer.{Answer, refused, result}
-use Rattle.terms.specs.Question.{Question, checkOf}
+use Rattle.terms.specs.Question.{Question, checkOf, questionOf}
 use Rattle.verdict.specs.Judge.{slotBytes, judgeOf, workAfter}
 use Rattle.verdict.specs.Verdict.{Verdict, unsettled, same, different, verdictOf}
 use Rattle.verdict_judge.specs.declared.judge.Judged.{Judged}
@@ -26,6 +26,11 @@ pub record DecidesIs (question : List ℕ) (capacity : ℕ) (work : List ℕ) (r
 pub record AcceptedIs (question : List ℕ) (capacity : ℕ) (work : List ℕ) (r : Judged) (work′ : List ℕ) : Type 0 where
   pub left : work′ ≡ replicate (slotBytes * capacity) 0 ++ drop (slotBytes * capacity) work
   pub is : (q : Question) → checkOf question ≡ result q → judgedAnswer r ≡ result (verdictOf q capacity)
+
+-- The same for a question of either edition.
+pub record OwnIs (question : List ℕ) (capacity : ℕ) (work : List ℕ) (r : Judged) (work′ : List ℕ) : Type 0 where
+  pub left : work′ ≡ replicate (slotBytes * capacity) 0 ++ drop (slotBytes * capacity) work
+  pub is : (q : Question) → questionOf question ≡ result q → judgedAnswer r ≡ result (verdictOf q capacity)
 
 -- Judge: the answer and every byte of the work area.
 pub record JudgedIs (question : List ℕ) (capacity : ℕ) (work : List ℕ) (r : Judged) (work′ : List ℕ) : Type 0 where

@@ -1,10 +1,13 @@
 // Judging: checks 1 and 2 of document 01, those of check, then the verdict.
+ghost use mathlib.Core.Bool.{true};
 ghost use mathlib.Core.Path.{_≡_};
 ghost use mathlib.Core.List.{_++_};
 ghost use Prim.Native.Nat.{_*_, _≤_};
 ghost use lib.ListN.{length, drop, replicate};
 ghost use Rattle.verdict.specs.Judge.{slotBytes, greatestCapacity};
-ghost use Rattle.verdict_judge.specs.Judging.{DecidesIs, AcceptedIs, JudgedIs};
+ghost use Rattle.terms_bytes.specs.Writing.{Accepted};
+ghost use Rattle.terms_converting.specs.Questions.{AcceptedFrom};
+ghost use Rattle.verdict_judge.specs.Judging.{DecidesIs, AcceptedIs, OwnIs, JudgedIs};
 use field_exploration::explore::Explored;
 use field_exploration::explore::explore;
 use field_kept_lists::list_area::LIST_AREA;
@@ -12,8 +15,11 @@ use field_slots::find::SLOT_BYTES;
 use steps_lister::list::SCRATCH_NUMBERS;
 use steps_lister::list::SCRATCH_ROWS;
 use steps_tallies::tally::body_tallies;
+use terms_bytes::limits::LONGEST_QUESTION;
 use terms_checks::check::Checked;
 use terms_checks::check::check;
+use terms_checks::check::is_counted;
+use terms_converting::question::convert_question;
 use verdict_capacity::capacity::capacity_check;
 use verdict_start::passes::start_survives;
 
@@ -37,7 +43,7 @@ fn clear(work: &mut [u8], n: usize)
     }
 }
 
-// The verdict on an accepted question. The tallies of the bodies, the lister's tables and the lists of the two sides serve exploration and passes.
+// The verdict on an accepted question of edition one. The tallies of the bodies, the lister's tables and the lists of the two sides serve exploration and passes.
 fn decide(question: &[u8], capacity: usize, work: &mut [u8]) -> Judged
     requires { ⌜ (1 ≤ capacity) × (capacity ≤ greatestCapacity) × (slotBytes * capacity ≤ length (now work)) ⌝ }
     ensures { λ r. ⌜ DecidesIs (now (question .entry)) capacity (now (work .entry)) r (now (work .exit)) ⌝ }
@@ -78,7 +84,7 @@ fn decide(question: &[u8], capacity: usize, work: &mut [u8]) -> Judged
     }
 }
 
-// The verdict on an accepted question; the work area is cleared behind it.
+// The verdict on an accepted question of edition one; the work area is cleared behind it.
 fn judge_accepted(question: &[u8], capacity: usize, work: &mut [u8]) -> Judged
     requires { ⌜ (1 ≤ capacity) × (capacity ≤ greatestCapacity) × (slotBytes * capacity ≤ length (now work)) ⌝ }
     ensures { λ r. ⌜ AcceptedIs (now (question .entry)) capacity (now (work .entry)) r (now (work .exit)) ⌝ }
@@ -86,6 +92,27 @@ fn judge_accepted(question: &[u8], capacity: usize, work: &mut [u8]) -> Judged
     let verdict = decide(question, capacity, work);
     clear(work, SLOT_BYTES * capacity);
     verdict
+}
+
+// The same of edition two, by its edition-one form.
+fn judge_counted(question: &[u8], capacity: usize, work: &mut [u8]) -> Judged
+    requires { ⌜ (1 ≤ capacity) × (capacity ≤ greatestCapacity) × (slotBytes * capacity ≤ length (now work)) × AcceptedFrom (now question) true ⌝ }
+    ensures { λ r. ⌜ OwnIs (now (question .entry)) capacity (now (work .entry)) r (now (work .exit)) ⌝ }
+{
+    let mut plain = [0u8; LONGEST_QUESTION];
+    let n = convert_question(question, true, &mut plain);
+    judge_accepted(&plain[..n], capacity, work)
+}
+
+// The verdict on an accepted question of either edition.
+fn judge_either(question: &[u8], capacity: usize, work: &mut [u8]) -> Judged
+    requires { ⌜ (1 ≤ capacity) × (capacity ≤ greatestCapacity) × (slotBytes * capacity ≤ length (now work)) × Accepted (now question) ⌝ }
+    ensures { λ r. ⌜ OwnIs (now (question .entry)) capacity (now (work .entry)) r (now (work .exit)) ⌝ }
+{
+    if is_counted(question) {
+        return judge_counted(question, capacity, work);
+    }
+    judge_accepted(question, capacity, work)
 }
 
 // Judges a question within the capacity.
@@ -100,6 +127,6 @@ pub fn judge(question: &[u8], capacity: u64, work: &mut [u8]) -> Judged
     let checked = check(question);
     match checked {
         Checked::Refused(k) => Judged::Refused(k),
-        Checked::Accepted => judge_accepted(question, slots, work),
+        Checked::Accepted => judge_either(question, slots, work),
     }
 }

@@ -1,3 +1,4 @@
+-- `field_relisting::relisting::list_anew` meets its contract. Assumes nothing.
 use native.Mathlib.Omega.{arith}
 use mathlib.Core.Path.{sym, _≡_}
 use mathlib.Core.List.{_++_}

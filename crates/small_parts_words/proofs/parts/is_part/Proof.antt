@@ -3,6 +3,7 @@ use mathlib.Core.Path.{sym}
 use native.Mathlib.Omega.{arith}
 use lib.ListN.{replicate}
 use lib.Seq.{length-take-le}
+use Rattle.terms_bytes.specs.Counted.{editionFrom}
 use Rattle.small_parts_words.proofs.PartLaws.{faulty-word, whole-word}
 use borrow.Author.Needs.{needs}
 use Rattle.small_parts_words.proofs.parts.is_part.Statement.{statement}
@@ -36,6 +37,7 @@ enum-known-scan : tie.Need-enum-known-scan
 enum-known-scan c = search needs
 
 returns : tie.Need-returns
+unfolding editionFrom
 returns c =
     faulty-word (c .before .before .before .before .before .before .before .before .args .size)
     (c .before .before .before .before .before .before .before .before .args .number) (replicate 5 0)
@@ -44,6 +46,7 @@ returns c =
     (c .enum-told .given .1)
 
 returns-2 : tie.Need-returns-2
+unfolding editionFrom
 returns-2 c =
     whole-word (c .before .before .before .before .before .before .before .before .before .args .size)
     (c .before .before .before .before .before .before .before .before .before .args .number) (replicate 5 0)

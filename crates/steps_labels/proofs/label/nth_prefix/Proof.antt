@@ -1,3 +1,4 @@
+-- `steps_labels::label::nth_prefix` meets its contract. Assumes nothing.
 use borrow.Author.Needs.{needs}
 use Rattle.steps_labels.proofs.label.nth_prefix.Statement.{statement}
 use Rattle.steps_labels.proofs.label.nth_prefix.Tie as tie

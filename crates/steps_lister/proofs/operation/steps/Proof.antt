@@ -15,9 +15,9 @@ enum-known-checked c = search needs
 enum-told : tie.Need-enum-told
 enum-told c = search needs
 
-steps-accepted-requires : tie.Need-steps-accepted-requires
+steps-either-requires : tie.Need-steps-either-requires
 unfolding checkedAnswer
-steps-accepted-requires c κs =
+steps-either-requires c κs =
     let c3 = c .before .before .before in
     let c6 = c3 .before .before .before in
     question-accepted (c6 .args .question .now) (c3 .check .ensures ∙ ap checkedAnswer (c .before .enum-told .given .1))
@@ -43,7 +43,7 @@ steps-spec =
     check-requires
     enum-known-checked
     enum-told
-    steps-accepted-requires
+    steps-either-requires
     returns
     same-length
     returns-2)

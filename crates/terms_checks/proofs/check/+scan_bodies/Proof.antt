@@ -1,6 +1,7 @@
 -- `terms::check::scan_bodies` meets its contract. Assumes nothing.
 use native.Mathlib.Omega.{arith}
 use lib.ListN.{length}
+use Rattle.terms_bytes.specs.Counted.{editionFrom}
 use borrow.Author.Needs.{needs}
 use Rattle.terms_checks.proofs.CheckLaws.{bodies-none, bodies-fault, bodies-later-fault, bodies-all}
 use Prim.Native.Nat.{_-_}
@@ -55,7 +56,7 @@ scan-bodies-returns : (t : ℕ) → scan-bodies-lts.Need-returns (scan-bodies-cl
 scan-bodies-returns t c =
     let c4 = c .before .before .before .before in
     let a = c4 .args in
-    rw (c .passed .ensures) (bodies-none (a .question .now) (a .list .now) (a .i) (a .at) (c .before .if1 .taken))
+    rw (c .passed .ensures) (bodies-none (editionFrom (a .counted)) (a .question .now) (a .list .now) (a .i) (a .at) (c .before .if1 .taken))
 
 scan-bodies-get-requires : (t : ℕ) → scan-bodies-lts.Need-get-requires (scan-bodies-claims t) (scan-bodies-at t) scan-bodies.Post
 scan-bodies-get-requires t c κs = search needs
@@ -102,7 +103,7 @@ scan-bodies-returns-2 t c =
     let c6 = c5 .before in
     let c9 = c6 .before .before .before in
     let a = c9 .args in
-    bodies-fault (a .question .now) (a .list .now) (a .i) (a .at) (c6 .if1 .left) (c1 .one .given .0 .0) (rw (
+    bodies-fault (editionFrom (a .counted)) (a .question .now) (a .list .now) (a .i) (a .at) (c6 .if1 .left) (c1 .one .given .0 .0) (rw (
       c5 .get .ensures,
       c4 .field-at .ensures,
       c1 .one .given .1,
@@ -120,7 +121,7 @@ scan-bodies-returns-3 t c =
     let c11 = c10 .before in
     let c14 = c11 .before .before .before in
     let a = c14 .args in
-    bodies-later-fault (a .question .now) (a .list .now) (a .i) (a .at) (c11 .if1 .left) (c6 .one2 .given .0 .0) (c6 .one2 .given .0 .1 .0) (rw
+    bodies-later-fault (editionFrom (a .counted)) (a .question .now) (a .list .now) (a .i) (a .at) (c11 .if1 .left) (c6 .one2 .given .0 .0) (c6 .one2 .given .0 .1 .0) (rw
     (c10 .get .ensures, c9 .field-at .ensures, c6 .one2 .given .1) at (c8 .scan-whole .ensures)) (c1 .more .given .0 .0) (rw
     (c4 .after-field .ensures, c1 .more .given .1) at (c3 .scan-bodies .ensures))
 
@@ -136,7 +137,7 @@ scan-bodies-returns-4 t c =
     let c12 = c11 .before in
     let c15 = c12 .before .before .before in
     let a = c15 .args in
-    bodies-all (a .question .now) (a .list .now) (a .i) (a .at) (c12 .if1 .left) (c7 .one2 .given .0 .0) (c7 .one2 .given .0 .1 .0) (rw
+    bodies-all (editionFrom (a .counted)) (a .question .now) (a .list .now) (a .i) (a .at) (c12 .if1 .left) (c7 .one2 .given .0 .0) (c7 .one2 .given .0 .1 .0) (rw
     (c11 .get .ensures, c10 .field-at .ensures, c7 .one2 .given .1) at (c9 .scan-whole .ensures)) (c2 .more2 .given .0 .0) (c2 .more2 .given .0 .0)
     (c2 .more2 .given .0 .1 .0) (c .meet .result) (rw (c5 .after-field .ensures, c2 .more2 .given .1) at (c4 .scan-bodies .ensures))
     (c .meet .ensures)

@@ -6,6 +6,7 @@ use Rattle.terms_checks.specs.Checking.{zeroFor, fieldsAt}
 use Rattle.terms.specs.Question.{readApart}
 use Rattle.terms_checks.proofs.CheckPlaces.{apart-at}
 use Rattle.terms_checks.proofs.CheckTerms.{parallel-refused, call-refused, apart-refused, terms-fault, all-accepted}
+use Rattle.terms_bytes.specs.Counted.{editionFrom}
 use borrow.Author.Needs.{needs}
 use Rattle.terms_checks.proofs.check.check_terms.Statement.{statement}
 use Rattle.terms_checks.proofs.check.check_terms.Tie as tie
@@ -28,7 +29,7 @@ returns c =
     let c5 = c3 .before .before in
     let c7 = c5 .before .before in
     let a = c7 .args in
-    parallel-refused (fieldsAt (a .question .now)) (c3 .terms2 .given .0 .0) (c3 .terms2 .given .0 .1 .0) (rw (c3 .terms2 .given .1) at
+    parallel-refused (editionFrom (a .counted)) (fieldsAt (a .question .now)) (c3 .terms2 .given .0 .0) (c3 .terms2 .given .0 .1 .0) (rw (c3 .terms2 .given .1) at
     (c5 .scan-terms .ensures)) (sym (c .before .both .ensures) ∙ not-true _ (c .if1 .taken))
 
 returns-2 : tie.Need-returns-2
@@ -37,7 +38,7 @@ returns-2 c =
     let c6 = c4 .before .before in
     let c8 = c6 .before .before in
     let a = c8 .args in
-    call-refused (fieldsAt (a .question .now)) (c4 .terms2 .given .0 .0) (c4 .terms2 .given .0 .1 .0) (rw (c4 .terms2 .given .1) at
+    call-refused (editionFrom (a .counted)) (fieldsAt (a .question .now)) (c4 .terms2 .given .0 .0) (c4 .terms2 .given .0 .1 .0) (rw (c4 .terms2 .given .1) at
     (c6 .scan-terms .ensures)) (sym (c .before .before .both .ensures) ∙ not-false _ (c .before .if1 .left)) (not-true _ (c .if2 .taken))
 
 apart-list-requires : tie.Need-apart-list-requires
@@ -55,7 +56,7 @@ returns-3 c =
     let c9 = c7 .before .before in
     let c11 = c9 .before .before in
     let a = c11 .args in
-    apart-refused (fieldsAt (a .question .now)) (c7 .terms2 .given .0 .0) (c7 .terms2 .given .0 .1 .0) (rw (c7 .terms2 .given .1) at
+    apart-refused (editionFrom (a .counted)) (fieldsAt (a .question .now)) (c7 .terms2 .given .0 .0) (c7 .terms2 .given .0 .1 .0) (rw (c7 .terms2 .given .1) at
     (c9 .scan-terms .ensures)) (sym (c5 .both .ensures) ∙ not-false _ (c4 .if1 .left)) (not-false _ (c3 .if2 .left)) (ap zeroFor (ap readApart
     (apart-at (a .question .now) _ (c .before .before .apart-list .ensures))) ∙ c .before .apart-allowed .ensures ∙ ap (λ b. zeroFor (need 12 b))
     (not-true _ (c .if3 .taken)))
@@ -66,7 +67,7 @@ returns-4 c =
     let c3 = c1 .before .before in
     let c5 = c3 .before .before in
     let a = c5 .args in
-    terms-fault (fieldsAt (a .question .now)) (c1 .terms .given .0 .0) (rw (c1 .terms .given .1) at (c3 .scan-terms .ensures))
+    terms-fault (editionFrom (a .counted)) (fieldsAt (a .question .now)) (c1 .terms .given .0 .0) (rw (c1 .terms .given .1) at (c3 .scan-terms .ensures))
 
 returns-5 : tie.Need-returns-5
 returns-5 c =
@@ -77,7 +78,7 @@ returns-5 c =
     let c9 = c7 .before .before in
     let c11 = c9 .before .before in
     let a = c11 .args in
-    all-accepted (fieldsAt (a .question .now)) (c7 .terms2 .given .0 .0) (c7 .terms2 .given .0 .1 .0) (rw (c7 .terms2 .given .1) at
+    all-accepted (editionFrom (a .counted)) (fieldsAt (a .question .now)) (c7 .terms2 .given .0 .0) (c7 .terms2 .given .0 .1 .0) (rw (c7 .terms2 .given .1) at
     (c9 .scan-terms .ensures)) (sym (c5 .both .ensures) ∙ not-false _ (c4 .if1 .left)) (not-false _ (c3 .if2 .left)) (ap zeroFor (ap readApart
     (apart-at (a .question .now) _ (c .before .before .apart-list .ensures))) ∙ c .before .apart-allowed .ensures ∙ ap (λ b. zeroFor (need 12 b))
     (not-false _ (c .if3 .left)))

@@ -1,6 +1,7 @@
 -- `terms::check::scan_parts` meets its contract. Assumes nothing.
 use Rattle.terms_bytes.specs.FieldPlaces.{afterField, fieldAt}
 use Rattle.terms_checks.proofs.CheckTerms.{first-fault, second-fault, parts-both}
+use Rattle.terms_bytes.specs.Counted.{editionFrom}
 use borrow.Author.Needs.{needs}
 use Rattle.terms_checks.proofs.check.scan_parts.Statement.{statement}
 use Rattle.terms_checks.proofs.check.scan_parts.Tie as tie
@@ -42,7 +43,7 @@ returns c =
     let c4 = c3 .before in
     let c7 = c4 .before .before .before in
     let a = c7 .args in
-    first-fault (a .list .now) (fieldAt (a .question .now) (a .first)) (fieldAt (a .question .now) (afterField (a .question .now) (a .first)))
+    first-fault (editionFrom (a .counted)) (a .list .now) (fieldAt (a .question .now) (a .first)) (fieldAt (a .question .now) (afterField (a .question .now) (a .first)))
     (c1 .one .given .0 .0) (rw (c4 .field-at .ensures, c1 .one .given .1) at (c3 .scan-whole .ensures))
 
 returns-2 : tie.Need-returns-2
@@ -56,7 +57,7 @@ returns-2 c =
     let c10 = c9 .before in
     let c13 = c10 .before .before .before in
     let a = c13 .args in
-    second-fault (a .list .now) (fieldAt (a .question .now) (a .first)) (fieldAt (a .question .now) (afterField (a .question .now) (a .first)))
+    second-fault (editionFrom (a .counted)) (a .list .now) (fieldAt (a .question .now) (a .first)) (fieldAt (a .question .now) (afterField (a .question .now) (a .first)))
     (c7 .one2 .given .0 .0) (c7 .one2 .given .0 .1 .0) (rw (c10 .field-at .ensures, c7 .one2 .given .1) at (c9 .scan-whole .ensures))
     (c1 .two .given .0 .0) (rw (c4 .field-at2 .ensures, c5 .after-field .ensures, c1 .two .given .1) at (c3 .scan-whole2 .ensures))
 
@@ -71,7 +72,7 @@ returns-3 c =
     let c11 = c10 .before in
     let c14 = c11 .before .before .before in
     let a = c14 .args in
-    parts-both (a .list .now) (fieldAt (a .question .now) (a .first)) (fieldAt (a .question .now) (afterField (a .question .now) (a .first)))
+    parts-both (editionFrom (a .counted)) (a .list .now) (fieldAt (a .question .now) (a .first)) (fieldAt (a .question .now) (afterField (a .question .now) (a .first)))
     (c8 .one2 .given .0 .0) (c8 .one2 .given .0 .1 .0) (rw (c11 .field-at .ensures, c8 .one2 .given .1) at (c10 .scan-whole .ensures))
     (c2 .two2 .given .0 .0) (c2 .two2 .given .0 .0) (c2 .two2 .given .0 .1 .0) (c .meet .result) (rw (
       c5 .field-at2 .ensures,

@@ -3,6 +3,7 @@ use Rattle.terms_checks.specs.Checking.{fieldsAt}
 use Rattle.terms_checks.proofs.CheckPlaces.{bodies-at, parts-at}
 use Rattle.terms_checks.proofs.CheckTerms.{bodies-wrong, parts-wrong, terms-right}
 use Rattle.terms_checks.proofs.FramedPlaces.{first-place}
+use Rattle.terms_bytes.specs.Counted.{editionFrom}
 use borrow.Author.Needs.{needs}
 use Rattle.terms_checks.proofs.check.scan_terms.Statement.{statement}
 use Rattle.terms_checks.proofs.check.scan_terms.Tie as tie
@@ -45,7 +46,7 @@ returns c =
     let c5 = c4 .before in
     let c7 = c5 .before .before in
     let a = c7 .args in
-    bodies-wrong (fieldsAt (a .question .now)) (c1 .bodies .given .0 .0) (bodies-at (a .question .now) (c5 .arities .result .now)
+    bodies-wrong (editionFrom (a .counted)) (fieldsAt (a .question .now)) (c1 .bodies .given .0 .0) (bodies-at (editionFrom (a .counted)) (a .question .now) (c5 .arities .result .now)
     (c5 .arities .ensures) (c4 .field-place .result) _ (c4 .field-place .ensures) (rw (c1 .bodies .given .1) at (c3 .scan-bodies .ensures)))
 
 returns-2 : tie.Need-returns-2
@@ -60,9 +61,9 @@ returns-2 c =
     let c11 = c10 .before in
     let c13 = c11 .before .before in
     let a = c13 .args in
-    parts-wrong (fieldsAt (a .question .now)) (c7 .bodies2 .given .0 .0) (c7 .bodies2 .given .0 .1 .0) (bodies-at (a .question .now)
+    parts-wrong (editionFrom (a .counted)) (fieldsAt (a .question .now)) (c7 .bodies2 .given .0 .0) (c7 .bodies2 .given .0 .1 .0) (bodies-at (editionFrom (a .counted)) (a .question .now)
     (c11 .arities .result .now) (c11 .arities .ensures) (c10 .field-place .result) _ (c10 .field-place .ensures) (rw (c7 .bodies2 .given .1) at
-    (c9 .scan-bodies .ensures))) (c1 .parts .given .0 .0) (parts-at (a .question .now) (c11 .arities .result .now) (c11 .arities .ensures)
+    (c9 .scan-bodies .ensures))) (c1 .parts .given .0 .0) (parts-at (editionFrom (a .counted)) (a .question .now) (c11 .arities .result .now) (c11 .arities .ensures)
     (c4 .field-place2 .result) _ (first-place (a .question .now) (c5 .definitions .result) (c4 .field-place2 .result) 0 0
     (c5 .definitions .ensures .0) (c4 .field-place2 .ensures)) (rw (c1 .parts .given .1) at (c3 .scan-parts .ensures)))
 
@@ -78,9 +79,9 @@ returns-3 c =
     let c11 = c10 .before in
     let c13 = c11 .before .before in
     let a = c13 .args in
-    terms-right (fieldsAt (a .question .now)) (c7 .bodies2 .given .0 .0) (c7 .bodies2 .given .0 .1 .0) (bodies-at (a .question .now)
+    terms-right (editionFrom (a .counted)) (fieldsAt (a .question .now)) (c7 .bodies2 .given .0 .0) (c7 .bodies2 .given .0 .1 .0) (bodies-at (editionFrom (a .counted)) (a .question .now)
     (c11 .arities .result .now) (c11 .arities .ensures) (c10 .field-place .result) _ (c10 .field-place .ensures) (rw (c7 .bodies2 .given .1) at
-    (c9 .scan-bodies .ensures))) (c1 .parts2 .given .0 .0) (c1 .parts2 .given .0 .0) (c1 .parts2 .given .0 .1 .0) (parts-at (a .question .now)
+    (c9 .scan-bodies .ensures))) (c1 .parts2 .given .0 .0) (c1 .parts2 .given .0 .0) (c1 .parts2 .given .0 .1 .0) (parts-at (editionFrom (a .counted)) (a .question .now)
     (c11 .arities .result .now) (c11 .arities .ensures) (c4 .field-place2 .result) _ (first-place (a .question .now) (c5 .definitions .result)
     (c4 .field-place2 .result) 0 0 (c5 .definitions .ensures .0) (c4 .field-place2 .ensures)) (rw (c1 .parts2 .given .1) at
     (c3 .scan-parts .ensures)))

@@ -2,6 +2,7 @@
 use mathlib.Core.Path.{sym, ap, _∙_}
 use native.Mathlib.Omega.{arith}
 use lib.ListN.{length}
+use Rattle.terms_bytes.specs.Counted.{editionFrom}
 use borrow.Author.Needs.{needs}
 use Rattle.terms_checks.proofs.ScanLaws.{next-within}
 use Rattle.terms_checks.proofs.ScanTerms.{end-within, scan-wrong, scan-leaf, scan-first-wrong, scan-one, scan-second-wrong, scan-two}
@@ -83,7 +84,7 @@ scan-term-returns t c =
     let c10 = c8 .before .before in
     let c13 = c10 .before .before .before in
     let a = c13 .args in
-    scan-leaf (a .free) (a .arities .now) (a .depth) (a .src .now) (a .at) (c8 .f2 .given .0 .0) (rw (c8 .f2 .given .1) at (c10 .scan-front .ensures))
+    scan-leaf (editionFrom (a .counted)) (a .free) (a .arities .now) (a .depth) (a .src .now) (a .at) (c8 .f2 .given .0 .0) (rw (c8 .f2 .given .1) at (c10 .scan-front .ensures))
     (c .combine .result) (sym (c6 .shape-at .ensures .parts) ∙ c3 .if1 .taken) (rw (
       c4 .get .ensures,
       c .before .before .passed .ensures,
@@ -125,7 +126,7 @@ scan-term-returns-2 t c =
     let c17 = c14 .before .before .before in
     let v = c17 .args in
     let a = v in
-    scan-one (a .free) (a .arities .now) (a .depth) (a .src .now) (a .at) (c12 .f2 .given .0 .0) (rw (c12 .f2 .given .1) at
+    scan-one (editionFrom (a .counted)) (a .free) (a .arities .now) (a .depth) (a .src .now) (a .at) (c12 .f2 .given .0 .0) (rw (c12 .f2 .given .1) at
     (c14 .scan-front .ensures)) (v .depth + c10 .shape-at .result .binds) (ap (λ x. v .depth + x) (c10 .shape-at .ensures .binds)) (λ z. c7 .if1 .left
     (c10 .shape-at .ensures .parts ∙ z)) (c4 .one2 .given .0 .0) (c4 .one2 .given .0 .1 .0) (rw (c4 .one2 .given .1) at (c6 .scan-term .ensures))
     (c .combine2 .result) (sym (c10 .shape-at .ensures .parts) ∙ c .before .before .if2 .taken) (rw (c8 .get .ensures, c .before .passed3 .ensures) at
@@ -161,7 +162,7 @@ scan-term-returns-3 t c =
     let c3 = c1 .before .before in
     let c6 = c3 .before .before .before in
     let a = c6 .args in
-    scan-wrong (a .free) (a .arities .now) (a .depth) (a .src .now) (a .at) (c1 .f .given .0 .0) (rw (c1 .f .given .1) at (c3 .scan-front .ensures))
+    scan-wrong (editionFrom (a .counted)) (a .free) (a .arities .now) (a .depth) (a .src .now) (a .at) (c1 .f .given .0 .0) (rw (c1 .f .given .1) at (c3 .scan-front .ensures))
 
 scan-term-returns-4 : (t : ℕ) → scan-term-lts.Need-returns-4 (scan-term-claims t) (scan-term-at t) scan-term.Post
 scan-term-returns-4 t c =
@@ -174,7 +175,7 @@ scan-term-returns-4 t c =
     let c14 = c11 .before .before .before in
     let v = c14 .args in
     let a = v in
-    scan-first-wrong (a .free) (a .arities .now) (a .depth) (a .src .now) (a .at) (c9 .f2 .given .0 .0) (rw (c9 .f2 .given .1) at
+    scan-first-wrong (editionFrom (a .counted)) (a .free) (a .arities .now) (a .depth) (a .src .now) (a .at) (c9 .f2 .given .0 .0) (rw (c9 .f2 .given .1) at
     (c11 .scan-front .ensures)) (v .depth + c7 .shape-at .result .binds) (ap (λ x. v .depth + x) (c7 .shape-at .ensures .binds)) (λ z. c4 .if1 .left
     (c7 .shape-at .ensures .parts ∙ z)) (c1 .one .given .0 .0) (rw (c1 .one .given .1) at (c3 .scan-term .ensures))
 
@@ -192,7 +193,7 @@ scan-term-returns-5 t c =
     let c19 = c16 .before .before .before in
     let v = c19 .args in
     let a = v in
-    scan-second-wrong (a .free) (a .arities .now) (a .depth) (a .src .now) (a .at) (c14 .f2 .given .0 .0) (rw (c14 .f2 .given .1) at
+    scan-second-wrong (editionFrom (a .counted)) (a .free) (a .arities .now) (a .depth) (a .src .now) (a .at) (c14 .f2 .given .0 .0) (rw (c14 .f2 .given .1) at
     (c16 .scan-front .ensures)) (v .depth + c12 .shape-at .result .binds) (ap (λ x. v .depth + x) (c12 .shape-at .ensures .binds)) (λ z. c9 .if1 .left
     (c12 .shape-at .ensures .parts ∙ z)) (c6 .one2 .given .0 .0) (c6 .one2 .given .0 .1 .0) (rw (c6 .one2 .given .1) at (c8 .scan-term .ensures)) (λ
     z. c4 .if2 .left (c12 .shape-at .ensures .parts ∙ z)) (c1 .two .given .0 .0) (rw (c1 .two .given .1) at (c3 .scan-term2 .ensures))
@@ -212,7 +213,7 @@ scan-term-returns-6 t c =
     let c20 = c17 .before .before .before in
     let v = c20 .args in
     let a = v in
-    scan-two (a .free) (a .arities .now) (a .depth) (a .src .now) (a .at) (c15 .f2 .given .0 .0) (rw (c15 .f2 .given .1) at
+    scan-two (editionFrom (a .counted)) (a .free) (a .arities .now) (a .depth) (a .src .now) (a .at) (c15 .f2 .given .0 .0) (rw (c15 .f2 .given .1) at
     (c17 .scan-front .ensures)) (v .depth + c13 .shape-at .result .binds) (ap (λ x. v .depth + x) (c13 .shape-at .ensures .binds)) (λ z.
     c10 .if1 .left (c13 .shape-at .ensures .parts ∙ z)) (c7 .one2 .given .0 .0) (c7 .one2 .given .0 .1 .0) (rw (c7 .one2 .given .1) at
     (c9 .scan-term .ensures)) (λ z. c5 .if2 .left (c13 .shape-at .ensures .parts ∙ z)) (c2 .two2 .given .0 .0) (c2 .two2 .given .0 .1 .0)

@@ -1,5 +1,6 @@
 -- `terms::scan::scan_whole` meets its contract. Assumes nothing.
 use Rattle.terms_checks.proofs.ScanTerms.{whole-wrong, whole-more, whole-term}
+use Rattle.terms_bytes.specs.Counted.{editionFrom}
 use borrow.Author.Needs.{needs}
 use Rattle.terms_checks.proofs.scan.scan_whole.Statement.{statement}
 use Rattle.terms_checks.proofs.scan.scan_whole.Tie as tie
@@ -19,7 +20,7 @@ returns c =
     let c4 = c2 .before .before in
     let c7 = c4 .before .before .before in
     let a = c7 .args in
-    whole-more (a .free) (a .arities .now) (a .depth) (a .src .now) (c2 .r2 .given .0 .0) (c2 .r2 .given .0 .1 .0) (rw (c2 .r2 .given .1) at
+    whole-more (editionFrom (a .counted)) (a .free) (a .arities .now) (a .depth) (a .src .now) (c2 .r2 .given .0 .0) (c2 .r2 .given .0 .1 .0) (rw (c2 .r2 .given .1) at
     (c4 .scan-term .ensures)) (c .if1 .taken)
 
 returns-2 : tie.Need-returns-2
@@ -28,7 +29,7 @@ returns-2 c =
     let c3 = c1 .before .before in
     let c6 = c3 .before .before .before in
     let a = c6 .args in
-    whole-wrong (a .free) (a .arities .now) (a .depth) (a .src .now) (c1 .r .given .0 .0) (rw (c1 .r .given .1) at (c3 .scan-term .ensures))
+    whole-wrong (editionFrom (a .counted)) (a .free) (a .arities .now) (a .depth) (a .src .now) (c1 .r .given .0 .0) (rw (c1 .r .given .1) at (c3 .scan-term .ensures))
 
 returns-3 : tie.Need-returns-3
 returns-3 c =
@@ -36,7 +37,7 @@ returns-3 c =
     let c4 = c2 .before .before in
     let c7 = c4 .before .before .before in
     let a = c7 .args in
-    whole-term (a .free) (a .arities .now) (a .depth) (a .src .now) (c2 .r2 .given .0 .0) (c2 .r2 .given .0 .1 .0) (rw (c2 .r2 .given .1) at
+    whole-term (editionFrom (a .counted)) (a .free) (a .arities .now) (a .depth) (a .src .now) (c2 .r2 .given .0 .0) (c2 .r2 .given .0 .1 .0) (rw (c2 .r2 .given .1) at
     (c4 .scan-term .ensures)) (c2 .r2 .given .0 .0) (c .if1 .left)
 
 pub scan-whole-spec : {M : Type 1} → statement M

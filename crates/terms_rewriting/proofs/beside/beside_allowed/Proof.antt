@@ -3,8 +3,9 @@ use native.Mathlib.Omega.{arith}
 use lib.ListN.{length}
 use borrow.Author.Needs.{needs}
 use Rattle.terms.specs.Operations.{besideQuestion}
+use Rattle.terms.specs.Question.{editionOf}
 use Rattle.terms_bytes.specs.Writing.{WritesBeside}
-use Rattle.terms_rewriting.proofs.MergeChecks.{does-refused, does-write}
+use Rattle.terms_converting.proofs.FittingLaws.{does-refused, does-write}
 use Rattle.terms_rewriting.proofs.BesideChecks.{third-bytes, written-length, beside-short, beside-writes, sides-bounds}
 use Rattle.terms_rewriting.proofs.beside.beside_allowed.Statement.{statement}
 use Rattle.terms_rewriting.proofs.beside.beside_allowed.Tie as tie
@@ -56,7 +57,7 @@ returns c =
     let q = c4 .pre .old in
     let e = c4 .pre .accepted in
     let b = sides-bounds s q e third room (c4 .pre .sizes) in
-    let t = third-bytes (q .arities) third (c4 .pre .part) (c4 .pre .reads) in
+    let t = third-bytes (editionOf s) (q .arities) third (c4 .pre .part) (c4 .pre .reads) in
     let l = written-length s q e third (c4 .pre .part) t in
     does-refused _ _ 15 (beside-short s q e third room (c4 .pre .sizes) (c4 .pre .part) (c4 .pre .reads) (c4 .pre .parallels) (omega (
       arith,
@@ -92,9 +93,9 @@ returns-2 c =
     let q = c8 .pre .old in
     let e = c8 .pre .accepted in
     let b = sides-bounds s q e third room (c8 .pre .sizes) in
-    let t = third-bytes (q .arities) third (c8 .pre .part) (c8 .pre .reads) in
+    let t = third-bytes (editionOf s) (q .arities) third (c8 .pre .part) (c8 .pre .reads) in
     let l = written-length s q e third (c8 .pre .part) t in
-    does-write _ _ _ (besideQuestion (c8 .pre .part) q) _ (beside-writes s q e third room (c8 .pre .sizes) (c8 .pre .part) (c8 .pre .reads)
+    does-write (editionOf s) _ _ _ (besideQuestion (c8 .pre .part) q) _ (beside-writes s q e third room (c8 .pre .sizes) (c8 .pre .part) (c8 .pre .reads)
     (c8 .pre .parallels) (omega (arith, l, c4 .if1 .left))) (c .before .before .write-beside .ensures q (c8 .pre .part) e t)
 
 pub beside-allowed-spec : {M : Type 1} → statement M

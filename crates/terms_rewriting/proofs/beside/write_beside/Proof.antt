@@ -3,8 +3,8 @@ use mathlib.Core.Path.{refl, ap, _∙_}
 use native.Mathlib.Omega.{arith}
 use borrow.Author.Needs.{needs}
 use Rattle.terms_bytes.specs.FieldPlaces.{fieldPlace}
-use Rattle.terms_bytes.specs.Writing.{Accepted}
-use Rattle.terms_bytes.proofs.QuestionPlaces.{accepted-places, accepted-sizes}
+use Rattle.terms.specs.Question.{editionOf, questionOf}
+use Rattle.terms_bytes.proofs.QuestionPlaces.{places-in, sizes-in}
 use Rattle.terms_rewriting.proofs.BesideWriting.{writes-beside}
 use Rattle.terms_rewriting.proofs.beside.write_beside.Statement.{statement}
 use Rattle.terms_rewriting.proofs.beside.write_beside.Tie as tie
@@ -22,7 +22,7 @@ after-field-requires-2 : tie.Need-after-field-requires-2
 after-field-requires-2 c κs = search needs
 
 sub-rest : tie.Need-sub-rest
-unfolding Accepted
+unfolding questionOf
 sub-rest c =
     let c1 = c .before in
     let c2 = c1 .before in
@@ -31,12 +31,12 @@ sub-rest c =
     let c7 = c6 .before in
     let s = c7 .args .question .now in
     let x = c2 .field-place .ensures ∙ ap (fieldPlace s) (c3 .definitions .ensures .0) in
-    let p = accepted-places s (c7 .pre .old, c7 .pre .accepted) (c2 .field-place .result) (c1 .after-field .result) (c .after-field2 .result) x
+    let p = places-in (editionOf s) s (c7 .pre .old) (c7 .pre .accepted) (c2 .field-place .result) (c1 .after-field .result) (c .after-field2 .result) x
     (c1 .after-field .ensures) (c .after-field2 .ensures) in
     omega (arith, p, c7 .good .0)
 
 copy-requires : tie.Need-copy-requires
-unfolding Accepted
+unfolding questionOf
 copy-requires c κs =
     let c1 = c .before in
     let c2 = c1 .before in
@@ -46,12 +46,12 @@ copy-requires c κs =
     let c8 = c7 .before in
     let s = c8 .args .question .now in
     let x = c3 .field-place .ensures ∙ ap (fieldPlace s) (c4 .definitions .ensures .0) in
-    let p = accepted-places s (c8 .pre .old, c8 .pre .accepted) (c3 .field-place .result) (c2 .after-field .result) (c1 .after-field2 .result) x
+    let p = places-in (editionOf s) s (c8 .pre .old) (c8 .pre .accepted) (c3 .field-place .result) (c2 .after-field .result) (c1 .after-field2 .result) x
     (c2 .after-field .ensures) (c1 .after-field2 .ensures) in
     omega (arith, p, c8 .pre .room)
 
 add-write-side : tie.Need-add-write-side
-unfolding Accepted
+unfolding questionOf
 add-write-side c =
     let c4 = c .before .before .before .before in
     let c5 = c4 .before in
@@ -61,12 +61,12 @@ add-write-side c =
     let c11 = c10 .before in
     let s = c11 .args .question .now in
     let x = c6 .field-place .ensures ∙ ap (fieldPlace s) (c7 .definitions .ensures .0) in
-    let p = accepted-places s (c11 .pre .old, c11 .pre .accepted) (c6 .field-place .result) (c5 .after-field .result) (c4 .after-field2 .result)
+    let p = places-in (editionOf s) s (c11 .pre .old) (c11 .pre .accepted) (c6 .field-place .result) (c5 .after-field .result) (c4 .after-field2 .result)
     x (c5 .after-field .ensures) (c4 .after-field2 .ensures) in
     omega (arith, p, c11 .good .0)
 
 sub-write-side : tie.Need-sub-write-side
-unfolding Accepted
+unfolding questionOf
 sub-write-side c =
     let c4 = c .before .before .before .before in
     let c5 = c4 .before in
@@ -76,12 +76,12 @@ sub-write-side c =
     let c11 = c10 .before in
     let s = c11 .args .question .now in
     let x = c6 .field-place .ensures ∙ ap (fieldPlace s) (c7 .definitions .ensures .0) in
-    let p = accepted-places s (c11 .pre .old, c11 .pre .accepted) (c6 .field-place .result) (c5 .after-field .result) (c4 .after-field2 .result)
+    let p = places-in (editionOf s) s (c11 .pre .old) (c11 .pre .accepted) (c6 .field-place .result) (c5 .after-field .result) (c4 .after-field2 .result)
     x (c5 .after-field .ensures) (c4 .after-field2 .ensures) in
     omega (arith, p, c11 .good .0)
 
 sub-write-side-2 : tie.Need-sub-write-side-2
-unfolding Accepted
+unfolding questionOf
 sub-write-side-2 c =
     let c4 = c .before .before .before .before in
     let c5 = c4 .before in
@@ -91,12 +91,12 @@ sub-write-side-2 c =
     let c11 = c10 .before in
     let s = c11 .args .question .now in
     let x = c6 .field-place .ensures ∙ ap (fieldPlace s) (c7 .definitions .ensures .0) in
-    let p = accepted-places s (c11 .pre .old, c11 .pre .accepted) (c6 .field-place .result) (c5 .after-field .result) (c4 .after-field2 .result)
+    let p = places-in (editionOf s) s (c11 .pre .old) (c11 .pre .accepted) (c6 .field-place .result) (c5 .after-field .result) (c4 .after-field2 .result)
     x (c5 .after-field .ensures) (c4 .after-field2 .ensures) in
     omega (arith, p, c11 .good .0)
 
 write-side-requires : tie.Need-write-side-requires
-unfolding Accepted
+unfolding questionOf
 write-side-requires c κs =
     let c3 = c .before .before .before in
     let c5 = c3 .before .before in
@@ -107,14 +107,14 @@ write-side-requires c κs =
     let c12 = c11 .before in
     let s = c12 .args .question .now in
     let x = c7 .field-place .ensures ∙ ap (fieldPlace s) (c8 .definitions .ensures .0) in
-    let p = accepted-places s (c12 .pre .old, c12 .pre .accepted) (c7 .field-place .result) (c6 .after-field .result) (c5 .after-field2 .result)
+    let p = places-in (editionOf s) s (c12 .pre .old) (c12 .pre .accepted) (c7 .field-place .result) (c6 .after-field .result) (c5 .after-field2 .result)
     x (c6 .after-field .ensures) (c5 .after-field2 .ensures) in
-    let z = accepted-sizes s (c12 .pre .old) (c12 .pre .accepted) (c7 .field-place .result) (c6 .after-field .result) x
+    let z = sizes-in (editionOf s) s (c12 .pre .old) (c12 .pre .accepted) (c7 .field-place .result) (c6 .after-field .result) x
     (c6 .after-field .ensures) in
     omega (arith, p, z, c12 .pre .first, c12 .pre .room, c3 .copy .kept .1 .1 .1 .0)
 
 add-write-side-2 : tie.Need-add-write-side-2
-unfolding Accepted
+unfolding questionOf
 add-write-side-2 c =
     let c8 = c .before .before .before .before .before .before .before .before in
     let c9 = c8 .before in
@@ -124,12 +124,12 @@ add-write-side-2 c =
     let c15 = c14 .before in
     let s = c15 .args .question .now in
     let x = c10 .field-place .ensures ∙ ap (fieldPlace s) (c11 .definitions .ensures .0) in
-    let p = accepted-places s (c15 .pre .old, c15 .pre .accepted) (c10 .field-place .result) (c9 .after-field .result)
+    let p = places-in (editionOf s) s (c15 .pre .old) (c15 .pre .accepted) (c10 .field-place .result) (c9 .after-field .result)
     (c8 .after-field2 .result) x (c9 .after-field .ensures) (c8 .after-field2 .ensures) in
     omega (arith, p, c15 .good .0)
 
 sub-write-side-3 : tie.Need-sub-write-side-3
-unfolding Accepted
+unfolding questionOf
 sub-write-side-3 c =
     let c8 = c .before .before .before .before .before .before .before .before in
     let c9 = c8 .before in
@@ -139,12 +139,12 @@ sub-write-side-3 c =
     let c15 = c14 .before in
     let s = c15 .args .question .now in
     let x = c10 .field-place .ensures ∙ ap (fieldPlace s) (c11 .definitions .ensures .0) in
-    let p = accepted-places s (c15 .pre .old, c15 .pre .accepted) (c10 .field-place .result) (c9 .after-field .result)
+    let p = places-in (editionOf s) s (c15 .pre .old) (c15 .pre .accepted) (c10 .field-place .result) (c9 .after-field .result)
     (c8 .after-field2 .result) x (c9 .after-field .ensures) (c8 .after-field2 .ensures) in
     omega (arith, p, c15 .good .0)
 
 sub-write-side-4 : tie.Need-sub-write-side-4
-unfolding Accepted
+unfolding questionOf
 sub-write-side-4 c =
     let c8 = c .before .before .before .before .before .before .before .before in
     let c9 = c8 .before in
@@ -154,12 +154,12 @@ sub-write-side-4 c =
     let c15 = c14 .before in
     let s = c15 .args .question .now in
     let x = c10 .field-place .ensures ∙ ap (fieldPlace s) (c11 .definitions .ensures .0) in
-    let p = accepted-places s (c15 .pre .old, c15 .pre .accepted) (c10 .field-place .result) (c9 .after-field .result)
+    let p = places-in (editionOf s) s (c15 .pre .old) (c15 .pre .accepted) (c10 .field-place .result) (c9 .after-field .result)
     (c8 .after-field2 .result) x (c9 .after-field .ensures) (c8 .after-field2 .ensures) in
     omega (arith, p, c15 .good .0)
 
 write-side-requires-2 : tie.Need-write-side-requires-2
-unfolding Accepted
+unfolding questionOf
 write-side-requires-2 c κs =
     let c3 = c .before .before .before in
     let c7 = c3 .before .before .before .before in
@@ -171,14 +171,14 @@ write-side-requires-2 c κs =
     let c16 = c15 .before in
     let s = c16 .args .question .now in
     let x = c11 .field-place .ensures ∙ ap (fieldPlace s) (c12 .definitions .ensures .0) in
-    let p = accepted-places s (c16 .pre .old, c16 .pre .accepted) (c11 .field-place .result) (c10 .after-field .result)
+    let p = places-in (editionOf s) s (c16 .pre .old) (c16 .pre .accepted) (c11 .field-place .result) (c10 .after-field .result)
     (c9 .after-field2 .result) x (c10 .after-field .ensures) (c9 .after-field2 .ensures) in
-    let z = accepted-sizes s (c16 .pre .old) (c16 .pre .accepted) (c11 .field-place .result) (c10 .after-field .result) x
+    let z = sizes-in (editionOf s) s (c16 .pre .old) (c16 .pre .accepted) (c11 .field-place .result) (c10 .after-field .result) x
     (c10 .after-field .ensures) in
     omega (arith, p, z, c16 .pre .second, c16 .pre .room, c3 .write-side .ensures .0, c7 .copy .kept .1 .1 .1 .0, c3 .write-side .kept .1 .1 .1 .1 .0)
 
 copy-requires-2 : tie.Need-copy-requires-2
-unfolding Accepted
+unfolding questionOf
 copy-requires-2 c κs =
     let c3 = c .before .before .before in
     let c7 = c3 .before .before .before .before in
@@ -191,7 +191,7 @@ copy-requires-2 c κs =
     let c20 = c19 .before in
     let s = c20 .args .question .now in
     let x = c15 .field-place .ensures ∙ ap (fieldPlace s) (c16 .definitions .ensures .0) in
-    let p = accepted-places s (c20 .pre .old, c20 .pre .accepted) (c15 .field-place .result) (c14 .after-field .result)
+    let p = places-in (editionOf s) s (c20 .pre .old) (c20 .pre .accepted) (c15 .field-place .result) (c14 .after-field .result)
     (c13 .after-field2 .result) x (c14 .after-field .ensures) (c13 .after-field2 .ensures) in
     omega (
       arith,
@@ -205,7 +205,7 @@ copy-requires-2 c κs =
     )
 
 add-result : tie.Need-add-result
-unfolding Accepted
+unfolding questionOf
 add-result c =
     let c6 = c .before .before .before .before .before .before in
     let c10 = c6 .before .before .before .before in
@@ -217,7 +217,7 @@ add-result c =
     let c23 = c22 .before in
     let s = c23 .args .question .now in
     let x = c18 .field-place .ensures ∙ ap (fieldPlace s) (c19 .definitions .ensures .0) in
-    let p = accepted-places s (c23 .pre .old, c23 .pre .accepted) (c18 .field-place .result) (c17 .after-field .result)
+    let p = places-in (editionOf s) s (c23 .pre .old) (c23 .pre .accepted) (c18 .field-place .result) (c17 .after-field .result)
     (c16 .after-field2 .result) x (c17 .after-field .ensures) (c16 .after-field2 .ensures) in
     omega (arith, p, c23 .pre .room, c10 .write-side .ensures .0, c6 .write-side2 .ensures .0, c23 .good)
 

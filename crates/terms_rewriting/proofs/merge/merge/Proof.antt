@@ -3,7 +3,7 @@ use mathlib.Core.Path.{ap, _∙_}
 use lib.ListN.{length}
 use borrow.Author.Needs.{needs}
 use Rattle.terms_checks.specs.Checking.{checkedAnswer}
-use Rattle.terms_rewriting.proofs.MergeChecks.{does-refused}
+use Rattle.terms_converting.proofs.FittingLaws.{does-refused}
 use Rattle.terms_rewriting.proofs.TurnedBack.{check-accepted, merge-turned-back}
 use Rattle.terms_rewriting.proofs.merge.merge.Statement.{statement}
 use Rattle.terms_rewriting.proofs.merge.merge.Tie as tie

@@ -1,6 +1,6 @@
 -- `verdict_judge::judge::judge` meets its contract. Assumes nothing.
 use native.Mathlib.Omega.{arith}
-use Rattle.verdict_judge.proofs.JudgeLaws.{not-within, within, question-refused, question-accepted}
+use Rattle.verdict_judge.proofs.JudgeLaws.{not-within, within, question-refused, question-accepted, accepted-either}
 use borrow.Author.Needs.{needs}
 use Rattle.verdict_judge.proofs.judge.judge.Statement.{statement}
 use Rattle.verdict_judge.proofs.judge.judge.Tie as tie
@@ -24,13 +24,18 @@ enum-known-checked c = search needs
 enum-told : tie.Need-enum-told
 enum-told c = search needs
 
-judge-accepted-requires : tie.Need-judge-accepted-requires
-judge-accepted-requires c κs =
-    let c5 = c .before .before .before .before .before in
+judge-either-requires : tie.Need-judge-either-requires
+judge-either-requires c κs =
+    let c3 = c .before .before .before in
+    let c5 = c3 .before .before in
     let c8 = c5 .before .before .before in
     let v = c8 .args in
-    let w = within (v .question .now) (v .capacity) (v .work .now) (c5 .capacity-check .result) (c5 .capacity-check .ensures) (omega arith) in
-    (w .some, w .most, w .fits)
+    let w = within (v .question .now) (v .capacity) (v .work .now) (c5 .capacity-check .result) (c5 .capacity-check .ensures) (omega arith) in (
+      w .some,
+      w .most,
+      w .fits,
+      accepted-either _ _ (c3 .check .ensures) (c .before .enum-told .given .1),
+    )
 
 returns-2 : tie.Need-returns-2
 returns-2 c =
@@ -52,7 +57,7 @@ returns-3 c =
     let c11 = c8 .before .before .before in
     let v = c11 .args in
     question-accepted (v .question .now) (v .capacity) (v .work .now) (c8 .capacity-check .result) (c8 .capacity-check .ensures) (omega arith) _ _ _
-    (c6 .check .ensures) (c4 .enum-told .given .1) (c .before .before .judge-accepted .ensures)
+    (c6 .check .ensures) (c4 .enum-told .given .1) (c .before .before .judge-either .ensures)
 
 pub judge-spec : {M : Type 1} → statement M
 judge-spec =
@@ -63,7 +68,7 @@ judge-spec =
     check-requires
     enum-known-checked
     enum-told
-    judge-accepted-requires
+    judge-either-requires
     returns-2
     same-length
     returns-3)

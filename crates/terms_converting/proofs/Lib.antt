@@ -1,0 +1,5 @@
+pub mod ConvertLaws
+pub mod FittingLaws
+pub mod FrontLaws
+pub mod PlainForm
+pub mod QuestionLaws
