@@ -52,6 +52,16 @@ pub fn beside(question: &[u8], third: &[u8], area: &mut [u8]) -> Answer {
     answer
 }
 
+/// Writes a question of edition two in edition one.
+pub fn convert_down(question: &[u8], area: &mut [u8]) -> Answer {
+    both(question, area, proved::convert_down, reference::convert_down)
+}
+
+/// Writes a question of edition one in edition two.
+pub fn convert_up(question: &[u8], area: &mut [u8]) -> Answer {
+    both(question, area, proved::convert_up, reference::convert_up)
+}
+
 /// Judges a question.
 pub fn judge(question: &[u8], capacity: u64, work: &mut [u8]) -> Answer {
     both(

@@ -27,6 +27,16 @@ pub fn beside(question: &[u8], third: &[u8], area: &mut [u8]) -> Answer {
     written(exchange::beside(question, third, area))
 }
 
+/// Writes a question of edition two in edition one.
+pub fn convert_down(question: &[u8], area: &mut [u8]) -> Answer {
+    written(exchange::convert_down(question, area))
+}
+
+/// Writes a question of edition one in edition two.
+pub fn convert_up(question: &[u8], area: &mut [u8]) -> Answer {
+    written(exchange::convert_up(question, area))
+}
+
 /// Judges a question.
 pub fn judge(question: &[u8], capacity: u64, work: &mut [u8]) -> Answer {
     match exchange::judge(question, capacity, work) {

@@ -1,5 +1,5 @@
-//! Random questions: all six operations with random numbers and areas, the two implementations
-//! side by side. What may change in an area is tested beside their agreement.
+//! Random questions of both editions: all eight operations with random numbers and areas, the two
+//! implementations side by side. What may change in an area is tested beside their agreement.
 
 use compare::{Answer, APART_BYTES, CAPACITY, QUESTION_BYTES, SITUATION_BYTES, STEPS, STEP_BYTES};
 use generate::{each_seed, Draft, Random};
@@ -58,8 +58,12 @@ impl Tally {
         let refusals = |operation, rules: &[u8]| -> Vec<String> {
             rules.iter().map(|rule| format!("{operation}: refused {rule:2}")).collect()
         };
-        let question: Vec<u8> = (3..=12).collect();
+        let question: Vec<u8> = (3..=12).chain([16]).collect();
+        let plain: Vec<u8> = (3..=12).collect();
         let kinds = [
+            refusals("convert down", &[&question[..], &[15]].concat()),
+            refusals("convert up", &[&plain[..], &[15, 17]].concat()),
+            ["convert down", "convert up"].map(|name| format!("{name}: result")).to_vec(),
             refusals("check", &question),
             refusals("steps", &[&question[..], &[13, 15]].concat()),
             refusals("merge", &[&question[..], &[14, 15]].concat()),
@@ -92,7 +96,10 @@ fn question(random: &mut Random) -> (Vec<u8>, Draft) {
         3..=5 => generate::damaged(random),
         _ => draft.bytes(),
     };
-    (question, draft)
+    match random.chance(40) {
+        true => (generate::counted(random, &question), draft),
+        false => (question, draft),
+    }
 }
 
 /// A number that is often a name of the draft, and sometimes far from a name.
@@ -139,7 +146,10 @@ fn merge(random: &mut Random, question: &[u8], draft: &Draft, tally: &mut Tally)
 }
 
 fn beside(random: &mut Random, question: &[u8], draft: &Draft, tally: &mut Tally) {
-    let third = generate::third_part(random, draft);
+    let mut third = generate::third_part(random, draft);
+    if question.first() == Some(&0x02) {
+        third = generate::counted_third(random, draft, &third);
+    }
     let length = about(random, question.len() + 2 * (1 + third.len()));
     let mut area = Area::new(random, length);
     let answer = compare::beside(question, &third, &mut area.lent);
@@ -147,7 +157,30 @@ fn beside(random: &mut Random, question: &[u8], draft: &Draft, tally: &mut Tally
     tally.add("beside", answer);
 }
 
-/// What a merge or beside leaves: an accepted question, or nothing changed.
+/// Both converters; what one has written the other turns back into the question.
+fn convert(random: &mut Random, question: &[u8], tally: &mut Tally) {
+    type Converter = fn(&[u8], &mut [u8]) -> Answer;
+    let down: (&str, Converter) = ("convert down", compare::convert_down);
+    let up: (&str, Converter) = ("convert up", compare::convert_up);
+    for ((name, there), (_, back)) in [(down, up), (up, down)] {
+        let length = about(random, 3 * question.len() / 2);
+        let mut area = Area::new(random, length);
+        let answer = there(question, &mut area.lent);
+        written(&area, answer);
+        tally.add(name, answer);
+        if let Answer::Result(length) = answer {
+            let mut original = Area::new(random, question.len());
+            let next = &area.lent[..length as usize];
+            assert_eq!(back(next, &mut original.lent), Answer::Result(question.len() as u64));
+            assert_eq!(original.lent, question);
+            let mut work = vec![0; 40 * SITUATION_BYTES as usize];
+            let verdict = compare::judge(question, 40, &mut work);
+            assert_eq!(compare::judge(next, 40, &mut work), verdict);
+        }
+    }
+}
+
+/// What a merge, beside or converter leaves: an accepted question, or nothing changed.
 fn written(area: &Area, answer: Answer) {
     let length = match answer {
         Answer::Result(length) => length as usize,
@@ -229,6 +262,7 @@ fn all_operations_agree() {
         steps(random, &question, &draft, &mut tally);
         merge(random, &question, &draft, &mut tally);
         beside(random, &question, &draft, &mut tally);
+        convert(random, &question, &mut tally);
         judge(random, &question, &mut tally);
         apart(random, &question, &draft, &mut tally);
     });

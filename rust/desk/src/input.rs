@@ -3,7 +3,7 @@
 use crate::fault::{Fault, Span};
 use crate::model::Exchange;
 use crate::text;
-use exchange::{Question, Refusal};
+use exchange::{Question, Refusal, QUESTION_BYTES};
 use std::fs::{self, File};
 use std::io::{self, Read};
 use std::path::{Path, PathBuf};
@@ -74,9 +74,9 @@ pub fn bytes(file: &str) -> Result<Vec<u8>, Unreadable> {
     }
 }
 
-/// Whether these are the bytes of a question: they begin with the version byte, which no text has.
+/// Whether these are the bytes of a question: they begin with a version byte, which no text does.
 pub fn is_question(bytes: &[u8]) -> bool {
-    bytes.first() == Some(&0x01)
+    matches!(bytes.first(), Some(0x01 | 0x02))
 }
 
 /// The exchange of a file, which is text or the bytes of a question.
@@ -95,10 +95,18 @@ pub fn exchange_of(file: &str, bytes: &[u8]) -> Result<Exchange, Unreadable> {
     }
 }
 
-/// The exchange of the bytes of a question.
+/// The exchange of the bytes of a question of either edition.
 pub fn question(file: &str, bytes: &[u8]) -> Result<Exchange, Unreadable> {
-    let question = Question::new(bytes).map_err(|refusal| Unreadable::refused(file, refusal))?;
-    Ok(Exchange::of(question))
+    let refused = |refusal| Unreadable::refused(file, refusal);
+    let mut area = [0; QUESTION_BYTES];
+    let plain = match bytes.first() {
+        Some(0x02) => {
+            let length = exchange::convert_down(bytes, &mut area).map_err(refused)?;
+            &area[..length]
+        }
+        _ => bytes,
+    };
+    Ok(Exchange::of(Question::new(plain).map_err(refused)?))
 }
 
 /// The exchange of a file that must be a question and not text.
@@ -116,7 +124,7 @@ fn not_text(file: &str, bytes: &[u8], from: usize) -> Unreadable {
     let span = Span { start: from, end: from + 1 };
     let message = format!("the byte {:02X} is no text in UTF-8", bytes[from]);
     let fault = Fault::new(span, message, "from here on it is no text")
-        .help("a file is text in UTF-8, or a question, which begins with the byte 01");
+        .help("a file is text in UTF-8, or a question, which begins with the byte 01 or 02");
     Unreadable::fault(file, &source, &fault)
 }
 

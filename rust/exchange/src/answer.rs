@@ -122,7 +122,7 @@ mod tests {
         assert_eq!(kind(3, 4096), Some(Coded::Verdict(Verdict::Same(4096))));
         assert_eq!(kind(4, 1), Some(Coded::Verdict(Verdict::Different(1))));
         assert_eq!(kind(5, 0), Some(Coded::None));
-        for no_answer in [(1, 0), (1, 16), (2, 1), (5, 1), (6, 0), (u32::MAX.into(), 1)] {
+        for no_answer in [(1, 0), (1, 19), (2, 1), (5, 1), (6, 0), (u32::MAX.into(), 1)] {
             assert_eq!(kind(no_answer.0, no_answer.1), None);
         }
     }

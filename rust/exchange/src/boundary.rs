@@ -1,4 +1,4 @@
-//! The C boundary: the six functions of `libexchange.a`, each over Rust slices. All unsafe code
+//! The C boundary: the eight functions of `libexchange.a`, each over Rust slices. All unsafe code
 //! of the crate is here.
 //!
 //! The functions have no other duty for a caller than that each slice is what its pointer and
@@ -31,6 +31,18 @@ mod library {
             question_len: usize,
             third: *const u8,
             third_len: usize,
+            area: *mut u8,
+            area_len: usize,
+        ) -> u64;
+        pub fn exchange_convert_down(
+            question: *const u8,
+            question_len: usize,
+            area: *mut u8,
+            area_len: usize,
+        ) -> u64;
+        pub fn exchange_convert_up(
+            question: *const u8,
+            question_len: usize,
             area: *mut u8,
             area_len: usize,
         ) -> u64;
@@ -80,6 +92,20 @@ pub fn beside(question: &[u8], third: &[u8], area: &mut [u8]) -> u64 {
     let (area, area_len) = (area.as_mut_ptr(), area.len());
     // SAFETY: as in `steps`; question and third part are only read, so they may overlap.
     unsafe { library::exchange_beside(question, question_len, third, third_len, area, area_len) }
+}
+
+pub fn convert_down(question: &[u8], area: &mut [u8]) -> u64 {
+    let (question, question_len) = (question.as_ptr(), question.len());
+    let (area, area_len) = (area.as_mut_ptr(), area.len());
+    // SAFETY: as in `steps`.
+    unsafe { library::exchange_convert_down(question, question_len, area, area_len) }
+}
+
+pub fn convert_up(question: &[u8], area: &mut [u8]) -> u64 {
+    let (question, question_len) = (question.as_ptr(), question.len());
+    let (area, area_len) = (area.as_mut_ptr(), area.len());
+    // SAFETY: as in `steps`.
+    unsafe { library::exchange_convert_up(question, question_len, area, area_len) }
 }
 
 pub fn judge(question: &[u8], capacity: u64, work: &mut [u8]) -> u64 {

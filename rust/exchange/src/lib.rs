@@ -1,13 +1,18 @@
 //! The exchange judge: are two parts open bisimilar? The work is done by the proved library
-//! `libexchange.a`; this crate links it and gives its six operations as safe functions over byte
+//! `libexchange.a`; this crate links it and gives its eight operations as safe functions over byte
 //! slices and numbers.
 //!
 //! - [`check`] says whether a question is accepted.
 //! - [`steps`] lists the steps of one of its parts.
 //! - [`merge`] makes two names of a question one.
 //! - [`beside`] sets a third part beside both sides.
+//! - [`convert_down`] and [`convert_up`] write a question in the other edition.
 //! - [`judge`] says whether the two parts are the same.
 //! - [`apart`] finds the fewest pairs of names that, held apart besides, make them the same.
+//!
+//! A question is of edition one, version byte 01, or of edition two, version byte 02, in which the
+//! number of names stands before the names of every call. Every operation takes either, and what
+//! it writes is of the same edition; the parts of listed steps are of edition one.
 //!
 //! The same with types: a [`Question`] is checked once, its methods take a [`Side`] and [`Name`]s,
 //! a [`Step`] reads a listed step, and a [`Judge`] owns the work area of a [`Capacity`]. Without
@@ -206,6 +211,47 @@ fn written(coded: Coded) -> Option<usize> {
         Coded::Result(length) => Some(length),
         _ => None,
     }
+}
+
+/// Writes a question of edition two in edition one to the front of the area and gives its length.
+/// Later bytes of the area are untouched.
+///
+/// # Errors
+/// The first of the rules 3 to 12 with 16 that turns the question back, where 3 is broken by a
+/// question of edition one too, then 15.
+///
+/// ```
+/// use exchange::{Refusal, QUESTION_BYTES};
+///
+/// // K of arity 1 sends its name for ever; K⟨a⟩ and āa.K⟨a⟩.
+/// let one = [
+///     0x01, 0x01, 0x01, 0x00, 0x06, 0x03, 0x80, 0x80, 0x09, 0x00, 0x80, 0x00, 0x03, 0x09, 0x00,
+///     0x00, 0x00, 0x06, 0x03, 0x00, 0x00, 0x09, 0x00, 0x00, 0x00, 0x00,
+/// ];
+/// let mut two = [0; QUESTION_BYTES];
+/// let length = exchange::convert_up(&one, &mut two)?;
+/// assert_eq!(length, 29);
+/// assert_eq!(two[8..12], [0x09, 0x00, 0x01, 0x80]);
+///
+/// let mut back = [0; QUESTION_BYTES];
+/// assert_eq!(exchange::convert_down(&two[..length], &mut back)?, one.len());
+/// assert_eq!(back[..one.len()], one);
+///
+/// assert_eq!(exchange::convert_down(&one, &mut back), Err(Refusal::Version));
+/// # Ok::<(), exchange::Refusal>(())
+/// ```
+pub fn convert_down(question: &[u8], area: &mut [u8]) -> Result<usize, Refusal> {
+    Coded::answered(boundary::convert_down(question, area), written)
+}
+
+/// Writes a question of edition one in edition two to the front of the area and gives its length.
+/// Later bytes of the area are untouched.
+///
+/// # Errors
+/// The first of the rules 3 to 12 that turns the question back, where 3 is broken by a question of
+/// edition two too, then 17, then 15.
+pub fn convert_up(question: &[u8], area: &mut [u8]) -> Result<usize, Refusal> {
+    Coded::answered(boundary::convert_up(question, area), written)
 }
 
 /// Judges a question: whether its parts are open bisimilar under its apart list. At most

@@ -3,7 +3,8 @@
 use core::error::Error;
 use core::fmt;
 
-/// A refusal: the first check of document 01, in its order, that turns the arguments back.
+/// A refusal: the first check of documents 01 and 02, in their order, that turns the arguments
+/// back.
 ///
 /// A refused operation has changed no lent byte. Further operations bring further rules.
 ///
@@ -15,7 +16,8 @@ use core::fmt;
 /// assert_eq!(refusal.rule(), 3);
 /// assert_eq!(
 ///     refusal.to_string(),
-///     "refused by rule 3: the question is empty or its first byte is not 01"
+///     "refused by rule 3: the question is empty or its first byte is neither 01 nor 02; for a \
+///      converter, it is of the edition to be written"
 /// );
 /// ```
 #[must_use]
@@ -53,6 +55,10 @@ pub enum Refusal {
     Merging = 14,
     /// Rule 15: the length of the result area.
     ResultArea = 15,
+    /// Rule 16: the number of names that is written in a call of edition two.
+    Count = 16,
+    /// Rule 17: the length of a body or part once it is converted.
+    Converted = 17,
     /// Rule 18: the names given for the fewest pairs.
     Names = 18,
 }
@@ -75,6 +81,8 @@ impl Refusal {
         Refusal::Listing,
         Refusal::Merging,
         Refusal::ResultArea,
+        Refusal::Count,
+        Refusal::Converted,
         Refusal::Names,
     ];
 
@@ -90,13 +98,16 @@ impl Refusal {
         self as u8
     }
 
-    /// What the rule turns back, in the words of document 01.
+    /// What the rule turns back, in the words of documents 01 and 02.
     #[must_use]
     pub fn text(self) -> &'static str {
         match self {
             Refusal::Capacity => "the capacity is not 1 to 4,096",
             Refusal::WorkArea => "the work area is shorter than 256 × capacity bytes",
-            Refusal::Version => "the question is empty or its first byte is not 01",
+            Refusal::Version => {
+                "the question is empty or its first byte is neither 01 nor 02; for a converter, it \
+                 is of the edition to be written"
+            }
             Refusal::Frame => {
                 "the question is longer than 4,096 bytes, ends before its last field does, or has \
                  bytes left over"
@@ -126,6 +137,8 @@ impl Refusal {
             }
             Refusal::Merging => "a name is above 15 or the apart list holds the two apart",
             Refusal::ResultArea => "the lent result area is too short",
+            Refusal::Count => "the number of names written in a call is not the arity",
+            Refusal::Converted => "a body or part is above 112 bytes once converted",
             Refusal::Names => "there are more than four names, one is above 15, or one is repeated",
         }
     }
@@ -153,7 +166,7 @@ mod tests {
         let numbers: std::vec::Vec<u8> =
             Refusal::ALL.iter().map(|refusal| refusal.rule()).collect();
         assert!(numbers.windows(2).all(|two| two[0] < two[1]));
-        for no_rule in [0, 16, 17, 256 + 3, u64::MAX] {
+        for no_rule in [0, 19, 256 + 3, u64::MAX] {
             assert_eq!(Refusal::of_rule(no_rule), None);
         }
     }

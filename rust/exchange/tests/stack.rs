@@ -1,15 +1,29 @@
-//! The deepest walks that were found, each called on a stack of 352 KiB.
+//! The deepest walks that were found, of either edition, each called on a stack of 368 KiB.
 
-use exchange::{Answer, APART_BYTES, SITUATION_BYTES, STEPS, STEP_BYTES};
+use exchange::{Answer, APART_BYTES, QUESTION_BYTES, SITUATION_BYTES, STEPS, STEP_BYTES};
 use generate::Fields;
 use std::thread;
 
-const STACK_BYTES: usize = 352 * 1024;
+const STACK_BYTES: usize = 368 * 1024;
 const CAPACITY: usize = 16;
 
 /// Repeats the first bytes, then ends with the others.
 fn nested(times: usize, repeated: &[u8], end: &[u8]) -> Vec<u8> {
     [repeated.repeat(times), end.to_vec()].concat()
+}
+
+/// The operations with the deepest walks.
+fn every_operation(question: &[u8]) {
+    let mut area = vec![0; STEPS * STEP_BYTES];
+    let mut work = vec![0; CAPACITY * SITUATION_BYTES];
+    exchange::check(question).expect("the question is accepted");
+    let _ = exchange::steps(question, 1, 15, &mut area).expect("the steps are listed");
+    let judged = exchange::judge(question, CAPACITY as u64, &mut work);
+    assert!(!matches!(judged, Ok(Answer::Result(exchange::Verdict::Different(_)))));
+    let mut list = [0; APART_BYTES];
+    let found = exchange::apart(question, CAPACITY as u64, &[0, 15], &mut work, &mut list);
+    assert!(matches!(found, Ok(Answer::Unsettled | Answer::Result(Some(0)))));
+    let _ = exchange::merge(question, 0, 1, &mut area).expect("the names are merged");
 }
 
 /// Bodies over one parameter that are walked to their last byte.
@@ -56,16 +70,12 @@ fn every_call_fits_a_small_stack() {
             };
             let question = fields.bytes();
             let call = move || {
-                let mut area = vec![0; STEPS * STEP_BYTES];
-                let mut work = vec![0; CAPACITY * SITUATION_BYTES];
-                exchange::check(&question).expect("the question is accepted");
-                let _ = exchange::steps(&question, 1, 15, &mut area).expect("the steps are listed");
-                let judged = exchange::judge(&question, CAPACITY as u64, &mut work);
-                assert!(!matches!(judged, Ok(Answer::Result(exchange::Verdict::Different(_)))));
-                let mut list = [0; APART_BYTES];
-                let found =
-                    exchange::apart(&question, CAPACITY as u64, &[0, 15], &mut work, &mut list);
-                assert!(matches!(found, Ok(Answer::Unsettled | Answer::Result(Some(0)))));
+                every_operation(&question);
+                let mut counted = vec![0; QUESTION_BYTES];
+                // a part that is full has no room for the numbers of edition two
+                if let Ok(length) = exchange::convert_up(&question, &mut counted) {
+                    every_operation(&counted[..length]);
+                }
             };
             let thread = thread::Builder::new().stack_size(STACK_BYTES).spawn(call);
             thread.expect("a thread can be started").join().expect("the call returns");

@@ -10,6 +10,7 @@
 mod changes;
 mod damage;
 mod draft;
+mod editions;
 mod embed;
 mod fields;
 mod grow;
@@ -24,6 +25,7 @@ mod worked;
 pub use changes::{entries, third_part, Entry};
 pub use damage::damaged;
 pub use draft::Draft;
+pub use editions::{counted, counted_third};
 pub use fields::{hex, Fields};
 pub use limits::near_limit;
 pub use random::Random;

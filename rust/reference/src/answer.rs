@@ -68,7 +68,7 @@ pub enum Check {
     Capacity = 1,
     /// The work area is shorter than 256 × capacity bytes.
     WorkArea = 2,
-    /// The question is empty or its first byte is not 01.
+    /// The question is empty or of no edition, or of the edition that a converter writes.
     Version = 3,
     /// The question is too long, ends too early or has bytes left over.
     Frame = 4,
@@ -94,6 +94,10 @@ pub enum Check {
     Merging = 14,
     /// The lent result area is too short.
     ResultArea = 15,
+    /// The number of names written in a call is not the arity.
+    Count = 16,
+    /// A body or part is above 112 bytes once converted.
+    Converted = 17,
     /// More than four names, one above 15, or a repeat.
     Names = 18,
 }

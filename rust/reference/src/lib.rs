@@ -1,7 +1,7 @@
 //! A second implementation of the exchange judge, written from its paper alone and apart from the
 //! proved one. It parses a question into trees, works on trees and names, and prints them back.
 //!
-//! The six operations take numbers and byte areas and answer with an [`Answer`].
+//! The eight operations take numbers and byte areas and answer with an [`Answer`].
 
 #![deny(missing_docs)]
 #![forbid(unsafe_code)]
@@ -24,7 +24,7 @@ pub use steps::{Listed, STEPS, STEP_BYTES};
 use condition::{Apart, Condition};
 use field::Kind;
 use question::Question;
-use term::{Shape, Term};
+use term::{Edition, Shape, Term};
 
 /// Checks a question: 0, or the first check that turns it back.
 pub fn check(question: &[u8]) -> Answer {
@@ -104,6 +104,7 @@ fn merged(bytes: &[u8], a: u64, b: u64) -> Result<Question, Check> {
         second: question.second.rewritten(&condition),
         apart: apart.collect(),
         definitions: question.definitions,
+        edition: question.edition,
     })
 }
 
@@ -119,6 +120,23 @@ fn with_third(bytes: &[u8], third: &[u8]) -> Result<Question, Check> {
     let third = question.third(third)?;
     let beside = |side: Term| Term::new(Shape::Parallel(side, third.clone()));
     Ok(Question { first: beside(question.first), second: beside(question.second), ..question })
+}
+
+/// Writes a question of edition two in edition one, and answers the length written.
+pub fn convert_down(question: &[u8], area: &mut [u8]) -> Answer {
+    convert(question, Edition::Two, area)
+}
+
+/// Writes a question of edition one in edition two, and answers the length written.
+pub fn convert_up(question: &[u8], area: &mut [u8]) -> Answer {
+    convert(question, Edition::One, area)
+}
+
+/// Checks 3 to 12 of a question of this edition, 17 and 15.
+fn convert(question: &[u8], from: Edition, area: &mut [u8]) -> Answer {
+    let converted = Question::read_in(question, from).and_then(Question::converted);
+    let written = converted.and_then(|question| write(&question, area));
+    written.map_or_else(Answer::from, Answer::Result)
 }
 
 /// Judges a question: whether its parts are open bisimilar under its apart list.

@@ -1,7 +1,7 @@
-//! Questions: their frame, the checks 3 to 12, and printing them back.
+//! Questions: their frame, the checks 3 to 12 with 16, and printing them back in either edition.
 
 use crate::answer::Check;
-use crate::term::{Name, Shape, Term};
+use crate::term::{Edition, Name, Shape, Term};
 
 /// The greatest length of a question.
 pub const QUESTION_BYTES: usize = 4096;
@@ -26,6 +26,8 @@ pub struct Definition {
 /// An accepted question.
 #[derive(Clone, Debug)]
 pub struct Question {
+    /// The edition in which it came, and is printed.
+    pub edition: Edition,
     /// The definitions, from 0.
     pub definitions: Vec<Definition>,
     /// The first part.
@@ -39,10 +41,17 @@ pub struct Question {
 impl Question {
     /// The question of these bytes, or the first of the checks 3 to 12 that turns it back.
     pub fn read(bytes: &[u8]) -> Result<Question, Check> {
-        let frame = Frame::of(bytes)?;
+        let edition =
+            Edition::ALL.into_iter().find(|&edition| bytes.first() == Some(&edition.version()));
+        Question::read_in(bytes, edition.ok_or(Check::Version)?)
+    }
+
+    /// The same of a question that must be of this edition.
+    pub fn read_in(bytes: &[u8], edition: Edition) -> Result<Question, Check> {
+        let frame = Frame::of(bytes, edition)?;
         frame.check_counts()?;
         frame.check_lengths()?;
-        let (bodies, parts) = frame.terms()?;
+        let (bodies, parts) = frame.terms(edition)?;
         if bodies.iter().any(has_parallel) || parts.iter().any(misplaces_parallel) {
             return Err(Check::Parallel);
         }
@@ -53,32 +62,48 @@ impl Question {
         let [first, second] = parts;
         let definitions = frame.arities.iter().zip(bodies);
         let definitions = definitions.map(|(&arity, body)| Definition { arity, body });
-        Ok(Question { definitions: definitions.collect(), first, second, apart })
+        Ok(Question { edition, definitions: definitions.collect(), first, second, apart })
     }
 
     /// The bytes of the question.
     pub fn bytes(&self) -> Vec<u8> {
-        let mut bytes = vec![0x01, self.definitions.len() as u8];
+        let mut bytes = vec![self.edition.version(), self.definitions.len() as u8];
         bytes.extend(self.definitions.iter().map(|definition| definition.arity));
-        let bodies = self.definitions.iter().map(|definition| &definition.body);
-        for term in bodies.chain([&self.first, &self.second]) {
-            push_length(term.size(), &mut bytes);
-            term.write(0, &mut bytes);
+        for term in self.terms() {
+            push_length(term.size_in(self.edition), &mut bytes);
+            term.write(0, self.edition, &mut bytes);
         }
         push_length(2 * self.apart.len(), &mut bytes);
         bytes.extend(self.apart.iter().flat_map(|&(a, b)| [a, b]));
         bytes
     }
 
-    /// The third part of a beside: the checks 6 to 10, where 6 fires too if a side would pass
-    /// 112 bytes.
+    /// All bodies and both parts, in file order.
+    fn terms(&self) -> impl Iterator<Item = &Term> {
+        let bodies = self.definitions.iter().map(|definition| &definition.body);
+        bodies.chain([&self.first, &self.second])
+    }
+
+    /// The same question in the other edition: check 17 where a body or part is too long there.
+    pub fn converted(self) -> Result<Question, Check> {
+        let question = Question { edition: self.edition.other(), ..self };
+        let fits = question.terms().all(|term| term.size_in(question.edition) <= PART_BYTES);
+        match fits {
+            true => Ok(question),
+            false => Err(Check::Converted),
+        }
+    }
+
+    /// The third part of a beside, in the question's own edition: the checks 6 to 10, where 6
+    /// fires too if a side would pass 112 bytes.
     pub fn third(&self, bytes: &[u8]) -> Result<Term, Check> {
-        let longer_side = self.first.size().max(self.second.size());
+        let side = |term: &Term| term.size_in(self.edition);
+        let longer_side = side(&self.first).max(side(&self.second));
         if bytes.is_empty() || 1 + longer_side + bytes.len() > PART_BYTES {
             return Err(Check::Length);
         }
         let arities: Vec<u8> = self.definitions.iter().map(|definition| definition.arity).collect();
-        let third = read_term(bytes, &arities, None)?;
+        let third = read_term(bytes, &arities, None, self.edition)?;
         match misplaces_parallel(&third) {
             true => Err(Check::Parallel),
             false => Ok(third),
@@ -100,8 +125,8 @@ struct Frame<'a> {
 
 impl<'a> Frame<'a> {
     /// Checks 3 and 4.
-    fn of(bytes: &'a [u8]) -> Result<Frame<'a>, Check> {
-        if bytes.first() != Some(&0x01) {
+    fn of(bytes: &'a [u8], edition: Edition) -> Result<Frame<'a>, Check> {
+        if bytes.first() != Some(&edition.version()) {
             return Err(Check::Version);
         }
         if bytes.len() > QUESTION_BYTES {
@@ -138,13 +163,14 @@ impl<'a> Frame<'a> {
         }
     }
 
-    /// The bodies and the parts as trees: the shared walk of checks 7, 8 and 9, in file order.
-    fn terms(&self) -> Result<(Vec<Term>, [Term; 2]), Check> {
+    /// The bodies and the parts as trees: the shared walk of checks 7, 8, 16 and 9, in file order.
+    fn terms(&self, edition: Edition) -> Result<(Vec<Term>, [Term; 2]), Check> {
         let bodies = self.bodies.iter().zip(self.arities);
-        let bodies = bodies.map(|(body, &arity)| read_term(body, self.arities, Some(arity)));
+        let bodies =
+            bodies.map(|(body, &arity)| read_term(body, self.arities, Some(arity), edition));
         let bodies = bodies.collect::<Result<_, _>>()?;
-        let first = read_term(self.parts[0], self.arities, None)?;
-        let second = read_term(self.parts[1], self.arities, None)?;
+        let first = read_term(self.parts[0], self.arities, None, edition)?;
+        let second = read_term(self.parts[1], self.arities, None, edition)?;
         Ok((bodies, [first, second]))
     }
 }
@@ -162,8 +188,13 @@ fn take_counted<'a>(rest: &mut &'a [u8]) -> Option<&'a [u8]> {
 }
 
 /// Reads a whole body, if an arity is given, or a whole part.
-fn read_term(bytes: &[u8], arities: &[u8], arity: Option<u8>) -> Result<Term, Check> {
-    let mut reader = Reader { rest: bytes, arities, in_body: arity.is_some() };
+fn read_term(
+    bytes: &[u8],
+    arities: &[u8],
+    arity: Option<u8>,
+    edition: Edition,
+) -> Result<Term, Check> {
+    let mut reader = Reader { rest: bytes, arities, in_body: arity.is_some(), edition };
     let term = reader.term(u16::from(arity.unwrap_or(0)))?;
     match reader.rest {
         [] => Ok(term),
@@ -171,11 +202,12 @@ fn read_term(bytes: &[u8], arities: &[u8], arity: Option<u8>) -> Result<Term, Ch
     }
 }
 
-/// The left-to-right walk of checks 7, 8 and 9.
+/// The left-to-right walk of checks 7, 8, 16 and 9.
 struct Reader<'a> {
     rest: &'a [u8],
     arities: &'a [u8],
     in_body: bool,
+    edition: Edition,
 }
 
 impl Reader<'_> {
@@ -207,6 +239,9 @@ impl Reader<'_> {
     fn call(&mut self, binders: u16) -> Result<Shape, Check> {
         let k = self.byte()?;
         let &arity = self.arities.get(usize::from(k)).ok_or(Check::Call)?;
+        if self.edition == Edition::Two && self.byte()? != arity {
+            return Err(Check::Count);
+        }
         let names = (0..arity).map(|_| self.name(binders)).collect::<Result<_, _>>()?;
         Ok(Shape::Call(k, names))
     }

@@ -2,7 +2,7 @@
 
 use crate::condition::{Condition, NAMES};
 use crate::question::{Definition, PART_BYTES};
-use crate::term::{Name, Shape, Term};
+use crate::term::{Edition, Name, Shape, Term};
 use std::collections::HashSet;
 
 /// The greatest number of distinct steps of a part.
@@ -244,7 +244,7 @@ impl Listed {
             Action::NewOutput(a) => (3, byte(a), new),
         };
         let mut result = Vec::with_capacity(step.result.size());
-        step.result.write(new, &mut result);
+        step.result.write(new, Edition::One, &mut result);
         Listed { classes: *step.condition.classes(), kind, channel, object, result }
     }
 

@@ -4,6 +4,36 @@ use crate::condition::{Condition, Names};
 use std::hash::{Hash, Hasher};
 use std::rc::Rc;
 
+/// The edition of a coded question: they differ in the version byte and in calls alone.
+#[derive(Clone, Copy, PartialEq, Eq, Hash, Debug)]
+pub enum Edition {
+    /// A call is 09, the definition, the names.
+    One,
+    /// A call is 09, the definition, the number of the names, the names.
+    Two,
+}
+
+impl Edition {
+    /// Both editions.
+    pub const ALL: [Edition; 2] = [Edition::One, Edition::Two];
+
+    /// The version byte.
+    pub fn version(self) -> u8 {
+        match self {
+            Edition::One => 0x01,
+            Edition::Two => 0x02,
+        }
+    }
+
+    /// The other edition.
+    pub fn other(self) -> Edition {
+        match self {
+            Edition::One => Edition::Two,
+            Edition::Two => Edition::One,
+        }
+    }
+}
+
 /// A name where it occurs in a term.
 #[derive(Clone, Copy, PartialEq, Eq, Hash, Debug)]
 pub enum Name {
@@ -111,7 +141,7 @@ impl Term {
         &self.0.shape
     }
 
-    /// The number of bytes of the coded term.
+    /// The number of bytes of the coded term in edition one.
     pub fn size(&self) -> usize {
         self.0.facts.size as usize
     }
@@ -121,20 +151,35 @@ impl Term {
         self.0.facts.names
     }
 
+    /// The number of bytes of the coded term in an edition.
+    pub fn size_in(&self, edition: Edition) -> usize {
+        match edition {
+            Edition::One => self.size(),
+            Edition::Two => {
+                let mut bytes = Vec::new();
+                self.write(0, edition, &mut bytes);
+                bytes.len()
+            }
+        }
+    }
+
     /// Adds the coded term to the bytes, the given name standing for the placeholder.
-    pub fn write(&self, new: u8, bytes: &mut Vec<u8>) {
+    pub fn write(&self, new: u8, edition: Edition, bytes: &mut Vec<u8>) {
         match self.shape() {
             Shape::Inaction => bytes.push(0x00),
-            Shape::Silent(p) => write(0x01, &[], &[p], new, bytes),
-            Shape::Input(a, p) => write(0x02, &[*a], &[p], new, bytes),
-            Shape::Output(a, b, p) => write(0x03, &[*a, *b], &[p], new, bytes),
-            Shape::NewOutput(a, p) => write(0x04, &[*a], &[p], new, bytes),
-            Shape::Match(a, b, p) => write(0x05, &[*a, *b], &[p], new, bytes),
-            Shape::Choice(p, q) => write(0x06, &[], &[p, q], new, bytes),
-            Shape::Parallel(p, q) => write(0x07, &[], &[p, q], new, bytes),
-            Shape::Restriction(p) => write(0x08, &[], &[p], new, bytes),
+            Shape::Silent(p) => write(0x01, &[], &[p], new, edition, bytes),
+            Shape::Input(a, p) => write(0x02, &[*a], &[p], new, edition, bytes),
+            Shape::Output(a, b, p) => write(0x03, &[*a, *b], &[p], new, edition, bytes),
+            Shape::NewOutput(a, p) => write(0x04, &[*a], &[p], new, edition, bytes),
+            Shape::Match(a, b, p) => write(0x05, &[*a, *b], &[p], new, edition, bytes),
+            Shape::Choice(p, q) => write(0x06, &[], &[p, q], new, edition, bytes),
+            Shape::Parallel(p, q) => write(0x07, &[], &[p, q], new, edition, bytes),
+            Shape::Restriction(p) => write(0x08, &[], &[p], new, edition, bytes),
             Shape::Call(k, names) => {
                 bytes.extend([0x09, *k]);
+                if edition == Edition::Two {
+                    bytes.push(names.len() as u8);
+                }
                 bytes.extend(names.iter().map(|name| name.byte(new)));
             }
         }
@@ -209,11 +254,11 @@ impl Hash for Term {
     }
 }
 
-fn write(tag: u8, names: &[Name], terms: &[&Term], new: u8, bytes: &mut Vec<u8>) {
+fn write(tag: u8, names: &[Name], terms: &[&Term], new: u8, edition: Edition, bytes: &mut Vec<u8>) {
     bytes.push(tag);
     bytes.extend(names.iter().map(|name| name.byte(new)));
     for term in terms {
-        term.write(new, bytes);
+        term.write(new, edition, bytes);
     }
 }
 

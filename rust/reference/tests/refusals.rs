@@ -50,11 +50,14 @@ fn capacity_and_work_area() {
 fn version() {
     refused(&[], 3);
     refused(&[0x00], 3);
-    refused(&[0x02], 3);
+    refused(&[0x03], 3);
+    refused(&[0x02], 4);
     refused(&[0xFF; 5000], 3);
     let mut question = pair("00", "00", "");
-    question[0] = 0x02;
+    question[0] = 0x03;
     refused(&question, 3);
+    question[0] = 0x02;
+    accepted(&question);
 }
 
 #[test]
