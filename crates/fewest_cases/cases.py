@@ -15,6 +15,11 @@ def question(first="00", second="00", apart=""):
     return [1, 0] + field(bytes.fromhex(first)) + field(bytes.fromhex(second)) + field(bytes.fromhex(apart))
 
 
+def calling(edition, called):
+    """K of arity 2, K(x, y) = [x=y]τ.0; the first part as written, the second 0."""
+    return [edition, 1, 2] + field(bytes.fromhex("05 80 81 01 00")) + field(bytes.fromhex(called)) + field([0]) + field([])
+
+
 def case(names, asked, capacity=256, space=240):
     names = list(bytes.fromhex(names))
     return field([capacity // 256, capacity % 256, space, len(names), *names, *asked])
@@ -45,6 +50,11 @@ CASES = [
     ("unsettled 0", case("01 02", question(GROWS, GROWS), capacity=3)),
     ("length 0", case("01 02", question(GROWS, GROWS), capacity=4)),
     ("length 0", case("01", question(GROWS, GROWS), capacity=3)),
+    # K(a, b) and 0, in both editions
+    ("length 2 0 1", case("00 01 02", calling(1, "09 00 00 01"))),
+    ("length 2 0 1", case("00 01 02", calling(2, "09 00 02 00 01"))),
+    # 16 before 18
+    ("refused 16", case("00 00", calling(2, "09 00 01 00 01"))),
     # 18: a repeat, no name, five names; before 15
     ("refused 18", case("00 00", question())),
     ("refused 18", case("10", question())),

@@ -13,9 +13,9 @@ use Rattle.steps.proofs.Membership.{∈-all, ∈-either, ∈-mapped, all-++, al
 use Rattle.steps.proofs.ByteOrder.{Before, Says, ordered, before-irreflexive, before-trans}
 use Rattle.steps.specs.Listed.{namesFrom}
 use Rattle.steps.specs.Listing.{order}
-use Rattle.field.specs.Situation.{pairsOf}
+use Rattle.field.specs.Situation.{pairsOf, allPairs}
 use Rattle.verdict.specs.Verdict.{Verdict}
-use Rattle.fewest.specs.Choices.{pairsBelow, candidatePairs, Earlier}
+use Rattle.fewest.specs.Choices.{candidatePairs, Earlier}
 use Rattle.fewest.proofs.ChoiceLaws.{Ahead, PairBefore, PairsRise, Wins}
 
 -- All pairs ascend.
@@ -76,11 +76,11 @@ keep-rise f (p ∷ ps) a = go (f (p .0) (p .1)) (keep-rise f ps (a .1))
     go false r = r
 
 pub candidates-rise : (count : ℕ) (names : List ℕ) (apart : Pairs) → PairsRise (candidatePairs count names apart)
-unfolding candidatePairs pairsBelow
+unfolding candidatePairs allPairs
 candidates-rise count names apart = keep-rise _ (pairsOf (namesFrom 0 count)) (all-rise count 0)
 
-pub below-rise : (count : ℕ) → PairsRise (pairsBelow count)
-unfolding pairsBelow
+pub below-rise : (count : ℕ) → PairsRise (allPairs count)
+unfolding allPairs
 below-rise count = all-rise count 0
 
 -- Byte order, as the definition has it.

@@ -19,8 +19,8 @@ use Rattle.terms.proofs.WellFormed.{WellFormed, PairAllowed}
 use Rattle.steps.specs.Lists.{_∈_}
 use Rattle.steps.specs.Listed.{namesFrom}
 use Rattle.steps.proofs.Membership.{∈-either, ∈-mapped}
-use Rattle.field.specs.Situation.{pairsOf}
-use Rattle.fewest.specs.Choices.{pairsBelow, inOrder, underList}
+use Rattle.field.specs.Situation.{pairsOf, allPairs}
+use Rattle.fewest.specs.Choices.{inOrder, underList}
 
 names-within : (k n m : ℕ) → m ∈ namesFrom n k → (n ≤ m) × (m < n + k)
 unfolding namesFrom
@@ -55,15 +55,15 @@ keep-every f S (p ∷ ps) h = go (f (p .0) (p .1)) (keep-every f S ps (h .1))
     go true r = (h .0, r)
     go false r = r
 
-pub pairs-allowed : Every PairAllowed (pairsBelow nameCount)
-unfolding pairsBelow
+pub pairs-allowed : Every PairAllowed (allPairs nameCount)
+unfolding allPairs
 pairs-allowed = every-∈ PairAllowed (pairsOf (namesFrom 0 nameCount)) (λ p m.
     let (a, b) = pairs-within nameCount 0 p m in
     record { left = omega arith; right = omega arith; differ = λ e. omega arith })
 
 pub list-allowed : (D : Pairs) → Every PairAllowed (inOrder nameCount D)
 unfolding inOrder
-list-allowed D = keep-every _ PairAllowed (pairsBelow nameCount) pairs-allowed
+list-allowed D = keep-every _ PairAllowed (allPairs nameCount) pairs-allowed
 
 pub keep-length : (f : ℕ → ℕ → Bool) (ps : Pairs) → length (keep f ps) ≤ length ps
 unfolding keep
@@ -79,14 +79,21 @@ unfolding pairBytes
 bytes-length [] = omega arith
 bytes-length (p ∷ ps) = let r = bytes-length ps in omega arith
 
-pub pairs-count : length (pairsBelow nameCount) ≡ 120
-unfolding pairsBelow pairsOf namesFrom
-pairs-count = refl
+-- every pair once is as long a list as check 12 allows
+pub pairs-fill : length (pairBytes (allPairs nameCount)) ≡ longestApart
+unfolding allPairs pairsOf namesFrom pairBytes
+pairs-fill = refl
 
 pub list-length : (D : Pairs) → length (pairBytes (inOrder nameCount D)) ≤ longestApart
 unfolding inOrder
 list-length D =
-    omega (arith, pairs-count, bytes-length (keep (holdsApart D) (pairsBelow nameCount)), keep-length (holdsApart D) (pairsBelow nameCount))
+    omega (
+      arith,
+      pairs-fill,
+      bytes-length (allPairs nameCount),
+      bytes-length (keep (holdsApart D) (allPairs nameCount)),
+      keep-length (holdsApart D) (allPairs nameCount),
+    )
 
 -- The question under a list that check 12 allows is well formed; under the list D in order it is accepted, written in its own edition.
 pub under-well-formed : (q : Question) → WellFormed q → (D : Pairs) → Every PairAllowed D → length (pairBytes D) ≤ longestApart

@@ -10,20 +10,15 @@ use Rattle.calculus.specs.Cond.{Pairs}
 use Rattle.calculus.specs.Distinction.{among, keep}
 use Rattle.terms.specs.Operations.{holdsApart}
 use Rattle.terms.specs.Question.{Question, pairBytes}
-use Rattle.steps.specs.Listed.{namesFrom}
 use Rattle.steps.specs.Listing.{order}
-use Rattle.field.specs.Situation.{pairsOf}
-
--- the pairs of so many names, each with its smaller name first, in ascending order
-unfoldable pub pairsBelow : ℕ → Pairs
-pairsBelow count = pairsOf (namesFrom 0 count)
+use Rattle.field.specs.Situation.{allPairs}
 
 -- a and b are two of the given names, and not apart already
 unfoldable pub mayChoose : List ℕ → Pairs → ℕ → ℕ → Bool
 mayChoose names apart a b = among names a && among names b && not (holdsApart apart a b)
 
 unfoldable pub candidatePairs : ℕ → List ℕ → Pairs → Pairs
-candidatePairs count names apart = keep (mayChoose names apart) (pairsBelow count)
+candidatePairs count names apart = keep (mayChoose names apart) (allPairs count)
 
 -- c is a choice of some of the pairs, in their order
 pub data Choice : Pairs → Pairs → Type 0 where
@@ -51,7 +46,7 @@ allChoices ps = choicesFrom ps 0 (length ps)
 
 -- a list of pairs in the same order, without repeats
 unfoldable pub inOrder : ℕ → Pairs → Pairs
-inOrder count D = keep (holdsApart D) (pairsBelow count)
+inOrder count D = keep (holdsApart D) (allPairs count)
 
 -- the apart list enlarged by a choice
 unfoldable pub enlarged : ℕ → Pairs → Pairs → Pairs

@@ -25,7 +25,8 @@ use Rattle.fewest_lists.specs.Bests.{BestIs, followedBy, SameIs, WithPai
 use Rattle.fewest_lists.specs.Lists.{flagged, PairsWritten}
 use Rattle.fewest_lists.proofs.FlagLaws.{flagged-apart}
 use Rattle.fewest_lists.proofs.PairWriting.{flagged-bytes}
-use Rattle.field_pairs.specs.PairNumbers.{allPairs, pairAt}
+use Rattle.field.specs.Situation.{allPairs}
+use Rattle.field_pairs.specs.PairNumbers.{pairAt}
 
 -- the first one stays
 pub same-stays : (best : Best) (flags : List ℕ) → best .found ≡ true → SameIs best flags best

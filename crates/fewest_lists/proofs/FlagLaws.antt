@@ -16,9 +16,10 @@ use Rattle.field_pairs.specs.Slot.{flag, flagsOf}
 use Rattle.field_pairs.proofs.EntryLaws.{inside}
 use Rattle.field_pairs.proofs.PairLaws.{flag-at}
 use Rattle.field_pairs.proofs.NamePairs.{length-pairs}
-use Rattle.fewest.specs.Choices.{pairsBelow, mayChoose, candidatePairs, inOrder}
+use Rattle.fewest.specs.Choices.{mayChoose, candidatePairs, inOrder}
 use Rattle.fewest_lists.specs.Lists.{openFlags, flagged}
-use Rattle.field_pairs.specs.PairNumbers.{allPairs, pairAt}
+use Rattle.field.specs.Situation.{allPairs}
+use Rattle.field_pairs.specs.PairNumbers.{pairAt}
 
 -- the flag that a test sets
 pub flag-set : (b : Bool) → true ≡ b → 1 ≡ flag b
@@ -69,11 +70,11 @@ module _ (f : ℕ → ℕ → Bool) where
       go false e = e
 
 pub flagged-apart : (D : Pairs) → flagged (flagsOf D) (allPairs nameCount) ≡ inOrder nameCount D
-unfolding flagsOf inOrder allPairs pairsBelow
+unfolding flagsOf inOrder allPairs
 flagged-apart D = flagged-keep (holdsApart D) (allPairs nameCount)
 
 pub flagged-open : (names : List ℕ) (D : Pairs) → flagged (openFlags names D) (allPairs nameCount) ≡ candidatePairs nameCount names D
-unfolding openFlags candidatePairs allPairs pairsBelow
+unfolding openFlags candidatePairs allPairs
 flagged-open names D = flagged-keep (mayChoose names D) (allPairs nameCount)
 
 -- apart already; not one of the names; both of them

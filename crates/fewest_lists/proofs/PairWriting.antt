@@ -16,7 +16,8 @@ use Rattle.field_pairs.specs.PairFlags.{pairCount}
 use Rattle.field_pairs.proofs.NamePairs.{length-pairs}
 use Rattle.fewest.proofs.ListLaws.{bytes-length}
 use Rattle.fewest_lists.specs.Lists.{flagged, flaggedAt, PairsPut, PairWritten, PairsWritten}
-use Rattle.field_pairs.specs.PairNumbers.{allPairs, pairAt}
+use Rattle.field.specs.Situation.{allPairs}
+use Rattle.field_pairs.specs.PairNumbers.{pairAt}
 use Rattle.terms.specs.Limits.{nameCount}
 
 bytes-append : (D E : Pairs) → pairBytes (D ++ E) ≡ pairBytes D ++ pairBytes E

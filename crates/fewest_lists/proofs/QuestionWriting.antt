@@ -1,5 +1,5 @@
 -- The bytes before the apart list, and the question with another list behind them. Assumes nothing.
-use mathlib.Core.List.{List, [], _∷_, _++_, append-assoc}
+use mathlib.Core.List.{List, [], _∷_, _++_}
 use mathlib.Core.Path.{_≡_, refl, sym, ap, subst, _∙_}
 use native.Mathlib.Omega.{arith}
 use Prim.Native.Nat.{ℕ, suc, _+_, _-_, _/_, _%_, _<_, _≤_}
@@ -7,34 +7,27 @@ use lib.ListN.{length, set, take, drop, length-append}
 use lib.Seq.{sets, set-comm, take-append-seam}
 use Rattle.calculus.specs.Cond.{Pairs}
 use Rattle.terms.specs.Answer.{result}
-use Rattle.terms.specs.Edition.{Edition, versionByte, encodeIn}
-use Rattle.terms.specs.Framing.{sized, allSized, joined, beforeApart}
+use Rattle.terms.specs.Edition.{Edition}
+use Rattle.terms.specs.Framing.{sized, beforeApart}
 use Rattle.terms.specs.Limits.{nameCount, longestApart, longestQuestion}
-use Rattle.terms.specs.Question.{Question, editionOf, questionOf, bodyFieldsIn, pairBytes, fieldsIn, writeIn}
-use Rattle.terms.proofs.LiteralBytes.{declared-bytes}
+use Rattle.terms.specs.Question.{Question, editionOf, questionOf, pairBytes, fieldsIn, writeIn}
+use Rattle.terms.proofs.LiteralBytes.{joined-apart, declared-bytes}
 use Rattle.terms.proofs.OwnEdition.{own-well-formed, own-fits}
 use Rattle.terms.proofs.WellFormed.{written-length}
 use Rattle.terms_bytes.specs.FieldPlaces.{definitionsOf, afterField, fieldPlace}
 use Rattle.terms_bytes.specs.Writing.{Accepted}
 use Rattle.terms_bytes.proofs.QuestionPlaces.{framable-of, joined-in, joined-length}
 use Rattle.terms_bytes.proofs.Stores.{span, sets-join, sets-start}
-use Rattle.fewest.specs.Choices.{pairsBelow, inOrder, underList}
-use Rattle.fewest.proofs.ListLaws.{bytes-length, pairs-allowed, pairs-count, under-well-formed, under-fits}
+use Rattle.fewest.specs.Choices.{inOrder, underList}
+use Rattle.fewest.proofs.ListLaws.{pairs-allowed, pairs-fill, under-well-formed, under-fits}
 use Rattle.fewest_lists.specs.Lists.{flagged, PairsWritten, QuestionWritten}
 use Rattle.fewest_lists.proofs.FlagLaws.{flagged-apart}
 use Rattle.fewest_lists.proofs.PairWriting.{flagged-bytes}
-use Rattle.field_pairs.specs.PairNumbers.{allPairs}
+use Rattle.field.specs.Situation.{allPairs}
 
 under-bytes : (e : Edition) (q : Question) (D : Pairs) → writeIn e (underList q D) ≡ beforeApart e (fieldsIn e q) ++ sized (pairBytes D)
-unfolding writeIn joined fieldsIn underList beforeApart
-under-bytes e q D =
-    let A = q .arities in
-    let B = allSized (bodyFieldsIn e (q .arities) (q .bodies)) in
-    let P = sized (encodeIn e 0 (q .first)) in
-    let Q = sized (encodeIn e 0 (q .second)) in
-    let L = sized (pairBytes D) in
-    ap (λ l. versionByte e ∷ length A ∷ l)
-    (ap (λ l. A ++ l) (ap (λ l. B ++ l) (sym (append-assoc P Q L)) ∙ sym (append-assoc B (P ++ Q) L)) ∙ sym (append-assoc A (B ++ (P ++ Q)) L))
+unfolding writeIn fieldsIn underList beforeApart
+under-bytes e q D = joined-apart e (fieldsIn e (underList q D))
 
 length-sized : (xs : List ℕ) → length (sized xs) ≡ 2 + length xs
 unfolding sized
@@ -48,17 +41,16 @@ before s q = beforeApart (editionOf s) (fieldsIn (editionOf s) q)
 before-short : (s : List ℕ) (q : Question) → questionOf s ≡ result q → length (before s q) + (2 + longestApart) ≤ longestQuestion
 before-short s q h =
     let e = editionOf s in
-    let r = underList q (pairsBelow nameCount) in
-    let w = under-well-formed q (own-well-formed s q h) (pairsBelow nameCount) pairs-allowed (omega (arith, bytes-length (pairsBelow nameCount), pairs-count)) in
-    let l = written-length e r w (under-fits e q (pairsBelow nameCount) ∙ own-fits s q h) in
+    let r = underList q (allPairs nameCount) in
+    let w = under-well-formed q (own-well-formed s q h) (allPairs nameCount) pairs-allowed (omega (arith, pairs-fill)) in
+    let l = written-length e r w (under-fits e q (allPairs nameCount) ∙ own-fits s q h) in
     omega (
       arith,
       l,
-      ap length (under-bytes e q (pairsBelow nameCount)),
-      length-append (before s q) (sized (pairBytes (pairsBelow nameCount))),
-      length-sized (pairBytes (pairsBelow nameCount)),
-      bytes-length (pairsBelow nameCount),
-      pairs-count,
+      ap length (under-bytes e q (allPairs nameCount)),
+      length-append (before s q) (sized (pairBytes (allPairs nameCount))),
+      length-sized (pairBytes (allPairs nameCount)),
+      pairs-fill,
     )
 
 -- The place of the apart list, as the code computes it.

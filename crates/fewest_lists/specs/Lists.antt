@@ -13,7 +13,8 @@ use Rattle.terms.specs.Operations.{holdsApart}
 use Rattle.terms.specs.Question.{Question, editionOf, questionOf, pairBytes, writeIn}
 use Rattle.field_pairs.specs.Slot.{flag, flagsOf}
 use Rattle.fewest.specs.Choices.{mayChoose, inOrder, underList}
-use Rattle.field_pairs.specs.PairNumbers.{allPairs, pairAt}
+use Rattle.field.specs.Situation.{allPairs}
+use Rattle.field_pairs.specs.PairNumbers.{pairAt}
 
 -- of an apart list's bytes
 unfoldable pub ApartFlagIs : List ℕ → ℕ → ℕ → Type 0

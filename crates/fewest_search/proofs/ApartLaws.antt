@@ -38,7 +38,7 @@ use Rattle.fewest_lists.proofs.FlagLaws.{flagged-open}
 use Rattle.fewest_lists.proofs.PairWriting.{flagged-bytes}
 use Rattle.fewest_search.specs.Searching.{Allowed, clearedBy, verdictOn, SizesIs, FoundIs, ApartDoes, CheckedIs}
 use Rattle.fewest_search.proofs.SearchLaws.{fewest-map}
-use Rattle.field_pairs.specs.PairNumbers.{allPairs}
+use Rattle.field.specs.Situation.{allPairs}
 
 -- find
 pub found-is : (question : List ℕ) (capacity : ℕ) (names work : List ℕ) (first second apart : ℕ) (list flags choosable pairs pairs′ : List ℕ) (end : ℕ) (r : Best)

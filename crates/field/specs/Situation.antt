@@ -11,6 +11,7 @@ use Rattle.terms.specs.Encoding.{encode}
 use Rattle.terms.specs.Limits.{nameCount}
 use Rattle.terms.specs.Operations.{holdsApart}
 use Rattle.terms.specs.Question.{Question, pairBytes}
+use Rattle.steps.specs.Listed.{namesFrom}
 use mathlib.Core.Path.{_≡_}
 use Rattle.calculus.specs.Distinction.{Irr}
 use Rattle.terms.specs.Encoding.{InScope}
@@ -33,6 +34,10 @@ freeIn names P Q = freeFrom (fn P ++ fn Q) 0 names
 unfoldable pub pairsOf : List ℕ → Pairs
 pairsOf [] = []
 pairsOf (a ∷ bs) = map (λ b. (a, b)) bs ++ pairsOf bs
+
+-- every pair of so many names, ascending, its smaller name first: 0-1, 0-2 and so on
+unfoldable pub allPairs : ℕ → Pairs
+allPairs names = pairsOf (namesFrom 0 names)
 
 -- Two parts under the pairs D. The pairs stand in order, each once and its smaller name first, so that equal situations are equal.
 unfoldable pub situation : ℕ → Term → Term → Pairs → Situation

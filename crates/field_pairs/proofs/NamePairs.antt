@@ -4,7 +4,8 @@ use Prim.Native.Nat.{ℕ, _+_, _-_, _<_}
 use native.Mathlib.Omega.{arith}
 use lib.ListN.{length}
 use Rattle.terms.specs.Limits.{nameCount}
-use Rattle.field_pairs.specs.PairNumbers.{allPairs, pairAt, rowStart, pairsAmong, numberOf}
+use Rattle.field.specs.Situation.{allPairs}
+use Rattle.field_pairs.specs.PairNumbers.{pairAt, rowStart, pairsAmong, numberOf}
 use Rattle.field_pairs.specs.PairFlags.{pairCount, PairOfIs, NumberIs}
 use Rattle.field_pairs.proofs.PairNumbering.{
   number-pair,

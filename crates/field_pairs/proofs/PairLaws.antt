@@ -19,7 +19,8 @@ use Rattle.terms.specs.Operations.{holdsApart}
 use Rattle.terms.proofs.ApartLaws.{holds-apart, apart-holds}
 use Rattle.steps.specs.Listed.{ListedStep, classIn}
 use Rattle.field_pairs.specs.Entry.{EntryAt, ClassOfIs, TrivialIs}
-use Rattle.field_pairs.specs.PairNumbers.{allPairs, pairAt, numberOf}
+use Rattle.field.specs.Situation.{allPairs}
+use Rattle.field_pairs.specs.PairNumbers.{pairAt, numberOf}
 use Rattle.field_pairs.specs.PairFlags.{pairCount, NumberIs, AddsPair, NoneApartIs, HeldIs, MergedPair, MergesIs, PermittedIs}
 use Rattle.field_pairs.specs.Slot.{flag, flagsOf}
 use Rattle.field.specs.Successors.{permitted}

@@ -9,8 +9,8 @@ use lib.ListN.{length, getD, length-append, length-map}
 use lib.Seq.{getD-append-add}
 use Rattle.calculus.specs.Cond.{Pairs}
 use Rattle.steps.specs.Listed.{namesFrom}
-use Rattle.field.specs.Situation.{pairsOf}
-use Rattle.field_pairs.specs.PairNumbers.{allPairs, pairAt, rowStart, pairsAmong, numberOf}
+use Rattle.field.specs.Situation.{pairsOf, allPairs}
+use Rattle.field_pairs.specs.PairNumbers.{pairAt, rowStart, pairsAmong, numberOf}
 
 pub names-at : (n k i d : ℕ) → i < k → getD (namesFrom n k) i d ≡ n + i
 unfolding namesFrom

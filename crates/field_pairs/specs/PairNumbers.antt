@@ -1,14 +1,7 @@
 -- Pairs of names by their numbers, for any number of names: 0-1, 0-2 and so on, the smaller name first.
-use mathlib.Core.List.{List}
 use Prim.Native.Nat.{ℕ, zero, suc, _+_, _-_}
 use lib.ListN.{getD}
-use Rattle.calculus.specs.Cond.{Pairs}
-use Rattle.steps.specs.Listed.{namesFrom}
-use Rattle.field.specs.Situation.{pairsOf}
-
--- every pair, in order
-unfoldable pub allPairs : ℕ → Pairs
-allPairs names = pairsOf (namesFrom 0 names)
+use Rattle.field.specs.Situation.{allPairs}
 
 -- pair k
 unfoldable pub pairAt : ℕ → ℕ → ℕ × ℕ

@@ -13,8 +13,7 @@ use Rattle.terms.specs.Limits.{nameCount, longestTerm}
 use Rattle.terms.specs.Operations.{holdsApart}
 use Rattle.steps.specs.Listed.{namesFrom}
 pub use Rattle.field.specs.Setting.{slotBytes}
-use Rattle.field.specs.Situation.{Situation}
-use Rattle.field_pairs.specs.PairNumbers.{allPairs}
+use Rattle.field.specs.Situation.{Situation, allPairs}
 
 -- a part, its length first, filled with 0
 unfoldable pub partBytes : Term → List ℕ

@@ -18,9 +18,9 @@ use Rattle.terms.specs.Operations.{holdsApart}
 use Rattle.terms.proofs.ApartLaws.{holds-apart, apart-holds}
 use Rattle.steps.specs.Listed.{ListedStep, namesFrom, classIn}
 use Rattle.field_pairs.specs.Entry.{EntryAt}
-use Rattle.field_pairs.specs.PairNumbers.{allPairs, pairAt, numberOf}
+use Rattle.field_pairs.specs.PairNumbers.{pairAt, numberOf}
 use Rattle.field_pairs.specs.PairFlags.{pairCount}
-use Rattle.field.specs.Situation.{freeFrom, freeIn, pairsOf, situation}
+use Rattle.field.specs.Situation.{freeFrom, freeIn, pairsOf, allPairs, situation}
 use Rattle.field_pairs.specs.Slot.{flag, flagsOf}
 use Rattle.field_pairs.proofs.EntryLaws.{entry-alone}
 use Rattle.field_pairs.proofs.PairLaws.{length-flags, flag-at, flags-are}

@@ -17,9 +17,9 @@ use Rattle.terms.specs.Operations.{holdsApart}
 use Rattle.steps.specs.Listed.{ListedStep, namesFrom, classIn}
 use Rattle.field_pairs.specs.Entry.{EntryAt, ClassOfIs, TrivialIs}
 use Rattle.field_pairs.specs.NameFlags.{HasNames}
-use Rattle.field_pairs.specs.PairNumbers.{allPairs, pairAt}
+use Rattle.field_pairs.specs.PairNumbers.{pairAt}
 use Rattle.field_pairs.specs.PairFlags.{pairCount, AddsPair, NoneApartIs}
-use Rattle.field.specs.Situation.{freeFrom, pairsOf, situation}
+use Rattle.field.specs.Situation.{freeFrom, pairsOf, allPairs, situation}
 use Rattle.field_pairs.specs.Slot.{flag, flagsOf}
 use Rattle.field.specs.Successors.{extrudedBy, updatedBy}
 use Rattle.field_slots.specs.Update.{AddsIfFree, AddsRow, AddsExtruded, AddsRewritten, RewritesPairs, UpdatedIs, ifFree, keptFlag, keptFlags, KeptIs}

@@ -21,8 +21,7 @@ use Rattle.field_successors.specs.Leading.{placed, leading, PartsStand, 
 use Rattle.field_pairs.specs.NameFlags.{FreeInEitherIs}
 use Rattle.field_pairs.specs.PairFlags.{NoneApartIs}
 use Rattle.field_successors.specs.Resulting.{CopiesResult, RewritesResult}
-use Rattle.field.specs.Situation.{freeFrom, pairsOf, situation}
-use Rattle.field_pairs.specs.PairNumbers.{allPairs}
+use Rattle.field.specs.Situation.{freeFrom, pairsOf, allPairs, situation}
 use Rattle.field_pairs.specs.Slot.{partBytes, flag, flagsOf, octet, octets, packed, keyOf, keyBytes}
 use Rattle.field.specs.Successors.{updatedBy}
 use Rattle.field_slots.specs.Update.{KeptIs, UpdatedIs}

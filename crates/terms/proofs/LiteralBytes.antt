@@ -98,7 +98,8 @@ beside-bytes question third q h room next m =
     e : Edition
     e = editionOf question
 
-joined-apart : (e : Edition) (f : Fields) → joined e f ≡ beforeApart e f ++ sized (f .apart)
+-- The apart list is the last field.
+pub joined-apart : (e : Edition) (f : Fields) → joined e f ≡ beforeApart e f ++ sized (f .apart)
 unfolding joined beforeApart
 joined-apart e f =
     let A = f .arities in

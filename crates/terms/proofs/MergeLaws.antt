@@ -19,8 +19,7 @@ use Rattle.terms.specs.Encoding.{nameByte}
 use Rattle.terms.specs.Operations.{holdsApart, mergedQuestion, merged, mergeOf}
 use Rattle.terms.specs.Question.{Question, all, fits, editionOf, questionOf, pairBytes, bodyFieldsIn, writeIn, fitsIn}
 use Rattle.terms.proofs.Answers.{Every, result-injective, bind-result, need-result, both-true}
-use Rattle.terms.proofs.RenamingKeeps.{scope-ren, outermost-ren}
-use Rattle.terms.proofs.RenamingKeeps.{length-ren}
+use Rattle.terms.proofs.RenamingKeeps.{scope-ren, outermost-ren, length-ren, length-ren-in}
 use Rattle.terms.proofs.OwnEdition.{edition-written, own-well-formed, own-fits, written-accepted}
 use Rattle.terms.proofs.WellFormed.{PartAllowed, PairAllowed, WellFormed}
 use Rattle.terms.proofs.WrittenLaws.{Written, written-within}
@@ -78,7 +77,7 @@ pairs-merged a b (p ∷ D) l m h w =
       pairs-merged a b D l m (u .1) (w .1),
     )
 
-pairs-as-many : (f : ℕ → ℕ) (D : Pairs) → length (pairBytes (mapP f D)) ≡ length (pairBytes D)
+pub pairs-as-many : (f : ℕ → ℕ) (D : Pairs) → length (pairBytes (mapP f D)) ≡ length (pairBytes D)
 unfolding pairBytes
 pairs-as-many f [] = refl
 pairs-as-many f (p ∷ D) = ap (λ n. suc (suc n)) (pairs-as-many f D)
@@ -105,44 +104,6 @@ merged-well-formed a b q l m h w =
       apart = pairs-merged a b (q .apart) l m h (w .apart);
       apartSize = rw (pairs-as-many (join a b) (q .apart)) (w .apartSize);
     }
-
--- A renamed term is as long as it was, in either edition.
-length-ren-in : (e : Edition) (d d′ : ℕ) (ρ : ℕ → ℕ) (P : Term) → length (encodeIn e d′ (ren ρ P)) ≡ length (encodeIn e d P)
-unfolding encodeIn
-length-ren-in e d d′ ρ nil = refl
-length-ren-in e d d′ ρ (tau P) = omega (arith, length-ren-in e d d′ ρ P)
-length-ren-in e d d′ ρ (inp a P) = omega (arith, length-ren-in e (1 + d) (1 + d′) (lift ρ) P)
-length-ren-in e d d′ ρ (out a b P) = omega (arith, length-ren-in e d d′ ρ P)
-length-ren-in e d d′ ρ (bout a P) = omega (arith, length-ren-in e (1 + d) (1 + d′) (lift ρ) P)
-length-ren-in e d d′ ρ (mat a b P) = omega (arith, length-ren-in e d d′ ρ P)
-length-ren-in e d d′ ρ (sum P Q) =
-    omega (
-      arith,
-      length-ren-in e d d′ ρ P,
-      length-ren-in e d d′ ρ Q,
-      length-append (encodeIn e d P) (encodeIn e d Q),
-      length-append (encodeIn e d′ (ren ρ P)) (encodeIn e d′ (ren ρ Q)),
-    )
-length-ren-in e d d′ ρ (par P Q) =
-    omega (
-      arith,
-      length-ren-in e d d′ ρ P,
-      length-ren-in e d d′ ρ Q,
-      length-append (encodeIn e d P) (encodeIn e d Q),
-      length-append (encodeIn e d′ (ren ρ P)) (encodeIn e d′ (ren ρ Q)),
-    )
-length-ren-in e d d′ ρ (res P) = omega (arith, length-ren-in e (1 + d) (1 + d′) (lift ρ) P)
-length-ren-in e d d′ ρ (call k ns) =
-    let l : length (map ρ ns) ≡ length ns = length-map ns ρ in
-    let c : countBytes e (length (map ρ ns)) ≡ countBytes e (length ns) = ap (countBytes e) l in
-    omega (
-      arith,
-      length-append (countBytes e (length (map ρ ns))) (map (nameByte d′) (map ρ ns)),
-      length-append (countBytes e (length ns)) (map (nameByte d) ns),
-      length-map (map ρ ns) (nameByte d′),
-      length-map ns (nameByte d),
-      ap length c,
-    )
 
 fits-by : (bs cs : List ℕ) → length bs ≡ length cs → fits bs ≡ fits cs
 unfolding fits

@@ -1,16 +1,15 @@
--- What a renaming keeps of a term: its scope, where the renaming keeps names in scope, and its grammar.
-use mathlib.Core.Path.{_≡_, refl, ap₂, _∙_}
+-- What a renaming keeps of a term: its scope, where the renaming keeps names in scope, its grammar, and its length in either edition.
+use mathlib.Core.Path.{_≡_, refl, sym, ap, ap₂, _∙_}
 use mathlib.Core.List.{List, [], _∷_, map}
 use mathlib.Core.Bool.{Bool, true, false, _&&_}
 use Prim.Native.Nat.{ℕ, zero, suc, _+_, _<_}
 use native.Mathlib.Omega.{arith}
-use lib.ListN.{length, length-map}
+use lib.ListN.{length, length-append, length-map}
 use Rattle.calculus.specs.Term.{Term, nil, tau, inp, out, bout, mat, sum, par, res, call, ren, lift}
-use Rattle.terms.specs.Encoding.{NamesInScope, InScope}
+use Rattle.terms.specs.Edition.{Edition, one, countBytes, encodeIn}
+use Rattle.terms.specs.Encoding.{nameByte, encode, NamesInScope, InScope}
 use Rattle.terms.specs.Grammar.{sequential, parallelOutermost, guarded}
-use mathlib.Core.Path.{ap}
-use lib.ListN.{length-append}
-use Rattle.terms.specs.Encoding.{encode}
+use Rattle.terms.proofs.EditionOne.{encode-first}
 
 -- ρ takes the names of a term under d binders to names of a term under d′ binders.
 abbrev pub Keeps : ℕ → ℕ → ℕ → ℕ → (ℕ → ℕ) → Type 0
@@ -80,15 +79,43 @@ guarded-ren ρ (par P Q) = ap₂ _&&_ (guarded-ren ρ P) (guarded-ren ρ Q)
 guarded-ren ρ (res P) = guarded-ren (lift ρ) P
 guarded-ren ρ (call k ns) = refl
 
+-- A renamed term is as long as it was, in either edition.
+pub length-ren-in : (e : Edition) (d d′ : ℕ) (ρ : ℕ → ℕ) (P : Term) → length (encodeIn e d′ (ren ρ P)) ≡ length (encodeIn e d P)
+unfolding encodeIn
+length-ren-in e d d′ ρ nil = refl
+length-ren-in e d d′ ρ (tau P) = omega (arith, length-ren-in e d d′ ρ P)
+length-ren-in e d d′ ρ (inp a P) = omega (arith, length-ren-in e (1 + d) (1 + d′) (lift ρ) P)
+length-ren-in e d d′ ρ (out a b P) = omega (arith, length-ren-in e d d′ ρ P)
+length-ren-in e d d′ ρ (bout a P) = omega (arith, length-ren-in e (1 + d) (1 + d′) (lift ρ) P)
+length-ren-in e d d′ ρ (mat a b P) = omega (arith, length-ren-in e d d′ ρ P)
+length-ren-in e d d′ ρ (sum P Q) =
+    omega (
+      arith,
+      length-ren-in e d d′ ρ P,
+      length-ren-in e d d′ ρ Q,
+      length-append (encodeIn e d P) (encodeIn e d Q),
+      length-append (encodeIn e d′ (ren ρ P)) (encodeIn e d′ (ren ρ Q)),
+    )
+length-ren-in e d d′ ρ (par P Q) =
+    omega (
+      arith,
+      length-ren-in e d d′ ρ P,
+      length-ren-in e d d′ ρ Q,
+      length-append (encodeIn e d P) (encodeIn e d Q),
+      length-append (encodeIn e d′ (ren ρ P)) (encodeIn e d′ (ren ρ Q)),
+    )
+length-ren-in e d d′ ρ (res P) = omega (arith, length-ren-in e (1 + d) (1 + d′) (lift ρ) P)
+length-ren-in e d d′ ρ (call k ns) =
+    let l : length (map ρ ns) ≡ length ns = length-map ns ρ in
+    let c : countBytes e (length (map ρ ns)) ≡ countBytes e (length ns) = ap (countBytes e) l in
+    omega (
+      arith,
+      length-append (countBytes e (length (map ρ ns))) (map (nameByte d′) (map ρ ns)),
+      length-append (countBytes e (length ns)) (map (nameByte d) ns),
+      length-map (map ρ ns) (nameByte d′),
+      length-map ns (nameByte d),
+      ap length c,
+    )
+
 pub length-ren : (d d′ : ℕ) (ρ : ℕ → ℕ) (P : Term) → length (encode d′ (ren ρ P)) ≡ length (encode d P)
-unfolding encode
-length-ren d d′ ρ nil = refl
-length-ren d d′ ρ (tau P) = ap suc (length-ren d d′ ρ P)
-length-ren d d′ ρ (inp a P) = ap (λ (k : ℕ). suc (suc k)) (length-ren (1 + d) (1 + d′) (lift ρ) P)
-length-ren d d′ ρ (out a b P) = ap (λ (k : ℕ). suc (suc (suc k))) (length-ren d d′ ρ P)
-length-ren d d′ ρ (bout a P) = ap (λ (k : ℕ). suc (suc k)) (length-ren (1 + d) (1 + d′) (lift ρ) P)
-length-ren d d′ ρ (mat a b P) = ap (λ (k : ℕ). suc (suc (suc k))) (length-ren d d′ ρ P)
-length-ren d d′ ρ (sum P Q) = ap suc (simp length-append (ap₂ _+_ (length-ren d d′ ρ P) (length-ren d d′ ρ Q)))
-length-ren d d′ ρ (par P Q) = ap suc (simp length-append (ap₂ _+_ (length-ren d d′ ρ P) (length-ren d d′ ρ Q)))
-length-ren d d′ ρ (res P) = ap suc (length-ren (1 + d) (1 + d′) (lift ρ) P)
-length-ren d d′ ρ (call k ns) = ap (λ (k : ℕ). suc (suc k)) (simp length-map)
+length-ren d d′ ρ P = ap length (sym (encode-first d′ (ren ρ P))) ∙ length-ren-in one d d′ ρ P ∙ ap length (encode-first d P)

@@ -17,53 +17,15 @@ use Rattle.terms.specs.Operations.{mergedQuestion, areaAfter}
 use Rattle.terms.specs.Question.{Question, checkIn, checkOf, editionOf, questionOf, pairBytes, bodyFieldsIn, fieldsIn, writeIn, write}
 use Rattle.terms.proofs.Answers.{result-injective}
 use Rattle.terms.proofs.EditionOne.{write-first}
-use Rattle.terms.proofs.MergeLaws.{merged-well-formed}
+use Rattle.terms.proofs.MergeLaws.{pairs-as-many, merged-well-formed}
 use Rattle.terms.proofs.OwnEdition.{own-written}
+use Rattle.terms.proofs.RenamingKeeps.{length-ren-in}
 use Rattle.terms.proofs.WellFormed.{WellFormed, accepted-in, written-in, in-accepted, fits-first, written-length}
 use Rattle.terms_bytes.specs.Counted.{editionFrom}
 use Rattle.terms_bytes.specs.Writing.{Plain, Writes, MayMerge, WritesMerged}
 use Rattle.terms_converting.specs.Questions.{MayConvert, ConvertsQuestion}
 use Rattle.terms_converting.proofs.PlainForm.{plain-may, plain-checked, plain-room, plain-taken, plain-size}
 use Rattle.terms_rewriting.specs.Counted.{MayMergeCounted, WritesMergedCounted}
-use Rattle.terms_rewriting.proofs.MergeWriting.{length-pairs}
-
--- A renamed term is as long as it was, in either edition, and so is a merged question.
-length-renamed : (e : Edition) (d d′ : ℕ) (ρ : ℕ → ℕ) (P : Term) → length (encodeIn e d′ (ren ρ P)) ≡ length (encodeIn e d P)
-unfolding encodeIn
-length-renamed e d d′ ρ nil = refl
-length-renamed e d d′ ρ (tau P) = omega (arith, length-renamed e d d′ ρ P)
-length-renamed e d d′ ρ (inp a P) = omega (arith, length-renamed e (1 + d) (1 + d′) (lift ρ) P)
-length-renamed e d d′ ρ (out a b P) = omega (arith, length-renamed e d d′ ρ P)
-length-renamed e d d′ ρ (bout a P) = omega (arith, length-renamed e (1 + d) (1 + d′) (lift ρ) P)
-length-renamed e d d′ ρ (mat a b P) = omega (arith, length-renamed e d d′ ρ P)
-length-renamed e d d′ ρ (sum P Q) =
-    omega (
-      arith,
-      length-renamed e d d′ ρ P,
-      length-renamed e d d′ ρ Q,
-      length-append (encodeIn e d P) (encodeIn e d Q),
-      length-append (encodeIn e d′ (ren ρ P)) (encodeIn e d′ (ren ρ Q)),
-    )
-length-renamed e d d′ ρ (par P Q) =
-    omega (
-      arith,
-      length-renamed e d d′ ρ P,
-      length-renamed e d d′ ρ Q,
-      length-append (encodeIn e d P) (encodeIn e d Q),
-      length-append (encodeIn e d′ (ren ρ P)) (encodeIn e d′ (ren ρ Q)),
-    )
-length-renamed e d d′ ρ (res P) = omega (arith, length-renamed e (1 + d) (1 + d′) (lift ρ) P)
-length-renamed e d d′ ρ (call k ns) =
-    let l : length (map ρ ns) ≡ length ns = length-map ns ρ in
-    let c : countBytes e (length (map ρ ns)) ≡ countBytes e (length ns) = ap (countBytes e) l in
-    omega (
-      arith,
-      length-append (countBytes e (length (map ρ ns))) (map (nameByte d′) (map ρ ns)),
-      length-append (countBytes e (length ns)) (map (nameByte d) ns),
-      length-map (map ρ ns) (nameByte d′),
-      length-map ns (nameByte d),
-      ap length c,
-    )
 
 pub merged-length-in : (e : Edition) (a b : ℕ) (q : Question) → length (writeIn e (mergedQuestion a b q)) ≡ length (writeIn e q)
 unfolding writeIn joined fieldsIn mergedQuestion sized
@@ -77,9 +39,9 @@ merged-length-in e a b q =
     let D′ = pairBytes (mapP (join a b) (q .apart)) in
     omega (
       arith,
-      length-renamed e 0 0 (join a b) (q .first),
-      length-renamed e 0 0 (join a b) (q .second),
-      length-pairs (join a b) (q .apart),
+      length-ren-in e 0 0 (join a b) (q .first),
+      length-ren-in e 0 0 (join a b) (q .second),
+      pairs-as-many (join a b) (q .apart),
       length-append (q .arities) (B ++ (sized F ++ (sized S ++ sized D))),
       length-append (q .arities) (B ++ (sized F′ ++ (sized S′ ++ sized D′))),
       length-append B (sized F ++ (sized S ++ sized D)),

@@ -20,7 +20,7 @@ use Rattle.terms_renaming.specs.Renaming.{RenameIs}
 use Rattle.terms_bytes.specs.Writing.{Writes, WritesMerged}
 use Rattle.terms.proofs.Answers.{Every}
 use Rattle.terms.proofs.FramingLaws.{Framable}
-use Rattle.terms.proofs.MergeLaws.{join-below}
+use Rattle.terms.proofs.MergeLaws.{join-below, pairs-as-many}
 use Rattle.terms_bytes.proofs.Heights.{height-bytes}
 use Rattle.terms_bytes.proofs.NameTables.{renamed-free, beneath-free, represents-free}
 use Rattle.terms_bytes.proofs.Places.{arities-of}
@@ -31,11 +31,6 @@ use Rattle.terms.proofs.WellFormed.{PairAllowed, WellFormed, accepted-well-form
 use Rattle.terms.proofs.EditionOne.{write-first}
 
 -- The apart list, byte by byte.
-pub length-pairs : (ρ : ℕ → ℕ) (D : Pairs) → length (pairBytes (mapP ρ D)) ≡ length (pairBytes D)
-unfolding pairBytes
-length-pairs ρ [] = refl
-length-pairs ρ (p ∷ D) = ap (λ (k : ℕ). suc (suc k)) (length-pairs ρ D)
-
 renamed-pairs : (table : List ℕ) (ρ : ℕ → ℕ) → ((n : ℕ) → n < nameCount → (getD table n 0 ≡ ρ n) × (ρ n < nameCount)) → (D : Pairs) → Every PairAllowed D
     → map (renamedByte 0 table) (pairBytes D) ≡ pairBytes (mapP ρ D)
 unfolding pairBytes Every
@@ -86,14 +81,14 @@ module _ (a b : ℕ) (q : Question) where
       ++ (halves (length (fieldsOf q .apart)) ++ mergedApart)))))
   unfolding write mergedQuestion fieldsOf beforeParts mergedFirst mergedSecond mergedApart
   merged-split =
-      joined-split one (fieldsOf (mergedQuestion a b q)) ∙ rw (length-ren 0 0 (join a b) (q .first), length-ren 0 0 (join a b) (q .second), length-pairs)
+      joined-split one (fieldsOf (mergedQuestion a b q)) ∙ rw (length-ren 0 0 (join a b) (q .first), length-ren 0 0 (join a b) (q .second), pairs-as-many)
 
   pub merged-length : length (joined one (fieldsOf q)) ≡ length (write (mergedQuestion a b q))
   unfolding fieldsOf mergedFirst mergedSecond mergedApart
   merged-length =
       let u = simp length-append at (ap length (joined-split one (fieldsOf q))) in
       let v = simp length-append at (ap length merged-split) in
-      omega (arith, u, v, length-ren 0 0 (join a b) (q .first), length-ren 0 0 (join a b) (q .second), length-pairs (join a b) (q .apart))
+      omega (arith, u, v, length-ren 0 0 (join a b) (q .first), length-ren 0 0 (join a b) (q .second), pairs-as-many (join a b) (q .apart))
 
 -- The question is written in edition one, by `encode`.
 abbrev WritesPlain : Question → List ℕ → ℕ → List ℕ → Type 0
@@ -200,7 +195,7 @@ module _ (a b : ℕ) (q : Question) (w : WellFormed q) (small : a < nameCount) (
       y = length-ren 0 0 (join a b) (q .second)
 
       z : length (mergedApart a b q) ≡ length (f .apart)
-      z = length-pairs (join a b) (q .apart)
+      z = pairs-as-many (join a b) (q .apart)
 
       same : length s ≡ length (write (mergedQuestion a b q))
       same = merged-length a b q

@@ -47,7 +47,7 @@ not-turned : (n k : ℕ) → gave n ≡ turnedBack k → ⊥
 not-turned n k e = let z : _≡_ {A = ℕ} 0 1 = cc in absurd (omega arith)
 
 -- What a converter that answered a length has written.
-written-by : (e : Edition) (question area : List ℕ) (r : ℕ) (after : List ℕ) → ConvertIs e question area r after → (n : ℕ) → Says r (gave n)
+pub written-by : (e : Edition) (question area : List ℕ) (r : ℕ) (after : List ℕ) → ConvertIs e question area r after → (n : ℕ) → Says r (gave n)
     → convertOf e question (length area) ≡ result (take n after)
 unfolding ofNumber lengthWritten areaAfter _>>=_
 written-by e question area r after C n s =
