@@ -10,7 +10,7 @@ use Rattle.terms.specs.Answer.{result}
 use Rattle.terms.specs.Edition.{Edition}
 use Rattle.terms.specs.Framing.{sized, beforeApart}
 use Rattle.terms.specs.Limits.{nameCount, longestApart, longestQuestion}
-use Rattle.terms.specs.Question.{Question, editionOf, questionOf, pairBytes, fieldsIn, writeIn}
+use Rattle.terms.specs.Question.{Question, editionOf, questionOf, questionWith, pairBytes, fieldsIn, writeIn}
 use Rattle.terms.proofs.LiteralBytes.{joined-apart, declared-bytes}
 use Rattle.terms.proofs.OwnEdition.{own-well-formed, own-fits}
 use Rattle.terms.proofs.WellFormed.{written-length}
@@ -57,7 +57,7 @@ before-short s q h =
 module _ (s : List ℕ) (first second apart : ℕ) (first-at : first ≡ fieldPlace s (definitionsOf s)) (second-at : second ≡ afterField s first)
     (apart-at : apart ≡ afterField s second) where
   place-is : (q : Question) → questionOf s ≡ result q → length s ≡ apart + (length (pairBytes (q .apart)) + 2)
-  unfolding questionOf fieldsIn
+  unfolding questionWith fieldsIn
   place-is q h =
       let e = editionOf s in
       let y : second ≡ afterField s (fieldPlace s (definitionsOf s)) = second-at ∙ ap (afterField s) first-at in

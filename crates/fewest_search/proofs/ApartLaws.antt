@@ -12,7 +12,7 @@ use Rattle.calculus.specs.Cond.{Pairs}
 use Rattle.terms.specs.Answer.{Answer, refused, result, _>>=_, _>>_, need}
 use Rattle.terms.specs.Limits.{nameCount, longestApart}
 use Rattle.terms.specs.Operations.{checkAnswer}
-use Rattle.terms.specs.Question.{Question, editionOf, questionOf, pairBytes}
+use Rattle.terms.specs.Question.{Question, editionOf, questionOf, questionWith, pairBytes}
 use Rattle.terms.proofs.Answers.{need-passed, need-failed, bind-result, bind-to}
 use Rattle.terms_bytes.specs.FieldPlaces.{definitionsOf, afterField, fieldAt, fieldPlace}
 use Rattle.terms_bytes.specs.Writing.{Accepted}
@@ -47,7 +47,7 @@ pub found-is : (question : List ℕ) (capacity : ℕ) (names work : List ℕ) (f
     → list ≡ fieldAt question apart → ApartFlagsAre list flags → OpenFlagsAre names flags choosable → longestApart ≤ length pairs
     → PairsWritten choosable pairs 0 end pairs′ → SizesIs question (take end pairs′) flags capacity work r work′
     → FoundIs question capacity names work r work′
-unfolding FoundIs SizesIs ApartFlagsAre OpenFlagsAre PairsWritten fewestOf verdictUnder enlarged verdictOn questionOf
+unfolding FoundIs SizesIs ApartFlagsAre OpenFlagsAre PairsWritten fewestOf verdictUnder enlarged verdictOn questionWith
 found-is question capacity names work first second apart list flags choosable pairs pairs′ end r work′ x y z l a o room w s q e =
     let D = q .apart in
     let C = candidatePairs nameCount names D in

@@ -12,7 +12,7 @@ use Rattle.terms.specs.Edition.{one, versionByte}
 use Rattle.terms.specs.Encoding.{encode, InScope}
 use Rattle.terms.specs.Reading.{numbered}
 use Rattle.terms.specs.Framing.{joined}
-use Rattle.terms.specs.Question.{Question, checkOf, editionOf, questionOf, bodyFields, pairBytes, fieldsOf, write}
+use Rattle.terms.specs.Question.{Question, checkOf, editionOf, questionOf, questionWith, bodyFields, pairBytes, fieldsOf, write}
 use Rattle.terms.proofs.Answers.{result-injective, bind-to, Every}
 use Rattle.terms.proofs.EncodeRead.{whole-read}
 use Rattle.terms.proofs.EditionOne.{encode-first}
@@ -69,7 +69,7 @@ module _ (n : ℕ) (h : n ≤ 5) (first second : List ℕ) (p : SmallPart n firs
 
   -- as the judge reads it,
   pair-own : questionOf (asked first second) ≡ result (pairQuestion (p .term) (q .term))
-  unfolding questionOf editionOf checkOf asked joined versionByte
+  unfolding questionWith editionOf checkOf asked joined versionByte
   pair-own = pair-accepted
 
   -- whose verdict is settled.

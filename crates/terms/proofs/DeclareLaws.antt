@@ -12,13 +12,13 @@ use Rattle.terms.specs.Answer.{Answer, refused, result, _>>=_, _>>_, nee
 use Rattle.terms.specs.Edition.{Edition}
 use Rattle.terms.specs.Framing.{Fields, joined}
 use Rattle.terms.specs.Operations.{declaredFields, declaredQuestion, mayDeclare}
-use Rattle.terms.specs.Question.{Question, differentNames, readPairs, readApart, checkIn, pairBytes, fieldsIn, fitsIn}
+use Rattle.terms.specs.Question.{Question, differentNames, readPairs, readPairsWith, readApartWith, checkIn, pairBytes, fieldsIn, fitsIn}
 use Rattle.terms.proofs.Answers.{Every, need-both}
 use Rattle.terms.proofs.WellFormed.{WellFormed, PairAllowed, withApart, decided-by-apart, pairs-read-before}
 
 last-pair : (D : Pairs) (a b : ℕ) → Every PairAllowed D →
     readPairs (pairBytes D ++ (a ∷ b ∷ [])) ≡ (need 12 (differentNames a b) >> result (D ++ ((a, b) ∷ [])))
-unfolding readPairs need _>>_ _>>=_
+unfolding readPairsWith need _>>_ _>>=_
 last-pair D a b h = pairs-read-before D (a ∷ b ∷ []) h ∙ go (differentNames a b)
   where
     go : (t : Bool) →
@@ -28,7 +28,7 @@ last-pair D a b h = pairs-read-before D (a ∷ b ∷ []) h ∙ go (differentName
 
 pub declared-answer : (e : Edition) (q : Question) → WellFormed q → fitsIn e q ≡ true → (a b : ℕ) →
     checkIn e (joined e (declaredFields a b (fieldsIn e q))) ≡ (need 12 (mayDeclare a b q) >> result (declaredQuestion a b q))
-unfolding declaredFields declaredQuestion mayDeclare fieldsIn withApart readApart
+unfolding declaredFields declaredQuestion mayDeclare fieldsIn withApart readApartWith
 declared-answer e q w fit a b =
     let xs = pairBytes (q .apart) ++ (a ∷ b ∷ []) in
     let l : length xs ≡ length (pairBytes (q .apart)) + 2 = length-append (pairBytes (q .apart)) (a ∷ b ∷ []) in

@@ -8,7 +8,7 @@ use Rattle.terms.specs.Encoding.{nameByte}
 use Rattle.terms.specs.Framing.{cut, field, fields, framed, sized, allSized, joined}
 use Rattle.terms.specs.Grammar.{sequential, parallelOutermost, guarded}
 use Rattle.terms.specs.Operations.{besideQuestion, fitsBeside, placedBeside, writtenWithin, besideOf, convertOf, lengthWritten}
-use Rattle.terms.specs.Question.{all, fits, version, differentNames, readPairs, readApart, pairBytes, readBodies, readPart, checkTerms, checkFields, checkIn, editionOf, questionOf, bodyFieldsIn, fieldsIn, writeIn, fitsIn}
+use Rattle.terms.specs.Question.{all, fits, version, differentNamesWith, readPairsWith, readApartWith, pairBytes, readBodies, readPartWith, checkTermsWith, checkFieldsWith, checkWith, editionOf, questionOf, questionWith, bodyFieldsIn, fieldsIn, writeIn, fitsIn}
 use Rattle.terms.specs.Reading.{byte, readName, readNames, tagOf, numbered, readCount, readTerm, readWhole}
 
 -- K of arity 1, body 03 80 80 09 00 80; K⟨a⟩ and āa.K⟨a⟩
@@ -62,9 +62,9 @@ rows =
     []
 
 rows-hold : map (λ r. answerOf (r .0)) rows ≡ map (λ r. r .1) rows
-unfolding questionOf editionOf checkIn checkFields checkTerms version versionByte _>>=_ _>>_ need framed cut field fields all fits readBodies
-    readPart readWhole readTerm readName readNames byte tagOf numbered readCount sequential parallelOutermost guarded readApart differentNames
-    readPairs joined sized allSized
+unfolding questionWith editionOf checkWith checkFieldsWith checkTermsWith version versionByte _>>=_ _>>_ need framed cut field fields all fits readBodies
+    readPartWith readWhole readTerm readName readNames byte tagOf numbered readCount sequential parallelOutermost guarded readApartWith differentNamesWith
+    readPairsWith joined sized allSized
 rows-hold = refl
 
 abbrev conversions : List (Answer (List ℕ) × Answer (List ℕ))
@@ -81,9 +81,9 @@ conversions =
     []
 
 conversions-hold : map (λ r. r .0) conversions ≡ map (λ r. r .1) conversions
-unfolding convertOf writtenWithin fitsIn writeIn fieldsIn bodyFieldsIn encodeIn countBytes nameByte pairBytes checkIn checkFields checkTerms
-    version versionByte _>>=_ _>>_ need framed cut field fields all fits readBodies readPart readWhole readTerm readName readNames byte tagOf
-    numbered readCount sequential parallelOutermost guarded readApart differentNames readPairs joined sized allSized
+unfolding convertOf writtenWithin fitsIn writeIn fieldsIn bodyFieldsIn encodeIn countBytes nameByte pairBytes checkWith checkFieldsWith checkTermsWith
+    version versionByte _>>=_ _>>_ need framed cut field fields all fits readBodies readPartWith readWhole readTerm readName readNames byte tagOf
+    numbered readCount sequential parallelOutermost guarded readApartWith differentNamesWith readPairsWith joined sized allSized
 conversions-hold = refl
 
 -- Beside in edition two: check 6 counts the numbers of names too. A side of 100 bytes and a third part of 11 pass, of 12 do not.
@@ -95,7 +95,7 @@ besides : map (lengthWritten) (
     ∷ besideOf sideOf100 (9 ∷ 0 ∷ 0 ∷ []) 4096 ∷ [])
     ≡ result 137 ∷ refused 6 ∷ refused 16 ∷ []
 unfolding besideOf placedBeside besideQuestion fitsBeside lengthWritten writtenWithin writeIn fieldsIn bodyFieldsIn encodeIn countBytes nameByte
-    pairBytes questionOf editionOf checkIn checkFields checkTerms version versionByte _>>=_ _>>_ need framed cut field fields all fits readBodies
-    readPart readWhole readTerm readName readNames byte tagOf numbered readCount sequential parallelOutermost guarded readApart differentNames
-    readPairs joined sized allSized
+    pairBytes questionWith editionOf checkWith checkFieldsWith checkTermsWith version versionByte _>>=_ _>>_ need framed cut field fields all fits readBodies
+    readPartWith readWhole readTerm readName readNames byte tagOf numbered readCount sequential parallelOutermost guarded readApartWith differentNamesWith
+    readPairsWith joined sized allSized
 besides = refl

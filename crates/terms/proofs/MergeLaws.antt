@@ -1,21 +1,20 @@
 -- Two names merged: the question written is accepted, in the same edition; its parts and apart list are the old ones renamed.
 use mathlib.Core.Path.{_≡_, refl, sym, ap, ap₂, _∙_}
-use mathlib.Core.List.{List, [], _∷_, _++_, map}
+use mathlib.Core.List.{List, [], _∷_}
 use mathlib.Core.Bool.{Bool, true, false, _&&_, _||_, not}
 use mathlib.Core.Logic.{_≢_, _⊎_, inl, inr}
-use Prim.Native.Nat.{ℕ, suc, _+_, _≤_, _<_, min, max}
+use Prim.Native.Nat.{ℕ, suc, _<_, min, max}
 use native.Mathlib.Nat.{zero-add}
 use native.Mathlib.Omega.{arith}
-use lib.ListN.{length, length-append, length-map}
+use lib.ListN.{length}
 use lib.Dec.{ltb, leb, eqb}
 use borrow.Author.Tests.{ltb-true, leb-true, leb-false, eq-eqb, not-true}
 use Rattle.calculus.proofs.Conditions.{join-cases}
 use Rattle.calculus.specs.Cond.{Pairs, mapP, join}
-use Rattle.calculus.specs.Term.{Term, nil, tau, inp, out, bout, mat, sum, par, res, call, lift, ren}
+use Rattle.calculus.specs.Term.{Term, ren}
 use Rattle.terms.specs.Limits.{nameCount}
 use Rattle.terms.specs.Answer.{Answer, refused, result, _>>=_, _>>_, need}
-use Rattle.terms.specs.Edition.{Edition, countBytes, encodeIn}
-use Rattle.terms.specs.Encoding.{nameByte}
+use Rattle.terms.specs.Edition.{Edition}
 use Rattle.terms.specs.Operations.{holdsApart, mergedQuestion, merged, mergeOf}
 use Rattle.terms.specs.Question.{Question, all, fits, editionOf, questionOf, pairBytes, bodyFieldsIn, writeIn, fitsIn}
 use Rattle.terms.proofs.Answers.{Every, result-injective, bind-result, need-result, both-true}

@@ -7,7 +7,7 @@ use Prim.Native.Nat.{ℕ}
 use Rattle.terms.specs.Answer.{Answer, refused, result}
 use Rattle.terms.specs.Edition.{Edition, one, two, versionByte}
 use Rattle.terms.specs.Framing.{Fields, joined}
-use Rattle.terms.specs.Question.{Question, checkIn, checkOf, editionOf, questionOf, fieldsIn, writeIn, fitsIn, write}
+use Rattle.terms.specs.Question.{Question, checkIn, checkOf, editionOf, questionOf, questionWith, fieldsIn, writeIn, fitsIn, write}
 use Rattle.terms.proofs.Answers.{result-injective}
 use Rattle.terms.proofs.EditionOne.{write-first}
 use Rattle.terms.proofs.WellFormed.{WellFormed, accepted-in, written-in, in-accepted, fits-first, well-formed-accepted}
@@ -26,20 +26,20 @@ edition-accepted e question q h = subst (λ (bs : List ℕ). editionOf bs ≡ e)
 
 -- a question that is accepted in an edition is of that edition
 pub in-own : (e : Edition) (question : List ℕ) (q : Question) → checkIn e question ≡ result q → questionOf question ≡ result q
-unfolding questionOf
+unfolding questionWith
 in-own e question q h = ap (λ x. checkIn x question) (edition-accepted e question q h) ∙ h
 
 module _ (question : List ℕ) (q : Question) (h : questionOf question ≡ result q) where
   pub own-well-formed : WellFormed q
-  unfolding questionOf
+  unfolding questionWith
   own-well-formed = accepted-in (editionOf question) question q h .0
 
   pub own-fits : fitsIn (editionOf question) q ≡ true
-  unfolding questionOf
+  unfolding questionWith
   own-fits = accepted-in (editionOf question) question q h .1
 
   pub own-written : writeIn (editionOf question) q ≡ question
-  unfolding questionOf
+  unfolding questionWith
   own-written = written-in (editionOf question) question q h
 
   -- its edition-one form is accepted, as the same question: what the lister and the judge are handed

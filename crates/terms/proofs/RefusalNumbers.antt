@@ -14,7 +14,7 @@ use Rattle.terms.specs.Framing.{Fields, cut, field, fields, framed}
 use Rattle.terms.specs.Grammar.{parallelOutermost}
 use Rattle.terms.specs.Limits.{longestQuestion}
 use Rattle.terms.specs.Operations.{merged, placedBeside, writtenWithin, mergeOf, besideOf, convertOf}
-use Rattle.terms.specs.Question.{Question, version, readBodies, readPart, readPairs, readApart, differentNames, checkTerms, checkFields, checkIn, editionOf, questionOf, fitsIn}
+use Rattle.terms.specs.Question.{Question, version, readBodies, readPart, readPartWith, readPairs, readPairsWith, readApart, readApartWith, differentNames, checkTermsWith, checkFieldsWith, checkIn, checkWith, editionOf, questionOf, questionWith, fitsIn}
 use Rattle.terms.specs.Reading.{byte, readName, readNames, Tag, inaction, silent, input, output, newOutput, match, choice, parallel, restriction, calling, unknown, tagOf, Callees, numbered, readCount, readTerm, readWhole}
 use Rattle.terms.proofs.Answers.{bind-result, need-result}
 
@@ -114,7 +114,7 @@ unfolding numbered
 arity-numbered arities k = numbered-need 8 (ltb k (length arities)) _ (omega arith) (done _)
 
 part-numbered : (e : Edition) (arities bs : List ℕ) → Numbered (readPart e (numbered arities) bs)
-unfolding readPart
+unfolding readPartWith
 part-numbered e arities bs = whole-numbered e (numbered arities) (arity-numbered arities) _ 0 bs
 
 bodies-numbered : (e : Edition) (arities sizes : List ℕ) (bodies : List (List ℕ)) → Numbered (readBodies e (numbered arities) sizes bodies)
@@ -126,7 +126,7 @@ bodies-numbered e arities (a ∷ as′) [] = done _
 bodies-numbered e arities [] bs = done _
 
 pairs-numbered : (bs : List ℕ) → Numbered (readPairs bs)
-unfolding readPairs
+unfolding readPairsWith
 pairs-numbered [] = done _
 pairs-numbered (a ∷ []) = turned _ 12 (omega arith)
 pairs-numbered (a ∷ b ∷ bs) =
@@ -163,7 +163,7 @@ version-numbered e [] = turned _ 3 (omega arith)
 version-numbered e (b ∷ bs) = numbered-need 3 (eqb b (versionByte e)) _ (omega arith) (done _)
 
 pub check-numbered-in : (e : Edition) (bs : List ℕ) → Numbered (checkIn e bs)
-unfolding checkIn checkFields checkTerms readApart
+unfolding checkWith checkFieldsWith checkTermsWith readApartWith
 check-numbered-in e bs =
     numbered-bind (version e bs) _ (version-numbered e bs) (λ rest.
     numbered-need 4 _ _ (omega arith)
@@ -176,7 +176,7 @@ check-numbered-in e bs =
     (numbered-bind (readApart (f .apart)) _ (numbered-need 12 _ _ (omega arith) (pairs-numbered (f .apart))) (λ D. done _)))))))))))
 
 pub check-numbered : (bs : List ℕ) → Numbered (questionOf bs)
-unfolding questionOf
+unfolding questionWith
 check-numbered bs = check-numbered-in (editionOf bs) bs
 
 written-numbered : (e : Edition) (room : ℕ) (q : Question) → Numbered (writtenWithin e room q)
@@ -204,11 +204,11 @@ convert-numbered e bs room =
 
 -- An accepted question is not longer than check 4 allows.
 pub accepted-length-in : (e : Edition) (bs : List ℕ) (q : Question) → checkIn e bs ≡ result q → length bs ≤ longestQuestion
-unfolding checkIn
+unfolding checkWith
 accepted-length-in e bs q h =
     let (rest, _, h₁) = bind-result (version e bs) _ q h in
     leb-true (length bs) longestQuestion (need-result 4 (leb (length bs) longestQuestion) _ q h₁ .0)
 
 pub accepted-length : (bs : List ℕ) (q : Question) → questionOf bs ≡ result q → length bs ≤ longestQuestion
-unfolding questionOf
+unfolding questionWith
 accepted-length bs q h = accepted-length-in (editionOf bs) bs q h

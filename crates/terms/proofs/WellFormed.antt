@@ -17,7 +17,7 @@ use Rattle.terms.specs.Edition.{Edition, one, two, versionByte, encodeIn
 use Rattle.terms.specs.Reading.{numbered, readWhole}
 use Rattle.terms.specs.Grammar.{sequential, parallelOutermost, guarded}
 use Rattle.terms.specs.Framing.{Fields, framed, sized, allSized, joined}
-use Rattle.terms.specs.Question.{Question, all, version, fits, readBodies, readPart, differentNames, readPairs, readApart, checkTerms, checkFields, checkIn, checkOf, bodyFieldsIn, pairBytes, fieldsIn, writeIn, fitsIn, fieldsOf, write}
+use Rattle.terms.specs.Question.{Question, all, version, fits, readBodies, readPart, readPartWith, differentNames, differentNamesWith, readPairs, readPairsWith, readApart, readApartWith, checkTermsWith, checkFields, checkFieldsWith, checkIn, checkWith, checkOf, bodyFieldsIn, pairBytes, fieldsIn, writeIn, fitsIn, fieldsOf, write}
 use Rattle.terms.proofs.Answers.{result-injective, refused-not-result, bind-result, bind-to, then-result, bind-id, bind-assoc, need-result, need-passed, both-true, true-both, all-every, every-all}
 use Rattle.terms.proofs.EditionOne.{encode-first, encode-shorter, fields-first, write-first}
 use Rattle.terms.proofs.ReadEncoded.{encode-some-in, read-whole}
@@ -38,7 +38,7 @@ fits-size bs e =
 module _ (e : Edition) where
   pub part-allowed : (arities bs : List ℕ) (P : Term) → fits bs ≡ true → readPart e (numbered arities) bs ≡ result P → parallelOutermost P ≡ true →
       (bs ≡ encodeIn e 0 P) × PartAllowed arities P
-  unfolding readPart
+  unfolding readPartWith
   part-allowed arities bs P f h g =
       let r = whole-read nameCount e (numbered arities) 0 bs P h in
       let s : length (encodeIn e 0 P) ≤ longestTerm = rw (← r .0) (fits-size bs f .1) in
@@ -80,7 +80,7 @@ module _ (e : Edition) where
 
 -- An accepted apart list.
 pairs-allowed : (bs : List ℕ) (D : Pairs) → readPairs bs ≡ result D → (bs ≡ pairBytes D) × Every PairAllowed D
-unfolding readPairs differentNames pairBytes Every
+unfolding readPairsWith differentNamesWith pairBytes Every
 pairs-allowed [] D e = let q : _≡_ {A = Pairs} [] D = result-injective e in rw (← q) (refl, tt)
 pairs-allowed (a ∷ []) D e = refused-not-result e
 pairs-allowed (a ∷ b ∷ bs) D e =
@@ -95,19 +95,19 @@ pairs-allowed (a ∷ b ∷ bs) D e =
     rw (← q) (ap (λ l. a ∷ b ∷ l) (r .0), (ok, r .1))
 
 names-differ : (p : ℕ × ℕ) → PairAllowed p → differentNames (p .0) (p .1) ≡ true
-unfolding differentNames
+unfolding differentNamesWith
 names-differ p a = rw (lt-ltb (p .0) nameCount (a .left), lt-ltb (p .1) nameCount (a .right), ne-eqb (p .0) (p .1) (a .differ))
 
 -- Pairs that are allowed are read, whatever follows them.
 pub pairs-read-before : (D : Pairs) (bs : List ℕ) → Every PairAllowed D → readPairs (pairBytes D ++ bs) ≡ (readPairs bs >>= λ E. result (D ++ E))
-unfolding readPairs pairBytes Every _>>=_
+unfolding readPairsWith pairBytes Every _>>=_
 pairs-read-before [] bs h = sym (bind-id (readPairs bs))
 pairs-read-before (p ∷ D) bs h =
     need-passed 12 (differentNames (p .0) (p .1)) _ (names-differ p (h .0))
     ∙ rw (pairs-read-before D bs (h .1)) (bind-assoc (readPairs bs) (λ E. result (D ++ E)) (λ E. result (p ∷ E)))
 
 pub pairs-read : (D : Pairs) → Every PairAllowed D → readPairs (pairBytes D) ≡ result D
-unfolding readPairs _>>=_
+unfolding readPairsWith _>>=_
 pairs-read D h = rw (append-nil (pairBytes D), append-nil D) at (pairs-read-before D [] h)
 
 -- What was accepted: the question is well-formed, it fits the edition, and its fields are those written.
@@ -126,7 +126,7 @@ module _ (e : Edition) where
         all guarded bodies ≡ true →
         readApart (f .apart) ≡ result apart →
         WellFormed madeOf × (f ≡ fieldsIn e madeOf)
-    unfolding fieldsIn readApart
+    unfolding fieldsIn readApartWith
     made-allowed l c₅ c₆ c₇ c₈ c₉ c₁₀ c₁₁ c₁₂ =
         let s = both-true (leb (length (f .arities)) mostDefinitions) (all (λ a. leb a greatestArity) (f .arities)) c₅ in
         let x = both-true (all fits (f .bodies) && fits (f .first)) (fits (f .second)) c₆ in
@@ -152,7 +152,7 @@ module _ (e : Edition) where
 
   fields-allowed : (f : Fields) (q : Question) → length (f .bodies) ≡ length (f .arities) → checkFields e f ≡ result q →
       WellFormed q × (f ≡ fieldsIn e q) × (fitsIn e q ≡ true)
-  unfolding checkFields checkTerms fitsIn fieldsIn
+  unfolding checkFieldsWith checkTermsWith fitsIn fieldsIn
   fields-allowed f q l h =
       let c₅ = need-result 5 (leb (length (f .arities)) mostDefinitions && all (λ a. leb a greatestArity) (f .arities)) _ q h in
       let c₆ = need-result 6 (all fits (f .bodies) && fits (f .first) && fits (f .second)) _ q (c₅ .1) in
@@ -185,7 +185,7 @@ module _ (e : Edition) where
     checks : checkFields e fields ≡ result q
 
   accepted-stages : (bs : List ℕ) (q : Question) → checkIn e bs ≡ result q → Accepted bs q
-  unfolding checkIn
+  unfolding checkWith
   accepted-stages bs q h =
       let v = bind-result (version e bs) _ q h in
       let l = need-result 4 (leb (length bs) longestQuestion) _ q (v .2) in
@@ -292,7 +292,7 @@ module _ (e : Edition) (arities : List ℕ) where
   bodies-read [] [] h = refl
 
   part-read : (P : Term) → PartAllowed arities P → readPart e (numbered arities) (encodeIn e 0 P) ≡ result P
-  unfolding readPart
+  unfolding readPartWith
   part-read P h = read-whole nameCount (omega arith) e (numbered arities) 0 P (scope-to arities nameCount 0 P (h .scope))
 
 module _ (e : Edition) (q : Question) (w : WellFormed q) (fit : fitsIn e q ≡ true) (xs : List ℕ) where
@@ -337,7 +337,7 @@ module _ (e : Edition) (q : Question) (w : WellFormed q) (fit : fitsIn e q ≡ t
       >>= λ D. result (record { arities = q .arities; bodies = q .bodies; first = q .first; second = q .second; apart = D })
 
   allowed-checks : checkFields e (withApart e xs q) ≡ byApart
-  unfolding checkFields checkTerms withApart
+  unfolding checkFieldsWith checkTermsWith withApart
   allowed-checks =
       let t = terms-fit e q fit in
       let P = w .first in
@@ -354,7 +354,7 @@ module _ (e : Edition) (q : Question) (w : WellFormed q) (fit : fitsIn e q ≡ t
       ∙ need-passed 11 _ _ (bodies-guarded (q .arities) (q .arities) (q .bodies) (w .bodies))
 
   pub decided-by-apart : length xs ≤ longestApart + 2 → checkIn e (joined e (withApart e xs q)) ≡ byApart
-  unfolding checkIn joined behindVersion version
+  unfolding checkWith joined behindVersion version
   decided-by-apart few =
       bind-to _ (need-passed 3 (eqb (versionByte e) (versionByte e)) (result (behindVersion (withApart e xs q))) (eq-eqb (versionByte e) (versionByte e) refl))
       ∙ need-passed 4 (leb (length (joined e (withApart e xs q))) longestQuestion) _
@@ -364,7 +364,7 @@ module _ (e : Edition) (q : Question) (w : WellFormed q) (fit : fitsIn e q ≡ t
 
 module _ (e : Edition) (q : Question) (w : WellFormed q) (fit : fitsIn e q ≡ true) where
   pub in-accepted : checkIn e (writeIn e q) ≡ result q
-  unfolding writeIn fieldsIn withApart readApart
+  unfolding writeIn fieldsIn withApart readApartWith
   in-accepted =
       let few = w .apartSize in
       decided-by-apart e q w fit (pairBytes (q .apart)) (omega arith)

@@ -1,5 +1,5 @@
 -- The limits of document 01, each under its name. Whatever can be said over any number of names or bytes takes it as a parameter.
-use Prim.Native.Nat.{ℕ}
+use Prim.Native.Nat.{ℕ, _*_, _-_}
 
 -- The free names of a part are 00 to 0F.
 abbrev pub nameCount : ℕ
@@ -20,6 +20,9 @@ greatestArity = 8
 abbrev pub longestTerm : ℕ
 longestTerm = 112
 
--- Check 12, in bytes: 120 pairs of 16 names.
+-- Check 12, in bytes: every pair of so many names once, 240 for 16 names.
+abbrev pub longestApartOf : ℕ → ℕ
+longestApartOf names = names * (names - 1)
+
 abbrev pub longestApart : ℕ
-longestApart = 240
+longestApart = longestApartOf nameCount

@@ -6,7 +6,7 @@ use lib.ListN.{length}
 use lib.Dec.{ltb, leb, eqb}
 use Rattle.calculus.specs.Cond.{Pairs}
 use Rattle.calculus.specs.Term.{Term}
-use Rattle.terms.specs.Limits.{nameCount, longestQuestion, mostDefinitions, greatestArity, longestTerm, longestApart}
+use Rattle.terms.specs.Limits.{nameCount, longestQuestion, mostDefinitions, greatestArity, longestTerm, longestApartOf}
 use Rattle.terms.specs.Answer.{Answer, refused, result, _>>=_, _>>_, need}
 use Rattle.terms.specs.Encoding.{encode}
 use Rattle.terms.specs.Edition.{Edition, one, two, versionByte, encodeIn}
@@ -47,50 +47,74 @@ readBodies e callees (a ∷ as′) (b ∷ bs) = do
 readBodies e callees (a ∷ as′) [] = result []
 readBodies e callees [] bs = result []
 
--- Checks 7 to 9 over a part.
-unfoldable pub readPart : Edition → Callees → List ℕ → Answer Term
-readPart e callees bs = readWhole e callees nameCount 0 bs
+-- What goes by the number of names takes it as a parameter.
+module _ (names : ℕ) where
+  -- Checks 7 to 9 over a part.
+  unfoldable pub readPartWith : Edition → Callees → List ℕ → Answer Term
+  readPartWith e callees bs = readWhole e callees names 0 bs
 
--- Check 12.
-unfoldable pub differentNames : ℕ → ℕ → Bool
-differentNames a b = ltb a nameCount && ltb b nameCount && not (eqb a b)
+  -- Check 12.
+  unfoldable pub differentNamesWith : ℕ → ℕ → Bool
+  differentNamesWith a b = ltb a names && ltb b names && not (eqb a b)
 
-unfoldable pub readPairs : List ℕ → Answer Pairs
-readPairs [] = result []
-readPairs (a ∷ []) = refused 12
-readPairs (a ∷ b ∷ bs) = do
-  need 12 (differentNames a b)
-  D ← readPairs bs
-  result ((a, b) ∷ D)
+  unfoldable pub readPairsWith : List ℕ → Answer Pairs
+  readPairsWith [] = result []
+  readPairsWith (a ∷ []) = refused 12
+  readPairsWith (a ∷ b ∷ bs) = do
+    need 12 (differentNamesWith a b)
+    D ← readPairsWith bs
+    result ((a, b) ∷ D)
 
-unfoldable pub readApart : List ℕ → Answer Pairs
-readApart bs = need 12 (leb (length bs) longestApart) >> readPairs bs
+  unfoldable pub readApartWith : List ℕ → Answer Pairs
+  readApartWith bs = need 12 (leb (length bs) (longestApartOf names)) >> readPairsWith bs
 
--- Checks 7 to 12, over the fields that checks 4 to 6 have passed.
-unfoldable pub checkTerms : Edition → Fields → Answer Question
-checkTerms e f = do
-  bodies ← readBodies e (numbered (f .arities)) (f .arities) (f .bodies)
-  first ← readPart e (numbered (f .arities)) (f .first)
-  second ← readPart e (numbered (f .arities)) (f .second)
-  need 10 (all sequential bodies && parallelOutermost first && parallelOutermost second)
-  need 11 (all guarded bodies)
-  apart ← readApart (f .apart)
-  result (record { arities = f .arities; bodies = bodies; first = first; second = second; apart = apart })
+  -- Checks 7 to 12, over the fields that checks 4 to 6 have passed.
+  unfoldable pub checkTermsWith : Edition → Fields → Answer Question
+  checkTermsWith e f = do
+    bodies ← readBodies e (numbered (f .arities)) (f .arities) (f .bodies)
+    first ← readPartWith e (numbered (f .arities)) (f .first)
+    second ← readPartWith e (numbered (f .arities)) (f .second)
+    need 10 (all sequential bodies && parallelOutermost first && parallelOutermost second)
+    need 11 (all guarded bodies)
+    apart ← readApartWith (f .apart)
+    result (record { arities = f .arities; bodies = bodies; first = first; second = second; apart = apart })
 
--- Checks 5 to 12. Check 6 goes by the bytes of the file.
-unfoldable pub checkFields : Edition → Fields → Answer Question
-checkFields e f = do
-  need 5 (leb (length (f .arities)) mostDefinitions && all (λ a. leb a greatestArity) (f .arities))
-  need 6 (all fits (f .bodies) && fits (f .first) && fits (f .second))
-  checkTerms e f
+  -- Checks 5 to 12. Check 6 goes by the bytes of the file.
+  unfoldable pub checkFieldsWith : Edition → Fields → Answer Question
+  checkFieldsWith e f = do
+    need 5 (leb (length (f .arities)) mostDefinitions && all (λ a. leb a greatestArity) (f .arities))
+    need 6 (all fits (f .bodies) && fits (f .first) && fits (f .second))
+    checkTermsWith e f
 
--- Checks 3 to 12, in their order, of a question that must be of this edition.
-unfoldable pub checkIn : Edition → List ℕ → Answer Question
-checkIn e question = do
-  rest ← version e question
-  need 4 (leb (length question) longestQuestion)
-  f ← framed rest
-  checkFields e f
+  -- Checks 3 to 12, in their order, of a question that must be of this edition.
+  unfoldable pub checkWith : Edition → List ℕ → Answer Question
+  checkWith e question = do
+    rest ← version e question
+    need 4 (leb (length question) longestQuestion)
+    f ← framed rest
+    checkFieldsWith e f
+
+-- The same for the names that a part may have.
+abbrev pub readPart : Edition → Callees → List ℕ → Answer Term
+readPart = readPartWith nameCount
+
+abbrev pub differentNames : ℕ → ℕ → Bool
+differentNames = differentNamesWith nameCount
+
+abbrev pub readPairs : List ℕ → Answer Pairs
+readPairs = readPairsWith nameCount
+
+abbrev pub readApart : List ℕ → Answer Pairs
+readApart = readApartWith nameCount
+
+abbrev pub checkTerms : Edition → Fields → Answer Question
+checkTerms = checkTermsWith nameCount
+
+abbrev pub checkFields : Edition → Fields → Answer Question
+checkFields = checkFieldsWith nameCount
+
+abbrev pub checkIn : Edition → List ℕ → Answer Question
+checkIn = checkWith nameCount
 
 -- Those of edition one, whose bytes are what the lister and the judge walk.
 unfoldable pub checkOf : List ℕ → Answer Question
@@ -101,8 +125,11 @@ unfoldable pub editionOf : List ℕ → Edition
 editionOf question = elim (eqb (getD question 0 0) 2) [ true ↦ two | false ↦ one ]
 
 -- Checks 3 to 12 of a question in its own edition.
-unfoldable pub questionOf : List ℕ → Answer Question
-questionOf question = checkIn (editionOf question) question
+unfoldable pub questionWith : ℕ → List ℕ → Answer Question
+questionWith names question = checkWith names (editionOf question) question
+
+abbrev pub questionOf : List ℕ → Answer Question
+questionOf = questionWith nameCount
 
 -- The bytes of a question in an edition.
 unfoldable pub bodyFieldsIn : Edition → List ℕ → List Term → List (List ℕ)

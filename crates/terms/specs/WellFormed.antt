@@ -6,7 +6,7 @@ use mathlib.Core.List.{List, [], _∷_}
 use Prim.Native.Nat.{ℕ, _≤_, _<_}
 use lib.ListN.{length}
 use Rattle.calculus.specs.Term.{Term}
-use Rattle.terms.specs.Limits.{nameCount, mostDefinitions, greatestArity, longestTerm, longestApart}
+use Rattle.terms.specs.Limits.{nameCount, mostDefinitions, greatestArity, longestTerm, longestApartOf}
 use Rattle.terms.specs.Encoding.{encode, InScope}
 use Rattle.terms.specs.Grammar.{sequential, parallelOutermost, guarded}
 use Rattle.terms.specs.Question.{Question, pairBytes}
@@ -24,18 +24,6 @@ pub record BodyAllowed (arities : List ℕ) (a : ℕ) (P : Term) : Type 0 where
   pub noParallel : sequential P ≡ true
   pub callsGuarded : guarded P ≡ true
 
--- What checks 6 to 10 ask of a part.
-pub record PartAllowed (arities : List ℕ) (P : Term) : Type 0 where
-  pub scope : InScope nameCount arities 0 P
-  pub size : length (encode 0 P) ≤ longestTerm
-  pub parallelsOutermost : parallelOutermost P ≡ true
-
--- What check 12 asks of a pair of the apart list.
-pub record PairAllowed (p : ℕ × ℕ) : Type 0 where
-  pub left : p .0 < nameCount
-  pub right : p .1 < nameCount
-  pub differ : p .0 ≡ p .1 → ⊥
-
 -- A body for each arity, each allowed.
 unfoldable pub BodiesAllowed : List ℕ → List ℕ → List Term → Type 0
 BodiesAllowed arities (a ∷ as′) (P ∷ Ps) = BodyAllowed arities a P × BodiesAllowed arities as′ Ps
@@ -43,11 +31,35 @@ BodiesAllowed arities (a ∷ as′) [] = ⊥
 BodiesAllowed arities [] (P ∷ Ps) = ⊥
 BodiesAllowed arities [] [] = Unit {0}
 
-pub record WellFormed (q : Question) : Type 0 where
-  pub definitions : length (q .arities) ≤ mostDefinitions
-  pub parameters : Every (λ a. a ≤ greatestArity) (q .arities)
-  pub bodies : BodiesAllowed (q .arities) (q .arities) (q .bodies)
-  pub first : PartAllowed (q .arities) (q .first)
-  pub second : PartAllowed (q .arities) (q .second)
-  pub apart : Every PairAllowed (q .apart)
-  pub apartSize : length (pairBytes (q .apart)) ≤ longestApart
+module _ (names : ℕ) where
+  -- What checks 6 to 10 ask of a part.
+  pub record PartAllowedWith (arities : List ℕ) (P : Term) : Type 0 where
+    pub scope : InScope names arities 0 P
+    pub size : length (encode 0 P) ≤ longestTerm
+    pub parallelsOutermost : parallelOutermost P ≡ true
+
+  -- What check 12 asks of a pair of the apart list.
+  pub record PairAllowedWith (p : ℕ × ℕ) : Type 0 where
+    pub left : p .0 < names
+    pub right : p .1 < names
+    pub differ : p .0 ≡ p .1 → ⊥
+
+  -- A well-formed question over so many names.
+  pub record WellFormedWith (q : Question) : Type 0 where
+    pub definitions : length (q .arities) ≤ mostDefinitions
+    pub parameters : Every (λ a. a ≤ greatestArity) (q .arities)
+    pub bodies : BodiesAllowed (q .arities) (q .arities) (q .bodies)
+    pub first : PartAllowedWith (q .arities) (q .first)
+    pub second : PartAllowedWith (q .arities) (q .second)
+    pub apart : Every PairAllowedWith (q .apart)
+    pub apartSize : length (pairBytes (q .apart)) ≤ longestApartOf names
+
+-- The same for the names that a part may have.
+abbrev pub PartAllowed : List ℕ → Term → Type 0
+PartAllowed = PartAllowedWith nameCount
+
+abbrev pub PairAllowed : ℕ × ℕ → Type 0
+PairAllowed = PairAllowedWith nameCount
+
+abbrev pub WellFormed : Question → Type 0
+WellFormed = WellFormedWith nameCount

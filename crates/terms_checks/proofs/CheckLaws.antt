@@ -14,7 +14,7 @@ use Rattle.terms.specs.Answer.{Answer, refused, result, _>>=_, _>>_, need}
 use Rattle.terms_checks.specs.Checking.{zeroFor, fieldsFrom, met, controlOfAll, bodiesScanned}
 use Rattle.terms_bytes.specs.FieldPlaces.{afterField, fieldAt}
 use Rattle.terms.specs.Limits.{nameCount, longestTerm, longestApart}
-use Rattle.terms.specs.Question.{all, fits, differentNames, readBodies, readPairs, readApart}
+use Rattle.terms.specs.Question.{all, fits, differentNames, differentNamesWith, readBodies, readPairs, readPairsWith, readApart, readApartWith}
 use Rattle.terms.specs.Reading.{numbered, readWhole}
 use Rattle.terms_checks.specs.Scanning.{controlOf, passing, scannedWhole, wholeAnswer}
 use Rattle.terms_checks.specs.declared.scan.Control.{Control}
@@ -74,29 +74,29 @@ module _ (bs : List ℕ) where
 -- Check 12 of one pair.
 module _ (a b : ℕ) where
   pub left-not : nameCount ≤ a → differentNames a b ≡ false
-  unfolding differentNames
+  unfolding differentNamesWith
   left-not h = rw (le-ltb a nameCount h)
 
   pub right-not : a < nameCount → nameCount ≤ b → differentNames a b ≡ false
-  unfolding differentNames
+  unfolding differentNamesWith
   right-not l h = rw (lt-ltb a nameCount l, le-ltb b nameCount h)
 
   pub same-not : a < nameCount → b < nameCount → a ≡ b → differentNames a b ≡ false
-  unfolding differentNames
+  unfolding differentNamesWith
   same-not l h e = rw (lt-ltb a nameCount l, lt-ltb b nameCount h, eq-eqb a b e)
 
   pub names-different : a < nameCount → b < nameCount → (a ≡ b → ⊥) → differentNames a b ≡ true
-  unfolding differentNames
+  unfolding differentNamesWith
   names-different l h e = rw (lt-ltb a nameCount l, lt-ltb b nameCount h, ne-eqb a b e)
 
 -- Check 12 of the pairs from a position on.
 module _ (s : List ℕ) (i : ℕ) where
   pub pairs-done : length s ≤ i → zeroFor (readPairs (drop i s)) ≡ zeroFor (need 12 true)
-  unfolding readPairs zeroFor need _>>=_
+  unfolding readPairsWith zeroFor need _>>=_
   pairs-done h = rw (drop-of-length-le s h)
 
   pub pairs-odd : i < length s → length s ≤ i + 1 → zeroFor (readPairs (drop i s)) ≡ zeroFor (need 12 false)
-  unfolding readPairs zeroFor need _>>=_
+  unfolding readPairsWith zeroFor need _>>=_
   pairs-odd h l = rw (drop-here s i h, drop-of-length-le s l)
 
   module _ (h : i + 1 < length s) where
@@ -106,11 +106,11 @@ module _ (s : List ℕ) (i : ℕ) where
         drop-here s i (omega arith) ∙ ap (λ l. getD s i 0 ∷ l) (drop-here s (i + 1) h ∙ ap (λ n. getD s (i + 1) 0 ∷ drop n s) p)
 
     pub pairs-wrong : differentNames (getD s i 0) (getD s (i + 1) 0) ≡ false → zeroFor (readPairs (drop i s)) ≡ zeroFor (need 12 false)
-    unfolding readPairs zeroFor need _>>_ _>>=_
+    unfolding readPairsWith zeroFor need _>>_ _>>=_
     pairs-wrong e = rw (two-here, e)
 
     pub pairs-more : differentNames (getD s i 0) (getD s (i + 1) 0) ≡ true → zeroFor (readPairs (drop i s)) ≡ zeroFor (readPairs (drop (i + 2) s))
-    unfolding readPairs zeroFor need _>>_ _>>=_
+    unfolding readPairsWith zeroFor need _>>_ _>>=_
     pairs-more e = rw (two-here, e) (go (readPairs (drop (i + 2) s)))
       where
         go : (m : Answer Pairs) → zeroFor (m >>= λ D. result ((getD s i 0, getD s (i + 1) 0) ∷ D)) ≡ zeroFor m
@@ -118,11 +118,11 @@ module _ (s : List ℕ) (i : ℕ) where
         go (result D) = refl
 
 pub apart-short : (s : List ℕ) → length s ≤ longestApart → readApart s ≡ readPairs s
-unfolding readApart need _>>_
+unfolding readApartWith need _>>_
 apart-short s h = rw (le-leb (length s) longestApart h)
 
 pub apart-long : (s : List ℕ) → longestApart < length s → zeroFor (readApart s) ≡ zeroFor (need 12 false)
-unfolding readApart zeroFor need _>>_ _>>=_
+unfolding readApartWith zeroFor need _>>_ _>>=_
 apart-long s h = rw (lt-leb (length s) longestApart h)
 
 -- Checks 7 to 9 of the bodies, one after another.

@@ -14,7 +14,7 @@ use Rattle.terms_checks.specs.Checking.{checkedAnswer, zeroFor, allFit, 
 use Rattle.terms.specs.Framing.{Fields}
 use Rattle.terms.specs.Grammar.{sequential, parallelOutermost, guarded}
 use Rattle.terms.specs.Limits.{nameCount, mostDefinitions, greatestArity}
-use Rattle.terms.specs.Question.{Question, all, fits, readBodies, readPart, readApart, checkTerms, checkFields}
+use Rattle.terms.specs.Question.{Question, all, fits, readBodies, readPart, readPartWith, readApart, checkTerms, checkTermsWith, checkFields, checkFieldsWith}
 use Rattle.terms.specs.Reading.{numbered, readWhole}
 use Rattle.terms_checks.specs.Scanning.{controlOf, passing, scannedWhole, wholeAnswer}
 use Rattle.terms_checks.specs.declared.check.Checked.the-variants.{Accepted, Refused}
@@ -26,7 +26,7 @@ use Rattle.terms.proofs.Answers.{bind-to, bind-refused}
 module _ (ed : Edition) (arities first second : List ℕ) where
   parts-step : partsScanned ed arities first second
       ≡ (scannedWhole ed nameCount arities 0 first >>= λ p. (scannedWhole ed nameCount arities 0 second >>= λ q. result (met p q)))
-  unfolding partsScanned scannedWhole readPart _>>=_
+  unfolding partsScanned scannedWhole readPartWith _>>=_
   parts-step = go (readWhole ed (numbered arities) nameCount 0 first) (readWhole ed (numbered arities) nameCount 0 second)
     where
       go : (m n : Answer Term) → (m >>= λ P. (n >>= λ Q. result (met (controlOf P) (controlOf Q))))
@@ -98,7 +98,7 @@ module _ (ed : Edition) (f : Fields) where
   tests-same true true (result D) B P Q = refl
 
   pub terms-first : zeroFor (checkTerms ed f) ≡ (termsScanned ed f >>= behindTerms (f .apart))
-  unfolding checkTerms termsScanned bodiesScanned partsScanned behindTerms ofBoth met controlOf zeroFor _>>=_
+  unfolding checkTermsWith termsScanned bodiesScanned partsScanned behindTerms ofBoth met controlOf zeroFor _>>=_
   terms-first = go (readBodies ed (numbered (f .arities)) (f .arities) (f .bodies)) (readPart ed (numbered (f .arities)) (f .first)) (readPart ed (numbered (f .arities)) (f .second))
     where
       go : (m : Answer (List Term)) (n o : Answer Term) →
@@ -154,21 +154,21 @@ module _ (ed : Edition) (f : Fields) where
 -- Checks 5 and 6.
 module _ (ed : Edition) (f : Fields) where
   pub many-refused : mostDefinitions < length (f .arities) → zeroFor (checkFields ed f) ≡ checkedAnswer (Refused 5)
-  unfolding checkFields checkedAnswer zeroFor need _>>_ _>>=_
+  unfolding checkFieldsWith checkedAnswer zeroFor need _>>_ _>>=_
   many-refused h = rw (lt-leb (length (f .arities)) mostDefinitions h)
 
   module _ (few : length (f .arities) ≤ mostDefinitions) where
     pub arity-refused : all (λ a. leb a greatestArity) (f .arities) ≡ false → zeroFor (checkFields ed f) ≡ checkedAnswer (Refused 5)
-    unfolding checkFields checkedAnswer zeroFor need _>>_ _>>=_
+    unfolding checkFieldsWith checkedAnswer zeroFor need _>>_ _>>=_
     arity-refused e = rw (le-leb (length (f .arities)) mostDefinitions few, e)
 
     module _ (small : all (λ a. leb a greatestArity) (f .arities) ≡ true) where
       pub size-refused : allFit f ≡ false → zeroFor (checkFields ed f) ≡ checkedAnswer (Refused 6)
-      unfolding allFit checkFields checkedAnswer zeroFor need _>>_ _>>=_
+      unfolding allFit checkFieldsWith checkedAnswer zeroFor need _>>_ _>>=_
       size-refused e = rw (le-leb (length (f .arities)) mostDefinitions few, small, e)
 
       pub fields-right : allFit f ≡ true → zeroFor (checkFields ed f) ≡ zeroFor (checkTerms ed f)
-      unfolding allFit checkFields need _>>_
+      unfolding allFit checkFieldsWith need _>>_
       fields-right e = rw (le-leb (length (f .arities)) mostDefinitions few, small, e)
 
 -- Check 6, part by part.

@@ -14,19 +14,19 @@ use Rattle.terms_bytes.specs.FieldPlaces.{afterField}
 use Rattle.terms.specs.Framing.{framed}
 use Rattle.terms.specs.Limits.{longestQuestion}
 use Rattle.terms.specs.Operations.{checkAnswer}
-use Rattle.terms.specs.Question.{version, checkFields, checkIn, editionOf, questionOf}
+use Rattle.terms.specs.Question.{version, checkFields, checkIn, checkWith, editionOf, questionWith}
 use Rattle.terms_checks.specs.declared.check.Checked.{Checked}
 use Rattle.terms_checks.specs.declared.check.Checked.the-variants.{Refused}
 use Rattle.terms_checks.proofs.FramedPlaces.{framed-there, framed-not}
 
 module _ (ed : Edition) where
   pub nothing-refused : (s : List ℕ) → length s ≡ 0 → zeroFor (checkIn ed s) ≡ checkedAnswer (Refused 3)
-  unfolding zeroFor checkIn version checkedAnswer _>>=_
+  unfolding zeroFor checkWith version checkedAnswer _>>=_
   nothing-refused [] h = refl
   nothing-refused (b ∷ s) h = absurd (omega arith)
 
   pub version-refused : (s : List ℕ) → 0 < length s → (getD s 0 0 ≡ versionByte ed → ⊥) → zeroFor (checkIn ed s) ≡ checkedAnswer (Refused 3)
-  unfolding zeroFor checkIn version checkedAnswer need _>>_ _>>=_
+  unfolding zeroFor checkWith version checkedAnswer need _>>_ _>>=_
   version-refused [] h n = absurd (omega arith)
   version-refused (b ∷ s) h n = rw (ne-eqb b (versionByte ed) n)
 
@@ -40,17 +40,17 @@ module _ (ed : Edition) (s : List ℕ) (some : 0 < length s) (first : getD s 0 0
       go (b ∷ bs) h e = rw (eq-eqb b (versionByte ed) e)
 
   pub length-refused : longestQuestion < length s → zeroFor (checkIn ed s) ≡ checkedAnswer (Refused 4)
-  unfolding zeroFor checkIn checkedAnswer need _>>_ _>>=_
+  unfolding zeroFor checkWith checkedAnswer need _>>_ _>>=_
   length-refused h = rw (behind-version, lt-leb (length s) longestQuestion h)
 
   module _ (short : length s ≤ longestQuestion) where
     pub framing-refused : eqb (afterField s (apartPlace s)) (length s) ≡ false → zeroFor (checkIn ed s) ≡ checkedAnswer (Refused 4)
-    unfolding zeroFor checkIn checkedAnswer need _>>_ _>>=_
+    unfolding zeroFor checkWith checkedAnswer need _>>_ _>>=_
     framing-refused e =
         rw (behind-version, le-leb (length s) longestQuestion short, framed-not s some (eqb-false (afterField s (apartPlace s)) (length s) e))
 
     pub framing-passed : eqb (afterField s (apartPlace s)) (length s) ≡ true → zeroFor (checkIn ed s) ≡ zeroFor (checkFields ed (fieldsAt s))
-    unfolding checkIn zeroFor need _>>_ _>>=_
+    unfolding checkWith zeroFor need _>>_ _>>=_
     framing-passed e =
         rw (behind-version, le-leb (length s) longestQuestion short, framed-there s (eqb-true (afterField s (apartPlace s)) (length s) e))
 
@@ -72,5 +72,5 @@ says-one s n = go (eqb (getD s 0 0) 2) (ne-eqb (getD s 0 0) 2 n)
     go true q = absurd (true≢false q)
 
 pub own-checked : (ed : Edition) (s : List ℕ) (r : Checked) → ed ≡ editionOf s → zeroFor (checkIn ed s) ≡ checkedAnswer r → checkAnswer s ≡ checkedAnswer r
-unfolding checkAnswer questionOf zeroFor
+unfolding checkAnswer questionWith zeroFor
 own-checked ed s r e h = ap (λ (x : Edition). zeroFor (checkIn x s)) (sym e) ∙ h

@@ -8,7 +8,7 @@ use lib.ListN.{length, take}
 use Rattle.terms.specs.Answer.{Answer, result}
 use Rattle.terms.specs.Edition.{Edition, one, two}
 use Rattle.terms.specs.Limits.{longestQuestion}
-use Rattle.terms.specs.Question.{Question, checkIn, checkOf, editionOf, questionOf, writeIn, write}
+use Rattle.terms.specs.Question.{Question, checkIn, checkOf, editionOf, questionOf, questionWith, writeIn, write}
 use Rattle.terms.proofs.EditionOne.{write-first}
 use Rattle.terms.proofs.WellFormed.{accepted-in, well-formed-accepted}
 use Rattle.terms_bytes.specs.Counted.{editionFrom}
@@ -19,12 +19,12 @@ use Rattle.terms_converting.proofs.FittingLaws.{may-convert, aside-room
 -- A question in its own edition, once it is known whether its calls are counted.
 pub own-counted : (question : List ℕ) (q : Question) (counted : Bool) → editionFrom counted ≡ editionOf question → counted ≡ true → questionOf question ≡ result q
     → checkIn two question ≡ result q
-unfolding questionOf editionFrom
+unfolding questionWith editionFrom
 own-counted question q counted e t h = ap (λ (x : Edition). checkIn x question) (sym (ap editionFrom t) ∙ e) ∙ h
 
 pub own-plain : (question : List ℕ) (q : Question) (counted : Bool) → editionFrom counted ≡ editionOf question → counted ≡ false → questionOf question ≡ result q
     → checkOf question ≡ result q
-unfolding questionOf checkOf editionFrom
+unfolding questionWith checkOf editionFrom
 own-plain question q counted e t h = ap (λ (x : Edition). checkIn x question) (sym (ap editionFrom t) ∙ e) ∙ h
 
 module _ (question : List ℕ) (q : Question) (a : checkIn two question ≡ result q) where

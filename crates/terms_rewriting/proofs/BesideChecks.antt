@@ -13,7 +13,7 @@ use Rattle.terms.specs.Answer.{Answer, refused, result, _>>=_, _>>_, need}
 use Rattle.terms.specs.Edition.{Edition, encodeIn}
 use Rattle.terms.specs.Grammar.{parallelOutermost}
 use Rattle.terms.specs.Operations.{besideQuestion, fitsBeside, placedBeside, writtenWithin, besideOf}
-use Rattle.terms.specs.Question.{Question, fits, readPart, editionOf, questionOf, writeIn}
+use Rattle.terms.specs.Question.{Question, fits, readPart, readPartWith, editionOf, questionOf, writeIn}
 use Rattle.terms.specs.Reading.{numbered, readWhole}
 use Rattle.terms_checks.specs.Scanning.{controlOf, scannedWhole}
 use Rattle.terms_checks.specs.declared.scan.Control.{Control}
@@ -25,12 +25,12 @@ use Rattle.terms.proofs.Answers.{result-injective, refused-not-result, bind-to,
 
 -- What the scan of a part says of reading it.
 pub scanned-fault : (ed : Edition) (arities bs : List ℕ) (k : ℕ) → scannedWhole ed nameCount arities 0 bs ≡ refused k → readPart ed (numbered arities) bs ≡ refused k
-unfolding scannedWhole readPart
+unfolding scannedWhole readPartWith
 scanned-fault ed arities bs k e = made-refused (readWhole ed (numbered arities) nameCount 0 bs) controlOf k e
 
 pub scanned-end : (ed : Edition) (arities bs : List ℕ) (c : Control) → scannedWhole ed nameCount arities 0 bs ≡ result c
     → (P : Term) × (readPart ed (numbered arities) bs ≡ result P) × (parallelOutermost P ≡ c .outermost)
-unfolding scannedWhole readPart controlOf _>>=_
+unfolding scannedWhole readPartWith controlOf _>>=_
 scanned-end ed arities bs c e = go (readWhole ed (numbered arities) nameCount 0 bs) refl e
   where
     go : (m : Answer Term) → readWhole ed (numbered arities) nameCount 0 bs ≡ m → (m >>= λ P. result (controlOf P)) ≡ result c
@@ -39,7 +39,7 @@ scanned-end ed arities bs c e = go (readWhole ed (numbered arities) nameCount 0 
     go (result P) h q = (P, h, ap (λ (c : Control). c .outermost) (result-injective q))
 
 pub third-bytes : (ed : Edition) (arities third : List ℕ) (R : Term) → readPart ed (numbered arities) third ≡ result R → third ≡ encodeIn ed 0 R
-unfolding readPart
+unfolding readPartWith
 third-bytes ed arities third R e = whole-read nameCount ed (numbered arities) 0 third R e .0
 
 pub written-length : (s : List ℕ) (q : Question) → questionOf s ≡ result q → (third : List ℕ) (R : Term) → third ≡ encodeIn (editionOf s) 0 R

@@ -1,22 +1,20 @@
 -- Merging in edition two, by way of edition one. Assumes nothing.
-use mathlib.Core.Path.{_≡_, refl, sym, ap, ap₂, subst, _∙_}
-use mathlib.Core.Bool.{Bool, true, false}
-use mathlib.Core.List.{List, [], _∷_, _++_, map}
-use Prim.Native.Nat.{ℕ, _+_, _≤_}
+use mathlib.Core.Path.{_≡_, sym, ap, subst, _∙_}
+use mathlib.Core.Bool.{true, false}
+use mathlib.Core.List.{List, _++_}
+use Prim.Native.Nat.{ℕ, _≤_}
 use native.Mathlib.Omega.{arith}
-use lib.ListN.{length, take, drop, length-append, length-map}
+use lib.ListN.{length, take, drop, length-append}
 use lib.Seq.{take-append-seam}
 use Rattle.calculus.specs.Cond.{mapP, join}
-use Rattle.calculus.specs.Term.{Term, nil, tau, inp, out, bout, mat, sum, par, res, call, lift, ren}
+use Rattle.calculus.specs.Term.{ren}
 use Rattle.terms.specs.Answer.{result}
-use Rattle.terms.specs.Edition.{Edition, one, two, countBytes, encodeIn}
-use Rattle.terms.specs.Encoding.{nameByte}
+use Rattle.terms.specs.Edition.{Edition, one, two, encodeIn}
 use Rattle.terms.specs.Framing.{sized, allSized, joined}
 use Rattle.terms.specs.Limits.{longestQuestion}
 use Rattle.terms.specs.Operations.{mergedQuestion, areaAfter}
-use Rattle.terms.specs.Question.{Question, checkIn, checkOf, editionOf, questionOf, pairBytes, bodyFieldsIn, fieldsIn, writeIn, write}
+use Rattle.terms.specs.Question.{Question, checkIn, checkOf, editionOf, questionOf, pairBytes, bodyFieldsIn, fieldsIn, writeIn}
 use Rattle.terms.proofs.Answers.{result-injective}
-use Rattle.terms.proofs.EditionOne.{write-first}
 use Rattle.terms.proofs.MergeLaws.{pairs-as-many, merged-well-formed}
 use Rattle.terms.proofs.OwnEdition.{own-written}
 use Rattle.terms.proofs.RenamingKeeps.{length-ren-in}
@@ -24,7 +22,7 @@ use Rattle.terms.proofs.WellFormed.{WellFormed, accepted-in, written-in, in-acc
 use Rattle.terms_bytes.specs.Counted.{editionFrom}
 use Rattle.terms_bytes.specs.Writing.{Plain, Writes, MayMerge, WritesMerged}
 use Rattle.terms_converting.specs.Questions.{MayConvert, ConvertsQuestion}
-use Rattle.terms_converting.proofs.PlainForm.{plain-may, plain-checked, plain-room, plain-taken, plain-size}
+use Rattle.terms_converting.proofs.PlainForm.{plain-checked, plain-room, plain-taken, plain-size}
 use Rattle.terms_rewriting.specs.Counted.{MayMergeCounted, WritesMergedCounted}
 
 pub merged-length-in : (e : Edition) (a b : ℕ) (q : Question) → length (writeIn e (mergedQuestion a b q)) ≡ length (writeIn e q)

@@ -12,7 +12,7 @@ use Rattle.calculus.proofs.Theorems.{related-image, related-larger, related-bes
 use Rattle.terms.specs.Answer.{Answer, refused, result, _>>=_, _>>_, need}
 use Rattle.terms.specs.Framing.{joined}
 use Rattle.terms.specs.Operations.{mergedQuestion, merged, besideQuestion, placedBeside, declaredFields, declaredQuestion, mayDeclare, mergeOf, besideOf}
-use Rattle.terms.specs.Question.{Question, checkIn, editionOf, questionOf, fieldsIn}
+use Rattle.terms.specs.Question.{Question, checkIn, editionOf, questionOf, questionWith, fieldsIn}
 use Rattle.terms.proofs.Answers.{result-injective, bind-result, need-result}
 use Rattle.terms.proofs.ApartLaws.{apart-irreflexive}
 use Rattle.terms.proofs.BesideLaws.{PlacedBeside, placed-beside, beside-accepted}
@@ -79,7 +79,7 @@ beside-next hand q e third room next m =
 -- declaring keeps the edition
 declared-own : (hand : List ℕ) (p : Question) → questionOf hand ≡ result p → (a b : ℕ)
     → questionOf (joined (editionOf hand) (declaredFields a b (fieldsIn (editionOf hand) p))) ≡ (need 12 (mayDeclare a b p) >> result (declaredQuestion a b p))
-unfolding questionOf
+unfolding questionWith
 declared-own hand p c a b =
     ap (λ e. checkIn e (joined (editionOf hand) (declaredFields a b (fieldsIn (editionOf hand) p))))
     (edition-joined (editionOf hand) (declaredFields a b (fieldsIn (editionOf hand) p)))

@@ -13,7 +13,7 @@ use Rattle.terms.specs.Encoding.{nameByte, encode}
 use Rattle.terms.specs.Framing.{cut, field, fields, framed, joined, sized, allSized}
 use Rattle.terms.specs.Grammar.{sequential, parallelOutermost, guarded}
 use Rattle.terms.specs.Operations.{holdsApart}
-use Rattle.terms.specs.Question.{all, fits, readBodies, readPart, readApart, differentNames, readPairs, version, checkTerms, checkFields, checkIn, editionOf, questionOf, bodyFields, pairBytes, fieldsOf, write}
+use Rattle.terms.specs.Question.{all, fits, readBodies, readPartWith, readApartWith, differentNamesWith, readPairsWith, version, checkTermsWith, checkFieldsWith, checkWith, editionOf, questionWith, bodyFields, pairBytes, fieldsOf, write}
 use Rattle.terms.specs.Edition.{versionByte}
 use Rattle.terms.specs.Reading.{byte, readName, readNames, tagOf, readTerm, readWhole, numbered, readCount}
 use Rattle.terms.specs.Question.{bodyOf}
@@ -97,15 +97,15 @@ expected (e ∷ es) = e .answer ∷ expected es
 computed : (judged openly (exchanges ++ turnings) ≡ expected (exchanges ++ turnings))
     × (judged (named late) (named-exchanges (different 11)) ≡ expected (named-exchanges (different 11)))
     × (judged (named early) (named-exchanges (same 11)) ≡ expected (named-exchanges (same 11)))
-unfolding judged expected exchanges turnings named-exchanges ask askWith judgeBy withinCapacity _>>=_ _>>_ need checkFields checkTerms version
-    framed cut field fields all fits readBodies readPart readWhole readTerm readName readNames byte tagOf sequential parallelOutermost guarded
-    readApart differentNames readPairs joined sized allSized write fieldsOf bodyFields pairBytes encode nameByte verdictBy differs demandsOf
+unfolding judged expected exchanges turnings named-exchanges ask askWith judgeBy withinCapacity _>>=_ _>>_ need checkFieldsWith checkTermsWith version
+    framed cut field fields all fits readBodies readPartWith readWhole readTerm readName readNames byte tagOf sequential parallelOutermost guarded
+    readApartWith differentNamesWith readPairsWith joined sized allSized write fieldsOf bodyFields pairBytes encode nameByte verdictBy differs demandsOf
     namedDemands sidesDemand namedMoves demandOf lots startOf decided rounds strike allAnswered answered allFound found unseen together withRow
     explore fieldOf successors withSteps ledTo someBinds bindsName moves movesOf answersTo joinAll led received allowed unconditional ownClasses put
     updatedBy extrudedBy answers implies permitted select freeFrom freeIn pairsOf situation missing newName sameBytes sameSituation settingOf stepsIn
     holdsApart among keep fn lowerL bodyOf listing limited collect insert order allFit bytes resultBytes canonStep listedAs kindOf channelOf objectOf
     classesOf classIn namesFrom visible silent visibleCalls silentCalls visibleOf silentOf restricted restrictedAction outside sparesRestricted
-    spares communications communication meet leftSteps rightSteps matching cls join questionOf editionOf checkIn versionByte numbered readCount
+    spares communications communication meet leftSteps rightSteps matching cls join questionWith editionOf checkWith versionByte numbered readCount
 computed = (refl, refl, refl)
 
 pub worked-exchanges : judged openly (exchanges ++ turnings) ≡ expected (exchanges ++ turnings)

@@ -3,7 +3,7 @@ use mathlib.Core.Path.{refl, ap, _∙_}
 use native.Mathlib.Omega.{arith}
 use borrow.Author.Needs.{needs}
 use Rattle.terms_bytes.specs.FieldPlaces.{fieldPlace}
-use Rattle.terms.specs.Question.{editionOf, questionOf}
+use Rattle.terms.specs.Question.{editionOf, questionWith}
 use Rattle.terms_bytes.proofs.QuestionPlaces.{places-in, sizes-in}
 use Rattle.terms_rewriting.proofs.BesideWriting.{writes-beside}
 use Rattle.terms_rewriting.proofs.beside.write_beside.Statement.{statement}
@@ -22,7 +22,7 @@ after-field-requires-2 : tie.Need-after-field-requires-2
 after-field-requires-2 c κs = search needs
 
 sub-rest : tie.Need-sub-rest
-unfolding questionOf
+unfolding questionWith
 sub-rest c =
     let c1 = c .before in
     let c2 = c1 .before in
@@ -36,7 +36,7 @@ sub-rest c =
     omega (arith, p, c7 .good .0)
 
 copy-requires : tie.Need-copy-requires
-unfolding questionOf
+unfolding questionWith
 copy-requires c κs =
     let c1 = c .before in
     let c2 = c1 .before in
@@ -51,7 +51,7 @@ copy-requires c κs =
     omega (arith, p, c8 .pre .room)
 
 add-write-side : tie.Need-add-write-side
-unfolding questionOf
+unfolding questionWith
 add-write-side c =
     let c4 = c .before .before .before .before in
     let c5 = c4 .before in
@@ -66,7 +66,7 @@ add-write-side c =
     omega (arith, p, c11 .good .0)
 
 sub-write-side : tie.Need-sub-write-side
-unfolding questionOf
+unfolding questionWith
 sub-write-side c =
     let c4 = c .before .before .before .before in
     let c5 = c4 .before in
@@ -81,7 +81,7 @@ sub-write-side c =
     omega (arith, p, c11 .good .0)
 
 sub-write-side-2 : tie.Need-sub-write-side-2
-unfolding questionOf
+unfolding questionWith
 sub-write-side-2 c =
     let c4 = c .before .before .before .before in
     let c5 = c4 .before in
@@ -96,7 +96,7 @@ sub-write-side-2 c =
     omega (arith, p, c11 .good .0)
 
 write-side-requires : tie.Need-write-side-requires
-unfolding questionOf
+unfolding questionWith
 write-side-requires c κs =
     let c3 = c .before .before .before in
     let c5 = c3 .before .before in
@@ -114,7 +114,7 @@ write-side-requires c κs =
     omega (arith, p, z, c12 .pre .first, c12 .pre .room, c3 .copy .kept .1 .1 .1 .0)
 
 add-write-side-2 : tie.Need-add-write-side-2
-unfolding questionOf
+unfolding questionWith
 add-write-side-2 c =
     let c8 = c .before .before .before .before .before .before .before .before in
     let c9 = c8 .before in
@@ -129,7 +129,7 @@ add-write-side-2 c =
     omega (arith, p, c15 .good .0)
 
 sub-write-side-3 : tie.Need-sub-write-side-3
-unfolding questionOf
+unfolding questionWith
 sub-write-side-3 c =
     let c8 = c .before .before .before .before .before .before .before .before in
     let c9 = c8 .before in
@@ -144,7 +144,7 @@ sub-write-side-3 c =
     omega (arith, p, c15 .good .0)
 
 sub-write-side-4 : tie.Need-sub-write-side-4
-unfolding questionOf
+unfolding questionWith
 sub-write-side-4 c =
     let c8 = c .before .before .before .before .before .before .before .before in
     let c9 = c8 .before in
@@ -159,7 +159,7 @@ sub-write-side-4 c =
     omega (arith, p, c15 .good .0)
 
 write-side-requires-2 : tie.Need-write-side-requires-2
-unfolding questionOf
+unfolding questionWith
 write-side-requires-2 c κs =
     let c3 = c .before .before .before in
     let c7 = c3 .before .before .before .before in
@@ -178,7 +178,7 @@ write-side-requires-2 c κs =
     omega (arith, p, z, c16 .pre .second, c16 .pre .room, c3 .write-side .ensures .0, c7 .copy .kept .1 .1 .1 .0, c3 .write-side .kept .1 .1 .1 .1 .0)
 
 copy-requires-2 : tie.Need-copy-requires-2
-unfolding questionOf
+unfolding questionWith
 copy-requires-2 c κs =
     let c3 = c .before .before .before in
     let c7 = c3 .before .before .before .before in
@@ -205,7 +205,7 @@ copy-requires-2 c κs =
     )
 
 add-result : tie.Need-add-result
-unfolding questionOf
+unfolding questionWith
 add-result c =
     let c6 = c .before .before .before .before .before .before in
     let c10 = c6 .before .before .before .before in
