@@ -3,6 +3,7 @@ pub mod Explored
 pub mod FieldIsSmallest
 pub mod Link
 pub mod Members
+pub mod MoreNames
 pub mod MoveLaws
 pub mod Moves
 pub mod NameLimit

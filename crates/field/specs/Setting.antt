@@ -21,9 +21,12 @@ pub record Setting : Type 0 where
   -- whether all names differ, as for late and early verdicts (request 2026-02); else those not held apart may merge
   pub differ : Bool
 
+abbrev pub settingWith : ℕ → Bool → List Term → Setting
+settingWith names differ bodies =
+    record { names = names; longest = longestTerm; most = mostSteps; calls = 1; body = bodyOf bodies; differ = differ }
+
 unfoldable pub settingOf : Bool → List Term → Setting
-settingOf differ bodies =
-    record { names = nameCount; longest = longestTerm; most = mostSteps; calls = 1; body = bodyOf bodies; differ = differ }
+settingOf differ bodies = settingWith nameCount differ bodies
 
 -- the list of a part's steps for the new name x
 unfoldable pub stepsIn : Setting → ℕ → Term → Listing

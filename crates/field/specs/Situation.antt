@@ -44,8 +44,11 @@ unfoldable pub situation : ℕ → Term → Term → Pairs → Situation
 situation names P Q D = record { first = P; second = Q; apart = keep (holdsApart D) (pairsOf (freeIn names P Q)) }
 
 -- The start: the two parts under the apart list, which plays no part where all names differ.
+abbrev pub startWith : ℕ → Bool → Question → Situation
+startWith names differ q = situation names (q .first) (q .second) (cond differ [] (q .apart))
+
 unfoldable pub startOf : Bool → Question → Situation
-startOf differ q = situation nameCount (q .first) (q .second) (cond differ [] (q .apart))
+startOf differ q = startWith nameCount differ q
 
 -- the smallest name that is not in F, of those from n on, k of them; the one behind them if all are in F
 unfoldable pub missing : List ℕ → ℕ → ℕ → ℕ

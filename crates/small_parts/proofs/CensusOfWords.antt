@@ -7,6 +7,7 @@ use Prim.Native.Nat.{ℕ, suc, _+_, _≤_}
 use native.Mathlib.Omega.{arith}
 use lib.ListN.{length}
 use Rattle.calculus.specs.Term.{Term}
+use Rattle.terms.specs.Limits.{nameCount}
 use Rattle.terms.specs.Answer.{Answer, refused, result}
 use Rattle.terms.specs.Edition.{one, versionByte}
 use Rattle.terms.specs.Encoding.{encode, InScope}
@@ -39,7 +40,7 @@ part-allowed : (n : ℕ) → n ≤ 5 → (bytes : List ℕ) (p : SmallPart n byt
 part-allowed n h bytes p = record {
   scope =
       let s = part-scope n bytes p in
-      in-scope 16 [] 0 (p .term) (λ a f. omega (arith, free-below 2 [] 0 (p .term) s a f)) (scope-calls 2 [] 0 (p .term) s);
+      in-scope nameCount [] 0 (p .term) (λ a f. omega (arith, free-below 2 [] 0 (p .term) s a f)) (scope-calls 2 [] 0 (p .term) s);
   size = omega (arith, ap (length {A = ℕ}) (part-bytes n bytes p), p .size);
   parallelsOutermost = p .outermost;
 }

@@ -7,6 +7,7 @@ use Prim.Native.Nat.{ℕ, _≤_, _<_}
 use native.Mathlib.Omega.{arith}
 use lib.ListN.{length, drop}
 use Rattle.calculus.specs.Free.{Free}
+use Rattle.terms.specs.Limits.{nameCount}
 use Rattle.terms.specs.Answer.{result}
 use Rattle.terms.specs.Encoding.{InScope}
 use Rattle.terms.specs.Framing.{Fields, joined, framed}
@@ -52,8 +53,8 @@ module _ (w : List ℕ) (short : length w ≤ 5) (q : Question) (accepted : chec
     where
       scope : InScope freeNames [] 0 (q .first)
       scope =
-          let s : InScope 16 [] 0 (q .first) = subst (λ ar. InScope 16 ar 0 (q .first)) (ap (λ f. f .arities) same-fields) (well .first .scope) in
-          in-scope 2 [] 0 (q .first) (λ a f. omega (arith, few a f)) (scope-calls 16 [] 0 (q .first) s)
+          let s : InScope nameCount [] 0 (q .first) = subst (λ ar. InScope nameCount ar 0 (q .first)) (ap (λ f. f .arities) same-fields) (well .first .scope) in
+          in-scope 2 [] 0 (q .first) (λ a f. omega (arith, few a f)) (scope-calls nameCount [] 0 (q .first) s)
 
 pub small-iff-accepted : (w : List ℕ) → length w ≤ 5
     → SmallPart (length w) w ↔ ((q : Question) × (checkOf (asked w w) ≡ result q) × ((a : ℕ) → Free a (q .first) → a < 2))

@@ -14,6 +14,7 @@ use Rattle.calculus.specs.Free.{fn}
 use Rattle.calculus.proofs.Selection.{among-in}
 use Rattle.calculus.specs.Cond.{Pairs}
 use Rattle.calculus.specs.Distinction.{among}
+use Rattle.terms.specs.Limits.{nameCount}
 use Rattle.terms.specs.Encoding.{encode}
 use Rattle.terms.specs.Question.{Question}
 use Rattle.steps.specs.Lists.{_∈_, All, Distinct}
@@ -58,11 +59,11 @@ unfolding namesFrom
 names-length n zero = refl
 names-length n (suc k) = ap suc (names-length (suc n) k)
 
-new-there : (P Q : Term) → size P ≤ 6 → size Q ≤ 6 → eqb (newName 16 P Q) 16 ≡ false
+new-there : (P Q : Term) → size P ≤ 6 → size Q ≤ 6 → eqb (newName nameCount P Q) nameCount ≡ false
 unfolding newName
-new-there P Q h k = ne-eqb (missing (fn P ++ fn Q) 0 16) 16 (λ e.
-    let l = distinct-length (namesFrom 0 16) (fn P ++ fn Q) (names-distinct 0 16) (λ j i. all-missing (fn P ++ fn Q) 0 16 e j i) in
-    omega (arith, l, names-length 0 16, length-append (fn P) (fn Q), few-names P, few-names Q))
+new-there P Q h k = ne-eqb (missing (fn P ++ fn Q) 0 nameCount) nameCount (λ e.
+    let l = distinct-length (namesFrom 0 nameCount) (fn P ++ fn Q) (names-distinct 0 nameCount) (λ j i. all-missing (fn P ++ fn Q) 0 nameCount e j i) in
+    omega (arith, l, names-length 0 nameCount, length-append (fn P) (fn Q), few-names P, few-names Q))
 
 -- n times k
 abbrev reps : ℕ → ℕ → ℕ
@@ -122,22 +123,22 @@ together-++ [] ns = refl
 together-++ (m ∷ ms) ns = ap (λ r. m ++ r) (together-++ ms ns) ∙ sym (append-assoc m (together ms) (together ns))
 
 module _ (make : Term → Term → Pairs → Situation) (F : List ℕ) (D : Pairs) (ss ts : List ListedStep) where
-  moves-length : length (together (moves false 16 make F D ss ts)) ≤ reps (length ss) (length ts)
+  moves-length : length (together (moves false nameCount make F D ss ts)) ≤ reps (length ss) (length ts)
   moves-length =
-      let e = moves-open 16 make F D ss ts in
-      let l = together-length (λ s. map (λ t. make (s .result) (ren (classIn (s .classes)) (t .result)) (updatedBy F D s)) (select (answers 16 s) ts)) (length ts)
-      (λ s. omega (arith, length-map (select (answers 16 s) ts) (λ t. make (s .result) (ren (classIn (s .classes)) (t .result)) (updatedBy F D s)), select-length (answers 16 s) ts))
+      let e = moves-open nameCount make F D ss ts in
+      let l = together-length (λ s. map (λ t. make (s .result) (ren (classIn (s .classes)) (t .result)) (updatedBy F D s)) (select (answers nameCount s) ts)) (length ts)
+      (λ s. omega (arith, length-map (select (answers nameCount s) ts) (λ t. make (s .result) (ren (classIn (s .classes)) (t .result)) (updatedBy F D s)), select-length (answers nameCount s) ts))
       (select (permitted D) ss) in
       rw e (omega (arith, l, reps-more (length (select (permitted D) ss)) (length ss) (length ts) (select-length (permitted D) ss)))
 
   moves-all : (n m : ℕ) (S : Situation → Type 0) → ((P Q : Term) (E : Pairs) → size P < n → size Q < m → S (make P Q E))
-      → All (Short n) ss → All (Short m) ts → All S (together (moves false 16 make F D ss ts))
+      → All (Short n) ss → All (Short m) ts → All S (together (moves false nameCount make F D ss ts))
   moves-all n m S h hs ht =
-      rw (moves-open 16 make F D ss ts)
+      rw (moves-open nameCount make F D ss ts)
       (together-all S (Short n) _
-      (λ s k. all-map (λ t. make (s .result) (ren (classIn (s .classes)) (t .result)) (updatedBy F D s)) (Short m) S (select (answers 16 s) ts)
+      (λ s k. all-map (λ t. make (s .result) (ren (classIn (s .classes)) (t .result)) (updatedBy F D s)) (Short m) S (select (answers nameCount s) ts)
       (λ t j. h (s .result) (ren (classIn (s .classes)) (t .result)) (updatedBy F D s) k (omega (arith, size-ren (classIn (s .classes)) (t .result), j)))
-      (select-all (Short m) (answers 16 s) ts ht))
+      (select-all (Short m) (answers nameCount s) ts ht))
       (select (permitted D) ss) (select-all (Short n) (permitted D) ss hs))
 
 -- What taking up a situation whose longer part has m bytes may cost in all.
@@ -218,7 +219,7 @@ pub record Taken (s : Situation) : Type 0 where
   pub cheap : suc (total (together wants)) ≤ cost (larger s)
   pub small : All Small (together wants)
 
-situation-smaller : (n m : ℕ) (P Q : Term) (E : Pairs) → size P < n → size Q < m → larger (situation 16 P Q E) < max n m
+situation-smaller : (n m : ℕ) (P Q : Term) (E : Pairs) → size P < n → size Q < m → larger (situation nameCount P Q E) < max n m
 unfolding situation
 situation-smaller n m P Q E h k = omega arith
 
@@ -251,7 +252,7 @@ taken s h = record {
     Q = s .second
 
     x : ℕ
-    x = newName 16 P Q
+    x = newName nameCount P Q
 
     ps : FewSteps x P
     ps = few-listed x P (omega arith)
@@ -260,13 +261,13 @@ taken s h = record {
     qs = few-listed x Q (omega arith)
 
     F : List ℕ
-    F = freeIn 16 P Q
+    F = freeIn nameCount P Q
 
     ms₁ : List (List Situation)
-    ms₁ = moves false 16 (situation 16) F (s .apart) (ps .steps) (qs .steps)
+    ms₁ = moves false nameCount (situation nameCount) F (s .apart) (ps .steps) (qs .steps)
 
     ms₂ : List (List Situation)
-    ms₂ = moves false 16 (λ Q P E. situation 16 P Q E) F (s .apart) (qs .steps) (ps .steps)
+    ms₂ = moves false nameCount (λ Q P E. situation nameCount P Q E) F (s .apart) (qs .steps) (ps .steps)
 
     ms : List (List Situation)
     ms = ms₁ ++ ms₂
@@ -275,9 +276,9 @@ taken s h = record {
     smaller =
         subst (All (λ t. larger t < larger s)) (sym (together-++ ms₁ ms₂))
         (all-++ (λ t. larger t < larger s) (together ms₁) (together ms₂)
-        (moves-all (situation 16) F (s .apart) (ps .steps) (qs .steps) (size P) (size Q) (λ t. larger t < larger s)
+        (moves-all (situation nameCount) F (s .apart) (ps .steps) (qs .steps) (size P) (size Q) (λ t. larger t < larger s)
         (λ A B E i j. situation-smaller (size P) (size Q) A B E i j) (ps .short) (qs .short))
-        (moves-all (λ Q P E. situation 16 P Q E) F (s .apart) (qs .steps) (ps .steps) (size Q) (size P) (λ t. larger t < larger s)
+        (moves-all (λ Q P E. situation nameCount P Q E) F (s .apart) (qs .steps) (ps .steps) (size Q) (size P) (λ t. larger t < larger s)
         (λ A B E i j. situation-smaller (size P) (size Q) B A E j i) (qs .short) (ps .short)))
 
     a : ℕ
@@ -292,8 +293,8 @@ taken s h = record {
           arith,
           ap (length {A = Situation}) (together-++ ms₁ ms₂),
           length-append (together ms₁) (together ms₂),
-          moves-length (situation 16) F (s .apart) (ps .steps) (qs .steps),
-          moves-length (λ Q P E. situation 16 P Q E) F (s .apart) (qs .steps) (ps .steps),
+          moves-length (situation nameCount) F (s .apart) (ps .steps) (qs .steps),
+          moves-length (λ Q P E. situation nameCount P Q E) F (s .apart) (qs .steps) (ps .steps),
         )
 
     within : (n k l : ℕ) → ((m : ℕ) → m ≤ n → cost m ≤ k) → larger s ≤ suc n → length (together ms) ≤ l → total (together ms) ≤ reps l k

@@ -1,10 +1,11 @@
 -- The limits of document 01 on the steps of a part, and the size of a listed step.
-use Prim.Native.Nat.{ℕ}
+use Prim.Native.Nat.{ℕ, _+_}
+use Rattle.terms.specs.Limits.{nameCount, longestTerm}
 
 -- more distinct steps than this are unsettled
 abbrev pub mostSteps : ℕ
 mostSteps = 256
 
--- the bytes of a listed step
+-- the bytes of a listed step: a class for each name, the action's three, the result behind its length
 abbrev pub stepBytes : ℕ
-stepBytes = 132
+stepBytes = nameCount + 4 + longestTerm

@@ -12,7 +12,7 @@ use Rattle.calculus.specs.Distinction.{Apart, Irr}
 use Rattle.terms.specs.Limits.{nameCount}
 use Rattle.terms.specs.Operations.{holdsApart}
 use Rattle.terms.proofs.Answers.{Every, both-true}
-use Rattle.terms.proofs.WellFormed.{PairAllowed}
+use Rattle.terms.proofs.WellFormed.{PairAllowedWith, PairAllowed}
 
 either : (x y : Bool) → (x || y) ≡ true → (x ≡ true) ⊎ (y ≡ true)
 either true y e = inl refl
@@ -52,11 +52,14 @@ apart-holds (p ∷ D) a b (inr (inl h)) =
 apart-holds (p ∷ D) a b (inr (inr h)) =
     right-true ((eqb (p .0) a && eqb (p .1) b) || (eqb (p .0) b && eqb (p .1) a)) (holdsApart D a b) (apart-holds D a b h)
 
-pub apart-irreflexive : (D : Pairs) → Every PairAllowed D → Irr D
+pub allowed-irreflexive : (names : ℕ) (D : Pairs) → Every (PairAllowedWith names) D → Irr D
 unfolding Every
-apart-irreflexive (p ∷ D) w a b (inl h) e = w .0 .differ (h .0 ∙ e ∙ sym (h .1))
-apart-irreflexive (p ∷ D) w a b (inr (inl h)) e = w .0 .differ (h .0 ∙ sym e ∙ sym (h .1))
-apart-irreflexive (p ∷ D) w a b (inr (inr h)) e = apart-irreflexive D (w .1) a b h e
+allowed-irreflexive names (p ∷ D) w a b (inl h) e = w .0 .differ (h .0 ∙ e ∙ sym (h .1))
+allowed-irreflexive names (p ∷ D) w a b (inr (inl h)) e = w .0 .differ (h .0 ∙ sym e ∙ sym (h .1))
+allowed-irreflexive names (p ∷ D) w a b (inr (inr h)) e = allowed-irreflexive names D (w .1) a b h e
+
+pub apart-irreflexive : (D : Pairs) → Every PairAllowed D → Irr D
+apart-irreflexive = allowed-irreflexive nameCount
 
 pub apart-below : (D : Pairs) → Every PairAllowed D → (a b : ℕ) → Apart D a b → (a < nameCount) × (b < nameCount)
 unfolding Every

@@ -7,6 +7,7 @@ use Rattle.terms.specs.Edition.{Edition, one, two, versionByte, countByt
 use Rattle.terms.specs.Encoding.{nameByte}
 use Rattle.terms.specs.Framing.{cut, field, fields, framed, sized, allSized, joined}
 use Rattle.terms.specs.Grammar.{sequential, parallelOutermost, guarded}
+use Rattle.terms.specs.Limits.{nameCount}
 use Rattle.terms.specs.Operations.{besideQuestion, fitsBeside, placedBeside, writtenWithin, besideOf, convertOf, lengthWritten}
 use Rattle.terms.specs.Question.{all, fits, version, differentNamesWith, readPairsWith, readApartWith, pairBytes, readBodies, readPartWith, checkTermsWith, checkFieldsWith, checkWith, editionOf, questionOf, questionWith, bodyFieldsIn, fieldsIn, writeIn, fitsIn}
 use Rattle.terms.specs.Reading.{byte, readName, readNames, tagOf, numbered, readCount, readTerm, readWhole}
@@ -51,8 +52,8 @@ rows =
     (asking (9 ∷ 0 ∷ 1 ∷ []), refused 7) ∷
     -- directly after 8, before 9; the first fault of the walk decides
     (asking (9 ∷ 1 ∷ 5 ∷ []), refused 8) ∷
-    (asking (9 ∷ 0 ∷ 0 ∷ 16 ∷ []), refused 16) ∷
-    (asking (9 ∷ 0 ∷ 1 ∷ 16 ∷ []), refused 9) ∷
+    (asking (9 ∷ 0 ∷ 0 ∷ nameCount ∷ []), refused 16) ∷
+    (asking (9 ∷ 0 ∷ 1 ∷ nameCount ∷ []), refused 9) ∷
     (asking (6 ∷ 9 ∷ 0 ∷ 0 ∷ 10 ∷ []), refused 16) ∷
     (asking (6 ∷ 10 ∷ 9 ∷ 0 ∷ 0 ∷ []), refused 7) ∷
     (asking (9 ∷ 0 ∷ 1 ∷ 0 ∷ 0 ∷ []), refused 7) ∷

@@ -1,7 +1,7 @@
 -- The definitions on examples: the third exchange of document 01, each check with its limits, and two faults at once to show the order.
 use mathlib.Core.Path.{_≡_, refl}
 use mathlib.Core.List.{List, [], _∷_, _++_, map}
-use Prim.Native.Nat.{ℕ, zero, suc}
+use Prim.Native.Nat.{ℕ, zero, suc, _+_, _-_, _/_}
 use Rattle.calculus.specs.Cond.{join}
 use Rattle.calculus.specs.Term.{Term, nil, tau, mat, sum, par}
 use Rattle.terms.specs.Answer.{Answer, refused, result, _>>=_, _>>_, need}
@@ -9,6 +9,7 @@ use Rattle.terms.specs.Edition.{one, two, versionByte, countBytes, encod
 use Rattle.terms.specs.Encoding.{nameByte}
 use Rattle.terms.specs.Framing.{cut, field, fields, framed, sized, allSized, joined}
 use Rattle.terms.specs.Grammar.{sequential, parallelOutermost, guarded}
+use Rattle.terms.specs.Limits.{nameCount, longestApart}
 use Rattle.terms.specs.Operations.{checkAnswer, holdsApart, mergedQuestion, merged, besideQuestion, fitsBeside, placedBeside, writtenWithin, mergeOf, besideOf}
 use Rattle.terms.specs.Question.{all, version, fits, readBodies, readPartWith, differentNamesWith, readPairsWith, readApartWith, checkTermsWith, checkFieldsWith, checkWith, checkOf, editionOf, questionWith, bodyFieldsIn, pairBytes, fieldsIn, writeIn, fitsIn}
 use Rattle.terms.specs.Reading.{byte, readName, readNames, tagOf, numbered, readCount, readTerm, readWhole}
@@ -60,13 +61,13 @@ rows =
     (parts (9 ∷ []) (0 ∷ []) [], refused 7) ∷
     (parts (0 ∷ 0 ∷ []) (0 ∷ []) [], refused 7) ∷
     -- 7, 8, 9: the first fault of the walk decides, and the walk of an earlier part
-    (parts (3 ∷ 16 ∷ []) (0 ∷ []) [], refused 9) ∷
+    (parts (3 ∷ nameCount ∷ []) (0 ∷ []) [], refused 9) ∷
     (parts (6 ∷ 9 ∷ 0 ∷ 10 ∷ []) (0 ∷ []) [], refused 8) ∷
     (parts (9 ∷ 0 ∷ []) (10 ∷ []) [], refused 8) ∷
     (parts (10 ∷ []) (9 ∷ 0 ∷ []) [], refused 7) ∷
-    -- 9: 0F and 10, a binder within and out of reach, a free name in a body
-    (parts (5 ∷ 15 ∷ 0 ∷ 0 ∷ []) (0 ∷ []) [], result 0) ∷
-    (parts (5 ∷ 16 ∷ 0 ∷ 0 ∷ []) (0 ∷ []) [], refused 9) ∷
+    -- 9: the last name and the byte behind it, a binder within and out of reach, a free name in a body
+    (parts (5 ∷ (nameCount - 1) ∷ 0 ∷ 0 ∷ []) (0 ∷ []) [], result 0) ∷
+    (parts (5 ∷ nameCount ∷ 0 ∷ 0 ∷ []) (0 ∷ []) [], refused 9) ∷
     (parts (2 ∷ 0 ∷ 5 ∷ 128 ∷ 0 ∷ 0 ∷ []) (0 ∷ []) [], result 0) ∷
     (parts (2 ∷ 0 ∷ 5 ∷ 129 ∷ 0 ∷ 0 ∷ []) (0 ∷ []) [], refused 9) ∷
     (defining (1 ∷ []) ((5 ∷ 128 ∷ 0 ∷ 0 ∷ []) ∷ []) (0 ∷ []) [], refused 9) ∷
@@ -79,13 +80,13 @@ rows =
     -- 11: before 12
     (defining (0 ∷ []) ((8 ∷ 9 ∷ 0 ∷ []) ∷ []) (0 ∷ []) (0 ∷ []), refused 11) ∷
     (defining (0 ∷ []) ((1 ∷ 9 ∷ 0 ∷ []) ∷ []) (9 ∷ 0 ∷ []) [], result 0) ∷
-    -- 12: odd length, 0F and 10, a name with itself, 240 and 242 bytes
+    -- 12: odd length, the last name and the byte behind it, a name with itself, the longest list and a longer one
     (parts (0 ∷ []) (0 ∷ []) (0 ∷ []), refused 12) ∷
-    (parts (0 ∷ []) (0 ∷ []) (0 ∷ 15 ∷ []), result 0) ∷
-    (parts (0 ∷ []) (0 ∷ []) (0 ∷ 16 ∷ []), refused 12) ∷
+    (parts (0 ∷ []) (0 ∷ []) (0 ∷ (nameCount - 1) ∷ []), result 0) ∷
+    (parts (0 ∷ []) (0 ∷ []) (0 ∷ nameCount ∷ []), refused 12) ∷
     (parts (0 ∷ []) (0 ∷ []) (3 ∷ 3 ∷ []), refused 12) ∷
-    (parts (0 ∷ []) (0 ∷ []) (times 120 (0 ∷ 1 ∷ [])), result 0) ∷
-    (parts (0 ∷ []) (0 ∷ []) (times 121 (0 ∷ 1 ∷ [])), refused 12) ∷
+    (parts (0 ∷ []) (0 ∷ []) (times (longestApart / 2) (0 ∷ 1 ∷ [])), result 0) ∷
+    (parts (0 ∷ []) (0 ∷ []) (times (longestApart / 2 + 1) (0 ∷ 1 ∷ [])), refused 12) ∷
     []
 
 checks : map (λ r. checkAnswer (r .0)) rows ≡ map (λ r. r .1) rows
@@ -94,9 +95,9 @@ unfolding checkAnswer questionWith editionOf checkWith versionByte numbered read
     differentNamesWith readPairsWith joined sized allSized
 checks = refl
 
--- two names merged, in either order and with a room that is exact; a room too short, names apart, a name above 15, a name with itself
+-- two names merged, in either order and with a room that is exact; a room too short, names apart, a byte that is no name, a name with itself
 merges : map (λ (r : ℕ × ℕ × ℕ). mergeOf (parts (3 ∷ 3 ∷ 1 ∷ 2 ∷ 3 ∷ 5 ∷ 3 ∷ 128 ∷ 0 ∷ []) (1 ∷ 0 ∷ []) (2 ∷ 3 ∷ [])) (r .0) (r .1) (r .2))
-    ((3, 1, 100) ∷ (1, 3, 21) ∷ (1, 3, 20) ∷ (3, 2, 100) ∷ (2, 3, 0) ∷ (16, 3, 0) ∷ (3, 3, 100) ∷ [])
+    ((3, 1, 100) ∷ (1, 3, 21) ∷ (1, 3, 20) ∷ (3, 2, 100) ∷ (2, 3, 0) ∷ (nameCount, 3, 0) ∷ (3, 3, 100) ∷ [])
     ≡ result (parts (3 ∷ 1 ∷ 1 ∷ 2 ∷ 1 ∷ 5 ∷ 1 ∷ 128 ∷ 0 ∷ []) (1 ∷ 0 ∷ []) (2 ∷ 1 ∷ []))
     ∷ result (parts (3 ∷ 1 ∷ 1 ∷ 2 ∷ 1 ∷ 5 ∷ 1 ∷ 128 ∷ 0 ∷ []) (1 ∷ 0 ∷ []) (2 ∷ 1 ∷ []))
     ∷ refused 15

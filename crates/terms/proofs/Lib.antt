@@ -11,6 +11,7 @@ pub mod FiniteControlLaws
 pub mod FramingLaws
 pub mod LiteralBytes
 pub mod MergeLaws
+pub mod MoreNames
 pub mod OwnEdition
 pub mod ReadEncoded
 pub mod RefusalNumbers

@@ -10,7 +10,7 @@ use lib.Dec.{ltb, leb, eqb}
 use borrow.Author.Tests.{leb-true, le-leb, ltb-true, lt-ltb, eqb-true, eqb-false, eq-eqb, ne-eqb, not-true}
 use Rattle.calculus.specs.Cond.{Pairs}
 use Rattle.calculus.specs.Term.{Term}
-use Rattle.terms.specs.Limits.{nameCount, longestQuestion, mostDefinitions, greatestArity, longestTerm, longestApart}
+use Rattle.terms.specs.Limits.{nameCount, longestQuestion, mostDefinitions, greatestArity, longestTerm, longestApartOf, longestApart}
 use Rattle.terms.specs.Answer.{Answer, refused, result, _>>=_, _>>_, need}
 use Rattle.terms.specs.Encoding.{encode, InScope}
 use Rattle.terms.specs.Edition.{Edition, one, two, versionByte, encodeIn}
@@ -23,7 +23,7 @@ use Rattle.terms.proofs.EditionOne.{encode-first, encode-shorter, field
 use Rattle.terms.proofs.ReadEncoded.{encode-some-in, read-whole}
 use Rattle.terms.proofs.ScopeLaws.{scope-to, scope-from}
 use Rattle.terms.specs.WellFormed.{Every}
-pub use Rattle.terms.specs.WellFormed.{BodyAllowed, PartAllowed, PairAllowed, WellFormed}
+pub use Rattle.terms.specs.WellFormed.{BodyAllowed, PartAllowedWith, PartAllowed, PairAllowedWith, PairAllowed, WellFormedWith, WellFormed}
 unfoldable pub use Rattle.terms.specs.WellFormed.{BodiesAllowed}
 use Rattle.terms.proofs.EncodeRead.{whole-read}
 use Rattle.terms.proofs.FramingLaws.{Short, ShortLast, behindVersion, framed-out, framed-in, framed-counts, Framable}
@@ -36,13 +36,17 @@ fits-size bs e =
     (leb-true 1 (length bs) (b .0), leb-true (length bs) longestTerm (b .1))
 
 module _ (e : Edition) where
+  pub part-allowed-with : (names : ℕ) (arities bs : List ℕ) (P : Term) → fits bs ≡ true → readPartWith names e (numbered arities) bs ≡ result P
+      → parallelOutermost P ≡ true → (bs ≡ encodeIn e 0 P) × PartAllowedWith names arities P
+  unfolding readPartWith
+  part-allowed-with names arities bs P f h g =
+      let r = whole-read names e (numbered arities) 0 bs P h in
+      let s : length (encodeIn e 0 P) ≤ longestTerm = rw (← r .0) (fits-size bs f .1) in
+      (r .0, record { scope = scope-from arities names 0 P (r .1); size = omega (arith, encode-shorter e 0 P); parallelsOutermost = g })
+
   pub part-allowed : (arities bs : List ℕ) (P : Term) → fits bs ≡ true → readPart e (numbered arities) bs ≡ result P → parallelOutermost P ≡ true →
       (bs ≡ encodeIn e 0 P) × PartAllowed arities P
-  unfolding readPartWith
-  part-allowed arities bs P f h g =
-      let r = whole-read nameCount e (numbered arities) 0 bs P h in
-      let s : length (encodeIn e 0 P) ≤ longestTerm = rw (← r .0) (fits-size bs f .1) in
-      (r .0, record { scope = scope-from arities nameCount 0 P (r .1); size = omega (arith, encode-shorter e 0 P); parallelsOutermost = g })
+  part-allowed = part-allowed-with nameCount
 
   -- The bodies, given that checks 6, 10 and 11 pass over all of them.
   body-allowed : (arities bs : List ℕ) (a : ℕ) (P : Term) → fits bs ≡ true → readWhole e (numbered arities) 0 a bs ≡ result P → sequential P ≡ true →
@@ -79,19 +83,19 @@ module _ (e : Edition) where
   bodies-allowed arities [] (b ∷ bs) Ps l f = absurd (omega arith)
 
 -- An accepted apart list.
-pairs-allowed : (bs : List ℕ) (D : Pairs) → readPairs bs ≡ result D → (bs ≡ pairBytes D) × Every PairAllowed D
+pairs-allowed : (names : ℕ) (bs : List ℕ) (D : Pairs) → readPairsWith names bs ≡ result D → (bs ≡ pairBytes D) × Every (PairAllowedWith names) D
 unfolding readPairsWith differentNamesWith pairBytes Every
-pairs-allowed [] D e = let q : _≡_ {A = Pairs} [] D = result-injective e in rw (← q) (refl, tt)
-pairs-allowed (a ∷ []) D e = refused-not-result e
-pairs-allowed (a ∷ b ∷ bs) D e =
-    let t = need-result 12 (ltb a nameCount && ltb b nameCount && not (eqb a b)) (readPairs bs >>= λ ps. result ((a, b) ∷ ps)) D e in
-    let u = bind-result (readPairs bs) _ D (t .1) in
+pairs-allowed names [] D e = let q : _≡_ {A = Pairs} [] D = result-injective e in rw (← q) (refl, tt)
+pairs-allowed names (a ∷ []) D e = refused-not-result e
+pairs-allowed names (a ∷ b ∷ bs) D e =
+    let t = need-result 12 (ltb a names && ltb b names && not (eqb a b)) (readPairsWith names bs >>= λ ps. result ((a, b) ∷ ps)) D e in
+    let u = bind-result (readPairsWith names bs) _ D (t .1) in
     let q : _≡_ {A = Pairs} ((a, b) ∷ u .0) D = result-injective (u .2) in
-    let r = pairs-allowed bs (u .0) (u .1) in
-    let x = both-true (ltb a nameCount && ltb b nameCount) (not (eqb a b)) (t .0) in
-    let y = both-true (ltb a nameCount) (ltb b nameCount) (x .0) in
-    let ok : PairAllowed (a, b) =
-    record { left = ltb-true a nameCount (y .0); right = ltb-true b nameCount (y .1); differ = eqb-false a b (not-true (eqb a b) (x .1)) } in
+    let r = pairs-allowed names bs (u .0) (u .1) in
+    let x = both-true (ltb a names && ltb b names) (not (eqb a b)) (t .0) in
+    let y = both-true (ltb a names) (ltb b names) (x .0) in
+    let ok : PairAllowedWith names (a, b) =
+    record { left = ltb-true a names (y .0); right = ltb-true b names (y .1); differ = eqb-false a b (not-true (eqb a b) (x .1)) } in
     rw (← q) (ap (λ l. a ∷ b ∷ l) (r .0), (ok, r .1))
 
 names-differ : (p : ℕ × ℕ) → PairAllowed p → differentNames (p .0) (p .1) ≡ true
@@ -111,7 +115,7 @@ unfolding readPairsWith _>>=_
 pairs-read D h = rw (append-nil (pairBytes D), append-nil D) at (pairs-read-before D [] h)
 
 -- What was accepted: the question is well-formed, it fits the edition, and its fields are those written.
-module _ (e : Edition) where
+module _ (names : ℕ) (e : Edition) where
   module _ (f : Fields) (bodies : List Term) (first second : Term) (apart : Pairs) where
     abbrev madeOf : Question
     madeOf = record { arities = f .arities; bodies = bodies; first = first; second = second; apart = apart }
@@ -120,12 +124,12 @@ module _ (e : Edition) where
         (leb (length (f .arities)) mostDefinitions && all (λ a. leb a greatestArity) (f .arities)) ≡ true →
         (all fits (f .bodies) && fits (f .first) && fits (f .second)) ≡ true →
         readBodies e (numbered (f .arities)) (f .arities) (f .bodies) ≡ result bodies →
-        readPart e (numbered (f .arities)) (f .first) ≡ result first →
-        readPart e (numbered (f .arities)) (f .second) ≡ result second →
+        readPartWith names e (numbered (f .arities)) (f .first) ≡ result first →
+        readPartWith names e (numbered (f .arities)) (f .second) ≡ result second →
         (all sequential bodies && parallelOutermost first && parallelOutermost second) ≡ true →
         all guarded bodies ≡ true →
-        readApart (f .apart) ≡ result apart →
-        WellFormed madeOf × (f ≡ fieldsIn e madeOf)
+        readApartWith names (f .apart) ≡ result apart →
+        WellFormedWith names madeOf × (f ≡ fieldsIn e madeOf)
     unfolding fieldsIn readApartWith
     made-allowed l c₅ c₆ c₇ c₈ c₉ c₁₀ c₁₁ c₁₂ =
         let s = both-true (leb (length (f .arities)) mostDefinitions) (all (λ a. leb a greatestArity) (f .arities)) c₅ in
@@ -134,10 +138,10 @@ module _ (e : Edition) where
         let u = both-true (all sequential bodies && parallelOutermost first) (parallelOutermost second) c₁₀ in
         let v = both-true (all sequential bodies) (parallelOutermost first) (u .0) in
         let B = bodies-allowed e (f .arities) (f .arities) (f .bodies) bodies l (y .0) c₇ (v .0) c₁₁ in
-        let P = part-allowed e (f .arities) (f .first) first (y .1) c₈ (v .1) in
-        let Q = part-allowed e (f .arities) (f .second) second (x .1) c₉ (u .1) in
-        let a = need-result 12 (leb (length (f .apart)) longestApart) (readPairs (f .apart)) apart c₁₂ in
-        let D = pairs-allowed (f .apart) apart (a .1) in (
+        let P = part-allowed-with e names (f .arities) (f .first) first (y .1) c₈ (v .1) in
+        let Q = part-allowed-with e names (f .arities) (f .second) second (x .1) c₉ (u .1) in
+        let a = need-result 12 (leb (length (f .apart)) (longestApartOf names)) (readPairsWith names (f .apart)) apart c₁₂ in
+        let D = pairs-allowed names (f .apart) apart (a .1) in (
           record {
             definitions = leb-true (length (f .arities)) mostDefinitions (s .0);
             parameters = all-every (λ a. leb a greatestArity) (λ a. a ≤ greatestArity) (λ a. leb-true a greatestArity) (f .arities) (s .1);
@@ -145,26 +149,26 @@ module _ (e : Edition) where
             first = P .1;
             second = Q .1;
             apart = D .1;
-            apartSize = rw (← D .0) (leb-true (length (f .apart)) longestApart (a .0));
+            apartSize = rw (← D .0) (leb-true (length (f .apart)) (longestApartOf names) (a .0));
           },
           λ i. record { arities = f .arities; bodies = B .0 i; first = P .0 i; second = Q .0 i; apart = D .0 i },
         )
 
-  fields-allowed : (f : Fields) (q : Question) → length (f .bodies) ≡ length (f .arities) → checkFields e f ≡ result q →
-      WellFormed q × (f ≡ fieldsIn e q) × (fitsIn e q ≡ true)
+  fields-allowed : (f : Fields) (q : Question) → length (f .bodies) ≡ length (f .arities) → checkFieldsWith names e f ≡ result q →
+      WellFormedWith names q × (f ≡ fieldsIn e q) × (fitsIn e q ≡ true)
   unfolding checkFieldsWith checkTermsWith fitsIn fieldsIn
   fields-allowed f q l h =
       let c₅ = need-result 5 (leb (length (f .arities)) mostDefinitions && all (λ a. leb a greatestArity) (f .arities)) _ q h in
       let c₆ = need-result 6 (all fits (f .bodies) && fits (f .first) && fits (f .second)) _ q (c₅ .1) in
       let B = bind-result (readBodies e (numbered (f .arities)) (f .arities) (f .bodies)) _ q (c₆ .1) in
-      let P = bind-result (readPart e (numbered (f .arities)) (f .first)) _ q (B .2) in
-      let Q = bind-result (readPart e (numbered (f .arities)) (f .second)) _ q (P .2) in
+      let P = bind-result (readPartWith names e (numbered (f .arities)) (f .first)) _ q (B .2) in
+      let Q = bind-result (readPartWith names e (numbered (f .arities)) (f .second)) _ q (P .2) in
       let c₁₀ = need-result 10 (all sequential (B .0) && parallelOutermost (P .0) && parallelOutermost (Q .0)) _ q (Q .2) in
       let c₁₁ = need-result 11 (all guarded (B .0)) _ q (c₁₀ .1) in
-      let D = bind-result (readApart (f .apart)) _ q (c₁₁ .1) in
+      let D = bind-result (readApartWith names (f .apart)) _ q (c₁₁ .1) in
       let r = result-injective {a = madeOf f (B .0) (P .0) (Q .0) (D .0)} (D .2) in
       let m = subst
-      (λ (x : Question). WellFormed x × (f ≡ fieldsIn e x))
+      (λ (x : Question). WellFormedWith names x × (f ≡ fieldsIn e x))
       r
       (made-allowed f (B .0) (P .0) (Q .0) (D .0) l (c₅ .0) (c₆ .0) (B .1) (P .1) (Q .1) (c₁₀ .0) (c₁₁ .0) (D .1)) in
       (m .0, m .1, subst (λ (g : Fields). (all fits (g .bodies) && fits (g .first) && fits (g .second)) ≡ true) (m .1) (c₆ .0))
@@ -182,21 +186,24 @@ module _ (e : Edition) where
     firstByte : bs ≡ versionByte e ∷ behind
     fields : Fields
     framing : framed behind ≡ result fields
-    checks : checkFields e fields ≡ result q
+    checks : checkFieldsWith names e fields ≡ result q
 
-  accepted-stages : (bs : List ℕ) (q : Question) → checkIn e bs ≡ result q → Accepted bs q
+  accepted-stages : (bs : List ℕ) (q : Question) → checkWith names e bs ≡ result q → Accepted bs q
   unfolding checkWith
   accepted-stages bs q h =
       let v = bind-result (version e bs) _ q h in
       let l = need-result 4 (leb (length bs) longestQuestion) _ q (v .2) in
-      let f = bind-result (framed (v .0)) (checkFields e) q (l .1) in
+      let f = bind-result (framed (v .0)) (checkFieldsWith names e) q (l .1) in
       record { behind = v .0; firstByte = version-byte bs (v .0) (v .1); fields = f .0; framing = f .1; checks = f .2 }
 
-  accepted-fields : (bs : List ℕ) (q : Question) (s : Accepted bs q) → WellFormed q × (s .fields ≡ fieldsIn e q) × (fitsIn e q ≡ true)
+  accepted-fields : (bs : List ℕ) (q : Question) (s : Accepted bs q) → WellFormedWith names q × (s .fields ≡ fieldsIn e q) × (fitsIn e q ≡ true)
   accepted-fields bs q s = fields-allowed (s .fields) q (framed-counts (s .behind) (s .fields) (s .framing)) (s .checks)
 
-  pub accepted-in : (bs : List ℕ) (q : Question) → checkIn e bs ≡ result q → WellFormed q × (fitsIn e q ≡ true)
-  accepted-in bs q h = let r = accepted-fields bs q (accepted-stages bs q h) in (r .0, r .2)
+  pub accepted-with : (bs : List ℕ) (q : Question) → checkWith names e bs ≡ result q → WellFormedWith names q × (fitsIn e q ≡ true)
+  accepted-with bs q h = let r = accepted-fields bs q (accepted-stages bs q h) in (r .0, r .2)
+
+pub accepted-in : (e : Edition) (bs : List ℕ) (q : Question) → checkIn e bs ≡ result q → WellFormed q × (fitsIn e q ≡ true)
+accepted-in = accepted-with nameCount
 
 -- What fits is short.
 all-fit-short : (fs : List (List ℕ)) → all fits fs ≡ true → Every Short fs
@@ -253,8 +260,8 @@ fields-short e q w t =
 pub written-in : (e : Edition) (bs : List ℕ) (q : Question) → checkIn e bs ≡ result q → writeIn e q ≡ bs
 unfolding writeIn joined behindVersion fieldsIn
 written-in e bs q h =
-    let s = accepted-stages e bs q h in
-    let (w, f, i) = accepted-fields e bs q s in
+    let s = accepted-stages nameCount e bs q h in
+    let (w, f, i) = accepted-fields nameCount e bs q s in
     let t = terms-fit e q i in
     let b : Every Short (s .fields .bodies) = subst (λ (f : Fields). Every Short (f .bodies)) (sym f) (all-fit-short (bodyFieldsIn e (q .arities) (q .bodies)) (t .bodies)) in
     let o = framed-out (s .behind) (s .fields) b (subst ShortLast (sym f) (fields-short e q w t)) (s .framing) in

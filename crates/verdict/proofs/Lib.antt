@@ -12,6 +12,7 @@ pub mod NamedClauses
 pub mod NamedDemands
 pub mod NamedStrike
 pub mod NeverDifferentLaws
+pub mod OldVerdict
 pub mod OutcomeLaws
 pub mod RearrangedVerdict
 pub mod RelatedVerdicts

@@ -47,7 +47,7 @@ module _ (Δ : Defs) (S : Setting) (naming : S .differ ≡ true) (arities : List
   abbrev demands : Row → List (List (List Situation))
   demands = demandsOf (named k) S
 
-  decided-same : (n : ℕ) → decided demands start (fieldOf S capacity start) ≡ same n → Bisimilar Δ k (start .first) (start .second)
+  pub decided-same : (n : ℕ) → decided demands start (fieldOf S capacity start) ≡ same n → Bisimilar Δ k (start .first) (start .second)
   decided-same n e =
       let s = of-same demands start (fieldOf S capacity start) n e in
       let small = few Δ S arities setting start proper capacity in
@@ -57,7 +57,7 @@ module _ (Δ : Defs) (S : Setting) (naming : S .differ ≡ true) (arities : List
       (found-survives demands (Proper (S .names) arities) (same-equal (S .names) small arities) (s .rows)
       (named-rows Δ S small arities k (s .rows) f naming) start proper (s .survives)))
 
-  decided-different : (n : ℕ) → decided demands start (fieldOf S capacity start) ≡ different n → ¬ Bisimilar Δ k (start .first) (start .second)
+  pub decided-different : (n : ℕ) → decided demands start (fieldOf S capacity start) ≡ different n → ¬ Bisimilar Δ k (start .first) (start .second)
   decided-different n e b =
       let s = of-different demands start (fieldOf S capacity start) n e in
       let f = field-of Δ S arities setting start proper capacity (s .rows) (s .found-rows) in

@@ -5,9 +5,9 @@ use Prim.Native.Nat.{ℕ, _*_}
 use lib.ListN.{drop, replicate}
 use lib.Dec.{leb}
 use Rattle.terms.specs.Answer.{Answer, refused, result, _>>=_, _>>_, need}
-use Rattle.terms.specs.Question.{questionOf}
+use Rattle.terms.specs.Question.{Question, questionWith, questionOf}
 pub use Rattle.field.specs.Setting.{slotBytes}
-use Rattle.verdict.specs.Verdict.{Manner, openly, Verdict, verdictBy}
+use Rattle.verdict.specs.Verdict.{Manner, openly, Verdict, verdictBy, verdictWith}
 
 -- Check 1.
 abbrev pub greatestCapacity : ℕ
@@ -18,11 +18,18 @@ unfoldable pub withinCapacity : ℕ → ℕ → ℕ → Answer (Unit {0})
 withinCapacity capacity bytes room = need 1 (leb 1 capacity && leb capacity greatestCapacity) >> need 2 (leb bytes room)
 
 -- Checks 1 and 2, then 3 to 12, then the verdict. `room` is the length of the work area.
-unfoldable pub judgeBy : Manner → List ℕ → ℕ → ℕ → Answer Verdict
-judgeBy m question capacity room = do
+abbrev pub judgedWithin : ℕ → ℕ → Answer Question → (Question → Verdict) → Answer Verdict
+judgedWithin capacity room asked verdict = do
   withinCapacity capacity (slotBytes * capacity) room
-  q ← questionOf question
-  result (verdictBy m q capacity)
+  q ← asked
+  result (verdict q)
+
+unfoldable pub judgeBy : Manner → List ℕ → ℕ → ℕ → Answer Verdict
+judgeBy m question capacity room = judgedWithin capacity room (questionOf question) (λ q. verdictBy m q capacity)
+
+-- the same over another number of names
+unfoldable pub judgeWith : ℕ → Manner → List ℕ → ℕ → ℕ → Answer Verdict
+judgeWith names m question capacity room = judgedWithin capacity room (questionWith names question) (λ q. verdictWith names m q capacity)
 
 -- the open verdict
 abbrev pub judgeOf : List ℕ → ℕ → ℕ → Answer Verdict

@@ -10,8 +10,8 @@ use lib.ListN.{length}
 use lib.Dec.{eqb}
 use Rattle.terms.specs.Question.{Question}
 use Rattle.late_early.specs.LateEarly.{Kind}
-use Rattle.field.specs.Setting.{Setting, settingOf}
-use Rattle.field.specs.Situation.{Situation, startOf}
+use Rattle.field.specs.Setting.{Setting, settingWith, settingOf}
+use Rattle.field.specs.Situation.{Situation, startWith, startOf}
 use Rattle.field.specs.Successors.{select}
 use Rattle.field.specs.Exploration.{found, Row, Exploration, incomplete, explored, fieldOf}
 use Rattle.verdict.specs.Received.{namedDemands}
@@ -71,11 +71,15 @@ decided demands start (explored rs) =
     let n = length rs in
     cond (found (map (λ r. r .self) (rounds demands n rs)) start) (same n) (different n)
 
+abbrev pub verdictIn : Manner → Setting → Situation → ℕ → Verdict
+verdictIn m S start capacity = decided (demandsOf m S) start (fieldOf S capacity start)
+
 unfoldable pub verdictBy : Manner → Question → ℕ → Verdict
-verdictBy m q capacity =
-    let S = settingOf (differs m) (q .bodies) in
-    let start = startOf (differs m) q in
-    decided (demandsOf m S) start (fieldOf S capacity start)
+verdictBy m q capacity = verdictIn m (settingOf (differs m) (q .bodies)) (startOf (differs m) q) capacity
+
+-- the same over another number of names
+unfoldable pub verdictWith : ℕ → Manner → Question → ℕ → Verdict
+verdictWith names m q capacity = verdictIn m (settingWith names (differs m) (q .bodies)) (startWith names (differs m) q) capacity
 
 -- the open one
 abbrev pub verdictOf : Question → ℕ → Verdict
