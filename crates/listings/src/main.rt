@@ -2,6 +2,7 @@
 // byte is the number of questions; each stands behind its length in two bytes, and begins with the side and the new name in one byte each.
 ghost use Prim.Native.Nat.{_≤_};
 use report::print_line;
+use steps_entries::limits::MOST_STEPS;
 use steps_entries::limits::STEP_BYTES;
 use steps_lister::operation::StepsAnswer;
 use steps_lister::operation::steps;
@@ -9,7 +10,7 @@ use terms_bytes::bytes::get;
 use terms_bytes::frame::after_field;
 use terms_bytes::frame::field_at;
 
-const LISTING_BYTES: usize = 33792;
+const LISTING_BYTES: usize = STEP_BYTES * MOST_STEPS;
 
 // Of more steps than this only the number is written.
 const MOST_LINES: usize = 16;

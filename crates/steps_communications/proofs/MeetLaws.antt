@@ -13,6 +13,7 @@ use Rattle.calculus.specs.Abstraction.{Act, tauA, inpA, outA, boutA}
 use Rattle.calculus.specs.Cond.{Cond, join, cls}
 use Rattle.calculus.specs.Term.{Term}
 use Rattle.terms.specs.Limits.{nameCount}
+use Rattle.terms_bytes.specs.NameTable.{lastName}
 use Rattle.steps_conditions.specs.Labels.{actionOf, ActionBelow}
 use Rattle.steps.specs.Raw.{Candidate, step, blocked, meet, communication}
 use Rattle.steps_conditions.specs.Slots.{slotOf}
@@ -125,31 +126,31 @@ mergeable a b = isBetween b (firstMerged a) (lastMerged a)
 
 not-mergeable : (a b : ℕ) → mergeable a b ≡ false → (a ≡ b → ⊥) × (a < nameCount → b < nameCount → ⊥)
 unfolding firstMerged lastMerged isBetween
-not-mergeable a b e = go (leb a 15) refl e
+not-mergeable a b e = go (leb a lastName) refl e
   where
     other : (t : Bool) → ltb b a ≡ t → cond t false (leb b a) ≡ false → a ≡ b → ⊥
     other true t f n = omega (arith, ltb-true b a t)
     other false t f n = omega (arith, leb-false b a f)
 
-    go : (t : Bool) → leb a 15 ≡ t → cond (ltb b (cond t 0 a)) false (leb b (cond t 15 a)) ≡ false → (a ≡ b → ⊥) × (a < nameCount → b < nameCount → ⊥)
+    go : (t : Bool) → leb a lastName ≡ t → cond (ltb b (cond t 0 a)) false (leb b (cond t lastName a)) ≡ false → (a ≡ b → ⊥) × (a < nameCount → b < nameCount → ⊥)
     go true t f =
-        let h = leb-true a 15 t in
-        let k = leb-false b 15 (rw (le-ltb b 0 (omega arith)) at f) in
+        let h = leb-true a lastName t in
+        let k = leb-false b lastName (rw (le-ltb b 0 (omega arith)) at f) in
         (λ n. omega arith, λ _ l. omega arith)
-    go false t f = let h = leb-false a 15 t in (other (ltb b a) refl f, λ l _. omega arith)
+    go false t f = let h = leb-false a lastName t in (other (ltb b a) refl f, λ l _. omega arith)
 
 is-mergeable : (a b : ℕ) → mergeable a b ≡ true → (a ≡ b → ⊥) → (a < nameCount) × (b < nameCount)
 unfolding firstMerged lastMerged isBetween
-is-mergeable a b e n = go (leb a 15) refl e
+is-mergeable a b e n = go (leb a lastName) refl e
   where
     other : (t : Bool) → ltb b a ≡ t → cond t false (leb b a) ≡ true → a ≡ b
     other true t f = let z : _≡_ {A = ℕ} 0 1 = cc in absurd (omega arith)
     other false t f = let h = ltb-false b a t in let k = leb-true b a f in omega arith
 
-    go : (t : Bool) → leb a 15 ≡ t → cond (ltb b (cond t 0 a)) false (leb b (cond t 15 a)) ≡ true → (a < nameCount) × (b < nameCount)
+    go : (t : Bool) → leb a lastName ≡ t → cond (ltb b (cond t 0 a)) false (leb b (cond t lastName a)) ≡ true → (a < nameCount) × (b < nameCount)
     go true t f =
-        let h = leb-true a 15 t in
-        let k = leb-true b 15 (rw (le-ltb b 0 (omega arith)) at f) in
+        let h = leb-true a lastName t in
+        let k = leb-true b lastName (rw (le-ltb b 0 (omega arith)) at f) in
         (omega arith, omega arith)
     go false t f = absurd (n (other (ltb b a) refl f))
 

@@ -14,7 +14,7 @@ use Rattle.calculus.specs.Term.{Term, par, res, ren}
 use Rattle.calculus.proofs.Renaming.{ren-id}
 use Rattle.terms.specs.Encoding.{encode, InScope}
 use Rattle.terms.specs.Limits.{nameCount}
-use Rattle.terms_bytes.specs.NameTable.{tableNames}
+use Rattle.terms_bytes.specs.NameTable.{tableNames, lastName}
 use Rattle.terms.specs.Question.{Question}
 use Rattle.terms.specs.Question.{bodyOf}
 use Rattle.steps_conditions.specs.Names.{HasNew}
@@ -86,15 +86,15 @@ new-raised (beneath ∷ K) d new y h =
 -- The name that is sent, by its slot in rows.
 new-sent : (d y object : ℕ) → slotOf nameCount d y ≡ object → y < d + nameCount → HasNew d (tableSlot object) y
 unfolding HasNew tableSlot
-new-sent d y object e h = (go (ltb y d) refl (leb object 15) refl, omega arith)
+new-sent d y object e h = (go (ltb y d) refl (leb object lastName) refl, omega arith)
   where
-    go : (b : Bool) → ltb y d ≡ b → (c : Bool) → leb object 15 ≡ c → cond c object (object + 1) ≡ slotOf tableNames d y
+    go : (b : Bool) → ltb y d ≡ b → (c : Bool) → leb object lastName ≡ c → cond c object (object + 1) ≡ slotOf tableNames d y
     go true b true c =
-        let l = ltb-true y d b in let k = leb-true object 15 c in absurd (omega (arith, slot-bound nameCount d y l))
+        let l = ltb-true y d b in let k = leb-true object lastName c in absurd (omega (arith, slot-bound nameCount d y l))
     go true b false c = let l = ltb-true y d b in omega (arith, slot-bound nameCount d y l, slot-bound tableNames d y l)
     go false b true c = let l = ltb-false y d b in omega (arith, slot-free nameCount d y l, slot-free tableNames d y l)
     go false b false c =
-        let l = ltb-false y d b in let k = leb-false object 15 c in absurd (omega (arith, slot-free nameCount d y l))
+        let l = ltb-false y d b in let k = leb-false object lastName c in absurd (omega (arith, slot-free nameCount d y l))
 
 -- What a step is raised from.
 pub record From (K : List Frame) (c : Candidate) (M : Cond) (α : Act) (A : Term) : Type 0 where

@@ -9,6 +9,7 @@ use Rattle.calculus.specs.Term.{Term, par}
 use Rattle.terms.specs.Limits.{nameCount}
 use Rattle.terms.specs.Question.{Question}
 use Rattle.terms.specs.Question.{bodyOf}
+use Rattle.terms_bytes.specs.NameTable.{lastName}
 use Rattle.steps.specs.Raw.{Candidate, blocked, communication, visible, silent}
 use Rattle.steps_splicing.specs.Collecting.{PutIs, CollectIs}
 use Rattle.steps_splicing.specs.Contexts.{Frame, raised, Placed}
@@ -23,10 +24,10 @@ mostNumbers = 1099511627776
 
 -- The channels that may be merged with c, from the first to the last: with a free name every free name, with another slot itself alone.
 unfoldable pub firstMerged : ℕ → ℕ
-firstMerged c = cond (leb c 15) 0 c
+firstMerged c = cond (leb c lastName) 0 c
 
 unfoldable pub lastMerged : ℕ → ℕ
-lastMerged c = cond (leb c 15) 15 c
+lastMerged c = cond (leb c lastName) lastName c
 
 unfoldable pub isBetween : (c low high : ℕ) → Bool
 isBetween c low high = cond (ltb c low) false (leb c high)

@@ -31,7 +31,7 @@ const INPUT: u8 = 1;
 const FREE_OUTPUT: u8 = 2;
 
 // The slot of the last free name.
-const LAST_NAME: u8 = 15;
+const LAST_NAME: u8 = NAME_COUNT as u8 - 1;
 
 // The channels that may be merged with `c`, from the first to the last: with a free name every free name, with another itself alone.
 fn first_merged(c: u8) -> u8

@@ -13,10 +13,10 @@ use Rattle.steps.specs.Listing.{order, insert}
 
 -- A list is made in an area that has, behind as many steps, an index: a byte for each.
 abbrev pub indexPlace : ℕ
-indexPlace = 33792
+indexPlace = stepBytes * mostSteps
 
 abbrev pub listRoom : ℕ
-listRoom = 34048
+listRoom = indexPlace + mostSteps
 
 -- the entry that begins at a place of the area
 unfoldable pub entryFrom : List ℕ → ℕ → List ℕ

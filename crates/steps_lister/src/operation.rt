@@ -13,6 +13,7 @@ ghost use Rattle.steps.specs.Operations.{listOf};
 use crate::list::ListAnswer;
 use crate::list::list_part;
 use steps_entries::limits::LIST_ROOM;
+use steps_entries::limits::MOST_STEPS;
 use steps_entries::limits::STEP_BYTES;
 use steps_tallies::bodies::arities_of;
 use terms_bytes::bytes::copy;
@@ -29,7 +30,7 @@ use terms_converting::question::convert_question;
 use terms_renaming::free::is_free;
 
 // The bytes of as many steps as the limit allows.
-const LISTING_BYTES: usize = 33792;
+const LISTING_BYTES: usize = STEP_BYTES * MOST_STEPS;
 
 pub enum StepsAnswer {
     Refused(u8),

@@ -7,13 +7,15 @@ ghost use Rattle.terms_bytes.specs.NameTable.{tableNames};
 ghost use lib.ListN.{length};
 ghost use Rattle.steps_conditions.specs.Names.{mostBinders, nameSlots, turn, CalledIs, LevelsIs, UnchangedIs, FreeBytes, BoundBytes, TableIs};
 use terms_bytes::bytes::get;
+use terms_bytes::limits::GREATEST_ARITY;
+use terms_bytes::limits::LONGEST_TERM;
 use terms_bytes::limits::TABLE_NAMES;
 
 // A slot for each name that may stand free and for each binder.
-pub const NAME_SLOTS: usize = 137;
+pub const NAME_SLOTS: usize = TABLE_NAMES + GREATEST_ARITY + LONGEST_TERM;
 
 // The slot of the outermost binder: TABLE_NAMES.
-const FIRST_BINDER: u8 = 17;
+const FIRST_BINDER: u8 = TABLE_NAMES as u8;
 
 // A binder by its index, counted from the innermost, as a binder by its level, counted from the outermost, and the other way round: binders are
 // numbered from `from` on, and from `to` on in the answer. What is below `from` is a free name and stays.

@@ -14,6 +14,7 @@ use Rattle.terms.specs.Encoding.{encode, InScope}
 use Rattle.terms.specs.Limits.{nameCount, longestTerm}
 use Rattle.terms.specs.Question.{Question, checkOf}
 use Rattle.terms.specs.Question.{bodyOf}
+use Rattle.terms_bytes.specs.NameTable.{lastName}
 use Rattle.steps_conditions.specs.Names.{HasNew}
 use Rattle.steps.specs.Raw.{Candidate, step, blocked, visible}
 use Rattle.steps_plans.specs.Plans.{receiving, Written}
@@ -121,7 +122,7 @@ Unextruded (boutA a) = ⊥
 
 -- The slot of a name in a table of names (Names), where rows have it in this one.
 unfoldable pub tableSlot : ℕ → ℕ
-tableSlot slot = cond (leb slot 15) slot (slot + 1)
+tableSlot slot = cond (leb slot lastName) slot (slot + 1)
 
 -- [Com]: the communication of the visible candidates number v and w of the sides of the parallel at `at`, where the name in a row's slot is sent.
 pub record TakeMetIs (question part : List ℕ) (at depth v w object : ℕ) (merges : Bool) (class area : List ℕ) (count r : ℕ) (area′ : List ℕ) : Type 0 where

@@ -1,9 +1,9 @@
 -- A question that is accepted over some number of names is accepted over more, and is the same question (towards request 2026-11). Names above 127
 -- are binders. Assumes nothing.
-use mathlib.Core.Path.{_≡_, refl, sym, ap, subst, _∙_}
+use mathlib.Core.Path.{_≡_, ap, _∙_}
 use mathlib.Core.List.{List, [], _∷_}
 use mathlib.Core.Bool.{true, _&&_, not}
-use Prim.Native.Nat.{ℕ, _+_, _*_, _-_, _≤_}
+use Prim.Native.Nat.{ℕ, _+_, _-_, _≤_}
 use native.Mathlib.Nat.{mul-le-mul}
 use native.Mathlib.Omega.{arith}
 use lib.ListN.{length}
@@ -11,8 +11,8 @@ use lib.Dec.{ltb, leb, eqb}
 use borrow.Author.Tests.{leb-true, le-leb, ltb-true, lt-ltb}
 use Rattle.calculus.specs.Cond.{Pairs}
 use Rattle.calculus.specs.Term.{Term, nil, tau, inp, out, bout, mat, sum, par, res, call}
-use Rattle.terms.specs.Answer.{Answer, result, _>>=_, _>>_, need}
-use Rattle.terms.specs.Edition.{Edition, encodeIn}
+use Rattle.terms.specs.Answer.{result}
+use Rattle.terms.specs.Edition.{Edition}
 use Rattle.terms.specs.Encoding.{NamesInScope}
 use Rattle.terms.specs.Framing.{Fields, framed}
 use Rattle.terms.specs.Grammar.{sequential, parallelOutermost, guarded}
@@ -34,7 +34,7 @@ use Rattle.terms.specs.Question.{
   questionWith,
 }
 use Rattle.terms.specs.Reading.{Callees, numbered, readWhole}
-use Rattle.terms.proofs.Answers.{result-injective, refused-not-result, bind-result, bind-to, need-result, need-passed, both-true, true-both}
+use Rattle.terms.proofs.Answers.{refused-not-result, bind-result, bind-to, need-result, need-passed, both-true}
 use Rattle.terms.proofs.EncodeRead.{whole-read}
 use Rattle.terms.proofs.ReadEncoded.{read-whole}
 use Rattle.terms.proofs.ScopeLaws.{InScopeBy}

@@ -13,6 +13,10 @@ use Rattle.terms.specs.Limits.{nameCount}
 abbrev pub tableNames : ℕ
 tableNames = nameCount + 1
 
+-- the greatest name that may stand free in a part
+abbrev pub lastName : ℕ
+lastName = nameCount - 1
+
 -- Where the table has the name m of a term under D binders: free names first, then the binders, the innermost first.
 unfoldable pub slot : ℕ → ℕ → ℕ
 slot D m = cond (ltb m D) (tableNames + m) (m - D)

@@ -4,7 +4,7 @@
 pub const NAME_COUNT: usize = 16;
 
 // How many names a table of names begins with: those, and one more that stands for a step's new name until it is chosen.
-pub const TABLE_NAMES: usize = 17;
+pub const TABLE_NAMES: usize = NAME_COUNT + 1;
 // The bytes of a question.
 pub const LONGEST_QUESTION: usize = 4096;
 
@@ -15,5 +15,5 @@ pub const GREATEST_ARITY: usize = 8;
 // The bytes of a body or part.
 pub const LONGEST_TERM: usize = 112;
 
-// The bytes of the apart list.
-pub const LONGEST_APART: usize = 240;
+// The bytes of the apart list: every pair once.
+pub const LONGEST_APART: usize = NAME_COUNT * (NAME_COUNT - 1);

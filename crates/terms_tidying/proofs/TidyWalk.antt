@@ -60,7 +60,7 @@ unrestricted d P e = go (among (fn (tidy P)) 0) refl ∙ ren-ext outside (outsid
 
 -- The table of the code.
 unfoldable pub outsideByte : ℕ → ℕ
-outsideByte i = cond (ltb i 17) i (cond (eqb i 17) 0 (110 + i))
+outsideByte i = cond (ltb i tableNames) i (cond (eqb i tableNames) 0 (128 + (i - (tableNames + 1))))
 
 unfoldable pub agrees : ℕ → List ℕ → Bool
 agrees i [] = true
@@ -79,26 +79,26 @@ agreed i (b ∷ bs) e zero l =
 agreed i (b ∷ bs) e (suc k) l =
     agreed (suc i) bs (and-both (eqb b (outsideByte i)) (agrees (suc i) bs) e .1) k (omega arith) ∙ ap outsideByte (omega arith)
 
-outside-represents : (table : List ℕ) → agrees 0 table ≡ true → length table ≡ 146 → (free d : ℕ) → free ≤ tableNames → d ≤ 128
+outside-represents : (table : List ℕ) → agrees 0 table ≡ true → length table ≡ tableNames + 129 → (free d : ℕ) → free ≤ tableNames → d ≤ 128
     → Represents free (1 + d) d table (outsideOf d)
 unfolding Represents slot outsideOf outsideByte
 outside-represents table e size free d few low = go
   where
-    entry : (k : ℕ) → k < 146 → getD table k 0 ≡ outsideByte k
+    entry : (k : ℕ) → k < tableNames + 129 → getD table k 0 ≡ outsideByte k
     entry k l = let z : 0 + k ≡ k = omega arith in agreed 0 table e k (omega arith) ∙ ap outsideByte z
 
     own : getD table (slot (1 + d) 0) 0 ≡ nameByte d d
-    own = rw (lt-ltb 0 (1 + d) (omega arith)) (entry 17 (omega arith) ∙ sym (byte-free d d (omega arith) ∙ omega arith))
+    own = rw (lt-ltb 0 (1 + d) (omega arith)) (entry tableNames (omega arith) ∙ sym (byte-free d d (omega arith) ∙ omega arith))
 
     other : (m : ℕ) → suc m < 1 + d + free → (t : Bool) → ltb (suc m) (1 + d) ≡ t → getD table (slot (1 + d) (suc m)) 0 ≡ nameByte d m
     other m l true t =
         let k = ltb-true (suc m) (1 + d) t in
-        rw (t, byte-bound d m (omega arith)) (entry (17 + suc m) (omega arith)
-        ∙ rw (le-ltb (17 + suc m) 17 (omega arith), ne-eqb (17 + suc m) 17 (λ q. omega arith)) (omega arith))
+        rw (t, byte-bound d m (omega arith)) (entry (tableNames + suc m) (omega arith)
+        ∙ rw (le-ltb (tableNames + suc m) tableNames (omega arith), ne-eqb (tableNames + suc m) tableNames (λ q. omega arith)) (omega arith))
     other m l false t =
         let k = ltb-false (suc m) (1 + d) t in
         rw (t, byte-free d m (omega arith)) (entry (suc m - (1 + d)) (omega arith)
-        ∙ rw (lt-ltb (suc m - (1 + d)) 17 (omega arith)) (omega arith))
+        ∙ rw (lt-ltb (suc m - (1 + d)) tableNames (omega arith)) (omega arith))
 
     go : (m : ℕ) → m < 1 + d + free → (getD table (slot (1 + d) m) 0 ≡ nameByte d (outsideOf d m)) × (outsideOf d m < d + tableNames)
     go zero l = (own, omega arith)
@@ -328,7 +328,7 @@ module _ (s : List ℕ) (at : ℕ) (arities area : List ℕ) (put : ℕ) (h : Co
 
 -- What stands beneath a restriction that binds nothing: renamed to what it is outside, and tidied.
 module _ (s : List ℕ) (at : ℕ) (arities area : List ℕ) (put : ℕ) (table lowered : List ℕ) (n : ℕ) (lowered₁ : List ℕ) (agree : agrees 0 table ≡ true)
-    (size : length table ≡ 146) (big : length lowered ≡ longestRaw) (R : RenameIs s at arities table lowered 0 n lowered₁) where
+    (size : length table ≡ tableNames + 129) (big : length lowered ≡ longestRaw) (R : RenameIs s at arities table lowered 0 n lowered₁) where
   module _ (free d : ℕ) (P : Term) (rest : List ℕ) (few : free ≤ tableNames) (scope : InScope free arities (1 + d) P)
       (st : drop at s ≡ encode (1 + d) P ++ rest) (deep : d + height P ≤ 128) (long : length (encode (1 + d) P) ≤ longestRaw) where
     renamed : (n ≡ length (encode (1 + d) P)) × (lowered₁ ≡ sets lowered 0 (encode d (ren (outsideOf d) P)))

@@ -5,6 +5,7 @@ ghost use Rattle.terms_tidying.specs.Tidying.{CopiedFrontIs, TidiedIs, T
 use crate::unused::binds_nothing;
 use terms_bytes::bytes::copy;
 use terms_bytes::bytes::room;
+use terms_bytes::limits::TABLE_NAMES;
 use terms_bytes::shape::shape_at;
 use terms_renaming::rename::rename;
 
@@ -12,7 +13,7 @@ use terms_renaming::rename::rename;
 pub const LONGEST_RAW: usize = 336;
 
 // What a name beneath a restriction that binds nothing is outside of it: the free names, the restriction's own, and the binders outward.
-const OUTSIDE: [u8; 146] = [
+const OUTSIDE: [u8; TABLE_NAMES + 129] = [
     0,
     1,
     2,
