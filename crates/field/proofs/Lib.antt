@@ -1,6 +1,7 @@
 pub mod ClassTests
 pub mod Explored
 pub mod FieldIsSmallest
+pub mod FormedParts
 pub mod Link
 pub mod Members
 pub mod MoveLaws

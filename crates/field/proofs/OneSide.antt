@@ -49,7 +49,7 @@ times-more (x ∷ xs) F G h a b d = go (of-apart-++ (map (λ y. (x, y)) F) (time
     go (inl e) r = apart-left (map (λ y. (x, y)) G) (times xs G) a b (row-more x F G h a b e)
     go (inr e) r = apart-right (map (λ y. (x, y)) G) (times xs G) a b (r e)
 
-update-more : (σ : ℕ → ℕ) (xs F G : List ℕ) (D : Pairs) → ((n : ℕ) → In n F → In n G) → (a b : ℕ) → Apart (mapP σ (times xs F ++ D)) a b
+pub update-more : (σ : ℕ → ℕ) (xs F G : List ℕ) (D : Pairs) → ((n : ℕ) → In n F → In n G) → (a b : ℕ) → Apart (mapP σ (times xs F ++ D)) a b
     → Apart (mapP σ (times xs G ++ D)) a b
 update-more σ xs F G D h a b d =
     let (c, e, f, p, q) = of-apart-map σ (times xs F ++ D) a b d in

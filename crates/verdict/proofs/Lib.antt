@@ -5,6 +5,7 @@ pub mod DecidedField
 pub mod EditionsAlike
 pub mod EntriesKeep
 pub mod FieldRows
+pub mod FormedBisimilar
 pub mod InsideVerdict
 pub mod JudgeIsDefinition13
 pub mod ListOfEntries
