@@ -15,5 +15,6 @@ pub mod QuestionField
 pub mod Reached
 pub mod Run
 pub mod Selections
+pub mod SettledKept
 pub mod SuccessorsLinked
 pub mod Unseen

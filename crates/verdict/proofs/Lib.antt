@@ -17,6 +17,7 @@ pub mod OutcomeLaws
 pub mod RearrangedVerdict
 pub mod RelatedVerdicts
 pub mod Rounds
+pub mod SettledKept
 pub mod SmallOutcomes
 pub mod Soundness
 pub mod VerdictIsDefinition13
