@@ -128,24 +128,24 @@ module _ {A B : Type 0} (f : A → B) where
   distinct-of [] d = tt
   distinct-of (x ∷ xs) d = (λ m. d .0 (∈-map f x xs m), distinct-of xs (d .1))
 
-module _ (Δ : Defs) (names extra x : ℕ) (P : Term) (below : (n : ℕ) → Free n P → n < names) where
+module _ (form : Term → Term) (Δ : Defs) (names extra x : ℕ) (P : Term) (below : (n : ℕ) → Free n P → n < names) where
   -- a step among more names is the widened one of a step
-  narrow : (s : ListedStep) → Derived Δ (names + extra) x P s → (t : ListedStep) × Derived Δ names x P t × (s ≡ widened (names + extra) t)
+  narrow : (s : ListedStep) → Derived form Δ (names + extra) x P s → (t : ListedStep) × Derived form Δ names x P t × (s ≡ widened (names + extra) t)
   narrow s d = (
-    listedAs names (d .condition) (d .action) (d .result),
+    listedAs names (d .condition) (d .action) (form (d .result)),
     record { condition = d .condition; action = d .action; result = d .result; transition = d .transition; binds = d .binds; listed = refl },
-    d .listed ∙ widened-step names extra (d .condition) (d .action) (d .result) (λ n o. below n (transition-names Δ (d .transition) n o)),
+    d .listed ∙ widened-step names extra (d .condition) (d .action) (form (d .result)) (λ n o. below n (transition-names Δ (d .transition) n o)),
   )
 
-  narrow-all : (ss : List ListedStep) → All (Derived Δ (names + extra) x P) ss
-      → (ts : List ListedStep) × All (Derived Δ names x P) ts × (ss ≡ map (widened (names + extra)) ts)
+  narrow-all : (ss : List ListedStep) → All (Derived form Δ (names + extra) x P) ss
+      → (ts : List ListedStep) × All (Derived form Δ names x P) ts × (ss ≡ map (widened (names + extra)) ts)
   narrow-all [] a = ([], tt, refl)
   narrow-all (s ∷ ss) a =
       let (t, d, e) = narrow s (a .0) in
       let (ts, b, f) = narrow-all ss (a .1) in
       (t ∷ ts, (d, b), ap₂ _∷_ e f)
 
-  many-narrow : (most : ℕ) → TooMany Δ (names + extra) most x P → TooMany Δ names most x P
+  many-narrow : (most : ℕ) → TooMany form Δ (names + extra) most x P → TooMany form Δ names most x P
   many-narrow most h =
       let (ts, b, f) = narrow-all (h .steps) (h .derived) in
       record {
@@ -155,7 +155,7 @@ module _ (Δ : Defs) (names extra x : ℕ) (P : Term) (below : (n : ℕ) → Fre
         many = omega (arith, h .many, ap length f ∙ length-map ts (widened (names + extra)));
       }
 
-  long-narrow : (longest : ℕ) → TooLong Δ (names + extra) longest x P → TooLong Δ names longest x P
+  long-narrow : (longest : ℕ) → TooLong form Δ (names + extra) longest x P → TooLong form Δ names longest x P
   unfolding resultBytes widened
   long-narrow longest h =
       let (t, d, e) = narrow (h .step) (h .derived) in
@@ -163,7 +163,7 @@ module _ (Δ : Defs) (names extra x : ℕ) (P : Term) (below : (n : ℕ) → Fre
 
 -- the same setting with more names
 abbrev pub wider : Setting → ℕ → Setting
-wider S extra = record { names = S .names + extra; longest = S .longest; most = S .most; calls = S .calls; body = S .body; differ = S .differ }
+wider S extra = record { names = S .names + extra; longest = S .longest; most = S .most; calls = S .calls; body = S .body; form = S .form; differ = S .differ }
 
 -- The field.
 module _ (Δ : Defs) (S : Setting) (extra : ℕ) (arities : List ℕ) (setting : SettingFor Δ S arities) where
@@ -212,22 +212,22 @@ module _ (Δ : Defs) (S : Setting) (extra : ℕ) (arities : List ℕ) (setting :
   -- a successor by moves that bind x
   abbrev ByFirst : Setting → Situation → Situation → ℕ → Type 0
   ByFirst U s t x = (m : Move Δ U x (s .first)) (n : Move Δ U x (s .second)) → Resp (m .condition) (s .apart) → Matches Δ U m n
-      → t ≡ situation (U .names) (m .result) (ren (cls (m .condition)) (n .result)) (update (s .apart) (s .first) (s .second) (m .action) (m .condition))
+      → t ≡ situation (U .names) (U .form (m .result)) (U .form (ren (cls (m .condition)) (n .result))) (update (s .apart) (s .first) (s .second) (m .action) (m .condition))
       → Successor Δ U s t
 
   abbrev BySecond : Setting → Situation → Situation → ℕ → Type 0
   BySecond U s t x = (m : Move Δ U x (s .second)) (n : Move Δ U x (s .first)) → Resp (m .condition) (s .apart) → Matches Δ U m n
-      → t ≡ situation (U .names) (ren (cls (m .condition)) (n .result)) (m .result) (update (s .apart) (s .second) (s .first) (m .action) (m .condition))
+      → t ≡ situation (U .names) (U .form (ren (cls (m .condition)) (n .result))) (U .form (m .result)) (update (s .apart) (s .second) (s .first) (m .action) (m .condition))
       → Successor Δ U s t
 
   abbrev ByBoth : Setting → Situation → Situation → ℕ → Type 0
   ByBoth U s t x = (α : Action) → ((y : ℕ) → In y (boundNames α) → y ≡ x) → ((a y : ℕ) → α ≢ input a y) → (P Q : Term)
-      → Transition Δ (s .first) [] α P → Transition Δ (s .second) [] α Q → t ≡ situation (U .names) P Q [] → Successor Δ U s t
+      → Transition Δ (s .first) [] α P → Transition Δ (s .second) [] α Q → t ≡ situation (U .names) (U .form P) (U .form Q) [] → Successor Δ U s t
 
   abbrev ByInput : Setting → Situation → Situation → ℕ → Type 0
   ByInput U s t x = (a y : ℕ) → (y ≡ x) ⊎ Free y (s .first) ⊎ Free y (s .second) → (P Q : Term)
       → Transition Δ (s .first) [] (input a x) P → Transition Δ (s .second) [] (input a x) Q
-      → t ≡ situation (U .names) (ren (put x y) P) (ren (put x y) Q) [] → Successor Δ U s t
+      → t ≡ situation (U .names) (U .form (ren (put x y) P)) (U .form (ren (put x y) Q)) [] → Successor Δ U s t
 
   successor-to : (s t : Situation) → Good s → ¬ Past Δ S s → Successor Δ S s t → Successor Δ T s t
   unfolding move-to
@@ -242,7 +242,7 @@ module _ (Δ : Defs) (S : Setting) (extra : ℕ) (arities : List ℕ) (setting :
           by (move-to m) (move-to n) r (matches-to k) (e ∙ sym (cut-same _ _ _ (subst Good e g)))
       go (both-do d α b i P Q u v e) g =
           let by : ByBoth T s t (fresh Δ S s) = subst (ByBoth T s t) (fresh-same s p) (λ α b i P Q u v e. both-do d α b i P Q u v e) in
-          by α b i P Q u v (e ∙ sym (cut-same P Q [] (subst Good e g)))
+          by α b i P Q u v (e ∙ sym (cut-same _ _ [] (subst Good e g)))
       go (both-receive d a y w P Q u v e) g =
           let by : ByInput T s t (fresh Δ S s) = subst (ByInput T s t) (fresh-same s p) (λ a y w P Q u v e. both-receive d a y w P Q u v e) in
           by a y w P Q u v (e ∙ sym (cut-same _ _ [] (subst Good e g)))
@@ -252,32 +252,32 @@ module _ (Δ : Defs) (S : Setting) (extra : ℕ) (arities : List ℕ) (setting :
   successor-from s t p h (first-moves d m n r k e) =
       let by : (u : Situation) → ByFirst S s u (fresh Δ T s) = λ u. subst (ByFirst S s u) (sym (fresh-same s p)) (λ m n r k e. first-moves d m n r k e) in
       let u : Situation =
-      situation (S .names) (m .result) (ren (cls (m .condition)) (n .result)) (update (s .apart) (s .first) (s .second) (m .action) (m .condition)) in
+      situation (S .names) (S .form (m .result)) (S .form (ren (cls (m .condition)) (n .result))) (update (s .apart) (s .first) (s .second) (m .action) (m .condition)) in
       let q : Successor Δ S s u = by u (move-from m) (move-from n) r (matches-from k) refl in
       subst (Successor Δ S s) (sym (e ∙ cut-same _ _ _ (next-good s u p h q))) q
   successor-from s t p h (second-moves d m n r k e) =
       let by : (u : Situation) → BySecond S s u (fresh Δ T s) = λ u. subst (BySecond S s u) (sym (fresh-same s p)) (λ m n r k e. second-moves d m n r k e) in
       let u : Situation =
-      situation (S .names) (ren (cls (m .condition)) (n .result)) (m .result) (update (s .apart) (s .second) (s .first) (m .action) (m .condition)) in
+      situation (S .names) (S .form (ren (cls (m .condition)) (n .result))) (S .form (m .result)) (update (s .apart) (s .second) (s .first) (m .action) (m .condition)) in
       let q : Successor Δ S s u = by u (move-from m) (move-from n) r (matches-from k) refl in
       subst (Successor Δ S s) (sym (e ∙ cut-same _ _ _ (next-good s u p h q))) q
   successor-from s t p h (both-do d α b i P Q v w e) =
       let by : (u : Situation) → ByBoth S s u (fresh Δ T s) = λ u. subst (ByBoth S s u) (sym (fresh-same s p)) (λ α b i P Q v w e. both-do d α b i P Q v w e) in
-      let u : Situation = situation (S .names) P Q [] in
+      let u : Situation = situation (S .names) (S .form P) (S .form Q) [] in
       let q : Successor Δ S s u = by u α b i P Q v w refl in
-      subst (Successor Δ S s) (sym (e ∙ cut-same P Q [] (next-good s u p h q))) q
+      subst (Successor Δ S s) (sym (e ∙ cut-same _ _ [] (next-good s u p h q))) q
   successor-from s t p h (both-receive d a y f P Q v w e) =
       let by : (u : Situation) → ByInput S s u (fresh Δ T s) =
       λ u. subst (ByInput S s u) (sym (fresh-same s p)) (λ a y f P Q v w e. both-receive d a y f P Q v w e) in
-      let u : Situation = situation (S .names) (ren (put (fresh Δ T s) y) P) (ren (put (fresh Δ T s) y) Q) [] in
+      let u : Situation = situation (S .names) (S .form (ren (put (fresh Δ T s) y) P)) (S .form (ren (put (fresh Δ T s) y) Q)) [] in
       let q : Successor Δ S s u = by u a y f P Q v w refl in
       subst (Successor Δ S s) (sym (e ∙ cut-same _ _ [] (next-good s u p h q))) q
 
   -- what is past a limit with more names is past it with few
   part-from : (x : ℕ) (P : Term) → ((n : ℕ) → Free n P → n < S .names) → x ≤ S .names → PartPast Δ T x P → PartPast Δ S x P
   unfolding move-from
-  part-from x P below l (too-many h) = too-many (many-narrow Δ (S .names) extra x P below (S .most) h)
-  part-from x P below l (too-long h) = too-long (long-narrow Δ (S .names) extra x P below (S .longest) h)
+  part-from x P below l (too-many h) = too-many (many-narrow (S .form) Δ (S .names) extra x P below (S .most) h)
+  part-from x P below l (too-long h) = too-long (long-narrow (S .form) Δ (S .names) extra x P below (S .longest) h)
   part-from x P below l (no-name e m y i) = no-name (omega (arith, e)) (move-from m) y i
 
   past-from : (s : Situation) → Good s → Past Δ T s → Past Δ S s

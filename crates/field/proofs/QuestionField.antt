@@ -1,45 +1,64 @@
 -- What an accepted question gives the field: its definitions, and a proper start. Assumes nothing.
-use mathlib.Core.Bool.{Bool, true, false}
+use mathlib.Core.Bool.{Bool, true, false, cond}
 use mathlib.Core.List.{[]}
 use mathlib.Core.Path.{_≡_}
 use native.Mathlib.Omega.{arith}
 use Prim.Native.Nat.{ℕ, _<_}
 use lib.ListN.{getD}
 use Rattle.calculus.specs.Definitions.{Defs}
+use Rattle.calculus.specs.Distinction.{Irr}
+use Rattle.calculus.specs.Term.{Term}
 use Rattle.terms.specs.Limits.{nameCount}
 use Rattle.terms.specs.Question.{Question}
 use Rattle.terms.proofs.ApartLaws.{allowed-irreflexive}
 use Rattle.terms.proofs.WellFormed.{WellFormedWith, WellFormed}
 use Rattle.terms.specs.Question.{bodyOf}
+use Rattle.steps.proofs.FormLaws.{Form, form-scope, result-form}
 use Rattle.steps.proofs.QuestionDefinitions.{bodies-in-scope, opens-one}
 use Rattle.field.specs.Situation.{Proper}
-use Rattle.field.specs.Setting.{settingWith, settingOf}
-use Rattle.field.specs.Situation.{startWith, startOf}
+use Rattle.field.specs.Setting.{settingWith, settingIn, settingOf}
+use Rattle.field.specs.Situation.{startWith, startIn, startOf}
 use Rattle.field.proofs.Link.{SettingFor}
 use Rattle.field.proofs.Proper.{situation-proper}
 
 -- what the field asks of the definitions
-pub setting-over : (names : ℕ) → names < 128 → (differ : Bool) (q : Question) → WellFormedWith names q → (Δ : Defs)
-    → ((k : ℕ) → Δ .arity k ≡ getD (q .arities) k 0) → Δ .body ≡ bodyOf (q .bodies) → SettingFor Δ (settingWith names differ (q .bodies)) (q .arities)
-setting-over names few differ q w Δ arities bodies = record {
-  bodies = bodies;
-  calls = bodies-in-scope (q .arities) (q .bodies) (w .bodies) Δ arities bodies;
-  opens = opens-one (q .arities) (q .bodies) (w .bodies) Δ arities bodies;
-  few = few;
-}
+module _ (names : ℕ) (few : names < 128) {form : Term → Term} (formed : Form form) (differ : Bool) (q : Question) (w : WellFormedWith names q) where
+  pub setting-over : (Δ : Defs) → ((k : ℕ) → Δ .arity k ≡ getD (q .arities) k 0) → Δ .body ≡ bodyOf (q .bodies)
+      → SettingFor Δ (settingWith names form differ (q .bodies)) (q .arities)
+  setting-over Δ arities bodies = record {
+    bodies = bodies;
+    calls = bodies-in-scope (q .arities) (q .bodies) (w .bodies) Δ arities bodies;
+    opens = opens-one (q .arities) (q .bodies) (w .bodies) Δ arities bodies;
+    few = few;
+    formed = formed;
+  }
 
+  pub start-over : Proper names (q .arities) (startWith names form differ q)
+  start-over =
+      situation-proper names (q .arities) (form (q .first)) (form (q .second))
+      (form-scope formed names (q .arities) 0 (q .first) (w .first .scope)) (form-scope formed names (q .arities) 0 (q .second) (w .second .scope))
+      (cond differ [] (q .apart)) (go differ)
+    where
+      go : (b : Bool) → Irr (cond b [] (q .apart))
+      go false = allowed-irreflexive names (q .apart) (w .apart)
+      go true = λ a b d. absurd d
+
+module _ {form : Term → Term} (formed : Form form) (differ : Bool) (q : Question) (w : WellFormed q) where
+  pub formed-setting : (Δ : Defs) → ((k : ℕ) → Δ .arity k ≡ getD (q .arities) k 0) → Δ .body ≡ bodyOf (q .bodies)
+      → SettingFor Δ (settingIn form differ (q .bodies)) (q .arities)
+  unfolding settingIn
+  formed-setting = setting-over nameCount (omega arith) formed differ q w
+
+  pub formed-start : Proper nameCount (q .arities) (startIn form differ q)
+  unfolding startIn
+  formed-start = start-over nameCount (omega arith) formed differ q w
+
+-- in the form of the service
 pub question-setting : (differ : Bool) (q : Question) → WellFormed q → (Δ : Defs) → ((k : ℕ) → Δ .arity k ≡ getD (q .arities) k 0) → Δ .body ≡ bodyOf (q .bodies)
     → SettingFor Δ (settingOf differ (q .bodies)) (q .arities)
 unfolding settingOf
-question-setting = setting-over nameCount (omega arith)
-
-pub start-over : (names : ℕ) (differ : Bool) (q : Question) → WellFormedWith names q → Proper names (q .arities) (startWith names differ q)
-start-over names false q w =
-    situation-proper names (q .arities) (q .first) (q .second) (w .first .scope) (w .second .scope) (q .apart)
-    (allowed-irreflexive names (q .apart) (w .apart))
-start-over names true q w =
-    situation-proper names (q .arities) (q .first) (q .second) (w .first .scope) (w .second .scope) [] (λ a b d. absurd d)
+question-setting differ q w = formed-setting result-form differ q w
 
 pub start-proper : (differ : Bool) (q : Question) → WellFormed q → Proper nameCount (q .arities) (startOf differ q)
 unfolding startOf
-start-proper = start-over nameCount
+start-proper differ q w = formed-start result-form differ q w

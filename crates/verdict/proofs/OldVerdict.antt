@@ -1,6 +1,6 @@
 -- More names, towards document 02, request 2026-11: a question that is accepted and settled over some number of names is accepted over more, with the
 -- same verdict and the same n whenever n fits the capacity; openly, late or early, in either edition. Assumes nothing.
-use mathlib.Core.Path.{_≡_, refl, sym, _∙_, ap, subst}
+use mathlib.Core.Path.{_≡_, refl, sym, _∙_, ap, ap₂, subst}
 use mathlib.Core.Bool.{Bool, true, false, cond}
 use mathlib.Core.List.{List, []}
 use mathlib.Core.Logic.{inl, inr}
@@ -16,6 +16,8 @@ use Rattle.terms.proofs.Answers.{result-injective, bind-result, bind-to}
 use Rattle.terms.proofs.MoreNames.{question-more}
 use Rattle.terms.proofs.WellFormed.{WellFormedWith, accepted-with}
 use Rattle.steps.proofs.Membership.{all-∈, distinct-length}
+use Rattle.steps.specs.Forms.{resultForm}
+use Rattle.steps.proofs.FormLaws.{result-form}
 use Rattle.steps.proofs.QuestionDefinitions.{definitions}
 use Rattle.field.specs.Exploration.{Row, fieldOf}
 use Rattle.field.specs.Field.{InField, SomePast, PastLimit, FieldSize}
@@ -38,7 +40,7 @@ use Rattle.verdict.specs.Verdict.{
   different,
   Numbered,
   decided,
-  verdictIn,
+  verdictFrom,
   verdictBy,
   verdictWith,
 }
@@ -120,65 +122,74 @@ module _ (names extra : ℕ) (few : names + extra < 128) (q : Question) (well : 
 
   module _ (differ : Bool) where
     abbrev narrow : Situation
-    narrow = startWith names differ q
+    narrow = startWith names resultForm differ q
 
-    setting : SettingFor Δ (settingWith names differ (q .bodies)) (q .arities)
-    setting = let w = question-defines q (well .bodies) in setting-over names (omega arith) differ q well Δ (w .arities) (w .bodies)
+    setting : SettingFor Δ (settingWith names resultForm differ (q .bodies)) (q .arities)
+    setting = let w = question-defines q (well .bodies) in setting-over names (omega arith) result-form differ q well Δ (w .arities) (w .bodies)
 
-    setting-wide : SettingFor Δ (settingWith (names + extra) differ (q .bodies)) (q .arities)
-    setting-wide = let w = question-defines q (well .bodies) in setting-over (names + extra) few differ q wide Δ (w .arities) (w .bodies)
+    setting-wide : SettingFor Δ (settingWith (names + extra) resultForm differ (q .bodies)) (q .arities)
+    setting-wide = let w = question-defines q (well .bodies) in setting-over (names + extra) few result-form differ q wide Δ (w .arities) (w .bodies)
 
     proper : Proper names (q .arities) narrow
-    proper = start-over names differ q well
+    proper = start-over names (omega arith) result-form differ q well
 
-    start-same : startWith (names + extra) differ q ≡ narrow
+    start-same : startWith (names + extra) resultForm differ q ≡ narrow
+    unfolding situation
     start-same =
-        situation-same names extra (q .first) (q .second)
-        (either-below names (q .arities) (q .first) (q .second) (well .first .scope) (well .second .scope)) (cond differ [] (q .apart))
+        situation-same names extra (resultForm (q .first)) (resultForm (q .second))
+        (either-below names (q .arities) (resultForm (q .first)) (resultForm (q .second)) (proper .first) (proper .second)) (cond differ [] (q .apart))
+
+  again-first : resultForm (q .first) ≡ resultForm (resultForm (q .first))
+  again-first = sym (result-form .again (q .first))
+
+  again-second : resultForm (q .second) ≡ resultForm (resultForm (q .second))
+  again-second = sym (result-form .again (q .second))
 
   verdict-more : (m : Manner) (capacity n : ℕ) → Numbered (verdictWith names m q capacity) n → (other : ℕ) → n ≤ other
       → verdictWith (names + extra) m q other ≡ verdictWith names m q capacity
   unfolding verdictWith differs situation
   verdict-more openly capacity n h other l =
-      ap (λ (s : Situation). verdictIn openly (settingWith (names + extra) false (q .bodies)) s other) (start-same false)
+      ap (λ (s : Situation). verdictFrom openly (settingWith (names + extra) resultForm false (q .bodies)) s other) (start-same false)
       ∙ more-names Δ S extra (q .arities) (setting false) (setting-wide false) s (proper false) (demandsOf openly S) (demandsOf openly T) capacity n other h l
       (Related Δ (s .apart) (s .first) (s .second))
-      (decided-same Δ S (q .arities) (setting false) s (proper false) capacity refl n)
+      (λ e. decided-same Δ S (q .arities) (setting false) s (proper false) capacity refl n e (s .first) (s .second) again-first again-second)
       (decided-different Δ S (q .arities) (setting false) s (proper false) capacity refl n)
-      (decided-same Δ T (q .arities) (setting-wide false) s (proper-more names extra (q .arities) s (proper false)) other refl)
+      (λ m e. decided-same Δ T (q .arities) (setting-wide false) s (proper-more names extra (q .arities) s (proper false)) other refl m e
+      (s .first) (s .second) again-first again-second)
       (decided-different Δ T (q .arities) (setting-wide false) s (proper-more names extra (q .arities) s (proper false)) other refl)
     where
       S : Setting
-      S = settingWith names false (q .bodies)
+      S = settingWith names resultForm false (q .bodies)
 
       T : Setting
-      T = settingWith (names + extra) false (q .bodies)
+      T = settingWith (names + extra) resultForm false (q .bodies)
 
       s : Situation
       s = narrow false
   verdict-more (named k) capacity n h other l =
-      ap (λ (s : Situation). verdictIn (named k) (settingWith (names + extra) true (q .bodies)) s other) (start-same true)
+      ap (λ (s : Situation). verdictFrom (named k) (settingWith (names + extra) resultForm true (q .bodies)) s other) (start-same true)
       ∙ more-names Δ S extra (q .arities) (setting true) (setting-wide true) s (proper true) (demandsOf (named k) S) (demandsOf (named k) T) capacity n other h l
       (Bisimilar Δ k (s .first) (s .second))
-      (named-same Δ S refl (q .arities) (setting true) s (proper true) plain k capacity n)
-      (named-different Δ S refl (q .arities) (setting true) s (proper true) plain k capacity n)
-      (named-same Δ T refl (q .arities) (setting-wide true) s (proper-more names extra (q .arities) s (proper true)) plain-wide k other)
-      (named-different Δ T refl (q .arities) (setting-wide true) s (proper-more names extra (q .arities) s (proper true)) plain-wide k other)
+      (λ e. named-same Δ S refl (q .arities) (setting true) s (proper true) k capacity n e (s .first) (s .second) plain)
+      (named-different Δ S refl (q .arities) (setting true) s (proper true) k capacity n)
+      (λ m e. named-same Δ T refl (q .arities) (setting-wide true) s (proper-more names extra (q .arities) s (proper true)) k other m e
+      (s .first) (s .second) plain-wide)
+      (named-different Δ T refl (q .arities) (setting-wide true) s (proper-more names extra (q .arities) s (proper true)) k other)
     where
       S : Setting
-      S = settingWith names true (q .bodies)
+      S = settingWith names resultForm true (q .bodies)
 
       T : Setting
-      T = settingWith (names + extra) true (q .bodies)
+      T = settingWith (names + extra) resultForm true (q .bodies)
 
       s : Situation
       s = narrow true
 
-      plain : s ≡ situation names (s .first) (s .second) []
-      plain = refl
+      plain : s ≡ situation names (resultForm (s .first)) (resultForm (s .second)) []
+      plain = ap₂ (λ P Q. situation names P Q []) again-first again-second
 
-      plain-wide : s ≡ situation (names + extra) (s .first) (s .second) []
-      plain-wide = sym (start-same true)
+      plain-wide : s ≡ situation (names + extra) (resultForm (s .first)) (resultForm (s .second)) []
+      plain-wide = sym (start-same true) ∙ ap₂ (λ P Q. situation (names + extra) P Q []) again-first again-second
 
 pub old-verdict : (names extra : ℕ) → names + extra < 128 → (question : List ℕ) (q : Question) → questionWith names question ≡ result q
     → (m : Manner) (capacity n : ℕ) → Numbered (verdictWith names m q capacity) n → (other : ℕ) → n ≤ other

@@ -8,10 +8,12 @@ use mathlib.Core.Path.{_≡_}
 use Prim.Native.Nat.{ℕ, zero, suc}
 use lib.ListN.{length}
 use lib.Dec.{eqb}
+use Rattle.calculus.specs.Term.{Term}
 use Rattle.terms.specs.Question.{Question}
+use Rattle.steps.specs.Forms.{resultForm}
 use Rattle.late_early.specs.LateEarly.{Kind}
-use Rattle.field.specs.Setting.{Setting, settingWith, settingOf}
-use Rattle.field.specs.Situation.{Situation, startWith, startOf}
+use Rattle.field.specs.Setting.{Setting, settingWith, settingIn, settingOf}
+use Rattle.field.specs.Situation.{Situation, startWith, startIn, startOf}
 use Rattle.field.specs.Successors.{select}
 use Rattle.field.specs.Exploration.{found, Row, Exploration, incomplete, explored, fieldOf}
 use Rattle.verdict.specs.Received.{namedDemands}
@@ -71,15 +73,21 @@ decided demands start (explored rs) =
     let n = length rs in
     cond (found (map (λ r. r .self) (rounds demands n rs)) start) (same n) (different n)
 
-abbrev pub verdictIn : Manner → Setting → Situation → ℕ → Verdict
-verdictIn m S start capacity = decided (demandsOf m S) start (fieldOf S capacity start)
+abbrev pub verdictFrom : Manner → Setting → Situation → ℕ → Verdict
+verdictFrom m S start capacity = decided (demandsOf m S) start (fieldOf S capacity start)
+
+-- over another number of names
+unfoldable pub verdictWith : ℕ → Manner → Question → ℕ → Verdict
+verdictWith names m q capacity =
+    verdictFrom m (settingWith names resultForm (differs m) (q .bodies)) (startWith names resultForm (differs m) q) capacity
+
+-- results in the form given
+unfoldable pub verdictIn : (Term → Term) → Manner → Question → ℕ → Verdict
+verdictIn form m q capacity = verdictFrom m (settingIn form (differs m) (q .bodies)) (startIn form (differs m) q) capacity
 
 unfoldable pub verdictBy : Manner → Question → ℕ → Verdict
-verdictBy m q capacity = verdictIn m (settingOf (differs m) (q .bodies)) (startOf (differs m) q) capacity
-
--- the same over another number of names
-unfoldable pub verdictWith : ℕ → Manner → Question → ℕ → Verdict
-verdictWith names m q capacity = verdictIn m (settingWith names (differs m) (q .bodies)) (startWith names (differs m) q) capacity
+unfolding verdictIn settingOf startOf
+verdictBy m q capacity = verdictIn resultForm m q capacity
 
 -- the open one
 abbrev pub verdictOf : Question → ℕ → Verdict
