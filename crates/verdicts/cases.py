@@ -3,8 +3,8 @@
 whose last column gives the verdicts, and small ones for requests of document 02. The sizes of the fields are those of the comparison
 implementation (rust/generate/src/worked.rs).
 
-Writes stdin (the number of cases; for each its length in two bytes, the greater half first, then its capacity in two bytes and its question)
-and stdout (one line a case). Run it in this folder after a change of the cases.
+Writes stdin (the number of cases; for each its length in two bytes, the greater half first, then a byte for the relation, 0 open, 1 late, 2 early,
+its capacity in two bytes and its question) and stdout (one line a case). Run it in this folder after a change of the cases.
 """
 
 
@@ -103,10 +103,44 @@ CASES = [
     ("refused 10", 256, question("01 07 00 00", "01 00")),
 ]
 
+# request 2026-02: open, late, early
+EXPANSION = "06 02 00 03 01 02 00 03 01 02 02 00 00"
+ANSWERS = "06 02 00 01 00 02 00 00"
+NAMED = [
+    (("same 1", "same 1", "same 1"), question()),
+    # [a=b]τ.0 and 0; a(x).0 | b̄c.0 and its expansion
+    (("different 1", "same 1", "same 1"), question("05 00 01 01 00", "00")),
+    (("different 4", "same 4", "same 4"), question("07 02 00 00 03 01 02 00", EXPANSION)),
+    # a(x).[x=b]τ.0 and a(x).0, and the two exchanged
+    (("different 2", "different 4", "different 4"), question("02 00 05 80 01 01 00", "02 00 00")),
+    (("different 2", "different 4", "different 4"), question("02 00 00", "02 00 05 80 01 01 00")),
+    # a(x).τ.0 + a(x).0 and that + a(x).[x=b]τ.0: one answer for all names, or one for each
+    (("different 7", "different 11", "same 11"), question(ANSWERS, "06 " + ANSWERS + "02 00 05 80 01 01 00")),
+    # a(x).([x=a]τ + [x=b]τ) and a(x).[a=a](τ + [b=b]0)
+    (("different 3", "different 5", "different 5"), question("02 00 06 05 80 00 01 00 05 80 01 01 00", "02 00 05 00 00 06 01 00 05 01 01 00")),
+    # ā(x).[x=b]τ.0 and ā(x).0; (νb)āb.0 and ā(b).0; a(x).a(y).[y=x]τ.0 and a(x).a(y).0
+    (("same 2", "same 2", "same 2"), question("04 00 05 80 01 01 00", "04 00 00")),
+    (("same 2", "same 2", "same 2"), question("08 03 00 80 00", "04 00 00")),
+    (("different 3", "different 8", "different 8"), question("02 00 02 00 05 80 81 01 00", "02 00 02 00 00")),
+    # [a=b]τ.τ.0 + τ.0 and τ.0
+    (("different 3", "same 2", "same 2"), question("06 05 00 01 01 01 00 01 00", "01 00")),
+    # K⟨a⟩ and āa.K⟨a⟩; parts that grow; a list that check 12 turns back; edition two
+    (("same 2", "same 2", "same 2"), question("09 00 00", "03 00 00 09 00 00", LOOP)),
+    (("unsettled 0", "unsettled 0", "unsettled 0"), question("09 00 00", "09 00 00", GROWING)),
+    (("refused 12", "refused 12", "refused 12"), question(apart="00 00")),
+    (("same 2", "same 2", "same 2"), question("09 00 01 00", "03 00 00 09 00 01 00", LOOP2, version=2)),
+]
+
+ROWS = [(line, 0, capacity, q) for line, capacity, q in CASES]
+ROWS += [(line, relation, 256, q) for lines, q in NAMED for relation, line in enumerate(lines)]
+# at the field's size, and one less; checks 1 and 2
+ROWS += [(line, relation, capacity, NAMED[5][1]) for capacity, lines in ((11, ("different 11", "same 11")), (10, ("unsettled 0", "unsettled 0")),
+         (0, ("refused 1", "refused 1")), (257, ("refused 2", "refused 2"))) for relation, line in enumerate(lines, 1)]
+
 with open("stdin", "wb") as f:
-    f.write(bytes([len(CASES)]))
-    for _, capacity, q in CASES:
-        f.write(bytes(field([capacity // 256, capacity % 256, *q])))
+    f.write(bytes([len(ROWS)]))
+    for _, relation, capacity, q in ROWS:
+        f.write(bytes(field([relation, capacity // 256, capacity % 256, *q])))
 
 with open("stdout", "w", encoding="ascii") as f:
-    f.writelines(line + "\n" for line, _, _ in CASES)
+    f.writelines(line + "\n" for line, _, _, _ in ROWS)

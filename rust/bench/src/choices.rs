@@ -31,7 +31,7 @@ pub fn print<'a>(workloads: impl Iterator<Item = &'a Workload>) {
 
 fn capacity(task: &Task) -> u64 {
     match task.operation {
-        Operation::Judge { capacity } => capacity,
+        Operation::Judge { capacity, .. } => capacity,
         Operation::List { .. } => unreachable!("these workloads judge"),
     }
 }

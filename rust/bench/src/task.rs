@@ -11,11 +11,24 @@ pub enum Implementation {
     Reference,
 }
 
+/// Which relation is judged.
+#[derive(Clone, Copy, PartialEq, Eq, Debug)]
+pub enum Relation {
+    /// Open bisimilarity.
+    Open,
+    /// Late bisimilarity.
+    Late,
+    /// Early bisimilarity.
+    Early,
+}
+
 /// An operation with its numbers.
 #[derive(Clone, Copy, Debug)]
 pub enum Operation {
     /// Judging with a capacity.
     Judge {
+        /// The relation.
+        relation: Relation,
         /// The capacity.
         capacity: u64,
     },
@@ -39,7 +52,7 @@ impl Task {
     /// The length of the area that the operation needs.
     pub fn area_bytes(&self) -> usize {
         match self.operation {
-            Operation::Judge { capacity } => (SITUATION_BYTES * capacity) as usize,
+            Operation::Judge { capacity, .. } => (SITUATION_BYTES * capacity) as usize,
             Operation::List { .. } => STEPS * STEP_BYTES,
         }
     }
@@ -48,11 +61,8 @@ impl Task {
     pub fn run(&self, implementation: Implementation, area: &mut [u8]) -> Answer {
         let question = &self.question;
         match (self.operation, implementation) {
-            (Operation::Judge { capacity }, Implementation::Exchange) => {
-                proved::judge(question, capacity, area)
-            }
-            (Operation::Judge { capacity }, Implementation::Reference) => {
-                reference::judge(question, capacity, area)
+            (Operation::Judge { relation, capacity }, _) => {
+                judging(relation, implementation)(question, capacity, area)
             }
             (Operation::List { new_name }, Implementation::Exchange) => {
                 proved::steps(question, 1, new_name, area)
@@ -61,5 +71,20 @@ impl Task {
                 reference::steps(question, 1, new_name, area)
             }
         }
+    }
+}
+
+/// The operation that judges the relation.
+fn judging(
+    relation: Relation,
+    implementation: Implementation,
+) -> fn(&[u8], u64, &mut [u8]) -> Answer {
+    match (relation, implementation) {
+        (Relation::Open, Implementation::Exchange) => proved::judge,
+        (Relation::Late, Implementation::Exchange) => proved::judge_late,
+        (Relation::Early, Implementation::Exchange) => proved::judge_early,
+        (Relation::Open, Implementation::Reference) => reference::judge,
+        (Relation::Late, Implementation::Reference) => reference::judge_late,
+        (Relation::Early, Implementation::Reference) => reference::judge_early,
     }
 }

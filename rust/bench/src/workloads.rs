@@ -1,6 +1,6 @@
 //! The workloads.
 
-use crate::task::{Operation, Task};
+use crate::task::{Operation, Relation, Task};
 use compare::{Answer, CAPACITY};
 use generate::{Draft, Fields, Random, Worked, APPENDIX, EXCHANGES};
 
@@ -23,7 +23,9 @@ pub fn all() -> Vec<Workload> {
         judging("exchanges", "the worked exchanges of document 01", worked(EXCHANGES)),
         judging("appendix", "appendix B.1 of document 000, but P7", worked(appendix.1)),
         judging("appendix-p7", "P7 and P7 of that appendix", worked(&[*appendix.0])),
-        judging("random", "300 random questions, capacity 256", random()),
+        judging("random", "300 random questions, capacity 256", random(Relation::Open)),
+        judging("late", "the same questions, late", random(Relation::Late)),
+        judging("early", "the same questions, early", random(Relation::Early)),
         judging("field-64", "12 components, 6 of them with two states", full(field(6))),
         judging("field-512", "12 components, 9 of them with two states", full(field(9))),
         judging("field-4096", "12 components, each with two states", full(field(12))),
@@ -82,19 +84,19 @@ fn listing(name: &'static str, about: &'static str, fields: Fields) -> Workload 
 
 /// Judging the question with the greatest capacity.
 fn full(fields: Fields) -> Vec<Task> {
-    let operation = Operation::Judge { capacity: CAPACITY };
+    let operation = Operation::Judge { relation: Relation::Open, capacity: CAPACITY };
     vec![Task { question: fields.bytes(), operation }]
 }
 
 fn worked(questions: &[Worked]) -> Vec<Task> {
     let task = |worked: &Worked| {
-        let operation = Operation::Judge { capacity: worked.capacity };
+        let operation = Operation::Judge { relation: Relation::Open, capacity: worked.capacity };
         Task { question: worked.bytes(), operation }
     };
     questions.iter().map(task).collect()
 }
 
-fn random() -> Vec<Task> {
+fn random(relation: Relation) -> Vec<Task> {
     let question = |seed| {
         let random = &mut Random::new(seed);
         let draft = match random.below(4) {
@@ -104,7 +106,7 @@ fn random() -> Vec<Task> {
         };
         draft.bytes()
     };
-    let operation = Operation::Judge { capacity: 256 };
+    let operation = Operation::Judge { relation, capacity: 256 };
     (0..300).map(|seed| Task { question: question(seed), operation }).collect()
 }
 

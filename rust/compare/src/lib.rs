@@ -72,6 +72,26 @@ pub fn judge(question: &[u8], capacity: u64, work: &mut [u8]) -> Answer {
     )
 }
 
+/// Judges whether the parts are late bisimilar.
+pub fn judge_late(question: &[u8], capacity: u64, work: &mut [u8]) -> Answer {
+    both(
+        question,
+        work,
+        |question, work| proved::judge_late(question, capacity, work),
+        |question, work| reference::judge_late(question, capacity, work),
+    )
+}
+
+/// Judges whether the parts are early bisimilar.
+pub fn judge_early(question: &[u8], capacity: u64, work: &mut [u8]) -> Answer {
+    both(
+        question,
+        work,
+        |question, work| proved::judge_early(question, capacity, work),
+        |question, work| reference::judge_early(question, capacity, work),
+    )
+}
+
 /// Finds the fewest pairs to hold apart.
 pub fn apart(
     question: &[u8],

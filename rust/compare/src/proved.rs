@@ -39,12 +39,17 @@ pub fn convert_up(question: &[u8], area: &mut [u8]) -> Answer {
 
 /// Judges a question.
 pub fn judge(question: &[u8], capacity: u64, work: &mut [u8]) -> Answer {
-    match exchange::judge(question, capacity, work) {
-        Ok(exchange::Answer::Result(Verdict::Same(size))) => Answer::Same(size as u64),
-        Ok(exchange::Answer::Result(Verdict::Different(size))) => Answer::Different(size as u64),
-        Ok(exchange::Answer::Unsettled) => Answer::Unsettled,
-        Err(refusal) => refused(refusal),
-    }
+    judged(exchange::judge(question, capacity, work))
+}
+
+/// Judges whether the parts are late bisimilar.
+pub fn judge_late(question: &[u8], capacity: u64, work: &mut [u8]) -> Answer {
+    judged(exchange::judge_late(question, capacity, work))
+}
+
+/// Judges whether the parts are early bisimilar.
+pub fn judge_early(question: &[u8], capacity: u64, work: &mut [u8]) -> Answer {
+    judged(exchange::judge_early(question, capacity, work))
 }
 
 /// Finds the fewest pairs to hold apart.
@@ -58,6 +63,15 @@ pub fn apart(
     match exchange::apart(question, capacity, names, work, area) {
         Ok(exchange::Answer::Result(Some(length))) => Answer::Result(length as u64),
         Ok(exchange::Answer::Result(None)) => Answer::None,
+        Ok(exchange::Answer::Unsettled) => Answer::Unsettled,
+        Err(refusal) => refused(refusal),
+    }
+}
+
+fn judged(answer: Result<exchange::Answer<Verdict>, Refusal>) -> Answer {
+    match answer {
+        Ok(exchange::Answer::Result(Verdict::Same(size))) => Answer::Same(size as u64),
+        Ok(exchange::Answer::Result(Verdict::Different(size))) => Answer::Different(size as u64),
         Ok(exchange::Answer::Unsettled) => Answer::Unsettled,
         Err(refusal) => refused(refusal),
     }

@@ -15,6 +15,8 @@ mod exchanges;
 mod field;
 #[path = "../../reference/tests/inside.rs"]
 mod inside;
+#[path = "../../reference/tests/late_early.rs"]
+mod late_early;
 #[path = "../../reference/tests/rearranged.rs"]
 mod rearranged;
 #[path = "../../reference/tests/refusals.rs"]

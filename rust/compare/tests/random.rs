@@ -1,4 +1,4 @@
-//! Random questions of both editions: all eight operations with random numbers and areas, the two
+//! Random questions of both editions: all ten operations with random numbers and areas, the two
 //! implementations side by side. What may change in an area is tested beside their agreement.
 
 use compare::{Answer, APART_BYTES, CAPACITY, QUESTION_BYTES, SITUATION_BYTES, STEPS, STEP_BYTES};
@@ -69,13 +69,18 @@ impl Tally {
             refusals("merge", &[&question[..], &[14, 15]].concat()),
             refusals("beside", &[&question[..], &[15]].concat()),
             refusals("judge", &[&[1, 2], &question[..]].concat()),
+            refusals("late", &[&[1, 2], &question[..]].concat()),
+            refusals("early", &[&[1, 2], &question[..]].concat()),
             refusals("apart", &[&[1, 2], &question[..], &[15, 18]].concat()),
             ["check", "steps", "merge", "beside", "apart"]
                 .map(|name| format!("{name}: result"))
                 .to_vec(),
-            ["steps", "judge", "apart"].map(|name| format!("{name}: unsettled")).to_vec(),
+            ["steps", "judge", "late", "early", "apart"]
+                .map(|name| format!("{name}: unsettled"))
+                .to_vec(),
             vec!["apart: none".into()],
-            ["same", "different"].map(|verdict| format!("judge: {verdict}")).to_vec(),
+            ["judge", "late", "early"].map(|name| format!("{name}: same")).to_vec(),
+            ["judge", "late", "early"].map(|name| format!("{name}: different")).to_vec(),
         ];
         for kind in kinds.concat() {
             let count = self.0.get(&kind).copied().unwrap_or(0);
@@ -203,16 +208,26 @@ fn capacity(random: &mut Random) -> u64 {
     }
 }
 
+/// The open, the late and the early verdict, each at a capacity of its own. "Same" is kept from the
+/// one to the next, whatever the capacities.
 fn judge(random: &mut Random, question: &[u8], tally: &mut Tally) {
-    let capacity = capacity(random);
-    let used = (SITUATION_BYTES * capacity.min(CAPACITY)) as usize;
-    let length = about(random, used);
-    let mut area = Area::new(random, length);
-    let answer = compare::judge(question, capacity, &mut area.lent);
-    let cleared = if matches!(answer, Answer::Refused(_)) { 0 } else { used };
-    assert!(area.lent[..cleared].iter().all(|&byte| byte == 0), "the work area is not cleared");
-    area.assert_untouched_past(cleared);
-    tally.add("judge", answer);
+    type Judging = fn(&[u8], u64, &mut [u8]) -> Answer;
+    let judgings: [(&str, Judging); 3] =
+        [("judge", compare::judge), ("late", compare::judge_late), ("early", compare::judge_early)];
+    let mut same_before = false;
+    for (name, judging) in judgings {
+        let capacity = capacity(random);
+        let used = (SITUATION_BYTES * capacity.min(CAPACITY)) as usize;
+        let length = about(random, used);
+        let mut area = Area::new(random, length);
+        let answer = judging(question, capacity, &mut area.lent);
+        let cleared = if matches!(answer, Answer::Refused(_)) { 0 } else { used };
+        assert!(area.lent[..cleared].iter().all(|&byte| byte == 0), "the work area is not cleared");
+        area.assert_untouched_past(cleared);
+        assert!(!same_before || !matches!(answer, Answer::Different(_)), "{question:02x?}");
+        same_before |= matches!(answer, Answer::Same(_));
+        tally.add(name, answer);
+    }
 }
 
 /// Up to four names, often of the draft; now and then one too many, one that is none or a repeat.

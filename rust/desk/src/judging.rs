@@ -13,6 +13,19 @@ use std::time::{Duration, Instant};
 const PATIENCE: Duration = Duration::from_secs(1);
 const PAUSE: Duration = Duration::from_millis(200);
 
+/// Which relation the parts are judged by: open bisimilarity, or late or early bisimilarity, in
+/// which different names stay different and the names held apart play no part.
+#[derive(Clone, Copy, Default, PartialEq, Eq, Debug)]
+pub enum Relation {
+    /// Open bisimilarity.
+    #[default]
+    Open,
+    /// Late bisimilarity.
+    Late,
+    /// Early bisimilarity.
+    Early,
+}
+
 /// What came of a file.
 #[derive(Clone, PartialEq, Eq, Debug)]
 pub enum Outcome {
@@ -42,10 +55,10 @@ pub fn status(answer: &Answer<Verdict>) -> u8 {
 }
 
 /// The outcome of each file, worst first.
-pub fn judged(found: Found, capacity: Capacity) -> Vec<(String, Outcome)> {
+pub fn judged(found: Found, relation: Relation, capacity: Capacity) -> Vec<(String, Outcome)> {
     let answers = at_once(
         &found.files,
-        |judge: &mut Judge, file| outcome(file, judge),
+        |judge: &mut Judge, file| outcome(file, relation, judge),
         || Judge::new(capacity),
     );
     let mut outcomes: Vec<(String, Outcome)> = found.files.into_iter().zip(answers).collect();
@@ -55,13 +68,17 @@ pub fn judged(found: Found, capacity: Capacity) -> Vec<(String, Outcome)> {
     outcomes
 }
 
-fn outcome(file: &str, judge: &mut Judge) -> Outcome {
+fn outcome(file: &str, relation: Relation, judge: &mut Judge) -> Outcome {
     let exchange = match input::exchange(file) {
         Ok(exchange) => exchange,
         Err(unreadable) => return Outcome::Unreadable(unreadable),
     };
     match Question::new(&exchange.bytes()) {
-        Ok(question) => Outcome::Judged(judge.judge(question)),
+        Ok(question) => Outcome::Judged(match relation {
+            Relation::Open => judge.judge(question),
+            Relation::Late => judge.judge_late(question),
+            Relation::Early => judge.judge_early(question),
+        }),
         Err(refusal) => Outcome::Unreadable(Unreadable::refused(file, refusal)),
     }
 }

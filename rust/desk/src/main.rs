@@ -5,7 +5,7 @@
 use desk::draw::{self, Merged, Unmerged};
 use desk::explain::{explain, play};
 use desk::input::{self, Found, Unreadable};
-use desk::judging::{self, Outcome};
+use desk::judging::{self, Outcome, Relation};
 use desk::report::report;
 use desk::usage::{command, Command};
 use desk::{telling, text};
@@ -34,7 +34,7 @@ fn main() -> ExitCode {
 fn run(command: Command) -> Result<u8, Unreadable> {
     match command {
         Command::Print(text) => write(None, text.as_bytes()).map(|()| 0),
-        Command::Judge(named, capacity) => judge(&named, capacity),
+        Command::Judge(named, relation, capacity) => judge(&named, relation, capacity),
         Command::Explain(file, capacity) => {
             let explanation = explain(&input::exchange(&file)?, capacity);
             write(None, telling::lines(&explanation.blocks).as_bytes())?;
@@ -69,8 +69,8 @@ fn draw(file: &str, merged: &[(String, String)], capacity: Capacity) -> Result<S
     Ok(draw::file(&draw::scenes(&merged, &exchange, play.as_ref())))
 }
 
-fn judge(named: &[String], capacity: Capacity) -> Result<u8, Unreadable> {
-    let outcomes = judging::judged(found(named), capacity);
+fn judge(named: &[String], relation: Relation, capacity: Capacity) -> Result<u8, Unreadable> {
+    let outcomes = judging::judged(found(named), relation, capacity);
     if let [(_, Outcome::Unreadable(unreadable))] = outcomes.as_slice() {
         complain(&unreadable.full);
     }

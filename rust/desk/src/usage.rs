@@ -1,5 +1,6 @@
 //! Commands and their options.
 
+use crate::judging::Relation;
 use crate::words::alike;
 use exchange::Capacity;
 use std::ffi::OsString;
@@ -8,7 +9,7 @@ use std::ffi::OsString;
 #[derive(Clone, PartialEq, Eq, Debug)]
 pub enum Command {
     /// Judge files and folders.
-    Judge(Vec<String>, Capacity),
+    Judge(Vec<String>, Relation, Capacity),
     /// Explain a file.
     Explain(String, Capacity),
     /// Draw a file with names merged.
@@ -55,11 +56,14 @@ gives another order. A comment begins with #. A file name - is standard input.
 ";
 
 const JUDGE: &str = "\
-desk judge [--capacity N] FILE…|FOLDER
+desk judge [--late | --early] [--capacity N] FILE…|FOLDER
 
 Judges every file, and of a folder those that end in .exchange: a line a file, worst first, then a
 line with the counts. A file is text or the bytes of a question.
 
+    --late          different names stay different, and one answer to an input does for every name
+                    received; the names held apart play no part
+    --early         the same, but each name received may have an answer of its own
     --capacity N    look at up to N situations, 1 to 4096; 256 if not given
 
 Exit status: 0 all same, 1 some different, 2 some unsettled, 3 some refused or unreadable, 4 usage.
@@ -146,7 +150,9 @@ pub fn command(arguments: impl IntoIterator<Item = OsString>) -> Result<Command,
         return Ok(Command::Print(help));
     }
     match name.as_str() {
-        "judge" => Ok(Command::Judge(given.some()?, given.capacity)),
+        "judge" => {
+            Ok(Command::Judge(given.some()?, given.relation.unwrap_or_default(), given.capacity))
+        }
         "explain" => Ok(Command::Explain(given.one()?, given.capacity)),
         "draw" => Ok(Command::Draw(given.one()?, given.merged, given.output, given.capacity)),
         "report" => Ok(Command::Report(given.some()?, given.output, given.capacity)),
@@ -167,6 +173,7 @@ fn unknown(name: &str) -> String {
 /// The options that each command takes.
 fn takes(command: &str, option: &str) -> bool {
     let commands: &[&str] = match option {
+        "--late" | "--early" => &["judge"],
         "--capacity" => &["judge", "explain", "draw", "report"],
         "--merge" => &["draw"],
         "-o" => &["draw", "report", "bytes", "text"],
@@ -175,12 +182,22 @@ fn takes(command: &str, option: &str) -> bool {
     commands.contains(&command)
 }
 
+/// The relation that an option names.
+fn relation(option: &str) -> Option<Relation> {
+    match option {
+        "--late" => Some(Relation::Late),
+        "--early" => Some(Relation::Early),
+        _ => None,
+    }
+}
+
 /// What was given to a command.
 #[derive(Default)]
 struct Given {
     files: Vec<String>,
     output: Option<String>,
     merged: Vec<(String, String)>,
+    relation: Option<Relation>,
     capacity: Capacity,
     help: bool,
 }
@@ -202,6 +219,10 @@ impl Given {
                     if !takes(command, option) {
                         return Err(format!("desk {command} has no option `{option}`"));
                     }
+                    if let Some(relation) = relation(option) {
+                        given.judge_by(relation, value)?;
+                        continue;
+                    }
                     let value = value.or_else(|| words.next().cloned());
                     let value = value.ok_or_else(|| format!("`{option}` needs a value"))?;
                     given.option(option, value)?;
@@ -210,6 +231,19 @@ impl Given {
             }
         }
         Ok(given)
+    }
+
+    /// Takes `--late` or `--early`, which have no value and of which one is enough.
+    fn judge_by(&mut self, relation: Relation, value: Option<String>) -> Result<(), String> {
+        if let Some(value) = value {
+            return Err(format!("`--late` and `--early` take no value, such as `{value}`"));
+        }
+        match self.relation.replace(relation) {
+            Some(other) if other != relation => {
+                Err("one of `--late` and `--early` is enough".to_string())
+            }
+            _ => Ok(()),
+        }
     }
 
     fn option(&mut self, option: &str, value: String) -> Result<(), String> {
@@ -260,10 +294,19 @@ mod tests {
     fn commands_and_options() {
         let files = |names: &[&str]| names.iter().map(|name| name.to_string()).collect();
         let default = Capacity::default();
-        assert_eq!(read("judge a b"), Ok(Command::Judge(files(&["a", "b"]), default)));
+        let open = Relation::Open;
+        assert_eq!(read("judge a b"), Ok(Command::Judge(files(&["a", "b"]), open, default)));
         assert_eq!(
             read("judge --capacity 4096 -- -a"),
-            Ok(Command::Judge(files(&["-a"]), Capacity::MAX))
+            Ok(Command::Judge(files(&["-a"]), open, Capacity::MAX))
+        );
+        assert_eq!(
+            read("judge --late a"),
+            Ok(Command::Judge(files(&["a"]), Relation::Late, default))
+        );
+        assert_eq!(
+            read("judge a --early b"),
+            Ok(Command::Judge(files(&["a", "b"]), Relation::Early, default))
         );
         let merged =
             [("a", "b"), ("c", "d"), ("d", "e")].map(|(a, b)| (a.into(), b.into())).to_vec();
@@ -282,7 +325,9 @@ mod tests {
             "jugde a",
             "judge",
             "explain a b",
-            "judge --late a",
+            "judge --late --early a",
+            "judge --late=1 a",
+            "explain --late a",
             "judge --capacity 0 a",
             "judge --capacity 4097 a",
             "judge --capacity",

@@ -60,6 +60,28 @@ fn complained(output: &Output) -> String {
     String::from_utf8(output.stderr.clone()).expect("text")
 }
 
+/// The newcomers' pair parts ways only where two names coincide, and late and early judging keep
+/// them different; the other pair is told apart by late judging alone.
+#[test]
+fn late_and_early() {
+    let folder = Folder::new("relations");
+    let newcomer = folder.file("newcomer.exchange", NEWCOMER);
+    let answers = "old = a(x).tau.0 + a(x).0\n\
+                   new = a(x).tau.0 + a(x).0 + a(x).[x=b]tau.0\n";
+    let answers = folder.file("answers.exchange", answers);
+    let verdict = |options: &[&str], file: &str| {
+        let judged = desk(&[&["judge"], options, &[file]].concat());
+        let line = printed(&judged);
+        (line.split_whitespace().take(2).collect::<Vec<_>>().join(" "), status(&judged))
+    };
+    assert_eq!(verdict(&[], &newcomer), ("different 4".to_string(), 1));
+    assert_eq!(verdict(&["--late"], &newcomer), ("same 4".to_string(), 0));
+    assert_eq!(verdict(&["--early"], &newcomer), ("same 4".to_string(), 0));
+    assert_eq!(verdict(&["--late"], &answers), ("different 11".to_string(), 1));
+    assert_eq!(verdict(&["--early"], &answers), ("same 11".to_string(), 0));
+    assert_eq!(verdict(&["--early", "--capacity", "10"], &answers).1, 2);
+}
+
 #[test]
 fn a_folder_worst_first() {
     let folder = Folder::new("folder");

@@ -1,4 +1,4 @@
-//! The C boundary: the eight functions of `libexchange.a`, each over Rust slices. All unsafe code
+//! The C boundary: the ten functions of `libexchange.a`, each over Rust slices. All unsafe code
 //! of the crate is here.
 //!
 //! The functions have no other duty for a caller than that each slice is what its pointer and
@@ -47,6 +47,20 @@ mod library {
             area_len: usize,
         ) -> u64;
         pub fn exchange_judge(
+            question: *const u8,
+            question_len: usize,
+            capacity: u64,
+            work: *mut u8,
+            work_len: usize,
+        ) -> u64;
+        pub fn exchange_late(
+            question: *const u8,
+            question_len: usize,
+            capacity: u64,
+            work: *mut u8,
+            work_len: usize,
+        ) -> u64;
+        pub fn exchange_early(
             question: *const u8,
             question_len: usize,
             capacity: u64,
@@ -113,6 +127,20 @@ pub fn judge(question: &[u8], capacity: u64, work: &mut [u8]) -> u64 {
     let (work, work_len) = (work.as_mut_ptr(), work.len());
     // SAFETY: as in `steps`.
     unsafe { library::exchange_judge(question, question_len, capacity, work, work_len) }
+}
+
+pub fn judge_late(question: &[u8], capacity: u64, work: &mut [u8]) -> u64 {
+    let (question, question_len) = (question.as_ptr(), question.len());
+    let (work, work_len) = (work.as_mut_ptr(), work.len());
+    // SAFETY: as in `steps`.
+    unsafe { library::exchange_late(question, question_len, capacity, work, work_len) }
+}
+
+pub fn judge_early(question: &[u8], capacity: u64, work: &mut [u8]) -> u64 {
+    let (question, question_len) = (question.as_ptr(), question.len());
+    let (work, work_len) = (work.as_mut_ptr(), work.len());
+    // SAFETY: as in `steps`.
+    unsafe { library::exchange_early(question, question_len, capacity, work, work_len) }
 }
 
 pub fn apart(

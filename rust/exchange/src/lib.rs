@@ -1,5 +1,5 @@
 //! The exchange judge: are two parts open bisimilar? The work is done by the proved library
-//! `libexchange.a`; this crate links it and gives its eight operations as safe functions over byte
+//! `libexchange.a`; this crate links it and gives its ten operations as safe functions over byte
 //! slices and numbers.
 //!
 //! - [`check`] says whether a question is accepted.
@@ -8,6 +8,7 @@
 //! - [`beside`] sets a third part beside both sides.
 //! - [`convert_down`] and [`convert_up`] write a question in the other edition.
 //! - [`judge`] says whether the two parts are the same.
+//! - [`judge_late`] and [`judge_early`] say so for names that stay different.
 //! - [`apart`] finds the fewest pairs of names that, held apart besides, make them the same.
 //!
 //! A question is of edition one, version byte 01, or of edition two, version byte 02, in which the
@@ -282,11 +283,64 @@ pub fn convert_up(question: &[u8], area: &mut [u8]) -> Result<usize, Refusal> {
 /// # Ok::<(), exchange::Refusal>(())
 /// ```
 pub fn judge(question: &[u8], capacity: u64, work: &mut [u8]) -> Result<Answer<Verdict>, Refusal> {
-    Coded::answered(boundary::judge(question, capacity, work), |coded| match coded {
+    Coded::answered(boundary::judge(question, capacity, work), judged)
+}
+
+fn judged(coded: Coded) -> Option<Answer<Verdict>> {
+    match coded {
         Coded::Verdict(verdict) => Some(Answer::Result(verdict)),
         Coded::Unsettled => Some(Answer::Unsettled),
         _ => None,
-    })
+    }
+}
+
+/// Judges whether the parts of a question are late bisimilar: names that differ stay different,
+/// but any name may be received, and one answer to an input must do for all of them. The apart
+/// list is checked and plays no other part. Otherwise as [`judge`].
+///
+/// Late and early judging look at the same situations: they have one number, and are unsettled
+/// together.
+///
+/// # Errors
+/// The first of the rules 1 to 12 that turns the arguments back.
+///
+/// ```
+/// use exchange::{Answer, Verdict, SITUATION_BYTES};
+///
+/// // a(x).τ.0 + a(x).0, and that + a(x).[x=b]τ.0
+/// let question = [
+///     0x01, 0x00, // version, no definitions
+///     0x00, 0x08, 0x06, 0x02, 0x00, 0x01, 0x00, 0x02, 0x00, 0x00, // the first part
+///     0x00, 0x10, 0x06, 0x06, 0x02, 0x00, 0x01, 0x00, 0x02, 0x00, 0x00, // the second part
+///     0x02, 0x00, 0x05, 0x80, 0x01, 0x01, 0x00, // its last branch
+///     0x00, 0x00, // the apart list
+/// ];
+/// let mut work = [0; 11 * SITUATION_BYTES];
+/// let late = exchange::judge_late(&question, 11, &mut work)?;
+/// assert_eq!(late, Answer::Result(Verdict::Different(11)));
+/// let early = exchange::judge_early(&question, 11, &mut work)?;
+/// assert_eq!(early, Answer::Result(Verdict::Same(11)));
+/// # Ok::<(), exchange::Refusal>(())
+/// ```
+pub fn judge_late(
+    question: &[u8],
+    capacity: u64,
+    work: &mut [u8],
+) -> Result<Answer<Verdict>, Refusal> {
+    Coded::answered(boundary::judge_late(question, capacity, work), judged)
+}
+
+/// Judges whether the parts of a question are early bisimilar: as [`judge_late`], but each name
+/// that is received may have an answer of its own.
+///
+/// # Errors
+/// The first of the rules 1 to 12 that turns the arguments back.
+pub fn judge_early(
+    question: &[u8],
+    capacity: u64,
+    work: &mut [u8],
+) -> Result<Answer<Verdict>, Refusal> {
+    Coded::answered(boundary::judge_early(question, capacity, work), judged)
 }
 
 /// Finds the fewest pairs of the given names, at most four, that make the parts the same when they

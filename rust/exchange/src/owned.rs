@@ -1,8 +1,11 @@
 //! A judge with a work area of its own.
 
-use crate::{Answer, Capacity, Question, Verdict};
+use crate::{Answer, Capacity, Question, Refusal, Verdict};
 use alloc::vec;
 use alloc::vec::Vec;
+
+/// One of the operations that judge.
+type Judging = fn(&[u8], u64, &mut [u8]) -> Result<Answer<Verdict>, Refusal>;
 
 /// A capacity and the work area that it needs, for one judging after another.
 ///
@@ -36,7 +39,22 @@ impl Judge {
 
     /// Judges the question, as [`judge`](crate::judge) does.
     pub fn judge(&mut self, question: Question<'_>) -> Answer<Verdict> {
-        crate::judge(question.bytes(), self.capacity.situations(), &mut self.work)
+        self.by(crate::judge, question)
+    }
+
+    /// Judges the question with names that stay different, as [`judge_late`](crate::judge_late)
+    /// does.
+    pub fn judge_late(&mut self, question: Question<'_>) -> Answer<Verdict> {
+        self.by(crate::judge_late, question)
+    }
+
+    /// The same as [`judge_early`](crate::judge_early) does.
+    pub fn judge_early(&mut self, question: Question<'_>) -> Answer<Verdict> {
+        self.by(crate::judge_early, question)
+    }
+
+    fn by(&mut self, operation: Judging, question: Question<'_>) -> Answer<Verdict> {
+        operation(question.bytes(), self.capacity.situations(), &mut self.work)
             .expect("capacity, work area and question pass the rules 1 to 12")
     }
 }

@@ -18,8 +18,10 @@ fn every_operation(question: &[u8]) {
     let mut work = vec![0; CAPACITY * SITUATION_BYTES];
     exchange::check(question).expect("the question is accepted");
     let _ = exchange::steps(question, 1, 15, &mut area).expect("the steps are listed");
-    let judged = exchange::judge(question, CAPACITY as u64, &mut work);
-    assert!(!matches!(judged, Ok(Answer::Result(exchange::Verdict::Different(_)))));
+    for judging in [exchange::judge, exchange::judge_late, exchange::judge_early] {
+        let judged = judging(question, CAPACITY as u64, &mut work);
+        assert!(!matches!(judged, Ok(Answer::Result(exchange::Verdict::Different(_)))));
+    }
     let mut list = [0; APART_BYTES];
     let found = exchange::apart(question, CAPACITY as u64, &[0, 15], &mut work, &mut list);
     assert!(matches!(found, Ok(Answer::Unsettled | Answer::Result(Some(0)))));

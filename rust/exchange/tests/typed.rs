@@ -1,4 +1,4 @@
-//! The types give what the five functions give.
+//! The types give what the functions give.
 
 use exchange::{
     Answer, Capacity, Judge, Name, Question, Refusal, Side, Step, QUESTION_BYTES, STEPS, STEP_BYTES,
@@ -61,8 +61,16 @@ fn random_questions() {
         assert_steps(question, name());
         assert_merged(question, name(), name());
         let mut work = vec![0; judge.capacity().work_bytes()];
-        let judged = exchange::judge(&bytes, judge.capacity().situations(), &mut work);
-        assert_eq!(Ok(judge.judge(question)), judged);
+        let capacity = judge.capacity().situations();
+        assert_eq!(Ok(judge.judge(question)), exchange::judge(&bytes, capacity, &mut work));
+        assert_eq!(
+            Ok(judge.judge_late(question)),
+            exchange::judge_late(&bytes, capacity, &mut work)
+        );
+        assert_eq!(
+            Ok(judge.judge_early(question)),
+            exchange::judge_early(&bytes, capacity, &mut work)
+        );
     });
 }
 
