@@ -180,10 +180,10 @@ module _ (manner : Manner) (question : List ℕ) (q : Question) (accepted : chec
           let (w, m, a) = first i o h .why z in
           let (y, n, v) = move-demanded question q accepted manner here (those .proper here there) (r .wants) t w m in
           let (l, f, p) = x .some y (subst (λ ms. y ∈ demandsAt manner q here ms) same n) in
-          let (u, h, k) = v l f in
+          let (u, g, k) = v l f in
           let (j, b, is, gone) = all-∈ _ w a u k in
           let those : getD (selves rs) j d ≡ u = List·getD-map (λ (r : Row). r .self) rs j o ∙ is o in
-          absurd (gone (ih j b d (omega arith) (subst EqualParts (sym those) (p u h))))
+          absurd (gone (ih j b d (omega arith) (subst EqualParts (sym those) (p u g))))
 
   left-equal : (i : ℕ) (d : Situation) → i < length rs → EqualParts (getD (selves rs) i d) → getD work (struckAt i) 0 ≡ 0
   left-equal i d h e = left-below (length rs) i h d h e
@@ -307,7 +307,7 @@ module _ (question : List ℕ) (capacity : ℕ) (work w : List ℕ) (x : Explore
 
   -- what is noted when strike-out begins
   pub sole-all : (n : ℕ) → x ≡ Field n → slotBytes * capacity ≤ length w → AllSole openly question capacity w n
-  unfolding AllSole Explores
+  unfolding AllSole Explores differs
   sole-all n h room i k l g f =
       go (f .read) (f .accepted) (fieldOf (settingOf false (f .read .bodies)) capacity (startOf false (f .read))) refl (e .is (f .read) (f .accepted)) i k l g f
     where
@@ -321,7 +321,7 @@ module _ (question : List ℕ) (capacity : ℕ) (work w : List ℕ) (x : Explore
 
   module _ (n : ℕ) (h : x ≡ Field n) (room : slotBytes * capacity ≤ length w) (r : Bool) (u : List ℕ) (s : StartSurvivesIs openly question capacity w n r u) where
     settled : (o : Judged) → judgedAnswer o ≡ result (cond r (same n) (different n)) → DecidesIs openly question capacity work o u
-    unfolding Explores
+    unfolding Explores differs
     settled o j = record {
       rest = strikes-rest openly question capacity n capacity (e .within n h .1) (s .strikes) ∙ e .rest;
       is = λ q a. go q a (fieldOf (settingOf false (q .bodies)) capacity (startOf false q)) refl (e .is q a);

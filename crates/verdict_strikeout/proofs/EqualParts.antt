@@ -153,10 +153,13 @@ module _ (manner : Manner) (question : List ℕ) (capacity count : ℕ) (work : 
       each m k =
           let q = f .field .equal here there e in
           let same : ms ≡ q .wants = cc (q .leading) in
-          let (o, j, p) = q .some m (subst (λ ms. m ∈ demandsAt manner (f .field .read) here ms) same k) in
-          (o, j, λ t h.
-          let (w, a, b) = demand-followed question (f .field .read) (f .field .accepted) manner here (f .field .proper here there) ms l m k o j t h in
-          held t (p t h) (∈-number t known (f .field .closed here there ms l w a t b)))
+          let (o, j, p) = q .some m (subst (λ ms. m ∈ demandsAt manner (f .field .read) here ms) same k) in (
+            o,
+            j,
+            λ t h.
+                let (w, a, b) = demand-followed question (f .field .read) (f .field .accepted) manner here (f .field .proper here there) ms l m k o j t h in
+                held t (p t h) (∈-number t known (f .field .closed here there ms l w a t b)),
+          )
 
   -- the same bytes are the same term
   pub equal-bytes : {r : Bool} → EqualPartsIs work i r → r ≡ true → EqualParts here

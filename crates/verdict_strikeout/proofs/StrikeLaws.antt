@@ -392,10 +392,13 @@ module _ (manner : Manner) (question : List ℕ) (capacity count : ℕ) where
               let here : Situation = getD (g .known) i d in
               let there : here ∈ g .known = getD-∈ (g .known) i d (omega (arith, g .number)) in
               all-meet (g .known) (demandsAt manner (g .read) here ms) (λ m a.
-              let (o, b) = demand-answered question (g .read) (g .accepted) manner here (g .proper here there) ms l u m a in
-              (o, b, λ t c.
-              let (w, j, k) = demand-followed question (g .read) (g .accepted) manner here (g .proper here there) ms l m a o b t c in
-              ∈-found (g .known) t (g .closed here there ms l w j t k)))
+              let (o, b) = demand-answered question (g .read) (g .accepted) manner here (g .proper here there) ms l u m a in (
+                o,
+                b,
+                λ t c.
+                    let (w, j, k) = demand-followed question (g .read) (g .accepted) manner here (g .proper here there) ms l m a o b t c in
+                    ∈-found (g .known) t (g .closed here there ms l w j t k),
+              ))
 
 -- Over the rows of the field, from a work area in which those are struck out that exploration strikes out.
 module _ (manner : Manner) (question : List ℕ) (capacity : ℕ) (work : List ℕ) (rs : List Row) (f : Searching manner question capacity work (length rs)) (those : f .field .known ≡ selves rs)
