@@ -40,11 +40,8 @@ after-field-requires-2 c κs = search needs
 field-at-requires-3 : tie.Need-field-at-requires-3
 field-at-requires-3 c κs = search needs
 
-slice-aggregate-mark-list : tie.Need-slice-aggregate-mark-list
-slice-aggregate-mark-list c = search needs
-
-mark-list-requires : tie.Need-mark-list-requires
-mark-list-requires c κs = search needs
+start-pairs-requires : tie.Need-start-pairs-requires
+start-pairs-requires c κs = search needs
 
 slice-aggregate-complete : tie.Need-slice-aggregate-complete
 slice-aggregate-complete c = search needs
@@ -90,8 +87,7 @@ start-key-spec =
     put-part-requires-2
     after-field-requires-2
     field-at-requires-3
-    slice-aggregate-mark-list
-    mark-list-requires
+    start-pairs-requires
     slice-aggregate-complete
     arities-requires
     complete-requires
