@@ -128,7 +128,7 @@ cleared-again capacity work =
 
 -- judge_list
 pub list-judged : (question flags asked asked′ : List ℕ) (end capacity : ℕ) (work : List ℕ) (r : Judged) (work′ : List ℕ) → Allowed capacity (length work)
-    → QuestionWritten question flags asked end asked′ → JudgedIs (take end asked′) capacity work r work′ → ListJudged question flags capacity work r work′
+    → QuestionWritten question flags asked end asked′ → JudgedIs openly (take end asked′) capacity work r work′ → ListJudged question flags capacity work r work′
 unfolding ListJudged verdictOn clearedBy workAfter
 list-judged question flags asked asked′ end capacity work r work′ a w j q D e f =
     let u = underList q (inOrder nameCount D) in

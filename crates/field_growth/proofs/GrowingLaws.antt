@@ -11,22 +11,20 @@ use lib.ListN.{length, getD, set, take, drop, length-append, take-append-drop}
 use lib.Seq.{take-suc, take-all, split-at, getD-at, getD-set-same, getD-set-other, drop-set-lt}
 use borrow.Author.Tests.{eqb-true, eqb-false, eq-eqb, ne-eqb}
 use Rattle.calculus.specs.Cond.{Pairs}
-use Rattle.calculus.specs.Term.{ren}
 use Rattle.calculus.proofs.Renaming.{map-++}
-use Rattle.terms.specs.Encoding.{encode, InScope}
-use Rattle.terms.specs.Limits.{nameCount, longestTerm}
-use Rattle.terms.proofs.RenamingKeeps.{length-ren}
+use Rattle.terms.specs.Encoding.{InScope}
+use Rattle.terms.specs.Limits.{nameCount}
 use Rattle.steps.specs.Lists.{_∈_, All}
 use Rattle.steps.proofs.Membership.{∈-left, ∈-right, all-imp, all-++, all-∈, ∈-all}
 use Rattle.steps.specs.Limits.{stepBytes}
-use Rattle.steps.specs.Listed.{ListedStep, classIn, resultBytes}
+use Rattle.steps.specs.Listed.{ListedStep}
 use Rattle.field_slots.specs.Chains.{LinkIs, FindsIn}
 use Rattle.field_pairs.specs.Entry.{EntryAt, TrivialIs, SameHeaderIs, AnswersIs}
 use Rattle.field.specs.Exploration.{found, together}
 use Rattle.field_growth.specs.Holding.{unanswered}
 use Rattle.field_successors.specs.Fits.{Fits}
 use Rattle.field_growth.specs.Growing.{Fitting, grownBy, grown, Knows, GrowsTo, AllFound, Puts, Grows, slotWith, KeepsStruck, several, LedTo}
-use Rattle.field_growth.specs.Growing.{joined, LeadsWhere, AddIs, Gone, AddedIs, Flagged, answered, Mirrored, GrowsAnswer, AnswerIs}
+use Rattle.field_growth.specs.Growing.{joined, LeadsWhere, AddIs, Gone, AddedIs, Flagged, answered, MirroredBy, Mirrored, GrowsAnswer, AnswerIs}
 use Rattle.field_growth.specs.Growing.{GrowsAnswers, AnswersAre, FirstAnswerIs, moved, Strikes, LeadsAfter, GrowsStep, GrowsSide, GrowsSides}
 use Rattle.field.specs.Situation.{Proper}
 use Rattle.field_successors.specs.Leading.{placed, leading, SuccessorIs}
@@ -35,12 +33,14 @@ use Rattle.field_pairs.specs.PairFlags.{PermittedIs}
 use Rattle.field.specs.Situation.{Situation, freeFrom, situation}
 use Rattle.field_pairs.specs.Slot.{keyOf, keyBytes, slotBytes, struckAt, LeftAtIs}
 use Rattle.field.specs.Successors.{select, permitted, answers, joinAll, moves}
+use Rattle.field.specs.Successors as field
 use Rattle.field_renewal.specs.ListedEntries.{ListAt, EntriesAt}
 use Rattle.field_growth.specs.declared.growth.Added.{Added}
 use Rattle.field_growth.specs.declared.growth.Growth.{Growth}
 use Rattle.field_growth.specs.declared.growth.Growth.the-variants.{Full, Known}
 use Rattle.field_slots.specs.declared.find.Found.the-variants.{At, Nothing}
 use Rattle.field_pairs.proofs.EntryLaws.{trivial-header}
+use Rattle.field_successors.proofs.LeadingLaws.{leading-fits}
 use Rattle.field_growth.proofs.GrownSituations.{grown-front, grown-longer, all-kept, all-grown, grown-found}
 use Rattle.field_growth.proofs.KeysDiffer.{length-key, slot-holds, found-slot, found-no-slot}
 use Rattle.field_growth.proofs.Loops.{select-++, grown-++, together-++, led, answersTo, moves-are}
@@ -472,21 +472,29 @@ module _ (S : Situation → Type 0) where
       all-left (f (t ∷ [])) (f (drop (suc j) xs)) (all-right (f (take j xs)) (f (t ∷ []) ++ f (drop (suc j) xs)) (subst (All S) e a))
 
 -- The answers to one step.
-module _ (second : Bool) (G : List ℕ) (D : Pairs) where
-  answered-++ : (s : ListedStep) (xs ys : List ListedStep) → answered second G D s (xs ++ ys) ≡ answered second G D s xs ++ answered second G D s ys
+module _ (second : Bool) (G : List ℕ) (D : Pairs) (name : ℕ) where
+  answered-++ : (s : ListedStep) (xs ys : List ListedStep) → answered second G D name s (xs ++ ys) ≡ answered second G D name s xs ++ answered second G D name s ys
   unfolding answered
   answered-++ s xs ys =
-      let g : ListedStep → Situation = leading second (freeFrom G 0 nameCount) D s in
+      let g : ListedStep → Situation = λ t. leading second (freeFrom G 0 nameCount) D s t name in
       ap (map g) (select-++ (answers nameCount s) xs ys) ∙ map-++ g (select (answers nameCount s) xs) (select (answers nameCount s) ys)
 
-  answered-one : (s t : ListedStep) → answers nameCount s t ≡ true → answered second G D s (t ∷ []) ≡ leading second (freeFrom G 0 nameCount) D s t ∷ []
+  answered-one : (s t : ListedStep) → answers nameCount s t ≡ true → answered second G D name s (t ∷ []) ≡ leading second (freeFrom G 0 nameCount) D s t name ∷ []
   unfolding answered select
   answered-one s t e = rw e
 
-  answered-none : (s t : ListedStep) → answers nameCount s t ≡ false → answered second G D s (t ∷ []) ≡ []
+  answered-none : (s t : ListedStep) → answers nameCount s t ≡ false → answered second G D name s (t ∷ []) ≡ []
   unfolding answered select
   answered-none s t e = rw e
 
+  answered-some : (s : ListedStep) (ts : List ListedStep) (j : ℕ) (d : ListedStep) → j < length ts → answers nameCount s (getD ts j d) ≡ true
+      → unanswered (answered second G D name s ts ∷ []) ≡ false
+  answered-some s ts j d h e =
+      let t : ListedStep = getD ts j d in
+      rw (split-at ts j d h, answered-++ s (take j ts) (t ∷ drop (suc j) ts), answered-++ s (t ∷ []) (drop (suc j) ts), answered-one s t e)
+      (unanswered-some (answered second G D name s (take j ts)) (leading second (freeFrom G 0 nameCount) D s t name) (answered second G D name s (drop (suc j) ts)))
+
+module _ (second : Bool) (G : List ℕ) (D : Pairs) where
   moved-++ : (ts xs ys : List ListedStep) → moved second G D (xs ++ ys) ts ≡ moved second G D xs ts ++ moved second G D ys ts
   unfolding moved
   moved-++ ts xs ys =
@@ -499,128 +507,110 @@ module _ (second : Bool) (G : List ℕ) (D : Pairs) where
       → together (moved second G D (xs ++ ys) ts) ≡ together (moved second G D xs ts) ++ together (moved second G D ys ts)
   together-moved ts xs ys = ap together (moved-++ ts xs ys) ∙ together-++ (moved second G D xs ts) (moved second G D ys ts)
 
-  moved-one : (s : ListedStep) (ts : List ListedStep) → permitted D s ≡ true → moved second G D (s ∷ []) ts ≡ answered second G D s ts ∷ []
-  unfolding moved select answered leading answersTo led
+  moved-one : (s : ListedStep) (ts : List ListedStep) → permitted D s ≡ true → moved second G D (s ∷ []) ts ≡ answered second G D nameCount s ts ∷ []
+  unfolding moved select answered leading answersTo led field.led placed
   moved-one s ts e = moves-are nameCount (placed second) (freeFrom G 0 nameCount) D (s ∷ []) ts ∙ rw e refl
 
   moved-none : (s : ListedStep) (ts : List ListedStep) → permitted D s ≡ false → moved second G D (s ∷ []) ts ≡ []
   unfolding moved select
   moved-none s ts e = moves-are nameCount (placed second) (freeFrom G 0 nameCount) D (s ∷ []) ts ∙ rw e refl
 
-  together-one : (xs : List Situation) → together (xs ∷ []) ≡ xs
-  unfolding together
-  together-one xs = append-nil xs
-
-  answered-some : (s : ListedStep) (ts : List ListedStep) (j : ℕ) (d : ListedStep) → j < length ts → answers nameCount s (getD ts j d) ≡ true
-      → unanswered (answered second G D s ts ∷ []) ≡ false
-  answered-some s ts j d h e =
-      let t : ListedStep = getD ts j d in
-      rw (split-at ts j d h, answered-++ s (take j ts) (t ∷ drop (suc j) ts), answered-++ s (t ∷ []) (drop (suc j) ts), answered-one s t e)
-      (unanswered-some (answered second G D s (take j ts)) (leading second (freeFrom G 0 nameCount) D s t) (answered second G D s (drop (suc j) ts)))
+together-one : (xs : List Situation) → together (xs ∷ []) ≡ xs
+unfolding together
+together-one xs = append-nil xs
 
 -- A step and its answer that fit lead to a situation that fits.
-fits-second : (s t : ListedStep) (area others : List ℕ) (at place : ℕ) → EntryAt area at s → EntryAt others place t
-    → length (encode 0 (ren (classIn (s .classes)) (t .result))) ≤ longestTerm
-unfolding resultBytes
-fits-second s t area others at place e f = omega (arith, length-ren 0 0 (classIn (s .classes)) (t .result), f .fits)
-
-fits-first : (s : ListedStep) (area : List ℕ) (at : ℕ) → EntryAt area at s → length (encode 0 (s .result)) ≤ longestTerm
-unfolding resultBytes
-fits-first s area at e = e .fits
-
-leading-fits : (arities : List ℕ) (second : Bool) (F : List ℕ) (D : Pairs) (s t : ListedStep) → length (encode 0 (s .result)) ≤ longestTerm
-    → length (encode 0 (ren (classIn (s .classes)) (t .result))) ≤ longestTerm
-    → Proper nameCount arities (leading second F D s t) → Fitting arities (leading second F D s t)
-unfolding leading placed situation
-leading-fits arities false F D s t f g p = record { proper = p; fits = record { first = f; second = g } }
-leading-fits arities true F D s t f g p = record { proper = p; fits = record { first = g; second = f } }
+fitting-led : (arities : List ℕ) (second : Bool) (area : List ℕ) (at : ℕ) (others : List ℕ) (place : ℕ) (F : List ℕ) (D : Pairs) (s t : ListedStep) (name : ℕ)
+    → EntryAt area at s → EntryAt others place t → Proper nameCount arities (leading second F D s t name) → Fitting arities (leading second F D s t name)
+fitting-led arities second area at others place F D s t name e f p =
+    record { proper = p; fits = leading-fits arities second area at others place F D s t name e f }
 
 module _ (arities free apart : List ℕ) (second : Bool) (area : List ℕ) (at : ℕ) (others : List ℕ) where
-  module _ (place capacity : ℕ) (work : List ℕ) (known : ℕ) where
+  module _ (place name capacity : ℕ) (work : List ℕ) (known : ℕ) where
     pub answer-none : known ≤ capacity → AnswersIs area at others place false
-        → GrowsAnswer arities free apart second area at others place capacity work known (Known known) work
+        → GrowsAnswer arities free apart second area at others place name capacity work known (Known known) work
     unfolding AnswersIs
     answer-none few A = record {
       grows = grows-none capacity work known few;
       keeps = keeps-none work known;
-      is = λ G D s t before flags e i f j own may m p.
-          rw (answered-none second G D s t (sym (A s t e f))) (puts-none arities capacity work known before);
+      is = λ G D s t before flags e i f j own m p.
+          rw (answered-none second G D name s t (sym (A s t e f))) (puts-none arities capacity work known before);
     }
 
     -- the first side's step led there
     pub answer-mirrored : known ≤ capacity → AnswersIs area at others place true → second ≡ true → (b : Bool) → SameHeaderIs area at others place b → b ≡ true
-        → GrowsAnswer arities free apart second area at others place capacity work known (Known known) work
+        → GrowsAnswer arities free apart second area at others place name capacity work known (Known known) work
     unfolding AnswersIs SameHeaderIs
     answer-mirrored few A z b H q = record {
       grows = grows-none capacity work known few;
       keeps = keeps-none work known;
-      is = λ G D s t before flags e i f j own may m p.
+      is = λ G D s t before flags e i f j own m p.
           let a = sym (A s t e f) in
-          rw (answered-one second G D s t a)
-          (puts-known arities capacity work known before (leading second (freeFrom G 0 nameCount) D s t ∷ [])
-          (one-of before (leading second (freeFrom G 0 nameCount) D s t) (m z s t (inl refl) (inl refl) may a (H q s t e f))));
+          rw (answered-one second G D name s t a)
+          (puts-known arities capacity work known before (leading second (freeFrom G 0 nameCount) D s t name ∷ [])
+          (one-of before (leading second (freeFrom G 0 nameCount) D s t name) (m z t (inl refl) a (H q s t e f))));
     }
 
-    pub answer-added : AnswersIs area at others place true → (key : List ℕ) → SuccessorIs arities free apart second area at others place key
+    pub answer-added : AnswersIs area at others place true → (key : List ℕ) → SuccessorIs arities free apart second area at others place name key
         → (r : Growth) (work′ : List ℕ) → AddIs capacity work known key r work′
-        → GrowsAnswer arities free apart second area at others place capacity work known r work′
+        → GrowsAnswer arities free apart second area at others place name capacity work known r work′
     unfolding AnswersIs SuccessorIs Puts
     answer-added A key K r work′ a = record {
       grows = a .grows;
       keeps = a .keeps;
-      is = λ G D s t before flags e i f j own may m p.
+      is = λ G D s t before flags e i f j own m p.
           let F : List ℕ = freeFrom G 0 nameCount in
-          let o = answered-one second G D s t (sym (A s t e f)) in
-          let q : All (Proper nameCount arities) (leading second F D s t ∷ []) = subst (All (Proper nameCount arities)) o p in
-          let fit = leading-fits arities second F D s t (fits-first s area at e) (fits-second s t area others at place e f) (q .0) in
-          rw o (λ ks L b. a .is arities (leading second F D s t) fit (K G D s t (flags .names) (flags .pairs) e f i j own) ks L tt);
+          let o = answered-one second G D name s t (sym (A s t e f)) in
+          let q : All (Proper nameCount arities) (leading second F D s t name ∷ []) = subst (All (Proper nameCount arities)) o p in
+          let fit = fitting-led arities second area at others place F D s t name e f (q .0) in
+          rw o (λ ks L b. a .is arities (leading second F D s t name) fit (K G D s t (flags .names) (flags .pairs) e f i j own) ks L tt);
     }
 
     -- and whether it is left, and its slot, where that was looked for
-    pub answer-left : (r : Growth) (work′ : List ℕ) → GrowsAnswer arities free apart second area at others place capacity work known r work′
-        → AnswerIs arities free apart second area at others place capacity work known (record { growth = r; left = true; led = several }) work′
+    pub answer-left : (r : Growth) (work′ : List ℕ) → GrowsAnswer arities free apart second area at others place name capacity work known r work′
+        → AnswerIs arities free apart second area at others place name capacity work known (record { growth = r; left = true; led = several }) work′
     unfolding LeadsWhere
     answer-left r work′ g = record {
       grown = g;
       same = record { growth = λ z. never (sym z); area = λ z. never (sym z) };
       gone = λ z. never (sym z);
-      where-to = λ G D s t before flags e i f j own may m p n z ks K b. record { none = λ q. absurd (omega arith); one = λ k q l. absurd (omega arith) };
+      where-to = λ G D s t before flags e i f j own m p n z ks K b. record { none = λ q. absurd (omega arith); one = λ k q l. absurd (omega arith) };
     }
 
     pub no-answer-left : known ≤ capacity → AnswersIs area at others place false
-        → AnswerIs arities free apart second area at others place capacity work known (record { growth = Known known; left = false; led = 0 }) work
+        → AnswerIs arities free apart second area at others place name capacity work known (record { growth = Known known; left = false; led = 0 }) work
     unfolding AnswersIs LeadsWhere
     no-answer-left few A = record {
       grown = answer-none few A;
       same = record { growth = λ z. refl; area = λ z. refl };
-      gone = λ z G D s t flags e i f j own p ks K. rw (answered-none second G D s t (sym (A s t e f))) tt;
-      where-to = λ G D s t before flags e i f j own may m p n z ks K b.
-          rw (answered-none second G D s t (sym (A s t e f))) (record { none = λ q. refl; one = λ k q l. tt });
+      gone = λ z G D s t flags e i f j own p ks K. rw (answered-none second G D name s t (sym (A s t e f))) tt;
+      where-to = λ G D s t before flags e i f j own m p n z ks K b.
+          rw (answered-none second G D name s t (sym (A s t e f))) (record { none = λ q. refl; one = λ k q l. tt });
     }
 
-    pub answer-looked : AnswersIs area at others place true → (key : List ℕ) → SuccessorIs arities free apart second area at others place key
+    pub answer-looked : AnswersIs area at others place true → (key : List ℕ) → SuccessorIs arities free apart second area at others place name key
         → (r : Added) (work′ : List ℕ) → AddedIs capacity work known key r work′
-        → AnswerIs arities free apart second area at others place capacity work known r work′
+        → AnswerIs arities free apart second area at others place name capacity work known r work′
     unfolding AnswersIs SuccessorIs LeadsWhere
     answer-looked A key K r work′ a = record {
       grown = answer-added A key K (r .growth) work′ (a .added);
       same = a .same;
       gone = λ z G D s t flags e i f j own p ks L.
           let F : List ℕ = freeFrom G 0 nameCount in
-          let o = answered-one second G D s t (sym (A s t e f)) in
-          let q : All (Proper nameCount arities) (leading second F D s t ∷ []) = subst (All (Proper nameCount arities)) o p in
-          let fit = leading-fits arities second F D s t (fits-first s area at e) (fits-second s t area others at place e f) (q .0) in
-          rw o (a .gone z arities (leading second F D s t) fit (K G D s t (flags .names) (flags .pairs) e f i j own) ks L, tt);
-      where-to = λ G D s t before flags e i f j own may m p n z ks L b.
+          let o = answered-one second G D name s t (sym (A s t e f)) in
+          let q : All (Proper nameCount arities) (leading second F D s t name ∷ []) = subst (All (Proper nameCount arities)) o p in
+          let fit = fitting-led arities second area at others place F D s t name e f (q .0) in
+          rw o (a .gone z arities (leading second F D s t name) fit (K G D s t (flags .names) (flags .pairs) e f i j own) ks L, tt);
+      where-to = λ G D s t before flags e i f j own m p n z ks L b.
           let F : List ℕ = freeFrom G 0 nameCount in
-          let o = answered-one second G D s t (sym (A s t e f)) in
-          let q : All (Proper nameCount arities) (leading second F D s t ∷ []) = subst (All (Proper nameCount arities)) o p in
-          let fit = leading-fits arities second F D s t (fits-first s area at e) (fits-second s t area others at place e f) (q .0) in
-          rw o (a .where-to arities (leading second F D s t) fit (K G D s t (flags .names) (flags .pairs) e f i j own) n z ks L tt);
+          let o = answered-one second G D name s t (sym (A s t e f)) in
+          let q : All (Proper nameCount arities) (leading second F D s t name ∷ []) = subst (All (Proper nameCount arities)) o p in
+          let fit = fitting-led arities second area at others place F D s t name e f (q .0) in
+          rw o (a .where-to arities (leading second F D s t name) fit (K G D s t (flags .names) (flags .pairs) e f i j own) n z ks L tt);
     }
 
   -- The loop over the answers from number `first` on, once the first j are looked at.
-  module _ (first count capacity : ℕ) (work₀ : List ℕ) (known : ℕ) where
+  module _ (first count name capacity : ℕ) (work₀ : List ℕ) (known : ℕ) where
     pub record Answers (work : List ℕ) (now j : ℕ) : Type 0 where
       pub grows : Grows capacity work₀ known (Known now) work
       pub keeps : KeepsStruck work₀ known now work
@@ -628,42 +618,42 @@ module _ (arities free apart : List ℕ) (second : Bool) (area : List ℕ) (at :
           → EntryAt area at s → InScope nameCount arities 0 (s .result)
           → ListAt arities others count ts
           → select (answers nameCount s) (take first ts) ≡ []
-          → permitted D s ≡ true → Mirrored second G D (s ∷ []) ts before
-          → All (Proper nameCount arities) (answered second G D s ts)
-          → Puts arities capacity work₀ known before (answered second G D s (take j ts)) (Known now) work
+          → MirroredBy second G D name s ts before
+          → All (Proper nameCount arities) (answered second G D name s ts)
+          → Puts arities capacity work₀ known before (answered second G D name s (take j ts)) (Known now) work
 
     pub answers-start : known ≤ capacity → Answers work₀ known first
     unfolding answered
     answers-start few = record {
       grows = grows-none capacity work₀ known few;
       keeps = keeps-none work₀ known known refl;
-      is = λ G D s ts before flags e i l o may m p. rw o (puts-none arities capacity work₀ known before);
+      is = λ G D s ts before flags e i l o m p. rw o (puts-none arities capacity work₀ known before);
     }
 
     module _ (work : List ℕ) (now j : ℕ) (x : Answers work now j) (more : j < count) (r : Growth) (work′ : List ℕ)
-        (g : GrowsAnswer arities free apart second area at others (stepBytes * j) capacity work now r work′) where
+        (g : GrowsAnswer arities free apart second area at others (stepBytes * j) name capacity work now r work′) where
       next-answer : (G : List ℕ) (D : Pairs) (s : ListedStep) (ts : List ListedStep) (before : List Situation) → Flagged free apart G D
           → EntryAt area at s → InScope nameCount arities 0 (s .result)
           → ListAt arities others count ts
           → select (answers nameCount s) (take first ts) ≡ []
-          → permitted D s ≡ true → Mirrored second G D (s ∷ []) ts before
-          → All (Proper nameCount arities) (answered second G D s ts)
-          → Puts arities capacity work₀ known before (answered second G D s (take (j + 1) ts)) r work′
-      next-answer G D s ts before flags e i l o may m p =
-          let f : List ListedStep → List Situation = answered second G D s in
+          → MirroredBy second G D name s ts before
+          → All (Proper nameCount arities) (answered second G D name s ts)
+          → Puts arities capacity work₀ known before (answered second G D name s (take (j + 1) ts)) r work′
+      next-answer G D s ts before flags e i l o m p =
+          let f : List ListedStep → List Situation = answered second G D name s in
           let h : j < length ts = omega (arith, l .number) in
           let t : ListedStep = getD ts j s in
-          rw (part-next f (answered-++ second G D s) ts j s h)
+          rw (part-next f (answered-++ second G D name s) ts j s h)
           (puts-more arities capacity work₀ known before (f (take j ts)) (f (t ∷ [])) before (λ ks. all-kept ks (f (take j ts)) before) now work r work′
-          (x .is G D s ts before flags e i l o may m p)
-          (g .is G D s t before flags e i (l .entry j s more) (l .scope j s more) (l .rewritten j s more) may
-          (one-answer-mirrored second G D before (s ∷ []) ts t (getD-∈ ts j s h) m) (all-one (Proper nameCount arities) f (answered-++ second G D s) ts j s h p)))
+          (x .is G D s ts before flags e i l o m p)
+          (g .is G D s t before flags e i (l .entry j s more) (l .scope j s more) (l .rewritten j s more)
+          (one-answer-mirrored second G D name s before ts t (getD-∈ ts j s h) m) (all-one (Proper nameCount arities) f (answered-++ second G D name s) ts j s h p)))
 
       next-keeps : (n : ℕ) → r ≡ Known n → KeepsStruck work₀ known n work′
       next-keeps n e = keeps-more work₀ known now n work work′ (x .grows .within now refl .0) (x .keeps) (g .keeps n e)
 
     pub answers-next : (work : List ℕ) (now j : ℕ) (n : ℕ) (work′ : List ℕ) → Answers work now j → j < count
-        → GrowsAnswer arities free apart second area at others (stepBytes * j) capacity work now (Known n) work′ → Answers work′ n (j + 1)
+        → GrowsAnswer arities free apart second area at others (stepBytes * j) name capacity work now (Known n) work′ → Answers work′ n (j + 1)
     answers-next work now j n work′ x more g = record {
       grows = grows-more capacity work₀ known now work (Known n) work′ (x .grows) (g .grows);
       keeps = next-keeps work now j x more (Known n) work′ g n refl;
@@ -671,25 +661,25 @@ module _ (arities free apart : List ℕ) (second : Bool) (area : List ℕ) (at :
     }
 
     pub answers-full : (work : List ℕ) (now j : ℕ) (work′ : List ℕ) → Answers work now j → j < count
-        → GrowsAnswer arities free apart second area at others (stepBytes * j) capacity work now Full work′
-        → GrowsAnswers arities free apart second area at others first count capacity work₀ known Full work′
+        → GrowsAnswer arities free apart second area at others (stepBytes * j) name capacity work now Full work′
+        → GrowsAnswers arities free apart second area at others first count name capacity work₀ known Full work′
     answers-full work now j work′ x more g = record {
       grows = grows-more capacity work₀ known now work Full work′ (x .grows) (g .grows);
       keeps = next-keeps work now j x more Full work′ g;
-      is = λ G D s ts before flags e i l o may m p.
-          let f : List ListedStep → List Situation = answered second G D s in
-          rw (part-rest f (answered-++ second G D s) ts (j + 1))
+      is = λ G D s ts before flags e i l o m p.
+          let f : List ListedStep → List Situation = answered second G D name s in
+          rw (part-rest f (answered-++ second G D name s) ts (j + 1))
           (puts-full arities capacity work₀ known before (f (take (j + 1) ts)) (f (drop (j + 1) ts)) work′
-          (next-answer work now j x more Full work′ g G D s ts before flags e i l o may m p));
+          (next-answer work now j x more Full work′ g G D s ts before flags e i l o m p));
     }
 
     pub answers-end : (work : List ℕ) (now j : ℕ) → Answers work now j → count ≤ j
-        → GrowsAnswers arities free apart second area at others first count capacity work₀ known (Known now) work
+        → GrowsAnswers arities free apart second area at others first count name capacity work₀ known (Known now) work
     answers-end work now j x h = record {
       grows = x .grows;
       keeps = λ n e. let z : now ≡ n = cc in rw (← z) (x .keeps);
-      is = λ G D s ts before flags e i l o may m p.
-          rw (part-whole (answered second G D s) (answered-++ second G D s) ts j (omega (arith, l .number))) (x .is G D s ts before flags e i l o may m p);
+      is = λ G D s ts before flags e i l o m p.
+          rw (part-whole (answered second G D name s) (answered-++ second G D name s) ts j (omega (arith, l .number))) (x .is G D s ts before flags e i l o m p);
     }
 
     -- Whether one of them is left, and their slot.
@@ -700,16 +690,16 @@ module _ (arities free apart : List ℕ) (second : Bool) (area : List ℕ) (at :
           → EntryAt area at s → InScope nameCount arities 0 (s .result)
           → ListAt arities others count ts
           → select (answers nameCount s) (take first ts) ≡ []
-          → All (Proper nameCount arities) (answered second G D s ts)
-          → (ks : List Situation) → Knows arities capacity work₀ known ks → All (Gone work₀ ks) (answered second G D s (take j ts))
+          → All (Proper nameCount arities) (answered second G D name s ts)
+          → (ks : List Situation) → Knows arities capacity work₀ known ks → All (Gone work₀ ks) (answered second G D name s (take j ts))
       pub where-to : (G : List ℕ) (D : Pairs) (s : ListedStep) (ts : List ListedStep) (before : List Situation) → Flagged free apart G D
           → EntryAt area at s → InScope nameCount arities 0 (s .result)
           → ListAt arities others count ts
           → select (answers nameCount s) (take first ts) ≡ []
-          → permitted D s ≡ true → Mirrored second G D (s ∷ []) ts before
-          → All (Proper nameCount arities) (answered second G D s ts)
+          → MirroredBy second G D name s ts before
+          → All (Proper nameCount arities) (answered second G D name s ts)
           → (ks : List Situation) → Knows arities capacity work₀ known ks → AllFound ks before
-          → LedTo (grown ks (answered second G D s (take j ts))) led (answered second G D s (take j ts))
+          → LedTo (grown ks (answered second G D name s (take j ts))) led (answered second G D name s (take j ts))
 
     pub looked-start : Looked work₀ known first false 0
     unfolding answered
@@ -717,7 +707,7 @@ module _ (arities free apart : List ℕ) (second : Bool) (area : List ℕ) (at :
       number = λ z. refl;
       bytes = λ z. refl;
       gone = λ z G D s ts flags e i l o p ks K. rw o tt;
-      where-to = λ G D s ts before flags e i l o may m p ks K b. rw o (record { none = λ z. refl; one = λ k z q. tt });
+      where-to = λ G D s ts before flags e i l o m p ks K b. rw o (record { none = λ z. refl; one = λ k z q. tt });
     }
 
     either-left : (b c : Bool) → (b || c) ≡ false → (b ≡ false) × (c ≡ false)
@@ -726,7 +716,7 @@ module _ (arities free apart : List ℕ) (second : Bool) (area : List ℕ) (at :
 
     pub looked-next : (work : List ℕ) (now j : ℕ) (left : Bool) (led : ℕ) (a : Added) (n : ℕ) (work′ : List ℕ) (led′ : ℕ) → Answers work now j
         → Looked work now j left led → j < count → a .growth ≡ Known n → led′ ≡ joined led (a .led)
-        → AnswerIs arities free apart second area at others (stepBytes * j) capacity work now a work′ → Looked work′ n (j + 1) (left || a .left) led′
+        → AnswerIs arities free apart second area at others (stepBytes * j) name capacity work now a work′ → Looked work′ n (j + 1) (left || a .left) led′
     unfolding Puts GrowsTo LeadsWhere
     looked-next work now j left led a n work′ led′ so x more q both g = record {
       number = λ z.
@@ -737,47 +727,47 @@ module _ (arities free apart : List ℕ) (second : Bool) (area : List ℕ) (at :
       bytes = λ z. let (u, v) = either-left left (a .left) z in g .same .area v ∙ x .bytes u;
       gone = λ z G D s ts flags e i l o p ks K.
           let (u, v) = either-left left (a .left) z in
-          let f : List ListedStep → List Situation = answered second G D s in
+          let f : List ListedStep → List Situation = answered second G D name s in
           let h : j < length ts = omega (arith, l .number) in
           let t : ListedStep = getD ts j s in
           let now-known : Knows arities capacity work now ks = rw (x .number u, x .bytes u) K in
-          rw (part-next f (answered-++ second G D s) ts j s h)
+          rw (part-next f (answered-++ second G D name s) ts j s h)
           (all-++ (Gone work₀ ks) (f (take j ts)) (f (t ∷ [])) (x .gone u G D s ts flags e i l o p ks K)
           (subst (λ w. All (Gone w ks) (f (t ∷ []))) (x .bytes u)
           (g .gone v G D s t flags e i (l .entry j s more) (l .scope j s more) (l .rewritten j s more)
-          (all-one (Proper nameCount arities) f (answered-++ second G D s) ts j s h p) ks now-known)));
-      where-to = λ G D s ts before flags e i l o may m p ks K b.
-          let f : List ListedStep → List Situation = answered second G D s in
+          (all-one (Proper nameCount arities) f (answered-++ second G D name s) ts j s h p) ks now-known)));
+      where-to = λ G D s ts before flags e i l o m p ks K b.
+          let f : List ListedStep → List Situation = answered second G D name s in
           let h : j < length ts = omega (arith, l .number) in
           let t : ListedStep = getD ts j s in
           let us : List Situation = f (take j ts) in
-          rw (both, part-next f (answered-++ second G D s) ts j s h)
-          (led-both ks us (f (t ∷ [])) led (a .led) (x .where-to G D s ts before flags e i l o may m p ks K b)
-          (g .where-to G D s t before flags e i (l .entry j s more) (l .scope j s more) (l .rewritten j s more) may
-          (one-answer-mirrored second G D before (s ∷ []) ts t (getD-∈ ts j s h) m) (all-one (Proper nameCount arities) f (answered-++ second G D s) ts j s h p)
-          n q (grown ks us) (so .is G D s ts before flags e i l o may m p ks K b) (all-kept ks us before b)));
+          rw (both, part-next f (answered-++ second G D name s) ts j s h)
+          (led-both ks us (f (t ∷ [])) led (a .led) (x .where-to G D s ts before flags e i l o m p ks K b)
+          (g .where-to G D s t before flags e i (l .entry j s more) (l .scope j s more) (l .rewritten j s more)
+          (one-answer-mirrored second G D name s before ts t (getD-∈ ts j s h) m) (all-one (Proper nameCount arities) f (answered-++ second G D name s) ts j s h p)
+          n q (grown ks us) (so .is G D s ts before flags e i l o m p ks K b) (all-kept ks us before b)));
     }
 
-    pub looked-full : (work′ : List ℕ) → GrowsAnswers arities free apart second area at others first count capacity work₀ known Full work′
-        → AnswersAre arities free apart second area at others first count capacity work₀ known (record { growth = Full; left = true; led = several }) work′
+    pub looked-full : (work′ : List ℕ) → GrowsAnswers arities free apart second area at others first count name capacity work₀ known Full work′
+        → AnswersAre arities free apart second area at others first count name capacity work₀ known (record { growth = Full; left = true; led = several }) work′
     unfolding LeadsWhere
     looked-full work′ g = record {
       grown = g;
       same = record { growth = λ z. never (sym z); area = λ z. never (sym z) };
       gone = λ z. never (sym z);
-      where-to = λ G D s ts before flags e i l o may m p n z. let q : _≡_ {A = ℕ} 0 1 = cc in absurd (omega arith);
+      where-to = λ G D s ts before flags e i l o m p n z. let q : _≡_ {A = ℕ} 0 1 = cc in absurd (omega arith);
     }
 
     pub looked-end : (work : List ℕ) (now j : ℕ) (left : Bool) (led : ℕ) → Answers work now j → Looked work now j left led → count ≤ j
-        → AnswersAre arities free apart second area at others first count capacity work₀ known (record { growth = Known now; left = left; led = led }) work
+        → AnswersAre arities free apart second area at others first count name capacity work₀ known (record { growth = Known now; left = left; led = led }) work
     unfolding LeadsWhere
     looked-end work now j left led x y h = record {
       grown = answers-end work now j x h;
       same = record { growth = λ z. ap Known (y .number z); area = y .bytes };
       gone = λ z G D s ts flags e i l o p ks K.
-          rw (part-whole (answered second G D s) (answered-++ second G D s) ts j (omega (arith, l .number))) (y .gone z G D s ts flags e i l o p ks K);
-      where-to = λ G D s ts before flags e i l o may m p n z ks K b.
-          rw (part-whole (answered second G D s) (answered-++ second G D s) ts j (omega (arith, l .number))) (y .where-to G D s ts before flags e i l o may m p ks K b);
+          rw (part-whole (answered second G D name s) (answered-++ second G D name s) ts j (omega (arith, l .number))) (y .gone z G D s ts flags e i l o p ks K);
+      where-to = λ G D s ts before flags e i l o m p n z ks K b.
+          rw (part-whole (answered second G D name s) (answered-++ second G D name s) ts j (omega (arith, l .number))) (y .where-to G D s ts before flags e i l o m p ks K b);
     }
 
 -- The first answer.
@@ -851,32 +841,32 @@ module _ (arities free apart : List ℕ) (second : Bool) (taken : ℕ) (area : L
       -- a permitted step that has an answer
       answered-step : (G : List ℕ) (D : Pairs) (s : ListedStep) (ts : List ListedStep) (before : List Situation) → permitted D s ≡ true
           → EntryAt area at s → ListAt arities others count ts → (r : Growth) (work′ : List ℕ) → ((n : ℕ) → r ≡ Known n → KeepsStruck work known n work′)
-          → Puts arities capacity work known before (answered second G D s ts) r work′
+          → Puts arities capacity work known before (answered second G D nameCount s ts) r work′
           → LeadsAfter arities capacity taken before (moved second G D (s ∷ []) ts) work known r work′
       answered-step G D s ts before may e l r work′ keeps puts =
           let o = moved-one second G D s ts may in
           let h : first < count = omega (arith, F .within) in
           record {
-            puts = rw (ap together o ∙ together-one second G D (answered second G D s ts)) puts;
+            puts = rw (ap together o ∙ together-one (answered second G D nameCount s ts)) puts;
             strikes = λ n z. strikes-kept arities capacity taken before work known waits (moved second G D (s ∷ []) ts) n work′
-                (ap unanswered o ∙ answered-some second G D s ts first s (omega (arith, l .number)) (F .answer s ts s e (list-entries arities others count ts l) h))
+                (ap unanswered o ∙ answered-some second G D nameCount s ts first s (omega (arith, l .number)) (F .answer s ts s e (list-entries arities others count ts l) h))
                 (keeps n z);
           }
 
-      pub step-answered : (r : Growth) (work′ : List ℕ) → GrowsAnswers arities free apart second area at others first count capacity work known r work′
+      pub step-answered : (r : Growth) (work′ : List ℕ) → GrowsAnswers arities free apart second area at others first count nameCount capacity work known r work′
           → GrowsStep arities free apart second taken area at others count capacity work known r work′
       unfolding PermittedIs
       step-answered r work′ g = record {
         grows = g .grows;
         is = λ G D s ts before flags e i l m p.
             let may = sym (P D s (flags .distinction) (flags .pairs) e) in
-            let t = ap together (moved-one second G D s ts may) ∙ together-one second G D (answered second G D s ts) in
+            let t = ap together (moved-one second G D s ts may) ∙ together-one (answered second G D nameCount s ts) in
             answered-step G D s ts before may e l r work′ (g .keeps)
-            (g .is G D s ts before flags e i l (F .none s ts e (list-entries arities others count ts l)) may m (subst (All (Proper nameCount arities)) t p));
+            (g .is G D s ts before flags e i l (F .none s ts e (list-entries arities others count ts l)) (m s (inl refl) may) (subst (All (Proper nameCount arities)) t p));
       }
 
       -- where all its answers lead is noted
-      pub step-noted : (a : Added) (work′ : List ℕ) → taken < capacity → AnswersAre arities free apart second area at others first count capacity work known a work′
+      pub step-noted : (a : Added) (work′ : List ℕ) → taken < capacity → AnswersAre arities free apart second area at others first count nameCount capacity work known a work′
           → a .led < several → (work″ : List ℕ) → NotesOne work′ taken (a .led) work″
           → GrowsStep arities free apart second taken area at others count capacity work known (a .growth) work″
       unfolding PermittedIs LeadsWhere
@@ -884,9 +874,9 @@ module _ (arities free apart : List ℕ) (second : Bool) (taken : ℕ) (area : L
         grows = record { rest = o .spare .rest capacity (omega arith) ∙ g .grown .grows .rest; within = g .grown .grows .within };
         is = λ G D s ts before flags e i l m p.
             let may = sym (P D s (flags .distinction) (flags .pairs) e) in
-            let xs : List Situation = answered second G D s ts in
+            let xs : List Situation = answered second G D nameCount s ts in
             let one = moved-one second G D s ts may in
-            let t = ap together one ∙ together-one second G D xs in
+            let t = ap together one ∙ together-one xs in
             let proper = subst (All (Proper nameCount arities)) t p in
             let none = F .none s ts e (list-entries arities others count ts l) in
             let x = step-answered (a .growth) work′ (g .grown) .is G D s ts before flags e i l m p in
@@ -894,14 +884,14 @@ module _ (arities free apart : List ℕ) (second : Bool) (taken : ℕ) (area : L
               puts = puts-noted arities capacity work known before (together (moved second G D (s ∷ []) ts)) (a .growth) work′ work″ taken (o .spare) (x .puts);
               strikes = λ n z. subst (λ ms. Strikes arities capacity taken before ms work known n work″) (sym one)
                   (strikes-noted arities capacity taken before work known waits xs n work′ (a .led) work″ few o
-                  (λ ks K b. g .where-to G D s ts before flags e i l none may m proper n z ks K b)
+                  (λ ks K b. g .where-to G D s ts before flags e i l none (m s (inl refl) may) proper n z ks K b)
                   (subst (λ ms. Strikes arities capacity taken before ms work known n work′) one (x .strikes n z)));
             };
       }
 
       -- all that it leads to is struck out
       pub step-gone : (a : Added) (work′ : List ℕ) → a .left ≡ false → known ≤ capacity → slotBytes * capacity ≤ length work
-          → AnswersAre arities free apart second area at others first count capacity work known a work′
+          → AnswersAre arities free apart second area at others first count nameCount capacity work known a work′
           → GrowsStep arities free apart second taken area at others count capacity work known (Known known) (set work′ (struckAt taken) 1)
       unfolding PermittedIs Puts GrowsTo
       step-gone a work′ z few room g = rw (g .same .area z) (record {
@@ -911,12 +901,12 @@ module _ (arities free apart : List ℕ) (second : Bool) (taken : ℕ) (area : L
         };
         is = λ G D s ts before flags e i l m p.
             let may = sym (P D s (flags .distinction) (flags .pairs) e) in
-            let xs : List Situation = answered second G D s ts in
-            let t = ap together (moved-one second G D s ts may) ∙ together-one second G D xs in
+            let xs : List Situation = answered second G D nameCount s ts in
+            let t = ap together (moved-one second G D s ts may) ∙ together-one xs in
             let o = F .none s ts e (list-entries arities others count ts l) in
             let proper = subst (All (Proper nameCount arities)) t p in
             let put : Puts arities capacity work known before xs (Known known) work =
-            rw (g .same .growth z, g .same .area z) at (g .grown .is G D s ts before flags e i l o may m proper) in
+            rw (g .same .growth z, g .same .area z) at (g .grown .is G D s ts before flags e i l o (m s (inl refl) may) proper) in
             record {
               puts = rw t (λ ks K b. knows-struck arities capacity work known (grown ks xs) taken 1 (put ks K b));
               strikes = rw (moved-one second G D s ts may)
@@ -933,18 +923,18 @@ module _ (arities free apart : List ℕ) (second : Bool) (taken : ℕ) (area : L
         is = λ G D s ts before flags e i l m p.
             let may = sym (P D s (flags .distinction) (flags .pairs) e) in
             answered-step G D s ts before may e l (Known known) work (keeps-none work known)
-            (puts-known arities capacity work known before (answered second G D s ts) (all-before G D s ts before may e l m));
+            (puts-known arities capacity work known before (answered second G D nameCount s ts) (all-before G D s ts before may e l m));
       }
         where
           all-before : (G : List ℕ) (D : Pairs) (s : ListedStep) (ts : List ListedStep) (before : List Situation) → permitted D s ≡ true
               → EntryAt area at s → ListAt arities others count ts → Mirrored second G D (s ∷ []) ts before
-              → (u : Situation) → u ∈ answered second G D s ts → u ∈ before
+              → (u : Situation) → u ∈ answered second G D nameCount s ts → u ∈ before
           all-before G D s ts before may e l m u i =
-              let (t, w, k) = map-∈ (leading second (freeFrom G 0 nameCount) D s) u (select (answers nameCount s) ts) i in
+              let (t, w, k) = map-∈ (λ t. leading second (freeFrom G 0 nameCount) D s t nameCount) u (select (answers nameCount s) ts) i in
               let (v, a) = select-∈ (answers nameCount s) t ts w in
               let (j, c, y) = ∈-number t ts v in
               let f : EntryAt others (stepBytes * j) t = subst (EntryAt others (stepBytes * j)) (sym (y s)) (l .entry j s (omega (arith, l .number))) in
-              subst (λ v. v ∈ before) (sym k) (m z s t (inl refl) v may a (trivial-header area at b T q others (stepBytes * j) s t e f a))
+              subst (λ v. v ∈ before) (sym k) (m s (inl refl) may z t v a (trivial-header area at b T q others (stepBytes * j) s t e f a))
 
 -- The steps of one side.
 module _ (arities free apart : List ℕ) (second : Bool) (taken : ℕ) (area : List ℕ) (steps : ℕ) (others : List ℕ) (count capacity : ℕ) (work₀ : List ℕ) (known : ℕ) where

@@ -16,10 +16,11 @@ use Rattle.steps.proofs.Membership.{∈-map}
 use Rattle.steps.specs.Listed.{ListedStep, namesFrom, classIn}
 use Rattle.field_pairs.specs.Entry.{Rewritten, SameHeader}
 use Rattle.field.specs.Exploration.{together}
-use Rattle.field_growth.specs.Growing.{Mirrored, moved}
+use Rattle.field_growth.specs.Growing.{MirroredBy, Mirrored, moved}
 use Rattle.field_successors.specs.Leading.{placed, leading}
 use Rattle.field.specs.Situation.{Situation, freeFrom, situation}
 use Rattle.field.specs.Successors.{select, permitted, implies, answers, extrudedBy, updatedBy}
+use Rattle.field.specs.Successors as field
 use Rattle.field_renewal.specs.ListedEntries.{ListAt}
 use Rattle.field_growth.proofs.Loops.{led, answersTo, moves-are}
 use Rattle.field.proofs.Members.{∈-number}
@@ -45,8 +46,8 @@ module _ (s t : ListedStep) (h : SameHeader s t) where
   updated-same F D = λ i. mapP (classIn (h .classes i)) (times (cond (eqb (h .kind i) 3) (h .object i ∷ []) []) F ++ D)
 
   -- both lead to one situation
-  leading-same : Rewritten s → Rewritten t → (F : List ℕ) (D : Pairs) → leading true F D s t ≡ leading false F D t s
-  unfolding leading placed
+  leading-same : Rewritten s → Rewritten t → (F : List ℕ) (D : Pairs) → leading true F D s t nameCount ≡ leading false F D t s nameCount
+  unfolding leading field.led placed
   leading-same own other F D =
       let P = ap (λ c. ren (classIn c) (t .result)) (h .classes) ∙ other in
       let Q = sym (ap (λ c. ren (classIn c) (s .result)) (sym (h .classes)) ∙ own) in
@@ -57,17 +58,17 @@ module _ (G : List ℕ) (D : Pairs) (ps qs : List ListedStep) where
   F = freeFrom G 0 nameCount
 
   led-there : (t s : ListedStep) → t ∈ ps → s ∈ qs → permitted D t ≡ true → answers nameCount t s ≡ true
-      → leading false F D t s ∈ together (moved false G D ps qs)
-  unfolding moved answersTo led leading
+      → leading false F D t s nameCount ∈ together (moved false G D ps qs)
+  unfolding moved answersTo led leading field.led placed
   led-there t s j i may a =
-      ∈-together (moved false G D ps qs) (answersTo nameCount (placed false) F D t qs) (leading false F D t s)
+      ∈-together (moved false G D ps qs) (answersTo nameCount (placed false) F D t qs) (leading false F D t s nameCount)
       (subst (λ ms. answersTo nameCount (placed false) F D t qs ∈ ms) (sym (moves-are nameCount (placed false) F D ps qs))
       (∈-map (λ t. answersTo nameCount (placed false) F D t qs) t (select (permitted D) ps) (∈-select (permitted D) t ps j may)))
       (∈-map (led nameCount (placed false) F D t) s (select (answers nameCount t) qs) (∈-select (answers nameCount t) s qs i a))
 
   pub mirrored : ((s : ListedStep) → s ∈ qs → Rewritten s) → ((t : ListedStep) → t ∈ ps → Rewritten t)
       → Mirrored true G D qs ps (together (moved false G D ps qs))
-  mirrored own other z s t i j may a h =
+  mirrored own other s i may z t j a h =
       subst (λ u. u ∈ together (moved false G D ps qs)) (sym (leading-same s t h (own s i) (other t j) F D))
       (led-there t s j i (sym (permitted-same D s t (h .classes)) ∙ may) (sym (answers-same s t h nameCount) ∙ a))
 
@@ -78,16 +79,18 @@ all-rewritten arities area count ss l s m =
 
 -- The first side's steps are not asked for.
 pub first-mirrored : (G : List ℕ) (D : Pairs) (ss ts : List ListedStep) (before : List Situation) → Mirrored false G D ss ts before
-first-mirrored G D ss ts before z = let w : _≡_ {A = ℕ} 0 1 = cc in absurd (omega arith)
+first-mirrored G D ss ts before s i may z = let w : _≡_ {A = ℕ} 0 1 = cc in absurd (omega arith)
 
 -- What is said of lists holds of one of their steps.
 pub one-of : {A : Type 0} (xs : List A) (x : A) → x ∈ xs → (y : A) → y ∈ (x ∷ []) → y ∈ xs
 one-of xs x m y (inl e) = subst (λ z. z ∈ xs) (sym e) m
 one-of xs x m y (inr n) = absurd n
 
-module _ (second : Bool) (G : List ℕ) (D : Pairs) (before : List Situation) where
-  pub one-answer-mirrored : (ss ts : List ListedStep) (t : ListedStep) → t ∈ ts → Mirrored second G D ss ts before → Mirrored second G D ss (t ∷ []) before
-  one-answer-mirrored ss ts t m h z a b i j = h z a b i (one-of ts t m b j)
+module _ (second : Bool) (G : List ℕ) (D : Pairs) where
+  pub one-answer-mirrored : (name : ℕ) (s : ListedStep) (before : List Situation) (ts : List ListedStep) (t : ListedStep) → t ∈ ts
+      → MirroredBy second G D name s ts before → MirroredBy second G D name s (t ∷ []) before
+  one-answer-mirrored name s before ts t m h z b j = h z b (one-of ts t m b j)
 
-  pub one-step-mirrored : (ss ts : List ListedStep) (s : ListedStep) → s ∈ ss → Mirrored second G D ss ts before → Mirrored second G D (s ∷ []) ts before
-  one-step-mirrored ss ts s m h z a b i = h z a b (one-of ss s m a i)
+  pub one-step-mirrored : (before : List Situation) (ss ts : List ListedStep) (s : ListedStep) → s ∈ ss → Mirrored second G D ss ts before
+      → Mirrored second G D (s ∷ []) ts before
+  one-step-mirrored before ss ts s m h a i = h a (one-of ss s m a i)

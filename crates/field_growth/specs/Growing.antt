@@ -131,47 +131,50 @@ pub record Flagged (free apart G : List ℕ) (D : Pairs) : Type 0 where
   pub pairs : apart ≡ flagsOf D
   pub distinction : Irr D
 
--- what those of ts lead to that answer s
-unfoldable pub answered : Bool → List ℕ → Pairs → ListedStep → List ListedStep → List Situation
-answered second G D s ts = map (leading second (freeFrom G 0 nameCount) D s) (select (answers nameCount s) ts)
+-- what those of ts lead to that answer s, with a received name
+unfoldable pub answered : Bool → List ℕ → Pairs → ℕ → ListedStep → List ListedStep → List Situation
+answered second G D name s ts = map (λ t. leading second (freeFrom G 0 nameCount) D s t name) (select (answers nameCount s) ts)
 
 -- Where a step of the second side is answered by one with the same header, the first side's step led to the same situation before.
+abbrev pub MirroredBy : Bool → List ℕ → Pairs → ℕ → ListedStep → List ListedStep → List Situation → Type 0
+MirroredBy second G D name s ts before =
+    second ≡ true → (t : ListedStep) → t ∈ ts → answers nameCount s t ≡ true → SameHeader s t → leading second (freeFrom G 0 nameCount) D s t name ∈ before
+
+-- of every permitted step
 abbrev pub Mirrored : Bool → List ℕ → Pairs → List ListedStep → List ListedStep → List Situation → Type 0
-Mirrored second G D ss ts before =
-    second ≡ true → (s t : ListedStep) → s ∈ ss → t ∈ ts → permitted D s ≡ true → answers nameCount s t ≡ true → SameHeader s t
-    → leading second (freeFrom G 0 nameCount) D s t ∈ before
+Mirrored second G D ss ts before = (s : ListedStep) → s ∈ ss → permitted D s ≡ true → MirroredBy second G D nameCount s ts before
 
 -- One answer to the step at `at`.
-pub record GrowsAnswer (arities free apart : List ℕ) (second : Bool) (area : List ℕ) (at : ℕ) (others : List ℕ) (place capacity : ℕ) (work : List ℕ)
+pub record GrowsAnswer (arities free apart : List ℕ) (second : Bool) (area : List ℕ) (at : ℕ) (others : List ℕ) (place name capacity : ℕ) (work : List ℕ)
     (known : ℕ) (r : Growth) (work′ : List ℕ) : Type 0 where
   pub grows : Grows capacity work known r work′
   pub keeps : (n : ℕ) → r ≡ Known n → KeepsStruck work known n work′
   pub is : (G : List ℕ) (D : Pairs) (s t : ListedStep) (before : List Situation) → Flagged free apart G D
       → EntryAt area at s → InScope nameCount arities 0 (s .result)
       → EntryAt others place t → InScope nameCount arities 0 (t .result) → Rewritten t
-      → permitted D s ≡ true → Mirrored second G D (s ∷ []) (t ∷ []) before
-      → All (Proper nameCount arities) (answered second G D s (t ∷ []))
-      → Puts arities capacity work known before (answered second G D s (t ∷ [])) r work′
+      → MirroredBy second G D name s (t ∷ []) before
+      → All (Proper nameCount arities) (answered second G D name s (t ∷ []))
+      → Puts arities capacity work known before (answered second G D name s (t ∷ [])) r work′
 
 -- and whether it is left, and its slot
-pub record AnswerIs (arities free apart : List ℕ) (second : Bool) (area : List ℕ) (at : ℕ) (others : List ℕ) (place capacity : ℕ) (work : List ℕ)
+pub record AnswerIs (arities free apart : List ℕ) (second : Bool) (area : List ℕ) (at : ℕ) (others : List ℕ) (place name capacity : ℕ) (work : List ℕ)
     (known : ℕ) (r : Added) (work′ : List ℕ) : Type 0 where
-  pub grown : GrowsAnswer arities free apart second area at others place capacity work known (r .growth) work′
+  pub grown : GrowsAnswer arities free apart second area at others place name capacity work known (r .growth) work′
   pub same : Unchanged work known r work′
   pub gone : r .left ≡ false → (G : List ℕ) (D : Pairs) (s t : ListedStep) → Flagged free apart G D
       → EntryAt area at s → InScope nameCount arities 0 (s .result)
       → EntryAt others place t → InScope nameCount arities 0 (t .result) → Rewritten t
-      → All (Proper nameCount arities) (answered second G D s (t ∷ []))
-      → (ks : List Situation) → Knows arities capacity work known ks → All (Gone work ks) (answered second G D s (t ∷ []))
+      → All (Proper nameCount arities) (answered second G D name s (t ∷ []))
+      → (ks : List Situation) → Knows arities capacity work known ks → All (Gone work ks) (answered second G D name s (t ∷ []))
   pub where-to : (G : List ℕ) (D : Pairs) (s t : ListedStep) (before : List Situation) → Flagged free apart G D
       → EntryAt area at s → InScope nameCount arities 0 (s .result)
       → EntryAt others place t → InScope nameCount arities 0 (t .result) → Rewritten t
-      → permitted D s ≡ true → Mirrored second G D (s ∷ []) (t ∷ []) before
-      → All (Proper nameCount arities) (answered second G D s (t ∷ []))
-      → LeadsWhere arities capacity work known before (answered second G D s (t ∷ [])) r
+      → MirroredBy second G D name s (t ∷ []) before
+      → All (Proper nameCount arities) (answered second G D name s (t ∷ []))
+      → LeadsWhere arities capacity work known before (answered second G D name s (t ∷ [])) r
 
 -- Every answer to it, where none before `first` answers.
-pub record GrowsAnswers (arities free apart : List ℕ) (second : Bool) (area : List ℕ) (at : ℕ) (others : List ℕ) (first count capacity : ℕ) (work : List ℕ)
+pub record GrowsAnswers (arities free apart : List ℕ) (second : Bool) (area : List ℕ) (at : ℕ) (others : List ℕ) (first count name capacity : ℕ) (work : List ℕ)
     (known : ℕ) (r : Growth) (work′ : List ℕ) : Type 0 where
   pub grows : Grows capacity work known r work′
   pub keeps : (n : ℕ) → r ≡ Known n → KeepsStruck work known n work′
@@ -179,28 +182,28 @@ pub record GrowsAnswers (arities free apart : List ℕ) (second : Bool) (area : 
       → EntryAt area at s → InScope nameCount arities 0 (s .result)
       → ListAt arities others count ts
       → select (answers nameCount s) (take first ts) ≡ []
-      → permitted D s ≡ true → Mirrored second G D (s ∷ []) ts before
-      → All (Proper nameCount arities) (answered second G D s ts)
-      → Puts arities capacity work known before (answered second G D s ts) r work′
+      → MirroredBy second G D name s ts before
+      → All (Proper nameCount arities) (answered second G D name s ts)
+      → Puts arities capacity work known before (answered second G D name s ts) r work′
 
 -- and whether one of them is left, and their slot
-pub record AnswersAre (arities free apart : List ℕ) (second : Bool) (area : List ℕ) (at : ℕ) (others : List ℕ) (first count capacity : ℕ) (work : List ℕ)
+pub record AnswersAre (arities free apart : List ℕ) (second : Bool) (area : List ℕ) (at : ℕ) (others : List ℕ) (first count name capacity : ℕ) (work : List ℕ)
     (known : ℕ) (r : Added) (work′ : List ℕ) : Type 0 where
-  pub grown : GrowsAnswers arities free apart second area at others first count capacity work known (r .growth) work′
+  pub grown : GrowsAnswers arities free apart second area at others first count name capacity work known (r .growth) work′
   pub same : Unchanged work known r work′
   pub gone : r .left ≡ false → (G : List ℕ) (D : Pairs) (s : ListedStep) (ts : List ListedStep) → Flagged free apart G D
       → EntryAt area at s → InScope nameCount arities 0 (s .result)
       → ListAt arities others count ts
       → select (answers nameCount s) (take first ts) ≡ []
-      → All (Proper nameCount arities) (answered second G D s ts)
-      → (ks : List Situation) → Knows arities capacity work known ks → All (Gone work ks) (answered second G D s ts)
+      → All (Proper nameCount arities) (answered second G D name s ts)
+      → (ks : List Situation) → Knows arities capacity work known ks → All (Gone work ks) (answered second G D name s ts)
   pub where-to : (G : List ℕ) (D : Pairs) (s : ListedStep) (ts : List ListedStep) (before : List Situation) → Flagged free apart G D
       → EntryAt area at s → InScope nameCount arities 0 (s .result)
       → ListAt arities others count ts
       → select (answers nameCount s) (take first ts) ≡ []
-      → permitted D s ≡ true → Mirrored second G D (s ∷ []) ts before
-      → All (Proper nameCount arities) (answered second G D s ts)
-      → LeadsWhere arities capacity work known before (answered second G D s ts) r
+      → MirroredBy second G D name s ts before
+      → All (Proper nameCount arities) (answered second G D name s ts)
+      → LeadsWhere arities capacity work known before (answered second G D name s ts) r
 
 -- The first of `count` steps that answers the one at `at`, or `count`.
 pub record FirstAnswerIs (area : List ℕ) (at : ℕ) (others : List ℕ) (count r : ℕ) : Type 0 where

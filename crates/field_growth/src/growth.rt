@@ -21,6 +21,7 @@ use field_slots::notes::note_sole;
 use field_successors::results::successor;
 use steps_entries::limits::STEP_BYTES;
 use terms_bytes::bytes::copy;
+use terms_bytes::limits::NAME_COUNT;
 
 // The slot that both lots of situations have.
 
@@ -108,12 +109,13 @@ fn grow_answer(
     at: usize,
     others: &[u8],
     place: usize,
+    name: usize,
     work: &mut [u8],
     capacity: usize,
     known: usize,
 ) -> Added
     requires { ⌜ (1 ≤ capacity) × (known ≤ capacity) × (capacity ≤ 4096) × (slotBytes * capacity ≤ length (now work)) × (at + stepBytes ≤ length (now area)) × (place + stepBytes ≤ length (now others)) ⌝ }
-    ensures { λ r. ⌜ AnswerIs (now (arities .entry)) (now (free .entry)) apart second (now (area .entry)) at (now (others .entry)) place capacity (now (work .entry)) known r (now (work .exit)) ⌝ }
+    ensures { λ r. ⌜ AnswerIs (now (arities .entry)) (now (free .entry)) apart second (now (area .entry)) at (now (others .entry)) place name capacity (now (work .entry)) known r (now (work .exit)) ⌝ }
 {
     if !answers(area, at, others, place) {
         return Added {
@@ -131,7 +133,7 @@ fn grow_answer(
             };
         }
     }
-    let key = successor(arities, free, apart, second, area, at, others, place);
+    let key = successor(arities, free, apart, second, area, at, others, place, name);
     add(work, capacity, known, &key)
 }
 
@@ -147,12 +149,13 @@ fn grow_answers(
     others: &[u8],
     first: usize,
     count: usize,
+    name: usize,
     work: &mut [u8],
     capacity: usize,
     known: usize,
 ) -> Added
     requires { ⌜ (1 ≤ capacity) × (known ≤ capacity) × (capacity ≤ 4096) × (slotBytes * capacity ≤ length (now work)) × (at + stepBytes ≤ length (now area)) × (first ≤ count) × (count ≤ mostSteps) × (mostSteps * stepBytes ≤ length (now others)) ⌝ }
-    ensures { λ r. ⌜ AnswersAre (now (arities .entry)) (now (free .entry)) apart second (now (area .entry)) at (now (others .entry)) first count capacity (now (work .entry)) known r (now (work .exit)) ⌝ }
+    ensures { λ r. ⌜ AnswersAre (now (arities .entry)) (now (free .entry)) apart second (now (area .entry)) at (now (others .entry)) first count name capacity (now (work .entry)) known r (now (work .exit)) ⌝ }
 {
     let mut so_far = known;
     let mut left = false;
@@ -168,6 +171,7 @@ fn grow_answers(
             at,
             others,
             STEP_BYTES * j,
+            name,
             work,
             capacity,
             so_far,
@@ -250,6 +254,7 @@ pub fn grow_step(
         others,
         first,
         count,
+        NAME_COUNT,
         work,
         capacity,
         known,

@@ -14,9 +14,9 @@ use Rattle.steps_entries.specs.Entries.{Alike}
 use Rattle.steps.specs.Listed.{ListedStep, namesFrom, classIn, resultBytes, bytes}
 use Rattle.field_pairs.specs.Entry.{EntryAt, ClassOfIs, TrivialIs, SameHeader, BindsIs, ImpliesIs, AnswersIs}
 use Rattle.field_pairs.specs.Slot.{partBytes}
-use Rattle.field.specs.Successors.{answers, bindsName, implies}
+use Rattle.field.specs.Successors.{answers, bindsName, implies, ownClasses, unconditional}
 use Rattle.field.proofs.ClassTests.{in-implies, answers-trivial}
-use Rattle.field_pairs.proofs.Counting.{Passing}
+use Rattle.field.proofs.NamedSide.{all-own}
 
 -- what stands behind the end matters not within
 pub inside : (l : List ℕ) (n a b : ℕ) → n < length l → getD l n a ≡ getD l n b
@@ -72,21 +72,67 @@ module _ (area : List ℕ) (at : ℕ) (s : ListedStep) (e : EntryAt area at s) w
       let n : length (s .classes) + 3 ≡ 19 = ap (λ m. m + 3) (e .count) in
       sym (drop-drop 19 at area) ∙ ap (drop 19) laid ∙ rw (← n) (drop-append-add (s .classes) tail 3)
 
--- Each name is its own class.
-abbrev pub OwnClass : List ℕ → ℕ → ℕ → Type 0
-OwnClass area at n = getD area (at + n) 0 ≡ n
+-- The test whether each name is its own class, name by name.
+and-true : (s : Bool) → (s && true) ≡ s
+and-true true = refl
+and-true false = refl
 
-pub trivial-is : (area : List ℕ) (at i : ℕ) (t : Bool) → nameCount ≤ i → Passing (OwnClass area at) i t → TrivialIs area at t
+and-false : (s : Bool) → (s && false) ≡ false
+and-false true = refl
+and-false false = refl
+
+and-assoc : (s t u : Bool) → (s && (t && u)) ≡ ((s && t) && u)
+and-assoc true t u = refl
+and-assoc false t u = refl
+
+own-last : (c : List ℕ) (k n : ℕ) → ownClasses c (namesFrom k (suc n)) ≡ (ownClasses c (namesFrom k n) && eqb (classIn c (k + n)) (k + n))
+unfolding ownClasses namesFrom
+own-last c k zero = and-true (eqb (classIn c k) k) ∙ ap (λ j. eqb (classIn c j) j) (omega arith)
+own-last c k (suc n) =
+    ap (λ b. eqb (classIn c k) k && b) (own-last c (suc k) n)
+    ∙ and-assoc (eqb (classIn c k) k) (ownClasses c (namesFrom (suc k) n)) (eqb (classIn c (suc k + n)) (suc k + n))
+    ∙ ap (λ j. ownClasses c (namesFrom k (suc n)) && eqb (classIn c j) j) (omega arith)
+
+abbrev pub OwnBelow : List ℕ → ℕ → ℕ → Bool → Type 0
+OwnBelow area at n t = (s : ListedStep) → EntryAt area at s → t ≡ ownClasses (s .classes) (namesFrom 0 n)
+
+module _ (area : List ℕ) (at n : ℕ) (t : Bool) (l : n < nameCount) (so : OwnBelow area at n t) where
+  more : (s : ListedStep) → EntryAt area at s → ownClasses (s .classes) (namesFrom 0 (n + 1)) ≡ (t && eqb (classIn (s .classes) n) n)
+  more s e =
+      let j : n + 1 ≡ suc n = omega arith in
+      let k : 0 + n ≡ n = omega arith in
+      ap (λ m. ownClasses (s .classes) (namesFrom 0 m)) j ∙ own-last (s .classes) 0 n ∙ rw (k, ← so s e)
+
+  pub own-next : getD area (at + n) 0 ≡ n → OwnBelow area at (n + 1) t
+  own-next q s e =
+      sym (more s e ∙ ap (λ b. t && b) (eq-eqb (classIn (s .classes) n) n (sym (entry-class area at s e n l) ∙ q)) ∙ and-true t)
+
+  pub own-not : (getD area (at + n) 0 ≡ n → ⊥) → OwnBelow area at (n + 1) false
+  own-not q s e =
+      sym (more s e ∙ ap (λ b. t && b) (ne-eqb (classIn (s .classes) n) n (λ d. q (entry-class area at s e n l ∙ d))) ∙ and-false t)
+
+pub own-none : (area : List ℕ) (at : ℕ) → OwnBelow area at 0 true
+unfolding ownClasses namesFrom
+own-none area at s e = refl
+
+pub trivial-is : (area : List ℕ) (at n : ℕ) (t : Bool) → n ≡ nameCount → OwnBelow area at n t → TrivialIs area at t
+unfolding TrivialIs unconditional
+trivial-is area at n t past so s e = so s e ∙ ap (λ m. ownClasses (s .classes) (namesFrom 0 m)) past
+
+-- what is too short to have classes stands in no list
+pub not-trivial : (area : List ℕ) (at : ℕ) → length area < at + nameCount → TrivialIs area at false
 unfolding TrivialIs
-trivial-is area at i t past so q s e m = go (decLt m nameCount)
+not-trivial area at h s e = absurd (omega (arith, entry-long area at s e))
+
+-- A step without a condition: each name is its own class.
+pub trivial-own : (area : List ℕ) (at : ℕ) (r : Bool) → TrivialIs area at r → r ≡ true → (s : ListedStep) → EntryAt area at s
+    → (n : ℕ) → classIn (s .classes) n ≡ n
+unfolding TrivialIs unconditional
+trivial-own area at r h q s e n = go (decLt n nameCount)
   where
-    go : Dec (m < nameCount) → classIn (s .classes) m ≡ m
-    go (yes l) = sym (entry-class area at s e m l) ∙ so q m (omega arith)
-    go (no l) = sym (entry-alone area at s e m (omega arith))
-
-pub not-trivial : (area : List ℕ) (at : ℕ) → TrivialIs area at false
-unfolding TrivialIs
-not-trivial area at q = let z : _≡_ {A = ℕ} 0 1 = cc in absurd (omega arith)
+    go : Dec (n < nameCount) → classIn (s .classes) n ≡ n
+    go (yes l) = all-own (s .classes) 0 nameCount (sym (h s e) ∙ q) n (omega arith) (omega arith)
+    go (no l) = sym (entry-alone area at s e n (omega arith))
 
 -- Two entries with the same bytes at their front have the same classes.
 pub classes-agree : (c d : List ℕ) → length c ≡ nameCount → length d ≡ nameCount → ((n : ℕ) → n < nameCount → classIn c n ≡ classIn d n) → c ≡ d
@@ -113,17 +159,16 @@ same-header area at others place n q a s t e f = record {
 -- What answers a step without a condition has its header.
 pub trivial-header : (area : List ℕ) (at : ℕ) (r : Bool) → TrivialIs area at r → r ≡ true → (others : List ℕ) (place : ℕ) (s t : ListedStep)
     → EntryAt area at s → EntryAt others place t → answers nameCount s t ≡ true → SameHeader s t
-unfolding TrivialIs
 trivial-header area at r h q others place s t e f a =
-    let (k, c, o, same) = answers-trivial nameCount s t (h q s e) a in
+    let (k, c, o, same) = answers-trivial nameCount s t (trivial-own area at r h q s e) a in
     record { classes = classes-agree (s .classes) (t .classes) (e .count) (f .count) same; kind = k; channel = c; object = o }
 
 -- What merges no names is implied.
 pub implied-trivial : (area : List ℕ) (at : ℕ) (others : List ℕ) (place : ℕ) (r : Bool) → TrivialIs others place r → r ≡ true
     → ImpliesIs area at others place true
-unfolding TrivialIs ImpliesIs
+unfolding ImpliesIs
 implied-trivial area at others place r h q s t e f =
-    sym (in-implies (s .classes) (t .classes) (namesFrom 0 nameCount) (λ n. ap (classIn (s .classes)) (h q t f n)))
+    sym (in-implies (s .classes) (t .classes) (namesFrom 0 nameCount) (λ n. ap (classIn (s .classes)) (trivial-own others place r h q t f n)))
 
 -- The test of implication name by name: those below n agree.
 abbrev pub Implied : List ℕ → ℕ → List ℕ → ℕ → ℕ → Type 0

@@ -3,4 +3,5 @@ pub mod EntryLaws
 mod NameFlagLaws
 pub mod PairLaws
 pub mod PairNumbering
+pub mod ReceivedNames
 pub mod NamePairs

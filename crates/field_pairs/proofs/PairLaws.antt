@@ -21,12 +21,12 @@ use Rattle.steps.specs.Listed.{ListedStep, classIn}
 use Rattle.field_pairs.specs.Entry.{EntryAt, ClassOfIs, TrivialIs}
 use Rattle.field.specs.Situation.{allPairs}
 use Rattle.field_pairs.specs.PairNumbers.{pairAt, numberOf}
-use Rattle.field_pairs.specs.PairFlags.{pairCount, NumberIs, AddsPair, NoneApartIs, HeldIs, MergedPair, MergesIs, PermittedIs}
+use Rattle.field_pairs.specs.PairFlags.{pairCount, NumberIs, AddsPair, NoneApartIs, HeldIs, MergedPair, MergesIs, PermittedIs, AllowedIs}
 use Rattle.field_pairs.specs.Slot.{flag, flagsOf}
-use Rattle.field.specs.Successors.{permitted}
+use Rattle.field.specs.Successors.{permitted, allowed}
 use Rattle.field.proofs.ClassTests.{apart-permitted}
 use Rattle.field_pairs.proofs.Counting.{Passing}
-use Rattle.field_pairs.proofs.EntryLaws.{inside, entry-alone}
+use Rattle.field_pairs.proofs.EntryLaws.{inside, entry-alone, trivial-own}
 use Rattle.field_pairs.proofs.NamePairs.{number-right, pair-ordered, pair-below, pair-once, length-pairs}
 
 pub length-flags : (D : Pairs) → length (flagsOf D) ≡ pairCount
@@ -236,9 +236,9 @@ module _ (flags area : List ℕ) (at : ℕ) where
   merged-found n r h q D s irr e f = let (m, p) = h .some q D s e f in sym (merged-refused D s m n (p .apart) (p .merged))
 
   pub permitted-trivial : (r : Bool) → TrivialIs area at r → r ≡ true → PermittedIs flags area at true
-  unfolding TrivialIs PermittedIs
+  unfolding PermittedIs
   permitted-trivial r h q D s irr e f =
-      let own : (n : ℕ) → classIn (s .classes) n ≡ n = h q s f in
+      let own : (n : ℕ) → classIn (s .classes) n ≡ n = trivial-own area at r h q s f in
       sym (apart-permitted D s (λ a b d z. irr a b d (sym (own a) ∙ z ∙ own b)))
 
   pub none-merged : (n : ℕ) → nameCount ≤ n → Respected flags area at n → PermittedIs flags area at true
@@ -282,3 +282,13 @@ permitted-none flags area at r n q = none-merged flags area at nameCount (omega 
     go : (D : Pairs) → flags ≡ flagsOf D → (m j : ℕ) → Apart D m j → m < nameCount → j < nameCount → (m ≡ j → ⊥) → Dec (m < j) → ⊥
     go D e m j d h l k (yes b) = ordered D e m j b l d
     go D e m j d h l k (no b) = ordered D e j m (omega arith) h (apart-sym D m j d)
+
+-- Which steps must be answered.
+module _ (differ : Bool) (flags area : List ℕ) (at : ℕ) (r : Bool) where
+  pub allowed-trivial : differ ≡ true → TrivialIs area at r → AllowedIs differ flags area at r
+  unfolding AllowedIs TrivialIs allowed
+  allowed-trivial q h D s e irr f = rw q (h s f)
+
+  pub allowed-permitted : differ ≡ false → PermittedIs flags area at r → AllowedIs differ flags area at r
+  unfolding AllowedIs PermittedIs allowed
+  allowed-permitted q h D s e irr f = rw q (h D s irr e f)

@@ -7,7 +7,7 @@ use lib.ListN.{length, drop}
 use Rattle.calculus.specs.Term.{ren}
 use Rattle.terms.specs.Limits.{nameCount, longestTerm}
 use Rattle.steps.specs.Listed.{ListedStep, namesFrom, classIn, resultBytes, bytes}
-use Rattle.field.specs.Successors.{answers, bindsName, implies}
+use Rattle.field.specs.Successors.{answers, bindsName, implies, unconditional}
 
 -- The step s stands at `at`: as many classes as names, each class one of the names, and a result that fits.
 pub record EntryAt (area : List ℕ) (at : ℕ) (s : ListedStep) : Type 0 where
@@ -24,9 +24,9 @@ Rewritten s = ren (classIn (s .classes)) (s .result) ≡ s .result
 unfoldable pub ClassOfIs : List ℕ → ℕ → ℕ → ℕ → Type 0
 ClassOfIs area at n r = (s : ListedStep) → EntryAt area at s → r ≡ classIn (s .classes) n
 
--- A test that is met says that each name is its own class.
+-- Each name is its own class.
 unfoldable pub TrivialIs : List ℕ → ℕ → Bool → Type 0
-TrivialIs area at r = r ≡ true → (s : ListedStep) → EntryAt area at s → (n : ℕ) → classIn (s .classes) n ≡ n
+TrivialIs area at r = (s : ListedStep) → EntryAt area at s → r ≡ unconditional nameCount s
 
 -- Condition and action of two steps are the same.
 pub record SameHeader (s t : ListedStep) : Type 0 where

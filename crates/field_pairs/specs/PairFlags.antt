@@ -12,7 +12,7 @@ use Rattle.steps.specs.Listed.{ListedStep, classIn}
 use Rattle.field_pairs.specs.Entry.{EntryAt}
 use Rattle.field_pairs.specs.PairNumbers.{pairAt}
 use Rattle.field_pairs.specs.Slot.{flagsOf}
-use Rattle.field.specs.Successors.{permitted}
+use Rattle.field.specs.Successors.{permitted, allowed}
 use Rattle.field_pairs.specs.declared.pairs.Pair.{Pair}
 
 -- how many pairs of names there are
@@ -62,3 +62,8 @@ pub record MergesIs (flags area : List ℕ) (at n : ℕ) (r : Bool) : Type 0 whe
 
 unfoldable pub PermittedIs : List ℕ → List ℕ → ℕ → Bool → Type 0
 PermittedIs flags area at r = (D : Pairs) (s : ListedStep) → Irr D → flags ≡ flagsOf D → EntryAt area at s → r ≡ permitted D s
+
+-- whether the step must be answered
+unfoldable pub AllowedIs : Bool → List ℕ → List ℕ → ℕ → Bool → Type 0
+AllowedIs differ flags area at r =
+    (D : Pairs) (s : ListedStep) → flags ≡ flagsOf D → Irr D → EntryAt area at s → r ≡ allowed differ nameCount D s

@@ -3,7 +3,7 @@ ghost use mathlib.Core.Path.{_≡_};
 ghost use Prim.Native.Nat.{_<_, _≤_};
 ghost use lib.ListN.{length};
 ghost use Rattle.terms.specs.Limits.{nameCount};
-ghost use Rattle.field_pairs.specs.PairFlags.{pairCount, PairOfIs, NumberIs, AddsPair, NoneApartIs, HeldIs, MergesIs, PermittedIs};
+ghost use Rattle.field_pairs.specs.PairFlags.{pairCount, PairOfIs, NumberIs, AddsPair, NoneApartIs, HeldIs, MergesIs, PermittedIs, AllowedIs};
 use crate::entries::class_of;
 use crate::entries::trivial;
 use terms_bytes::bytes::get;
@@ -163,4 +163,15 @@ pub fn permitted(apart: &[u8], area: &[u8], at: usize) -> bool
         n += 1;
     }
     true
+}
+
+// Whether the step must be answered: its condition respects the apart pairs or, where all names differ (request 2026-02), merges no names.
+pub fn allowed(differ: bool, apart: &[u8; PAIR_COUNT], area: &[u8], at: usize) -> bool
+    requires { ⌜ at ≤ length (now area) ⌝ }
+    ensures { λ r. ⌜ AllowedIs differ (now (apart .entry)) (now (area .entry)) at r ⌝ }
+{
+    if differ {
+        return trivial(area, at);
+    }
+    permitted(apart, area, at)
 }

@@ -12,11 +12,16 @@ use lib.Seq.{sets, sets-eq, drop-append-add}
 use Rattle.calculus.specs.Term.{Term, ren}
 use Rattle.calculus.specs.Free.{In, Free}
 use Rattle.calculus.specs.Definitions.{Defs}
-use Rattle.calculus.specs.Published.{boundNames}
+use Rattle.calculus.specs.Cond.{Cond, cls, canonical}
+use Rattle.calculus.specs.Published.{Action, silent, input, output, newOutput, boundNames, renAction, Transition, Canon}
 use Rattle.calculus.proofs.Conditions.{cls-le}
+use Rattle.calculus.proofs.PublishedSteps.{act, unname}
+use Rattle.calculus.proofs.Working.{Trans}
+use Rattle.calculus.proofs.WorkingNames.{act-free}
 use Rattle.terms.specs.Encoding.{InScope}
 use Rattle.terms.specs.Limits.{nameCount, longestTerm}
 use Rattle.terms.specs.Question.{Question}
+use Rattle.terms.proofs.ScopeLaws.{free-below}
 use Rattle.terms.proofs.WellFormed.{WellFormed, accepted-well-formed}
 use Rattle.steps.specs.Forms.{resultForm}
 use Rattle.steps.proofs.FormLaws.{result-form}
@@ -27,7 +32,7 @@ use Rattle.steps.proofs.Scope.{CallsInScope, scope-calls}
 use Rattle.steps.specs.Derived.{Derived, ListsExactly}
 use Rattle.steps_entries.specs.Entries.{Sized}
 use Rattle.steps.specs.Limits.{mostSteps, stepBytes}
-use Rattle.steps.specs.Listed.{ListedStep, listedAs, classIn, resultBytes, bytes}
+use Rattle.steps.specs.Listed.{ListedStep, listedAs, objectOf, classIn, resultBytes, bytes}
 use Rattle.steps.specs.Listing.{listed, stepsOf}
 use Rattle.steps.specs.Operations.{listBytes}
 use Rattle.steps_splicing.specs.ListedParts.{Lists}
@@ -47,6 +52,21 @@ nth-∈ : {A : Type 0} (xs : List A) (i : ℕ) (d : A) → i < length xs → get
 nth-∈ [] i d h = absurd (omega arith)
 nth-∈ (x ∷ xs) zero d h = inl refl
 nth-∈ (x ∷ xs) (suc i) d h = inr (nth-∈ xs i d (omega arith))
+
+-- The object of a transition's action is below a number that is above the term's free names and above the bound name.
+object-below : (Δ : Defs) (bound : ℕ) {P : Term} {M : Cond} {α : Action} {P′ : Term} → Transition Δ P M α P′ → ((n : ℕ) → Free n P → n < bound)
+    → ((y : ℕ) → In y (boundNames α) → y < bound) → 0 < bound → objectOf α < bound
+unfolding objectOf
+object-below Δ bound {P} (Canon {N = N} {α = α} s av) free bind some = let u = unname Δ s in go α (u .abs) (u .step) bind
+  where
+    σ : ℕ → ℕ
+    σ = cls (canonical N)
+
+    go : (β : Action) (A : Term) → Trans Δ P N (act β) A → ((y : ℕ) → In y (boundNames (renAction σ β)) → y < bound) → objectOf (renAction σ β) < bound
+    go silent A t b = some
+    go (input a y) A t b = b y (inl refl)
+    go (output a c) A t b = let h = free c (act-free Δ t c (inr refl)) in omega (arith, cls-le (canonical N) c)
+    go (newOutput a y) A t b = b y (inl refl)
 
 -- Entries of one size stand at multiples of it.
 pub entry-there : (ss : List ListedStep) (rest : List ℕ) → Sized ss → (i : ℕ) (d : ListedStep) → i < length ss
@@ -115,24 +135,30 @@ module _ (question part : List ℕ) (x : ℕ) (q : Question) (P : Term) (l : Lis
         (λ s k. let d = step-derived s k in step-size nameCount longestTerm s (step-classes s d) (step-fits s d))
 
     -- a bound name is one of the names
-    step-scope : (x ≡ nameCount → someBinds ss ≡ false) → (s : ListedStep) → s ∈ ss → InScope nameCount (q .arities) 0 (s .result)
-    unfolding settingOf listedAs
-    step-scope within s k = go (derived-move Δ S (step-derived s k))
-      where
-        below : (m : Move Δ S x P) (y : ℕ) → In y (boundNames (m .action)) → y < nameCount
-        below m y i = go (ℕ-discrete x nameCount)
-          where
-            go : Dec (x ≡ nameCount) → y < nameCount
-            go (yes e) =
-                let b = move-binds Δ S ss (λ t. exact .members ss given t) m y i in
-                let w = within e in
-                let z : _≡_ {A = ℕ} 0 1 = cc in absurd (omega arith)
-            go (no e) = omega (arith, l .new, m .binds y i)
+    module _ (within : x ≡ nameCount → someBinds ss ≡ false) where
+      bound-below : (m : Move Δ S x P) (y : ℕ) → In y (boundNames (m .action)) → y < nameCount
+      unfolding settingOf
+      bound-below m y i = go (ℕ-discrete x nameCount)
+        where
+          go : Dec (x ≡ nameCount) → y < nameCount
+          go (yes e) =
+              let b = move-binds Δ S ss (λ t. exact .members ss given t) m y i in
+              let w = within e in
+              let z : _≡_ {A = ℕ} 0 1 = cc in absurd (omega arith)
+          go (no e) = omega (arith, l .new, m .binds y i)
 
-        go : (m : Move Δ S x P) × (s ≡ listedMove Δ S m) → InScope nameCount (q .arities) 0 (s .result)
-        go (m, e) =
-            subst (λ t. InScope nameCount (q .arities) 0 (t .result)) (sym e)
-            (move-scope Δ S m (q .arities) (l .scope) closed (below m))
+      step-scope : (s : ListedStep) → s ∈ ss → InScope nameCount (q .arities) 0 (s .result)
+      unfolding settingOf listedAs
+      step-scope s k =
+          let (m, e) = derived-move Δ S (step-derived s k) in
+          subst (λ t. InScope nameCount (q .arities) 0 (t .result)) (sym e) (move-scope Δ S m (q .arities) (l .scope) closed (bound-below m))
+
+      step-object : (s : ListedStep) → s ∈ ss → s .object < nameCount
+      unfolding settingOf listedAs
+      step-object s k =
+          let (m, e) = derived-move Δ S (step-derived s k) in
+          subst (λ t. t .object < nameCount) (sym e)
+          (object-below Δ nameCount (m .transition) (λ n f. let h = free-below nameCount (q .arities) 0 P (l .scope) n f in omega arith) (bound-below m) (omega arith))
 
     step-rewritten : (s : ListedStep) → s ∈ ss → Rewritten s
     unfolding settingOf listedAs
@@ -168,4 +194,5 @@ module _ (question part : List ℕ) (x : ℕ) (q : Question) (P : Term) (l : Lis
         entry = entry-at;
         scope = λ i d h. step-scope within (getD ss i d) (nth-∈ ss i d h);
         rewritten = λ i d h. step-rewritten (getD ss i d) (nth-∈ ss i d h);
+        objects = λ i d h. step-object within (getD ss i d) (nth-∈ ss i d h);
       }

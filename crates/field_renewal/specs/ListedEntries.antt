@@ -11,12 +11,13 @@ use Rattle.steps.specs.Listed.{ListedStep}
 use Rattle.steps_splicing.specs.ListedParts as lister
 use Rattle.field_pairs.specs.Entry.{EntryAt, Rewritten}
 
--- A list of steps in an area, each at its place, with results of the question's definitions, rewritten by the conditions.
+-- A list of steps in an area, each at its place, with results of the question's definitions, rewritten by the conditions, and objects that are names.
 pub record ListAt (arities area : List ℕ) (count : ℕ) (ss : List ListedStep) : Type 0 where
   pub number : length ss ≡ count
   pub entry : (i : ℕ) (d : ListedStep) → i < count → EntryAt area (stepBytes * i) (getD ss i d)
   pub scope : (i : ℕ) (d : ListedStep) → i < count → InScope nameCount arities 0 (getD ss i d .result)
   pub rewritten : (i : ℕ) (d : ListedStep) → i < count → Rewritten (getD ss i d)
+  pub objects : (i : ℕ) (d : ListedStep) → i < count → getD ss i d .object < nameCount
 
 -- The steps of a list at their places, whatever names their results have; and whether one of them binds a name.
 unfoldable pub EntriesAt : List ℕ → ℕ → List ListedStep → Type 0

@@ -18,6 +18,7 @@ use field_kept_lists::list_area::put_label;
 use field_kept_lists::list_area::steps_in;
 use field_pairs::entries::OBJECT;
 use field_pairs::entries::binds;
+use field_pairs::names::replacing;
 use steps_entries::limits::STEP_BYTES;
 use steps_entries::listed::precedes;
 use steps_lister::list::ListAnswer;
@@ -27,30 +28,6 @@ use terms_bytes::bytes::get;
 use terms_bytes::limits::NAME_COUNT;
 use terms_renaming::free::is_free;
 use terms_renaming::rename::rename;
-
-// The name `n`, and `x` for `y`.
-fn replaced(y: u8, x: u8, n: u8) -> u8
-    ensures { λ r. ⌜ r ≡ put y x n ⌝ }
-{
-    if n == y {
-        return x;
-    }
-    n
-}
-
-// The table that puts `x` for `y`.
-fn replacing(y: u8, x: u8) -> [u8; NAME_COUNT]
-    ensures { λ r. ⌜ ((n : ℕ) → n < nameCount → getD r n 0 ≡ put y x n) ⌝ }
-{
-    let mut table = [0u8; NAME_COUNT];
-    let mut i = 0;
-    while i < NAME_COUNT {
-        let n = replaced(y, x, i as u8);
-        table[i] = n;
-        i += 1;
-    }
-    table
-}
 
 // Writes the step at `at` of a list at `to`, for the new name `x`; the table puts it for the old one.
 fn renew_step(

@@ -23,7 +23,7 @@ use Rattle.field.specs.Situation.{freeFrom, pairsOf, allPairs, situation}
 use Rattle.field_pairs.specs.Slot.{flag, flagsOf}
 use Rattle.field.specs.Successors.{extrudedBy, updatedBy}
 use Rattle.field_slots.specs.Update.{AddsIfFree, AddsRow, AddsExtruded, AddsRewritten, RewritesPairs, UpdatedIs, ifFree, keptFlag, keptFlags, KeptIs}
-use Rattle.field_pairs.proofs.EntryLaws.{entry-kind, entry-object}
+use Rattle.field_pairs.proofs.EntryLaws.{entry-kind, entry-object, trivial-own}
 use Rattle.field_slots.proofs.KeptPairs.{keep-drop, situation-kept, kept-holds, flags-rewritten, none-rewritten}
 use Rattle.field_pairs.proofs.PairLaws.{length-flags, flag-at, flags-are}
 use Rattle.field_pairs.proofs.NamePairs.{pair-ordered, pair-below, length-pairs}
@@ -175,9 +175,9 @@ own-pairs c own (p ∷ E) = ap₂ _∷_ (λ i. (own (p .0) i, own (p .1) i)) (ow
 
 pub updated-trivial : (flags free area : List ℕ) (at : ℕ) (more : List ℕ) → AddsExtruded flags free area at more
     → (r : Bool) → TrivialIs area at r → r ≡ true → UpdatedIs flags free area at more
-unfolding AddsExtruded TrivialIs UpdatedIs updatedBy
+unfolding AddsExtruded UpdatedIs updatedBy
 updated-trivial flags free area at more a r t q G D s h e f =
-    a G D s h e f ∙ ap flagsOf (sym (own-pairs (classIn (s .classes)) (t q s f) (times (extrudedBy s) (freeFrom G 0 nameCount) ++ D)))
+    a G D s h e f ∙ ap flagsOf (sym (own-pairs (classIn (s .classes)) (trivial-own area at r t q s f) (times (extrudedBy s) (freeFrom G 0 nameCount) ++ D)))
 
 -- Where no pair is apart, there is nothing to rewrite.
 pub updated-none : (flags free area : List ℕ) (at : ℕ) (more : List ℕ) → AddsExtruded flags free area at more

@@ -2,12 +2,14 @@
 use mathlib.Core.Path.{_≡_, refl, sym, ap, _∙_}
 use mathlib.Core.Bool.{Bool, true, false}
 use mathlib.Core.List.{List, [], _++_, append-assoc, append-nil}
-use Prim.Native.Nat.{ℕ, _≤_}
+use Prim.Native.Nat.{ℕ, _+_, _<_, _≤_}
 use native.Mathlib.Omega.{arith}
-use lib.ListN.{length, drop, replicate, length-append, length-drop}
+use lib.Dec.{ltb}
+use lib.ListN.{length, getD, drop, replicate, length-append, length-drop}
 use lib.Seq.{sets, drop-at}
+use borrow.Author.Tests.{lt-ltb, le-ltb}
 use Rattle.calculus.specs.Cond.{Pairs}
-use Rattle.calculus.specs.Term.{Term, ren}
+use Rattle.calculus.specs.Term.{Term, ren, put}
 use Rattle.terms.specs.Encoding.{encode, InScope}
 use Rattle.terms.specs.Limits.{nameCount, longestTerm}
 use Rattle.terms.specs.Operations.{holdsApart}
@@ -17,18 +19,20 @@ use Rattle.terms_bytes.proofs.Stores.{sets-join, sets-middle, sets-start}
 use Rattle.steps.specs.Listed.{ListedStep, namesFrom, classIn, resultBytes}
 use Rattle.field_pairs.specs.Entry.{EntryAt}
 use Rattle.field_slots.specs.Key.{PartIs, Packs}
-use Rattle.field_successors.specs.Leading.{placed, leading, PartsStand, PlacesResults, FreeOfParts, CompletesKey, SuccessorIs}
+use Rattle.field_successors.specs.Leading.{placed, leading, PartsStand, PlacesResults, PlacesReceived, FreeOfParts, CompletesKey, SuccessorIs}
 use Rattle.field_pairs.specs.NameFlags.{FreeInEitherIs}
-use Rattle.field_pairs.specs.PairFlags.{NoneApartIs}
-use Rattle.field_successors.specs.Resulting.{CopiesResult, RewritesResult}
+use Rattle.field_pairs.specs.PairFlags.{pairCount, NoneApartIs}
+use Rattle.field_successors.specs.Resulting.{CopiesResult, RewritesResult, ReceivesResult}
 use Rattle.field.specs.Situation.{freeFrom, pairsOf, allPairs, situation}
 use Rattle.field_pairs.specs.Slot.{partBytes, flag, flagsOf, octet, octets, packed, keyOf, keyBytes}
-use Rattle.field.specs.Successors.{updatedBy}
+use Rattle.field.specs.Successors.{updatedBy, led}
 use Rattle.field_slots.specs.Update.{KeptIs, UpdatedIs}
+use Rattle.field_pairs.proofs.EntryLaws.{entry-object}
 use Rattle.field_slots.proofs.KeptPairs.{none-kept}
 use Rattle.field_slots.proofs.KeyLaws.{length-part, length-packed}
 use Rattle.field_successors.specs.Fits.{Fits}
-use Rattle.field_slots.proofs.UpdateLaws.{pair-off}
+use Rattle.field_successors.proofs.ResultLaws.{put-below}
+use Rattle.field_slots.proofs.UpdateLaws.{pair-off, no-pairs}
 
 -- The parts that stand at the front of a key.
 pub free-of-parts : (key arities first second free : List ℕ) → PartIs key 0 first → PartIs key 113 second → FreeInEitherIs first second arities free
@@ -71,38 +75,69 @@ completes-none arities key apart r key′ n q w =
     (λ P Q E h e. ap flagsOf (sym (none-kept P Q E (λ k l. pair-off apart k l E e (n q k l)))))
     (λ D e. w ∙ ap (sets key 226) (no-bits ∙ ap packed e))
 
+-- A result fits, renamed or not.
+result-fits : (area : List ℕ) (at : ℕ) (c : ℕ → ℕ) (s : ListedStep) → EntryAt area at s → length (encode 0 (ren c (s .result))) ≤ longestTerm
+unfolding resultBytes
+result-fits area at c s e = omega (arith, e .fits, length-ren 0 0 c (s .result))
+
+own-fits : (area : List ℕ) (at : ℕ) (s : ListedStep) → EntryAt area at s → length (encode 0 (s .result)) ≤ longestTerm
+unfolding resultBytes
+own-fits area at s e = e .fits
+
+-- A result renamed stays in scope.
+renamed-scope : (arities : List ℕ) (c : ℕ → ℕ) → ((n : ℕ) → n < nameCount → c n < nameCount) → (P : Term) → InScope nameCount arities 0 P
+    → InScope nameCount arities 0 (ren c P)
+renamed-scope arities c h P g = scope-ren nameCount nameCount arities 0 0 c (λ m l. let w = h m (omega arith) in omega arith) P g
+
 module _ (arities : List ℕ) (second : Bool) (area : List ℕ) (at : ℕ) (others : List ℕ) (place : ℕ) where
-  -- the results fit
-  own-fits : (s : ListedStep) → EntryAt area at s → length (encode 0 (s .result)) ≤ longestTerm
-  unfolding resultBytes
-  own-fits s e = e .fits
-
-  other-fits : (s t : ListedStep) → EntryAt others place t → length (encode 0 (ren (classIn (s .classes)) (t .result))) ≤ longestTerm
-  unfolding resultBytes
-  other-fits s t f = omega (arith, f .fits, length-ren 0 0 (classIn (s .classes)) (t .result))
-
-  pub leading-fits : (F : List ℕ) (D : Pairs) (s t : ListedStep) → EntryAt area at s → EntryAt others place t → Fits (leading second F D s t)
-  unfolding leading placed situation
-  leading-fits F D s t e f = go second
+  pub leading-fits : (F : List ℕ) (D : Pairs) (s t : ListedStep) (name : ℕ) → EntryAt area at s → EntryAt others place t → Fits (leading second F D s t name)
+  unfolding leading led placed situation
+  leading-fits F D s t name e f = go (ltb name nameCount) second
     where
-      go : (b : Bool) → Fits (placed b (s .result) (ren (classIn (s .classes)) (t .result)) (updatedBy F D s))
-      go false = record { first = own-fits s e; second = other-fits s t f }
-      go true = record { first = other-fits s t f; second = own-fits s e }
+      go : (b c : Bool) → Fits (led b (placed c) F D s t name)
+      go false false = record { first = own-fits area at s e; second = result-fits others place (classIn (s .classes)) t f }
+      go false true = record { first = result-fits others place (classIn (s .classes)) t f; second = own-fits area at s e }
+      go true false = record { first = result-fits area at (put (s .object) name) s e; second = result-fits others place (put (s .object) name) t f }
+      go true true = record { first = result-fits others place (put (s .object) name) t f; second = result-fits area at (put (s .object) name) s e }
 
   module _ (key : List ℕ) where
     pub places-first : second ≡ false → (key₁ key₂ : List ℕ) → CopiesResult area at key 0 key₁ → RewritesResult area at others place arities key₁ 113 key₂
         → PlacesResults arities second area at others place key key₂
-    unfolding CopiesResult RewritesResult PlacesResults leading placed situation
+    unfolding CopiesResult RewritesResult PlacesResults led placed situation
     places-first q key₁ key₂ c r s t e f g own =
         let R : Term = ren (classIn (s .classes)) (t .result) in
-        rw q (r s t e f g own ∙ rw (c s e) (sets-join key 0 113 (partBytes (s .result)) (partBytes R) (omega (arith, length-part (s .result) (own-fits s e)))))
+        rw q (r s t e f g own ∙ rw (c s e) (sets-join key 0 113 (partBytes (s .result)) (partBytes R) (omega (arith, length-part (s .result) (own-fits area at s e)))))
 
     pub places-second : second ≡ true → (key₁ key₂ : List ℕ) → RewritesResult area at others place arities key 0 key₁ → CopiesResult area at key₁ 113 key₂
         → PlacesResults arities second area at others place key key₂
-    unfolding CopiesResult RewritesResult PlacesResults leading placed situation
+    unfolding CopiesResult RewritesResult PlacesResults led placed situation
     places-second q key₁ key₂ r c s t e f g own =
         let R : Term = ren (classIn (s .classes)) (t .result) in
-        rw q (c s e ∙ rw (r s t e f g own) (sets-join key 0 113 (partBytes R) (partBytes (s .result)) (omega (arith, length-part R (other-fits s t f)))))
+        rw q (c s e ∙ rw (r s t e f g own)
+        (sets-join key 0 113 (partBytes R) (partBytes (s .result)) (omega (arith, length-part R (result-fits others place (classIn (s .classes)) t f)))))
+
+    -- with a received name
+    module _ (name x : ℕ) (l : name < nameCount) (o : x ≡ getD area (at + 18) 0) where
+      object : (s : ListedStep) → EntryAt area at s → x ≡ s .object
+      object s e = o ∙ entry-object area at s e
+
+      pub received-first : second ≡ false → (key₁ key₂ : List ℕ) → ReceivesResult area at arities x name key 0 key₁
+          → ReceivesResult others place arities x name key₁ 113 key₂ → PlacesReceived arities second area at others place name key key₂
+      unfolding ReceivesResult PlacesReceived led placed situation
+      received-first q key₁ key₂ a b s t e f g h =
+          let P : Term = ren (put x name) (s .result) in
+          let Q : Term = ren (put x name) (t .result) in
+          rw (q, ← object s e) (b t f h l ∙ rw (a s e g l)
+          (sets-join key 0 113 (partBytes P) (partBytes Q) (omega (arith, length-part P (result-fits area at (put x name) s e)))))
+
+      pub received-second : second ≡ true → (key₁ key₂ : List ℕ) → ReceivesResult others place arities x name key 0 key₁
+          → ReceivesResult area at arities x name key₁ 113 key₂ → PlacesReceived arities second area at others place name key key₂
+      unfolding ReceivesResult PlacesReceived led placed situation
+      received-second q key₁ key₂ b a s t e f g h =
+          let P : Term = ren (put x name) (s .result) in
+          let Q : Term = ren (put x name) (t .result) in
+          rw (q, ← object s e) (a s e g l ∙ rw (b t f h l)
+          (sets-join key 0 113 (partBytes Q) (partBytes P) (omega (arith, length-part Q (result-fits others place (put x name) t f)))))
 
   -- The two parts stand in a key that had room for them.
   parts-stand : (key : List ℕ) (P Q : Term) → InScope nameCount arities 0 P → InScope nameCount arities 0 Q → length (encode 0 P) ≤ longestTerm
@@ -121,25 +156,56 @@ module _ (arities : List ℕ) (second : Bool) (area : List ℕ) (at : ℕ) (othe
         fits₂ = l;
       }
 
-  pub successor-is : (free apart new key₀ key key′ : List ℕ) → length key₀ ≡ keyBytes → PlacesResults arities second area at others place key₀ key
-      → UpdatedIs apart free area at new → CompletesKey arities new key key′
-      → SuccessorIs arities free apart second area at others place key′
-  unfolding PlacesResults UpdatedIs CompletesKey SuccessorIs leading placed situation
-  successor-is free apart new key₀ key key′ n p u k G D s t hn ha e f g h own = go second refl
+  pub successor-is : (free apart : List ℕ) (name : ℕ) (new key₀ key key′ : List ℕ) → nameCount ≤ name → length key₀ ≡ keyBytes
+      → PlacesResults arities second area at others place key₀ key → UpdatedIs apart free area at new → CompletesKey arities new key key′
+      → SuccessorIs arities free apart second area at others place name key′
+  unfolding PlacesResults UpdatedIs CompletesKey SuccessorIs leading led placed situation
+  successor-is free apart name new key₀ key key′ past n p u k G D s t hn ha e f g h own = rw (le-ltb name nameCount past) (go second refl)
     where
       R : Term
       R = ren (classIn (s .classes)) (t .result)
 
       scope : InScope nameCount arities 0 R
-      scope = scope-ren nameCount nameCount arities 0 0 (classIn (s .classes)) (λ m l. let w = e .within m (omega arith) in omega arith) (t .result) h
+      scope = renamed-scope arities (classIn (s .classes)) (e .within) (t .result) h
 
       E : Pairs
       E = updatedBy (freeFrom G 0 nameCount) D s
 
+      fits : length (encode 0 R) ≤ longestTerm
+      fits = result-fits others place (classIn (s .classes)) t f
+
       go : (b : Bool) → second ≡ b → key′ ≡ keyOf (placed second (s .result) R E)
       go false q = rw q (k (s .result) R E
-          (parts-stand key (s .result) R g scope (own-fits s e) (other-fits s t f) key₀ n (rw q at (p s t e f h own)))
+          (parts-stand key (s .result) R g scope (own-fits area at s e) fits key₀ n (rw q at (p s t e f h own)))
           (u G D s hn ha e))
       go true q = rw q (k R (s .result) E
-          (parts-stand key R (s .result) scope g (other-fits s t f) (own-fits s e) key₀ n (rw q at (p s t e f h own)))
+          (parts-stand key R (s .result) scope g fits (own-fits area at s e) key₀ n (rw q at (p s t e f h own)))
           (u G D s hn ha e))
+
+  -- where all names differ: no pairs
+  pub successor-received : (free apart : List ℕ) (name : ℕ) (key₀ key key′ : List ℕ) → name < nameCount → length key₀ ≡ keyBytes
+      → PlacesReceived arities second area at others place name key₀ key → CompletesKey arities (replicate pairCount 0) key key′
+      → SuccessorIs arities free apart second area at others place name key′
+  unfolding PlacesReceived CompletesKey SuccessorIs leading led placed situation
+  successor-received free apart name key₀ key key′ l n p k G D s t hn ha e f g h own = rw (lt-ltb name nameCount l) (go second refl)
+    where
+      c : ℕ → ℕ
+      c = put (s .object) name
+
+      P : Term
+      P = ren c (s .result)
+
+      Q : Term
+      Q = ren c (t .result)
+
+      first : InScope nameCount arities 0 P
+      first = renamed-scope arities c (λ m h. put-below (s .object) name m l h) (s .result) g
+
+      other : InScope nameCount arities 0 Q
+      other = renamed-scope arities c (λ m h. put-below (s .object) name m l h) (t .result) h
+
+      go : (b : Bool) → second ≡ b → key′ ≡ keyOf (placed second P Q [])
+      go false q = rw q (k P Q []
+          (parts-stand key P Q first other (result-fits area at c s e) (result-fits others place c t f) key₀ n (rw q at (p s t e f g h))) no-pairs)
+      go true q = rw q (k Q P []
+          (parts-stand key Q P other first (result-fits others place c t f) (result-fits area at c s e) key₀ n (rw q at (p s t e f g h))) no-pairs)

@@ -1,3 +1,3 @@
-mod LeadingLaws
+pub mod LeadingLaws
 pub mod ResultLaws
 mod StartLaws

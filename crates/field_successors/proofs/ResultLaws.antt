@@ -3,10 +3,12 @@ use mathlib.Core.Path.{_≡_, refl, sym, ap, _∙_}
 use mathlib.Core.Bool.{Bool, true}
 use mathlib.Core.List.{List, [], _∷_, _++_}
 use Prim.Native.Nat.{ℕ, suc, _+_, _-_, _<_, _≤_}
+use native.Mathlib.Decide.{ℕ-discrete}
 use native.Mathlib.Omega.{arith}
 use lib.ListN.{length, getD, take, drop, set, replicate}
 use lib.Seq.{sets, set-set, set-comm, take-at, getD-take, getD-drop, length-sets}
-use Rattle.calculus.specs.Term.{ren}
+use Rattle.calculus.specs.Term.{ren, put}
+use Rattle.calculus.proofs.Binding.{put-self, put-other}
 use Rattle.terms.specs.Encoding.{encode, InScope}
 use Rattle.terms.specs.Limits.{nameCount, longestTerm}
 use Rattle.terms_renaming.specs.Renaming.{RenameIs}
@@ -16,8 +18,9 @@ use Rattle.terms.proofs.RenamingKeeps.{length-ren}
 use Rattle.steps.specs.Limits.{stepBytes}
 use Rattle.steps.specs.Listed.{ListedStep, classIn, resultBytes}
 use Rattle.field_pairs.specs.Entry.{EntryAt, SameClassesIs}
-use Rattle.field_successors.specs.Resulting.{CopiesResult, RewritesResult}
+use Rattle.field_successors.specs.Resulting.{CopiesResult, RewritesResult, ReceivesResult}
 use Rattle.field_pairs.specs.Slot.{partBytes}
+use Rattle.field.proofs.Moves.{put-same}
 use Rattle.field_pairs.proofs.EntryLaws.{entry-class, entry-result}
 use Rattle.field_slots.proofs.KeyLaws.{length-part, behind}
 
@@ -53,24 +56,53 @@ sets-over l (x ∷ xs) (y ∷ ys) fill p e =
     ap (λ m. sets m (suc p) ys) (set-first (set l p x) (xs ++ fill) p (suc p) y (omega arith) ∙ ap (λ m. sets m (suc p) (xs ++ fill)) (set-set l p x y))
     ∙ sets-over (set l p y) xs ys fill (suc p) (omega arith)
 
-module _ (area : List ℕ) (at : ℕ) (others : List ℕ) (place : ℕ) (arities slot : List ℕ) (put : ℕ)
-    (inside : at + stepBytes ≤ length area) (room : put + 113 ≤ length slot) where
-  pub rewrites-result : (slot₁ : List ℕ) (r : ℕ) (slot₂ : List ℕ) → CopiesResult others place slot put slot₁
-      → RenameIs others (place + 18 + 2) arities (take (length area - at) (drop at area)) slot₁ (put + 1) r slot₂
-      → RewritesResult area at others place arities slot put slot₂
-  unfolding CopiesResult RenameIs RewritesResult partBytes resultBytes
-  rewrites-result slot₁ r slot₂ w R s t e f scope own =
-      let c : ℕ → ℕ = classIn (s .classes) in
+-- A result that is copied and then renamed by a table.
+module _ (others : List ℕ) (place : ℕ) (arities table slot : List ℕ) (at : ℕ) (room : at + 113 ≤ length slot) (slot₁ : List ℕ) (r : ℕ) (slot₂ : List ℕ)
+    (w : CopiesResult others place slot at slot₁) (R : RenameIs others (place + 18 + 2) arities table slot₁ (at + 1) r slot₂) where
+  renamed-result : (c : ℕ → ℕ) → ((n : ℕ) → n < nameCount → (getD table n 0 ≡ c n) × (c n < nameCount)) → (t : ListedStep) → EntryAt others place t
+      → InScope nameCount arities 0 (t .result) → slot₂ ≡ sets slot at (partBytes (ren c (t .result)))
+  unfolding CopiesResult RenameIs partBytes resultBytes
+  renamed-result c h t f scope =
       let P = t .result in
       let fill : List ℕ = replicate (longestTerm - length (encode 0 P)) 0 in
       let n : place + 18 + 2 ≡ place + 19 + 1 = omega arith in
       let there : drop (place + 18 + 2) others ≡ encode 0 P ++ (fill ++ f .rest) =
       ap (λ k. drop k others) n ∙ behind others (place + 19) P (f .rest) (entry-result others place t f) in
-      let y = R nameCount 0 0 c P (fill ++ f .rest) (omega arith)
-      (represents-free (take (length area - at) (drop at area)) c (λ m l. (
-        getD-take (length area - at) (drop at area) m 0 (omega arith) ∙ getD-drop at area m 0 ∙ entry-class area at s e m l,
-        e .within m l,
-      ))) scope there (omega (arith, f .fits, height-bytes 0 P)) (omega (arith, f .fits, ap length (w t f), length-sets slot put (partBytes P))) in
+      let y = R nameCount 0 0 c P (fill ++ f .rest) (omega arith) (represents-free table c h) scope there
+      (omega (arith, f .fits, height-bytes 0 P)) (omega (arith, f .fits, ap length (w t f), length-sets slot at (partBytes P))) in
       let same : length (encode 0 (ren c P)) ≡ length (encode 0 P) = length-ren 0 0 c P in
-      let q : put + 1 ≡ suc put = omega arith in
-      y .1 ∙ rw (w t f, q, same) (sets-over (set slot put (length (encode 0 P))) (encode 0 P) (encode 0 (ren c P)) fill (suc put) (sym same))
+      let q : at + 1 ≡ suc at = omega arith in
+      y .1 ∙ rw (w t f, q, same) (sets-over (set slot at (length (encode 0 P))) (encode 0 P) (encode 0 (ren c P)) fill (suc at) (sym same))
+
+pub rewrites-result : (area : List ℕ) (at : ℕ) (others : List ℕ) (place : ℕ) (arities slot : List ℕ) (put : ℕ) → at + stepBytes ≤ length area
+    → put + 113 ≤ length slot → (slot₁ : List ℕ) (r : ℕ) (slot₂ : List ℕ) → CopiesResult others place slot put slot₁
+    → RenameIs others (place + 18 + 2) arities (take (length area - at) (drop at area)) slot₁ (put + 1) r slot₂
+    → RewritesResult area at others place arities slot put slot₂
+unfolding RewritesResult
+rewrites-result area at others place arities slot put inside room slot₁ r slot₂ w R s t e f scope own =
+    let table : List ℕ = take (length area - at) (drop at area) in
+    renamed-result others place arities table slot put room slot₁ r slot₂ w R (classIn (s .classes)) (λ m l. (
+      getD-take (length area - at) (drop at area) m 0 (omega arith) ∙ getD-drop at area m 0 ∙ entry-class area at s e m l,
+      e .within m l,
+    )) t f scope
+
+-- A name put for another is one of the names.
+pub put-below : (x y n : ℕ) → y < nameCount → n < nameCount → put x y n < nameCount
+put-below x y n l h = go (ℕ-discrete n x)
+  where
+    go : Dec (n ≡ x) → put x y n < nameCount
+    go (yes q) = omega (arith, put-self x y n q)
+    go (no q) = omega (arith, put-other x y n q)
+
+-- A received name: put for itself it changes nothing.
+module _ (area : List ℕ) (at : ℕ) (arities : List ℕ) (x y : ℕ) (slot : List ℕ) (to : ℕ) (slot₁ : List ℕ) (w : CopiesResult area at slot to slot₁) where
+  pub receives-same : x ≡ y → ReceivesResult area at arities x y slot to slot₁
+  unfolding CopiesResult ReceivesResult
+  receives-same q s e scope l =
+      w s e ∙ ap (λ P. sets slot to (partBytes P)) (sym (ap (λ z. ren (put x z) (s .result)) (sym q) ∙ put-same x (s .result)))
+
+  pub receives-result : to + 113 ≤ length slot → (table : List ℕ) → ((n : ℕ) → n < nameCount → getD table n 0 ≡ put x y n) → (r : ℕ) (slot₂ : List ℕ)
+      → RenameIs area (at + 18 + 2) arities table slot₁ (to + 1) r slot₂ → ReceivesResult area at arities x y slot to slot₂
+  unfolding ReceivesResult
+  receives-result room table h r slot₂ R s e scope l =
+      renamed-result area at arities table slot to room slot₁ r slot₂ w R (put x y) (λ n k. (h n k, put-below x y n l k)) s e scope

@@ -1,5 +1,6 @@
 -- The key of the start: the parts of a question put into zeros, and its apart list as flags. Assumes nothing.
 use mathlib.Core.Path.{_≡_, refl, sym, ap, _∙_}
+use mathlib.Core.Bool.{Bool, true, false, cond}
 use mathlib.Core.List.{List, [], _∷_, _++_, append-assoc}
 use Prim.Native.Nat.{ℕ, suc, _+_, _-_, _%_, _≤_}
 use native.Mathlib.Numerals.{add-one}
@@ -21,7 +22,7 @@ use Rattle.field_successors.specs.Leading.{CompletesKey, StartIs}
 use Rattle.field_pairs.specs.PairFlags.{pairCount, AddsPair}
 use Rattle.field.specs.Situation.{situation, startOf}
 use Rattle.field_pairs.specs.Slot.{partBytes, flagsOf, octets, keyBytes}
-use Rattle.field_successors.specs.Starting.{PutsPart, MarksList}
+use Rattle.field_successors.specs.Starting.{PutsPart, MarksList, StartPairs}
 use Rattle.field_slots.proofs.KeyLaws.{length-part}
 use Rattle.field_slots.proofs.UpdateLaws.{no-pairs}
 
@@ -83,25 +84,34 @@ marking-whole list flags flags′ i h m so D e z =
     let n : i ≡ 0 = omega (arith, ap length e, pairs-even D) in
     so D (ap (λ k. drop k list) n ∙ e) z
 
+-- No pairs, or those of the list.
+pub start-none : (list : List ℕ) (differ : Bool) → differ ≡ true → StartPairs list differ (replicate pairCount 0)
+unfolding StartPairs
+start-none list differ q D e = rw q no-pairs
+
+pub start-listed : (list flags : List ℕ) (differ : Bool) → differ ≡ false → MarksList list (replicate pairCount 0) flags → StartPairs list differ flags
+unfolding StartPairs MarksList
+start-listed list flags differ q m D e = rw q (m D e no-pairs)
+
 -- Both parts and the pairs of an accepted question.
 module _ (s : List ℕ) (first second apart : ℕ) (x : first ≡ fieldPlace s (definitionsOf s)) (y : second ≡ afterField s first)
     (z : apart ≡ afterField s second) where
   pub start-is : (part₁ part₂ list arities : List ℕ) → part₁ ≡ fieldAt s first → part₂ ≡ fieldAt s second → list ≡ fieldAt s apart → arities ≡ aritiesOf s
-      → (key₁ key₂ key₃ flags : List ℕ) → PutsPart part₁ (replicate keyBytes 0) 0 key₁ → PutsPart part₂ key₁ 113 key₂
-      → MarksList list (replicate pairCount 0) flags → CompletesKey arities flags key₂ key₃ → StartIs s key₃
-  unfolding PutsPart MarksList CompletesKey StartIs startOf
-  start-is part₁ part₂ list arities e f g h key₁ key₂ key₃ flags p₁ p₂ m k q a =
+      → (key₁ key₂ key₃ : List ℕ) (differ : Bool) (flags : List ℕ) → PutsPart part₁ (replicate keyBytes 0) 0 key₁ → PutsPart part₂ key₁ 113 key₂
+      → StartPairs list differ flags → CompletesKey arities flags key₂ key₃ → StartIs s differ key₃
+  unfolding PutsPart StartPairs CompletesKey StartIs startOf
+  start-is part₁ part₂ list arities e f g h key₁ key₂ key₃ differ flags p₁ p₂ m k q a =
       let w = accepted-well-formed s q a in
       let P : Term = q .first in
       let Q : Term = q .second in
       let zeros : List ℕ = replicate octets 0 in
       let u : part₁ ≡ encode 0 P = e ∙ ap (fieldAt s) x ∙ first-stands s q a in
       let v : part₂ ≡ encode 0 Q = f ∙ ap (fieldAt s) (y ∙ ap (afterField s) x) ∙ second-stands s q a in
-      let d : flags ≡ flagsOf (q .apart) = m (q .apart) (g ∙ accepted-apart s q a first second apart x y z) no-pairs in
+      let d : flags ≡ flagsOf (cond differ [] (q .apart)) = m (q .apart) (g ∙ accepted-apart s q a first second apart x y z) in
       let c : arities ≡ q .arities = h ∙ accepted-arities s q a in
       let t : key₂ ≡ partBytes P ++ (partBytes Q ++ zeros) =
       p₂ Q (partBytes P) zeros v (w .second .size) (length-part P (w .first .size)) (p₁ P [] (replicate (1 + longestTerm) 0 ++ zeros) u (w .first .size) refl refl) in
-      k P Q (q .apart)
+      k P Q (cond differ [] (q .apart))
       (record {
         rest = zeros;
         there = t;

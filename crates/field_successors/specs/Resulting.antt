@@ -2,9 +2,9 @@
 use mathlib.Core.Path.{_≡_}
 use mathlib.Core.Bool.{Bool, true, false}
 use mathlib.Core.List.{List, _++_}
-use Prim.Native.Nat.{ℕ}
+use Prim.Native.Nat.{ℕ, _<_}
 use lib.Seq.{sets}
-use Rattle.calculus.specs.Term.{ren}
+use Rattle.calculus.specs.Term.{ren, put}
 use Rattle.terms.specs.Encoding.{InScope}
 use Rattle.terms.specs.Limits.{nameCount}
 use Rattle.steps.specs.Listed.{ListedStep, classIn}
@@ -20,3 +20,9 @@ unfoldable pub RewritesResult : List ℕ → ℕ → List ℕ → ℕ → List �
 RewritesResult area at others place arities slot put slot′ =
     (s t : ListedStep) → EntryAt area at s → EntryAt others place t → InScope nameCount arities 0 (t .result) → Rewritten t
     → slot′ ≡ sets slot put (partBytes (ren (classIn (s .classes)) (t .result)))
+
+-- A result with y for x, where y is one of the names.
+unfoldable pub ReceivesResult : List ℕ → ℕ → List ℕ → ℕ → ℕ → List ℕ → ℕ → List ℕ → Type 0
+ReceivesResult area at arities x y slot at′ slot′ =
+    (s : ListedStep) → EntryAt area at s → InScope nameCount arities 0 (s .result) → y < nameCount
+    → slot′ ≡ sets slot at′ (partBytes (ren (put x y) (s .result)))

@@ -1,5 +1,6 @@
 -- The start of an accepted question, written as a key: what the code promises of its parts and of its apart list.
 use mathlib.Core.Path.{_≡_}
+use mathlib.Core.Bool.{Bool, cond}
 use mathlib.Core.List.{List, [], _++_}
 use Prim.Native.Nat.{ℕ, _+_, _≤_}
 use lib.ListN.{length, replicate}
@@ -19,3 +20,7 @@ PutsPart part key put key′ =
 -- The pairs of an apart list.
 unfoldable pub MarksList : List ℕ → List ℕ → List ℕ → Type 0
 MarksList list flags flags′ = (D : Pairs) → list ≡ pairBytes D → flags ≡ flagsOf [] → flags′ ≡ flagsOf D
+
+-- The pairs of the start.
+unfoldable pub StartPairs : List ℕ → Bool → List ℕ → Type 0
+StartPairs list differ flags = (D : Pairs) → list ≡ pairBytes D → flags ≡ flagsOf (cond differ [] D)

@@ -1,15 +1,17 @@
 // The results of a step and of its answer, written as the parts of a situation: document 01, "The field and the verdict".
 ghost use mathlib.Core.Path.{_≡_};
-ghost use Prim.Native.Nat.{_+_, _≤_};
+ghost use Prim.Native.Nat.{_+_, _<_, _≤_};
 ghost use lib.ListN.{length};
-ghost use Rattle.field_successors.specs.Leading.{PlacesResults, FreeOfParts, CompletesKey, SuccessorIs};
-ghost use Rattle.field_successors.specs.Resulting.{CopiesResult, RewritesResult};
+ghost use Rattle.field_successors.specs.Leading.{PlacesResults, PlacesReceived, FreeOfParts, CompletesKey, SuccessorIs};
+ghost use Rattle.field_successors.specs.Resulting.{CopiesResult, RewritesResult, ReceivesResult};
 ghost use Rattle.field_pairs.specs.Slot.{keyBytes};
+ghost use Rattle.terms.specs.Limits.{nameCount};
 ghost use Rattle.steps.specs.Limits.{stepBytes};
 use crate::update::updated;
 use field_pairs::entries::OBJECT;
 use field_pairs::entries::same_classes;
 use field_pairs::names::free_in_either;
+use field_pairs::names::replacing;
 use field_pairs::pairs::PAIR_COUNT;
 use field_pairs::pairs::none_apart;
 use field_slots::find::KEY_BYTES;
@@ -19,6 +21,7 @@ use field_slots::slots::PART_BYTES;
 use field_slots::slots::pack;
 use field_slots::slots::part_at;
 use terms_bytes::bytes::copy;
+use terms_bytes::bytes::get;
 use terms_bytes::limits::NAME_COUNT;
 use terms_renaming::rename::rename;
 
@@ -79,6 +82,44 @@ fn place_results(
     rewrite_result(area, at, others, place, arities, key, PART_BYTES);
 }
 
+// Writes the step's result with `y` for `x`.
+fn receive_result(area: &[u8], at: usize, arities: &[u8], x: u8, y: u8, slot: &mut [u8], put: usize)
+    requires { ⌜ (at + stepBytes ≤ length (now area)) × (put + 113 ≤ length (now slot)) ⌝ }
+    ensures { λ _. ⌜ ReceivesResult (now (area .entry)) at (now (arities .entry)) x y (now (slot .entry)) put (now (slot .exit)) ⌝ }
+{
+    copy_result(area, at, slot, put);
+    if x == y {
+        return;
+    }
+    let table = replacing(x, y);
+    rename(area, at + OBJECT + 2, arities, &table, slot, put + 1);
+}
+
+// Writes both results, each on its side, with `name` for the object of the step.
+fn place_received(
+    arities: &[u8],
+    second: bool,
+    area: &[u8],
+    at: usize,
+    others: &[u8],
+    place: usize,
+    name: usize,
+    key: &mut [u8],
+)
+    requires { ⌜ (at + stepBytes ≤ length (now area)) × (place + stepBytes ≤ length (now others)) × (name < nameCount) × (length (now key) ≡ keyBytes) ⌝ }
+    ensures { λ _. ⌜ PlacesReceived (now (arities .entry)) second (now (area .entry)) at (now (others .entry)) place name (now (key .entry)) (now (key .exit)) ⌝ }
+{
+    let x = get(area, at + OBJECT);
+    let y = name as u8;
+    if second {
+        receive_result(others, place, arities, x, y, key, 0);
+        receive_result(area, at, arities, x, y, key, PART_BYTES);
+        return;
+    }
+    receive_result(area, at, arities, x, y, key, 0);
+    receive_result(others, place, arities, x, y, key, PART_BYTES);
+}
+
 // The names free in the two parts of a key.
 fn free_of_parts(key: &[u8], arities: &[u8]) -> [u8; NAME_COUNT]
     requires { ⌜ length (now key) ≡ keyBytes ⌝ }
@@ -100,7 +141,8 @@ pub fn complete(key: &mut [u8], arities: &[u8], apart: [u8; PAIR_COUNT])
     pack(&apart, &free, key, BITS);
 }
 
-// The key of the situation that the answer at `place` to the step at `at` leads to; `second`: the second side makes the step.
+// The key of the situation that the answer at `place` to the step at `at` leads to; `second`: the second side makes the step. Where all names differ
+// (request 2026-02), `name` is put for the object of the step and no pairs are apart; else `name` is none of the names.
 pub fn successor(
     arities: &[u8],
     free: &[u8],
@@ -110,11 +152,17 @@ pub fn successor(
     at: usize,
     others: &[u8],
     place: usize,
+    name: usize,
 ) -> [u8; KEY_BYTES]
     requires { ⌜ (at + stepBytes ≤ length (now area)) × (place + stepBytes ≤ length (now others)) ⌝ }
-    ensures { λ r. ⌜ SuccessorIs (now (arities .entry)) (now (free .entry)) apart second (now (area .entry)) at (now (others .entry)) place r ⌝ }
+    ensures { λ r. ⌜ SuccessorIs (now (arities .entry)) (now (free .entry)) apart second (now (area .entry)) at (now (others .entry)) place name r ⌝ }
 {
     let mut key = [0u8; KEY_BYTES];
+    if name < NAME_COUNT {
+        place_received(arities, second, area, at, others, place, name, &mut key);
+        complete(&mut key, arities, [0u8; PAIR_COUNT]);
+        return key;
+    }
     place_results(arities, second, area, at, others, place, &mut key);
     let new = updated(apart, free, area, at);
     complete(&mut key, arities, new);

@@ -1,10 +1,10 @@
-// The key of the start: the two parts of an accepted question under its apart list.
+// The key of the start: the two parts of an accepted question under its apart list, which plays no part where all names differ.
 ghost use mathlib.Core.Path.{_≡_};
 ghost use Prim.Native.Nat.{_+_, _≤_};
 ghost use lib.ListN.{length};
 ghost use Rattle.field_successors.specs.Leading.{StartIs};
 ghost use Rattle.field_pairs.specs.PairFlags.{pairCount};
-ghost use Rattle.field_successors.specs.Starting.{PutsPart, MarksList};
+ghost use Rattle.field_successors.specs.Starting.{PutsPart, MarksList, StartPairs};
 use crate::results::complete;
 use field_pairs::pairs::PAIR_COUNT;
 use field_pairs::pairs::mark_pair;
@@ -45,20 +45,29 @@ fn mark_list(list: &[u8], flags: &mut [u8])
     }
 }
 
-// The key of the start of an accepted question.
-pub fn start_key(question: &[u8]) -> [u8; KEY_BYTES]
-    ensures { λ r. ⌜ StartIs (now (question .entry)) r ⌝ }
+// The pairs of an apart list, or none where all names differ (request 2026-02).
+fn start_pairs(list: &[u8], differ: bool) -> [u8; PAIR_COUNT]
+    ensures { λ r. ⌜ StartPairs (now (list .entry)) differ r ⌝ }
+{
+    let mut apart = [0u8; PAIR_COUNT];
+    if differ {
+        return apart;
+    }
+    mark_list(list, &mut apart);
+    apart
+}
+
+// The key of the start of an accepted question; `differ`: all names differ.
+pub fn start_key(question: &[u8], differ: bool) -> [u8; KEY_BYTES]
+    ensures { λ r. ⌜ StartIs (now (question .entry)) differ r ⌝ }
 {
     let first = field_place(question, definitions(question));
     let second = after_field(question, first);
     let mut key = [0u8; KEY_BYTES];
     put_part(field_at(question, first), &mut key, 0);
     put_part(field_at(question, second), &mut key, PART_BYTES);
-    let mut apart = [0u8; PAIR_COUNT];
-    mark_list(
-        field_at(question, after_field(question, second)),
-        &mut apart,
-    );
+    let list = field_at(question, after_field(question, second));
+    let apart = start_pairs(list, differ);
     complete(&mut key, arities(question), apart);
     key
 }

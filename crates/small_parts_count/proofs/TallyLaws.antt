@@ -11,7 +11,7 @@ use Rattle.terms_bytes.proofs.Stores.{sets-start}
 use Rattle.field.specs.Successors.{select}
 use Rattle.verdict.specs.Judge.{slotBytes, judgeBy, judgeOf}
 use Rattle.verdict.proofs.CapacityLaws.{within-passes}
-use Rattle.verdict.specs.Verdict.{Verdict, unsettled, same, different}
+use Rattle.verdict.specs.Verdict.{openly, Verdict, unsettled, same, different}
 use Rattle.verdict_judge.specs.Judging.{judgedAnswer, JudgedIs}
 use Rattle.verdict_judge.specs.declared.judge.Judged.{Judged}
 use Rattle.verdict_judge.specs.declared.judge.Judged.the-variants.{Refused, Unsettled, Same, Different}
@@ -27,7 +27,7 @@ use Rattle.small_parts_count.specs.declared.tally.Tally.{Tally}
 
 -- The verdict is that of the judge, whose checks 1 and 2 pass.
 pub judge-verdict : (n a b : ℕ) (question work : List ℕ) (r : Judged) (work′ : List ℕ) → question ≡ asked (wordOf n a) (wordOf n b)
-    → 47616 ≤ length work → JudgedIs question 186 work r work′ → judgedAnswer r ≡ verdictOn (wordOf n a) (wordOf n b)
+    → 47616 ≤ length work → JudgedIs openly question 186 work r work′ → judgedAnswer r ≡ verdictOn (wordOf n a) (wordOf n b)
 unfolding judgeBy verdictOn
 judge-verdict n a b question work r work′ e h d =
     d .answer ∙ ap (λ q. judgeOf q 186 (length work)) e

@@ -14,10 +14,8 @@ use Rattle.terms.specs.Answer.{result}
 use Rattle.terms.specs.Limits.{nameCount}
 use Rattle.terms.specs.Question.{Question, checkOf}
 use Rattle.terms.proofs.Answers.{result-injective}
-use Rattle.terms.proofs.WellFormed.{WellFormed, accepted-well-formed}
 use Rattle.steps.specs.Lists.{_∈_}
 use Rattle.steps.proofs.Membership.{all-∈}
-use Rattle.steps.proofs.QuestionDefinitions.{definitions}
 use Rattle.field_slots.specs.Chains.{Chained}
 use Rattle.field.specs.Exploration.{found, Row, Exploration, incomplete, explored, fieldOf}
 use Rattle.field_growth.specs.Holding.{unanswered}
@@ -35,86 +33,88 @@ use Rattle.field.proofs.Explored.{Rows, row-of}
 use Rattle.field.proofs.Link.{SettingFor}
 use Rattle.field.specs.Situation.{Proper}
 use Rattle.field.proofs.Proper.{same-equal}
-use Rattle.field.proofs.QuestionField.{question-setting, start-proper}
+use Rattle.field.proofs.QuestionField.{start-proper}
 use Rattle.field.proofs.Run.{selves}
-use Rattle.field.proofs.SuccessorsLinked.{successors-linked}
 use Rattle.field.proofs.Unseen.{∈-found}
 use Rattle.field.proofs.Members.{getD-∈}
 use Rattle.field_growth.proofs.KeysDiffer.{key-equal, slot-key}
 use Rattle.verdict_judge.specs.Judging.{judgedAnswer, DecidesIs}
-use Rattle.verdict_survival.specs.Striking.{leftOf, marks, Standing, EqualParts, LeadsToEqual, FieldIn, Searching, SurvivesIs, AllSole, Strikes, AllSurvive, StartSurvivesIs}
-use Rattle.verdict.specs.Verdict.{openly, differs, demandsOf, same, different, decided, verdictBy, verdictOf}
-use Rattle.verdict.specs.Verdict as demanded
-use Rattle.verdict_strikeout.proofs.Unanswered.{singly}
+use Rattle.verdict_survival.specs.Striking.{leftOf, marks, Standing, EqualParts, demandsAt, LeadsToEqual, FieldIn, Searching, SurvivesIs, AllSole, Strikes, AllSurvive, StartSurvivesIs}
+use Rattle.verdict.specs.Verdict.{Manner, openly, differs, demandsOf, allAnswered, same, different, decided, verdictBy}
 use Rattle.verdict_judge.specs.declared.judge.Judged.{Judged}
 use Rattle.verdict_judge.specs.declared.judge.Judged.the-variants.{Unsettled, Same, Different}
 use Rattle.verdict_strikeout.proofs.AnyOrder.{StrikesTo, NoneToStrike, survivors-left, same-found}
 use Rattle.verdict_judge.proofs.ByNumber.{distinct-number}
-use Rattle.verdict_strikeout.proofs.EqualParts.{some-equal}
+use Rattle.verdict_strikeout.proofs.EqualParts.{equal-met}
 use Rattle.verdict_strikeout.proofs.FieldKept.{field-kept}
-use Rattle.verdict.proofs.FieldRows.{FieldRows, good-rows, explored-rows, rows-field}
+use Rattle.verdict.proofs.FieldRows.{FieldRows, explored-rows, rows-field}
 use Rattle.verdict_survival.proofs.LeftLaws.{left-found}
 use Rattle.verdict_survival.proofs.Living.{living-at}
 use Rattle.verdict_survival.proofs.Marks.{marks-at}
-use Rattle.verdict.proofs.RelatedVerdicts.{question-defines}
-use Rattle.verdict.proofs.Rounds.{true-not-false, survivors, found-survives}
+use Rattle.verdict.proofs.Rounds.{true-not-false, self-in, survivors, GoodRows, found-survives}
+use Rattle.verdict_survival.proofs.DemandedMoves.{well, Δ, setting, move-demanded, demand-followed}
 use Rattle.verdict_strikeout.proofs.StrikeLaws.{still, still-with, strikes-rest, strikes-to}
 
 -- The explored field of an accepted question in the slots.
-module _ (question : List ℕ) (q : Question) (accepted : checkOf question ≡ result q) (capacity : ℕ) (rs : List Row)
-    (field : fieldOf (settingOf false (q .bodies)) capacity (startOf false q) ≡ explored rs) (work : List ℕ) (holds : SlotsHold work (selves rs))
+module _ (manner : Manner) (question : List ℕ) (q : Question) (accepted : checkOf question ≡ result q) (capacity : ℕ) (rs : List Row)
+    (field : fieldOf (settingOf (differs manner) (q .bodies)) capacity (startOf (differs manner) q) ≡ explored rs) (work : List ℕ) (holds : SlotsHold work (selves rs))
     (first : StruckFirst work rs)
     (chained : Chained capacity work (length rs))
     (room : slotBytes * length rs ≤ length work) where
   abbrev S : Setting
-  S = settingOf false (q .bodies)
+  S = settingOf (differs manner) (q .bodies)
 
   abbrev demands : Row → List (List (List Situation))
-  demands = demandsOf openly S
+  demands = demandsOf manner S
 
-  merging : S .differ ≡ false
-  unfolding settingOf
-  merging = refl
+  abbrev defs : Defs
+  defs = Δ question q accepted
 
-  well : WellFormed q
-  well = accepted-well-formed question q accepted
-
-  Δ : Defs
-  Δ = definitions (q .arities) (q .bodies) (well .bodies)
-
-  setting : SettingFor Δ S (q .arities)
-  unfolding Δ
-  setting = let d = question-defines q (well .bodies) in question-setting false q well Δ (d .arities) (d .bodies)
+  fits : SettingFor defs S (q .arities)
+  fits = setting question q accepted manner
 
   abbrev Good : Situation → Type 0
   Good = Proper (S .names) (q .arities)
 
-  start : Good (startOf false q)
+  start : Good (startOf (differs manner) q)
   unfolding settingOf
-  start = start-proper false q well
+  start = start-proper (differs manner) q (well question q accepted)
 
-  rows : Rows S (startOf false q) rs
-  rows = explored-rows Δ S (q .arities) setting (startOf false q) start capacity rs field
+  rows : Rows S (startOf (differs manner) q) rs
+  rows = explored-rows defs S (q .arities) fits (startOf (differs manner) q) start capacity rs field
 
-  those : FieldRows Δ S (q .arities) rs
-  those = rows-field Δ S (q .arities) setting (startOf false q) start rs rows
+  those : FieldRows defs S (q .arities) rs
+  those = rows-field defs S (q .arities) fits (startOf (differs manner) q) start rs rows
 
   count : length (selves rs) ≡ length rs
   count = length-map rs (λ (r : Row). r .self)
 
   decides : (s t : Situation) → Good s → Good t → sameSituation s t ≡ true → s ≡ t
-  decides = same-equal (S .names) (omega (arith, setting .few)) (q .arities)
+  decides = same-equal (S .names) (omega (arith, fits .few)) (q .arities)
+
+  within : (r : Row) → r ∈ rs → successors S (r .self) ≡ leads (r .wants)
+  within r m = all-∈ (λ r. successors S (r .self) ≡ leads (r .wants)) rs (rows .within) r m
+
+  -- what is demanded is among the rows
+  good : GoodRows demands Good rs
+  unfolding settingOf
+  good = record {
+    self = λ r m. those .proper (r .self) (self-in r rs m);
+    demands = λ r m d i l j t h.
+        let (w, a, b) = demand-followed question q accepted manner (r .self) (those .proper (r .self) (self-in r rs m)) (r .wants) (within r m) d i l j t h in
+        those .proper t (those .closed r m w a t b);
+  }
 
   -- each situation has one slot
   slot-once : (i j : ℕ) → i < length (selves rs) → j < length (selves rs) → keyAt work i ≡ keyAt work j → i ≡ j
   unfolding settingOf
   slot-once i j h k e =
-      let s : Situation = getD (selves rs) i (startOf false q) in
-      let t : Situation = getD (selves rs) j (startOf false q) in
-      let a = holds .held i (startOf false q) h in
-      let b = holds .held j (startOf false q) k in
-      distinct-number (selves rs) (rows .distinct) i j (startOf false q) (startOf false q) h k
-      (key-equal (q .arities) s t (those .proper s (getD-∈ (selves rs) i (startOf false q) h)) (those .proper t (getD-∈ (selves rs) j (startOf false q) k))
+      let s : Situation = getD (selves rs) i (startOf (differs manner) q) in
+      let t : Situation = getD (selves rs) j (startOf (differs manner) q) in
+      let a = holds .held i (startOf (differs manner) q) h in
+      let b = holds .held j (startOf (differs manner) q) k in
+      distinct-number (selves rs) (rows .distinct) i j (startOf (differs manner) q) (startOf (differs manner) q) h k
+      (key-equal (q .arities) s t (those .proper s (getD-∈ (selves rs) i (startOf (differs manner) q) h)) (those .proper t (getD-∈ (selves rs) j (startOf (differs manner) q) k))
       (record { first = a .first; second = a .second }) (record { first = b .first; second = b .second })
       (sym (slot-key work i s a) ∙ e ∙ slot-key work j t b))
 
@@ -126,13 +126,10 @@ module _ (question : List ℕ) (q : Question) (accepted : checkOf question ≡ r
     exact = λ s t m n e. decides s t (those .proper s m) (those .proper t n) e;
   }
 
-  within : (r : Row) → r ∈ rs → successors S (r .self) ≡ leads (r .wants)
-  within r m = all-∈ (λ r. successors S (r .self) ≡ leads (r .wants)) rs (rows .within) r m
-
   leads-within : (s : Situation) → s ∈ selves rs → (ms : List (List Situation)) → successors S s ≡ leads ms
       → (w : List Situation) → w ∈ ms → (t : Situation) → t ∈ w → t ∈ selves rs
   leads-within s m ms e w i t k =
-      let (r, j, d) = row-of S (startOf false q) rs (rows .within) s m in
+      let (r, j, d) = row-of S (startOf (differs manner) q) rs (rows .within) s m in
       let z : ms ≡ r .wants = cc in
       those .closed r j w (subst (λ ms. w ∈ ms) z i) t k
 
@@ -149,18 +146,19 @@ module _ (question : List ℕ) (q : Question) (accepted : checkOf question ≡ r
       first i q h .must (ap unanswered w ∙ u)
 
   -- one with equal parts leads to such, and is left
-  leads-equal : (s : Situation) → s ∈ selves rs → EqualParts s → LeadsToEqual q s
+  leads-equal : (s : Situation) → s ∈ selves rs → EqualParts s → LeadsToEqual manner q s
+  unfolding settingOf
   leads-equal s m e =
-      let (r, j, d) = row-of S (startOf false q) rs (rows .within) s m in
+      let (r, j, d) = row-of S (startOf (differs manner) q) rs (rows .within) s m in
       record {
         wants = r .wants;
         leading = d;
-        some = λ w k. some-equal Δ S s w e (successors-linked Δ S (q .arities) setting s (those .proper s m) .open-given merging (r .wants) d .each w k);
+        some = equal-met question q accepted manner s (those .proper s m) (r .wants) d e;
       }
 
   -- by the numbers below k: a struck one would lead to equal parts that are struck out and have a smaller number
   left-below : (k i : ℕ) → i < k → (d : Situation) → i < length rs → EqualParts (getD (selves rs) i d) → getD work (struckAt i) 0 ≡ 0
-  unfolding StruckFirst
+  unfolding StruckFirst settingOf
   left-below zero i l d h e = absurd (omega arith)
   left-below (suc k) i l d h e = go (ℕ-discrete (getD work (struckAt i) 0) 0) (λ j m. left-below k j (omega arith))
     where
@@ -173,20 +171,24 @@ module _ (question : List ℕ) (q : Question) (accepted : checkOf question ≡ r
       go (yes z) ih = z
       go (no z) ih =
           let r : Row = getD rs i o in
-          let x = leads-equal (getD (selves rs) i d) (getD-∈ (selves rs) i d (omega (arith, count))) e in
+          let here : Situation = getD (selves rs) i d in
+          let there : here ∈ selves rs = getD-∈ (selves rs) i d (omega (arith, count)) in
+          let x = leads-equal here there e in
           let t : successors S (getD (selves rs) i d) ≡ leads (r .wants) =
           ap (successors S) (List·getD-map (λ (r : Row). r .self) rs i o) ∙ within r (getD-∈ rs i o h) in
           let same : r .wants ≡ x .wants = cc (x .leading) in
           let (w, m, a) = first i o h .why z in
-          let (u, n, p) = x .some w (subst (λ ms. w ∈ ms) same m) in
-          let (j, b, is, gone) = all-∈ _ w a u n in
-          let there : getD (selves rs) j d ≡ u = List·getD-map (λ (r : Row). r .self) rs j o ∙ is o in
-          absurd (gone (ih j b d (omega arith) (subst EqualParts (sym there) p)))
+          let (y, n, v) = move-demanded question q accepted manner here (those .proper here there) (r .wants) t w m in
+          let (l, f, p) = x .some y (subst (λ ms. y ∈ demandsAt manner q here ms) same n) in
+          let (u, g, k) = v l f in
+          let (j, b, is, gone) = all-∈ _ w a u k in
+          let those : getD (selves rs) j d ≡ u = List·getD-map (λ (r : Row). r .self) rs j o ∙ is o in
+          absurd (gone (ih j b d (omega arith) (subst EqualParts (sym those) (p u g))))
 
   left-equal : (i : ℕ) (d : Situation) → i < length rs → EqualParts (getD (selves rs) i d) → getD work (struckAt i) 0 ≡ 0
   left-equal i d h e = left-below (length rs) i h d h e
 
-  searching : Searching question capacity work (length rs)
+  searching : Searching manner question capacity work (length rs)
   unfolding settingOf
   searching = record {
     field = record {
@@ -204,28 +206,28 @@ module _ (question : List ℕ) (q : Question) (accepted : checkOf question ≡ r
   }
 
   -- A field in the work area is this one: each slot has one situation.
-  module _ (f : FieldIn question capacity work (length rs)) where
+  module _ (f : FieldIn manner question capacity work (length rs)) where
     read-is : f .read ≡ q
     read-is = result-injective (sym (f .accepted) ∙ accepted)
 
     known-is : f .known ≡ selves rs
     unfolding settingOf
-    known-is = ext-getD (startOf false q) (f .known) (selves rs) (f .number ∙ sym count) (λ i h. same i h (omega (arith, f .number, count)))
+    known-is = ext-getD (startOf (differs manner) q) (f .known) (selves rs) (f .number ∙ sym count) (λ i h. same i h (omega (arith, f .number, count)))
       where
-        same : (i : ℕ) → i < length (f .known) → i < length (selves rs) → getD (f .known) i (startOf false q) ≡ getD (selves rs) i (startOf false q)
+        same : (i : ℕ) → i < length (f .known) → i < length (selves rs) → getD (f .known) i (startOf (differs manner) q) ≡ getD (selves rs) i (startOf (differs manner) q)
         same i h k =
-            let s : Situation = getD (f .known) i (startOf false q) in
-            let t : Situation = getD (selves rs) i (startOf false q) in
-            let a = f .standing .held i (startOf false q) h in
-            let b = holds .held i (startOf false q) k in
+            let s : Situation = getD (f .known) i (startOf (differs manner) q) in
+            let t : Situation = getD (selves rs) i (startOf (differs manner) q) in
+            let a = f .standing .held i (startOf (differs manner) q) h in
+            let b = holds .held i (startOf (differs manner) q) k in
             key-equal (q .arities) s t
-            (subst (λ q. Proper nameCount (q .arities) s) read-is (f .proper s (getD-∈ (f .known) i (startOf false q) h)))
-            (those .proper t (getD-∈ (selves rs) i (startOf false q) k))
+            (subst (λ q. Proper nameCount (q .arities) s) read-is (f .proper s (getD-∈ (f .known) i (startOf (differs manner) q) h)))
+            (those .proper t (getD-∈ (selves rs) i (startOf (differs manner) q) k))
             (record { first = a .first; second = a .second }) (record { first = b .first; second = b .second })
             (sym (slot-key work i s a) ∙ slot-key work i t b)
 
   -- what exploration noted is the only answer to a step
-  pub explored-sole : SoleNoted work rs → AllSole question capacity work (length rs)
+  pub explored-sole : SoleNoted work rs → AllSole manner question capacity work (length rs)
   unfolding SoleNoted AllSole
   explored-sole sole i k h g f d ms e =
       let o : Row = record { self = d; wants = [] } in
@@ -234,110 +236,110 @@ module _ (question : List ℕ) (q : Question) (accepted : checkOf question ≡ r
       let same : r .self ≡ getD (f .known) i d =
       sym (List·getD-map (λ (r : Row). r .self) rs i o) ∙ ap (λ ks. getD ks i d) (sym (known-is f)) in
       let t : successors S (r .self) ≡ leads ms =
-      ap (successors S) same ∙ subst (λ (q : Question). successors (settingOf false (q .bodies)) (getD (f .known) i d) ≡ leads ms) (read-is f) e in
+      ap (successors S) same ∙ subst (λ (q : Question). successors (settingOf (differs manner) (q .bodies)) (getD (f .known) i d) ≡ leads ms) (read-is f) e in
       let w : r .wants ≡ ms = cc in
       subst (λ ks. SoleIn ks ms (noteAt work i k)) (sym (known-is f))
       (subst (λ ms. SoleIn (selves rs) ms (noteAt work i k)) w (sole i k o h g))
 
-  start-here : getD (selves rs) 0 (startOf false q) ≡ startOf false q
-  start-here = let (ts, e) = rows .first in ap (λ l. getD l 0 (startOf false q)) e
+  start-here : getD (selves rs) 0 (startOf (differs manner) q) ≡ startOf (differs manner) q
+  start-here = let (ts, e) = rows .first in ap (λ l. getD l 0 (startOf (differs manner) q)) e
 
   some : 0 < length (selves rs)
   some = let (ts, e) = rows .first in omega (arith, ap length e)
 
-  module _ (v : List ℕ) (strikes : Strikes question capacity (length rs) work v) where
+  module _ (v : List ℕ) (strikes : Strikes manner question capacity (length rs) work v) where
     struck : StrikesTo demands rs (leftOf v (selves rs))
     unfolding searching
-    struck = strikes-to question capacity work rs searching refl room within first strikes
+    struck = strikes-to manner question capacity work rs searching refl room within first strikes
 
-    search : Searching question capacity v (length rs)
-    search = still question capacity (length rs) strikes searching
+    search : Searching manner question capacity v (length rs)
+    search = still manner question capacity (length rs) strikes searching
 
     -- the byte of slot 0
-    start-left : found (leftOf v (selves rs)) (startOf false q) ≡ eqb (getD v (struckAt 0) 0) 0
+    start-left : found (leftOf v (selves rs)) (startOf (differs manner) q) ≡ eqb (getD v (struckAt 0) 0) 0
     unfolding search still still-with field-kept searching
-    start-left = left-found v (selves rs) (search .field .standing) 0 (startOf false q) (startOf false q) some start-here
+    start-left = left-found v (selves rs) (search .field .standing) 0 (startOf (differs manner) q) (startOf (differs manner) q) some start-here
 
-    none-to-strike : AllSurvive question capacity v (length rs) → NoneToStrike demands rs (leftOf v (selves rs))
+    none-to-strike : AllSurvive manner question capacity v (length rs) → NoneToStrike demands rs (leftOf v (selves rs))
     unfolding AllSurvive SurvivesIs demandsOf search still still-with field-kept searching
     none-to-strike a = record { answers = each }
       where
-        each : (r : Row) → r ∈ rs → r .self ∈ leftOf v (selves rs) → demanded.allAnswered (leftOf v (selves rs)) (demands r) ≡ true
+        each : (r : Row) → r ∈ rs → r .self ∈ leftOf v (selves rs) → allAnswered (leftOf v (selves rs)) (demands r) ≡ true
         each r m k =
-            singly (leftOf v (selves rs)) (r .wants) ∙
             let l = living-at (marks v (length (selves rs))) (selves rs) (r .self) k in
-            sym (a (l .number) (omega (arith, l .within, count))
+            ap (λ u. allAnswered (leftOf v (selves rs)) (demandsAt manner q u (r .wants))) (sym (l .is))
+            ∙ sym (a (l .number) (omega (arith, l .within, count))
             (sym (marks-at v (length (selves rs)) (l .number) 1 (l .within)) ∙ l .flag)
             search (r .self) (r .wants) (ap (successors S) (l .is) ∙ within r m))
 
   -- whether the start survives the rounds
-  start-verdict : (r : Bool) (v : List ℕ) → StartSurvivesIs question capacity work (length rs) r v → found (selves (survivors demands rs)) (startOf false q) ≡ r
+  start-verdict : (r : Bool) (v : List ℕ) → StartSurvivesIs manner question capacity work (length rs) r v → found (selves (survivors demands rs)) (startOf (differs manner) q) ≡ r
   start-verdict true v s =
       let (z, a) = s .stays refl in
-      sym (same-found Good decides demands rs (good-rows those) (rows .distinct) (leftOf v (selves rs)) (struck v (s .strikes)) (none-to-strike v (s .strikes) a)
-      (startOf false q) start)
+      sym (same-found Good decides demands rs good (rows .distinct) (leftOf v (selves rs)) (struck v (s .strikes)) (none-to-strike v (s .strikes) a)
+      (startOf (differs manner) q) start)
       ∙ start-left v (s .strikes) ∙ eq-eqb (getD v (struckAt 0) 0) 0 z
-  start-verdict false v s = go (found (selves (survivors demands rs)) (startOf false q)) refl
+  start-verdict false v s = go (found (selves (survivors demands rs)) (startOf (differs manner) q)) refl
     where
-      go : (b : Bool) → found (selves (survivors demands rs)) (startOf false q) ≡ b → found (selves (survivors demands rs)) (startOf false q) ≡ false
+      go : (b : Bool) → found (selves (survivors demands rs)) (startOf (differs manner) q) ≡ b → found (selves (survivors demands rs)) (startOf (differs manner) q) ≡ false
       go false e = e
       go true e =
-          let m = survivors-left Good decides demands rs (good-rows those) (rows .distinct) (struck v (s .strikes)) (startOf false q)
-          (found-survives demands Good decides rs (good-rows those) (startOf false q) start e) in
-          true-not-false (∈-found (leftOf v (selves rs)) (startOf false q) m)
+          let m = survivors-left Good decides demands rs good (rows .distinct) (struck v (s .strikes)) (startOf (differs manner) q)
+          (found-survives demands Good decides rs good (startOf (differs manner) q) start e) in
+          true-not-false (∈-found (leftOf v (selves rs)) (startOf (differs manner) q) m)
           (start-left v (s .strikes) ∙ ne-eqb (getD v (struckAt 0) 0) 0 (s .goes refl))
 
-  pub verdict-is : (r : Bool) (v : List ℕ) → StartSurvivesIs question capacity work (length rs) r v → verdictOf q capacity ≡ cond r (same (length rs)) (different (length rs))
-  unfolding verdictBy differs decided survivors
+  pub verdict-is : (r : Bool) (v : List ℕ) → StartSurvivesIs manner question capacity work (length rs) r v → verdictBy manner q capacity ≡ cond r (same (length rs)) (different (length rs))
+  unfolding verdictBy decided survivors
   verdict-is r v s =
-      ap (decided demands (startOf false q)) field ∙ ap (λ b. cond b (same (length rs)) (different (length rs))) (start-verdict r v s)
+      ap (decided demands (startOf (differs manner) q)) field ∙ ap (λ b. cond b (same (length rs)) (different (length rs))) (start-verdict r v s)
 
 -- decide
 module _ (question : List ℕ) (capacity : ℕ) (work w : List ℕ) (x : Explored) (e : ExploreIs question capacity work x w) where
-  pub unsettled-is : x ≡ Incomplete → DecidesIs question capacity work Unsettled w
+  pub unsettled-is : x ≡ Incomplete → DecidesIs openly question capacity work Unsettled w
   unfolding judgedAnswer verdictBy differs decided Explores
   unsettled-is h = record { rest = e .rest; is = λ q a. go q (fieldOf (settingOf false (q .bodies)) capacity (startOf false q)) refl (e .is q a) }
     where
       go : (q : Question) (y : Exploration) → fieldOf (settingOf false (q .bodies)) capacity (startOf false q) ≡ y → Explores y x w
-          → judgedAnswer Unsettled ≡ result (verdictOf q capacity)
+          → judgedAnswer Unsettled ≡ result (verdictBy openly q capacity)
       go q incomplete f k = sym (ap (λ y. result (decided (demandsOf openly (settingOf false (q .bodies))) (startOf false q) y)) f)
       go q (explored rs) f k = let z : _≡_ {A = ℕ} 0 1 = cc (k .0) in absurd (omega arith)
 
   -- what is noted when strike-out begins
-  pub sole-all : (n : ℕ) → x ≡ Field n → slotBytes * capacity ≤ length w → AllSole question capacity w n
-  unfolding AllSole Explores
+  pub sole-all : (n : ℕ) → x ≡ Field n → slotBytes * capacity ≤ length w → AllSole openly question capacity w n
+  unfolding AllSole Explores differs
   sole-all n h room i k l g f =
       go (f .read) (f .accepted) (fieldOf (settingOf false (f .read .bodies)) capacity (startOf false (f .read))) refl (e .is (f .read) (f .accepted)) i k l g f
     where
       go : (q : Question) → checkOf question ≡ result q → (y : Exploration) → fieldOf (settingOf false (q .bodies)) capacity (startOf false q) ≡ y → Explores y x w
-          → AllSole question capacity w n
+          → AllSole openly question capacity w n
       go q a incomplete f k = let z : _≡_ {A = ℕ} 0 1 = cc in absurd (omega arith)
       go q a (explored rs) f k =
           let z : n ≡ length rs = cc (k .0) in
-          subst (AllSole question capacity w) (sym z)
-          (explored-sole question q a capacity rs f w (k .1) (k .2) (subst (Chained capacity w) z (e .chained q a n h)) (omega (arith, e .within n h .1)) (k .3))
+          subst (AllSole openly question capacity w) (sym z)
+          (explored-sole openly question q a capacity rs f w (k .1) (k .2) (subst (Chained capacity w) z (e .chained q a n h)) (omega (arith, e .within n h .1)) (k .3))
 
-  module _ (n : ℕ) (h : x ≡ Field n) (room : slotBytes * capacity ≤ length w) (r : Bool) (u : List ℕ) (s : StartSurvivesIs question capacity w n r u) where
-    settled : (o : Judged) → judgedAnswer o ≡ result (cond r (same n) (different n)) → DecidesIs question capacity work o u
-    unfolding Explores
+  module _ (n : ℕ) (h : x ≡ Field n) (room : slotBytes * capacity ≤ length w) (r : Bool) (u : List ℕ) (s : StartSurvivesIs openly question capacity w n r u) where
+    settled : (o : Judged) → judgedAnswer o ≡ result (cond r (same n) (different n)) → DecidesIs openly question capacity work o u
+    unfolding Explores differs
     settled o j = record {
-      rest = strikes-rest question capacity n capacity (e .within n h .1) (s .strikes) ∙ e .rest;
+      rest = strikes-rest openly question capacity n capacity (e .within n h .1) (s .strikes) ∙ e .rest;
       is = λ q a. go q a (fieldOf (settingOf false (q .bodies)) capacity (startOf false q)) refl (e .is q a);
     }
       where
         go : (q : Question) → checkOf question ≡ result q → (y : Exploration) → fieldOf (settingOf false (q .bodies)) capacity (startOf false q) ≡ y → Explores y x w
-            → judgedAnswer o ≡ result (verdictOf q capacity)
+            → judgedAnswer o ≡ result (verdictBy openly q capacity)
         go q a incomplete f k = let z : _≡_ {A = ℕ} 0 1 = cc in absurd (omega arith)
         go q a (explored rs) f k =
             let z : n ≡ length rs = cc (k .0) in
             j ∙ ap (λ m. result (cond r (same m) (different m))) z
-            ∙ sym (ap result (verdict-is question q a capacity rs f w (k .1) (k .2) (subst (Chained capacity w) z (e .chained q a n h)) (omega (arith, e .within n h .1)) r u
-            (subst (λ m. StartSurvivesIs question capacity w m r u) z s)))
+            ∙ sym (ap result (verdict-is openly question q a capacity rs f w (k .1) (k .2) (subst (Chained capacity w) z (e .chained q a n h)) (omega (arith, e .within n h .1)) r u
+            (subst (λ m. StartSurvivesIs openly question capacity w m r u) z s)))
 
-    pub same-is : r ≡ true → DecidesIs question capacity work (Same n) u
+    pub same-is : r ≡ true → DecidesIs openly question capacity work (Same n) u
     unfolding judgedAnswer
     same-is t = settled (Same n) (ap (λ b. result (cond b (same n) (different n))) (sym t))
 
-    pub different-is : r ≡ false → DecidesIs question capacity work (Different n) u
+    pub different-is : r ≡ false → DecidesIs openly question capacity work (Different n) u
     unfolding judgedAnswer
     different-is t = settled (Different n) (ap (λ b. result (cond b (same n) (different n))) (sym t))

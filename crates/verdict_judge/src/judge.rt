@@ -5,6 +5,7 @@ ghost use mathlib.Core.List.{_++_};
 ghost use Prim.Native.Nat.{_*_, _≤_};
 ghost use lib.ListN.{length, drop, replicate};
 ghost use Rattle.verdict.specs.Judge.{slotBytes, greatestCapacity};
+ghost use Rattle.verdict.specs.Verdict.{openly};
 ghost use Rattle.terms_bytes.specs.Writing.{Accepted};
 ghost use Rattle.terms_converting.specs.Questions.{AcceptedFrom};
 ghost use Rattle.verdict_judge.specs.Judging.{DecidesIs, AcceptedIs, OwnIs, JudgedIs};
@@ -46,7 +47,7 @@ fn clear(work: &mut [u8], n: usize)
 // The verdict on an accepted question of edition one. The tallies of the bodies, the lister's tables and the lists of the two sides serve exploration and passes.
 fn decide(question: &[u8], capacity: usize, work: &mut [u8]) -> Judged
     requires { ⌜ (1 ≤ capacity) × (capacity ≤ greatestCapacity) × (slotBytes * capacity ≤ length (now work)) ⌝ }
-    ensures { λ r. ⌜ DecidesIs (now (question .entry)) capacity (now (work .entry)) r (now (work .exit)) ⌝ }
+    ensures { λ r. ⌜ DecidesIs openly (now (question .entry)) capacity (now (work .entry)) r (now (work .exit)) ⌝ }
 {
     let bodies = body_tallies(question);
     let mut numbers = [0u32; SCRATCH_NUMBERS];
@@ -87,7 +88,7 @@ fn decide(question: &[u8], capacity: usize, work: &mut [u8]) -> Judged
 // The verdict on an accepted question of edition one; the work area is cleared behind it.
 fn judge_accepted(question: &[u8], capacity: usize, work: &mut [u8]) -> Judged
     requires { ⌜ (1 ≤ capacity) × (capacity ≤ greatestCapacity) × (slotBytes * capacity ≤ length (now work)) ⌝ }
-    ensures { λ r. ⌜ AcceptedIs (now (question .entry)) capacity (now (work .entry)) r (now (work .exit)) ⌝ }
+    ensures { λ r. ⌜ AcceptedIs openly (now (question .entry)) capacity (now (work .entry)) r (now (work .exit)) ⌝ }
 {
     let verdict = decide(question, capacity, work);
     clear(work, SLOT_BYTES * capacity);
@@ -97,7 +98,7 @@ fn judge_accepted(question: &[u8], capacity: usize, work: &mut [u8]) -> Judged
 // The same of edition two, by its edition-one form.
 fn judge_counted(question: &[u8], capacity: usize, work: &mut [u8]) -> Judged
     requires { ⌜ (1 ≤ capacity) × (capacity ≤ greatestCapacity) × (slotBytes * capacity ≤ length (now work)) × AcceptedFrom (now question) true ⌝ }
-    ensures { λ r. ⌜ OwnIs (now (question .entry)) capacity (now (work .entry)) r (now (work .exit)) ⌝ }
+    ensures { λ r. ⌜ OwnIs openly (now (question .entry)) capacity (now (work .entry)) r (now (work .exit)) ⌝ }
 {
     let mut plain = [0u8; LONGEST_QUESTION];
     let n = convert_question(question, true, &mut plain);
@@ -107,7 +108,7 @@ fn judge_counted(question: &[u8], capacity: usize, work: &mut [u8]) -> Judged
 // The verdict on an accepted question of either edition.
 fn judge_either(question: &[u8], capacity: usize, work: &mut [u8]) -> Judged
     requires { ⌜ (1 ≤ capacity) × (capacity ≤ greatestCapacity) × (slotBytes * capacity ≤ length (now work)) × Accepted (now question) ⌝ }
-    ensures { λ r. ⌜ OwnIs (now (question .entry)) capacity (now (work .entry)) r (now (work .exit)) ⌝ }
+    ensures { λ r. ⌜ OwnIs openly (now (question .entry)) capacity (now (work .entry)) r (now (work .exit)) ⌝ }
 {
     if is_counted(question) {
         return judge_counted(question, capacity, work);
@@ -117,7 +118,7 @@ fn judge_either(question: &[u8], capacity: usize, work: &mut [u8]) -> Judged
 
 // Judges a question within the capacity.
 pub fn judge(question: &[u8], capacity: u64, work: &mut [u8]) -> Judged
-    ensures { λ r. ⌜ JudgedIs (now (question .entry)) capacity (now (work .entry)) r (now (work .exit)) ⌝ }
+    ensures { λ r. ⌜ JudgedIs openly (now (question .entry)) capacity (now (work .entry)) r (now (work .exit)) ⌝ }
 {
     let turned = capacity_check(capacity, work.len());
     if turned != 0 {

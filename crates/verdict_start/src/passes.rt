@@ -7,6 +7,7 @@ ghost use Rattle.field_pairs.specs.Slot.{slotBytes};
 ghost use Rattle.steps_tallies.specs.Tally.{tallySize, BodiesTallied};
 ghost use Rattle.steps_rows.specs.Rows.{rowBytes, mostRows};
 ghost use Rattle.verdict.specs.Judge.{greatestCapacity};
+ghost use Rattle.verdict.specs.Verdict.{openly};
 ghost use Rattle.verdict_survival.specs.Striking.{AllSole, FirstStruckIs, StartSurvivesIs};
 use field_slots::find::Found;
 use field_slots::find::left_at;
@@ -30,7 +31,7 @@ fn survives_passes(
     rising: bool,
 ) -> bool
     requires { ⌜ (1 ≤ count) × (count ≤ capacity) × (slotBytes * capacity ≤ length (now work)) × BodiesTallied (now question) (now bodies) × (length (now numbers) ≡ tallySize) × (rowBytes * mostRows ≤ length (now rows)) × Labelled (now question) (now firsts) × Labelled (now question) (now seconds) × (capacity ≤ greatestCapacity) ⌝ }
-    ensures { λ r. ⌜ StartSurvivesIs (now (question .entry)) capacity (now (work .entry)) count r (now (work .exit)) ⌝ }
+    ensures { λ r. ⌜ StartSurvivesIs openly (now (question .entry)) capacity (now (work .entry)) count r (now (work .exit)) ⌝ }
 {
     clear_notes(work, count);
     let mut up = rising;
@@ -74,8 +75,8 @@ fn survives_struck(
     count: usize,
     rising: bool,
 ) -> bool
-    requires { ⌜ (1 ≤ count) × (count ≤ capacity) × (slotBytes * capacity ≤ length (now work)) × BodiesTallied (now question) (now bodies) × (length (now numbers) ≡ tallySize) × (rowBytes * mostRows ≤ length (now rows)) × Labelled (now question) (now firsts) × Labelled (now question) (now seconds) × (capacity ≤ greatestCapacity) × AllSole (now question) capacity (now work) count ⌝ }
-    ensures { λ r. ⌜ StartSurvivesIs (now (question .entry)) capacity (now (work .entry)) count r (now (work .exit)) ⌝ }
+    requires { ⌜ (1 ≤ count) × (count ≤ capacity) × (slotBytes * capacity ≤ length (now work)) × BodiesTallied (now question) (now bodies) × (length (now numbers) ≡ tallySize) × (rowBytes * mostRows ≤ length (now rows)) × Labelled (now question) (now firsts) × Labelled (now question) (now seconds) × (capacity ≤ greatestCapacity) × AllSole openly (now question) capacity (now work) count ⌝ }
+    ensures { λ r. ⌜ StartSurvivesIs openly (now (question .entry)) capacity (now (work .entry)) count r (now (work .exit)) ⌝ }
 {
     settle(
         question,
@@ -138,8 +139,8 @@ pub fn start_survives(
     capacity: usize,
     count: usize,
 ) -> bool
-    requires { ⌜ (1 ≤ count) × (count ≤ capacity) × (slotBytes * capacity ≤ length (now work)) × BodiesTallied (now question) (now bodies) × (length (now numbers) ≡ tallySize) × (rowBytes * mostRows ≤ length (now rows)) × Labelled (now question) (now firsts) × Labelled (now question) (now seconds) × (capacity ≤ greatestCapacity) × AllSole (now question) capacity (now work) count ⌝ }
-    ensures { λ r. ⌜ StartSurvivesIs (now (question .entry)) capacity (now (work .entry)) count r (now (work .exit)) ⌝ }
+    requires { ⌜ (1 ≤ count) × (count ≤ capacity) × (slotBytes * capacity ≤ length (now work)) × BodiesTallied (now question) (now bodies) × (length (now numbers) ≡ tallySize) × (rowBytes * mostRows ≤ length (now rows)) × Labelled (now question) (now firsts) × Labelled (now question) (now seconds) × (capacity ≤ greatestCapacity) × AllSole openly (now question) capacity (now work) count ⌝ }
+    ensures { λ r. ⌜ StartSurvivesIs openly (now (question .entry)) capacity (now (work .entry)) count r (now (work .exit)) ⌝ }
 {
     if !left_at(work, 0) {
         return false;

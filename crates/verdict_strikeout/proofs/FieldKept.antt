@@ -12,18 +12,21 @@ use Rattle.steps.specs.Lists.{_∈_}
 use Rattle.steps.proofs.Membership.{all-∈}
 use Rattle.field_slots.specs.Key.{keyAt}
 use Rattle.field_slots.specs.Noted.{notedCount, noteAt, SpareOnly, SoleIn}
+use Rattle.field.specs.Exploration.{found}
 use Rattle.field.specs.Situation.{Situation}
+use Rattle.field.proofs.Members.{getD-∈}
 use Rattle.field_pairs.specs.Slot.{slotBytes, struckAt}
 use Rattle.field_slots.proofs.ChainLaws.{key-flag, keeps-key, chained-kept}
 use Rattle.field_slots.proofs.NotedLaws.{note-flag}
 use Rattle.field_growth.proofs.SlotWriting.{situation-kept}
 use Rattle.verdict_survival.specs.Notes.{NotedIn, Has, NoteIs, ClearsNotes, RestsIs, SoleStruckIs}
-use Rattle.verdict_survival.specs.Striking.{answered, allAnswered, living, leftOf, Standing, ReliesOn, FieldIn, Searching, SurvivesIs, Relies, ExaminedIs, AllNoted, AllSole, NotesHold}
+use Rattle.verdict_survival.specs.Striking.{living, leftOf, Standing, SomeAnswer, ReliesOn, demandsAt, FieldIn, Searching, SurvivesIs, Relies, ExaminedIs, AllNoted, AllSole, NotesHold}
 use Rattle.verdict_survival.specs.declared.survive.Answered.{Answered}
 use Rattle.verdict_survival.proofs.LeftLaws.{left-found}
 use Rattle.verdict_survival.proofs.Marks.{marks-kept}
-use Rattle.verdict_survival.proofs.SideLaws.{found-answered, each-answered}
-use Rattle.verdict_strikeout.proofs.Unanswered.{none-answered, one-fails}
+use Rattle.verdict_survival.proofs.DemandedMoves.{move-demanded}
+use Rattle.verdict_survival.proofs.Demands.{all-meet, one-fails}
+use Rattle.verdict.specs.Verdict.{Manner, allAnswered}
 
 -- Keys and chains are as they were.
 pub record SameField (v u : List ℕ) : Type 0 where
@@ -59,8 +62,8 @@ standing-kept {capacity} {v} {u} known s st = record {
   exact = st .exact;
 }
 
-module _ (question : List ℕ) (capacity count : ℕ) where
-  unfoldable pub field-kept : {v u : List ℕ} → SameField v u → FieldIn question capacity v count → FieldIn question capacity u count
+module _ (manner : Manner) (question : List ℕ) (capacity count : ℕ) where
+  unfoldable pub field-kept : {v u : List ℕ} → SameField v u → FieldIn manner question capacity v count → FieldIn manner question capacity u count
   field-kept s f = record {
     read = f .read;
     accepted = f .accepted;
@@ -72,36 +75,36 @@ module _ (question : List ℕ) (capacity count : ℕ) where
     equal = f .equal;
   }
 
-  relies-kept : {v u : List ℕ} (i : ℕ) (H G : ℕ → Type 0) → SameField v u → ((j : ℕ) → H j → G j) → Relies question capacity v count i H
-      → Relies question capacity u count i G
+  relies-kept : {v u : List ℕ} (i : ℕ) (H G : ℕ → Type 0) → SameField v u → ((j : ℕ) → H j → G j) → Relies manner question capacity v count i H
+      → Relies manner question capacity u count i G
   unfolding Relies ReliesOn field-kept
   relies-kept i H G s more r f d ms e w m =
-      let (j, l, h, x) = r (field-kept (same-back s) f) d ms e w m in
-      (j, l, more j h, x)
+      let (l, i, a) = r (field-kept (same-back s) f) d ms e w m in
+      (l, i, λ t k. let (j, b, h, x) = a t k in (j, b, more j h, x))
 
   noted-kept : (v u : List ℕ) (i : ℕ) → SameField v u → ((k : ℕ) → k < notedCount → noteAt u i k ≡ noteAt v i k)
-      → (0 < noteAt v i 0 → Relies question capacity v count i (NotedIn v i)) → 0 < noteAt u i 0 → Relies question capacity u count i (NotedIn u i)
+      → (0 < noteAt v i 0 → Relies manner question capacity v count i (NotedIn v i)) → 0 < noteAt u i 0 → Relies manner question capacity u count i (NotedIn u i)
   unfolding NotedIn
   noted-kept v u i s so n h =
       relies-kept i (NotedIn v i) (NotedIn u i) s (λ j x. (x .0, x .1, so (x .0) (x .1) ∙ x .2)) (n (omega (arith, so 0 (omega arith))))
 
   -- What is noted holds still as a situation is struck out, as another is noted, and as nothing is noted.
-  noted-struck : (v : List ℕ) (i : ℕ) → AllNoted question capacity v count → AllNoted question capacity (set v (struckAt i) 1) count
+  noted-struck : (v : List ℕ) (i : ℕ) → AllNoted manner question capacity v count → AllNoted manner question capacity (set v (struckAt i) 1) count
   unfolding AllNoted
   noted-struck v i n j h = noted-kept v (set v (struckAt i) 1) j (struck-same v i) (note-flag v i 1 j) (n j h)
 
-  sole-struck : (v : List ℕ) (i : ℕ) → AllSole question capacity v count → AllSole question capacity (set v (struckAt i) 1) count
+  sole-struck : (v : List ℕ) (i : ℕ) → AllSole manner question capacity v count → AllSole manner question capacity (set v (struckAt i) 1) count
   unfolding AllSole field-kept
   sole-struck v i n j k h g f d ms e =
       subst (SoleIn (f .known) ms) (sym (note-flag v i 1 j k g)) (n j k h g (field-kept (same-back (struck-same v i)) f) d ms e)
 
-  pub notes-struck : (examine : Bool) (v : List ℕ) (i : ℕ) → NotesHold examine question capacity v count → NotesHold examine question capacity (set v (struckAt i) 1) count
+  pub notes-struck : (examine : Bool) (v : List ℕ) (i : ℕ) → NotesHold examine manner question capacity v count → NotesHold examine manner question capacity (set v (struckAt i) 1) count
   unfolding NotesHold
   notes-struck true v i n = noted-struck v i n
   notes-struck false v i n = sole-struck v i n
 
-  pub noted-one : (v u : List ℕ) (i : ℕ) (r : Answered) → ExaminedIs question capacity v count i r → r .all ≡ true → NoteIs v i (r .relied) u
-      → AllNoted question capacity v count → AllNoted question capacity u count
+  pub noted-one : (v u : List ℕ) (i : ℕ) (r : Answered) → ExaminedIs manner question capacity v count i r → r .all ≡ true → NoteIs v i (r .relied) u
+      → AllNoted manner question capacity v count → AllNoted manner question capacity u count
   unfolding AllNoted Has NotedIn
   noted-one v u i r x all note n j h = go (ℕ-discrete j i)
     where
@@ -111,54 +114,62 @@ module _ (question : List ℕ) (capacity count : ℕ) where
       has : (k : ℕ) → Has (r .relied) k → NotedIn u i k
       has k (l, g, e) = (l, omega (arith, x .numbers .used), note .here l (omega (arith, x .numbers .used)) ∙ e)
 
-      own : 0 < noteAt u i 0 → Relies question capacity u count i (NotedIn u i)
+      own : 0 < noteAt u i 0 → Relies manner question capacity u count i (NotedIn u i)
       own g = relies-kept i (Has (r .relied)) (NotedIn u i) same has (x .relies all (omega (arith, note .here 0 (omega arith))))
 
-      go : Dec (j ≡ i) → 0 < noteAt u j 0 → Relies question capacity u count j (NotedIn u j)
-      go (yes e) = subst (λ j. 0 < noteAt u j 0 → Relies question capacity u count j (NotedIn u j)) (sym e) own
+      go : Dec (j ≡ i) → 0 < noteAt u j 0 → Relies manner question capacity u count j (NotedIn u j)
+      go (yes e) = subst (λ j. 0 < noteAt u j 0 → Relies manner question capacity u count j (NotedIn u j)) (sym e) own
       go (no e) = noted-kept v u j same (note .others j e) (n j h)
 
-  pub noted-none : (v u : List ℕ) → ClearsNotes count v u → AllNoted question capacity u count
+  pub noted-none : (v u : List ℕ) → ClearsNotes count v u → AllNoted manner question capacity u count
   unfolding AllNoted
   noted-none v u c i h g = absurd (omega (arith, c .none i h))
 
   -- A situation survives while all that is noted for it is left.
-  pub rests-survives : (v : List ℕ) (i : ℕ) (r : Bool) → i < count → AllNoted question capacity v count → RestsIs v count i r → r ≡ true
-      → SurvivesIs question capacity v count i true
+  pub rests-survives : (v : List ℕ) (i : ℕ) (r : Bool) → i < count → AllNoted manner question capacity v count → RestsIs v count i r → r ≡ true
+      → SurvivesIs manner question capacity v count i true
   unfolding AllNoted RestsIs SurvivesIs Relies ReliesOn NotedIn
-  rests-survives v i r h n rests t f d ms e = sym (each-answered (leftOf v (f .field .known)) ms each)
+  rests-survives v i r h n rests t f d ms e =
+      sym (all-meet (leftOf v (f .field .known)) (demandsAt manner (f .field .read) (getD (f .field .known) i d) ms) each)
     where
       some : 0 < noteAt v i 0
       some = rests t 0 (omega arith) .0
 
-      each : (w : List Situation) → w ∈ ms → answered (leftOf v (f .field .known)) w ≡ true
-      each w m =
-          let (j, l, (k, b, q), x) = n i h some (f .field) d ms e w m in
+      left : (u : Situation) → (j : ℕ) × (j < length (f .field .known)) × NotedIn v i j × ((d : Situation) → getD (f .field .known) j d ≡ u)
+          → found (leftOf v (f .field .known)) u ≡ true
+      left u (j, l, (k, b, q), x) =
           let z : noteAt v i k - 1 ≡ j = omega (arith, q) in
-          let left = subst (λ j. getD v (struckAt j) 0 ≡ 0) z (rests t k b .2) in
-          found-answered (leftOf v (f .field .known)) w (getD (f .field .known) j d) (x d)
-          (left-found v (f .field .known) (f .field .standing) j (getD (f .field .known) j d) d l refl ∙ eq-eqb (getD v (struckAt j) 0) 0 left)
+          left-found v (f .field .known) (f .field .standing) j u d l (x d) ∙ eq-eqb (getD v (struckAt j) 0) 0 (subst (λ j. getD v (struckAt j) 0 ≡ 0) z (rests t k b .2))
 
-  -- A situation does not survive if one that is noted for it, the only answer to a step, is struck out: that step is not answered.
-  pub sole-fails : (v : List ℕ) (i : ℕ) (r : Bool) → i < count → AllSole question capacity v count → SoleStruckIs v count i r → r ≡ true
-      → SurvivesIs question capacity v count i false
+      each : (m : List (List Situation)) → m ∈ demandsAt manner (f .field .read) (getD (f .field .known) i d) ms
+          → SomeAnswer (λ u. found (leftOf v (f .field .known)) u ≡ true) m
+      each m g = let (l, j, a) = n i h some (f .field) d ms e m g in (l, j, λ u k. left u (a u k))
+
+  -- A situation does not survive if one that is noted for it, the only answer to a move, is struck out: the demand of that move is not met.
+  pub sole-fails : (v : List ℕ) (i : ℕ) (r : Bool) → i < count → AllSole manner question capacity v count → SoleStruckIs v count i r → r ≡ true
+      → SurvivesIs manner question capacity v count i false
   unfolding AllSole SoleStruckIs SurvivesIs SoleIn
   sole-fails v i r h n struck t f d ms e =
       let (k, j, g, q, l, gone) = struck t in
       let (w, m, only) = n i k h g (f .field) d ms e j q in
-      sym (one-fails left w ms m (none-answered left w (λ u x.
-      let (b, is) = all-∈ _ w only u x in
-      left-found v (f .field .known) (f .field .standing) j u d b (is d) ∙ ne-eqb (getD v (struckAt j) 0) 0 gone)))
+      let (y, o, a) = move-demanded question (f .field .read) (f .field .accepted) manner here (f .field .proper here there) ms e w m in
+      sym (one-fails (leftOf v (f .field .known)) (demandsAt manner (f .field .read) here ms) y o (λ x b.
+      let (u, p, z) = a x b in
+      let (c, is) = all-∈ _ w only u z in
+      (u, p, left-found v (f .field .known) (f .field .standing) j u d c (is d) ∙ ne-eqb (getD v (struckAt j) 0) 0 gone)))
     where
-      left : List Situation
-      left = leftOf v (f .field .known)
+      here : Situation
+      here = getD (f .field .known) i d
+
+      there : here ∈ f .field .known
+      there = getD-∈ (f .field .known) i d (omega (arith, f .field .number))
 
   -- Notes change nothing that is left.
   module _ (v u : List ℕ) (s : SpareOnly count v u) where
     pub spare-mark : (i : ℕ) → getD u (struckAt i) 0 ≡ getD v (struckAt i) 0
     spare-mark i = s .slots i 241 (omega arith)
 
-    searching-back : Searching question capacity u count → Searching question capacity v count
+    searching-back : Searching manner question capacity u count → Searching manner question capacity v count
     unfolding field-kept
     searching-back f = record {
       field = field-kept (same-back (spare-same v u s)) (f .field);
@@ -169,6 +180,8 @@ module _ (question : List ℕ) (capacity count : ℕ) where
     pub spare-left : (known : List Situation) → leftOf u known ≡ leftOf v known
     spare-left known = ap (λ fs. living fs known) (marks-kept v u (length known) spare-mark)
 
-    pub survives-kept : (i : ℕ) (r : Bool) → SurvivesIs question capacity v count i r → SurvivesIs question capacity u count i r
+    pub survives-kept : (i : ℕ) (r : Bool) → SurvivesIs manner question capacity v count i r → SurvivesIs manner question capacity u count i r
     unfolding SurvivesIs searching-back field-kept
-    survives-kept i r h f d ms e = h (searching-back f) d ms e ∙ ap (λ l. allAnswered l ms) (sym (spare-left (f .field .known)))
+    survives-kept i r h f d ms e =
+        h (searching-back f) d ms e
+        ∙ ap (λ l. allAnswered l (demandsAt manner (f .field .read) (getD (f .field .known) i d) ms)) (sym (spare-left (f .field .known)))

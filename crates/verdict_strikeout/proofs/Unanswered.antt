@@ -14,39 +14,15 @@ use borrow.Author.Tests.{eq-eqb, ne-eqb}
 use Rattle.steps.specs.Lists.{_∈_, All}
 use Rattle.steps.proofs.Membership.{all-∈}
 use Rattle.field.specs.Exploration.{found, Row}
-use Rattle.field_growth.specs.Holding.{unanswered}
 use Rattle.field.specs.Situation.{Situation, sameSituation}
 use Rattle.field.proofs.Members.{getD-∈, getD-within}
 use Rattle.field.proofs.Run.{selves}
 use Rattle.field.proofs.Unseen.{∈-found}
-use Rattle.verdict_survival.specs.Striking.{answered, allAnswered, living}
+use Rattle.verdict_survival.specs.Striking.{living}
 use Rattle.verdict_strikeout.proofs.AnyOrder.{StrikesTo, all-left, one-struck}
 use Rattle.verdict_survival.proofs.Living.{living-at, struck-either, struck-within, all-living}
-use Rattle.verdict.specs.Verdict as demanded
-use Rattle.verdict.proofs.Rounds.{true-not-false, member-found, single}
-
-pub all-within : (left : List Situation) (ms : List (List Situation)) → unanswered ms ≡ false
-    → ((w : List Situation) → w ∈ ms → (t : Situation) → t ∈ w → t ∈ left) → allAnswered left ms ≡ true
-unfolding unanswered allAnswered answered
-all-within left [] e h = refl
-all-within left ([] ∷ ms) e h = true-not-false refl e
-all-within left ((s ∷ m) ∷ ms) e h =
-    rw (∈-found left s (h (s ∷ m) (inl refl) s (inl refl)), all-within left ms e (λ w i t k. h w (inr i) t k))
-
--- A step is not answered if nothing that it leads to is left.
-pub none-answered : (left w : List Situation) → ((t : Situation) → t ∈ w → found left t ≡ false) → answered left w ≡ false
-unfolding answered
-none-answered left [] h = refl
-none-answered left (t ∷ w) h = rw (h t (inl refl), none-answered left w (λ u m. h u (inr m)))
-
-pub one-fails : (left w : List Situation) (ms : List (List Situation)) → w ∈ ms → answered left w ≡ false → allAnswered left ms ≡ false
-unfolding allAnswered
-one-fails left w (m ∷ ms) (inl e) h = rw (← e, h)
-one-fails left w (m ∷ ms) (inr i) h = go (answered left m) (one-fails left w ms i h)
-  where
-    go : (b : Bool) → allAnswered left ms ≡ false → (b && allAnswered left ms) ≡ false
-    go true e = e
-    go false e = refl
+use Rattle.verdict.specs.Verdict.{allAnswered}
+use Rattle.verdict.proofs.Rounds.{member-found}
 
 -- Flags that are 0 at the same places leave the same.
 living-alike : (fs gs : List ℕ) (ss : List Situation) → length fs ≡ length gs → ((i : ℕ) → i < length fs → eqb (getD fs i 0) 0 ≡ eqb (getD gs i 0) 0)
@@ -58,23 +34,9 @@ living-alike (f ∷ fs) [] ss n h = absurd (omega arith)
 living-alike (f ∷ fs) (g ∷ gs) [] n h = refl
 living-alike (f ∷ fs) (g ∷ gs) (s ∷ ss) n h = rw (h 0 (omega arith), living-alike fs gs ss (omega arith) (λ i l. h (suc i) (omega arith)))
 
--- Where each answer leads to one situation, the demands are met exactly if the steps are answered.
-pub singly : (left : List Situation) (ms : List (List Situation)) → demanded.allAnswered left (map (map single) ms) ≡ allAnswered left ms
-unfolding demanded.allAnswered demanded.answered demanded.allFound allAnswered answered
-singly left [] = refl
-singly left (m ∷ ms) = ap₂ _&&_ (one m) (singly left ms)
-  where
-    just : (b : Bool) → (b && true) ≡ b
-    just true = refl
-    just false = refl
-
-    one : (m : List Situation) → demanded.answered left (map single m) ≡ answered left m
-    one [] = refl
-    one (t ∷ m) = ap₂ _||_ (just (found left t)) (one m)
-
 -- The rows with a flag each; `why` is what exploration promises. A demand is not met where nothing that a move leads to is left.
 module _ (d : Row → List (List (List Situation))) (rs : List Row)
-    (unmet : (left : List Situation) (r : Row) → r ∈ rs → (w : List Situation) → w ∈ r .wants → ((t : Situation) → t ∈ w → found left t ≡ false) → demanded.allAnswered left (d r) ≡ false)
+    (unmet : (left : List Situation) (r : Row) → r ∈ rs → (w : List Situation) → w ∈ r .wants → ((t : Situation) → t ∈ w → found left t ≡ false) → allAnswered left (d r) ≡ false)
     (fs : List ℕ) (number : length fs ≡ length rs)
     (exact : (s t : Situation) → s ∈ selves rs → t ∈ selves rs → sameSituation s t ≡ true → s ≡ t)
     (once : (i j : ℕ) (d : Situation) → i < length rs → j < length rs → getD (selves rs) i d ≡ getD (selves rs) j d → i ≡ j)
@@ -166,7 +128,7 @@ module _ (d : Row → List (List (List Situation))) (rs : List Row)
       r : Row
       r = getD rs k blank
 
-      fails : (getD fs k 0 ≡ 0 → ⊥) → demanded.allAnswered (leftTo k) (d r) ≡ false
+      fails : (getD fs k 0 ≡ 0 → ⊥) → allAnswered (leftTo k) (d r) ≡ false
       fails e =
           let (w, i, a) = why k blank (omega arith) e in
           unmet (leftTo k) r (getD-∈ rs k blank (omega arith)) w i (λ t m. let (j, l, is, z) = all-∈ _ w a t m in not-left k j l (omega arith) z t is)

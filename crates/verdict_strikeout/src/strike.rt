@@ -7,6 +7,7 @@ ghost use Rattle.field_pairs.specs.Slot.{slotBytes};
 ghost use Rattle.steps_tallies.specs.Tally.{tallySize, BodiesTallied};
 ghost use Rattle.steps_rows.specs.Rows.{rowBytes, mostRows};
 ghost use Rattle.verdict.specs.Judge.{greatestCapacity};
+ghost use Rattle.verdict.specs.Verdict.{openly};
 ghost use Rattle.verdict_survival.specs.Striking.{NotesHold, EqualPartsIs, StrikesSole, StrikesOne, Run, PassIs, blockSlots, turned};
 use field_kept_lists::list_area::same_part;
 use field_slots::find::KEY_BYTES;
@@ -61,8 +62,8 @@ fn strike_one(
     seconds: &mut [u8],
     examine: bool,
 ) -> bool
-    requires { ⌜ (i < count) × (count ≤ capacity) × (slotBytes * capacity ≤ length (now work)) × BodiesTallied (now question) (now bodies) × (length (now numbers) ≡ tallySize) × (rowBytes * mostRows ≤ length (now rows)) × Labelled (now question) (now firsts) × Labelled (now question) (now seconds) × (capacity ≤ greatestCapacity) × NotesHold examine (now question) capacity (now work) count ⌝ }
-    ensures { λ r. ⌜ StrikesOne examine (now (question .entry)) capacity (now (work .entry)) count i r (now (work .exit)) × Labelled (now (question .entry)) (now (firsts .exit)) × Labelled (now (question .entry)) (now (seconds .exit)) ⌝ }
+    requires { ⌜ (i < count) × (count ≤ capacity) × (slotBytes * capacity ≤ length (now work)) × BodiesTallied (now question) (now bodies) × (length (now numbers) ≡ tallySize) × (rowBytes * mostRows ≤ length (now rows)) × Labelled (now question) (now firsts) × Labelled (now question) (now seconds) × (capacity ≤ greatestCapacity) × NotesHold examine openly (now question) capacity (now work) count ⌝ }
+    ensures { λ r. ⌜ StrikesOne examine openly (now (question .entry)) capacity (now (work .entry)) count i r (now (work .exit)) × Labelled (now (question .entry)) (now (firsts .exit)) × Labelled (now (question .entry)) (now (seconds .exit)) ⌝ }
 {
     if !left_at(work, i) {
         return false;
@@ -150,8 +151,8 @@ pub fn strike_blocks(
     rising: bool,
     examine: bool,
 ) -> bool
-    requires { ⌜ (from + size ≤ count) × (count ≤ capacity) × (slotBytes * capacity ≤ length (now work)) × BodiesTallied (now question) (now bodies) × (length (now numbers) ≡ tallySize) × (rowBytes * mostRows ≤ length (now rows)) × Labelled (now question) (now firsts) × Labelled (now question) (now seconds) × (capacity ≤ greatestCapacity) × NotesHold examine (now question) capacity (now work) count ⌝ }
-    ensures { λ r. ⌜ PassIs examine (now (question .entry)) capacity (now (work .entry)) count (Run from size) r (now (work .exit)) × Labelled (now (question .entry)) (now (firsts .exit)) × Labelled (now (question .entry)) (now (seconds .exit)) ⌝ }
+    requires { ⌜ (from + size ≤ count) × (count ≤ capacity) × (slotBytes * capacity ≤ length (now work)) × BodiesTallied (now question) (now bodies) × (length (now numbers) ≡ tallySize) × (rowBytes * mostRows ≤ length (now rows)) × Labelled (now question) (now firsts) × Labelled (now question) (now seconds) × (capacity ≤ greatestCapacity) × NotesHold examine openly (now question) capacity (now work) count ⌝ }
+    ensures { λ r. ⌜ PassIs examine openly (now (question .entry)) capacity (now (work .entry)) count (Run from size) r (now (work .exit)) × Labelled (now (question .entry)) (now (firsts .exit)) × Labelled (now (question .entry)) (now (seconds .exit)) ⌝ }
 {
     let block = width(level);
     let blocks = (size + block - 1) / block;
@@ -201,8 +202,8 @@ pub fn settle(
     rising: bool,
     examine: bool,
 ) -> bool
-    requires { ⌜ (from + size ≤ count) × (count ≤ capacity) × (slotBytes * capacity ≤ length (now work)) × BodiesTallied (now question) (now bodies) × (length (now numbers) ≡ tallySize) × (rowBytes * mostRows ≤ length (now rows)) × Labelled (now question) (now firsts) × Labelled (now question) (now seconds) × (capacity ≤ greatestCapacity) × NotesHold examine (now question) capacity (now work) count × (level ≡ 0 → size ≡ 1) ⌝ }
-    ensures { λ r. ⌜ PassIs examine (now (question .entry)) capacity (now (work .entry)) count (Run from size) r (now (work .exit)) × Labelled (now (question .entry)) (now (firsts .exit)) × Labelled (now (question .entry)) (now (seconds .exit)) ⌝ }
+    requires { ⌜ (from + size ≤ count) × (count ≤ capacity) × (slotBytes * capacity ≤ length (now work)) × BodiesTallied (now question) (now bodies) × (length (now numbers) ≡ tallySize) × (rowBytes * mostRows ≤ length (now rows)) × Labelled (now question) (now firsts) × Labelled (now question) (now seconds) × (capacity ≤ greatestCapacity) × NotesHold examine openly (now question) capacity (now work) count × (level ≡ 0 → size ≡ 1) ⌝ }
+    ensures { λ r. ⌜ PassIs examine openly (now (question .entry)) capacity (now (work .entry)) count (Run from size) r (now (work .exit)) × Labelled (now (question .entry)) (now (firsts .exit)) × Labelled (now (question .entry)) (now (seconds .exit)) ⌝ }
 {
     if level == 0 {
         return strike_one(

@@ -1,3 +1,5 @@
+pub mod DemandedMoves
+pub mod Demands
 pub mod LeftLaws
 pub mod Living
 pub mod Marks

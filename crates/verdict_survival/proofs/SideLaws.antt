@@ -1,7 +1,7 @@
 -- Two nested loops over the steps of one side and the other side's: which steps are answered. Assumes nothing.
-use mathlib.Core.Bool.{Bool, true, false, _&&_, or-true}
-use mathlib.Core.List.{List, [], _∷_}
-use mathlib.Core.Logic.{inl, inr}
+use mathlib.Core.Bool.{Bool, true, false, _&&_}
+use mathlib.Core.List.{List, [], map}
+use mathlib.Core.Logic.{inl}
 use mathlib.Core.Path.{_≡_, refl, sym, ap, _∙_, subst}
 use native.Mathlib.Omega.{arith}
 use Prim.Native.Nat.{ℕ, _+_, _*_, _<_, _≤_}
@@ -25,35 +25,10 @@ use Rattle.field_growth.proofs.Loops.{led, answersTo, moves-are}
 use Rattle.field.proofs.Members.{map-∈, getD-∈, ∈-number}
 use Rattle.field.proofs.Selections.{∈-select, select-∈}
 use Rattle.verdict_survival.specs.Notes.{Has, Few, Numbers, Within, WithIs}
-use Rattle.verdict_survival.specs.Striking.{answered, allAnswered, leftOf, isAt, AnswerLeftIs, Side, ReliesOn, SideAnsweredIs}
+use Rattle.verdict_survival.specs.Striking.{leftOf, isAt, AnswerLeftIs, Side, ReliesOn, SideAnsweredIs}
 use Rattle.verdict_survival.specs.declared.relied.Relied.{Relied}
-use Rattle.verdict.proofs.Rounds.{true-not-false}
-
-module _ (left : List Situation) where
-  -- a list is answered if one of its situations is found, and not if none is
-  pub found-answered : (m : List Situation) (u : Situation) → u ∈ m → found left u ≡ true → answered left m ≡ true
-  unfolding answered
-  found-answered (t ∷ m) u (inl e) k = rw (subst (λ u. found left u ≡ true) e k)
-  found-answered (t ∷ m) u (inr n) k = rw (found-answered m u n k, or-true)
-
-  none-answered : (m : List Situation) → ((u : Situation) → u ∈ m → found left u ≡ false) → answered left m ≡ false
-  unfolding answered
-  none-answered [] h = refl
-  none-answered (t ∷ m) h = rw (h t (inl refl)) (none-answered m (λ u n. h u (inr n)))
-
-  pub each-answered : (ms : List (List Situation)) → ((m : List Situation) → m ∈ ms → answered left m ≡ true) → allAnswered left ms ≡ true
-  unfolding allAnswered
-  each-answered [] h = refl
-  each-answered (m ∷ ms) h = rw (h m (inl refl)) (each-answered ms (λ n k. h n (inr k)))
-
-  one-unanswered : (ms : List (List Situation)) (m : List Situation) → m ∈ ms → answered left m ≡ false → allAnswered left ms ≡ false
-  unfolding allAnswered
-  one-unanswered (l ∷ ms) m (inl e) k = rw (subst (λ m. answered left m ≡ false) e k)
-  one-unanswered (l ∷ ms) m (inr n) k = go (answered left l) (one-unanswered ms m n k)
-    where
-      go : (b : Bool) → allAnswered left ms ≡ false → (b && allAnswered left ms) ≡ false
-      go true h = h
-      go false h = refl
+use Rattle.verdict_survival.proofs.Demands.{all-meet, one-fails, each-single}
+use Rattle.verdict.proofs.Rounds.{true-not-false, single}
 
 abbrev noStep : ListedStep
 noStep = record { classes = []; kind = 0; channel = 0; object = 0; result = nil }
@@ -81,12 +56,16 @@ module _ (arities : List ℕ) (capacity : ℕ) (work : List ℕ) (count : ℕ) (
 
   -- step k is answered, if it is permitted
   abbrev StepAnswered : ℕ → Type 0
-  StepAnswered k = (p : These) → permitted (p .pairs) (step p k) ≡ true → answered (leftOf work (p .known)) (reachedAll p k) ≡ true
+  StepAnswered k = (p : These) → permitted (p .pairs) (step p k) ≡ true → (t : Situation) × (t ∈ reachedAll p k) × (found (leftOf work (p .known)) t ≡ true)
+
+  -- t is one of r
+  abbrev NumberIn : Relied → These → Situation → Type 0
+  NumberIn r p t = (j : ℕ) × (j < length (p .known)) × Has r j × ((d : Situation) → getD (p .known) j d ≡ t)
 
   -- step k is answered by one of r, if it is permitted
   abbrev StepRelies : Relied → ℕ → Type 0
   StepRelies r k = Few r → (p : These) → permitted (p .pairs) (step p k) ≡ true
-      → (j : ℕ) × (j < length (p .known)) × Has r j × ((d : Situation) → getD (p .known) j d ∈ reachedAll p k)
+      → (t : Situation) × (t ∈ reachedAll p k) × NumberIn r p t
 
   -- reply l to step k leads to none that is left, if it answers it
   abbrev pub ReplyFails : ℕ → ℕ → Type 0
@@ -118,20 +97,17 @@ module _ (arities : List ℕ) (capacity : ℕ) (work : List ℕ) (count : ℕ) (
         (λ e. p .closed (reachedAll p k) step-in (reached p k l) (reply-in l g e))
 
     -- none of the replies
-    none-left : (j : ℕ) → m ≤ j → ((l : ℕ) → l < j → ReplyFails k l) → answered (leftOf work (p .known)) (reachedAll p k) ≡ false
+    none-left : (j : ℕ) → m ≤ j → ((l : ℕ) → l < j → ReplyFails k l) → (u : Situation) → u ∈ reachedAll p k → found (leftOf work (p .known)) u ≡ false
     unfolding answersTo led leading
-    none-left j g so = none-answered (leftOf work (p .known)) (reachedAll p k) each
-      where
-        each : (u : Situation) → u ∈ reachedAll p k → found (leftOf work (p .known)) u ≡ false
-        each u i =
-            let (t, w, e) = map-∈ (led nameCount (placed second) (freeFrom (p .names) 0 nameCount) (p .pairs) (step p k)) u
-            (select (answers nameCount (step p k)) (p .replies)) i in
-            let (v, y) = select-∈ (answers nameCount (step p k)) t (p .replies) w in
-            let l = ∈-number t (p .replies) v in
-            let z : answers nameCount (step p k) (reply p (l .0)) ≡ true = rw (sym (l .2 noStep)) y in
-            let f : found (leftOf work (p .known)) (reached p k (l .0)) ≡ false = so (l .0) (omega (arith, l .1, p .theirs .number)) p z in
-            let q : reached p k (l .0) ≡ u = ap (leading second (freeFrom (p .names) 0 nameCount) (p .pairs) (step p k)) (sym (l .2 noStep)) ∙ sym e in
-            subst (λ u. found (leftOf work (p .known)) u ≡ false) q f
+    none-left j g so u i =
+        let (t, w, e) = map-∈ (led nameCount (placed second) (freeFrom (p .names) 0 nameCount) (p .pairs) (step p k)) u
+        (select (answers nameCount (step p k)) (p .replies)) i in
+        let (v, y) = select-∈ (answers nameCount (step p k)) t (p .replies) w in
+        let l = ∈-number t (p .replies) v in
+        let z : answers nameCount (step p k) (reply p (l .0)) ≡ true = rw (sym (l .2 noStep)) y in
+        let f : found (leftOf work (p .known)) (reached p k (l .0)) ≡ false = so (l .0) (omega (arith, l .1, p .theirs .number)) p z in
+        let q : reached p k (l .0) ≡ u = ap (leading second (freeFrom (p .names) 0 nameCount) (p .pairs) (step p k)) (sym (l .2 noStep)) ∙ sym e in
+        subst (λ u. found (leftOf work (p .known)) u ≡ false) q f
 
   not-permitted : (k : ℕ) (r : Bool) → k < n → PermittedIs apart area (stepBytes * k) r → r ≡ false → (p : These) → permitted (p .pairs) (step p k) ≡ false
   unfolding PermittedIs
@@ -171,15 +147,14 @@ module _ (arities : List ℕ) (capacity : ℕ) (work : List ℕ) (count : ℕ) (
   unfolding isAt
   sweep-answered before r r₀ r′ k l i x same h g a e w s₀ = record {
     answered = below-more _ k (s .answered)
-        (λ p may. found-answered (leftOf work (p .known)) (reachedAll p k) (reached p k l) (reply-in p k h may l g (both p may .0)) (both p may .1));
+        (λ p may. (reached p k l, reply-in p k h may l g (both p may .0), both p may .1));
     numbers = w .numbers;
     more = record { few = λ f. s .more .few (w .more .few f); has = λ f j y. w .more .has f j (s .more .has (w .more .few f) j y) };
     relies = below-more _ k earlier
         (λ f p may. (
-          i,
-          omega (arith, a .within i e, p .number),
-          w .has f,
-          λ d. subst (λ t. t ∈ reachedAll p k) (sym (reply-is p k h may l x g a .1 i e d)) (reply-in p k h may l g (both p may .0)),
+          reached p k l,
+          reply-in p k h may l g (both p may .0),
+          (i, omega (arith, a .within i e, p .number), w .has f, reply-is p k h may l x g a .1 i e),
         ));
   }
     where
@@ -194,8 +169,8 @@ module _ (arities : List ℕ) (capacity : ℕ) (work : List ℕ) (count : ℕ) (
 
       earlier : (j : ℕ) → j < k → StepRelies r′ j
       earlier j b f p may =
-          let (t, u, y, z) = s .relies j b (w .more .few f) p may in
-          (t, u, w .more .has f t y, z)
+          let (t, u, (n, v, y, z)) = s .relies j b (w .more .few f) p may in
+          (t, u, (n, v, w .more .has f n y, z))
 
   pub reply-fails : (k l : ℕ) (b : Bool) (r : Found) → k < n → l < m → PermittedIs apart area (stepBytes * k) b → b ≡ true
       → AnswerLeftIs arities capacity work count free apart second area (stepBytes * k) others (stepBytes * l) r → r ≡ Nothing
@@ -213,7 +188,9 @@ module _ (arities : List ℕ) (capacity : ℕ) (work : List ℕ) (count : ℕ) (
   step-unanswered before r r₀ k j b same h c d g so s₀ = record {
     is = λ p.
         let may = is-permitted k b h c d p in
-        sym (one-unanswered (leftOf work (p .known)) (allMoves p) (reachedAll p k) (step-in p k h may) (none-left p k h may j g so));
+        sym (one-fails (leftOf work (p .known)) (map (map single) (allMoves p)) (map single (reachedAll p k))
+        (∈-map (map single) (reachedAll p k) (allMoves p) (step-in p k h may))
+        (λ l i. let (t, o, q) = map-∈ single l (reachedAll p k) i in (t, subst (λ l. t ∈ l) (sym q) (inl refl), none-left p k h may j g so t o)));
     numbers = s .numbers;
     more = s .more;
     relies = λ e. true-not-false e refl;
@@ -241,11 +218,12 @@ module _ (arities : List ℕ) (capacity : ℕ) (work : List ℕ) (count : ℕ) (
   unfolding ReliesOn
   steps-answered before r i h s = record {
     is = λ p.
-        sym (each-answered (leftOf work (p .known)) (allMoves p)
-        (from-step p (λ w. answered (leftOf work (p .known)) w ≡ true) (λ k l may. s .answered k (omega arith) p may)));
+        sym (all-meet (leftOf work (p .known)) (map (map single) (allMoves p))
+        (each-single (λ t. found (leftOf work (p .known)) t ≡ true) (allMoves p)
+        (from-step p (λ w. (t : Situation) × (t ∈ w) × (found (leftOf work (p .known)) t ≡ true)) (λ k l may. s .answered k (omega arith) p may))));
     numbers = s .numbers;
     more = s .more;
     relies = λ e f p.
-        from-step p (λ w. (j : ℕ) × (j < length (p .known)) × Has r j × ((d : Situation) → getD (p .known) j d ∈ w))
-        (λ k l may. s .relies k (omega arith) f p may);
+        each-single (NumberIn r p) (allMoves p)
+        (from-step p (λ w. (t : Situation) × (t ∈ w) × NumberIn r p t) (λ k l may. s .relies k (omega arith) f p may));
   }

@@ -1,6 +1,6 @@
 -- A situation survives if each permitted step of both sides is answered by those left. Assumes nothing.
 use mathlib.Core.Bool.{Bool, true, false, _&&_}
-use mathlib.Core.List.{List, [], _∷_, _++_}
+use mathlib.Core.List.{List, [], _∷_, _++_, map, map-append}
 use mathlib.Core.Logic.{⊎-elim}
 use mathlib.Core.Path.{_≡_, refl, sym, ap, ap₂, _∙_, subst}
 use native.Mathlib.Omega.{arith}
@@ -22,24 +22,16 @@ use Rattle.field_taking_up.specs.declared.taking.Lists.the-variants.{Past, List
 use Rattle.field_taking_up.specs.declared.taking.TakenUp.{TakenUp}
 use Rattle.field.proofs.Members.{getD-∈}
 use Rattle.verdict_survival.specs.Notes.{Has, Few, Numbers}
-use Rattle.verdict_survival.specs.Striking.{answered, allAnswered, leftOf, Side, ReliesOn, SideAnsweredIs, FieldIn, LeadsTo, SurvivesIs, Relies, ExaminedIs}
+use Rattle.verdict_survival.specs.Striking.{leftOf, Side, ReliesOn, SideAnsweredIs, demandsAt, FieldIn, LeadsTo, SurvivesIs, Relies, ExaminedIs}
 use Rattle.verdict_survival.specs.declared.relied.Relied.{Relied}
 use Rattle.verdict_survival.specs.declared.survive.Answered.{Answered}
-use Rattle.verdict.proofs.Rounds.{true-not-false}
-
-all-both : (left : List Situation) (ms ns : List (List Situation)) → allAnswered left (ms ++ ns) ≡ (allAnswered left ms && allAnswered left ns)
-unfolding allAnswered
-all-both left [] ns = refl
-all-both left (m ∷ ms) ns = go (answered left m) (all-both left ms ns)
-  where
-    go : (b : Bool) → allAnswered left (ms ++ ns) ≡ (allAnswered left ms && allAnswered left ns)
-        → (b && allAnswered left (ms ++ ns)) ≡ ((b && allAnswered left ms) && allAnswered left ns)
-    go true e = e
-    go false e = refl
+use Rattle.verdict.specs.Verdict.{openly, differs, demandsOf, allAnswered}
+use Rattle.verdict_survival.proofs.Demands.{all-both}
+use Rattle.verdict.proofs.Rounds.{true-not-false, single}
 
 module _ (question : List ℕ) (capacity : ℕ) (work : List ℕ) (count i : ℕ) (below : i < count) (r : TakenUp) (firsts seconds : List ℕ)
     (takes : TakesUp question work (slotBytes * i) r firsts seconds) where
-  module _ (f : FieldIn question capacity work count) (d : Situation) where
+  module _ (f : FieldIn openly question capacity work count) (d : Situation) where
     abbrev here : Situation
     here = getD (f .known) i d
 
@@ -71,6 +63,7 @@ module _ (question : List ℕ) (capacity : ℕ) (work : List ℕ) (count i : ℕ
       read-arities = a (f .read) (f .accepted)
 
       leads-known : (w : List Situation) → w ∈ (ofFirst ++ ofSecond) → (t : Situation) → t ∈ w → t ∈ f .known
+      unfolding differs
       leads-known w g t h = f .closed here inside ms e w (subst (λ ms. w ∈ ms) (sym those) g) t h
 
       first-side : Side arities capacity work count (r .free) (r .apart) false firsts n seconds m
@@ -107,58 +100,63 @@ module _ (question : List ℕ) (capacity : ℕ) (work : List ℕ) (count i : ℕ
         closed = λ w g t h. leads-known w (∈-right w ofFirst ofSecond g) t h;
       }
 
-      both-sides : (left : List Situation) → allAnswered left ms ≡ (allAnswered left ofFirst && allAnswered left ofSecond)
-      both-sides left = ap (allAnswered left) those ∙ all-both left ofFirst ofSecond
+      demanded : demandsAt openly (f .read) here ms ≡ map (map single) ofFirst ++ map (map single) ofSecond
+      unfolding demandsOf
+      demanded = ap (map (map single)) those ∙ map-append (map single) ofFirst ofSecond
+
+      both-sides : (left : List Situation)
+          → allAnswered left (demandsAt openly (f .read) here ms) ≡ (allAnswered left (map (map single) ofFirst) && allAnswered left (map (map single) ofSecond))
+      both-sides left = ap (allAnswered left) demanded ∙ all-both left (map (map single) ofFirst) (map (map single) ofSecond)
 
   pub past-limit : r .lists ≡ Past → (relied : Relied) → Numbers relied
-      → ExaminedIs question capacity work count i (record { all = false; relied = relied })
-  unfolding SurvivesIs ListsAre
+      → ExaminedIs openly question capacity work count i (record { all = false; relied = relied })
+  unfolding SurvivesIs ListsAre differs
   past-limit e relied n = record { is = λ f. survives (f .field); numbers = n; relies = λ q. true-not-false q refl }
     where
-      survives : (f : FieldIn question capacity work count) (d : Situation) (ms : List (List Situation)) → LeadsTo f i d ms
-          → false ≡ allAnswered (leftOf work (f .known)) ms
+      survives : (f : FieldIn openly question capacity work count) (d : Situation) (ms : List (List Situation)) → LeadsTo f i d ms
+          → false ≡ allAnswered (leftOf work (f .known)) (demandsAt openly (f .read) (getD (f .known) i d) ms)
       survives f d ms h =
           let p = subst (λ k. ListsAre (f .read) (getD (f .known) i d) k firsts seconds) e (taken f d .lists) false in
           let z : _≡_ {A = ℕ} 0 1 = cc in absurd (omega arith)
 
   module _ (n m : ℕ) (e : r .lists ≡ Listed n m) (arities : List ℕ) (a : AritiesIs question arities) (before : Relied) (first : Answered)
       (h : SideAnsweredIs arities capacity work count (r .free) (r .apart) false firsts n seconds m before first) where
-    sides : (f : FieldIn question capacity work count) (d : Situation) → SidesListed (f .read) (getD (f .known) i d) n m firsts seconds
+    sides : (f : FieldIn openly question capacity work count) (d : Situation) → SidesListed (f .read) (getD (f .known) i d) n m firsts seconds
     unfolding ListsAre
     sides f d = subst (λ k. ListsAre (f .read) (getD (f .known) i d) k firsts seconds) e (taken f d .lists)
 
-    pub first-fails : first .all ≡ false → ExaminedIs question capacity work count i (record { all = false; relied = first .relied })
-    unfolding SurvivesIs first-side sides moves
+    pub first-fails : first .all ≡ false → ExaminedIs openly question capacity work count i (record { all = false; relied = first .relied })
+    unfolding SurvivesIs first-side sides moves differs
     first-fails q = record { is = λ f. survives (f .field); numbers = h .numbers; relies = λ q. true-not-false q refl }
       where
-        survives : (f : FieldIn question capacity work count) (d : Situation) (ms : List (List Situation)) → LeadsTo f i d ms
-            → false ≡ allAnswered (leftOf work (f .known)) ms
+        survives : (f : FieldIn openly question capacity work count) (d : Situation) (ms : List (List Situation)) → LeadsTo f i d ms
+            → false ≡ allAnswered (leftOf work (f .known)) (demandsAt openly (f .read) (getD (f .known) i d) ms)
         survives f d ms g =
             let l = sides f d in
             let x = h .is (first-side f d arities a n m l ms g) in
             sym (both-sides f d arities a n m l ms g (leftOf work (f .known))
-            ∙ ap (λ b. b && allAnswered (leftOf work (f .known)) (ofSecond f d arities a n m l ms g)) (sym x ∙ q))
+            ∙ ap (λ b. b && allAnswered (leftOf work (f .known)) (map (map single) (ofSecond f d arities a n m l ms g))) (sym x ∙ q))
 
     pub second-decides : (second : Answered) → first .all ≡ true → SideAnsweredIs arities capacity work count (r .free) (r .apart) true seconds m firsts n (first .relied) second
-        → ExaminedIs question capacity work count i second
-    unfolding SurvivesIs Relies ReliesOn first-side sides second-side
+        → ExaminedIs openly question capacity work count i second
+    unfolding SurvivesIs Relies ReliesOn first-side sides second-side differs
     second-decides second q k = record { is = λ f. survives (f .field); numbers = k .numbers; relies = relies }
       where
-        survives : (f : FieldIn question capacity work count) (d : Situation) (ms : List (List Situation)) → LeadsTo f i d ms
-            → second .all ≡ allAnswered (leftOf work (f .known)) ms
+        survives : (f : FieldIn openly question capacity work count) (d : Situation) (ms : List (List Situation)) → LeadsTo f i d ms
+            → second .all ≡ allAnswered (leftOf work (f .known)) (demandsAt openly (f .read) (getD (f .known) i d) ms)
         survives f d ms g =
             let l = sides f d in
             let x = h .is (first-side f d arities a n m l ms g) in
             let y = k .is (second-side f d arities a n m l ms g) in
             sym (both-sides f d arities a n m l ms g (leftOf work (f .known)) ∙ ap₂ _&&_ (sym x ∙ q) (sym y))
 
-        relies : second .all ≡ true → Few (second .relied) → Relies question capacity work count i (Has (second .relied))
+        relies : second .all ≡ true → Few (second .relied) → Relies openly question capacity work count i (Has (second .relied))
         relies t few f d ms g w o =
             let l = sides f d in
             ⊎-elim
             (λ o.
-            let (j, b, y, z) = h .relies q (k .more .few few) (first-side f d arities a n m l ms g) w o in
-            (j, b, k .more .has few j y, z))
+            let (v, b, x) = h .relies q (k .more .few few) (first-side f d arities a n m l ms g) w o in
+            (v, b, λ t u. let (j, c, y, z) = x t u in (j, c, k .more .has few j y, z)))
             (λ o. k .relies t few (second-side f d arities a n m l ms g) w o)
-            (∈-either w (ofFirst f d arities a n m l ms g) (ofSecond f d arities a n m l ms g)
-            (subst (λ ms. w ∈ ms) (those f d arities a n m l ms g) o))
+            (∈-either w (map (map single) (ofFirst f d arities a n m l ms g)) (map (map single) (ofSecond f d arities a n m l ms g))
+            (subst (λ ms. w ∈ ms) (demanded f d arities a n m l ms g) o))

@@ -1,6 +1,7 @@
--- Strike-out in the work area (document 01, "The field and the verdict"): which situations are left, and what the code promises of them.
-use mathlib.Core.Bool.{Bool, true, false, cond, _&&_, _||_}
-use mathlib.Core.List.{List, [], _∷_}
+-- Strike-out in the work area (document 01, "The field and the verdict", and request 2026-02): which situations are left, and what the code promises
+-- of them, in each manner of judging.
+use mathlib.Core.Bool.{Bool, true, false, cond, _&&_}
+use mathlib.Core.List.{List, [], _∷_, map}
 use mathlib.Core.Path.{_≡_}
 use Prim.Native.Nat.{ℕ, zero, suc, _+_, _-_, _*_, _<_, _≤_}
 use lib.Dec.{eqb}
@@ -29,19 +30,10 @@ use Rattle.field.specs.Successors.{answers, moves, leads, successors}
 use Rattle.field_renewal.specs.ListedEntries.{ListAt}
 use Rattle.field_slots.specs.declared.find.Found.{Found}
 use Rattle.field_slots.specs.declared.find.Found.the-variants.{At, Nothing}
+use Rattle.verdict.specs.Verdict.{Manner, differs, demandsOf, allAnswered}
 use Rattle.verdict_survival.specs.Notes.{NotedIn, Has, Few, Numbers, Within, SoleStruckIs}
 use Rattle.verdict_survival.specs.declared.relied.Relied.{Relied}
 use Rattle.verdict_survival.specs.declared.survive.Answered.{Answered}
-
--- some situation of m is left: a step is answered, where each answer leads to one situation
-unfoldable pub answered : List Situation → List Situation → Bool
-answered left [] = false
-answered left (s ∷ m) = found left s || answered left m
-
--- every permitted step is answered
-unfoldable pub allAnswered : List Situation → List (List Situation) → Bool
-allAnswered left [] = true
-allAnswered left (m ∷ ms) = answered left m && allAnswered left ms
 
 -- the bytes that say so of as many slots, from slot i on
 unfoldable pub marksFrom : List ℕ → ℕ → ℕ → List ℕ
@@ -114,94 +106,102 @@ pub record Side (arities : List ℕ) (capacity : ℕ) (work : List ℕ) (count :
   pub closed : (w : List Situation) → w ∈ moves false nameCount (placed second) (freeFrom names 0 nameCount) pairs steps replies
       → (t : Situation) → t ∈ w → t ∈ known
 
--- what its permitted steps lead to
-abbrev pub sideMoves : {arities : List ℕ} {capacity : ℕ} {work : List ℕ} {count : ℕ} {free apart : List ℕ} {second : Bool} {area : List ℕ} {n : ℕ} {others : List ℕ} {m : ℕ}
-    → Side arities capacity work count free apart second area n others m → List (List Situation)
-sideMoves {second} p = moves false nameCount (placed second) (freeFrom (p .names) 0 nameCount) (p .pairs) (p .steps) (p .replies)
+-- what is demanded of it
+abbrev pub sideDemands : {arities : List ℕ} {capacity : ℕ} {work : List ℕ} {count : ℕ} {free apart : List ℕ} {second : Bool} {area : List ℕ} {n : ℕ} {others : List ℕ} {m : ℕ}
+    → Side arities capacity work count free apart second area n others m → List (List (List Situation))
+sideDemands {second} p = map (map (λ t. t ∷ [])) (moves false nameCount (placed second) (freeFrom (p .names) 0 nameCount) (p .pairs) (p .steps) (p .replies))
 
--- Each of the lists has one of the situations whose numbers are in H.
-unfoldable pub ReliesOn : (ℕ → Type 0) → List Situation → List (List Situation) → Type 0
-ReliesOn H known ms = (w : List Situation) → w ∈ ms → (j : ℕ) × (j < length known) × H j × ((d : Situation) → getD known j d ∈ w)
+-- an answer all of whose situations have X meets the demand
+abbrev pub SomeAnswer : (Situation → Type 0) → List (List Situation) → Type 0
+SomeAnswer X m = (l : List Situation) × (l ∈ m) × ((t : Situation) → t ∈ l → X t)
+
+-- Each demand has an answer all of whose situations have numbers in H.
+unfoldable pub ReliesOn : (ℕ → Type 0) → List Situation → List (List (List Situation)) → Type 0
+ReliesOn H known ms = (m : List (List Situation)) → m ∈ ms → SomeAnswer (λ t. (j : ℕ) × (j < length known) × H j × ((d : Situation) → getD known j d ≡ t)) m
 
 -- Whether each permitted step of the side is answered, and what that relies on, beside what was relied on before.
 pub record SideAnsweredIs (arities : List ℕ) (capacity : ℕ) (work : List ℕ) (count : ℕ) (free apart : List ℕ) (second : Bool) (area : List ℕ) (n : ℕ) (others : List ℕ) (m : ℕ) (before : Relied) (r : Answered) : Type 0 where
-  pub is : (p : Side arities capacity work count free apart second area n others m) → r .all ≡ allAnswered (leftOf work (p .known)) (sideMoves p)
+  pub is : (p : Side arities capacity work count free apart second area n others m) → r .all ≡ allAnswered (leftOf work (p .known)) (sideDemands p)
   pub numbers : Numbers (r .relied)
   pub more : Within before (r .relied)
   pub relies : r .all ≡ true → Few (r .relied) → (p : Side arities capacity work count free apart second area n others m)
-      → ReliesOn (Has (r .relied)) (p .known) (sideMoves p)
+      → ReliesOn (Has (r .relied)) (p .known) (sideDemands p)
 
 -- Both parts are the same term.
 abbrev pub EqualParts : Situation → Type 0
 EqualParts s = s .first ≡ s .second
 
--- Each permitted step of s has an answer that leads to equal parts.
-pub record LeadsToEqual (q : Question) (s : Situation) : Type 0 where
+-- what is demanded of a situation that leads to ms
+abbrev pub demandsAt : Manner → Question → Situation → List (List Situation) → List (List (List Situation))
+demandsAt manner q s ms = demandsOf manner (settingOf (differs manner) (q .bodies)) (record { self = s; wants = ms })
+
+-- Each demand on s has an answer that leads to equal parts only.
+pub record LeadsToEqual (manner : Manner) (q : Question) (s : Situation) : Type 0 where
   pub wants : List (List Situation)
-  pub leading : successors (settingOf false (q .bodies)) s ≡ leads wants
-  pub some : (w : List Situation) → w ∈ wants → (t : Situation) × (t ∈ w) × EqualParts t
+  pub leading : successors (settingOf (differs manner) (q .bodies)) s ≡ leads wants
+  pub some : (m : List (List Situation)) → m ∈ demandsAt manner q s wants → SomeAnswer EqualParts m
 
 -- The field of an accepted question in the work area: its situations lead to each other only, and those with equal parts, step by step, to such.
-pub record FieldIn (question : List ℕ) (capacity : ℕ) (work : List ℕ) (count : ℕ) : Type 0 where
+pub record FieldIn (manner : Manner) (question : List ℕ) (capacity : ℕ) (work : List ℕ) (count : ℕ) : Type 0 where
   pub read : Question
   pub accepted : checkOf question ≡ result read
   pub known : List Situation
   pub number : length known ≡ count
   pub standing : Standing capacity work known
   pub proper : (s : Situation) → s ∈ known → Proper nameCount (read .arities) s
-  pub closed : (s : Situation) → s ∈ known → (ms : List (List Situation)) → successors (settingOf false (read .bodies)) s ≡ leads ms
+  pub closed : (s : Situation) → s ∈ known → (ms : List (List Situation)) → successors (settingOf (differs manner) (read .bodies)) s ≡ leads ms
       → (w : List Situation) → w ∈ ms → (t : Situation) → t ∈ w → t ∈ known
-  pub equal : (s : Situation) → s ∈ known → EqualParts s → LeadsToEqual read s
+  pub equal : (s : Situation) → s ∈ known → EqualParts s → LeadsToEqual manner read s
 
 -- Situation i leads to ms.
-abbrev pub LeadsTo : {question : List ℕ} {capacity : ℕ} {work : List ℕ} {count : ℕ} → FieldIn question capacity work count → ℕ → Situation → List (List Situation) → Type 0
-LeadsTo f i d ms = successors (settingOf false (f .read .bodies)) (getD (f .known) i d) ≡ leads ms
+abbrev pub LeadsTo : {manner : Manner} {question : List ℕ} {capacity : ℕ} {work : List ℕ} {count : ℕ} → FieldIn manner question capacity work count → ℕ → Situation → List (List Situation) → Type 0
+LeadsTo {manner} f i d ms = successors (settingOf (differs manner) (f .read .bodies)) (getD (f .known) i d) ≡ leads ms
 
 -- Those with a permitted step that has no answer at all are struck out, and those with equal parts are left.
-pub record Searching (question : List ℕ) (capacity : ℕ) (work : List ℕ) (count : ℕ) : Type 0 where
-  pub field : FieldIn question capacity work count
+pub record Searching (manner : Manner) (question : List ℕ) (capacity : ℕ) (work : List ℕ) (count : ℕ) : Type 0 where
+  pub field : FieldIn manner question capacity work count
   pub struck : (i : ℕ) (d : Situation) (ms : List (List Situation)) → i < count → LeadsTo field i d ms → unanswered ms ≡ true
       → getD work (struckAt i) 0 ≡ 0 → ⊥
   pub equal : (i : ℕ) (d : Situation) → i < count → EqualParts (getD (field .known) i d) → getD work (struckAt i) 0 ≡ 0
 
--- Whether each permitted step of situation i is answered by those left.
-unfoldable pub SurvivesIs : List ℕ → ℕ → List ℕ → ℕ → ℕ → Bool → Type 0
-SurvivesIs question capacity work count i r =
-    (f : Searching question capacity work count) (d : Situation) (ms : List (List Situation)) → LeadsTo (f .field) i d ms
-    → r ≡ allAnswered (leftOf work (f .field .known)) ms
+-- Whether those left meet each demand on situation i.
+unfoldable pub SurvivesIs : Manner → List ℕ → ℕ → List ℕ → ℕ → ℕ → Bool → Type 0
+SurvivesIs manner question capacity work count i r =
+    (f : Searching manner question capacity work count) (d : Situation) (ms : List (List Situation)) → LeadsTo (f .field) i d ms
+    → r ≡ allAnswered (leftOf work (f .field .known)) (demandsAt manner (f .field .read) (getD (f .field .known) i d) ms)
 
--- Each permitted step of situation i has an answer that leads to a situation in H, whichever are left.
-unfoldable pub Relies : List ℕ → ℕ → List ℕ → ℕ → ℕ → (ℕ → Type 0) → Type 0
-Relies question capacity work count i H =
-    (f : FieldIn question capacity work count) (d : Situation) (ms : List (List Situation)) → LeadsTo f i d ms → ReliesOn H (f .known) ms
+-- Each demand on situation i has an answer that leads to situations in H, whichever are left.
+unfoldable pub Relies : Manner → List ℕ → ℕ → List ℕ → ℕ → ℕ → (ℕ → Type 0) → Type 0
+Relies manner question capacity work count i H =
+    (f : FieldIn manner question capacity work count) (d : Situation) (ms : List (List Situation)) → LeadsTo f i d ms
+    → ReliesOn H (f .known) (demandsAt manner (f .read) (getD (f .known) i d) ms)
 
-pub record ExaminedIs (question : List ℕ) (capacity : ℕ) (work : List ℕ) (count i : ℕ) (r : Answered) : Type 0 where
-  pub is : SurvivesIs question capacity work count i (r .all)
+pub record ExaminedIs (manner : Manner) (question : List ℕ) (capacity : ℕ) (work : List ℕ) (count i : ℕ) (r : Answered) : Type 0 where
+  pub is : SurvivesIs manner question capacity work count i (r .all)
   pub numbers : Numbers (r .relied)
-  pub relies : r .all ≡ true → Few (r .relied) → Relies question capacity work count i (Has (r .relied))
+  pub relies : r .all ≡ true → Few (r .relied) → Relies manner question capacity work count i (Has (r .relied))
 
 -- What is noted is enough for each slot to rest on.
-unfoldable pub AllNoted : List ℕ → ℕ → List ℕ → ℕ → Type 0
-AllNoted question capacity work count = (i : ℕ) → i < count → 0 < noteAt work i 0 → Relies question capacity work count i (NotedIn work i)
+unfoldable pub AllNoted : Manner → List ℕ → ℕ → List ℕ → ℕ → Type 0
+AllNoted manner question capacity work count = (i : ℕ) → i < count → 0 < noteAt work i 0 → Relies manner question capacity work count i (NotedIn work i)
 
 -- Where a number is noted in slot i, all answers to one of its moves lead to the situation in that slot.
-unfoldable pub AllSole : List ℕ → ℕ → List ℕ → ℕ → Type 0
-AllSole question capacity work count =
-    (i k : ℕ) → i < count → k < notedCount → (f : FieldIn question capacity work count) (d : Situation) (ms : List (List Situation)) → LeadsTo f i d ms
+unfoldable pub AllSole : Manner → List ℕ → ℕ → List ℕ → ℕ → Type 0
+AllSole manner question capacity work count =
+    (i k : ℕ) → i < count → k < notedCount → (f : FieldIn manner question capacity work count) (d : Situation) (ms : List (List Situation)) → LeadsTo f i d ms
     → SoleIn (f .known) ms (noteAt work i k)
 
 -- what the notes say while situations are examined, and before
-unfoldable pub NotesHold : Bool → List ℕ → ℕ → List ℕ → ℕ → Type 0
+unfoldable pub NotesHold : Bool → Manner → List ℕ → ℕ → List ℕ → ℕ → Type 0
 NotesHold true = AllNoted
 NotesHold false = AllSole
 
--- Situations are struck out one at a time, each while it is left and a permitted step of it is not answered. No other byte is changed but those for
--- notes.
-pub data Strikes (question : List ℕ) (capacity count : ℕ) (work : List ℕ) : List ℕ → Type 0 where
-  none-struck : Strikes question capacity count work work
-  one-struck : {v : List ℕ} → Strikes question capacity count work v → (i : ℕ) → i < count → getD v (struckAt i) 0 ≡ 0 → SurvivesIs question capacity v count i false
-      → Strikes question capacity count work (set v (struckAt i) 1)
-  notes-changed : {v u : List ℕ} → Strikes question capacity count work v → SpareOnly count v u → Strikes question capacity count work u
+-- Situations are struck out one at a time, each while it is left and a demand on it is not met. No other byte is changed but those for notes.
+pub data Strikes (manner : Manner) (question : List ℕ) (capacity count : ℕ) (work : List ℕ) : List ℕ → Type 0 where
+  none-struck : Strikes manner question capacity count work work
+  one-struck : {v : List ℕ} → Strikes manner question capacity count work v → (i : ℕ) → i < count → getD v (struckAt i) 0 ≡ 0 → SurvivesIs manner question capacity v count i false
+      → Strikes manner question capacity count work (set v (struckAt i) 1)
+  notes-changed : {v u : List ℕ} → Strikes manner question capacity count work v → SpareOnly count v u → Strikes manner question capacity count work u
 
 -- A test that is met says that the bytes of the two parts in slot i are the same.
 unfoldable pub EqualPartsIs : List ℕ → ℕ → Bool → Type 0
@@ -214,14 +214,14 @@ pub record StrikesSole (work : List ℕ) (count i : ℕ) (r : Bool) (work′ : L
   pub kept : r ≡ false → work′ ≡ work
 
 -- Situation i is struck out, or it is not to be struck out as far as it was examined.
-pub record StrikesOne (examine : Bool) (question : List ℕ) (capacity : ℕ) (work : List ℕ) (count i : ℕ) (r : Bool) (work′ : List ℕ) : Type 0 where
-  pub struck : r ≡ true → (getD work (struckAt i) 0 ≡ 0) × SurvivesIs question capacity work count i false × (work′ ≡ set work (struckAt i) 1)
-  pub kept : r ≡ false → SpareOnly count work work′ × (examine ≡ true → getD work (struckAt i) 0 ≡ 0 → SurvivesIs question capacity work count i true)
-  pub noted : NotesHold examine question capacity work′ count
+pub record StrikesOne (examine : Bool) (manner : Manner) (question : List ℕ) (capacity : ℕ) (work : List ℕ) (count i : ℕ) (r : Bool) (work′ : List ℕ) : Type 0 where
+  pub struck : r ≡ true → (getD work (struckAt i) 0 ≡ 0) × SurvivesIs manner question capacity work count i false × (work′ ≡ set work (struckAt i) 1)
+  pub kept : r ≡ false → SpareOnly count work work′ × (examine ≡ true → getD work (struckAt i) 0 ≡ 0 → SurvivesIs manner question capacity work count i true)
+  pub noted : NotesHold examine manner question capacity work′ count
 
 -- every situation that is left survives
-unfoldable pub AllSurvive : List ℕ → ℕ → List ℕ → ℕ → Type 0
-AllSurvive question capacity work count = (i : ℕ) → i < count → getD work (struckAt i) 0 ≡ 0 → SurvivesIs question capacity work count i true
+unfoldable pub AllSurvive : Manner → List ℕ → ℕ → List ℕ → ℕ → Type 0
+AllSurvive manner question capacity work count = (i : ℕ) → i < count → getD work (struckAt i) 0 ≡ 0 → SurvivesIs manner question capacity work count i true
 
 -- The number of the part that a pass takes up when i of the `count` come behind it: the larger numbers first, or the smaller ones.
 unfoldable pub turned : Bool → ℕ → ℕ → ℕ
@@ -237,12 +237,12 @@ blockSlots level = cond (eqb level 0) 1 (cond (eqb level 1) 16 256)
 
 -- One pass over the situations in H, or several: whether any was struck out. If none was, only notes are changed, and those in H that are left
 -- survive if they were examined.
-pub record PassIs (examine : Bool) (question : List ℕ) (capacity : ℕ) (work : List ℕ) (count : ℕ) (H : ℕ → Type 0) (r : Bool) (work′ : List ℕ) : Type 0 where
-  pub strikes : Strikes question capacity count work work′
+pub record PassIs (examine : Bool) (manner : Manner) (question : List ℕ) (capacity : ℕ) (work : List ℕ) (count : ℕ) (H : ℕ → Type 0) (r : Bool) (work′ : List ℕ) : Type 0 where
+  pub strikes : Strikes manner question capacity count work work′
   pub fewer : r ≡ true → zeros (marks work′ count) < zeros (marks work count)
   pub same : r ≡ false → SpareOnly count work work′
-  pub none : examine ≡ true → r ≡ false → (j : ℕ) → j < count → H j → getD work′ (struckAt j) 0 ≡ 0 → SurvivesIs question capacity work′ count j true
-  pub noted : NotesHold examine question capacity work′ count
+  pub none : examine ≡ true → r ≡ false → (j : ℕ) → j < count → H j → getD work′ (struckAt j) 0 ≡ 0 → SurvivesIs manner question capacity work′ count j true
+  pub noted : NotesHold examine manner question capacity work′ count
 
 -- The first situation that is struck out, of the first `count`.
 pub record FirstStruckIs (work : List ℕ) (count : ℕ) (r : Found) : Type 0 where
@@ -250,7 +250,7 @@ pub record FirstStruckIs (work : List ℕ) (count : ℕ) (r : Found) : Type 0 wh
   pub none : r ≡ Nothing → (i : ℕ) → i < count → getD work (struckAt i) 0 ≡ 0
 
 -- Whether the start is left, where none is left to strike out or the start is not left.
-pub record StartSurvivesIs (question : List ℕ) (capacity : ℕ) (work : List ℕ) (count : ℕ) (r : Bool) (work′ : List ℕ) : Type 0 where
-  pub strikes : Strikes question capacity count work work′
-  pub stays : r ≡ true → (getD work′ (struckAt 0) 0 ≡ 0) × AllSurvive question capacity work′ count
+pub record StartSurvivesIs (manner : Manner) (question : List ℕ) (capacity : ℕ) (work : List ℕ) (count : ℕ) (r : Bool) (work′ : List ℕ) : Type 0 where
+  pub strikes : Strikes manner question capacity count work work′
+  pub stays : r ≡ true → (getD work′ (struckAt 0) 0 ≡ 0) × AllSurvive manner question capacity work′ count
   pub goes : r ≡ false → getD work′ (struckAt 0) 0 ≡ 0 → ⊥

@@ -8,6 +8,7 @@ ghost use Rattle.steps_tallies.specs.Tally.{tallySize, BodiesTallied};
 ghost use Rattle.steps.specs.Limits.{stepBytes};
 ghost use Rattle.steps_rows.specs.Rows.{rowBytes, mostRows};
 ghost use Rattle.verdict.specs.Judge.{greatestCapacity};
+ghost use Rattle.verdict.specs.Verdict.{openly};
 ghost use Rattle.verdict_survival.specs.Notes.{Numbers};
 ghost use Rattle.verdict_survival.specs.Striking.{LeftIs, AnswerLeftIs, SideAnsweredIs, ExaminedIs};
 use crate::relied::Relied;
@@ -145,7 +146,7 @@ pub fn survives(
     seconds: &mut [u8],
 ) -> Answered
     requires { ⌜ (i < count) × (count ≤ capacity) × (slotBytes * capacity ≤ length (now work)) × BodiesTallied (now question) (now bodies) × (length (now numbers) ≡ tallySize) × (rowBytes * mostRows ≤ length (now rows)) × Labelled (now question) (now firsts) × Labelled (now question) (now seconds) × (capacity ≤ greatestCapacity) ⌝ }
-    ensures { λ r. ⌜ ExaminedIs (now (question .entry)) capacity (now (work .entry)) count i r × Labelled (now (question .entry)) (now (firsts .exit)) × Labelled (now (question .entry)) (now (seconds .exit)) ⌝ }
+    ensures { λ r. ⌜ ExaminedIs openly (now (question .entry)) capacity (now (work .entry)) count i r × Labelled (now (question .entry)) (now (firsts .exit)) × Labelled (now (question .entry)) (now (seconds .exit)) ⌝ }
 {
     let taken = take_up(
         question,

@@ -1,6 +1,7 @@
 -- `fewest_search::search::judge_list` meets its contract. Assumes nothing.
 use mathlib.Core.Path.{subst}
 use native.Mathlib.Omega.{arith}
+use Rattle.verdict.specs.Verdict.{openly}
 use borrow.Author.Needs.{needs}
 use Rattle.verdict_judge.specs.Judging.{JudgedIs}
 use Rattle.fewest_search.proofs.SearchLaws.{list-judged}
@@ -36,7 +37,7 @@ returns c =
     let c12 = c7 .before .before .before .before .before in
     let v = c12 .args in
     list-judged (v .question .now) _ _ _ (c7 .write-question .result) (v .capacity) (v .work .now) (c2 .judge .result) (c2 .judge .last .1 .1 .0)
-    (c12 .pre .1) (c7 .write-question .ensures) (subst (λ s. JudgedIs s (v .capacity) (v .work .now) (c2 .judge .result) (c2 .judge .last .1 .1 .0))
+    (c12 .pre .1) (c7 .write-question .ensures) (subst (λ s. JudgedIs openly s (v .capacity) (v .work .now) (c2 .judge .result) (c2 .judge .last .1 .1 .0))
     (c4 .front .ensures) (c2 .judge .ensures))
 
 pub judge-list-spec : {M : Type 1} → statement M

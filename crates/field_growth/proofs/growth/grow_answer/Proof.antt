@@ -12,7 +12,7 @@ answers-requires c κs = search needs
 returns : tie.Need-returns
 returns c =
     let c1 = c .before in
-    no-answer-left _ _ _ _ _ _ _ _ _ _ _ (omega arith) (rw (not-true (c1 .answers .result) (c .if1 .taken)) at (c1 .answers .ensures))
+    no-answer-left _ _ _ _ _ _ _ _ _ _ _ _ (omega arith) (rw (not-true (c1 .answers .result) (c .if1 .taken)) at (c1 .answers .ensures))
 
 same-header-requires : tie.Need-same-header-requires
 same-header-requires c κs = search needs
@@ -21,7 +21,7 @@ returns-2 : tie.Need-returns-2
 returns-2 c =
     let c3 = c .before .before .before in
     let c4 = c3 .before in
-    answer-left _ _ _ _ _ _ _ _ _ _ _ _ _ (answer-mirrored _ _ _ _ _ _ _ _ _ _ _ (omega arith) (rw (not-false (c4 .answers .result) (c3 .if1 .left))
+    answer-left _ _ _ _ _ _ _ _ _ _ _ _ _ _ (answer-mirrored _ _ _ _ _ _ _ _ _ _ _ _ (omega arith) (rw (not-false (c4 .answers .result) (c3 .if1 .left))
     at (c4 .answers .ensures)) (c .before .before .if2 .taken) _ (c .before .same-header .ensures) (c .if3 .taken))
 
 successor-requires : tie.Need-successor-requires
@@ -41,7 +41,7 @@ returns-3 c =
     let c5 = c .before .before .before .before .before in
     let c7 = c5 .before .before in
     let c8 = c7 .before in
-    answer-looked _ _ _ _ _ _ _ _ _ _ _ (rw (not-false (c8 .answers .result) (c7 .if1 .left)) at (c8 .answers .ensures)) _ (c5 .successor .ensures) _
+    answer-looked _ _ _ _ _ _ _ _ _ _ _ _ (rw (not-false (c8 .answers .result) (c7 .if1 .left)) at (c8 .answers .ensures)) _ (c5 .successor .ensures) _
     _ (c .before .before .add .ensures)
 
 pub grow-answer-spec : {M : Type 1} → statement M

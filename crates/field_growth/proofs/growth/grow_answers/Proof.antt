@@ -9,15 +9,15 @@ use Rattle.field_growth.proofs.growth.grow_answers.Statement.{statement
 use Rattle.field_growth.proofs.growth.grow_answers.Tie as tie
 
 abbrev Inv-loop : tie.InvT-loop
-Inv-loop arities free apart second area at others first count work₀ capacity known so-far₀ left₀ led₀ j₀ work so-far left led j =
-    (j ≤ count) × (length work ≡ length work₀) × (so-far ≤ capacity) × Answers arities free apart second area at others first count capacity work₀ known work so-far j
-    × Looked arities free apart second area at others first count capacity work₀ known work so-far j left led
+Inv-loop arities free apart second area at others first count name work₀ capacity known so-far₀ left₀ led₀ j₀ work so-far left led j =
+    (j ≤ count) × (length work ≡ length work₀) × (so-far ≤ capacity) × Answers arities free apart second area at others first count name capacity work₀ known work so-far j
+    × Looked arities free apart second area at others first count name capacity work₀ known work so-far j left led
 
 abbrev μ-loop : tie.MeasureT-loop
-μ-loop arities free apart second area at others first count work₀ capacity known so-far₀ left₀ led₀ j₀ work so-far left led j = count - j
+μ-loop arities free apart second area at others first count name work₀ capacity known so-far₀ left₀ led₀ j₀ work so-far left led j = count - j
 
 loop-holds : tie.Need-loop-holds Inv-loop μ-loop
-loop-holds c = (search needs, search needs, search needs, answers-start _ _ _ _ _ _ _ _ _ _ _ _ (omega arith), looked-start _ _ _ _ _ _ _ _ _ _ _ _)
+loop-holds c = (search needs, search needs, search needs, answers-start _ _ _ _ _ _ _ _ _ _ _ _ _ (omega arith), looked-start _ _ _ _ _ _ _ _ _ _ _ _ _)
 
 mul-grow-answer : tie.Need-mul-grow-answer Inv-loop μ-loop
 mul-grow-answer c = search needs
@@ -39,7 +39,7 @@ returns c =
     let c4 = c .before .before .before .before in
     let c6 = c4 .before .before in
     let c7 = c6 .before in
-    looked-full _ _ _ _ _ _ _ _ _ _ _ _ _ (answers-full _ _ _ _ _ _ _ _ _ _ _ _ _ _ _ _ (c7 .loop .inv .3) (c6 .loop-test .taken) (rw
+    looked-full _ _ _ _ _ _ _ _ _ _ _ _ _ _ (answers-full _ _ _ _ _ _ _ _ _ _ _ _ _ _ _ _ _ (c7 .loop .inv .3) (c6 .loop-test .taken) (rw
     (c .enum-told .given .1) at (c4 .grow-answer .ensures .grown)))
 
 join-requires : tie.Need-join-requires Inv-loop μ-loop
@@ -59,10 +59,10 @@ loop-again c =
       search needs,
       g .grows .within _
           refl .1,
-      answers-next _ _ _ _ _ _ _ _ _ _ _ _ _ _ _ _ _
+      answers-next _ _ _ _ _ _ _ _ _ _ _ _ _ _ _ _ _ _
           (c .before .before .before .before .before .before .before .before .before .before .loop .inv .3)
           (c .before .before .before .before .before .before .before .before .before .loop-test .taken) g,
-      looked-next _ _ _ _ _ _ _ _ _ _ _ _ _ _ _
+      looked-next _ _ _ _ _ _ _ _ _ _ _ _ _ _ _ _
           (c .before .before .before .before .before .before .before .before .before .before .loop .left) _
           (c .before .before .before .before .before .before .before .grow-answer .result) _ _ _
           (c .before .before .before .before .before .before .before .before .before .before .loop .inv .3)
@@ -75,7 +75,7 @@ same-length-2 : tie.Need-same-length-2 Inv-loop μ-loop
 same-length-2 c = search needs
 
 returns-2 : tie.Need-returns-2 Inv-loop μ-loop
-returns-2 c = looked-end _ _ _ _ _ _ _ _ _ _ _ _ _ _ _ _ _ (c .before .loop .inv .3) (c .before .loop .inv .4) (omega arith)
+returns-2 c = looked-end _ _ _ _ _ _ _ _ _ _ _ _ _ _ _ _ _ _ (c .before .loop .inv .3) (c .before .loop .inv .4) (omega arith)
 
 pub grow-answers-spec : {M : Type 1} → statement M
 grow-answers-spec =

@@ -4,13 +4,12 @@ use borrow.Author.Needs.{needs}
 use mathlib.Core.Logic.{⊎-elim}
 use Prim.Native.Nat.{_+_, _-_, _≤_}
 use Rattle.terms.specs.Limits.{nameCount}
-use Rattle.field_pairs.proofs.Counting.{Passing, passing-start, passing-failed, passing-next}
-use Rattle.field_pairs.proofs.EntryLaws.{OwnClass, trivial-is, not-trivial}
+use Rattle.field_pairs.proofs.EntryLaws.{OwnBelow, own-none, own-next, own-not, trivial-is, not-trivial}
 use Rattle.field_pairs.proofs.entries.trivial.Statement.{statement}
 use Rattle.field_pairs.proofs.entries.trivial.Tie as tie
 
 abbrev Inv-loop : tie.InvT-loop
-Inv-loop area at own₀ n₀ own n = (n ≤ nameCount) × Passing (OwnClass area at) n own
+Inv-loop area at own₀ n₀ own n = (n ≤ nameCount) × OwnBelow area at n own
 
 abbrev μ-loop : tie.MeasureT-loop
 μ-loop area at own₀ n₀ own n = nameCount - n
@@ -19,10 +18,10 @@ sub-if1 : tie.Need-sub-if1 Inv-loop μ-loop
 sub-if1 c = search needs
 
 returns : tie.Need-returns Inv-loop μ-loop
-returns c = not-trivial _ _
+returns c = not-trivial _ _ (omega arith)
 
 loop-holds : tie.Need-loop-holds Inv-loop μ-loop
-loop-holds c = (search needs, passing-start _ _)
+loop-holds c = (search needs, own-none _ _)
 
 add-if2 : tie.Need-add-if2 Inv-loop μ-loop
 add-if2 c = search needs
@@ -42,8 +41,8 @@ loop-less c = search needs
 loop-again : tie.Need-loop-again Inv-loop μ-loop
 loop-again c = (
   search needs,
-  ⊎-elim (λ w. rw (w .1) (passing-failed _ _)) (λ w. rw (w .1) (passing-next _ _ _ (c .before .before .before .loop .inv .1)
-      (w .0 .left))) (c .if2 .came),
+  ⊎-elim (λ w. rw (w .1) (own-not _ _ _ _ (omega arith) (c .before .before .before .loop .inv .1) (w .0 .taken)))
+      (λ w. rw (w .1) (own-next _ _ _ _ (omega arith) (c .before .before .before .loop .inv .1) (w .0 .left))) (c .if2 .came),
 )
 
 returns-2 : tie.Need-returns-2 Inv-loop μ-loop

@@ -1,6 +1,5 @@
 -- `field::start::start_key` meets its contract. Assumes nothing.
 use mathlib.Core.Path.{ap, _∙_}
-use native.Mathlib.Omega.{arith}
 use Rattle.terms_bytes.specs.FieldPlaces.{fieldPlace}
 use Rattle.field_successors.proofs.StartLaws.{start-is}
 use borrow.Author.Needs.{needs}
@@ -40,11 +39,8 @@ after-field-requires-2 c κs = search needs
 field-at-requires-3 : tie.Need-field-at-requires-3
 field-at-requires-3 c κs = search needs
 
-slice-aggregate-mark-list : tie.Need-slice-aggregate-mark-list
-slice-aggregate-mark-list c = search needs
-
-mark-list-requires : tie.Need-mark-list-requires
-mark-list-requires c κs = search needs
+start-pairs-requires : tie.Need-start-pairs-requires
+start-pairs-requires c κs = search needs
 
 slice-aggregate-complete : tie.Need-slice-aggregate-complete
 slice-aggregate-complete c = search needs
@@ -56,24 +52,10 @@ complete-requires : tie.Need-complete-requires
 complete-requires c κs = search needs
 
 returns : tie.Need-returns
-returns c =
-    let c5 = c .before .before .before .before .before in
-    let c7 = c5 .before .before in
-    let c8 = c7 .before in
-    let c10 = c8 .before .before in
-    let c12 = c10 .before .before in
-    let c14 = c12 .before .before in
-    let c16 = c14 .before .before in
-    let c17 = c16 .before in
-    let c18 = c17 .before in
-    let c19 = c18 .before in
-    let c20 = c19 .before in
-    let c21 = c20 .before in
-    let s = c21 .args .question .now in
-    let first = c18 .field-place .ensures ∙ ap (fieldPlace s) (c19 .definitions .ensures .0) in
-    start-is s _ _ _ first (c17 .after-field .ensures) (c8 .after-field2 .ensures) _ _ _ _ (c16 .field-at .ensures) (c12 .field-at2 .ensures)
-    (c7 .field-at3 .ensures) (c .before .before .arities .ensures) _ _ _ _ (c14 .put-part .ensures) (c10 .put-part2 .ensures) (c5 .mark-list .ensures)
-    (c .before .complete .ensures)
+returns c = let s = c .before .before .before .before .before .before .before .before .before .before .before .before .before .before .before .before .before .before .before .args .question .now in
+    start-is s _ _ _ (c .before .before .before .before .before .before .before .before .before .before .before .before .before .before .before .before .field-place .ensures ∙ ap (fieldPlace s) (c .before .before .before .before .before .before .before .before .before .before .before .before .before .before .before .before .before .definitions .ensures .0)) (c .before .before .before .before .before .before .before .before .before .before .before .before .before .before .before .after-field .ensures) (c .before .before .before .before .before .before .after-field2 .ensures) _ _ _ _
+    (c .before .before .before .before .before .before .before .before .before .before .before .before .before .before .field-at .ensures) (c .before .before .before .before .before .before .before .before .before .before .field-at2 .ensures) (c .before .before .before .before .before .field-at3 .ensures) (c .before .before .arities .ensures) _ _ _ _ _ (c .before .before .before .before .before .before .before .before .before .before .before .before .put-part .ensures) (c .before .before .before .before .before .before .before .before .put-part2 .ensures)
+    (c .before .before .before .before .start-pairs .ensures) (c .before .complete .ensures)
 
 pub start-key-spec : {M : Type 1} → statement M
 start-key-spec =
@@ -90,8 +72,7 @@ start-key-spec =
     put-part-requires-2
     after-field-requires-2
     field-at-requires-3
-    slice-aggregate-mark-list
-    mark-list-requires
+    start-pairs-requires
     slice-aggregate-complete
     arities-requires
     complete-requires

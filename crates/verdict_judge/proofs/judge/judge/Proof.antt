@@ -1,6 +1,7 @@
 -- `verdict_judge::judge::judge` meets its contract. Assumes nothing.
 use native.Mathlib.Omega.{arith}
 use Rattle.verdict_judge.proofs.JudgeLaws.{not-within, within, question-refused, question-accepted, accepted-either}
+use Rattle.verdict.specs.Verdict.{openly}
 use borrow.Author.Needs.{needs}
 use Rattle.verdict_judge.proofs.judge.judge.Statement.{statement}
 use Rattle.verdict_judge.proofs.judge.judge.Tie as tie
@@ -13,7 +14,7 @@ returns c =
     let c1 = c .before in
     let c4 = c1 .before .before .before in
     let v = c4 .args in
-    not-within (v .question .now) (v .capacity) (v .work .now) (c1 .capacity-check .result) (c1 .capacity-check .ensures) (omega arith)
+    not-within openly (v .question .now) (v .capacity) (v .work .now) (c1 .capacity-check .result) (c1 .capacity-check .ensures) (omega arith)
 
 check-requires : tie.Need-check-requires
 check-requires c κs = search needs
@@ -30,7 +31,7 @@ judge-either-requires c κs =
     let c5 = c3 .before .before in
     let c8 = c5 .before .before .before in
     let v = c8 .args in
-    let w = within (v .question .now) (v .capacity) (v .work .now) (c5 .capacity-check .result) (c5 .capacity-check .ensures) (omega arith) in (
+    let w = within openly (v .question .now) (v .capacity) (v .work .now) (c5 .capacity-check .result) (c5 .capacity-check .ensures) (omega arith) in (
       w .some,
       w .most,
       w .fits,
@@ -43,7 +44,7 @@ returns-2 c =
     let c5 = c3 .before .before in
     let c8 = c5 .before .before .before in
     let v = c8 .args in
-    question-refused (v .question .now) (v .capacity) (v .work .now) (c5 .capacity-check .result) (c5 .capacity-check .ensures) (omega arith) _ _
+    question-refused openly (v .question .now) (v .capacity) (v .work .now) (c5 .capacity-check .result) (c5 .capacity-check .ensures) (omega arith) _ _
     (c3 .check .ensures) (c .before .checked .given .1)
 
 same-length : tie.Need-same-length
@@ -56,7 +57,7 @@ returns-3 c =
     let c8 = c6 .before .before in
     let c11 = c8 .before .before .before in
     let v = c11 .args in
-    question-accepted (v .question .now) (v .capacity) (v .work .now) (c8 .capacity-check .result) (c8 .capacity-check .ensures) (omega arith) _ _ _
+    question-accepted openly (v .question .now) (v .capacity) (v .work .now) (c8 .capacity-check .result) (c8 .capacity-check .ensures) (omega arith) _ _ _
     (c6 .check .ensures) (c4 .enum-told .given .1) (c .before .before .judge-either .ensures)
 
 pub judge-spec : {M : Type 1} → statement M

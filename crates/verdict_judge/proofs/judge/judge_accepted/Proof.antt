@@ -17,7 +17,7 @@ same-length : tie.Need-same-length
 same-length c = search needs
 
 returns : tie.Need-returns
-returns c = cleared _ _ _ _ _ _ (c .before .before .before .before .before .before .decide .ensures) (c .before .before .clear .ensures)
+returns c = cleared _ _ _ _ _ _ _ (c .before .before .before .before .before .before .decide .ensures) (c .before .before .clear .ensures)
 
 pub judge-accepted-spec : {M : Type 1} → statement M
 judge-accepted-spec =

@@ -48,7 +48,7 @@ returns c =
     let c6 = c .before .before .before .before .before .before in
     let c10 = c6 .before .before .before .before in
     let a = c10 .args in
-    own-of-plain (a .question .now) _ (a .capacity) (a .work .now) _ _ (c10 .pre .3 .0) (in-own two (a .question .now) (c10 .pre .3 .0)
+    own-of-plain _ (a .question .now) _ (a .capacity) (a .work .now) _ _ (c10 .pre .3 .0) (in-own two (a .question .now) (c10 .pre .3 .0)
     (c10 .pre .3 .1)) (plain-checked (a .question .now) (c10 .pre .3 .0) (c10 .pre .3 .1) _ (plain-taken (a .question .now) (c10 .pre .3 .0)
     (c10 .pre .3 .1) _ _ _ (c6 .convert-question .ensures))) (c .before .before .judge-accepted .ensures)
 

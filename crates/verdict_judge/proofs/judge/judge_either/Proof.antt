@@ -50,7 +50,7 @@ returns-2 c =
     let c5 = c4 .before in
     let c8 = c5 .before .before .before in
     let a = c8 .args in
-    own-of-plain (a .question .now) (a .question .now) (a .capacity) (a .work .now) _ _ (c8 .pre .3 .0) (c8 .pre .3 .1) (own-plain (a .question .now)
+    own-of-plain _ (a .question .now) (a .question .now) (a .capacity) (a .work .now) _ _ (c8 .pre .3 .0) (c8 .pre .3 .1) (own-plain (a .question .now)
     (c8 .pre .3 .0) (c5 .is-counted .result) (c5 .is-counted .ensures) (c4 .if1 .left) (c8 .pre .3 .1)) (c .before .before .judge-accepted .ensures)
 
 pub judge-either-spec : {M : Type 1} → statement M

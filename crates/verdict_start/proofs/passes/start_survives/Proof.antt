@@ -13,7 +13,7 @@ same-length : tie.Need-same-length
 same-length c = search needs
 
 returns : tie.Need-returns
-returns c = start-gone _ _ _ _ _ (c .before .left-at .ensures) (not-true _ (c .if1 .taken))
+returns c = start-gone _ _ _ _ _ _ (c .before .left-at .ensures) (not-true _ (c .if1 .taken))
 
 first-struck-requires : tie.Need-first-struck-requires
 first-struck-requires c κs = search needs
@@ -38,7 +38,7 @@ same-length-2 : tie.Need-same-length-2
 same-length-2 c = search needs
 
 returns-2 : tie.Need-returns-2
-returns-2 c = none-struck-stays _ _ _ _ _ (omega arith) (c .before .before .first-struck .ensures) (c .enum-told .given .1)
+returns-2 c = none-struck-stays _ _ _ _ _ _ (omega arith) (c .before .before .first-struck .ensures) (c .enum-told .given .1)
 
 same-length-3 : tie.Need-same-length-3
 same-length-3 c = search needs

@@ -1,5 +1,6 @@
 -- `verdict::strike::survives_passes` meets its contract. Assumes nothing.
 use native.Mathlib.Omega.{arith}
+use Rattle.verdict.specs.Verdict.{openly}
 use borrow.Author.Needs.{needs}
 use borrow.Author.Tests.{not-true, not-false}
 use mathlib.Core.Bool.{true, false, cond}
@@ -21,9 +22,9 @@ use Rattle.verdict_start.proofs.passes.survives_passes.Tie as tie
 abbrev Inv-loop : tie.InvT-loop
 Inv-loop question bodies numbers₀ rows₀ firsts₀ seconds₀ work₀ capacity count rising up₀ again₀ numbers rows firsts seconds work up again =
     (length work ≡ length work₀) × (length numbers ≡ tallySize) × (rowBytes * mostRows ≤ length rows) × Labelled question firsts × Labelled question seconds
-    × Strikes question capacity count work₀ work × (again ≡ false → (getD work (struckAt 0) 0 ≡ 0) × AllSurvive question capacity work count)
+    × Strikes openly question capacity count work₀ work × (again ≡ false → (getD work (struckAt 0) 0 ≡ 0) × AllSurvive openly question capacity work count)
     × (length numbers ≡ length numbers₀) × (length rows ≡ length rows₀) × (length firsts ≡ length firsts₀) × (length seconds ≡ length seconds₀)
-    × NotesHold true question capacity work count
+    × NotesHold true openly question capacity work count
 
 abbrev μ-loop : tie.MeasureT-loop
 μ-loop question bodies numbers₀ rows₀ firsts₀ seconds₀ work₀ capacity count rising up₀ again₀ numbers rows firsts seconds work up again = zeros (marks work count) + cond again 1 0
@@ -47,7 +48,7 @@ loop-holds c = (
   refl,
   refl,
   refl,
-  noted-none _ _ _ _ _ (c .before .before .clear-notes .ensures),
+  noted-none _ _ _ _ _ _ (c .before .before .clear-notes .ensures),
 )
 
 strike-blocks-requires : tie.Need-strike-blocks-requires Inv-loop μ-loop
@@ -111,7 +112,7 @@ returns c =
     let c13 = c .before .before .before .before .before .before .before .before .before .before .before .before .before in
     let c20 = c13 .before .before .before .before .before .before .before in
     let c23 = c20 .before .before .before in
-    start-goes _ _ _ _ _ _ _ _ (strikes-then _ _ _ (notes-changed none-struck (c23 .clear-notes .ensures .spare)) (c20 .loop .inv .5))
+    start-goes _ _ _ _ _ _ _ _ _ (strikes-then _ _ _ _ (notes-changed none-struck (c23 .clear-notes .ensures .spare)) (c20 .loop .inv .5))
     (c13 .strike-blocks .ensures .0) (c .before .left-at .ensures) (not-true _ (c .if1 .taken))
 
 loop-less : tie.Need-loop-less Inv-loop μ-loop
@@ -121,7 +122,7 @@ loop-less c =
     let c20 = c19 .before in
     let c23 = c20 .before .before .before in
     let c32 = c23 .before .before .before .before .before .before .before .before .before in
-    pass-less _ _ _ _ _ _ _ (omega (arith, c32 .pre .1, c32 .pre .2, c20 .loop .inv .0, c23 .clear-notes .kept)) (c19 .loop-test .taken)
+    pass-less _ _ _ _ _ _ _ _ (omega (arith, c32 .pre .1, c32 .pre .2, c20 .loop .inv .0, c23 .clear-notes .kept)) (c19 .loop-test .taken)
     (c13 .strike-blocks .ensures .0)
 
 loop-again : tie.Need-loop-again Inv-loop μ-loop
@@ -137,11 +138,11 @@ loop-again c =
       ),
       c13 .strike-blocks .ensures .1,
       c13 .strike-blocks .ensures .2,
-      strikes-then _ _ _
+      strikes-then _ _ _ _
           (c20 .loop .inv .5) (c13 .strike-blocks .ensures .0 .strikes),
       λ q. (
         left-zero _ _ _ (c .before .left-at .ensures) (not-false _ (c .if1 .left)),
-        pass-all _ _ _ (c13 .strike-blocks .ensures .0) q,
+        pass-all _ _ _ _ (c13 .strike-blocks .ensures .0) q,
       ),
       omega (arith, c20 .loop .inv .7, c13 .strike-blocks .kept),
       omega (
@@ -178,7 +179,7 @@ returns-2 c =
     let c1 = c .before in
     let c4 = c1 .before .before .before in
     let w = c1 .loop .inv .6 (c .loop-test .left) in
-    start-stays _ _ _ _ _ (strikes-then _ _ _ (notes-changed none-struck (c4 .clear-notes .ensures .spare)) (c1 .loop .inv .5)) (w .0) (w .1)
+    start-stays _ _ _ _ _ _ (strikes-then _ _ _ _ (notes-changed none-struck (c4 .clear-notes .ensures .spare)) (c1 .loop .inv .5)) (w .0) (w .1)
 
 pub survives-passes-spec : {M : Type 1} → statement M
 survives-passes-spec =

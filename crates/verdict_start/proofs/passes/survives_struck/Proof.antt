@@ -52,7 +52,7 @@ same-length-5 c = search needs
 returns : tie.Need-returns
 returns c =
     let c13 = c .before .before .before .before .before .before .before .before .before .before .before .before .before in
-    start-goes _ _ _ _ _ _ _ _ none-struck (c13 .settle .ensures .0) (c .before .left-at .ensures) (not-true _ (c .if1 .taken))
+    start-goes _ _ _ _ _ _ _ _ _ none-struck (c13 .settle .ensures .0) (c .before .left-at .ensures) (not-true _ (c .if1 .taken))
 
 survives-passes-requires : tie.Need-survives-passes-requires
 survives-passes-requires c κs =
@@ -89,7 +89,7 @@ returns-2 : tie.Need-returns-2
 returns-2 c =
     let c10 = c .before .before .before .before .before .before .before .before .before .before in
     let c29 = c10 .before .before .before .before .before .before .before .before .before .before .before .before .before .before .before .before .before .before .before in
-    then-survives _ _ _ _ _ _ _ (c29 .settle .ensures .0 .strikes) (c10 .survives-passes .ensures)
+    then-survives _ _ _ _ _ _ _ _ (c29 .settle .ensures .0 .strikes) (c10 .survives-passes .ensures)
 
 pub survives-struck-spec : {M : Type 1} → statement M
 survives-struck-spec =

@@ -1,5 +1,6 @@
 -- `verdict::strike::settle` and `strike_blocks` meet their contracts. The measure: the level of the blocks. Assumes nothing.
 use native.Mathlib.Omega.{arith}
+use Rattle.verdict.specs.Verdict.{openly}
 use borrow.Author.Needs.{needs}
 use borrow.Author.Tests.{not-true, not-false}
 use mathlib.Core.Logic.{inr}
@@ -59,7 +60,7 @@ abbrev settle-Inv-loop : settle-lts.InvT-loop
 settle-Inv-loop question bodies work₀ capacity count from size level numbers₀ rows₀ firsts₀ seconds₀ rising examine struck₀ up₀ work numbers rows firsts seconds struck up =
     (length work ≡ length work₀) × (length numbers ≡ length numbers₀) × (length rows ≡ length rows₀)
     × (length firsts ≡ length firsts₀) × (length seconds ≡ length seconds₀) × Labelled question firsts × Labelled question seconds
-    × PassIs examine question capacity work₀ count (λ j. ⊥) struck work
+    × PassIs examine openly question capacity work₀ count (λ j. ⊥) struck work
 
 abbrev settle-μ-loop : settle-lts.MeasureT-loop
 settle-μ-loop question bodies work₀ capacity count from size level numbers₀ rows₀ firsts₀ seconds₀ rising examine struck₀ up₀ work numbers rows firsts seconds struck up = zeros (marks work count)
@@ -68,7 +69,7 @@ abbrev strike-blocks-Inv-loop : strike-blocks-lts.InvT-loop
 strike-blocks-Inv-loop question bodies work₀ capacity count from size level numbers₀ rows₀ firsts₀ seconds₀ rising examine block blocks struck₀ i₀ work numbers rows firsts seconds struck i =
     (i ≤ blocks) × (length work ≡ length work₀) × (length numbers ≡ length numbers₀) × (length rows ≡ length rows₀)
     × (length firsts ≡ length firsts₀) × (length seconds ≡ length seconds₀) × Labelled question firsts × Labelled question seconds
-    × PassIs examine question capacity work₀ count (TakenUp rising blocks (Blocks from size block) i) struck work
+    × PassIs examine openly question capacity work₀ count (TakenUp rising blocks (Blocks from size block) i) struck work
 
 abbrev strike-blocks-μ-loop : strike-blocks-lts.MeasureT-loop
 strike-blocks-μ-loop question bodies work₀ capacity count from size level numbers₀ rows₀ firsts₀ seconds₀ rising examine block blocks struck₀ i₀ work numbers rows firsts seconds struck i = i
@@ -109,7 +110,7 @@ settle-returns t c =
     let c10 = c .before .before .before .before .before .before .before .before .before .before in
     let c16 = c10 .before .before .before .before .before .before in
     let c24 = c16 .before .before .before .before .before .before .before .before in (
-      pass-within _ _ _ (Run (c24 .args .from) (c24 .args .size)) (λ j h m. (m .0, omega (arith, m .1, c24 .pre .1 .10 (c16 .if1 .taken)))) (one-pass _
+      pass-within _ _ _ _ (Run (c24 .args .from) (c24 .args .size)) (λ j h m. (m .0, omega (arith, m .1, c24 .pre .1 .10 (c16 .if1 .taken)))) (one-pass _ _
           _ _ _ _ _ _ (omega (arith, c24 .pre .1 .0, c24 .pre .1 .10 (c16 .if1 .taken))) (omega (arith, c24 .pre .1 .1, c24 .pre .1 .2))
           (c10 .strike-one .ensures .0)),
       c10 .strike-one .ensures .1,
@@ -119,7 +120,7 @@ settle-returns t c =
 settle-loop-holds : (t : ℕ) → settle-lts.Need-loop-holds (settle-claims t) (settle-at t) settle.Post settle-Inv-loop settle-μ-loop
 settle-loop-holds t c =
     let c8 = c .before .before .before .before .before .before .before .before in
-    (refl, refl, refl, refl, refl, c8 .pre .1 .6, c8 .pre .1 .7, pass-none _ _ _ _ (λ j. ⊥) (λ j h. h) (c8 .pre .1 .9))
+    (refl, refl, refl, refl, refl, c8 .pre .1 .6, c8 .pre .1 .7, pass-none _ _ _ _ _ (λ j. ⊥) (λ j h. h) (c8 .pre .1 .9))
 
 settle-sub-strike-blocks : (t : ℕ) → settle-lts.Need-sub-strike-blocks (settle-claims t) (settle-at t) settle.Post settle-Inv-loop settle-μ-loop
 settle-sub-strike-blocks t c = omega (arith, c .before .before .if1 .left)
@@ -179,7 +180,7 @@ settle-returns-2 t c =
     let c11 = c .before .before .before .before .before .before .before .before .before .before .before in
     let c17 = c11 .before .before .before .before .before .before in
     let c26 = c17 .before .before .before .before .before .before .before .before .before in (
-      pass-keeps _ _ _ (Run (c26 .args .from) (c26 .args .size)) (c17 .loop .inv .7) (c11 .strike-blocks .ensures .0) (not-true _ (c .if2 .taken)) (λ j
+      pass-keeps _ _ _ _ (Run (c26 .args .from) (c26 .args .size)) (c17 .loop .inv .7) (c11 .strike-blocks .ensures .0) (not-true _ (c .if2 .taken)) (λ j
           h m. inr m),
       c11 .strike-blocks .ensures .1,
       c11 .strike-blocks .ensures .2,
@@ -210,7 +211,7 @@ settle-loop-again t c =
       ),
       c11 .strike-blocks .ensures .1,
       c11 .strike-blocks .ensures .2,
-      pass-strikes _ _ _ (λ j. ⊥) (c17 .loop .inv .7)
+      pass-strikes _ _ _ _ (λ j. ⊥) (c17 .loop .inv .7)
           (c11 .strike-blocks .ensures .0) (omega (arith, c26 .pre .1 .1, c26 .pre .1 .2)) (not-false _ (c .if2 .left)),
     )
 
@@ -235,7 +236,7 @@ strike-blocks-div-blocks t c =
 strike-blocks-loop-holds : (t : ℕ) → strike-blocks-lts.Need-loop-holds (strike-blocks-claims t) (strike-blocks-at t) strike-blocks.Post strike-blocks-Inv-loop strike-blocks-μ-loop
 strike-blocks-loop-holds t c =
     let g = c .before .before .before .before .before .before .before .before .pre in
-    (search needs, refl, refl, refl, refl, refl, g .1 .6, g .1 .7, parts-none _ _ _ _ _ _ _ (g .1 .9))
+    (search needs, refl, refl, refl, refl, refl, g .1 .6, g .1 .7, parts-none _ _ _ _ _ _ _ _ (g .1 .9))
 
 strike-blocks-sub-i : (t : ℕ) → strike-blocks-lts.Need-sub-i (strike-blocks-claims t) (strike-blocks-at t) strike-blocks.Post strike-blocks-Inv-loop strike-blocks-μ-loop
 strike-blocks-sub-i t c = search needs
@@ -346,7 +347,7 @@ strike-blocks-loop-again t c =
       search needs,
       c .before .before .before .before .before .before .before .before .before .before .before .settle .ensures .1,
       c .before .before .before .before .before .before .before .before .before .before .before .settle .ensures .2,
-      part-strikes _ _ _ _ _ (Blocks
+      part-strikes _ _ _ _ _ _ (Blocks
           (v .from) (v .size)
           (c .before .before .before .before .before .before .before .before .before .before .before .before .before .before .before .before .before .before .before .before .before .width .result))
           (c .before .before .before .before .before .before .before .before .before .before .before .before .before .before .before .before .before .before .before .before .loop .i)
@@ -356,7 +357,7 @@ strike-blocks-loop-again t c =
           ))
           (c .before .before .before .before .before .before .before .before .before .before .before .before .before .before .before .before .before .before .turn .ensures)
           (c .before .before .before .before .before .before .before .before .before .before .before .before .before .before .before .before .before .before .before .before .loop .inv .8)
-          (pass-within _ _ _ (Blocks (v .from) (v .size)
+          (pass-within _ _ _ _ (Blocks (v .from) (v .size)
           (c .before .before .before .before .before .before .before .before .before .before .before .before .before .before .before .before .before .before .before .before .before .width .result)
           (c .before .before .before .before .before .before .before .before .before .before .before .before .before .before .before .before .before .before .turn .result))
           (λ j h m. (
@@ -389,7 +390,7 @@ strike-blocks-loop-again-2 t c =
       search needs,
       c .before .before .before .before .before .before .before .before .before .before .before .settle .ensures .1,
       c .before .before .before .before .before .before .before .before .before .before .before .settle .ensures .2,
-      part-keeps _ _ _ _ _ (Blocks
+      part-keeps _ _ _ _ _ _ (Blocks
           (v .from) (v .size)
           (c .before .before .before .before .before .before .before .before .before .before .before .before .before .before .before .before .before .before .before .before .before .width .result))
           (c .before .before .before .before .before .before .before .before .before .before .before .before .before .before .before .before .before .before .before .before .loop .i)
@@ -399,7 +400,7 @@ strike-blocks-loop-again-2 t c =
           ))
           (c .before .before .before .before .before .before .before .before .before .before .before .before .before .before .before .before .before .before .turn .ensures)
           (c .before .before .before .before .before .before .before .before .before .before .before .before .before .before .before .before .before .before .before .before .loop .inv .8)
-          (pass-within _ _ _ (Blocks (v .from) (v .size)
+          (pass-within _ _ _ _ (Blocks (v .from) (v .size)
           (c .before .before .before .before .before .before .before .before .before .before .before .before .before .before .before .before .before .before .before .before .before .width .result)
           (c .before .before .before .before .before .before .before .before .before .before .before .before .before .before .before .before .before .before .turn .result))
           (λ j h m. (
@@ -434,7 +435,7 @@ strike-blocks-returns t c =
     let c2 = c1 .before in
     let c10 = c2 .before .before .before .before .before .before .before .before in
     let v = c10 .args in (
-      blocks-passed _ _ _ _ (v .from) (v .size) (v .level) (c2 .width .result) _ (c1 .loop .i) (c2 .width .ensures) refl (omega arith)
+      blocks-passed _ _ _ _ _ (v .from) (v .size) (v .level) (c2 .width .result) _ (c1 .loop .i) (c2 .width .ensures) refl (omega arith)
           (c1 .loop .inv .8),
       c1 .loop .inv .6,
       c1 .loop .inv .7,

@@ -16,7 +16,7 @@ same-length c = search needs
 returns : tie.Need-returns
 returns c =
     let c10 = c .before .before .before .before .before .before .before .before .before .before in
-    (gone-kept _ _ _ _ _ (c10 .pre .9) _ (c .before .left-at .ensures) (not-true _ (c .if1 .taken)), c10 .pre .6, c10 .pre .7)
+    (gone-kept _ _ _ _ _ _ (c10 .pre .9) _ (c .before .left-at .ensures) (not-true _ (c .if1 .taken)), c10 .pre .6, c10 .pre .7)
 
 strike-sole-requires : tie.Need-strike-sole-requires
 strike-sole-requires c κs =
@@ -32,7 +32,7 @@ returns-2 c =
     let c5 = c4 .before in
     let c6 = c5 .before in
     let c15 = c6 .before .before .before .before .before .before .before .before .before in (
-      sole-strikes _ _ _ _ _ (c15 .pre .9) _ _ (c15 .pre .0) (not-true _ (c4 .if2 .taken)) (left-zero _ _ _ (c6 .left-at .ensures) (not-false _
+      sole-strikes _ _ _ _ _ _ (c15 .pre .9) _ _ (c15 .pre .0) (not-true _ (c4 .if2 .taken)) (left-zero _ _ _ (c6 .left-at .ensures) (not-false _
           (c5 .if1 .left))) (c .before .before .strike-sole .ensures),
       c15 .pre .6,
       c15 .pre .7,
@@ -48,7 +48,7 @@ returns-3 : tie.Need-returns-3
 returns-3 c =
     let c3 = c .before .before .before in
     let c14 = c3 .before .before .before .before .before .before .before .before .before .before .before in (
-      resting-kept _ _ _ _ _ (c14 .pre .9) (not-false _ (c3 .if2 .left)) _ (c14 .pre .0) (c .before .rests .ensures) (c .if3 .taken),
+      resting-kept _ _ _ _ _ _ (c14 .pre .9) (not-false _ (c3 .if2 .left)) _ (c14 .pre .0) (c .before .rests .ensures) (c .if3 .taken),
       c14 .pre .6,
       c14 .pre .7,
     )
@@ -65,7 +65,7 @@ returns-4 : tie.Need-returns-4
 returns-4 c =
     let c6 = c .before .before .before .before .before .before in
     let c17 = c6 .before .before .before .before .before .before .before .before .before .before .before in (
-      equal-stays _ _ _ _ _ (c17 .pre .9) (not-false _ (c6 .if2 .left)) _ (c17 .pre .0) (c .before .equal-parts .ensures) (c .if4 .taken),
+      equal-stays _ _ _ _ _ _ (c17 .pre .9) (not-false _ (c6 .if2 .left)) _ (c17 .pre .0) (c .before .equal-parts .ensures) (c .if4 .taken),
       c17 .pre .6,
       c17 .pre .7,
     )
@@ -102,7 +102,7 @@ returns-5 c =
     let c14 = c4 .before .before .before .before .before .before .before .before .before .before in
     let c26 = c14 .before .before .before .before .before .before .before .before .before .before .before .before in
     let c37 = c26 .before .before .before .before .before .before .before .before .before .before .before in (
-      survivor-noted _ _ _ _ _ (c37 .pre .9) (not-false _ (c26 .if2 .left)) _ _ (c37 .pre .0) (c14 .survives .ensures .0) (c4 .if5 .taken)
+      survivor-noted _ _ _ _ _ _ (c37 .pre .9) (not-false _ (c26 .if2 .left)) _ _ (c37 .pre .0) (c14 .survives .ensures .0) (c4 .if5 .taken)
           (c .before .before .note .ensures),
       c14 .survives .ensures .1,
       c14 .survives .ensures .2,
@@ -144,7 +144,7 @@ returns-6 c =
     let c23 = c10 .before .before .before .before .before .before .before .before .before .before .before .before .before in
     let c24 = c23 .before in
     let c33 = c24 .before .before .before .before .before .before .before .before .before in (
-      one-strikes _ _ _ _ _ (c33 .pre .9) _ (left-zero _ _ _ (c24 .left-at .ensures) (not-false _ (c23 .if1 .left))) (c10 .survives .ensures .0)
+      one-strikes _ _ _ _ _ _ (c33 .pre .9) _ (left-zero _ _ _ (c24 .left-at .ensures) (not-false _ (c23 .if1 .left))) (c10 .survives .ensures .0)
           (c .if5 .left),
       c10 .survives .ensures .1,
       c10 .survives .ensures .2,

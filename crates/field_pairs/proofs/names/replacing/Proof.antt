@@ -1,4 +1,4 @@
--- `field::renewing::replacing` meets its contract. Assumes nothing.
+-- `field::names::replacing` meets its contract. Assumes nothing.
 use mathlib.Core.Path.{_≡_, refl}
 use Prim.Native.Nat.{_-_, _≤_}
 use native.Mathlib.Omega.{arith}
@@ -7,8 +7,8 @@ use Rattle.calculus.specs.Term.{put}
 use Rattle.terms.specs.Limits.{nameCount}
 use Rattle.terms_renaming.proofs.Filling.{Filling, fill-start, fill-step}
 use borrow.Author.Needs.{needs}
-use Rattle.field_renewal.proofs.renewing.replacing.Statement.{statement}
-use Rattle.field_renewal.proofs.renewing.replacing.Tie as tie
+use Rattle.field_pairs.proofs.names.replacing.Statement.{statement}
+use Rattle.field_pairs.proofs.names.replacing.Tie as tie
 
 abbrev Inv-loop : tie.InvT-loop
 Inv-loop y x table₀ i₀ table i = Filling (put y x) table₀ table i × (i ≤ nameCount) × (length table₀ ≡ nameCount)

@@ -1,8 +1,8 @@
--- `field::renewing::replaced` meets its contract. Assumes nothing.
+-- `field::names::replaced` meets its contract. Assumes nothing.
 use mathlib.Core.Path.{sym}
 use Rattle.calculus.proofs.Binding.{put-self, put-other}
-use Rattle.field_renewal.proofs.renewing.replaced.Statement.{statement}
-use Rattle.field_renewal.proofs.renewing.replaced.Tie as tie
+use Rattle.field_pairs.proofs.names.replaced.Statement.{statement}
+use Rattle.field_pairs.proofs.names.replaced.Tie as tie
 
 returns : tie.Need-returns
 returns c = sym (put-self _ _ _ (c .if1 .taken))
