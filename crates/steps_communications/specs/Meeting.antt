@@ -76,10 +76,6 @@ pub record PairIs (question part : List ℕ) (at depth number : ℕ) (a b : Side
       → getD (silent (bodyOf (q .bodies)) 1 (par L R)) j blocked ≡ communication s t
       → PutIs (raised K (communication s t)) x area count r area′
 
--- The same, whatever the number of the parallel's first silent candidate.
-unfoldable pub SamePairIs : (question part : List ℕ) (at depth : ℕ) (a b : Side) (j x : ℕ) (area : List ℕ) (count r : ℕ) (area′ : List ℕ) → Type 0
-SamePairIs question part at depth a b j x area count r area′ = (number : ℕ) → PairIs question part at depth number a b j x area count r area′
-
 -- The communications of s, the left side's visible candidate number `left`, whose row has this number, with the right side's visible candidates,
 -- whose rows are those from `middle` up to `last`; j is the number of the first. An s that adds no step is passed over.
 pub record MeetRowIs (question part : List ℕ) (at depth number x : ℕ) (rows : List ℕ) (row left middle last j : ℕ) (area : List ℕ) (count r : ℕ) (area′ : List ℕ) : Type 0 where

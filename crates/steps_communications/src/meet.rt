@@ -3,17 +3,18 @@ ghost use mathlib.Core.Path.{_≡_};
 ghost use Prim.Native.Nat.{_+_, _*_, _≤_, _<_};
 ghost use lib.ListN.{length};
 ghost use Rattle.terms.specs.Limits.{nameCount, longestTerm};
-ghost use Rattle.steps_tallies.specs.Tally.{TallyIs, BodiesTallied};
-ghost use Rattle.steps.specs.Limits.{mostSteps};
-ghost use Rattle.steps_entries.specs.Entries.{listRoom};
+ghost use Rattle.steps_splicing.specs.Ready.{Inside};
 ghost use Rattle.steps_splicing.specs.Locating.{tableSlot, TakeMetIs};
-ghost use Rattle.steps_communications.specs.Meeting.{mostNumbers, firstMerged, lastMerged, isBetween, meetsBetween, senderOf, sendsFree, NextMetIs, PairIs, SamePairIs, MeetRowIs};
+ghost use Rattle.steps_placing.specs.Putting.{CanPut};
+ghost use Rattle.steps_communications.specs.Meeting.{mostNumbers, firstMerged, lastMerged, isBetween, meetsBetween, senderOf, sendsFree, NextMetIs, PairIs, MeetRowIs};
 ghost use Rattle.steps_rows.specs.Rows.{rowBytes, mostRows, actionKind};
 ghost use Rattle.steps_communications.specs.Met.{MeetsIs};
 use steps_entries::limits::MOST_STEPS;
 use steps_entries::listed::ActionBytes;
 use steps_passing::pass::middle_of;
 use steps_placing::candidate::take_candidate;
+use steps_placing::put::Communication;
+use steps_placing::put::Step;
 use steps_placing::put::put_classed;
 use steps_placing::put::put_met;
 use steps_placing::put::put_placed;
@@ -21,6 +22,8 @@ use steps_rows::rows::MATCHED;
 use steps_rows::rows::REPEATED;
 use steps_rows::rows::ROW_BYTES;
 use steps_splicing::locate::locate;
+use steps_splicing::splice::Position;
+use steps_splicing::splice::Selection;
 use steps_splicing::splice::own_names;
 use terms_bytes::limits::NAME_COUNT;
 use terms_renaming::tables::merging;
@@ -32,6 +35,61 @@ const FREE_OUTPUT: u8 = 2;
 
 // The slot of the last free name.
 const LAST_NAME: u8 = NAME_COUNT as u8 - 1;
+
+// A term of the part on the walk: where it stands, how many restrictions are around it, and the number of its first silent candidate; and the new name.
+pub struct Node {
+    pub at: usize,
+    pub depth: usize,
+    pub number: usize,
+    pub x: u8,
+}
+
+// The row of a candidate of one side of a parallel, and the candidate's number among the visible ones of that side.
+pub struct Side {
+    pub kind: u8,
+    pub channel: u8,
+    pub object: u8,
+    pub number: usize,
+}
+
+// The rows of two candidates, and the number of their communication among the silent candidates of the parallel.
+struct Pair {
+    left: Side,
+    right: Side,
+    number: usize,
+}
+
+// [Com] at the parallel at `at`: the numbers of the two sides' visible candidates, the slot of the name that is sent, and whether the condition merges
+// names.
+struct Com {
+    at: usize,
+    depth: usize,
+    left: usize,
+    right: usize,
+    object: u8,
+    merges: bool,
+}
+
+// A row of the left side and the number of its candidate, the rows of the right side, the number of the first communication, and how many steps the
+// list has.
+struct LeftRow {
+    row: usize,
+    left: usize,
+    middle: usize,
+    last: usize,
+    first: usize,
+    count: usize,
+}
+
+// The rows of the two sides of a parallel, the left side's from `first` up to `middle`, and the right side's on up to `last`; how many silent
+// candidates the sides have; and how many steps the list has.
+pub struct SideRows {
+    pub first: usize,
+    pub middle: usize,
+    pub last: usize,
+    pub before: usize,
+    pub count: usize,
+}
 
 // The channels that may be merged with `c`, from the first to the last: with a free name every free name, with another itself alone.
 fn first_merged(c: u8) -> u8
@@ -116,14 +174,6 @@ fn next_met(rows: &[u8], kind: u8, channel: u8, from: usize, last: usize) -> usi
     w
 }
 
-// The row of a candidate of one side of a parallel, and the candidate's number among the visible ones of that side.
-pub struct Side {
-    pub kind: u8,
-    pub channel: u8,
-    pub object: u8,
-    pub number: usize,
-}
-
 // The row that sends: the right one, where the left one receives.
 fn sender(a: Side, b: Side) -> Side
     ensures { λ r. ⌜ r ≡ senderOf a b ⌝ }
@@ -156,39 +206,39 @@ fn table_slot(slot: u8) -> u8
     slot + 1
 }
 
-// Puts the communication of the visible candidates number `v` and `w` of the sides of the parallel at `at` into the list, where `object` is the slot of
-// the name that is sent and nothing is extruded. `class` are the classes of its condition, if that merges names.
+// Puts the communication of two candidates of the sides of a parallel into the list, where nothing is extruded. `class` are the classes of its
+// condition, if that merges names.
 fn take_met(
     question: &[u8],
     bodies: &[u32],
     part: &[u8],
     tally: &[u32],
-    at: usize,
-    depth: usize,
-    v: usize,
-    w: usize,
-    object: u8,
-    merges: bool,
+    sent: Com,
     class: &[u8],
     area: &mut [u8],
     count: usize,
 ) -> usize
-    requires { ⌜ (count ≤ mostSteps) × (listRoom ≤ length (now area)) × (length (now part) ≤ longestTerm) × TallyIs (now question) (now part) 1 (now tally) × BodiesTallied (now question) (now bodies) × (depth ≤ at) × (at < length (now part)) × (object < 255) × (nameCount ≤ length (now class)) ⌝ }
-    ensures { λ r. ⌜ TakeMetIs (now (question .entry)) (now (part .entry)) at depth v w object merges (now (class .entry)) (now (area .entry)) count r (now (area .exit)) ⌝ }
+    requires { ⌜ CanPut (now question) (now bodies) (now part) (now tally) (now area) count × Inside (now part) (sent .at) (sent .depth) × (sent .object < 255) × (nameCount ≤ length (now class)) ⌝ }
+    ensures { λ r. ⌜ TakeMetIs (now (question .entry)) (now (part .entry)) (sent .at) (sent .depth) (sent .left) (sent .right) (sent .object) (sent .merges) (now (class .entry)) (now (area .entry)) count r (now (area .exit)) ⌝ }
 {
-    let left = locate(part, tally, at + 1, depth, v);
+    let at = sent.at;
+    let depth = sent.depth;
+    let left = locate(part, tally, at + 1, depth, sent.left);
     let middle = middle_of(part, tally, at);
-    let right = locate(part, tally, middle, depth, w);
-    let new = table_slot(object);
+    let right = locate(part, tally, middle, depth, sent.right);
+    let new = table_slot(sent.object);
+    let communication = Communication {
+        left,
+        right,
+        new,
+        merges: sent.merges,
+    };
     put_met(
         question,
         bodies,
         part,
         tally,
-        left,
-        right,
-        new,
-        merges,
+        communication,
         class,
         area,
         count,
@@ -201,219 +251,163 @@ fn take_same(
     bodies: &[u32],
     part: &[u8],
     tally: &[u32],
-    at: usize,
-    depth: usize,
-    a: Side,
-    b: Side,
-    j: usize,
-    x: u8,
+    node: Node,
+    pair: Pair,
     area: &mut [u8],
     count: usize,
 ) -> usize
-    requires { ⌜ (count ≤ mostSteps) × (listRoom ≤ length (now area)) × (length (now part) ≤ longestTerm) × TallyIs (now question) (now part) 1 (now tally) × BodiesTallied (now question) (now bodies) × (depth ≤ at) × (at < length (now part)) × (a .kind ≤ 3) × (b .kind ≤ 3) × (a .channel ≡ b .channel) ⌝ }
-    ensures { λ r. ⌜ SamePairIs (now (question .entry)) (now (part .entry)) at depth a b j x (now (area .entry)) count r (now (area .exit)) ⌝ }
+    requires { ⌜ CanPut (now question) (now bodies) (now part) (now tally) (now area) count × Inside (now part) (node .at) (node .depth) × (pair .left .kind ≤ 3) × (pair .right .kind ≤ 3) × (pair .left .channel ≡ pair .right .channel) ⌝ }
+    ensures { λ r. ⌜ PairIs (now (question .entry)) (now (part .entry)) (node .at) (node .depth) (node .number) (pair .left) (pair .right) (pair .number) (node .x) (now (area .entry)) count r (now (area .exit)) ⌝ }
 {
+    let a = pair.left;
+    let b = pair.right;
     let from = sender(a, b);
-    if sends_free(from, depth) {
+    if sends_free(from, node.depth) {
         let object = from.object;
         let class = own_names(0);
-        return take_met(
-            question,
-            bodies,
-            part,
-            tally,
-            at,
-            depth,
-            a.number,
-            b.number,
+        let com = Com {
+            at: node.at,
+            depth: node.depth,
+            left: a.number,
+            right: b.number,
             object,
-            false,
-            &class,
-            area,
-            count,
-        );
+            merges: false,
+        };
+        return take_met(question, bodies, part, tally, com, &class, area, count);
     }
+    let place = Position {
+        at: node.at,
+        depth: node.depth,
+    };
     let action = ActionBytes {
         kind: 0,
         channel: 0,
         object: 0,
     };
-    put_placed(
-        question,
-        bodies,
-        part,
-        tally,
-        at,
-        depth,
-        true,
-        j,
-        action,
-        x,
-        area,
-        count,
-    )
+    let candidate = Selection {
+        silently: true,
+        number: pair.number,
+        x: node.x,
+    };
+    let step = Step { candidate, action };
+    put_placed(question, bodies, part, tally, place, step, area, count)
 }
 
-// Puts the communication of two candidates on two channels, which its condition merges, into the list; `number` is that of the parallel's first
-// silent candidate.
+// Puts the communication of two candidates on two channels, which its condition merges, into the list.
 fn take_merging(
     question: &[u8],
     bodies: &[u32],
     part: &[u8],
     tally: &[u32],
-    at: usize,
-    depth: usize,
-    number: usize,
-    a: Side,
-    b: Side,
-    j: usize,
-    x: u8,
+    node: Node,
+    pair: Pair,
     area: &mut [u8],
     count: usize,
 ) -> usize
-    requires { ⌜ (count ≤ mostSteps) × (listRoom ≤ length (now area)) × (length (now part) ≤ longestTerm) × TallyIs (now question) (now part) 1 (now tally) × BodiesTallied (now question) (now bodies) × (depth ≤ at) × (at < length (now part)) × (number + j ≤ mostNumbers + mostNumbers) × (a .kind ≤ 3) × (b .kind ≤ 3) × (a .channel ≡ b .channel → ⊥) ⌝ }
-    ensures { λ r. ⌜ PairIs (now (question .entry)) (now (part .entry)) at depth number a b j x (now (area .entry)) count r (now (area .exit)) ⌝ }
+    requires { ⌜ CanPut (now question) (now bodies) (now part) (now tally) (now area) count × Inside (now part) (node .at) (node .depth) × (node .number + pair .number ≤ mostNumbers + mostNumbers) × (pair .left .kind ≤ 3) × (pair .right .kind ≤ 3) × (pair .left .channel ≡ pair .right .channel → ⊥) ⌝ }
+    ensures { λ r. ⌜ PairIs (now (question .entry)) (now (part .entry)) (node .at) (node .depth) (node .number) (pair .left) (pair .right) (pair .number) (node .x) (now (area .entry)) count r (now (area .exit)) ⌝ }
 {
+    let a = pair.left;
+    let b = pair.right;
     let class = merging(a.channel, b.channel);
     let from = sender(a, b);
-    if sends_free(from, depth) {
+    if sends_free(from, node.depth) {
         let sent = from.object;
-        return take_met(
-            question,
-            bodies,
-            part,
-            tally,
-            at,
-            depth,
-            a.number,
-            b.number,
-            sent,
-            true,
-            &class,
-            area,
-            count,
-        );
+        let com = Com {
+            at: node.at,
+            depth: node.depth,
+            left: a.number,
+            right: b.number,
+            object: sent,
+            merges: true,
+        };
+        return take_met(question, bodies, part, tally, com, &class, area, count);
     }
     let action = ActionBytes {
         kind: 0,
         channel: 0,
         object: 0,
     };
-    put_classed(
-        question,
-        bodies,
-        part,
-        tally,
-        true,
-        number + j,
-        &class,
-        action,
-        x,
-        area,
-        count,
-    )
+    let i = node.number + pair.number;
+    let candidate = Selection {
+        silently: true,
+        number: i,
+        x: node.x,
+    };
+    let step = Step { candidate, action };
+    put_classed(question, bodies, part, tally, step, &class, area, count)
 }
 
-// Puts the communication of two candidates whose rows may meet into the list; `j` is its number among the silent candidates of the parallel. Where a
-// candidate stands beneath a match of free names it is found by its number in the part.
+// Puts the communication of two candidates whose rows may meet into the list. Where a candidate stands beneath a match of free names it is found by
+// its number in the part.
 fn take_pair(
     question: &[u8],
     bodies: &[u32],
     part: &[u8],
     tally: &[u32],
-    at: usize,
-    depth: usize,
-    number: usize,
-    a: Side,
-    b: Side,
-    j: usize,
-    x: u8,
+    node: Node,
+    pair: Pair,
     area: &mut [u8],
     count: usize,
 ) -> usize
-    requires { ⌜ (count ≤ mostSteps) × (listRoom ≤ length (now area)) × (length (now part) ≤ longestTerm) × TallyIs (now question) (now part) 1 (now tally) × BodiesTallied (now question) (now bodies) × (depth ≤ at) × (at < length (now part)) × (number + j ≤ mostNumbers + mostNumbers) ⌝ }
-    ensures { λ r. ⌜ PairIs (now (question .entry)) (now (part .entry)) at depth number a b j x (now (area .entry)) count r (now (area .exit)) ⌝ }
+    requires { ⌜ CanPut (now question) (now bodies) (now part) (now tally) (now area) count × Inside (now part) (node .at) (node .depth) × (node .number + pair .number ≤ mostNumbers + mostNumbers) ⌝ }
+    ensures { λ r. ⌜ PairIs (now (question .entry)) (now (part .entry)) (node .at) (node .depth) (node .number) (pair .left) (pair .right) (pair .number) (node .x) (now (area .entry)) count r (now (area .exit)) ⌝ }
 {
-    let i = number + j;
+    let a = pair.left;
+    let b = pair.right;
+    let i = node.number + pair.number;
+    let candidate = Selection {
+        silently: true,
+        number: i,
+        x: node.x,
+    };
     if MATCHED <= a.kind {
-        return take_candidate(question, bodies, part, tally, true, i, x, area, count);
+        return take_candidate(question, bodies, part, tally, candidate, area, count);
     }
     if MATCHED <= b.kind {
-        return take_candidate(question, bodies, part, tally, true, i, x, area, count);
+        return take_candidate(question, bodies, part, tally, candidate, area, count);
     }
     if a.channel == b.channel {
-        return take_same(
-            question,
-            bodies,
-            part,
-            tally,
-            at,
-            depth,
-            a,
-            b,
-            j,
-            x,
-            area,
-            count,
-        );
+        return take_same(question, bodies, part, tally, node, pair, area, count);
     }
-    take_merging(
-        question,
-        bodies,
-        part,
-        tally,
-        at,
-        depth,
-        number,
-        a,
-        b,
-        j,
-        x,
-        area,
-        count,
-    )
+    take_merging(question, bodies, part, tally, node, pair, area, count)
 }
 
-// Puts the communications of one row of the left side into the list, until a limit is passed; `left` is the number of its candidate, and `j` that of
-// the first communication. A candidate on a channel that is restricted further in is blocked, and so are its communications; those of a candidate
-// that adds no step add none.
+// Puts the communications of one row of the left side into the list, until a limit is passed. A candidate on a channel that is restricted further in is
+// blocked, and so are its communications; those of a candidate that adds no step add none.
 fn meet_row(
     question: &[u8],
     bodies: &[u32],
     part: &[u8],
     tally: &[u32],
-    at: usize,
-    depth: usize,
-    number: usize,
-    x: u8,
+    node: Node,
     rows: &[u8],
-    row: usize,
-    left: usize,
-    middle: usize,
-    last: usize,
-    j: usize,
+    left: LeftRow,
     area: &mut [u8],
-    count: usize,
 ) -> usize
-    requires { ⌜ (count ≤ mostSteps) × (listRoom ≤ length (now area)) × (length (now part) ≤ longestTerm) × TallyIs (now question) (now part) 1 (now tally) × BodiesTallied (now question) (now bodies) × (depth ≤ at) × (at < length (now part)) × (row < middle) × (middle ≤ last) × (last ≤ mostRows) × (rowBytes * mostRows ≤ length (now rows)) × (number + j + mostRows ≤ mostNumbers + mostNumbers) ⌝ }
-    ensures { λ r. ⌜ MeetRowIs (now (question .entry)) (now (part .entry)) at depth number x (now (rows .entry)) row left middle last j (now (area .entry)) count r (now (area .exit)) ⌝ }
+    requires { ⌜ CanPut (now question) (now bodies) (now part) (now tally) (now area) (left .count) × Inside (now part) (node .at) (node .depth) × (left .row < left .middle) × (left .middle ≤ left .last) × (left .last ≤ mostRows) × (rowBytes * mostRows ≤ length (now rows)) × (node .number + left .first + mostRows ≤ mostNumbers + mostNumbers) ⌝ }
+    ensures { λ r. ⌜ MeetRowIs (now (question .entry)) (now (part .entry)) (node .at) (node .depth) (node .number) (node .x) (now (rows .entry)) (left .row) (left .left) (left .middle) (left .last) (left .first) (now (area .entry)) (left .count) r (now (area .exit)) ⌝ }
 {
+    let row = left.row;
+    let middle = left.middle;
+    let last = left.last;
+    let j = left.first;
     let kind = rows[ROW_BYTES * row];
     let channel = rows[ROW_BYTES * row + 1];
     if kind == REPEATED {
-        return count;
+        return left.count;
     }
-    if NAME_COUNT + depth <= channel as usize {
-        return count;
+    if NAME_COUNT + node.depth <= channel as usize {
+        return left.count;
     }
     let object = rows[ROW_BYTES * row + 2];
     let a = Side {
         kind,
         channel,
         object,
-        number: left,
+        number: left.left,
     };
-    let mut n = count;
+    let mut n = left.count;
     let mut w = next_met(rows, kind, channel, middle, last);
     while w < last {
         let kind2 = rows[ROW_BYTES * w];
@@ -427,21 +421,12 @@ fn meet_row(
             number: right,
         };
         let i = j + right;
-        let m = take_pair(
-            question,
-            bodies,
-            part,
-            tally,
-            at,
-            depth,
-            number,
-            a,
-            b,
-            i,
-            x,
-            area,
-            n,
-        );
+        let pair = Pair {
+            left: a,
+            right: b,
+            number: i,
+        };
+        let m = take_pair(question, bodies, part, tally, node, pair, area, n);
         if MOST_STEPS < m {
             return m;
         }
@@ -451,51 +436,38 @@ fn meet_row(
     n
 }
 
-// Puts the communications of the parallel at `at` into the list, until a limit is passed. The rows of its left side are those from `first` up to
-// `middle`, and those of its right side go on up to `last`. Answers how many steps there are then.
+// Puts the communications of the two sides of a parallel into the list, until a limit is passed. Answers how many steps there are then.
 pub fn meet(
     question: &[u8],
     bodies: &[u32],
     part: &[u8],
     tally: &[u32],
-    at: usize,
-    depth: usize,
-    number: usize,
-    before: usize,
-    x: u8,
+    node: Node,
     rows: &[u8],
-    first: usize,
-    middle: usize,
-    last: usize,
+    sides: SideRows,
     area: &mut [u8],
-    count: usize,
 ) -> usize
-    requires { ⌜ (count ≤ mostSteps) × (listRoom ≤ length (now area)) × (length (now part) ≤ longestTerm) × TallyIs (now question) (now part) 1 (now tally) × BodiesTallied (now question) (now bodies) × (depth ≤ at) × (at < length (now part)) × (first ≤ middle) × (middle ≤ last) × (last ≤ mostRows) × (rowBytes * mostRows ≤ length (now rows)) × (number + before ≤ mostNumbers) ⌝ }
-    ensures { λ r. ⌜ MeetsIs (now (question .entry)) (now (part .entry)) at depth number before x (now (rows .entry)) first middle last (now (area .entry)) count r (now (area .exit)) ⌝ }
+    requires { ⌜ CanPut (now question) (now bodies) (now part) (now tally) (now area) (sides .count) × Inside (now part) (node .at) (node .depth) × (sides .first ≤ sides .middle) × (sides .middle ≤ sides .last) × (sides .last ≤ mostRows) × (rowBytes * mostRows ≤ length (now rows)) × (node .number + sides .before ≤ mostNumbers) ⌝ }
+    ensures { λ r. ⌜ MeetsIs (now (question .entry)) (now (part .entry)) (node .at) (node .depth) (node .number) (sides .before) (node .x) (now (rows .entry)) (sides .first) (sides .middle) (sides .last) (now (area .entry)) (sides .count) r (now (area .exit)) ⌝ }
 {
+    let first = sides.first;
+    let middle = sides.middle;
+    let last = sides.last;
     let width = last - middle;
-    let mut n = count;
+    let mut n = sides.count;
     let mut row = first;
-    let mut j = before;
+    let mut j = sides.before;
     while row < middle {
-        let m = meet_row(
-            question,
-            bodies,
-            part,
-            tally,
-            at,
-            depth,
-            number,
-            x,
-            rows,
+        let number = row - first;
+        let left = LeftRow {
             row,
-            row - first,
+            left: number,
             middle,
             last,
-            j,
-            area,
-            n,
-        );
+            first: j,
+            count: n,
+        };
+        let m = meet_row(question, bodies, part, tally, node, rows, left, area);
         if MOST_STEPS < m {
             return m;
         }

@@ -1,18 +1,17 @@
 // The steps of a part, listed.
-ghost use mathlib.Core.Path.{_≡_};
-ghost use Prim.Native.Nat.{_*_, _≤_};
+ghost use Prim.Native.Nat.{_≤_};
 ghost use lib.ListN.{length};
 ghost use Rattle.terms.specs.Limits.{longestTerm};
-ghost use Rattle.steps_tallies.specs.Tally.{tallySize, BodiesTallied};
 ghost use Rattle.steps_entries.specs.Entries.{listRoom};
-ghost use Rattle.steps_lister.specs.PartLister.{ListPartIs};
-ghost use Rattle.steps_rows.specs.Rows.{rowBytes, mostRows};
+ghost use Rattle.steps_lister.specs.PartLister.{CanList, ListPartIs};
+use steps_communications::meet::Node;
 use steps_entries::arrange::arrange;
 use steps_entries::limits::MOST_STEPS;
 use steps_rows::rows::TABLE_OF_ROWS;
 use steps_tallies::tally::TALLY;
 use steps_tallies::tally::body_tallies;
 use steps_tallies::tally::tally;
+use steps_walk::walk::Walked;
 use steps_walk::walk::walk;
 
 // The scratch that a listing wants of its caller: numbers for the part's tally, bytes for its rows.
@@ -36,24 +35,18 @@ pub fn list_tallied(
     rows: &mut [u8],
     area: &mut [u8],
 ) -> ListAnswer
-    requires { ⌜ (listRoom ≤ length (now area)) × (length (now part) ≤ longestTerm) × BodiesTallied (now question) (now bodies) × (length (now numbers) ≡ tallySize) × (rowBytes * mostRows ≤ length (now rows)) ⌝ }
+    requires { ⌜ CanList (now question) (now bodies) (now part) (now numbers) (now rows) (now area) ⌝ }
     ensures { λ r. ⌜ ListPartIs (now (question .entry)) (now (part .entry)) x r (now (area .exit)) ⌝ }
 {
     tally(question, bodies, part, numbers);
-    let walked = walk(
-        question,
-        bodies,
-        part,
-        numbers,
-        0,
-        0,
-        0,
+    let whole = Node {
+        at: 0,
+        depth: 0,
+        number: 0,
         x,
-        rows,
-        0,
-        area,
-        0,
-    );
+    };
+    let none = Walked { rows: 0, count: 0 };
+    let walked = walk(question, bodies, part, numbers, whole, rows, none, area);
     let n = walked.count;
     if MOST_STEPS < n {
         return ListAnswer::Unsettled;

@@ -1,3 +1,4 @@
 pub mod Deciding
 pub mod Placing
+pub mod Putting
 pub mod Taking

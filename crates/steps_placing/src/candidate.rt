@@ -1,68 +1,52 @@
-// Moved from list.
-ghost use Prim.Native.Nat.{_≤_};
-ghost use lib.ListN.{length};
-ghost use Rattle.terms.specs.Limits.{longestTerm};
-ghost use Rattle.steps_tallies.specs.Tally.{TallyIs, BodiesTallied};
-ghost use Rattle.steps.specs.Limits.{mostSteps};
-ghost use Rattle.steps_entries.specs.Entries.{listRoom};
+// A candidate put into the list by its number.
+ghost use Rattle.steps_placing.specs.Putting.{CanPut};
 ghost use Rattle.steps_placing.specs.Taking.{PutStepIs, TakeIs};
+use crate::put::Step;
 use crate::put::put_classed;
 use steps_conditions::action::Label;
 use steps_conditions::action::Status;
 use steps_entries::listed::action_bytes;
 use steps_labels::label::nth;
-use steps_tallies::tally::tally;
+use steps_splicing::splice::Selection;
 use terms_bytes::limits::GREATEST_ARITY;
 
-// Puts the step with this header, the candidate number `i`, into the list.
+// Puts the step with this header, a candidate of the part, into the list.
 fn put_step(
     question: &[u8],
     bodies: &[u32],
     part: &[u8],
     tally: &[u32],
-    silently: bool,
-    i: usize,
+    candidate: Selection,
     header: Label,
-    x: u8,
     area: &mut [u8],
     count: usize,
 ) -> usize
-    requires { ⌜ (count ≤ mostSteps) × (listRoom ≤ length (now area)) × (length (now part) ≤ longestTerm) × TallyIs (now question) (now part) 1 (now tally) × BodiesTallied (now question) (now bodies) ⌝ }
-    ensures { λ r. ⌜ PutStepIs (now (question .entry)) (now (part .entry)) silently i header x (now (area .entry)) count r (now (area .exit)) ⌝ }
+    requires { ⌜ CanPut (now question) (now bodies) (now part) (now tally) (now area) count ⌝ }
+    ensures { λ r. ⌜ PutStepIs (now (question .entry)) (now (part .entry)) (candidate .silently) (candidate .number) header (candidate .x) (now (area .entry)) count r (now (area .exit)) ⌝ }
 {
     let condition = header.condition;
     let class = condition.class;
     let action = header.action;
-    let bytes = action_bytes(&class, action, x);
-    put_classed(
-        question,
-        bodies,
-        part,
-        tally,
-        silently,
-        i,
-        &class,
-        bytes,
-        x,
-        area,
-        count,
-    )
+    let bytes = action_bytes(&class, action, candidate.x);
+    let step = Step {
+        candidate,
+        action: bytes,
+    };
+    put_classed(question, bodies, part, tally, step, &class, area, count)
 }
 
-// Puts the candidate number `i` into the list. Answers how many steps there are then.
+// Puts a candidate of the part into the list. Answers how many steps there are then.
 pub fn take_candidate(
     question: &[u8],
     bodies: &[u32],
     part: &[u8],
     tally: &[u32],
-    silently: bool,
-    i: usize,
-    x: u8,
+    candidate: Selection,
     area: &mut [u8],
     count: usize,
 ) -> usize
-    requires { ⌜ (count ≤ mostSteps) × (listRoom ≤ length (now area)) × (length (now part) ≤ longestTerm) × TallyIs (now question) (now part) 1 (now tally) × BodiesTallied (now question) (now bodies) ⌝ }
-    ensures { λ r. ⌜ TakeIs (now (question .entry)) (now (part .entry)) silently i x (now (area .entry)) count r (now (area .exit)) ⌝ }
+    requires { ⌜ CanPut (now question) (now bodies) (now part) (now tally) (now area) count ⌝ }
+    ensures { λ r. ⌜ TakeIs (now (question .entry)) (now (part .entry)) (candidate .silently) (candidate .number) (candidate .x) (now (area .entry)) count r (now (area .exit)) ⌝ }
 {
     // In a body every call is beneath a prefix (check 11), so that one call is opened.
     let none = [0u8; GREATEST_ARITY];
@@ -72,8 +56,8 @@ pub fn take_candidate(
         part,
         tally,
         0,
-        i,
-        silently,
+        candidate.number,
+        candidate.silently,
         &none,
         0,
         0,
@@ -82,17 +66,6 @@ pub fn take_candidate(
     let status = label.status;
     match status {
         Status::Blocked => count,
-        Status::Found => put_step(
-            question,
-            bodies,
-            part,
-            tally,
-            silently,
-            i,
-            label,
-            x,
-            area,
-            count,
-        ),
+        Status::Found => put_step(question, bodies, part, tally, candidate, label, area, count),
     }
 }

@@ -1,14 +1,13 @@
 // Steps put into the list: from the classes of the condition, the bytes of the action and those written for the result.
 ghost use mathlib.Core.Path.{_≡_};
-ghost use Prim.Native.Nat.{_≤_, _<_};
+ghost use Prim.Native.Nat.{_≤_};
 ghost use lib.ListN.{length};
 ghost use Rattle.terms.specs.Limits.{nameCount, longestTerm};
-ghost use Rattle.steps_tallies.specs.Tally.{TallyIs, BodiesTallied};
-ghost use Rattle.steps.specs.Limits.{mostSteps};
-ghost use Rattle.steps_entries.specs.Entries.{listRoom};
+ghost use Rattle.steps_splicing.specs.Ready.{Tallied, Inside, FoundIn};
 ghost use Rattle.steps_splicing.specs.Locating.{PutMergedIs, PutMetIs};
 ghost use Rattle.steps_placing.specs.Taking.{NamesAre, ResultIs};
 ghost use Rattle.steps_placing.specs.Placing.{PutResultIs, PutPlacedIs, PutClassedIs};
+ghost use Rattle.steps_placing.specs.Putting.{HasRoom, CanPut};
 use steps_entries::limits::MOST_STEPS;
 use steps_entries::listed::ActionBytes;
 use steps_entries::listed::entry_of;
@@ -18,6 +17,8 @@ use steps_plans::plan::Task;
 use steps_results::result::write;
 use steps_splicing::locate::Located;
 use steps_splicing::merged::merge_names;
+use steps_splicing::splice::Position;
+use steps_splicing::splice::Selection;
 use steps_splicing::splice::own_names;
 use steps_splicing::splice::write_met;
 use steps_splicing::splice::write_placed;
@@ -25,6 +26,20 @@ use steps_tallies::bodies::arities_of;
 use terms_bytes::bytes::copy;
 use terms_bytes::limits::LONGEST_TERM;
 use terms_bytes::limits::NAME_COUNT;
+
+// A step to be put into the list: its candidate, and the bytes of its action.
+pub struct Step {
+    pub candidate: Selection,
+    pub action: ActionBytes,
+}
+
+// A communication of two components, one of which receives the name in the slot `new`: [Com]. Whether its condition merges names.
+pub struct Communication {
+    pub left: Located,
+    pub right: Located,
+    pub new: u8,
+    pub merges: bool,
+}
 
 // What the names are written as in a result: each as its class, or as itself. The new name's slot has itself.
 fn result_names(class: &[u8]) -> [u8; NAME_SLOTS]
@@ -37,29 +52,27 @@ fn result_names(class: &[u8]) -> [u8; NAME_SLOTS]
     names
 }
 
-// The result of the candidate number `i`, rewritten by the classes of its condition, or with its own names. The answer is where its bytes end, or
-// past the end of `out` where there is no room.
+// The result of a candidate of the part, rewritten by the classes of its condition, or with its own names. The answer is where its bytes end, or past
+// the end of `out` where there is no room.
 fn write_result(
     question: &[u8],
     bodies: &[u32],
     part: &[u8],
     tally: &[u32],
-    silently: bool,
-    i: usize,
+    candidate: Selection,
     class: &[u8],
-    x: u8,
     out: &mut [u8],
 ) -> usize
-    requires { ⌜ (length (now part) ≤ longestTerm) × (nameCount ≤ length (now class)) × (length (now out) ≤ longestTerm) × TallyIs (now question) (now part) 1 (now tally) × BodiesTallied (now question) (now bodies) ⌝ }
-    ensures { λ r. ⌜ ResultIs (now (question .entry)) (now (part .entry)) silently i (now (class .entry)) x (now (out .entry)) r (now (out .exit)) ⌝ }
+    requires { ⌜ Tallied (now question) (now bodies) (now part) (now tally) × (nameCount ≤ length (now class)) × (length (now out) ≤ longestTerm) ⌝ }
+    ensures { λ r. ⌜ ResultIs (now (question .entry)) (now (part .entry)) (candidate .silently) (candidate .number) (now (class .entry)) (candidate .x) (now (out .entry)) r (now (out .exit)) ⌝ }
 {
     let task = Task {
-        new: x,
+        new: candidate.x,
         levels: 0,
         calls: 1,
         still: false,
-        silently,
-        number: i,
+        silently: candidate.silently,
+        number: candidate.number,
     };
     let mut names = result_names(class);
     write(
@@ -85,7 +98,7 @@ fn put_result(
     area: &mut [u8],
     count: usize,
 ) -> usize
-    requires { ⌜ (count ≤ mostSteps) × (listRoom ≤ length (now area)) × (nameCount ≤ length (now class)) × (length (now result) ≡ longestTerm) ⌝ }
+    requires { ⌜ HasRoom (now area) count × (nameCount ≤ length (now class)) × (length (now result) ≡ longestTerm) ⌝ }
     ensures { λ r. ⌜ PutResultIs (now (class .entry)) action (now (result .entry)) n (now (area .entry)) count r (now (area .exit)) ⌝ }
 {
     if LONGEST_TERM < n {
@@ -104,7 +117,7 @@ fn put_merged(
     area: &mut [u8],
     count: usize,
 ) -> usize
-    requires { ⌜ (count ≤ mostSteps) × (listRoom ≤ length (now area)) × (nameCount ≤ length (now class)) × (length (now result) ≡ longestTerm) ⌝ }
+    requires { ⌜ HasRoom (now area) count × (nameCount ≤ length (now class)) × (length (now result) ≡ longestTerm) ⌝ }
     ensures { λ r. ⌜ PutMergedIs (now (question .entry)) (now (class .entry)) (now (result .entry)) n (now (area .entry)) count r (now (area .exit)) ⌝ }
 {
     merge_names(result, n, arities_of(question), class);
@@ -116,110 +129,84 @@ fn put_merged(
     put_result(class, silent, result, n, area, count)
 }
 
-// Puts the part's candidate number `i` into the list. A silent one's result has no new name: it is written with its own names, so that what stands
-// beside it is copied, and then names are merged.
+// Puts a step of the part into the list, `class` being the classes of its condition. A silent one's result has no new name: it is written with its own
+// names, so that what stands beside it is copied, and then names are merged.
 pub fn put_classed(
     question: &[u8],
     bodies: &[u32],
     part: &[u8],
     tally: &[u32],
-    silently: bool,
-    i: usize,
+    step: Step,
     class: &[u8],
-    action: ActionBytes,
-    x: u8,
     area: &mut [u8],
     count: usize,
 ) -> usize
-    requires { ⌜ (count ≤ mostSteps) × (listRoom ≤ length (now area)) × (length (now part) ≤ longestTerm) × (nameCount ≤ length (now class)) × TallyIs (now question) (now part) 1 (now tally) × BodiesTallied (now question) (now bodies) ⌝ }
-    ensures { λ r. ⌜ PutClassedIs (now (question .entry)) (now (part .entry)) silently i (now (class .entry)) action x (now (area .entry)) count r (now (area .exit)) ⌝ }
+    requires { ⌜ CanPut (now question) (now bodies) (now part) (now tally) (now area) count × (nameCount ≤ length (now class)) ⌝ }
+    ensures { λ r. ⌜ PutClassedIs (now (question .entry)) (now (part .entry)) (step .candidate .silently) (step .candidate .number) (now (class .entry)) (step .action) (step .candidate .x) (now (area .entry)) count r (now (area .exit)) ⌝ }
 {
+    let candidate = step.candidate;
     let mut result = [0u8; LONGEST_TERM];
-    if silently {
+    if candidate.silently {
         let own = own_names(0);
-        let m = write_result(
-            question,
-            bodies,
-            part,
-            tally,
-            silently,
-            i,
-            &own,
-            x,
-            &mut result,
-        );
+        let m = write_result(question, bodies, part, tally, candidate, &own, &mut result);
         return put_merged(question, class, &mut result, m, area, count);
     }
-    let n = write_result(
-        question,
-        bodies,
-        part,
-        tally,
-        silently,
-        i,
-        class,
-        x,
-        &mut result,
-    );
+    let action = step.action;
+    let n = write_result(question, bodies, part, tally, candidate, class, &mut result);
     put_result(class, action, &result, n, area, count)
 }
 
-// Puts the step that the candidate number `j` of the term at `at` is in the part into the list. Its condition merges nothing.
+// Puts the step that a candidate of the term at a place is in the part into the list. Its condition merges nothing.
 pub fn put_placed(
     question: &[u8],
     bodies: &[u32],
     part: &[u8],
     tally: &[u32],
-    at: usize,
-    depth: usize,
-    silently: bool,
-    j: usize,
-    action: ActionBytes,
-    x: u8,
+    place: Position,
+    step: Step,
     area: &mut [u8],
     count: usize,
 ) -> usize
-    requires { ⌜ (count ≤ mostSteps) × (listRoom ≤ length (now area)) × (length (now part) ≤ longestTerm) × (depth ≤ at) × (at < length (now part)) × TallyIs (now question) (now part) 1 (now tally) × BodiesTallied (now question) (now bodies) ⌝ }
-    ensures { λ r. ⌜ PutPlacedIs (now (question .entry)) (now (part .entry)) at depth silently j action x (now (area .entry)) count r (now (area .exit)) ⌝ }
+    requires { ⌜ CanPut (now question) (now bodies) (now part) (now tally) (now area) count × Inside (now part) (place .at) (place .depth) ⌝ }
+    ensures { λ r. ⌜ PutPlacedIs (now (question .entry)) (now (part .entry)) (place .at) (place .depth) (step .candidate .silently) (step .candidate .number) (step .action) (step .candidate .x) (now (area .entry)) count r (now (area .exit)) ⌝ }
 {
+    let candidate = step.candidate;
+    let action = step.action;
     let mut result = [0u8; LONGEST_TERM];
-    let n = write_placed(
-        question,
-        bodies,
-        part,
-        tally,
-        at,
-        depth,
-        silently,
-        j,
-        x,
-        &mut result,
-    );
+    let n = write_placed(question, bodies, part, tally, place, candidate, &mut result);
     let class = own_names(0);
     put_result(&class, action, &result, n, area, count)
 }
 
-// Puts the communication of two components into the list, one of which receives the name in the slot `new`: [Com]. `class` are the classes of its
-// condition; where that merges names, they are merged where the result stands.
+// Puts a communication into the list: [Com]. `class` are the classes of its condition; where that merges names, they are merged where the result
+// stands.
 pub fn put_met(
     question: &[u8],
     bodies: &[u32],
     part: &[u8],
     tally: &[u32],
-    left: Located,
-    right: Located,
-    new: u8,
-    merges: bool,
+    met: Communication,
     class: &[u8],
     area: &mut [u8],
     count: usize,
 ) -> usize
-    requires { ⌜ (count ≤ mostSteps) × (listRoom ≤ length (now area)) × (length (now part) ≤ longestTerm) × (left .depth ≤ left .at) × (left .at ≤ length (now part)) × (right .depth ≤ right .at) × (right .at ≤ length (now part)) × TallyIs (now question) (now part) 1 (now tally) × BodiesTallied (now question) (now bodies) × (nameCount ≤ length (now class)) ⌝ }
-    ensures { λ r. ⌜ PutMetIs (now (question .entry)) (now (part .entry)) left right new merges (now (class .entry)) (now (area .entry)) count r (now (area .exit)) ⌝ }
+    requires { ⌜ CanPut (now question) (now bodies) (now part) (now tally) (now area) count × FoundIn (now part) (met .left) × FoundIn (now part) (met .right) × (nameCount ≤ length (now class)) ⌝ }
+    ensures { λ r. ⌜ PutMetIs (now (question .entry)) (now (part .entry)) (met .left) (met .right) (met .new) (met .merges) (now (class .entry)) (now (area .entry)) count r (now (area .exit)) ⌝ }
 {
+    let left = met.left;
+    let right = met.right;
     let mut result = [0u8; LONGEST_TERM];
-    let n = write_met(question, bodies, part, tally, left, right, new, &mut result);
-    if merges {
+    let n = write_met(
+        question,
+        bodies,
+        part,
+        tally,
+        left,
+        right,
+        met.new,
+        &mut result,
+    );
+    if met.merges {
         return put_merged(question, class, &mut result, n, area, count);
     }
     let action = ActionBytes {

@@ -4,3 +4,4 @@ pub mod ListedParts
 pub mod Locating
 pub mod Merging
 pub mod PlacedResults
+pub mod Ready

@@ -1,12 +1,12 @@
 // The result of a step that one component of a part makes, or two that communicate: the bytes around stay, and only their own results are written.
 ghost use mathlib.Core.Path.{_≡_};
-ghost use Prim.Native.Nat.{_≤_, _<_};
+ghost use Prim.Native.Nat.{_≤_};
 ghost use lib.ListN.{length};
 ghost use Rattle.terms.specs.Limits.{longestTerm};
 ghost use Rattle.steps_conditions.specs.Names.{mostBinders, OwnNames};
-ghost use Rattle.steps_tallies.specs.Tally.{TallyIs, BodiesTallied};
 ghost use Rattle.steps_splicing.specs.Locating.{HoleIs, MetResultIs};
 ghost use Rattle.steps_splicing.specs.PlacedResults.{PlacedResultIs};
+ghost use Rattle.steps_splicing.specs.Ready.{Tallied, Inside, FoundIn};
 use crate::locate::Located;
 use steps_passing::names::NAME_SLOTS;
 use steps_plans::plan::Task;
@@ -16,6 +16,25 @@ use terms_bytes::bytes::copy;
 use terms_bytes::bytes::room;
 use terms_bytes::limits::LONGEST_TERM;
 use terms_bytes::limits::TABLE_NAMES;
+
+// A term of a part: where it stands, and how many restrictions are around it.
+pub struct Position {
+    pub at: usize,
+    pub depth: usize,
+}
+
+// A candidate of a term: the silent or the visible one of this number, where `x` is the new name.
+pub struct Selection {
+    pub silently: bool,
+    pub number: usize,
+    pub x: u8,
+}
+
+// Where the bytes that stay go on in the part, and where they are written to.
+struct Seam {
+    from: usize,
+    put: usize,
+}
 
 // The table where each name stands for itself.
 pub fn own_names(binders: usize) -> [u8; NAME_SLOTS]
@@ -32,30 +51,29 @@ pub fn own_names(binders: usize) -> [u8; NAME_SLOTS]
     names
 }
 
-// The part with the result of the candidate number `j` of the term at `at` in the term's place. The answer is where the bytes end, or past the end
-// of `out` where there is no room.
+// The part with the result of a term's candidate in the term's place. The answer is where the bytes end, or past the end of `out` where there is no
+// room.
 pub fn write_placed(
     question: &[u8],
     bodies: &[u32],
     part: &[u8],
     tally: &[u32],
-    at: usize,
-    depth: usize,
-    silently: bool,
-    j: usize,
-    x: u8,
+    place: Position,
+    candidate: Selection,
     out: &mut [u8],
 ) -> usize
-    requires { ⌜ (depth ≤ at) × (at < length (now part)) × (length (now part) ≤ longestTerm) × (length (now out) ≡ longestTerm) × TallyIs (now question) (now part) 1 (now tally) × BodiesTallied (now question) (now bodies) ⌝ }
-    ensures { λ r. ⌜ PlacedResultIs (now (question .entry)) (now (part .entry)) at depth silently j x (now (out .entry)) r (now (out .exit)) ⌝ }
+    requires { ⌜ Tallied (now question) (now bodies) (now part) (now tally) × Inside (now part) (place .at) (place .depth) × (length (now out) ≡ longestTerm) ⌝ }
+    ensures { λ r. ⌜ PlacedResultIs (now (question .entry)) (now (part .entry)) (place .at) (place .depth) (candidate .silently) (candidate .number) (candidate .x) (now (out .entry)) r (now (out .exit)) ⌝ }
 {
+    let at = place.at;
+    let depth = place.depth;
     let task = Task {
-        new: x,
+        new: candidate.x,
         levels: depth,
         calls: 1,
         still: false,
-        silently,
-        number: j,
+        silently: candidate.silently,
+        number: candidate.number,
     };
     let mut names = own_names(depth);
     copy(part, 0, at, out, 0);
@@ -80,22 +98,23 @@ pub fn write_placed(
     LONGEST_TERM + 1
 }
 
-// The part's bytes from `from` up to a component, and the result of its candidate, where `new` is received. The answer is where the bytes end, or past
-// the end of `out` where there is no room.
+// The part's bytes from a seam up to a component, and the result of its candidate, where `new` is received. The answer is where the bytes end, or
+// past the end of `out` where there is no room.
 fn write_hole(
     question: &[u8],
     bodies: &[u32],
     part: &[u8],
     tally: &[u32],
-    from: usize,
+    seam: Seam,
     hole: Located,
     new: u8,
     out: &mut [u8],
-    put: usize,
 ) -> usize
-    requires { ⌜ (hole .depth ≤ hole .at) × (hole .at ≤ length (now part)) × (length (now part) ≤ longestTerm) × (length (now out) ≡ longestTerm) × (put ≤ longestTerm) × TallyIs (now question) (now part) 1 (now tally) × BodiesTallied (now question) (now bodies) ⌝ }
-    ensures { λ r. ⌜ HoleIs (now (question .entry)) (now (part .entry)) from hole new (now (out .entry)) put r (now (out .exit)) ⌝ }
+    requires { ⌜ Tallied (now question) (now bodies) (now part) (now tally) × FoundIn (now part) hole × (length (now out) ≡ longestTerm) × (seam .put ≤ longestTerm) ⌝ }
+    ensures { λ r. ⌜ HoleIs (now (question .entry)) (now (part .entry)) (seam .from) hole new (now (out .entry)) (seam .put) r (now (out .exit)) ⌝ }
 {
+    let from = seam.from;
+    let put = seam.put;
     let at = hole.at;
     let levels = hole.depth;
     if at < from {
@@ -144,15 +163,17 @@ pub fn write_met(
     new: u8,
     out: &mut [u8],
 ) -> usize
-    requires { ⌜ (left .depth ≤ left .at) × (left .at ≤ length (now part)) × (right .depth ≤ right .at) × (right .at ≤ length (now part)) × (length (now part) ≤ longestTerm) × (length (now out) ≡ longestTerm) × TallyIs (now question) (now part) 1 (now tally) × BodiesTallied (now question) (now bodies) ⌝ }
+    requires { ⌜ Tallied (now question) (now bodies) (now part) (now tally) × FoundIn (now part) left × FoundIn (now part) right × (length (now out) ≡ longestTerm) ⌝ }
     ensures { λ r. ⌜ MetResultIs (now (question .entry)) (now (part .entry)) left right new (now (out .entry)) r (now (out .exit)) ⌝ }
 {
-    let m = write_hole(question, bodies, part, tally, 0, left, new, out, 0);
+    let start = Seam { from: 0, put: 0 };
+    let m = write_hole(question, bodies, part, tally, start, left, new, out);
     if LONGEST_TERM < m {
         return m;
     }
     let from = end_at(tally, left.at);
-    let e = write_hole(question, bodies, part, tally, from, right, new, out, m);
+    let between = Seam { from, put: m };
+    let e = write_hole(question, bodies, part, tally, between, right, new, out);
     if LONGEST_TERM < e {
         return e;
     }

@@ -6,15 +6,13 @@ use Prim.Native.Nat.{ℕ, _+_, _<_, _≤_}
 use lib.Dec.{eqb, leb}
 use lib.ListN.{length, getD}
 use Rattle.calculus.specs.Term.{Term, nil, tau, inp, out, bout, mat, sum, par, res, call}
-use Rattle.terms.specs.Limits.{nameCount, longestTerm}
+use Rattle.terms.specs.Limits.{nameCount}
 use Rattle.terms.specs.Question.{Question}
 use Rattle.terms.specs.Question.{bodyOf}
 use Rattle.steps.specs.Raw.{Candidate, blocked, leftSteps, rightSteps, restricted, communications, visible, silent}
-use Rattle.steps_tallies.specs.Tally.{TallyIs, BodiesTallied}
 use Rattle.steps_splicing.specs.Collecting.{PutIs, CollectIs}
 use Rattle.steps_splicing.specs.Contexts.{Frame, raised, Placed}
 use Rattle.steps.specs.Limits.{mostSteps}
-use Rattle.steps_entries.specs.Entries.{listRoom}
 use Rattle.steps_splicing.specs.ListedParts.{Lists}
 use Rattle.steps_rows.specs.Rows.{mostRows, kindAt, Row, Rows, RowsKept}
 use Rattle.steps_walk.specs.declared.walk.Walked.{Walked}
@@ -36,16 +34,6 @@ module _ (body : ℕ → Term) where
   walked (mat a b P) = ownOf (mat a b P)
   walked (sum P Q) = ownOf (sum P Q)
   walked (call k xs) = ownOf (call k xs)
-
--- What putting candidates into the list needs: the tally of the part, and room.
-abbrev pub CanPut : List ℕ → List ℕ → List ℕ → List ℕ → List ℕ → ℕ → Type 0
-CanPut question bodies part tally area count =
-    (count ≤ mostSteps) × (listRoom ≤ length area) × (length part ≤ longestTerm) × TallyIs question part 1 tally
-    × BodiesTallied question bodies
-
--- The term at `at` is one of the part, under so many restrictions.
-abbrev pub Inside : List ℕ → ℕ → ℕ → Type 0
-Inside part at depth = (depth ≤ at) × (at < length part)
 
 -- Every number in a tally is below 2 to the power of 32, so that sums of a few hundred of them do not overflow.
 abbrev pub mostNumber : ℕ

@@ -5,13 +5,18 @@ ghost use mathlib.Core.Bool.{true};
 ghost use Prim.Native.Nat.{ℕ, _+_, _*_, _≤_, _<_};
 ghost use lib.ListN.{length, getD};
 ghost use Rattle.steps_rows.specs.Rows.{rowBytes, mostRows, QuietIs};
-ghost use Rattle.steps_walk.specs.Walking.{CanPut, Inside, mostNumber, rowOpens, rowObject, TakeRowIs, TakeRowsIs, TakeSilentIs, WalkIs};
+ghost use Rattle.steps_splicing.specs.Ready.{Inside};
+ghost use Rattle.steps_placing.specs.Putting.{CanPut};
+ghost use Rattle.steps_walk.specs.Walking.{mostNumber, rowOpens, rowObject, TakeRowIs, TakeRowsIs, TakeSilentIs, WalkIs};
+use steps_communications::meet::Node;
+use steps_communications::meet::SideRows;
 use steps_communications::meet::meet;
 use steps_entries::limits::MOST_STEPS;
 use steps_entries::listed::ActionBytes;
 use steps_labels::label::restrictions_at;
 use steps_passing::pass::middle_of;
 use steps_placing::candidate::take_candidate;
+use steps_placing::put::Step;
 use steps_placing::put::put_classed;
 use steps_placing::put::put_placed;
 use steps_rows::rows::MATCHED;
@@ -20,6 +25,8 @@ use steps_rows::rows::REPEATED;
 use steps_rows::rows::ROW_BYTES;
 use steps_rows::rows::quiet;
 use steps_rows::rows::scan;
+use steps_splicing::splice::Position;
+use steps_splicing::splice::Selection;
 use steps_splicing::splice::own_names;
 use steps_tallies::tally::silent_at;
 use terms_bytes::bytes::get;
@@ -31,6 +38,20 @@ use terms_bytes::tags::PARALLEL;
 pub struct Walked {
     pub rows: usize,
     pub count: usize,
+}
+
+// The rows of a component, from `first` up to `last`, and how many steps the list has.
+struct OwnRows {
+    first: usize,
+    last: usize,
+    count: usize,
+}
+
+// One of them, by its number from `first` on.
+struct OwnRow {
+    first: usize,
+    number: usize,
+    count: usize,
 }
 
 // [Open]: whether the row of an output sends a name that is restricted.
@@ -53,26 +74,25 @@ fn row_object(kind: u8, object: u8, x: u8) -> u8
     x
 }
 
-// Puts the visible candidate number `j` of the component at `at`, whose row is the one of that number from `first` on, into the list. One that
-// adds no step is passed over; one beneath a match of free names is found by its number.
+// Puts a visible candidate of a component into the list by its row. One that adds no step is passed over; one beneath a match of free names is found by
+// its number.
 fn take_row(
     question: &[u8],
     bodies: &[u32],
     part: &[u8],
     tally: &[u32],
-    at: usize,
-    depth: usize,
+    node: Node,
     rows: &[u8],
-    first: usize,
-    j: usize,
-    x: u8,
+    own: OwnRow,
     area: &mut [u8],
-    count: usize,
 ) -> usize
-    requires { ⌜ CanPut (now question) (now bodies) (now part) (now tally) (now area) count × Inside (now part) at depth × (first + j ≤ mostRows) ⌝ }
-    ensures { λ r. ⌜ TakeRowIs (now (question .entry)) (now (part .entry)) at depth (now (rows .entry)) first j x (now (area .entry)) count r (now (area .exit)) ⌝ }
+    requires { ⌜ CanPut (now question) (now bodies) (now part) (now tally) (now area) (own .count) × Inside (now part) (node .at) (node .depth) × (own .first + own .number ≤ mostRows) ⌝ }
+    ensures { λ r. ⌜ TakeRowIs (now (question .entry)) (now (part .entry)) (node .at) (node .depth) (now (rows .entry)) (own .first) (own .number) (node .x) (now (area .entry)) (own .count) r (now (area .exit)) ⌝ }
 {
-    let row = ROW_BYTES * (first + j);
+    let count = own.count;
+    let x = node.x;
+    let i = own.first + own.number;
+    let row = ROW_BYTES * i;
     let kind = get(rows, row);
     let channel = get(rows, row + 1);
     let object = get(rows, row + 2);
@@ -82,98 +102,72 @@ fn take_row(
     if NAME_COUNT <= channel as usize {
         return count;
     }
+    let whole = Selection {
+        silently: false,
+        number: i,
+        x,
+    };
     if MATCHED <= kind {
-        return take_candidate(
-            question,
-            bodies,
-            part,
-            tally,
-            false,
-            first + j,
-            x,
-            area,
-            count,
-        );
+        return take_candidate(question, bodies, part, tally, whole, area, count);
     }
     if row_opens(kind, object) {
         // No name is merged with another.
         let class = own_names(0);
-        let action = ActionBytes {
+        let extruding = ActionBytes {
             kind: 3,
             channel,
             object: x,
         };
-        return put_classed(
-            question,
-            bodies,
-            part,
-            tally,
-            false,
-            first + j,
-            &class,
-            action,
-            x,
-            area,
-            count,
-        );
+        let opened = Step {
+            candidate: whole,
+            action: extruding,
+        };
+        return put_classed(question, bodies, part, tally, opened, &class, area, count);
     }
     let action = ActionBytes {
         kind,
         channel,
         object: row_object(kind, object, x),
     };
-    put_placed(
-        question,
-        bodies,
-        part,
-        tally,
-        at,
-        depth,
-        false,
-        j,
-        action,
+    let candidate = Selection {
+        silently: false,
+        number: own.number,
         x,
-        area,
-        count,
-    )
+    };
+    let step = Step { candidate, action };
+    let place = Position {
+        at: node.at,
+        depth: node.depth,
+    };
+    put_placed(question, bodies, part, tally, place, step, area, count)
 }
 
-// Puts all visible candidates of the component at `at`, whose rows are those from `first` up to `last`, into the list, until a limit is passed.
+// Puts all visible candidates of a component into the list by their rows, until a limit is passed.
 fn take_rows(
     question: &[u8],
     bodies: &[u32],
     part: &[u8],
     tally: &[u32],
-    at: usize,
-    depth: usize,
+    node: Node,
     rows: &[u8],
-    first: usize,
-    last: usize,
-    x: u8,
+    own: OwnRows,
     area: &mut [u8],
-    count: usize,
 ) -> usize
-    requires { ⌜ CanPut (now question) (now bodies) (now part) (now tally) (now area) count × Inside (now part) at depth × (first ≤ last) × (last ≤ mostRows + 1) ⌝ }
-    ensures { λ r. ⌜ TakeRowsIs (now (question .entry)) (now (part .entry)) at depth (now (rows .entry)) first last x (now (area .entry)) count r (now (area .exit)) ⌝ }
+    requires { ⌜ CanPut (now question) (now bodies) (now part) (now tally) (now area) (own .count) × Inside (now part) (node .at) (node .depth) × (own .first ≤ own .last) × (own .last ≤ mostRows + 1) ⌝ }
+    ensures { λ r. ⌜ TakeRowsIs (now (question .entry)) (now (part .entry)) (node .at) (node .depth) (now (rows .entry)) (own .first) (own .last) (node .x) (now (area .entry)) (own .count) r (now (area .exit)) ⌝ }
 {
+    let first = own.first;
+    let last = own.last;
     let number = last - first;
-    let mut n = count;
+    let mut n = own.count;
     let mut j = 0;
     while j < number {
-        let m = take_row(
-            question,
-            bodies,
-            part,
-            tally,
-            at,
-            depth,
-            rows,
+        let one = OwnRow {
             first,
-            j,
-            x,
-            area,
-            n,
-        );
+            number: j,
+            count: n,
+        };
+        let m = take_row(question, bodies, part, tally, node, rows, one, area);
         if MOST_STEPS < m {
             return m;
         }
@@ -183,21 +177,20 @@ fn take_rows(
     n
 }
 
-// Puts the silent candidates of the component at `at` into the list, where they have no condition.
+// Puts the silent candidates of a component into the list, where they have no condition.
 fn take_quiet(
     question: &[u8],
     bodies: &[u32],
     part: &[u8],
     tally: &[u32],
-    at: usize,
-    depth: usize,
-    x: u8,
+    node: Node,
     area: &mut [u8],
     count: usize,
 ) -> usize
-    requires { ⌜ CanPut (now question) (now bodies) (now part) (now tally) (now area) count × Inside (now part) at depth × QuietIs (now question) (now part) at 1 true ⌝ }
-    ensures { λ r. ⌜ ((number : ℕ) → TakeSilentIs (now (question .entry)) (now (part .entry)) at depth number x (now (area .entry)) count r (now (area .exit))) ⌝ }
+    requires { ⌜ CanPut (now question) (now bodies) (now part) (now tally) (now area) count × Inside (now part) (node .at) (node .depth) × QuietIs (now question) (now part) (node .at) 1 true ⌝ }
+    ensures { λ r. ⌜ TakeSilentIs (now (question .entry)) (now (part .entry)) (node .at) (node .depth) (node .number) (node .x) (now (area .entry)) count r (now (area .exit)) ⌝ }
 {
+    let at = node.at;
     let number = silent_at(tally, at);
     let mut n = count;
     let mut j = 0;
@@ -207,20 +200,20 @@ fn take_quiet(
             channel: 0,
             object: 0,
         };
-        let m = put_placed(
-            question,
-            bodies,
-            part,
-            tally,
+        let candidate = Selection {
+            silently: true,
+            number: j,
+            x: node.x,
+        };
+        let step = Step {
+            candidate,
+            action: silent,
+        };
+        let place = Position {
             at,
-            depth,
-            true,
-            j,
-            silent,
-            x,
-            area,
-            n,
-        );
+            depth: node.depth,
+        };
+        let m = put_placed(question, bodies, part, tally, place, step, area, n);
         if MOST_STEPS < m {
             return m;
         }
@@ -230,26 +223,31 @@ fn take_quiet(
     n
 }
 
-// Puts the silent candidates of the component at `at`, which are the part's from `first` on, into the list by their numbers.
+// Puts the silent candidates of a component into the list by their numbers in the part.
 fn take_numbered(
     question: &[u8],
     bodies: &[u32],
     part: &[u8],
     tally: &[u32],
-    at: usize,
-    first: usize,
-    x: u8,
+    node: Node,
     area: &mut [u8],
     count: usize,
 ) -> usize
-    requires { ⌜ CanPut (now question) (now bodies) (now part) (now tally) (now area) count × (at < length (now part)) × (first ≤ at * mostNumber) ⌝ }
-    ensures { λ r. ⌜ ((depth : ℕ) → TakeSilentIs (now (question .entry)) (now (part .entry)) at depth first x (now (area .entry)) count r (now (area .exit))) ⌝ }
+    requires { ⌜ CanPut (now question) (now bodies) (now part) (now tally) (now area) count × (node .at < length (now part)) × (node .number ≤ node .at * mostNumber) ⌝ }
+    ensures { λ r. ⌜ TakeSilentIs (now (question .entry)) (now (part .entry)) (node .at) (node .depth) (node .number) (node .x) (now (area .entry)) count r (now (area .exit)) ⌝ }
 {
-    let number = silent_at(tally, at);
+    let first = node.number;
+    let number = silent_at(tally, node.at);
     let mut n = count;
     let mut j = 0;
     while j < number {
-        let m = take_candidate(question, bodies, part, tally, true, first + j, x, area, n);
+        let i = first + j;
+        let candidate = Selection {
+            silently: true,
+            number: i,
+            x: node.x,
+        };
+        let m = take_candidate(question, bodies, part, tally, candidate, area, n);
         if MOST_STEPS < m {
             return m;
         }
@@ -259,46 +257,42 @@ fn take_numbered(
     n
 }
 
-// Puts the silent candidates of the component at `at`, which are the part's from `number` on, into the list.
+// Puts the silent candidates of a component into the list.
 fn take_silent(
     question: &[u8],
     bodies: &[u32],
     part: &[u8],
     tally: &[u32],
-    at: usize,
-    depth: usize,
-    number: usize,
-    x: u8,
+    node: Node,
     area: &mut [u8],
     count: usize,
 ) -> usize
-    requires { ⌜ CanPut (now question) (now bodies) (now part) (now tally) (now area) count × Inside (now part) at depth × (number ≤ at * mostNumber) ⌝ }
-    ensures { λ r. ⌜ TakeSilentIs (now (question .entry)) (now (part .entry)) at depth number x (now (area .entry)) count r (now (area .exit)) ⌝ }
+    requires { ⌜ CanPut (now question) (now bodies) (now part) (now tally) (now area) count × Inside (now part) (node .at) (node .depth) × (node .number ≤ node .at * mostNumber) ⌝ }
+    ensures { λ r. ⌜ TakeSilentIs (now (question .entry)) (now (part .entry)) (node .at) (node .depth) (node .number) (node .x) (now (area .entry)) count r (now (area .exit)) ⌝ }
 {
-    if quiet(question, bodies, part, tally, at, 1) {
-        return take_quiet(question, bodies, part, tally, at, depth, x, area, count);
+    if quiet(question, bodies, part, tally, node.at, 1) {
+        return take_quiet(question, bodies, part, tally, node, area, count);
     }
-    take_numbered(question, bodies, part, tally, at, number, x, area, count)
+    take_numbered(question, bodies, part, tally, node, area, count)
 }
 
-// The component at `at`: its visible candidates and their rows, and its silent ones.
+// A component: its visible candidates and their rows, and its silent ones.
 fn component(
     question: &[u8],
     bodies: &[u32],
     part: &[u8],
     tally: &[u32],
-    at: usize,
-    depth: usize,
-    number: usize,
-    x: u8,
+    node: Node,
     rows: &mut [u8],
-    n: usize,
+    walked: Walked,
     area: &mut [u8],
-    count: usize,
 ) -> Walked
-    requires { ⌜ CanPut (now question) (now bodies) (now part) (now tally) (now area) count × Inside (now part) at depth × (number ≤ at * mostNumber) × (n ≤ mostRows + 1) × (rowBytes * mostRows ≤ length (now rows)) × (getD (now part) at 0 ≡ 7 → ⊥) × (getD (now part) at 0 ≡ 8 → ⊥) ⌝ }
-    ensures { λ r. ⌜ WalkIs (now (question .entry)) (now (part .entry)) at depth number x (now (rows .entry)) n (now (rows .exit)) (now (area .entry)) count r (now (area .exit)) ⌝ }
+    requires { ⌜ CanPut (now question) (now bodies) (now part) (now tally) (now area) (walked .count) × Inside (now part) (node .at) (node .depth) × (node .number ≤ node .at * mostNumber) × (walked .rows ≤ mostRows + 1) × (rowBytes * mostRows ≤ length (now rows)) × (getD (now part) (node .at) 0 ≡ 7 → ⊥) × (getD (now part) (node .at) 0 ≡ 8 → ⊥) ⌝ }
+    ensures { λ r. ⌜ WalkIs (now (question .entry)) (now (part .entry)) (node .at) (node .depth) (node .number) (node .x) (now (rows .entry)) (walked .rows) (now (rows .exit)) (now (area .entry)) (walked .count) r (now (area .exit)) ⌝ }
 {
+    let at = node.at;
+    let depth = node.depth;
+    let n = walked.rows;
     let none = [0u8; GREATEST_ARITY];
     let last = scan(
         question,
@@ -315,95 +309,62 @@ fn component(
         rows,
         n,
     );
-    let visible = take_rows(
-        question,
-        bodies,
-        part,
-        tally,
-        at,
-        depth,
-        rows,
-        n,
+    let own = OwnRows {
+        first: n,
         last,
-        x,
-        area,
-        count,
-    );
+        count: walked.count,
+    };
+    let visible = take_rows(question, bodies, part, tally, node, rows, own, area);
     if MOST_STEPS < visible {
         return Walked {
             rows: last,
             count: visible,
         };
     }
-    let all = take_silent(
-        question,
-        bodies,
-        part,
-        tally,
-        at,
-        depth,
-        number,
-        x,
-        area,
-        visible,
-    );
+    let all = take_silent(question, bodies, part, tally, node, area, visible);
     Walked {
         rows: last,
         count: all,
     }
 }
 
-// The parallel at `at`: its sides, and then their communications.
+// A parallel: its sides, and then their communications.
 fn walk_parallel(
     question: &[u8],
     bodies: &[u32],
     part: &[u8],
     tally: &[u32],
-    at: usize,
-    depth: usize,
-    number: usize,
-    x: u8,
+    node: Node,
     rows: &mut [u8],
-    n: usize,
+    walked: Walked,
     area: &mut [u8],
-    count: usize,
 ) -> Walked
-    requires { ⌜ CanPut (now question) (now bodies) (now part) (now tally) (now area) count × Inside (now part) at depth × (number ≤ at * mostNumber) × (n ≤ mostRows + 1) × (rowBytes * mostRows ≤ length (now rows)) × (getD (now part) at 0 ≡ 7) ⌝ }
-    ensures { λ r. ⌜ WalkIs (now (question .entry)) (now (part .entry)) at depth number x (now (rows .entry)) n (now (rows .exit)) (now (area .entry)) count r (now (area .exit)) ⌝ }
+    requires { ⌜ CanPut (now question) (now bodies) (now part) (now tally) (now area) (walked .count) × Inside (now part) (node .at) (node .depth) × (node .number ≤ node .at * mostNumber) × (walked .rows ≤ mostRows + 1) × (rowBytes * mostRows ≤ length (now rows)) × (getD (now part) (node .at) 0 ≡ 7) ⌝ }
+    ensures { λ r. ⌜ WalkIs (now (question .entry)) (now (part .entry)) (node .at) (node .depth) (node .number) (node .x) (now (rows .entry)) (walked .rows) (now (rows .exit)) (now (area .entry)) (walked .count) r (now (area .exit)) ⌝ }
 {
+    let at = node.at;
+    let number = node.number;
     let middle = middle_of(part, tally, at);
-    let left = walk(
-        question,
-        bodies,
-        part,
-        tally,
-        at + 1,
-        depth,
+    let next = at + 1;
+    let one = Node {
+        at: next,
+        depth: node.depth,
         number,
-        x,
-        rows,
-        n,
-        area,
-        count,
-    );
+        x: node.x,
+    };
+    let left = walk(question, bodies, part, tally, one, rows, walked, area);
     if MOST_STEPS < left.count {
         return left;
     }
-    let before = silent_at(tally, at + 1);
-    let right = walk(
-        question,
-        bodies,
-        part,
-        tally,
-        middle,
-        depth,
-        number + before,
-        x,
-        rows,
-        left.rows,
-        area,
-        left.count,
-    );
+    let before = silent_at(tally, next);
+    let further = number + before;
+    let other = Node {
+        at: middle,
+        depth: node.depth,
+        number: further,
+        x: node.x,
+    };
+    let right = walk(question, bodies, part, tally, other, rows, left, area);
     if MOST_STEPS < right.count {
         return right;
     }
@@ -411,83 +372,52 @@ fn walk_parallel(
     if MOST_ROWS < right.rows {
         return right;
     }
-    let all = meet(
-        question,
-        bodies,
-        part,
-        tally,
-        at,
-        depth,
-        number,
-        before + silent_at(tally, middle),
-        x,
-        rows,
-        n,
-        left.rows,
-        right.rows,
-        area,
-        right.count,
-    );
+    let silent = before + silent_at(tally, middle);
+    let sides = SideRows {
+        first: walked.rows,
+        middle: left.rows,
+        last: right.rows,
+        before: silent,
+        count: right.count,
+    };
+    let all = meet(question, bodies, part, tally, node, rows, sides, area);
     Walked {
         rows: right.rows,
         count: all,
     }
 }
 
-// The term at `at`, under `depth` restrictions: its candidates, of which the visible ones are put into the rows from `n` on, and the silent ones are
-// the part's from `number` on. Where a limit is passed the walk ends.
+// A term of the part: its candidates, of which the visible ones are put into the rows behind those that are filled. Where a limit is passed the walk
+// ends.
 pub fn walk(
     question: &[u8],
     bodies: &[u32],
     part: &[u8],
     tally: &[u32],
-    at: usize,
-    depth: usize,
-    number: usize,
-    x: u8,
+    node: Node,
     rows: &mut [u8],
-    n: usize,
+    walked: Walked,
     area: &mut [u8],
-    count: usize,
 ) -> Walked
-    requires { ⌜ CanPut (now question) (now bodies) (now part) (now tally) (now area) count × (depth ≤ at) × (number ≤ at * mostNumber) × (n ≤ mostRows + 1) × (rowBytes * mostRows ≤ length (now rows)) ⌝ }
-    ensures { λ r. ⌜ WalkIs (now (question .entry)) (now (part .entry)) at depth number x (now (rows .entry)) n (now (rows .exit)) (now (area .entry)) count r (now (area .exit)) ⌝ }
+    requires { ⌜ CanPut (now question) (now bodies) (now part) (now tally) (now area) (walked .count) × (node .depth ≤ node .at) × (node .number ≤ node .at * mostNumber) × (walked .rows ≤ mostRows + 1) × (rowBytes * mostRows ≤ length (now rows)) ⌝ }
+    ensures { λ r. ⌜ WalkIs (now (question .entry)) (now (part .entry)) (node .at) (node .depth) (node .number) (node .x) (now (rows .entry)) (walked .rows) (now (rows .exit)) (now (area .entry)) (walked .count) r (now (area .exit)) ⌝ }
 {
     // Restrictions that stand one within the other are passed at once: only the sides of parallels are walked by recursion.
+    let at = node.at;
     let k = restrictions_at(part, at);
     let place = at + k;
-    let under = depth + k;
+    let under = node.depth + k;
     if part.len() <= place {
-        return Walked { rows: n, count };
+        return walked;
     }
+    let inner = Node {
+        at: place,
+        depth: under,
+        number: node.number,
+        x: node.x,
+    };
     if part[place] == PARALLEL {
-        return walk_parallel(
-            question,
-            bodies,
-            part,
-            tally,
-            place,
-            under,
-            number,
-            x,
-            rows,
-            n,
-            area,
-            count,
-        );
+        return walk_parallel(question, bodies, part, tally, inner, rows, walked, area);
     }
-    component(
-        question,
-        bodies,
-        part,
-        tally,
-        place,
-        under,
-        number,
-        x,
-        rows,
-        n,
-        area,
-        count,
-    )
+    component(question, bodies, part, tally, inner, rows, walked, area)
 }

@@ -13,11 +13,13 @@ use Rattle.steps_communications.proofs.meet.meet_row.Statement.{stateme
 use Rattle.steps_communications.proofs.meet.meet_row.Tie as tie
 
 abbrev Inv-loop : tie.InvT-loop
-Inv-loop question bodies part tally at depth number x rows row left middle last j area₀ count kind channel object a n₀ w₀ area n w =
-    (n ≤ mostSteps) × (length area ≡ length area₀) × (middle ≤ w) × (w ≤ last) × Paired question part at depth number x rows row left middle last j area₀ count w n area × (w < last → mayMeet (kindAt rows row) (channelAt rows row) (kindAt rows w) (channelAt rows w) ≡ true)
+Inv-loop question bodies part tally node rows area₀ row middle last j kind channel object a n₀ w₀ area n w =
+    (n ≤ mostSteps) × (length area ≡ length area₀) × (middle ≤ w) × (w ≤ last)
+    × Paired question part (node .at) (node .depth) (node .number) (node .x) rows row (a .number) middle last j area₀ n₀ w n area
+    × (w < last → mayMeet (kindAt rows row) (channelAt rows row) (kindAt rows w) (channelAt rows w) ≡ true)
 
 abbrev μ-loop : tie.MeasureT-loop
-μ-loop question bodies part tally at depth number x rows row left middle last j area₀ count kind channel object a n₀ w₀ area n w =
+μ-loop question bodies part tally node rows area₀ row middle last j kind channel object a n₀ w₀ area n w =
     last - w
 
 mul-kind : tie.Need-mul-kind Inv-loop μ-loop
@@ -40,24 +42,25 @@ unfolding kindAt
 returns c =
     let c9 = c .before .before .before .before .before .before .before .before .before in
     let v = c9 .args in
-    row-again (v .question .now) (v .part .now) (v .at) (v .depth) (v .number) (v .x) (v .rows .now) (v .row) (v .left) (v .middle) (v .last) (v .j)
-    (v .area .now) (v .count) (c .if1 .taken)
+    row-again (v .question .now) (v .part .now) (v .node .at) (v .node .depth) (v .node .number) (v .node .x) (v .rows .now) (v .left .row)
+    (v .left .left) (v .left .middle) (v .left .last) (v .left .first) (v .area .now) (v .left .count) (c .if1 .taken)
 
 add-if2 : tie.Need-add-if2 Inv-loop μ-loop
 add-if2 c = search needs
 
 cast-if2 : tie.Need-cast-if2 Inv-loop μ-loop
 cast-if2 c =
-    let c9 = c .before .before .before .before .before .before .before .before .before in
-    omega (arith, c .before .shared-slice-known7 .given (4 * (c9 .args .row) + 1))
+    let c10 = c .before .before .before .before .before .before .before .before .before .before in
+    omega (arith, c .before .before .shared-slice-known7 .given (4 * (c10 .args .left .row) + 1))
 
 returns-2 : tie.Need-returns-2 Inv-loop μ-loop
 unfolding kindAt channelAt objectAt
 returns-2 c =
-    let c10 = c .before .before .before .before .before .before .before .before .before .before in
-    let v = c10 .args in
-    row-inner (v .question .now) (v .part .now) (v .at) (v .depth) (v .number) (v .x) (v .rows .now) (v .row) (v .left) (v .middle) (v .last) (v .j)
-    (v .area .now) (v .count) (c10 .pre .0) (c .before .if1 .left) (c .if2 .taken)
+    let c11 = c .before .before .before .before .before .before .before .before .before .before .before in
+    let v = c11 .args in
+    row-inner (v .question .now) (v .part .now) (v .node .at) (v .node .depth) (v .node .number) (v .node .x) (v .rows .now) (v .left .row)
+    (v .left .left) (v .left .middle) (v .left .last) (v .left .first) (v .area .now) (v .left .count) (c11 .pre .0 .0 .0)
+    (c .before .before .if1 .left) (c .if2 .taken)
 
 mul-object : tie.Need-mul-object Inv-loop μ-loop
 mul-object c = search needs
@@ -74,16 +77,17 @@ next-met-requires c κs = search needs
 loop-holds : tie.Need-loop-holds Inv-loop μ-loop
 unfolding kindAt channelAt objectAt
 loop-holds c =
-    let v = c .before .before .before .before .before .before .before .before .before .before .before .before .args in (
+    let v = c .before .before .before .before .before .before .before .before .before .before .before .before .before .args in (
       search needs,
       refl,
       c .next-met .ensures .on,
       c .next-met .ensures .inside,
-      pairs-skipped (v .question .now) (v .part .now) (v .at) (v .depth)
-          (v .number) (v .x) (v .rows .now) (v .row) (v .left) (v .middle) (v .last) (v .j) (v .area .now) (v .count) (c .before .before .before .if1 .left)
-          (c .before .before .if2 .left) (v .count) (v .area .now) (search needs) (v .middle) (c .next-met .result) (search needs) (c .next-met .ensures)
-          (paired-start (v .question .now) (v .part .now) (v .at) (v .depth) (v .number) (v .x) (v .rows .now) (v .row) (v .left) (v .middle) (v .last)
-          (v .j) (v .area .now) (v .count)),
+      pairs-skipped (v .question .now) (v .part .now) (v .node .at) (v .node .depth)
+          (v .node .number) (v .node .x) (v .rows .now) (v .left .row) (v .left .left) (v .left .middle) (v .left .last) (v .left .first)
+          (v .area .now) (v .left .count) (c .before .before .before .before .if1 .left) (c .before .before .if2 .left) (v .left .count) (v .area .now)
+          (search needs) (v .left .middle) (c .next-met .result) (search needs) (c .next-met .ensures) (paired-start (v .question .now) (v .part .now)
+          (v .node .at) (v .node .depth) (v .node .number) (v .node .x) (v .rows .now) (v .left .row) (v .left .left) (v .left .middle)
+          (v .left .last) (v .left .first) (v .area .now) (v .left .count)),
       c .next-met .ensures .meets,
     )
 
@@ -119,8 +123,8 @@ add-i c = search needs
 
 take-pair-requires : tie.Need-take-pair-requires Inv-loop μ-loop
 take-pair-requires c κs =
-    let g = c .before .before .before .before .before .before .before .before .before .before .before .before .before .before .before .before .before .before .pre in
-    (c .before .before .before .before .before .loop .inv .0, search needs, g .2, g .3, g .4, g .5, g .6, search needs)
+    let g = c .before .before .before .before .before .before .before .before .before .before .before .before .before .before .before .before .before .before .before .pre in
+    (((c .before .before .before .before .before .loop .inv .0, search needs), g .0 .1), g .1, search needs)
 
 same-length : tie.Need-same-length Inv-loop μ-loop
 same-length c = search needs
@@ -132,12 +136,13 @@ returns-3 c =
     let c8 = c3 .before .before .before .before .before in
     let c9 = c8 .before in
     let c12 = c9 .before .before .before in
-    let c13 = c12 .before in
-    let c22 = c13 .before .before .before .before .before .before .before .before .before in
-    let v = c22 .args in
-    pair-passed (v .question .now) (v .part .now) (v .at) (v .depth) (v .number) (v .x) (v .rows .now) (v .row) (v .left) (v .middle) (v .last) (v .j)
-    (v .area .now) (v .count) (c13 .if1 .left) (c12 .if2 .left) (c9 .loop .w) (c9 .loop .n) (c9 .loop .area) (c9 .loop .inv .4) (c9 .loop .inv .2)
-    (c8 .loop-test .taken) (c9 .loop .inv .5 (c8 .loop-test .taken)) (c3 .take-pair .result) _ (c3 .take-pair .ensures) (c .if3 .taken)
+    let c14 = c12 .before .before in
+    let c23 = c14 .before .before .before .before .before .before .before .before .before in
+    let v = c23 .args in
+    pair-passed (v .question .now) (v .part .now) (v .node .at) (v .node .depth) (v .node .number) (v .node .x) (v .rows .now) (v .left .row)
+    (v .left .left) (v .left .middle) (v .left .last) (v .left .first) (v .area .now) (v .left .count) (c14 .if1 .left) (c12 .if2 .left) (c9 .loop .w)
+    (c9 .loop .n) (c9 .loop .area) (c9 .loop .inv .4) (c9 .loop .inv .2) (c8 .loop-test .taken) (c9 .loop .inv .5 (c8 .loop-test .taken))
+    (c3 .take-pair .result) _ (c3 .take-pair .ensures) (c .if3 .taken)
 
 add-next-met : tie.Need-add-next-met Inv-loop μ-loop
 add-next-met c = search needs
@@ -151,23 +156,25 @@ loop-less c = search needs
 loop-again : tie.Need-loop-again Inv-loop μ-loop
 unfolding kindAt channelAt objectAt
 loop-again c =
-    let v = c .before .before .before .before .before .before .before .before .before .before .before .before .before .before .before .before .before .before .before .before .before .before .before .args in
-    let o : v .middle ≤ c .before .before .before .before .before .before .before .before .before .before .loop .w =
+    let v =
+    c .before .before .before .before .before .before .before .before .before .before .before .before .before .before .before .before .before .before .before .before .before .before .before .before .args
+    in let o : v .left .middle ≤ c .before .before .before .before .before .before .before .before .before .before .loop .w =
     c .before .before .before .before .before .before .before .before .before .before .loop .inv .2 in (
       c .before .if3 .left,
       search needs,
       omega
           (arith, c .next-met2 .ensures .on),
       c .next-met2 .ensures .inside,
-      pairs-skipped (v .question .now) (v .part .now) (v .at) (v .depth) (v .number)
-          (v .x) (v .rows .now) (v .row) (v .left) (v .middle) (v .last) (v .j) (v .area .now) (v .count)
-          (c .before .before .before .before .before .before .before .before .before .before .before .before .before .before .if1 .left)
+      pairs-skipped (v .question .now) (v .part .now) (v .node .at) (v .node .depth)
+          (v .node .number) (v .node .x) (v .rows .now) (v .left .row) (v .left .left) (v .left .middle) (v .left .last) (v .left .first)
+          (v .area .now) (v .left .count)
+          (c .before .before .before .before .before .before .before .before .before .before .before .before .before .before .before .if1 .left)
           (c .before .before .before .before .before .before .before .before .before .before .before .before .before .if2 .left)
           (c .before .before .before .before .take-pair .result) _ (c .before .if3 .left)
           (c .before .before .before .before .before .before .before .before .before .before .loop .w + 1) (c .next-met2 .result) (omega arith)
-          (c .next-met2 .ensures) (pair-put (v .question .now) (v .part .now) (v .at) (v .depth) (v .number) (v .x) (v .rows .now) (v .row) (v .left)
-          (v .middle) (v .last) (v .j) (v .area .now) (v .count)
-          (c .before .before .before .before .before .before .before .before .before .before .before .before .before .before .if1 .left)
+          (c .next-met2 .ensures) (pair-put (v .question .now) (v .part .now) (v .node .at) (v .node .depth) (v .node .number) (v .node .x) (v .rows .now)
+          (v .left .row) (v .left .left) (v .left .middle) (v .left .last) (v .left .first) (v .area .now) (v .left .count)
+          (c .before .before .before .before .before .before .before .before .before .before .before .before .before .before .before .if1 .left)
           (c .before .before .before .before .before .before .before .before .before .before .before .before .before .if2 .left)
           (c .before .before .before .before .before .before .before .before .before .before .loop .w)
           (c .before .before .before .before .before .before .before .before .before .before .loop .n)
@@ -189,12 +196,12 @@ unfolding kindAt channelAt objectAt
 returns-4 c =
     let c1 = c .before in
     let c4 = c1 .before .before .before in
-    let c5 = c4 .before in
-    let c14 = c5 .before .before .before .before .before .before .before .before .before in
-    let v = c14 .args in
-    row-done (v .question .now) (v .part .now) (v .at) (v .depth) (v .number) (v .x) (v .rows .now) (v .row) (v .left) (v .middle) (v .last) (v .j)
-    (v .area .now) (v .count) (c5 .if1 .left) (c4 .if2 .left) (c1 .loop .w) (c1 .loop .n) (c1 .loop .area) (c1 .loop .inv .4) (c1 .loop .inv .2)
-    (c .loop-test .left) (c1 .loop .inv .0)
+    let c6 = c4 .before .before in
+    let c15 = c6 .before .before .before .before .before .before .before .before .before in
+    let v = c15 .args in
+    row-done (v .question .now) (v .part .now) (v .node .at) (v .node .depth) (v .node .number) (v .node .x) (v .rows .now) (v .left .row)
+    (v .left .left) (v .left .middle) (v .left .last) (v .left .first) (v .area .now) (v .left .count) (c6 .if1 .left) (c4 .if2 .left) (c1 .loop .w)
+    (c1 .loop .n) (c1 .loop .area) (c1 .loop .inv .4) (c1 .loop .inv .2) (c .loop-test .left) (c1 .loop .inv .0)
 
 pub meet-row-spec : {M : Type 1} → statement M
 meet-row-spec =

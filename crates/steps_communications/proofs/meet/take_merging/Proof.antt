@@ -20,8 +20,8 @@ sender-requires c κs = search needs
 
 sends-free-requires : tie.Need-sends-free-requires
 sends-free-requires c κs =
-    let c7 = c .before .before .before .before .before .before .before in
-    omega (arith, c7 .pre .2, c7 .pre .5, c7 .pre .6)
+    let c9 = c .before .before .before .before .before .before .before .before .before in
+    omega (arith, c9 .pre .0 .1 .0, c9 .pre .1 .0, c9 .pre .1 .1)
 
 slice-aggregate-take-met : tie.Need-slice-aggregate-take-met
 slice-aggregate-take-met c = search needs
@@ -29,27 +29,11 @@ slice-aggregate-take-met c = search needs
 take-met-requires : tie.Need-take-met-requires
 unfolding sendsFree
 take-met-requires c κs =
-    let g = c .before .before .before .before .before .before .before .before .before .before .before .pre in
-    let s = c .before .before .before .before .sender .result in let o = ltb-true (s .object) (nameCount +
-    c .before .before .before .before .before .before .before .before .before .before .before .args .depth) (both-true (eqb (s .kind) 2) (ltb
-    (s .object) (nameCount + c .before .before .before .before .before .before .before .before .before .before .before .args .depth)) (sym
-    (c .before .before .before .sends-free .ensures) ∙ c .before .before .if1 .taken) .1) in (
-      g .0,
-      g .1,
-      g .2,
-      g .3,
-      g .4,
-      g .5,
-      g .6,
-      omega (
-        arith,
-        o,
-        g .2,
-        g .5,
-        g .6,
-      ),
-      search needs,
-    )
+    let g = c .before .before .before .before .before .before .before .before .before .before .before .before .before .pre in
+    let s = c .before .before .before .before .sender .result in
+    let d = c .before .before .before .before .before .before .before .before .before .before .before .before .before .args .node .depth in
+    let o = ltb-true (s .object) (nameCount + d) (both-true (eqb (s .kind) 2) (ltb (s .object) (nameCount + d)) (sym (c .before .before .before .sends-free .ensures) ∙ c .before .before .if1 .taken) .1) in
+    (g .0, g .1, omega (arith, o, g .0 .1 .0, g .1), search needs)
 
 same-length : tie.Need-same-length
 same-length c = search needs
@@ -61,14 +45,14 @@ returns c =
     let c6 = c5 .before in
     let c7 = c6 .before in
     let c8 = c7 .before in
-    let c14 = c8 .before .before .before .before .before .before in
-    let v = c14 .args in
-    pair-merging (v .question .now) (v .part .now) (v .at) (v .depth) (v .number) (v .a) (v .b) (v .j) (v .x) (v .area .now) (v .count)
-    (c2 .take-met .result) _ (c14 .pre .8) (c14 .pre .9) (c14 .pre .10) (c7 .sender .result) (c7 .sender .ensures) (sym (c6 .sends-free .ensures) ∙
-    c5 .if1 .taken) (c8 .merging .result) (c8 .merging .ensures) (c2 .take-met .ensures)
+    let c16 = c8 .before .before .before .before .before .before .before .before in
+    let v = c16 .args in
+    pair-merging (v .question .now) (v .part .now) (v .node .at) (v .node .depth) (v .node .number) (v .pair .left) (v .pair .right) (v .pair .number)
+    (v .node .x) (v .area .now) (v .count) (c2 .take-met .result) _ (c16 .pre .3) (c16 .pre .4) (c16 .pre .5) (c7 .sender .result)
+    (c7 .sender .ensures) (sym (c6 .sends-free .ensures) ∙ c5 .if1 .taken) (c8 .merging .result) (c8 .merging .ensures) (c2 .take-met .ensures)
 
-add-put-classed : tie.Need-add-put-classed
-add-put-classed c = search needs
+add-i : tie.Need-add-i
+add-i c = search needs
 
 slice-aggregate-put-classed : tie.Need-slice-aggregate-put-classed
 slice-aggregate-put-classed c = search needs
@@ -82,11 +66,12 @@ same-length-2 c = search needs
 returns-2 : tie.Need-returns-2
 returns-2 c =
     let c2 = c .before .before in
-    let c8 = c2 .before .before .before .before .before .before in
-    let c14 = c8 .before .before .before .before .before .before in
-    let v = c14 .args in
-    pair-classed (v .question .now) (v .part .now) (v .at) (v .depth) (v .number) (v .a) (v .b) (v .j) (v .x) (v .area .now) (v .count)
-    (c2 .put-classed .result) _ (c14 .pre .8) (c14 .pre .9) (c14 .pre .10) _ (c8 .merging .ensures) (c2 .put-classed .ensures)
+    let c10 = c2 .before .before .before .before .before .before .before .before in
+    let c18 = c10 .before .before .before .before .before .before .before .before in
+    let v = c18 .args in
+    pair-classed (v .question .now) (v .part .now) (v .node .at) (v .node .depth) (v .node .number) (v .pair .left) (v .pair .right) (v .pair .number)
+    (v .node .x) (v .area .now) (v .count) (c2 .put-classed .result) _ (c18 .pre .3) (c18 .pre .4) (c18 .pre .5) _ (c10 .merging .ensures)
+    (c2 .put-classed .ensures)
 
 pub take-merging-spec : {M : Type 1} → statement M
 take-merging-spec =
@@ -99,7 +84,7 @@ take-merging-spec =
     take-met-requires
     same-length
     returns
-    add-put-classed
+    add-i
     slice-aggregate-put-classed
     put-classed-requires
     same-length-2

@@ -1,5 +1,4 @@
 -- `steps::meet::take_pair` meets its contract. Assumes nothing.
-use Rattle.steps_communications.specs.Meeting.{SamePairIs}
 use Rattle.steps_communications.proofs.MeetPairs.{pair-taken}
 use native.Mathlib.Omega.{arith}
 use borrow.Author.Needs.{needs}
@@ -18,10 +17,10 @@ same-length c = search needs
 returns : tie.Need-returns
 returns c =
     let c2 = c .before .before in
-    let c11 = c2 .before .before .before .before .before .before .before .before .before in
-    let v = c11 .args in
-    pair-taken (v .question .now) (v .part .now) (v .at) (v .depth) (v .number) (v .a) (v .b) (v .j) (v .x) (v .area .now) (v .count)
-    (c2 .take-candidate .result) _ (c2 .take-candidate .ensures)
+    let c15 = c2 .before .before .before .before .before .before .before .before .before .before .before .before .before in
+    let v = c15 .args in
+    pair-taken (v .question .now) (v .part .now) (v .node .at) (v .node .depth) (v .node .number) (v .pair .left) (v .pair .right) (v .pair .number)
+    (v .node .x) (v .area .now) (v .count) (c2 .take-candidate .result) _ (c2 .take-candidate .ensures)
 
 take-candidate-requires-2 : tie.Need-take-candidate-requires-2
 take-candidate-requires-2 c κs = search needs
@@ -32,58 +31,30 @@ same-length-2 c = search needs
 returns-2 : tie.Need-returns-2
 returns-2 c =
     let c2 = c .before .before in
-    let c13 = c2 .before .before .before .before .before .before .before .before .before .before .before in
-    let v = c13 .args in
-    pair-taken (v .question .now) (v .part .now) (v .at) (v .depth) (v .number) (v .a) (v .b) (v .j) (v .x) (v .area .now) (v .count)
-    (c2 .take-candidate2 .result) _ (c2 .take-candidate2 .ensures)
+    let c17 = c2 .before .before .before .before .before .before .before .before .before .before .before .before .before .before .before in
+    let v = c17 .args in
+    pair-taken (v .question .now) (v .part .now) (v .node .at) (v .node .depth) (v .node .number) (v .pair .left) (v .pair .right) (v .pair .number)
+    (v .node .x) (v .area .now) (v .count) (c2 .take-candidate2 .result) _ (c2 .take-candidate2 .ensures)
 
 take-same-requires : tie.Need-take-same-requires
 take-same-requires c κs =
     let c4 = c .before .before .before .before in
     let c6 = c4 .before .before in
-    let c13 = c6 .before .before .before .before .before .before .before in (
-      c13 .pre .0,
-      c13 .pre .1,
-      c13 .pre .2,
-      c13 .pre .3,
-      c13 .pre .4,
-      c13 .pre .5,
-      c13 .pre .6,
-      omega (arith, c6 .if1 .left),
-      omega (
-        arith,
-        c4 .if2 .left,
-      ),
-      c .before .if3 .taken,
-    )
+    let c17 = c6 .before .before .before .before .before .before .before .before .before .before .before in
+    (c17 .pre .0, c17 .pre .1, omega (arith, c6 .if1 .left), omega (arith, c4 .if2 .left), c .before .if3 .taken)
 
 same-length-3 : tie.Need-same-length-3
 same-length-3 c = search needs
 
 returns-3 : tie.Need-returns-3
-unfolding SamePairIs
-returns-3 c =
-    let c16 = c .before .before .before .before .before .before .before .before .before .before .before .before .before .before .before .before in
-    c .before .before .take-same .ensures (c16 .args .number)
+returns-3 c = c .before .before .take-same .ensures
 
 take-merging-requires : tie.Need-take-merging-requires
 take-merging-requires c κs =
     let c4 = c .before .before .before .before in
     let c6 = c4 .before .before in
-    let c13 = c6 .before .before .before .before .before .before .before in (
-      c13 .pre .0,
-      c13 .pre .1,
-      c13 .pre .2,
-      c13 .pre .3,
-      c13 .pre .4,
-      c13 .pre .5,
-      c13 .pre .6,
-      c13 .pre .7,
-      omega (arith, c6 .if1 .left),
-      omega
-          (arith, c4 .if2 .left),
-      c .before .if3 .left,
-    )
+    let c17 = c6 .before .before .before .before .before .before .before .before .before .before .before in
+    (c17 .pre .0, c17 .pre .1, c17 .pre .2, omega (arith, c6 .if1 .left), omega (arith, c4 .if2 .left), c .before .if3 .left)
 
 same-length-4 : tie.Need-same-length-4
 same-length-4 c = search needs

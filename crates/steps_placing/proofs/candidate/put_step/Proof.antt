@@ -18,9 +18,9 @@ slice-aggregate-put-classed c = search needs
 
 put-classed-requires : tie.Need-put-classed-requires
 put-classed-requires c κs =
-    let g = c .before .before .before .before .before .before .before .before .before .before .before .pre in
-    let l : length (c .before .before .before .before .before .before .before .before .before .before .before .args .header .condition .class) ≡ 256 =
-    search needs in (g .0, g .1, g .2, omega arith, g .3, g .4)
+    let g = c .before .before .before .before .before .before .before .before .before .before .before .pre in let l : length
+    (c .before .before .before .before .before .before .before .before .before .before .before .args .header .condition .class) ≡ 256 = search needs
+    in (g, omega arith)
 
 same-length : tie.Need-same-length
 same-length c = search needs
@@ -31,8 +31,8 @@ returns c =
     let c5 = c2 .before .before .before in
     let c14 = c5 .before .before .before .before .before .before .before .before .before in
     let a = c14 .args in
-    step-put (a .question .now) (a .part .now) (a .silently) (a .i) (a .header) (a .x) (a .area .now) (a .count) (c5 .action-bytes .result)
-    (c5 .action-bytes .ensures) (c2 .put-classed .result) _ (c2 .put-classed .ensures)
+    step-put (a .question .now) (a .part .now) (a .candidate .silently) (a .candidate .number) (a .header) (a .candidate .x) (a .area .now) (a .count)
+    (c5 .action-bytes .result) (c5 .action-bytes .ensures) (c2 .put-classed .result) _ (c2 .put-classed .ensures)
 
 pub put-step-spec : {M : Type 1} → statement M
 put-step-spec =

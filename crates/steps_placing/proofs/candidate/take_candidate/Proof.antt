@@ -24,8 +24,8 @@ returns c =
     let c2 = c .before .before in
     let c9 = c2 .before .before .before .before .before .before .before in
     let a = c9 .args in
-    takes-blocked (a .question .now) (a .part .now) (a .silently) (a .i) _ (c2 .nth .result) (c2 .nth .ensures) (a .x) (a .area .now) (a .count)
-    (c9 .pre .0) (c .enum-told .given .1)
+    takes-blocked (a .question .now) (a .part .now) (a .candidate .silently) (a .candidate .number) _ (c2 .nth .result) (c2 .nth .ensures)
+    (a .candidate .x) (a .area .now) (a .count) (c9 .pre .0 .0) (c .enum-told .given .1)
 
 same-length : tie.Need-same-length
 same-length c = search needs
@@ -37,8 +37,8 @@ returns-2 c =
     let c6 = c4 .before .before in
     let c13 = c6 .before .before .before .before .before .before .before in
     let a = c13 .args in
-    takes-found (a .question .now) (a .part .now) (a .silently) (a .i) _ (c6 .nth .result) (c6 .nth .ensures) (a .x) (a .area .now) (a .count)
-    (c4 .enum-told2 .given .1) (c2 .put-step .result) _ (c2 .put-step .ensures)
+    takes-found (a .question .now) (a .part .now) (a .candidate .silently) (a .candidate .number) _ (c6 .nth .result) (c6 .nth .ensures)
+    (a .candidate .x) (a .area .now) (a .count) (c4 .enum-told2 .given .1) (c2 .put-step .result) _ (c2 .put-step .ensures)
 
 pub take-candidate-spec : {M : Type 1} → statement M
 take-candidate-spec =

@@ -34,11 +34,11 @@ returns c =
     let c7 = c3 .before .before .before .before in
     let c10 = c7 .before .before .before in
     let c11 = c10 .before in
-    let c18 = c11 .before .before .before .before .before .before .before in
-    let v = c18 .args in
-    classed-merged (v .question .now) (v .part .now) (v .silently) (c11 .if1 .taken) (v .i) (v .class .now) (v .action) (v .x) (v .area .now)
-    (v .count) (c3 .put-merged .result) _ (replicate longestTerm 0) _ (c10 .own-names .result) (c7 .write-result .result) refl
-    (c10 .own-names .ensures) (c7 .write-result .ensures) (c3 .put-merged .ensures)
+    let c19 = c11 .before .before .before .before .before .before .before .before in
+    let v = c19 .args in
+    classed-merged (v .question .now) (v .part .now) (v .step .candidate .silently) (c11 .if1 .taken) (v .step .candidate .number) (v .class .now)
+    (v .step .action) (v .step .candidate .x) (v .area .now) (v .count) (c3 .put-merged .result) _ (replicate longestTerm 0) _
+    (c10 .own-names .result) (c7 .write-result .result) refl (c10 .own-names .ensures) (c7 .write-result .ensures) (c3 .put-merged .ensures)
 
 slice-aggregate-write-result-3 : tie.Need-slice-aggregate-write-result-3
 slice-aggregate-write-result-3 c = search needs
@@ -59,10 +59,11 @@ returns-2 : tie.Need-returns-2
 returns-2 c =
     let c2 = c .before .before in
     let c6 = c2 .before .before .before .before in
-    let c15 = c6 .before .before .before .before .before .before .before .before .before in
-    let v = c15 .args in
-    classed-put (v .question .now) (v .part .now) (v .silently) (v .i) (v .class .now) (v .action) (v .x) (v .area .now) (v .count)
-    (c2 .put-result .result) _ (replicate longestTerm 0) _ (c6 .write-result2 .result) refl (c6 .write-result2 .ensures) (c2 .put-result .ensures)
+    let c17 = c6 .before .before .before .before .before .before .before .before .before .before .before in
+    let v = c17 .args in
+    classed-put (v .question .now) (v .part .now) (v .step .candidate .silently) (v .step .candidate .number) (v .class .now) (v .step .action)
+    (v .step .candidate .x) (v .area .now) (v .count) (c2 .put-result .result) _ (replicate longestTerm 0) _ (c6 .write-result2 .result) refl
+    (c6 .write-result2 .ensures) (c2 .put-result .ensures)
 
 pub put-classed-spec : {M : Type 1} → statement M
 put-classed-spec =

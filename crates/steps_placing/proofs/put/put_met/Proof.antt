@@ -12,8 +12,8 @@ slice-aggregate-write-met c = search needs
 
 write-met-requires : tie.Need-write-met-requires
 write-met-requires c κs =
-    let g = c .before .before .before .before .before .before .before .pre in
-    (g .3, g .4, g .5, g .6, g .2, search needs, g .7, g .8)
+    let g = c .before .before .before .before .before .before .before .before .before .pre in
+    (g .0 .1, g .1, g .2, search needs)
 
 slice-aggregate-put-merged : tie.Need-slice-aggregate-put-merged
 slice-aggregate-put-merged c = search needs
@@ -29,10 +29,10 @@ returns c =
     let c3 = c .before .before .before in
     let c6 = c3 .before .before .before in
     let c8 = c6 .before .before in
-    let c16 = c8 .before .before .before .before .before .before .before .before in
-    let v = c16 .args in
-    rw (c6 .if1 .taken) (met-merged (v .question .now) (v .part .now) (v .left) (v .right) (v .new) (v .class .now) (v .area .now) (v .count)
-    (c3 .put-merged .result) _ (replicate longestTerm 0) _ (c8 .write-met .result) refl (c8 .write-met .ensures) (c3 .put-merged .ensures))
+    let c18 = c8 .before .before .before .before .before .before .before .before .before .before in
+    let v = c18 .args in
+    rw (c6 .if1 .taken) (met-merged (v .question .now) (v .part .now) (v .met .left) (v .met .right) (v .met .new) (v .class .now) (v .area .now)
+    (v .count) (c3 .put-merged .result) _ (replicate longestTerm 0) _ (c8 .write-met .result) refl (c8 .write-met .ensures) (c3 .put-merged .ensures))
 
 slice-aggregate-put-result : tie.Need-slice-aggregate-put-result
 slice-aggregate-put-result c = search needs
@@ -48,10 +48,10 @@ returns-2 c =
     let c2 = c .before .before in
     let c5 = c2 .before .before .before in
     let c7 = c5 .before .before in
-    let c15 = c7 .before .before .before .before .before .before .before .before in
-    let v = c15 .args in
-    rw (c5 .if1 .left) (met-put (v .question .now) (v .part .now) (v .left) (v .right) (v .new) (v .class .now) (v .area .now) (v .count)
-    (c2 .put-result .result) _ (replicate longestTerm 0) _ (c7 .write-met .result) refl (c7 .write-met .ensures) (c2 .put-result .ensures))
+    let c17 = c7 .before .before .before .before .before .before .before .before .before .before in
+    let v = c17 .args in
+    rw (c5 .if1 .left) (met-put (v .question .now) (v .part .now) (v .met .left) (v .met .right) (v .met .new) (v .class .now) (v .area .now)
+    (v .count) (c2 .put-result .result) _ (replicate longestTerm 0) _ (c7 .write-met .result) refl (c7 .write-met .ensures) (c2 .put-result .ensures))
 
 pub put-met-spec : {M : Type 1} → statement M
 put-met-spec =

@@ -33,11 +33,11 @@ returns c =
     let c2 = c .before .before in
     let c6 = c2 .before .before .before .before in
     let c8 = c6 .before .before in
-    let c15 = c8 .before .before .before .before .before .before .before in
-    let a = c15 .args in
-    placed-put (a .question .now) (a .part .now) (a .at) (a .depth) (a .silently) (a .j) (a .action) (a .x) (a .area .now) (a .count)
-    (c2 .put-result .result) _ (replicate longestTerm 0) _ (c6 .own-names .result) (c8 .write-placed .result) refl (c6 .own-names .ensures)
-    (c8 .write-placed .ensures) (c2 .put-result .ensures)
+    let c17 = c8 .before .before .before .before .before .before .before .before .before in
+    let a = c17 .args in
+    placed-put (a .question .now) (a .part .now) (a .place .at) (a .place .depth) (a .step .candidate .silently) (a .step .candidate .number)
+    (a .step .action) (a .step .candidate .x) (a .area .now) (a .count) (c2 .put-result .result) _ (replicate longestTerm 0) _ (c6 .own-names .result)
+    (c8 .write-placed .result) refl (c6 .own-names .ensures) (c8 .write-placed .ensures) (c2 .put-result .ensures)
 
 pub put-placed-spec : {M : Type 1} → statement M
 put-placed-spec =

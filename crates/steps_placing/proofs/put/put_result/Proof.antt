@@ -29,7 +29,7 @@ returns-2 : tie.Need-returns-2
 returns-2 c =
     let a = c .before .before .before .before .before .before .before .before .before .before .args in put-result-inserted (a .class .now) (a .action)
     (a .result .now) (a .n) (a .area .now) (a .count) (search needs)
-    (c .before .before .before .before .before .before .before .before .before .before .pre .2)
+    (c .before .before .before .before .before .before .before .before .before .before .pre .1)
     (c .before .before .before .before .before .entry-of .result) (c .before .before .before .before .before .entry-of .ensures)
     (c .before .before .insert .result) _ (c .before .before .insert .ensures)
 

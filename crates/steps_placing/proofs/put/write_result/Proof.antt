@@ -22,8 +22,8 @@ returns c =
     let c6 = c3 .before .before .before in
     let c13 = c6 .before .before .before .before .before .before .before in
     let a = c13 .args in
-    result-written (a .question .now) (a .part .now) (a .silently) (a .i) (a .class .now) (a .x) (c6 .result-names .result)
-    (c6 .result-names .ensures) (a .out .now) (c3 .write .result) _ (c3 .write .ensures .0)
+    result-written (a .question .now) (a .part .now) (a .candidate .silently) (a .candidate .number) (a .class .now) (a .candidate .x)
+    (c6 .result-names .result) (c6 .result-names .ensures) (a .out .now) (c3 .write .result) _ (c3 .write .ensures .0)
 
 pub write-result-spec : {M : Type 1} → statement M
 write-result-spec =

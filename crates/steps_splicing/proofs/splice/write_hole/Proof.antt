@@ -16,7 +16,7 @@ returns : tie.Need-returns
 returns c =
     let c6 = c .before .before .before .before .before .before in
     let v = c6 .args in
-    hole-past (v .question .now) (v .part .now) (v .from) (v .hole) (v .new) (v .out .now) (v .put) (c .if1 .taken) _ _
+    hole-past (v .question .now) (v .part .now) (v .seam .from) (v .hole) (v .new) (v .out .now) (v .seam .put) (c .if1 .taken) _ _
 
 room-requires : tie.Need-room-requires
 room-requires c κs = search needs
@@ -28,15 +28,16 @@ returns-2 : tie.Need-returns-2
 returns-2 c =
     let c8 = c .before .before .before .before .before .before .before .before in
     let v = c8 .args in
-    hole-full (v .question .now) (v .part .now) (v .from) (v .hole) (v .new) (v .out .now) (v .put) (let h = leb-false (v .put + (v .hole .at -
-    v .from)) longestTerm (sym (c .before .room .ensures) ∙ not-true _ (c .if2 .taken)) in omega (arith, c8 .pre .3)) _ (omega (arith, c8 .pre .3)) _
+    hole-full (v .question .now) (v .part .now) (v .seam .from) (v .hole) (v .new) (v .out .now) (v .seam .put) (let h = leb-false (v .seam .put +
+    (v .hole .at - v .seam .from)) longestTerm (sym (c .before .room .ensures) ∙ not-true _ (c .if2 .taken)) in omega (arith, c8 .pre .2)) _ (omega
+    (arith, c8 .pre .2)) _
 
 add-e : tie.Need-add-e
 add-e c =
     let c8 = c .before .before .before .before .before .before .before .before in
     let v = c8 .args in
     record {
-      fits = let h : v .put + (v .hole .at - v .from) ≤ longestTerm = leb-true _ _ (sym (c .before .room .ensures) ∙ not-false _
+      fits = let h : v .seam .put + (v .hole .at - v .seam .from) ≤ longestTerm = leb-true _ _ (sym (c .before .room .ensures) ∙ not-false _
           (c .if2 .left)) in omega arith;
     }
 
@@ -47,7 +48,7 @@ returns-3 : tie.Need-returns-3
 returns-3 c =
     let c9 = c .before .before .before .before .before .before .before .before .before in
     let v = c9 .args in
-    hole-shallow (v .question .now) (v .part .now) (v .from) (v .hole) (v .new) (v .out .now) (v .put) (c .if3 .taken) _ _
+    hole-shallow (v .question .now) (v .part .now) (v .seam .from) (v .hole) (v .new) (v .out .now) (v .seam .put) (c .if3 .taken) _ _
 
 copy-requires : tie.Need-copy-requires
 copy-requires c κs =
@@ -55,8 +56,9 @@ copy-requires c κs =
     let c4 = c3 .before in
     let c10 = c4 .before .before .before .before .before .before in
     let v = c10 .args in
-    let h : v .put + (v .hole .at - v .from) ≤ longestTerm = leb-true _ _ (sym (c3 .room .ensures) ∙ not-false _ (c .before .before .if2 .left)) in
-    (omega (arith, c10 .pre .1, c4 .if1 .left), omega (arith, c10 .pre .3))
+    let h : v .seam .put + (v .hole .at - v .seam .from) ≤ longestTerm = leb-true _ _ (sym (c3 .room .ensures) ∙ not-false _
+    (c .before .before .if2 .left)) in
+    (omega (arith, c10 .pre .1 .1, c4 .if1 .left), omega (arith, c10 .pre .2))
 
 own-names-requires : tie.Need-own-names-requires
 own-names-requires c κs = search needs
@@ -68,20 +70,19 @@ write-requires : tie.Need-write-requires
 write-requires c κs =
     let v = c .before .before .before .before .before .before .before .before .before .before .before .before .before .before .before .before .args in
     let g = c .before .before .before .before .before .before .before .before .before .before .before .before .before .before .before .before .pre in
-    let h : v .put + (v .hole .at - v .from) ≤ longestTerm = leb-true _ _ (sym
+    let h : v .seam .put + (v .hole .at - v .seam .from) ≤ longestTerm = leb-true _ _ (sym
     (c .before .before .before .before .before .before .before .before .before .room .ensures) ∙ not-false _
     (c .before .before .before .before .before .before .before .before .if2 .left)) in (
-      g .2,
-      omega (arith, g .0),
+      g .0 .0,
+      omega (arith, g .1 .0),
       omega arith,
       search needs,
       (
-        omega
-            (arith, g .3, c .before .before .before .before .before .before .before .if3 .left),
-        omega (arith, g .3),
+        omega (arith, g .2, c .before .before .before .before .before .before .before .if3 .left),
+        omega (arith, g .2),
       ),
-      g .5,
-      g .6,
+      g .0 .1,
+      g .0 .2,
     )
 
 same-length : tie.Need-same-length
@@ -96,8 +97,8 @@ returns-4 c =
     let c13 = c12 .before in
     let c20 = c13 .before .before .before .before .before .before .before in
     let v = c20 .args in
-    let h : v .put + (v .hole .at - v .from) ≤ longestTerm = leb-true _ _ (sym (c13 .room .ensures) ∙ not-false _ (c12 .if2 .left)) in
-    hole-written (v .question .now) (v .part .now) (v .from) (v .hole) (v .new) (v .out .now) (v .put) (omega (arith, c20 .pre .3))
+    let h : v .seam .put + (v .hole .at - v .seam .from) ≤ longestTerm = leb-true _ _ (sym (c13 .room .ensures) ∙ not-false _ (c12 .if2 .left)) in
+    hole-written (v .question .now) (v .part .now) (v .seam .from) (v .hole) (v .new) (v .out .now) (v .seam .put) (omega (arith, c20 .pre .2))
     (c6 .own-names .result) (c6 .own-names .ensures) _ (c9 .copy .ensures) (c3 .write .result) _ (c3 .write .ensures .0)
 
 pub write-hole-spec : {M : Type 1} → statement M

@@ -13,7 +13,7 @@ use Rattle.steps_splicing.proofs.splice.write_met.Tie as tie
 write-hole-requires : tie.Need-write-hole-requires
 write-hole-requires c κs =
     let c6 = c .before .before .before .before .before .before in
-    (c6 .pre .0, c6 .pre .1, c6 .pre .4, c6 .pre .5, omega arith, c6 .pre .6, c6 .pre .7)
+    (c6 .pre .0, c6 .pre .1, c6 .pre .3, omega arith)
 
 same-length : tie.Need-same-length
 same-length c = search needs
@@ -23,8 +23,8 @@ returns c =
     let c3 = c .before .before .before in
     let c10 = c3 .before .before .before .before .before .before .before in
     let v = c10 .args in
-    met-stop (v .question .now) (v .part .now) (v .tally .now) (c10 .pre .6) (v .left) (v .right) (v .new) (v .out .now) (c3 .write-hole .result) _
-    (c3 .write-hole .ensures) (omega (arith, c10 .pre .5, c .if1 .taken))
+    met-stop (v .question .now) (v .part .now) (v .tally .now) (c10 .pre .0 .1) (v .left) (v .right) (v .new) (v .out .now) (c3 .write-hole .result) _
+    (c3 .write-hole .ensures) (omega (arith, c10 .pre .3, c .if1 .taken))
 
 end-at-requires : tie.Need-end-at-requires
 end-at-requires c κs = search needs
@@ -32,15 +32,8 @@ end-at-requires c κs = search needs
 write-hole-requires-2 : tie.Need-write-hole-requires-2
 write-hole-requires-2 c κs =
     let c5 = c .before .before .before .before .before in
-    let c12 = c5 .before .before .before .before .before .before .before in (
-      c12 .pre .2,
-      c12 .pre .3,
-      c12 .pre .4,
-      c5 .write-hole .kept .1 .1 .1 .1 .1 .1 .1 .0 ∙ c12 .pre .5,
-      c .before .before .if1 .left,
-      c12 .pre .6,
-      c12 .pre .7,
-    )
+    let c12 = c5 .before .before .before .before .before .before .before in
+    (c12 .pre .0, c12 .pre .2, c5 .write-hole .kept .1 .1 .1 .1 .1 .1 .1 .0 ∙ c12 .pre .3, c .before .before .if1 .left)
 
 same-length-2 : tie.Need-same-length-2
 same-length-2 c = search needs
@@ -53,9 +46,9 @@ returns-2 c =
     let c9 = c6 .before .before .before in
     let c16 = c9 .before .before .before .before .before .before .before in
     let v = c16 .args in
-    met-stop-2 (v .question .now) (v .part .now) (v .tally .now) (c16 .pre .6) (v .left) (v .right) (v .new) (v .out .now) (c9 .write-hole .result) _
-    (c9 .write-hole .ensures) (omega (arith, c16 .pre .5, c6 .if1 .left)) (c9 .write-hole .kept .1 .1 .1 .1 .1 .1 .1 .0) (c5 .end-at .result)
-    (c5 .end-at .ensures) (c3 .write-hole2 .result) _ (c3 .write-hole2 .ensures) (omega (arith, c16 .pre .5, c .if2 .taken))
+    met-stop-2 (v .question .now) (v .part .now) (v .tally .now) (c16 .pre .0 .1) (v .left) (v .right) (v .new) (v .out .now) (c9 .write-hole .result)
+    _ (c9 .write-hole .ensures) (omega (arith, c16 .pre .3, c6 .if1 .left)) (c9 .write-hole .kept .1 .1 .1 .1 .1 .1 .1 .0) (c5 .end-at .result)
+    (c5 .end-at .ensures) (c3 .write-hole2 .result) _ (c3 .write-hole2 .ensures) (omega (arith, c16 .pre .3, c .if2 .taken))
 
 end-at-requires-2 : tie.Need-end-at-requires-2
 end-at-requires-2 c κs = search needs
@@ -75,9 +68,9 @@ returns-3 c =
     let c11 = c8 .before .before .before in
     let c18 = c11 .before .before .before .before .before .before .before in
     let v = c18 .args in
-    met-short (v .question .now) (v .part .now) (v .tally .now) (c18 .pre .6) (v .left) (v .right) (v .new) (v .out .now) (c11 .write-hole .result) _
-    (c11 .write-hole .ensures) (omega (arith, c18 .pre .5, c8 .if1 .left)) (c11 .write-hole .kept .1 .1 .1 .1 .1 .1 .1 .0) (c7 .end-at .result)
-    (c7 .end-at .ensures) (c5 .write-hole2 .result) _ (c5 .write-hole2 .ensures) (omega (arith, c18 .pre .5, c .before .before .if2 .left))
+    met-short (v .question .now) (v .part .now) (v .tally .now) (c18 .pre .0 .1) (v .left) (v .right) (v .new) (v .out .now) (c11 .write-hole .result)
+    _ (c11 .write-hole .ensures) (omega (arith, c18 .pre .3, c8 .if1 .left)) (c11 .write-hole .kept .1 .1 .1 .1 .1 .1 .1 .0) (c7 .end-at .result)
+    (c7 .end-at .ensures) (c5 .write-hole2 .result) _ (c5 .write-hole2 .ensures) (omega (arith, c18 .pre .3, c .before .before .if2 .left))
     (c5 .write-hole2 .kept .1 .1 .1 .1 .1 .1 .1 .0 ∙ c11 .write-hole .kept .1 .1 .1 .1 .1 .1 .1 .0) (c1 .end-at2 .result) (c1 .end-at2 .ensures)
     (c .if3 .taken) _ _
 
@@ -99,7 +92,7 @@ copy-requires c κs =
       omega (arith, c3 .if3 .left),
       omega (
         arith,
-        c21 .pre .5,
+        c21 .pre .3,
         (c8 .write-hole2 .kept .1 .1 .1 .1 .1 .1 .1 .0 ∙
             c14 .write-hole .kept .1 .1 .1 .1 .1 .1 .1 .0),
       ),
@@ -134,11 +127,12 @@ returns-4 c =
     let v = c24 .args in
     let h : c11 .write-hole2 .result + (length (v .part .now) - c7 .end-at2 .result) ≤ longestTerm = leb-true _ _ (sym (c5 .room .ensures) ∙
     c4 .if4 .taken) in
-    met-stored (v .question .now) (v .part .now) (v .tally .now) (c24 .pre .6) (v .left) (v .right) (v .new) (v .out .now) (c17 .write-hole .result) _
-    (c17 .write-hole .ensures) (omega (arith, c24 .pre .5, c14 .if1 .left)) (c17 .write-hole .kept .1 .1 .1 .1 .1 .1 .1 .0) (c13 .end-at .result)
-    (c13 .end-at .ensures) (c11 .write-hole2 .result) _ (c11 .write-hole2 .ensures) (omega (arith, c24 .pre .5, c8 .if2 .left))
-    (c11 .write-hole2 .kept .1 .1 .1 .1 .1 .1 .1 .0 ∙ c17 .write-hole .kept .1 .1 .1 .1 .1 .1 .1 .0) (c7 .end-at2 .result) (c7 .end-at2 .ensures)
-    (omega (arith, c24 .pre .5)) _ (c .before .before .copy .ensures)
+    met-stored (v .question .now) (v .part .now) (v .tally .now) (c24 .pre .0 .1) (v .left) (v .right) (v .new) (v .out .now)
+    (c17 .write-hole .result) _ (c17 .write-hole .ensures) (omega (arith, c24 .pre .3, c14 .if1 .left))
+    (c17 .write-hole .kept .1 .1 .1 .1 .1 .1 .1 .0) (c13 .end-at .result) (c13 .end-at .ensures) (c11 .write-hole2 .result) _
+    (c11 .write-hole2 .ensures) (omega (arith, c24 .pre .3, c8 .if2 .left)) (c11 .write-hole2 .kept .1 .1 .1 .1 .1 .1 .1 .0 ∙
+    c17 .write-hole .kept .1 .1 .1 .1 .1 .1 .1 .0) (c7 .end-at2 .result) (c7 .end-at2 .ensures) (omega (arith, c24 .pre .3)) _
+    (c .before .before .copy .ensures)
 
 add-result-3 : tie.Need-add-result-3
 add-result-3 c = search needs
@@ -158,11 +152,11 @@ returns-5 c =
     let v = c20 .args in
     let h : longestTerm < c7 .write-hole2 .result + (length (v .part .now) - c3 .end-at2 .result) = leb-false _ _ (sym (c .before .room .ensures) ∙
     c .if4 .left) in
-    met-over (v .question .now) (v .part .now) (v .tally .now) (c20 .pre .6) (v .left) (v .right) (v .new) (v .out .now) (c13 .write-hole .result) _
-    (c13 .write-hole .ensures) (omega (arith, c20 .pre .5, c10 .if1 .left)) (c13 .write-hole .kept .1 .1 .1 .1 .1 .1 .1 .0) (c9 .end-at .result)
-    (c9 .end-at .ensures) (c7 .write-hole2 .result) _ (c7 .write-hole2 .ensures) (omega (arith, c20 .pre .5, c4 .if2 .left))
+    met-over (v .question .now) (v .part .now) (v .tally .now) (c20 .pre .0 .1) (v .left) (v .right) (v .new) (v .out .now) (c13 .write-hole .result)
+    _ (c13 .write-hole .ensures) (omega (arith, c20 .pre .3, c10 .if1 .left)) (c13 .write-hole .kept .1 .1 .1 .1 .1 .1 .1 .0) (c9 .end-at .result)
+    (c9 .end-at .ensures) (c7 .write-hole2 .result) _ (c7 .write-hole2 .ensures) (omega (arith, c20 .pre .3, c4 .if2 .left))
     (c7 .write-hole2 .kept .1 .1 .1 .1 .1 .1 .1 .0 ∙ c13 .write-hole .kept .1 .1 .1 .1 .1 .1 .1 .0) (c3 .end-at2 .result) (c3 .end-at2 .ensures)
-    (omega (arith, c20 .pre .5)) _ (omega (arith, c20 .pre .5))
+    (omega (arith, c20 .pre .3)) _ (omega (arith, c20 .pre .3))
 
 pub write-met-spec : {M : Type 1} → statement M
 write-met-spec =

@@ -28,7 +28,7 @@ end-at-requires c κs = search needs
 sub-n : tie.Need-sub-n
 sub-n c =
     let c17 = c .before .before .before .before .before .before .before .before .before .before .before .before .before .before .before .before .before in
-    omega (arith, c .end-at .ensures, c17 .pre .4 .on (c17 .args .at) (c17 .pre .1))
+    omega (arith, c .end-at .ensures, c17 .pre .0 .1 .on (c17 .args .place .at) (c17 .pre .1 .1))
 
 room-requires : tie.Need-room-requires
 room-requires c κs = search needs
@@ -40,7 +40,7 @@ copy-requires-2 c κs =
     let c20 = c7 .before .before .before .before .before .before .before .before .before .before .before .before .before in
     let h : c7 .write .result + (length (c20 .args .part .now) - c3 .end-at .result) ≤ longestTerm = leb-true _ _ (sym
     (c .before .before .room .ensures) ∙ c .before .if1 .taken) in
-    (omega (arith, c3 .end-at .ensures, c20 .pre .4 .on (c20 .args .at) (c20 .pre .1)), omega arith)
+    (omega (arith, c3 .end-at .ensures, c20 .pre .0 .1 .on (c20 .args .place .at) (c20 .pre .1 .1)), omega arith)
 
 add-result : tie.Need-add-result
 add-result c =
@@ -69,9 +69,10 @@ returns c =
     let a = c23 .args in
     let h : c10 .write .result + (length (c23 .args .part .now) - c6 .end-at .result) ≤ longestTerm = leb-true _ _ (sym (c5 .room .ensures) ∙
     c4 .if1 .taken) in
-    placed-stored (a .question .now) (a .part .now) (a .tally .now) (c23 .pre .4) (a .at) (a .depth) (a .silently) (a .j) (a .x) (a .out .now)
-    (c17 .own-names .result) (c17 .own-names .ensures) (c10 .write .result) _ _ (c15 .copy .ensures) (c10 .write .ensures .0) (c6 .end-at .result)
-    (c6 .end-at .ensures) (omega (arith, c23 .pre .3)) _ (c .before .before .copy2 .ensures)
+    placed-stored (a .question .now) (a .part .now) (a .tally .now) (c23 .pre .0 .1) (a .place .at) (a .place .depth) (a .candidate .silently)
+    (a .candidate .number) (a .candidate .x) (a .out .now) (c17 .own-names .result) (c17 .own-names .ensures) (c10 .write .result) _ _
+    (c15 .copy .ensures) (c10 .write .ensures .0) (c6 .end-at .result) (c6 .end-at .ensures) (omega (arith, c23 .pre .2)) _
+    (c .before .before .copy2 .ensures)
 
 add-result-2 : tie.Need-add-result-2
 add-result-2 c = search needs
@@ -89,9 +90,9 @@ returns-2 c =
     let a = c19 .args in
     let h : longestTerm < c6 .write .result + (length (c19 .args .part .now) - c2 .end-at .result) = leb-false _ _ (sym (c .before .room .ensures) ∙
     c .if1 .left) in
-    placed-over (a .question .now) (a .part .now) (a .tally .now) (c19 .pre .4) (a .at) (a .depth) (a .silently) (a .j) (a .x) (a .out .now)
-    (c13 .own-names .result) (c13 .own-names .ensures) (c6 .write .result) _ _ (c11 .copy .ensures) (c6 .write .ensures .0) (c2 .end-at .result)
-    (c2 .end-at .ensures) (omega arith) _ (omega arith)
+    placed-over (a .question .now) (a .part .now) (a .tally .now) (c19 .pre .0 .1) (a .place .at) (a .place .depth) (a .candidate .silently)
+    (a .candidate .number) (a .candidate .x) (a .out .now) (c13 .own-names .result) (c13 .own-names .ensures) (c6 .write .result) _ _
+    (c11 .copy .ensures) (c6 .write .ensures .0) (c2 .end-at .result) (c2 .end-at .ensures) (omega arith) _ (omega arith)
 
 pub write-placed-spec : {M : Type 1} → statement M
 write-placed-spec =
