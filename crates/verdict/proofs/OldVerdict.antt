@@ -38,7 +38,7 @@ use Rattle.verdict.specs.Verdict.{
   different,
   Numbered,
   decided,
-  verdictIn,
+  verdictFrom,
   verdictBy,
   verdictWith,
 }
@@ -140,7 +140,7 @@ module _ (names extra : ℕ) (few : names + extra < 128) (q : Question) (well : 
       → verdictWith (names + extra) m q other ≡ verdictWith names m q capacity
   unfolding verdictWith differs situation
   verdict-more openly capacity n h other l =
-      ap (λ (s : Situation). verdictIn openly (settingWith (names + extra) false (q .bodies)) s other) (start-same false)
+      ap (λ (s : Situation). verdictFrom openly (settingWith (names + extra) false (q .bodies)) s other) (start-same false)
       ∙ more-names Δ S extra (q .arities) (setting false) (setting-wide false) s (proper false) (demandsOf openly S) (demandsOf openly T) capacity n other h l
       (Related Δ (s .apart) (s .first) (s .second))
       (decided-same Δ S (q .arities) (setting false) s (proper false) capacity refl n)
@@ -157,7 +157,7 @@ module _ (names extra : ℕ) (few : names + extra < 128) (q : Question) (well : 
       s : Situation
       s = narrow false
   verdict-more (named k) capacity n h other l =
-      ap (λ (s : Situation). verdictIn (named k) (settingWith (names + extra) true (q .bodies)) s other) (start-same true)
+      ap (λ (s : Situation). verdictFrom (named k) (settingWith (names + extra) true (q .bodies)) s other) (start-same true)
       ∙ more-names Δ S extra (q .arities) (setting true) (setting-wide true) s (proper true) (demandsOf (named k) S) (demandsOf (named k) T) capacity n other h l
       (Bisimilar Δ k (s .first) (s .second))
       (named-same Δ S refl (q .arities) (setting true) s (proper true) plain k capacity n)

@@ -71,15 +71,15 @@ decided demands start (explored rs) =
     let n = length rs in
     cond (found (map (λ r. r .self) (rounds demands n rs)) start) (same n) (different n)
 
-abbrev pub verdictIn : Manner → Setting → Situation → ℕ → Verdict
-verdictIn m S start capacity = decided (demandsOf m S) start (fieldOf S capacity start)
+abbrev pub verdictFrom : Manner → Setting → Situation → ℕ → Verdict
+verdictFrom m S start capacity = decided (demandsOf m S) start (fieldOf S capacity start)
 
 unfoldable pub verdictBy : Manner → Question → ℕ → Verdict
-verdictBy m q capacity = verdictIn m (settingOf (differs m) (q .bodies)) (startOf (differs m) q) capacity
+verdictBy m q capacity = verdictFrom m (settingOf (differs m) (q .bodies)) (startOf (differs m) q) capacity
 
 -- the same over another number of names
 unfoldable pub verdictWith : ℕ → Manner → Question → ℕ → Verdict
-verdictWith names m q capacity = verdictIn m (settingWith names (differs m) (q .bodies)) (startWith names (differs m) q) capacity
+verdictWith names m q capacity = verdictFrom m (settingWith names (differs m) (q .bodies)) (startWith names (differs m) q) capacity
 
 -- the open one
 abbrev pub verdictOf : Question → ℕ → Verdict
