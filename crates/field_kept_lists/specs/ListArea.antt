@@ -13,31 +13,32 @@ use Rattle.steps.specs.Limits.{stepBytes, mostSteps}
 use Rattle.steps.specs.Listed.{ListedStep}
 use Rattle.steps.specs.Listing.{unsettled, listed, stepsOf}
 use Rattle.steps.specs.Operations.{listBytes}
+use Rattle.steps_entries.specs.Entries.{listRoom}
 use Rattle.steps_splicing.specs.ListedParts.{Lists}
 use Rattle.steps_lister.specs.declared.list.ListAnswer.{ListAnswer}
 use Rattle.steps_lister.specs.declared.list.ListAnswer.the-variants.{Unsettled, Count}
 
 -- The area: the steps of the list at hand, its label, and the kept lists, each a label and behind it room for a few steps.
 abbrev pub labelPlace : ℕ
-labelPlace = 34048
+labelPlace = listRoom
 
 abbrev pub labelBytes : ℕ
-labelBytes = 116
+labelBytes = 4 + longestTerm
 
 abbrev pub keptSteps : ℕ
 keptSteps = 6
 
 abbrev pub keptBytes : ℕ
-keptBytes = 908
+keptBytes = labelBytes + keptSteps * stepBytes
 
 abbrev pub keptLists : ℕ
 keptLists = 26
 
 abbrev pub keptPlace : ℕ → ℕ
-keptPlace i = 34164 + keptBytes * i
+keptPlace i = labelPlace + labelBytes + keptBytes * i
 
 abbrev pub listArea : ℕ
-listArea = 57772
+listArea = keptPlace keptLists
 
 abbrev pub labelAt : List ℕ → ℕ → List ℕ
 labelAt area p = take labelBytes (drop p area)

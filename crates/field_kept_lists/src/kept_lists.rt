@@ -15,9 +15,9 @@ use steps_entries::limits::STEP_BYTES;
 use terms_bytes::bytes::copy;
 
 // Where the kept lists begin, 26 of them. A kept list has a label, and behind it room for six steps.
-const KEPT_LISTS: usize = 34164;
+pub const KEPT_LISTS: usize = LABEL + LABEL_BYTES;
 
-pub const KEPT_BYTES: usize = 908;
+pub const KEPT_BYTES: usize = LABEL_BYTES + KEPT_STEPS * STEP_BYTES;
 
 const KEPT_STEPS: usize = 6;
 

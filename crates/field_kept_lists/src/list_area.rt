@@ -7,17 +7,21 @@ ghost use lib.ListN.{length};
 ghost use Rattle.terms.specs.Limits.{nameCount, longestTerm};
 ghost use Rattle.steps.specs.Limits.{mostSteps};
 ghost use Rattle.field_kept_lists.specs.ListArea.{labelBytes, labelAt, LabelIs, countIn, PutsLabel};
+use crate::kept_lists::KEPT_BYTES;
+use crate::kept_lists::KEPT_LISTS;
 use field_slots::chains::put_number;
+use steps_entries::limits::LIST_ROOM;
 use steps_entries::listed::alike;
 use terms_bytes::bytes::copy;
 use terms_bytes::bytes::get;
 use terms_bytes::frame::size_at;
+use terms_bytes::limits::LONGEST_TERM;
 
 // The steps of the list at hand, which the lister is lent, its label, and the kept lists.
-pub const LIST_AREA: usize = 57772;
+pub const LIST_AREA: usize = KEPT_LISTS + 26 * KEPT_BYTES;
 
 // Where the label of the list at hand stands: behind its steps.
-pub const LABEL: usize = 34048;
+pub const LABEL: usize = LIST_ROOM;
 
 // In a label: the new name, then the length of the part, the number of steps in two bytes, and the part.
 const LABEL_SIZE: usize = 1;
@@ -26,7 +30,7 @@ const LABEL_COUNT: usize = 2;
 
 const LABEL_PART: usize = 4;
 
-pub const LABEL_BYTES: usize = 116;
+pub const LABEL_BYTES: usize = LABEL_PART + LONGEST_TERM;
 
 // In place of a new name: there is no list.
 pub const NO_LIST: u8 = 255;

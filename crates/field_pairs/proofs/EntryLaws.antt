@@ -12,7 +12,7 @@ use borrow.Author.Tests.{eq-eqb, ne-eqb}
 use Rattle.terms.specs.Limits.{nameCount, longestTerm}
 use Rattle.steps_entries.specs.Entries.{Alike}
 use Rattle.steps.specs.Listed.{ListedStep, namesFrom, classIn, resultBytes, bytes}
-use Rattle.field_pairs.specs.Entry.{EntryAt, ClassOfIs, TrivialIs, SameHeader, BindsIs, ImpliesIs, AnswersIs}
+use Rattle.field_pairs.specs.Entry.{EntryAt, kindByte, channelByte, objectByte, resultByte, ClassOfIs, TrivialIs, SameHeader, BindsIs, ImpliesIs, AnswersIs}
 use Rattle.field_pairs.specs.Slot.{partBytes}
 use Rattle.field.specs.Successors.{answers, bindsName, implies, ownClasses, unconditional}
 use Rattle.field.proofs.ClassTests.{in-implies, answers-trivial}
@@ -38,15 +38,15 @@ module _ (area : List ℕ) (at : ℕ) (s : ListedStep) (e : EntryAt area at s) w
       let n : length (s .classes) + k ≡ nameCount + k = ap (λ m. m + k) (e .count) in
       sym (getD-drop at area (nameCount + k) 0) ∙ ap (λ l. getD l (nameCount + k) 0) laid ∙ rw (← n) (getD-append-add (s .classes) tail k 0)
 
-  pub entry-kind : getD area (at + 16) 0 ≡ s .kind
+  pub entry-kind : getD area (at + kindByte) 0 ≡ s .kind
   unfolding tail
   entry-kind = read-tail 0
 
-  pub entry-channel : getD area (at + 17) 0 ≡ s .channel
+  pub entry-channel : getD area (at + channelByte) 0 ≡ s .channel
   unfolding tail
   entry-channel = read-tail 1
 
-  pub entry-object : getD area (at + 18) 0 ≡ s .object
+  pub entry-object : getD area (at + objectByte) 0 ≡ s .object
   unfolding tail
   entry-object = read-tail 2
 
@@ -60,17 +60,17 @@ module _ (area : List ℕ) (at : ℕ) (s : ListedStep) (e : EntryAt area at s) w
   unfolding classIn
   entry-alone n l = sym (List·getD-eq-default (s .classes) n (omega (arith, e .count)))
 
-  pub entry-long : at + 19 ≤ length area
+  pub entry-long : at + resultByte ≤ length area
   unfolding tail
   entry-long =
       omega (arith, e .count, length-drop at area, ap length laid, length-append (s .classes) tail)
 
   -- the result stands as a part does
-  pub entry-result : drop (at + 19) area ≡ partBytes (s .result) ++ e .rest
+  pub entry-result : drop (at + resultByte) area ≡ partBytes (s .result) ++ e .rest
   unfolding partBytes tail resultBytes
   entry-result =
-      let n : length (s .classes) + 3 ≡ 19 = ap (λ m. m + 3) (e .count) in
-      sym (drop-drop 19 at area) ∙ ap (drop 19) laid ∙ rw (← n) (drop-append-add (s .classes) tail 3)
+      let n : length (s .classes) + 3 ≡ resultByte = ap (λ m. m + 3) (e .count) in
+      sym (drop-drop resultByte at area) ∙ ap (drop resultByte) laid ∙ rw (← n) (drop-append-add (s .classes) tail 3)
 
 -- The test whether each name is its own class, name by name.
 and-true : (s : Bool) → (s && true) ≡ s
@@ -147,13 +147,13 @@ same-classes area at others place n long a s t e f =
     classes-agree (s .classes) (t .classes) (e .count) (f .count)
     (λ k l. sym (entry-class area at s e k l) ∙ a k (omega arith) ∙ entry-class others place t f k l)
 
-pub same-header : (area : List ℕ) (at : ℕ) (others : List ℕ) (place n : ℕ) → n ≡ 19 → Alike area at others place n
+pub same-header : (area : List ℕ) (at : ℕ) (others : List ℕ) (place n : ℕ) → n ≡ resultByte → Alike area at others place n
     → (s t : ListedStep) → EntryAt area at s → EntryAt others place t → SameHeader s t
 same-header area at others place n q a s t e f = record {
   classes = same-classes area at others place n (omega arith) a s t e f;
-  kind = sym (entry-kind area at s e) ∙ a 16 (omega arith) ∙ entry-kind others place t f;
-  channel = sym (entry-channel area at s e) ∙ a 17 (omega arith) ∙ entry-channel others place t f;
-  object = sym (entry-object area at s e) ∙ a 18 (omega arith) ∙ entry-object others place t f;
+  kind = sym (entry-kind area at s e) ∙ a kindByte (omega arith) ∙ entry-kind others place t f;
+  channel = sym (entry-channel area at s e) ∙ a channelByte (omega arith) ∙ entry-channel others place t f;
+  object = sym (entry-object area at s e) ∙ a objectByte (omega arith) ∙ entry-object others place t f;
 }
 
 -- What answers a step without a condition has its header.
@@ -201,11 +201,11 @@ implied-all area at others place n q so s t e f =
     sym (so s t e f ∙ ap (λ k. implies (s .classes) (t .classes) (namesFrom k (nameCount - k))) q)
 
 -- Whether a step binds a name goes by its kind.
-pub binds-input : (area : List ℕ) (at : ℕ) → getD area (at + 16) 0 ≡ 1 → BindsIs area at true
+pub binds-input : (area : List ℕ) (at : ℕ) → getD area (at + kindByte) 0 ≡ 1 → BindsIs area at true
 unfolding BindsIs bindsName
 binds-input area at a s e = rw (eq-eqb (s .kind) 1 (sym (entry-kind area at s e) ∙ a))
 
-pub binds-other : (area : List ℕ) (at : ℕ) → (getD area (at + 16) 0 ≡ 1 → ⊥) → BindsIs area at (eqb (getD area (at + 16) 0) 3)
+pub binds-other : (area : List ℕ) (at : ℕ) → (getD area (at + kindByte) 0 ≡ 1 → ⊥) → BindsIs area at (eqb (getD area (at + kindByte) 0) 3)
 unfolding BindsIs bindsName
 binds-other area at a s e =
     let k = entry-kind area at s e in
@@ -223,47 +223,47 @@ third-fails false b c d e = refl
 
 module _ (area : List ℕ) (at : ℕ) (others : List ℕ) (place : ℕ) where
   -- what is too short to have an action stands in no list
-  pub answers-short : length area < at + 19 → AnswersIs area at others place false
+  pub answers-short : length area < at + resultByte → AnswersIs area at others place false
   unfolding AnswersIs
   answers-short h s t e f = absurd (omega (arith, entry-long area at s e))
 
-  pub answers-other-short : length others < place + 19 → AnswersIs area at others place false
+  pub answers-other-short : length others < place + resultByte → AnswersIs area at others place false
   unfolding AnswersIs
   answers-other-short h s t e f = absurd (omega (arith, entry-long others place t f))
 
-  pub answers-kind : (getD area (at + 16) 0 ≡ getD others (place + 16) 0 → ⊥) → AnswersIs area at others place false
+  pub answers-kind : (getD area (at + kindByte) 0 ≡ getD others (place + kindByte) 0 → ⊥) → AnswersIs area at others place false
   unfolding AnswersIs answers
   answers-kind k s t e f =
       let q : s .kind ≡ t .kind → ⊥ = λ h. k (entry-kind area at s e ∙ h ∙ sym (entry-kind others place t f)) in
       rw (ne-eqb (s .kind) (t .kind) q)
 
   -- the other's channel and object under the condition
-  class-channel : (c : ℕ) → ClassOfIs area at (getD others (place + 17) 0) c → (s t : ListedStep) → EntryAt area at s → EntryAt others place t
+  class-channel : (c : ℕ) → ClassOfIs area at (getD others (place + channelByte) 0) c → (s t : ListedStep) → EntryAt area at s → EntryAt others place t
       → c ≡ classIn (s .classes) (t .channel)
   unfolding ClassOfIs
   class-channel c h s t e f = h s e ∙ ap (classIn (s .classes)) (entry-channel others place t f)
 
-  class-object : (o : ℕ) → ClassOfIs area at (getD others (place + 18) 0) o → (s t : ListedStep) → EntryAt area at s → EntryAt others place t
+  class-object : (o : ℕ) → ClassOfIs area at (getD others (place + objectByte) 0) o → (s t : ListedStep) → EntryAt area at s → EntryAt others place t
       → o ≡ classIn (s .classes) (t .object)
   unfolding ClassOfIs
   class-object o h s t e f = h s e ∙ ap (classIn (s .classes)) (entry-object others place t f)
 
-  pub answers-channel : (c : ℕ) → ClassOfIs area at (getD others (place + 17) 0) c → (getD area (at + 17) 0 ≡ c → ⊥) → AnswersIs area at others place false
+  pub answers-channel : (c : ℕ) → ClassOfIs area at (getD others (place + channelByte) 0) c → (getD area (at + channelByte) 0 ≡ c → ⊥) → AnswersIs area at others place false
   unfolding AnswersIs answers
   answers-channel c h k s t e f =
       second-fails (eqb (s .kind) (t .kind)) (eqb (s .channel) (classIn (s .classes) (t .channel))) (eqb (s .object) (classIn (s .classes) (t .object)))
       (implies (s .classes) (t .classes) (namesFrom 0 nameCount))
       (ne-eqb (s .channel) (classIn (s .classes) (t .channel)) (λ q. k (entry-channel area at s e ∙ q ∙ sym (class-channel c h s t e f))))
 
-  pub answers-object : (o : ℕ) → ClassOfIs area at (getD others (place + 18) 0) o → (getD area (at + 18) 0 ≡ o → ⊥) → AnswersIs area at others place false
+  pub answers-object : (o : ℕ) → ClassOfIs area at (getD others (place + objectByte) 0) o → (getD area (at + objectByte) 0 ≡ o → ⊥) → AnswersIs area at others place false
   unfolding AnswersIs answers
   answers-object o h k s t e f =
       third-fails (eqb (s .kind) (t .kind)) (eqb (s .channel) (classIn (s .classes) (t .channel))) (eqb (s .object) (classIn (s .classes) (t .object)))
       (implies (s .classes) (t .classes) (namesFrom 0 nameCount))
       (ne-eqb (s .object) (classIn (s .classes) (t .object)) (λ q. k (entry-object area at s e ∙ q ∙ sym (class-object o h s t e f))))
 
-  pub answers-implied : (c o : ℕ) → ClassOfIs area at (getD others (place + 17) 0) c → ClassOfIs area at (getD others (place + 18) 0) o
-      → getD area (at + 16) 0 ≡ getD others (place + 16) 0 → getD area (at + 17) 0 ≡ c → getD area (at + 18) 0 ≡ o
+  pub answers-implied : (c o : ℕ) → ClassOfIs area at (getD others (place + channelByte) 0) c → ClassOfIs area at (getD others (place + objectByte) 0) o
+      → getD area (at + kindByte) 0 ≡ getD others (place + kindByte) 0 → getD area (at + channelByte) 0 ≡ c → getD area (at + objectByte) 0 ≡ o
       → (r : Bool) → ImpliesIs area at others place r → AnswersIs area at others place r
   unfolding AnswersIs ImpliesIs answers
   answers-implied c o hc ho k n m r i s t e f =

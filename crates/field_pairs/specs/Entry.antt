@@ -1,8 +1,8 @@
--- A listed step as it stands in a list (document 01, "Steps": 132 bytes), and what the tests over such entries promise.
+-- A listed step as it stands in a list (document 01, "Steps"), and what the tests over such entries promise.
 use mathlib.Core.Path.{_≡_}
 use mathlib.Core.Bool.{Bool, true}
 use mathlib.Core.List.{List, _++_}
-use Prim.Native.Nat.{ℕ, _<_, _≤_}
+use Prim.Native.Nat.{ℕ, _+_, _<_, _≤_}
 use lib.ListN.{length, drop}
 use Rattle.calculus.specs.Term.{ren}
 use Rattle.terms.specs.Limits.{nameCount, longestTerm}
@@ -16,6 +16,19 @@ pub record EntryAt (area : List ℕ) (at : ℕ) (s : ListedStep) : Type 0 where
   pub count : length (s .classes) ≡ nameCount
   pub within : (n : ℕ) → n < nameCount → classIn (s .classes) n < nameCount
   pub fits : length (resultBytes s) ≤ longestTerm
+
+-- Where an entry has its kind, its channel, its object and its result: behind the classes.
+abbrev pub kindByte : ℕ
+kindByte = nameCount
+
+abbrev pub channelByte : ℕ
+channelByte = kindByte + 1
+
+abbrev pub objectByte : ℕ
+objectByte = kindByte + 2
+
+abbrev pub resultByte : ℕ
+resultByte = kindByte + 3
 
 -- Its result is rewritten by its condition, as document 01 says.
 abbrev pub Rewritten : ListedStep → Type 0

@@ -2,7 +2,7 @@
 use mathlib.Core.Path.{_≡_}
 use mathlib.Core.Bool.{Bool, true, false}
 use mathlib.Core.List.{List, _∷_}
-use Prim.Native.Nat.{ℕ, _*_, _-_, _/_, _<_}
+use Prim.Native.Nat.{ℕ, _<_}
 use lib.ListN.{getD}
 use Rattle.calculus.specs.Cond.{Pairs}
 use Rattle.calculus.specs.Distinction.{Apart, Irr}
@@ -11,13 +11,10 @@ use Rattle.terms.specs.Operations.{holdsApart}
 use Rattle.steps.specs.Listed.{ListedStep, classIn}
 use Rattle.field_pairs.specs.Entry.{EntryAt}
 use Rattle.field_pairs.specs.PairNumbers.{pairAt}
+pub use Rattle.field_pairs.specs.PairNumbers.{pairCount}
 use Rattle.field_pairs.specs.Slot.{flagsOf}
 use Rattle.field.specs.Successors.{permitted, allowed}
 use Rattle.field_pairs.specs.declared.pairs.Pair.{Pair}
-
--- how many pairs of names there are
-abbrev pub pairCount : ℕ
-pairCount = nameCount * (nameCount - 1) / 2
 
 pub record FirstIs (k r : ℕ) : Type 0 where
   pub is : r ≡ pairAt nameCount k .0

@@ -15,10 +15,10 @@ use lib.Seq.{sets, length-sets, take-take, getD-set-same, getD-set-other, drop-s
 use Rattle.terms_bytes.specs.FieldPlaces.{sizeAt}
 use Rattle.terms_bytes.proofs.Stores.{span, getD-span}
 use Rattle.steps_entries.proofs.Moves.{getD-before, getD-behind}
-use Rattle.field_slots.specs.Chains.{wordAt, folded, mixed, rounds, roundsTo, spread, bucketOf, bucketAt, BucketIs, headPlace, linkPlace, headAt, nextAt, putNumber, lastWith, lastIn, Chained, KeepsKeys, LinkIs, FindsIn}
+use Rattle.field_slots.specs.Chains.{wordAt, folded, mixed, rounds, roundsTo, pairRounds, spread, bucketOf, bucketAt, BucketIs, headPlace, linkPlace, headAt, nextAt, putNumber, lastWith, lastIn, Chained, KeepsKeys, LinkIs, FindsIn}
 use Rattle.field_slots.specs.Key.{keyAt, SameKeyIs, FoundIs}
 use Rattle.field_slots.specs.Noted.{notedCount, notePlace, noteAt}
-use Rattle.field_pairs.specs.Slot.{keyBytes, slotBytes}
+use Rattle.field_pairs.specs.Slot.{keyBytes, slotBytes, partRoom, headByte, linkByte, noteByte}
 use Rattle.field_slots.specs.declared.find.Found.the-variants.{At, Nothing}
 use Rattle.field_slots.proofs.KeyLaws.{found-at, other-slot}
 
@@ -35,8 +35,8 @@ rounds-next h key i n x r e f = f ∙ rw (add-one, e)
 pub rounds-whole : (h : ℕ) (key : List ℕ) (i n k x : ℕ) → k ≡ n → x ≡ rounds h key i k → x ≡ rounds h key i n
 rounds-whole h key i n k x q e = e ∙ ap (rounds h key i) q
 
-pub spread-is : (key : List ℕ) (n first m both r : ℕ) → n ≡ roundsTo (getD key 0 0) → first ≡ rounds (getD key 240 0) key 0 n
-    → m ≡ roundsTo (getD key 113 0 + 1) → both ≡ rounds first key 7 m → r ≡ mixed both key 224 → r ≡ spread key
+pub spread-is : (key : List ℕ) (n first m both r : ℕ) → n ≡ roundsTo (getD key 0 0) → first ≡ rounds (getD key (keyBytes - 1) 0) key 0 n
+    → m ≡ roundsTo (getD key partRoom 0 + 1) → both ≡ rounds first key 7 m → r ≡ rounds both key 14 pairRounds → r ≡ spread key
 unfolding spread
 spread-is key n first m both r p e q f g = rw (← p, ← e, ← q, ← f) g
 
@@ -61,7 +61,7 @@ mixed-front h key at l =
       word-front key (at + 12) (omega arith),
     )
 
-rounds-front : (h : ℕ) (key : List ℕ) (i n : ℕ) → i + n ≤ 15 → rounds h (take keyBytes key) i n ≡ rounds h key i n
+rounds-front : (h : ℕ) (key : List ℕ) (i n : ℕ) → 16 * (i + n) ≤ keyBytes → rounds h (take keyBytes key) i n ≡ rounds h key i n
 unfolding rounds
 rounds-front h key i zero l = refl
 rounds-front h key i (suc n) l =
@@ -70,15 +70,15 @@ rounds-front h key i (suc n) l =
 spread-front : (key : List ℕ) → spread (take keyBytes key) ≡ spread key
 unfolding spread
 spread-front key =
-    let first : ℕ = rounds (getD key 240 0) key 0 (roundsTo (getD key 0 0)) in
+    let first : ℕ = rounds (getD key (keyBytes - 1) 0) key 0 (roundsTo (getD key 0 0)) in
     rw (
-      getD-take keyBytes key 240 0 (omega arith),
+      getD-take keyBytes key (keyBytes - 1) 0 (omega arith),
       getD-take keyBytes key 0 0 (omega arith),
-      getD-take keyBytes key 113 0 (omega arith),
-      rounds-front (getD key 240 0) key 0 (roundsTo (getD key 0 0)) (omega arith),
-      rounds-front first key 7 (roundsTo (getD key 113 0 + 1)) (omega arith),
+      getD-take keyBytes key partRoom 0 (omega arith),
+      rounds-front (getD key (keyBytes - 1) 0) key 0 (roundsTo (getD key 0 0)) (omega arith),
+      rounds-front first key 7 (roundsTo (getD key partRoom 0 + 1)) (omega arith),
     )
-    (mixed-front (rounds first key 7 (roundsTo (getD key 113 0 + 1))) key 224 (omega arith))
+    (rounds-front (rounds first key 7 (roundsTo (getD key partRoom 0 + 1))) key 14 pairRounds (omega arith))
 
 -- The bucket of the key that bytes begin with, as the code makes it.
 pub bucket-is : (capacity : ℕ) (key : List ℕ) → 1 ≤ capacity → (h : ℕ) → h ≡ spread key → BucketIs capacity (take keyBytes key) (h % capacity)
@@ -261,16 +261,16 @@ module _ (capacity : ℕ) (work work′ : List ℕ) where
   bucket-kept i e = ap (bucketOf capacity) e
 
   pub chained-kept : (count : ℕ) → ((i : ℕ) → i < count → keyAt work′ i ≡ keyAt work i)
-      → ((i j : ℕ) → 242 ≤ j → j < 246 → getD work′ (slotBytes * i + j) 0 ≡ getD work (slotBytes * i + j) 0) → Chained capacity work count
+      → ((i j : ℕ) → headByte ≤ j → j < noteByte → getD work′ (slotBytes * i + j) 0 ≡ getD work (slotBytes * i + j) 0) → Chained capacity work count
       → Chained capacity work′ count
   chained-kept count keys links C = record {
-    heads = λ b l j e. size 242 b (omega arith) (omega arith) ∙ C .heads b l j (sym (last-kept count b keys) ∙ e);
+    heads = λ b l j e. size headByte b (omega arith) (omega arith) ∙ C .heads b l j (sym (last-kept count b keys) ∙ e);
     nexts = λ i l j e.
-        size 244 i (omega arith) (omega arith)
+        size linkByte i (omega arith) (omega arith)
         ∙ C .nexts i l j (sym (last-kept i (bucketAt capacity work i) (λ k m. keys k (omega arith))) ∙ ap (lastIn capacity work′ i) (sym (bucket-kept i (keys i l))) ∙ e);
   }
     where
-      size : (j i : ℕ) → 242 ≤ j → j + 1 < 246 → sizeAt work′ (slotBytes * i + j) ≡ sizeAt work (slotBytes * i + j)
+      size : (j i : ℕ) → headByte ≤ j → j + 1 < noteByte → sizeAt work′ (slotBytes * i + j) ≡ sizeAt work (slotBytes * i + j)
       size j i h l =
           let z : slotBytes * i + (j + 1) ≡ slotBytes * i + j + 1 = omega arith in
           size-same work work′ (slotBytes * i + j) (links i j h (omega arith)) (rw (← z) (links i (j + 1) (omega arith) l))
@@ -288,7 +288,7 @@ chained-flag capacity work count i v =
     (λ k j h l. getD-set-other work (slotBytes * i + keyBytes) (slotBytes * k + j) v 0 (λ z. omega arith))
 
 -- A slot that is not counted may get its key and the byte behind it.
-pub chained-slot : (capacity : ℕ) (work : List ℕ) (count : ℕ) (xs : List ℕ) → length xs ≤ 242 → Chained capacity work count
+pub chained-slot : (capacity : ℕ) (work : List ℕ) (count : ℕ) (xs : List ℕ) → length xs ≤ headByte → Chained capacity work count
     → Chained capacity (sets work (slotBytes * count) xs) count
 chained-slot capacity work count xs h =
     chained-kept capacity work (sets work (slotBytes * count) xs) count
@@ -296,7 +296,7 @@ chained-slot capacity work count xs h =
     (λ j m. getD-before work (slotBytes * k + j) (slotBytes * count) xs (omega arith)))
     links
   where
-    links : (k j : ℕ) → 242 ≤ j → j < 246 → getD (sets work (slotBytes * count) xs) (slotBytes * k + j) 0 ≡ getD work (slotBytes * k + j) 0
+    links : (k j : ℕ) → headByte ≤ j → j < noteByte → getD (sets work (slotBytes * count) xs) (slotBytes * k + j) 0 ≡ getD work (slotBytes * k + j) 0
     links k j lo hi = go (decLt k count)
       where
         go : Dec (k < count) → getD (sets work (slotBytes * count) xs) (slotBytes * k + j) 0 ≡ getD work (slotBytes * k + j) 0
@@ -307,7 +307,7 @@ chained-slot capacity work count xs h =
 keeps-none : (capacity : ℕ) (work : List ℕ) → KeepsKeys capacity work work
 keeps-none capacity work = record { len = refl; slots = λ i j h. refl; rest = refl }
 
-keeps-put : (capacity : ℕ) (work₀ work : List ℕ) (b j n : ℕ) → b < capacity → 242 ≤ j → j < 255 → KeepsKeys capacity work₀ work
+keeps-put : (capacity : ℕ) (work₀ work : List ℕ) (b j n : ℕ) → b < capacity → headByte ≤ j → j + 1 < slotBytes → KeepsKeys capacity work₀ work
     → KeepsKeys capacity work₀ (putNumber work (slotBytes * b + j) n)
 unfolding putNumber
 keeps-put capacity work₀ work b j n h lo hi K =
@@ -319,21 +319,21 @@ keeps-put capacity work₀ work b j n h lo hi K =
     }
 
 -- and the notes, if it stands before them
-places-differ : (i j b c : ℕ) → b < c → c < 256 → slotBytes * i + b ≡ slotBytes * j + c → ⊥
+pub places-differ : (i j b c : ℕ) → b < c → c < slotBytes → slotBytes * i + b ≡ slotBytes * j + c → ⊥
 places-differ i j b c l h e = go (decLt j i)
   where
     go : Dec (j < i) → ⊥
     go (yes k) = omega arith
     go (no k) = omega arith
 
-note-put : (work : List ℕ) (b at n j k : ℕ) → at < 245 → k < notedCount → noteAt (putNumber work (slotBytes * b + at) n) j k ≡ noteAt work j k
+note-put : (work : List ℕ) (b at n j k : ℕ) → at + 1 < noteByte → k < notedCount → noteAt (putNumber work (slotBytes * b + at) n) j k ≡ noteAt work j k
 note-put work b at n j k h g =
     let p : ℕ = slotBytes * b + at in
     size-same work (putNumber work p n) (notePlace j k)
-    (byte-put work p n (notePlace j k) (λ z. places-differ b j at (246 + 2 * k) (omega arith) (omega arith) (omega arith))
-    (λ z. places-differ b j (at + 1) (246 + 2 * k) (omega arith) (omega arith) (omega arith)))
-    (byte-put work p n (notePlace j k + 1) (λ z. places-differ b j at (247 + 2 * k) (omega arith) (omega arith) (omega arith))
-    (λ z. places-differ b j (at + 1) (247 + 2 * k) (omega arith) (omega arith) (omega arith)))
+    (byte-put work p n (notePlace j k) (λ z. places-differ b j at (noteByte + 2 * k) (omega arith) (omega arith) (omega arith))
+    (λ z. places-differ b j (at + 1) (noteByte + 2 * k) (omega arith) (omega arith) (omega arith)))
+    (byte-put work p n (notePlace j k + 1) (λ z. places-differ b j at (noteByte + 1 + 2 * k) (omega arith) (omega arith) (omega arith))
+    (λ z. places-differ b j (at + 1) (noteByte + 1 + 2 * k) (omega arith) (omega arith) (omega arith)))
 
 pub keeps-key : (capacity : ℕ) (work work′ : List ℕ) → KeepsKeys capacity work work′ → (i : ℕ) → keyAt work′ i ≡ keyAt work i
 keeps-key capacity work work′ K i = key-kept work work′ i (K .len) (λ j l. K .slots i j (omega arith))
@@ -354,12 +354,12 @@ module _ (capacity : ℕ) (work : List ℕ) (i b : ℕ) (l : i < capacity) (smal
 
   linked-keeps : KeepsKeys capacity work work′
   linked-keeps =
-      keeps-put capacity work work₁ b 242 (i + 1) (B .within) (omega arith) (omega arith)
-      (keeps-put capacity work work i 244 (headAt work b) l (omega arith) (omega arith) (keeps-none capacity work))
+      keeps-put capacity work work₁ b headByte (i + 1) (B .within) (omega arith) (omega arith)
+      (keeps-put capacity work work i linkByte (headAt work b) l (omega arith) (omega arith) (keeps-none capacity work))
 
   linked-notes : (j k : ℕ) → k < notedCount → noteAt work′ j k ≡ noteAt work j k
   linked-notes j k g =
-      note-put work₁ b 242 (i + 1) j k (omega arith) g ∙ note-put work i 244 (headAt work b) j k (omega arith) g
+      note-put work₁ b headByte (i + 1) j k (omega arith) g ∙ note-put work i linkByte (headAt work b) j k (omega arith) g
 
   linked-last : (n c : ℕ) → lastIn capacity work′ n c ≡ lastIn capacity work n c
   linked-last n c = last-kept capacity work work′ n c (λ k m. keeps-key capacity work work′ linked-keeps k)

@@ -23,7 +23,7 @@ use Rattle.field_slots.specs.Key.{SituationAt, PartIs, FirstPartIs, Seco
 use Rattle.field_pairs.specs.PairNumbers.{pairAt}
 use Rattle.field_pairs.specs.PairFlags.{pairCount}
 use Rattle.field.specs.Situation.{Situation}
-use Rattle.field_pairs.specs.Slot.{partBytes, flag, flagsOf, octet, octets, packed, keyOf, keyBytes, slotBytes}
+use Rattle.field_pairs.specs.Slot.{partBytes, flag, flagsOf, octet, octets, packed, keyOf, keyBytes, slotBytes, partRoom}
 use Rattle.field_slots.specs.declared.find.Found.the-variants.{At}
 use Rattle.field_pairs.proofs.Counting.{Failing}
 use Rattle.field_pairs.proofs.PairLaws.{length-flags, flag-at}
@@ -237,23 +237,23 @@ module _ (area : List ℕ) (at : ℕ) (s : Situation) (h : SituationAt area at s
   unfolding keyOf
   key-first = h .there ∙ simp append-assoc
 
-  key-second : drop (at + 113) area ≡ partBytes (s .second) ++ (packed (flagsOf (s .apart)) ++ h .rest)
-  key-second = sym (drop-drop 113 at area) ∙ ap (drop 113) key-first ∙ drop-at (partBytes (s .first)) _ 113 (length-part (s .first) (h .first))
+  key-second : drop (at + partRoom) area ≡ partBytes (s .second) ++ (packed (flagsOf (s .apart)) ++ h .rest)
+  key-second = sym (drop-drop partRoom at area) ∙ ap (drop partRoom) key-first ∙ drop-at (partBytes (s .first)) _ partRoom (length-part (s .first) (h .first))
 
-  key-bits : drop (at + 226) area ≡ packed (flagsOf (s .apart)) ++ h .rest
+  key-bits : drop (at + (partRoom + partRoom)) area ≡ packed (flagsOf (s .apart)) ++ h .rest
   key-bits =
-      let n : at + 226 ≡ at + 113 + 113 = omega arith in
-      rw (n, ← drop-drop, key-second) (drop-at (partBytes (s .second)) (packed (flagsOf (s .apart)) ++ h .rest) 113 (length-part (s .second) (h .second)))
+      let n : at + (partRoom + partRoom) ≡ at + partRoom + partRoom = omega arith in
+      rw (n, ← drop-drop, key-second) (drop-at (partBytes (s .second)) (packed (flagsOf (s .apart)) ++ h .rest) partRoom (length-part (s .second) (h .second)))
 
 pub first-is : (area : List ℕ) (at : ℕ) (r : List ℕ) → PartIs area at r → FirstPartIs area at r
 unfolding PartIs FirstPartIs
 first-is area at r p s h = p (s .first) (partBytes (s .second) ++ (packed (flagsOf (s .apart)) ++ h .rest)) (key-first area at s h)
 
-pub second-is : (area : List ℕ) (at : ℕ) (r : List ℕ) → PartIs area (at + 113) r → SecondPartIs area at r
+pub second-is : (area : List ℕ) (at : ℕ) (r : List ℕ) → PartIs area (at + partRoom) r → SecondPartIs area at r
 unfolding PartIs SecondPartIs
 second-is area at r p s h = p (s .second) (packed (flagsOf (s .apart)) ++ h .rest) (key-second area at s h)
 
-pub apart-is : (area : List ℕ) (at : ℕ) (r : List ℕ) → Unpacks area (at + 226) r → ApartFlagsIs area at r
+pub apart-is : (area : List ℕ) (at : ℕ) (r : List ℕ) → Unpacks area (at + (partRoom + partRoom)) r → ApartFlagsIs area at r
 unfolding Unpacks ApartFlagsIs
 apart-is area at r u s h = u (s .apart) (h .rest) (key-bits area at s h)
 

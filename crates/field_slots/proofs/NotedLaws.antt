@@ -1,7 +1,7 @@
 -- Numbers noted in the last bytes of a slot. Assumes nothing.
 use mathlib.Core.List.{List}
 use mathlib.Core.Logic.{inl, inr, _⊎_}
-use mathlib.Core.Path.{_≡_, refl, _∙_}
+use mathlib.Core.Path.{_≡_, refl, sym, _∙_}
 use native.Mathlib.Decide.{ℕ-discrete, decLt}
 use native.Mathlib.Omega.{arith}
 use Prim.Native.Nat.{ℕ, _+_, _*_, _/_, _%_, _<_, _≤_}
@@ -10,8 +10,8 @@ use lib.ListN.{length, set}
 use lib.Seq.{drop-set-lt, getD-set-other}
 use Rattle.field_slots.specs.Chains.{putNumber}
 use Rattle.field_slots.specs.Noted.{notedCount, notePlace, noteAt, SpareOnly, OtherNotes, ClearsSlot, NotesOne}
-use Rattle.field_pairs.specs.Slot.{slotBytes, struckAt}
-use Rattle.field_slots.proofs.ChainLaws.{length-put, byte-put, size-put, size-same}
+use Rattle.field_pairs.specs.Slot.{slotBytes, keyBytes, struckAt, noteByte}
+use Rattle.field_slots.proofs.ChainLaws.{length-put, byte-put, size-put, size-same, places-differ}
 
 -- A number in a spare place.
 module _ (count : ℕ) where
@@ -32,7 +32,8 @@ module _ (count : ℕ) where
       let p : ℕ = notePlace i k in
       record {
         len = length-put work p n ∙ s .len;
-        slots = λ a b g. byte-put work p n (slotBytes * a + b) (λ z. omega arith) (λ z. omega arith) ∙ s .slots a b g;
+        slots = λ a b g. byte-put work p n (slotBytes * a + b) (λ z. places-differ a i b (noteByte + 2 * k) (omega arith) (omega arith) (omega arith))
+            (λ z. places-differ a i b (noteByte + 1 + 2 * k) (omega arith) (omega arith) (omega arith)) ∙ s .slots a b g;
         rest = λ m g.
             drop-set-lt (slotBytes * m) (set work p (n / 256)) (p + 1) (n % 256) (omega arith) ∙ drop-set-lt (slotBytes * m) work p (n / 256) (omega arith)
             ∙ s .rest m g;
@@ -48,15 +49,11 @@ note-other work i k n j l f =
 pub note-flag : (work : List ℕ) (i v j k : ℕ) → k < notedCount → noteAt (set work (struckAt i) v) j k ≡ noteAt work j k
 note-flag work i v j k g =
     size-same work (set work (struckAt i) v) (notePlace j k)
-    (getD-set-other work (struckAt i) (notePlace j k) v 0 (λ z. other (246 + 2 * k) (omega arith) (omega arith) (omega arith)))
-    (getD-set-other work (struckAt i) (notePlace j k + 1) v 0 (λ z. other (247 + 2 * k) (omega arith) (omega arith) (omega arith)))
+    (getD-set-other work (struckAt i) (notePlace j k) v 0 (λ z. other (noteByte + 2 * k) (omega arith) (omega arith) (omega arith)))
+    (getD-set-other work (struckAt i) (notePlace j k + 1) v 0 (λ z. other (noteByte + 1 + 2 * k) (omega arith) (omega arith) (omega arith)))
   where
-    other : (b : ℕ) → 241 < b → b < 256 → slotBytes * j + b ≡ struckAt i → ⊥
-    other b lo hi e = go (decLt j i)
-      where
-        go : Dec (j < i) → ⊥
-        go (yes l) = omega arith
-        go (no l) = omega arith
+    other : (b : ℕ) → keyBytes < b → b < slotBytes → slotBytes * j + b ≡ struckAt i → ⊥
+    other b lo hi e = places-differ i j keyBytes b lo hi (sym e)
 
 -- clear_slot
 pub record Clearing (work₀ : List ℕ) (i : ℕ) (work : List ℕ) (k : ℕ) : Type 0 where

@@ -15,7 +15,7 @@ use Rattle.calculus.specs.OpenBisimulation.{times}
 use Rattle.terms.specs.Limits.{nameCount}
 use Rattle.terms.specs.Operations.{holdsApart}
 use Rattle.steps.specs.Listed.{ListedStep, namesFrom, classIn}
-use Rattle.field_pairs.specs.Entry.{EntryAt, ClassOfIs, TrivialIs}
+use Rattle.field_pairs.specs.Entry.{EntryAt, kindByte, objectByte, ClassOfIs, TrivialIs}
 use Rattle.field_pairs.specs.NameFlags.{HasNames}
 use Rattle.field_pairs.specs.PairNumbers.{pairAt}
 use Rattle.field_pairs.specs.PairFlags.{pairCount, AddsPair, NoneApartIs}
@@ -105,11 +105,11 @@ row-whole flags free x flags′ n e so G D h f = so G D h f ∙ ap (λ k. flagsO
 
 -- Only a new-name output extrudes.
 module _ (flags free area : List ℕ) (at : ℕ) where
-  pub extruded-none : (getD area (at + 16) 0 ≡ 3 → ⊥) → AddsExtruded flags free area at flags
+  pub extruded-none : (getD area (at + kindByte) 0 ≡ 3 → ⊥) → AddsExtruded flags free area at flags
   unfolding AddsExtruded extrudedBy
   extruded-none z G D s h e f = rw (ne-eqb (s .kind) 3 (λ q. z (entry-kind area at s f ∙ q))) e
 
-  pub extruded-row : getD area (at + 16) 0 ≡ 3 → (x : ℕ) → x ≡ getD area (at + 18) 0 → (flags′ : List ℕ) → AddsRow flags free x flags′
+  pub extruded-row : getD area (at + kindByte) 0 ≡ 3 → (x : ℕ) → x ≡ getD area (at + objectByte) 0 → (flags′ : List ℕ) → AddsRow flags free x flags′
       → AddsExtruded flags free area at flags′
   unfolding AddsExtruded AddsRow extrudedBy
   extruded-row z x o flags′ a G D s h e f =

@@ -1,17 +1,17 @@
--- Finding a situation in the work area without going over all of it. The slots are spread over as many buckets as there may be slots. Bytes 242
--- and 243 of slot b are the head of bucket b, the last slot in it; bytes 244 and 245 of slot i are the slot before i in its bucket. Both are numbers
+-- Finding a situation in the work area without going over all of it. The slots are spread over as many buckets as there may be slots. The two
+-- bytes at `headByte` of slot b are the head of bucket b, the last slot in it; the two at `linkByte` of slot i are the slot before i in its bucket. Both are numbers
 -- of slots plus 1. Where a bucket has no slot, or none before i, they say nothing, so that nothing need be emptied at first: a search that goes on
 -- there comes to slots of smaller and smaller numbers, or to a number that is none, and finds no key that is not there.
 use mathlib.Core.Path.{_≡_}
 use mathlib.Core.Bool.{cond}
 use mathlib.Core.List.{List}
-use Prim.Native.Nat.{ℕ, zero, suc, _+_, _*_, _/_, _%_, _<_}
+use Prim.Native.Nat.{ℕ, zero, suc, _+_, _-_, _*_, _/_, _%_, _<_}
 use lib.Dec.{eqb}
 use lib.ListN.{length, getD, drop, set}
 use Rattle.terms_bytes.specs.FieldPlaces.{sizeAt}
 use Rattle.field_slots.specs.Key.{keyAt, FoundIs}
 use Rattle.field_slots.specs.Noted.{notedCount, noteAt}
-use Rattle.field_pairs.specs.Slot.{slotBytes}
+use Rattle.field_pairs.specs.Slot.{slotBytes, partRoom, keyBytes, headByte, linkByte}
 use Rattle.field_slots.specs.declared.find.Found.{Found}
 use Rattle.field_slots.specs.declared.find.Found.the-variants.{At}
 
@@ -38,11 +38,14 @@ abbrev pub roundsTo : ℕ → ℕ
 roundsTo n = n % 128 / 16 + 1
 
 -- A key in a number: its last byte, of each part the bytes up to its end, for what follows is filling, and the pairs. The length of the first part
--- is byte 0, that of the second byte 113, in the sixteen bytes of number 7; the pairs begin in those of number 14.
+-- is byte 0, that of the second stands in the sixteen bytes of number 7; the pairs begin in those of number 14, and all of them are taken.
+abbrev pub pairRounds : ℕ
+pairRounds = (keyBytes - 16 * 14) / 16
+
 unfoldable pub spread : List ℕ → ℕ
 spread key =
-    let first = rounds (getD key 240 0) key 0 (roundsTo (getD key 0 0)) in
-    mixed (rounds first key 7 (roundsTo (getD key 113 0 + 1))) key 224
+    let first = rounds (getD key (keyBytes - 1) 0) key 0 (roundsTo (getD key 0 0)) in
+    rounds (rounds first key 7 (roundsTo (getD key partRoom 0 + 1))) key 14 pairRounds
 
 pub record WordIs (key : List ℕ) (at r : ℕ) : Type 0 where
   pub is : r ≡ wordAt key at
@@ -69,10 +72,10 @@ pub record BucketIs (capacity : ℕ) (key : List ℕ) (r : ℕ) : Type 0 where
 
 -- where the head of bucket b and the link of slot i stand, and what they are
 abbrev pub headPlace : ℕ → ℕ
-headPlace b = slotBytes * b + 242
+headPlace b = slotBytes * b + headByte
 
 abbrev pub linkPlace : ℕ → ℕ
-linkPlace i = slotBytes * i + 244
+linkPlace i = slotBytes * i + linkByte
 
 abbrev pub headAt : List ℕ → ℕ → ℕ
 headAt work b = sizeAt work (headPlace b)
@@ -100,7 +103,7 @@ pub record Chained (capacity : ℕ) (work : List ℕ) (count : ℕ) : Type 0 whe
 -- The keys, the bytes behind them and what lies behind the slots are as they were.
 pub record KeepsKeys (capacity : ℕ) (work work′ : List ℕ) : Type 0 where
   pub len : length work′ ≡ length work
-  pub slots : (i j : ℕ) → j < 242 → getD work′ (slotBytes * i + j) 0 ≡ getD work (slotBytes * i + j) 0
+  pub slots : (i j : ℕ) → j < headByte → getD work′ (slotBytes * i + j) 0 ≡ getD work (slotBytes * i + j) 0
   pub rest : drop (slotBytes * capacity) work′ ≡ drop (slotBytes * capacity) work
 
 -- Slot i comes behind those chained already.

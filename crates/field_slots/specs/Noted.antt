@@ -1,4 +1,4 @@
--- Five numbers of slots plus 1, two bytes each, in bytes 246 to 255 of a slot; 0 stands for none. While exploration goes on, what is noted in slot i
+-- Five numbers of slots plus 1, two bytes each, from `noteByte` of a slot on; 0 stands for none. While exploration goes on, what is noted in slot i
 -- are situations that are the only answer to a step of situation i. Strike-out (crate verdict) has its own notes there later.
 use mathlib.Core.List.{List}
 use mathlib.Core.Logic.{_⊎_}
@@ -8,21 +8,21 @@ use lib.ListN.{length, getD, drop}
 use Rattle.terms_bytes.specs.FieldPlaces.{sizeAt}
 use Rattle.steps.specs.Lists.{_∈_, All}
 use Rattle.field.specs.Situation.{Situation}
-use Rattle.field_pairs.specs.Slot.{slotBytes}
+use Rattle.field_pairs.specs.Slot.{slotBytes, noteByte}
 
 abbrev pub notedCount : ℕ
 notedCount = 5
 
 abbrev pub notePlace : ℕ → ℕ → ℕ
-notePlace i k = slotBytes * i + 246 + 2 * k
+notePlace i k = slotBytes * i + noteByte + 2 * k
 
 abbrev pub noteAt : List ℕ → ℕ → ℕ → ℕ
 noteAt work i k = sizeAt work (notePlace i k)
 
--- The lengths, the first 246 bytes of each slot and what lies behind the slots are as they were.
+-- The lengths, the bytes of each slot before its notes and what lies behind the slots are as they were.
 pub record SpareOnly (count : ℕ) (work work′ : List ℕ) : Type 0 where
   pub len : length work′ ≡ length work
-  pub slots : (i j : ℕ) → j < 246 → getD work′ (slotBytes * i + j) 0 ≡ getD work (slotBytes * i + j) 0
+  pub slots : (i j : ℕ) → j < noteByte → getD work′ (slotBytes * i + j) 0 ≡ getD work (slotBytes * i + j) 0
   pub rest : (k : ℕ) → count ≤ k → drop (slotBytes * k) work′ ≡ drop (slotBytes * k) work
 
 -- The notes in other slots than i are as they were.

@@ -12,14 +12,17 @@ use crate::slots::PART_BYTES;
 use terms_bytes::frame::size_at;
 
 // Where a bucket's head and a slot's link stand in a slot.
-const HEAD: usize = 242;
+const HEAD: usize = KEY_BYTES + 1;
 
-const LINK: usize = 244;
+pub const LINK: usize = HEAD + 2;
 
 // The sixteen bytes in which the second part begins, and those in which the pairs do.
 const SECOND_ROUND: usize = 7;
 
 const PAIRS_ROUND: usize = 14;
+
+// How many times sixteen bytes take in the pairs.
+const PAIRS_ROUNDS: usize = (KEY_BYTES - 16 * PAIRS_ROUND) / 16;
 
 // Four bytes as a number.
 pub fn word(key: &[u8], at: usize) -> usize
@@ -47,7 +50,7 @@ fn mix(h: usize, key: &[u8], at: usize) -> usize
 
 // Takes `count` times sixteen bytes into the number, from those of number `from` on.
 fn mix_rounds(h: usize, key: &[u8], from: usize, count: usize) -> usize
-    requires { ⌜ (h < 25769803776) × (from + count ≤ 15) × (keyBytes ≤ length (now key)) ⌝ }
+    requires { ⌜ (h < 25769803776) × (16 * (from + count) ≤ keyBytes) × (keyBytes ≤ length (now key)) ⌝ }
     ensures { λ r. ⌜ RoundsIs h (now (key .entry)) from count r ⌝ }
 {
     let mut x = h;
@@ -79,7 +82,7 @@ fn spread(key: &[u8]) -> usize
         SECOND_ROUND,
         rounds_to(key[PART_BYTES] as usize + 1),
     );
-    mix(both, key, 16 * PAIRS_ROUND)
+    mix_rounds(both, key, PAIRS_ROUND, PAIRS_ROUNDS)
 }
 
 // The bucket of the key that the bytes begin with.

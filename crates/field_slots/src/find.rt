@@ -3,9 +3,11 @@ ghost use Prim.Native.Nat.{_+_, _<_, _≤_};
 ghost use lib.ListN.{length};
 ghost use Rattle.field_slots.specs.Key.{SameKeyIs};
 ghost use Rattle.field_pairs.specs.Slot.{keyBytes, struckAt, LeftAtIs};
+use crate::slots::BITS;
+use crate::slots::OCTETS;
 use terms_bytes::bytes::get;
 
-pub const KEY_BYTES: usize = 241;
+pub const KEY_BYTES: usize = BITS + OCTETS;
 
 pub const SLOT_BYTES: usize = 256;
 
@@ -14,7 +16,7 @@ pub fn same_key(area: &[u8], at: usize, key: &[u8]) -> bool
     requires { ⌜ (at + keyBytes ≤ length (now area)) × (keyBytes ≤ length (now key)) ⌝ }
     ensures { λ r. ⌜ SameKeyIs (now (area .entry)) at (now (key .entry)) r ⌝ }
 {
-    let mut different: u8 = 0;
+    let mut different: u16 = 0;
     let mut i = 0;
     while i < KEY_BYTES {
         if area[at + i] != key[i] {

@@ -11,14 +11,15 @@ use crate::chains::word;
 use field_pairs::pairs::PAIR_COUNT;
 use field_pairs::pairs::pair_of;
 use terms_bytes::bytes::get;
+use terms_bytes::limits::LONGEST_TERM;
 
 // A part and its length.
-pub const PART_BYTES: usize = 113;
+pub const PART_BYTES: usize = 1 + LONGEST_TERM;
 
 // Where the bits are: behind the two parts.
-pub const BITS: usize = 226;
+pub const BITS: usize = PART_BYTES + PART_BYTES;
 
-pub const OCTETS: usize = 15;
+pub const OCTETS: usize = PAIR_COUNT / 8;
 
 // The part whose length stands at `at`; nothing where it runs past the end.
 pub fn part_at(area: &[u8], at: usize) -> &[u8]

@@ -27,7 +27,7 @@ use Rattle.small_parts_count.specs.declared.tally.Tally.{Tally}
 
 -- The verdict is that of the judge, whose checks 1 and 2 pass.
 pub judge-verdict : (n a b : ℕ) (question work : List ℕ) (r : Judged) (work′ : List ℕ) → question ≡ asked (wordOf n a) (wordOf n b)
-    → 47616 ≤ length work → JudgedIs openly question 186 work r work′ → judgedAnswer r ≡ verdictOn (wordOf n a) (wordOf n b)
+    → slotBytes * 186 ≤ length work → JudgedIs openly question 186 work r work′ → judgedAnswer r ≡ verdictOn (wordOf n a) (wordOf n b)
 unfolding judgeBy verdictOn
 judge-verdict n a b question work r work′ e h d =
     d .answer ∙ ap (λ q. judgeOf q 186 (length work)) e

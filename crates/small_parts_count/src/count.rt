@@ -1,15 +1,17 @@
 // The census of one length.
 ghost use Rattle.small_parts_count.specs.Counts.{CountIs};
+use crate::tally::CAPACITY;
 use crate::tally::Tally;
 use crate::tally::tally_pairs;
+use field_slots::find::SLOT_BYTES;
 use small_parts_words::parts::GREATEST_LENGTH;
 use small_parts_words::parts::collect_parts;
 
 // No length up to the greatest has more parts.
 const MOST_PARTS: usize = 209;
 
-// 256 bytes for each situation of the capacity.
-const WORK_BYTES: usize = 47616;
+// A slot for each situation of the capacity.
+const WORK_BYTES: usize = SLOT_BYTES * CAPACITY as usize;
 
 // The three numbers, or a length that is above the greatest.
 pub enum Counts {

@@ -9,7 +9,7 @@ use small_parts_words::question::question_about;
 use verdict_judge::judge::Judged;
 use verdict_judge::judge::judge;
 
-const CAPACITY: u64 = 186;
+pub const CAPACITY: u64 = 186;
 
 // The numbers of pairs that are the same, different and unsettled.
 pub struct Tally {

@@ -2,7 +2,7 @@
 -- do not show. Assumes nothing.
 use mathlib.Core.Path.{_≡_, refl}
 use mathlib.Core.List.{List, [], _∷_, _++_}
-use Prim.Native.Nat.{ℕ}
+use Prim.Native.Nat.{ℕ, _*_}
 use Rattle.calculus.specs.Cond.{Pairs, join, cls}
 use Rattle.calculus.specs.Distinction.{among, keep}
 use Rattle.calculus.specs.Free.{lowerL, fn}
@@ -26,7 +26,7 @@ use Rattle.field.specs.Successors.{select, permitted, implies, answers, extrude
 use Rattle.field.specs.Exploration.{found, unseen, together, withRow, explore, fieldOf}
 use Rattle.verdict.specs.Received.{lots, demandOf, namedMoves, sidesDemand, namedDemands}
 use Rattle.verdict.specs.Verdict.{Manner, openly, named, differs, demandsOf, Verdict, same, different, allFound, answered, allAnswered, strike, rounds, decided, verdictBy}
-use Rattle.verdict.specs.Judge.{judgeBy, withinCapacity}
+use Rattle.verdict.specs.Judge.{slotBytes, judgeBy, withinCapacity}
 
 pub record Exchange : Type 0 where
   pub question : List ℕ
@@ -88,7 +88,7 @@ named-exchanges v =
 -- at the capacity of `judge`, 256
 unfoldable pub judged : Manner → List Exchange → List (Answer Verdict)
 judged m [] = []
-judged m (e ∷ es) = judgeBy m (e .question) 256 65536 ∷ judged m es
+judged m (e ∷ es) = judgeBy m (e .question) 256 (slotBytes * 256) ∷ judged m es
 
 unfoldable pub expected : List Exchange → List (Answer Verdict)
 expected [] = []

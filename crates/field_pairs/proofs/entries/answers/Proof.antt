@@ -1,5 +1,6 @@
 -- `field::entries::answers` meets its contract. Assumes nothing.
 use native.Mathlib.Omega.{arith}
+use Rattle.field_pairs.specs.Entry.{channelByte, objectByte}
 use borrow.Author.Needs.{needs}
 use Prim.Native.Nat.{_+_, _-_}
 use Rattle.field_pairs.proofs.EntryLaws.{answers-short, answers-other-short, answers-kind, answers-channel, answers-object, answers-implied}
@@ -49,7 +50,7 @@ shared-slice-read-channel : tie.Need-shared-slice-read-channel
 shared-slice-read-channel c = search needs
 
 cast-channel : tie.Need-cast-channel
-cast-channel c = omega (arith, c .shared-slice-known5 .given (c .before .before .before .before .before .before .before .before .args .place + 17))
+cast-channel c = omega (arith, c .shared-slice-known5 .given (c .before .before .before .before .before .before .before .before .args .place + channelByte))
 
 add-if4 : tie.Need-add-if4
 add-if4 c = search needs
@@ -58,7 +59,7 @@ shared-slice-read-if4 : tie.Need-shared-slice-read-if4
 shared-slice-read-if4 c = search needs
 
 cast-if4 : tie.Need-cast-if4
-cast-if4 c = omega (arith, c .shared-slice-known6 .given (c .before .before .before .before .before .before .before .before .before .args .at + 17))
+cast-if4 c = omega (arith, c .shared-slice-known6 .given (c .before .before .before .before .before .before .before .before .before .args .at + channelByte))
 
 class-of-requires : tie.Need-class-of-requires
 class-of-requires c κs = search needs
@@ -78,7 +79,7 @@ shared-slice-read-object c = search needs
 cast-object : tie.Need-cast-object
 cast-object c =
     let c12 = c .before .before .before .before .before .before .before .before .before .before .before .before in
-    omega (arith, c .shared-slice-known7 .given (c12 .args .place + 18))
+    omega (arith, c .shared-slice-known7 .given (c12 .args .place + objectByte))
 
 add-if5 : tie.Need-add-if5
 add-if5 c = search needs
@@ -89,7 +90,7 @@ shared-slice-read-if5 c = search needs
 cast-if5 : tie.Need-cast-if5
 cast-if5 c =
     let c13 = c .before .before .before .before .before .before .before .before .before .before .before .before .before in
-    omega (arith, c .shared-slice-known8 .given (c13 .args .at + 18))
+    omega (arith, c .shared-slice-known8 .given (c13 .args .at + objectByte))
 
 class-of-requires-2 : tie.Need-class-of-requires-2
 class-of-requires-2 c κs = search needs
