@@ -20,6 +20,7 @@ use Rattle.steps_tallies.specs.Bodies.{AritiesIs}
 use Rattle.terms.specs.Question.{bodyOf}
 use Rattle.steps_conditions.specs.Names.{OwnNames}
 use Rattle.steps_tallies.specs.Candidates.{candidates}
+use Rattle.steps.specs.Forms.{resultForm}
 use Rattle.steps.specs.Raw.{step}
 use Rattle.steps_plans.specs.Plans.{receiving, Written}
 use Rattle.steps_results.proofs.SilentSteps.{silent-action}
@@ -57,7 +58,7 @@ module _ (class : List ℕ) (action : ActionBytes) (result : List ℕ) (n : ℕ)
   put-result-long long area′ = record {
     is = λ out x M α A size w classes acts found s.
         put-long area x count found s M α A
-        (over (length (resultBytes (canonStep nameCount x M α A))) (λ k. w .fits (omega arith) .0)) area′;
+        (over (length (resultBytes (canonStep resultForm nameCount x M α A))) (λ k. w .fits (omega arith) .0)) area′;
   }
     where
       over : (b : ℕ) → (b ≤ longestTerm → n ≡ 0 + b) → longestTerm < b
@@ -72,7 +73,7 @@ module _ (class : List ℕ) (action : ActionBytes) (result : List ℕ) (n : ℕ)
   unfolding PutIs
   put-result-inserted short many entry made r area′ inserted = record {
     is = λ out x M α A size w classes acts found s.
-        let bs : List ℕ = resultBytes (canonStep nameCount x M α A) in
+        let bs : List ℕ = resultBytes (canonStep resultForm nameCount x M α A) in
         let fit : length bs ≤ longestTerm = within (length bs) (λ k. omega (arith, w .over (omega arith))) in
         let f = w .fits (omega arith) in
         let t : take n result ≡ bs = ap (take n) (f .1) ∙ take-sets out bs n (omega (arith, f .0)) (omega arith) in
@@ -152,7 +153,7 @@ module _ (question part : List ℕ) (left right : Located) (new : ℕ) (class ar
   unfolding receiving stepAction
   met-put p = record {
     is = λ q x M A ok c scope H.
-        let e : resultBytes (canonStep nameCount x M tauA A) ≡ encode 0 A = trivial-result x M tauA A (c .trivial refl) ∙ ap (encode 0) (ren-id A) in
+        let e : resultBytes (canonStep resultForm nameCount x M tauA A) ≡ encode 0 A = trivial-result x M tauA A (c .trivial refl) ∙ ap (encode 0) (ren-id A) in
         p .is out x M tauA A size (rw e (w .is q (encode 0 A) ok H)) (c .classes) refl;
   }
 
