@@ -209,10 +209,10 @@ module _ (arities : List ℕ) (capacity : ℕ) (work : List ℕ) (count : ℕ) (
     relies = λ y h f c a i. absurd (omega (arith, of-lot from to (names c) (c .step) y i .0));
   }
 
-  module _ (before r : Relied) (name : ℕ) (b : Bool) (n : CountsIs free area at name b) where
-    pub lot-skips : b ≡ false → LotSwept before r name → LotSwept before r (name + 1)
+  module _ (before : Relied) (name : ℕ) (b : Bool) (n : CountsIs free area at name b) where
+    pub lot-skips : (r : Relied) → b ≡ false → LotSwept before r name → LotSwept before r (name + 1)
     unfolding CountsIs
-    lot-skips e s = record {
+    lot-skips r e s = record {
       numbers = s .numbers;
       more = s .more;
       found-all = below-more _ name (s .found-all) (λ c a i. absurd (out c i));
@@ -223,9 +223,9 @@ module _ (arities : List ℕ) (capacity : ℕ) (work : List ℕ) (count : ℕ) (
         out c i = true-not-false (n (c .side .names) (c .step) (c .side .free-names) (c .entry) ∙ of-lot from to (names c) (c .step) name i .2) e
 
     module _ (key : List ℕ) (x : Found) (k : SuccessorIs arities free apart second area at others place name key) (l : LeftIs capacity work count key x) where
-      pub lot-more : (j : ℕ) (r′ : Relied) → x ≡ At j → WithIs r j r′ → LotSwept before r name → LotSwept before r′ (name + 1)
+      pub lot-more : (r : Relied) (j : ℕ) (r′ : Relied) → x ≡ At j → WithIs r j r′ → LotSwept before r name → LotSwept before r′ (name + 1)
       unfolding isAt
-      lot-more j r′ e w s = record {
+      lot-more r j r′ e w s = record {
         numbers = w .numbers;
         more = within-then (s .more) (w .more);
         found-all = below-more _ name (s .found-all) (λ c a i. sym (name-is name key x k l c a i .is) ∙ ap isAt e);
