@@ -39,14 +39,14 @@ use Rattle.verdict_survival.proofs.LotLaws.{in-names, of-lot, counted-r
 use Rattle.verdict_survival.proofs.Sweeping.{same-demands, Swept, swept-none, swept-more, swept-fails, swept-all}
 
 -- the runs
-pub open-run : NameRun false nameCount (nameCount + 1)
+pub open-run : NameRun (ltb nameCount nameCount) nameCount (nameCount + 1)
 open-run y h l = le-ltb y nameCount h
 
-pub late-run : NameRun true 0 nameCount
+pub late-run : NameRun (ltb 0 nameCount) 0 nameCount
 late-run y h l = lt-ltb y nameCount l
 
-pub early-run : (name : ℕ) → name < nameCount → NameRun true name (name + 1)
-early-run name b y h l = lt-ltb y nameCount (omega arith)
+pub early-run : (name : ℕ) → NameRun (ltb name nameCount) name (name + 1)
+early-run name y h l = ap (λ y. ltb y nameCount) (let e : y ≡ name = omega arith in e)
 
 module _ {A B : Type 0} where
   map-members : (f g : A → B) (xs : List A) → ((x : A) → x ∈ xs → f x ≡ g x) → map f xs ≡ map g xs
