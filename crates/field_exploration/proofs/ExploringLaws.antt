@@ -384,7 +384,7 @@ module _ (question : List ℕ) (capacity : ℕ) (some : 1 ≤ capacity) (work : 
   slot : slotBytes * 0 + slotBytes ≤ length work
   slot = omega arith
 
-  pub explorers-start : StartIs question key → Explorers question capacity work₀ work₀ 1 0
+  pub explorers-start : StartIs question false key → Explorers question capacity work₀ work₀ 1 0
   unfolding StartIs
   explorers-start S = record {
     rest = refl;

@@ -184,7 +184,7 @@ pub fn explore(
     requires { ⌜ (1 ≤ capacity) × (capacity ≤ 4096) × (slotBytes * capacity ≤ length (now work)) × BodiesTallied (now question) (now bodies) × (length (now numbers) ≡ tallySize) × (rowBytes * mostRows ≤ length (now rows)) × Labelled (now question) (now firsts) × Labelled (now question) (now seconds) ⌝ }
     ensures { λ r. ⌜ ExploreIs (now (question .entry)) capacity (now (work .entry)) r (now (work .exit)) × Labelled (now (question .entry)) (now (firsts .exit)) × Labelled (now (question .entry)) (now (seconds .exit)) ⌝ }
 {
-    let key = start_key(question);
+    let key = start_key(question, false);
     put(work, capacity, 0, &key);
     let mut known = 1;
     let mut taken = 0;

@@ -111,18 +111,18 @@ module _ (arities : List ℕ) (capacity : ℕ) (work : List ℕ) (count : ℕ) (
   no-answer b h q = record {
     within = λ i z. no-slot i z;
     is = λ known G D s t n st names pairs e f scope scope′ own closed. (
-      ap (λ b. b && found (leftOf work known) (leading second (freeFrom G 0 nameCount) D s t)) (sym q ∙ h s t e f),
+      ap (λ b. b && found (leftOf work known) (leading second (freeFrom G 0 nameCount) D s t nameCount)) (sym q ∙ h s t e f),
       λ i z. no-slot i z,
     );
   }
 
-  pub answer-left-is : (key : List ℕ) (b : Bool) (r : Found) → AnswersIs area at others place b → b ≡ true → SuccessorIs arities free apart second area at others place key
+  pub answer-left-is : (key : List ℕ) (b : Bool) (r : Found) → AnswersIs area at others place b → b ≡ true → SuccessorIs arities free apart second area at others place nameCount key
       → LeftIs capacity work count key r → AnswerLeftIs arities capacity work count free apart second area at others place r
   unfolding AnswersIs SuccessorIs
   answer-left-is key b r h q k l = record {
     within = l .within;
     is = λ known G D s t n st names pairs e f scope scope′ own closed.
-        let u : Situation = leading second (freeFrom G 0 nameCount) D s t in
+        let u : Situation = leading second (freeFrom G 0 nameCount) D s t nameCount in
         let may = sym q ∙ h s t e f in
         let m = ∈-number u known (closed (sym may)) in
         let held : SituationAt work (slotBytes * m .0) u = subst (SituationAt work (slotBytes * m .0)) (sym (m .2 u)) (st .held (m .0) u (m .1)) in

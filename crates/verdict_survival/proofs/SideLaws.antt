@@ -21,6 +21,7 @@ use Rattle.field.specs.Situation.{Situation, freeFrom}
 use Rattle.field.specs.Successors.{select, permitted, answers, moves}
 use Rattle.field_slots.specs.declared.find.Found.{Found}
 use Rattle.field_slots.specs.declared.find.Found.the-variants.{At, Nothing}
+use Rattle.field.specs.Successors as field
 use Rattle.field_growth.proofs.Loops.{led, answersTo, moves-are}
 use Rattle.field.proofs.Members.{map-∈, getD-∈, ∈-number}
 use Rattle.field.proofs.Selections.{∈-select, select-∈}
@@ -70,7 +71,7 @@ module _ (arities : List ℕ) (capacity : ℕ) (work : List ℕ) (count : ℕ) (
 
   -- what reply l to step k leads to
   abbrev reached : These → ℕ → ℕ → Situation
-  reached p k l = leading second (freeFrom (p .names) 0 nameCount) (p .pairs) (step p k) (reply p l)
+  reached p k l = leading second (freeFrom (p .names) 0 nameCount) (p .pairs) (step p k) (reply p l) nameCount
 
   -- what the answers to step k lead to
   abbrev reachedAll : These → ℕ → List Situation
@@ -101,7 +102,7 @@ module _ (arities : List ℕ) (capacity : ℕ) (work : List ℕ) (count : ℕ) (
         (∈-select (permitted (p .pairs)) (step p k) (p .steps) (getD-∈ (p .steps) k noStep (omega (arith, p .mine .number))) may))
 
     reply-in : (l : ℕ) → l < m → answers nameCount (step p k) (reply p l) ≡ true → reached p k l ∈ reachedAll p k
-    unfolding answersTo led leading
+    unfolding answersTo led leading field.led placed
     reply-in l g e =
         ∈-map (led nameCount (placed second) (freeFrom (p .names) 0 nameCount) (p .pairs) (step p k)) (reply p l)
         (select (answers nameCount (step p k)) (p .replies))
@@ -119,7 +120,7 @@ module _ (arities : List ℕ) (capacity : ℕ) (work : List ℕ) (count : ℕ) (
 
     -- none of the replies
     none-left : (j : ℕ) → m ≤ j → ((l : ℕ) → l < j → ReplyFails k l) → answered (leftOf work (p .known)) (reachedAll p k) ≡ false
-    unfolding answersTo led leading
+    unfolding answersTo led leading field.led placed
     none-left j g so = none-answered (leftOf work (p .known)) (reachedAll p k) each
       where
         each : (u : Situation) → u ∈ reachedAll p k → found (leftOf work (p .known)) u ≡ false
@@ -130,7 +131,7 @@ module _ (arities : List ℕ) (capacity : ℕ) (work : List ℕ) (count : ℕ) (
             let l = ∈-number t (p .replies) v in
             let z : answers nameCount (step p k) (reply p (l .0)) ≡ true = rw (sym (l .2 noStep)) y in
             let f : found (leftOf work (p .known)) (reached p k (l .0)) ≡ false = so (l .0) (omega (arith, l .1, p .theirs .number)) p z in
-            let q : reached p k (l .0) ≡ u = ap (leading second (freeFrom (p .names) 0 nameCount) (p .pairs) (step p k)) (sym (l .2 noStep)) ∙ sym e in
+            let q : reached p k (l .0) ≡ u = ap (λ t. leading second (freeFrom (p .names) 0 nameCount) (p .pairs) (step p k) t nameCount) (sym (l .2 noStep)) ∙ sym e in
             subst (λ u. found (leftOf work (p .known)) u ≡ false) q f
 
   not-permitted : (k : ℕ) (r : Bool) → k < n → PermittedIs apart area (stepBytes * k) r → r ≡ false → (p : These) → permitted (p .pairs) (step p k) ≡ false

@@ -93,9 +93,9 @@ pub record AnswerLeftIs (arities : List ℕ) (capacity : ℕ) (work : List ℕ) 
   pub is : (known : List Situation) (G : List ℕ) (D : Pairs) (s t : ListedStep) → length known ≡ count → Standing capacity work known → HasNames free G
       → apart ≡ flagsOf D → EntryAt area at s → EntryAt others place t → InScope nameCount arities 0 (s .result) → InScope nameCount arities 0 (t .result)
       → Rewritten t
-      → (answers nameCount s t ≡ true → leading second (freeFrom G 0 nameCount) D s t ∈ known)
-      → (isAt r ≡ (answers nameCount s t && found (leftOf work known) (leading second (freeFrom G 0 nameCount) D s t)))
-      × ((i : ℕ) → r ≡ At i → (d : Situation) → getD known i d ≡ leading second (freeFrom G 0 nameCount) D s t)
+      → (answers nameCount s t ≡ true → leading second (freeFrom G 0 nameCount) D s t nameCount ∈ known)
+      → (isAt r ≡ (answers nameCount s t && found (leftOf work known) (leading second (freeFrom G 0 nameCount) D s t nameCount)))
+      × ((i : ℕ) → r ≡ At i → (d : Situation) → getD known i d ≡ leading second (freeFrom G 0 nameCount) D s t nameCount)
 
 -- One side of a situation: its list of steps, the other side's, and that all answers lead to known situations.
 pub record Side (arities : List ℕ) (capacity : ℕ) (work : List ℕ) (count : ℕ) (free apart : List ℕ) (second : Bool) (area : List ℕ) (n : ℕ) (others : List ℕ) (m : ℕ) : Type 0 where

@@ -25,6 +25,7 @@ use field_taking_up::taking::Lists;
 use field_taking_up::taking::take_up;
 use steps_entries::limits::STEP_BYTES;
 use steps_tallies::bodies::arities_of;
+use terms_bytes::limits::NAME_COUNT;
 
 // The slot of the situation with this key, of the first `count`, if it is left.
 
@@ -70,7 +71,7 @@ fn answer_left(
     if !answers(area, at, others, place) {
         return Found::Nothing;
     }
-    let key = successor(arities, free, apart, second, area, at, others, place);
+    let key = successor(arities, free, apart, second, area, at, others, place, NAME_COUNT);
     find_left(work, capacity, count, &key)
 }
 
