@@ -1,0 +1,76 @@
+-- `field::growth::grow_step` meets its contract. Assumes nothing.
+use native.Mathlib.Omega.{arith}
+use borrow.Author.Tests.{not-true, not-false}
+use Rattle.field_growth.proofs.GrowingLaws.{step-none, step-struck, step-mirrored, step-named, step-open}
+use borrow.Author.Needs.{needs}
+use Rattle.field_growth.proofs.growth.grow_step.Statement.{statement}
+use Rattle.field_growth.proofs.growth.grow_step.Tie as tie
+
+allowed-requires : tie.Need-allowed-requires
+allowed-requires c κs = search needs
+
+returns : tie.Need-returns
+returns c = step-none _ _ _ _ _ _ _ _ _ _ _ _ _ (omega arith) (rw (not-true (c .before .allowed .result) (c .if1 .taken)) at (c .before .allowed .ensures))
+
+first-answer-requires : tie.Need-first-answer-requires
+first-answer-requires c κs = search needs
+
+mul-work : tie.Need-mul-work
+mul-work c = search needs
+
+add-work : tie.Need-add-work
+add-work c = search needs
+
+slice-write-work : tie.Need-slice-write-work
+slice-write-work c = search needs
+
+same-length : tie.Need-same-length
+same-length c = search needs
+
+returns-2 : tie.Need-returns-2
+returns-2 c = step-struck _ _ _ _ _ _ _ _ _ _ _ _ _ (rw (not-false (c .before .before .before .allowed .result) (c .before .before .if1 .left)) at (c .before .before .before .allowed .ensures)) _ (c .before .first-answer .ensures) (c .before .before .before .before .before .before .before .before .before .before .pre .0) (c .if2 .taken) (omega arith) (omega arith)
+
+trivial-requires : tie.Need-trivial-requires
+trivial-requires c κs = search needs
+
+returns-3 : tie.Need-returns-3
+returns-3 c = step-mirrored _ _ _ _ _ _ _ _ _ _ _ _ _ (rw (not-false (c .before .before .before .before .before .before .allowed .result) (c .before .before .before .before .before .if1 .left)) at (c .before .before .before .before .before .before .allowed .ensures)) _ (c .before .before .before .before .first-answer .ensures) (c .before .before .before .before .before .before .before .before .before .before .before .before .before .pre .0) (c .before .before .before .if2 .left) (omega arith) (c .before .before .if3 .taken) _ (c .before .trivial .ensures) (c .if4 .taken)
+
+grow-names-requires : tie.Need-grow-names-requires
+grow-names-requires c κs = search needs
+
+same-length-2 : tie.Need-same-length-2
+same-length-2 c = search needs
+
+returns-4 : tie.Need-returns-4
+returns-4 c = step-named _ _ _ _ _ _ _ _ _ _ _ _ _ (rw (not-false (c .before .before .before .before .before .before .before .before .before .allowed .result) (c .before .before .before .before .before .before .before .before .if1 .left)) at (c .before .before .before .before .before .before .before .before .before .allowed .ensures)) _ (c .before .before .before .before .before .before .before .first-answer .ensures) (c .before .before .before .before .before .before .before .before .before .before .before .before .before .before .before .before .pre .0) (c .before .before .before .before .before .before .if2 .left) (c .before .before .before .before .if5 .taken) _ _ (c .before .before .grow-names .ensures)
+
+grow-move-requires : tie.Need-grow-move-requires
+grow-move-requires c κs = search needs
+
+same-length-3 : tie.Need-same-length-3
+same-length-3 c = search needs
+
+returns-5 : tie.Need-returns-5
+returns-5 c = step-open _ _ _ _ _ _ _ _ _ _ _ _ _ (rw (not-false (c .before .before .before .before .before .before .before .before .before .allowed .result) (c .before .before .before .before .before .before .before .before .if1 .left)) at (c .before .before .before .before .before .before .before .before .before .allowed .ensures)) _ (c .before .before .before .before .before .before .before .first-answer .ensures) (c .before .before .before .before .before .before .before .before .before .before .before .before .before .before .before .before .pre .0) (c .before .before .before .before .before .before .if2 .left) (c .before .before .before .before .if5 .left) _ _ (c .before .before .grow-move .ensures)
+
+pub grow-step-spec : {M : Type 1} → statement M
+grow-step-spec =
+    tie.close
+    (tie.spec
+    allowed-requires
+    returns
+    first-answer-requires
+    mul-work
+    add-work
+    slice-write-work
+    same-length
+    returns-2
+    trivial-requires
+    returns-3
+    grow-names-requires
+    same-length-2
+    returns-4
+    grow-move-requires
+    same-length-3
+    returns-5)
