@@ -293,7 +293,7 @@ module _ (question : List ℕ) (q : Question) (accepted : checkOf question ≡ r
       ap (decided demands (startOf false q)) field ∙ ap (λ b. cond b (same (length rs)) (different (length rs))) (start-verdict r v s)
 
 -- decide
-module _ (question : List ℕ) (capacity : ℕ) (work w : List ℕ) (x : Explored) (e : ExploreIs question capacity work x w) where
+module _ (question : List ℕ) (capacity : ℕ) (work w : List ℕ) (x : Explored) (e : ExploreIs false question capacity work x w) where
   pub unsettled-is : x ≡ Incomplete → DecidesIs question capacity work Unsettled w
   unfolding judgedAnswer verdictBy differs decided Explores
   unsettled-is h = record { rest = e .rest; is = λ q a. go q (fieldOf (settingOf false (q .bodies)) capacity (startOf false q)) refl (e .is q a) }

@@ -62,6 +62,7 @@ fn decide(question: &[u8], capacity: usize, work: &mut [u8]) -> Judged
         &mut seconds,
         work,
         capacity,
+        false,
     );
     match explored {
         Explored::Incomplete => Judged::Unsettled,

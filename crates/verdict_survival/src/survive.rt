@@ -71,7 +71,17 @@ fn answer_left(
     if !answers(area, at, others, place) {
         return Found::Nothing;
     }
-    let key = successor(arities, free, apart, second, area, at, others, place, NAME_COUNT);
+    let key = successor(
+        arities,
+        free,
+        apart,
+        second,
+        area,
+        at,
+        others,
+        place,
+        NAME_COUNT,
+    );
     find_left(work, capacity, count, &key)
 }
 
