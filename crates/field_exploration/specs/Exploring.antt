@@ -1,5 +1,5 @@
 -- The situations found, in the slots of the work area, and what exploration promises.
-use mathlib.Core.Bool.{true, false}
+use mathlib.Core.Bool.{Bool, true}
 use mathlib.Core.List.{List, map}
 use mathlib.Core.Path.{_≡_}
 use Prim.Native.Nat.{ℕ, _*_, _<_, _≤_}
@@ -38,8 +38,9 @@ unfoldable pub Explores : Exploration → Explored → List ℕ → Type 0
 Explores incomplete r work′ = r ≡ Incomplete
 Explores (explored rs) r work′ = (r ≡ Field (length rs)) × SlotsHold work′ (map (λ t. t .self) rs) × StruckFirst work′ rs × SoleNoted work′ rs
 
-pub record ExploreIs (question : List ℕ) (capacity : ℕ) (work : List ℕ) (r : Explored) (work′ : List ℕ) : Type 0 where
+-- The same whether all names differ or not.
+pub record ExploreIs (differ : Bool) (question : List ℕ) (capacity : ℕ) (work : List ℕ) (r : Explored) (work′ : List ℕ) : Type 0 where
   pub rest : drop (slotBytes * capacity) work′ ≡ drop (slotBytes * capacity) work
   pub within : (n : ℕ) → r ≡ Field n → (1 ≤ n) × (n ≤ capacity)
-  pub is : (q : Question) → checkOf question ≡ result q → Explores (fieldOf (settingOf false (q .bodies)) capacity (startOf false q)) r work′
+  pub is : (q : Question) → checkOf question ≡ result q → Explores (fieldOf (settingOf differ (q .bodies)) capacity (startOf differ q)) r work′
   pub chained : (q : Question) → checkOf question ≡ result q → (n : ℕ) → r ≡ Field n → Chained capacity work′ n

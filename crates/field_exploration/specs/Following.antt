@@ -1,6 +1,6 @@
 -- The known situations grow while exploration takes one up: each situation that it leads to is looked for among them and put behind them if it is
 -- new. What the code promises of it.
-use mathlib.Core.Bool.{false}
+use mathlib.Core.Bool.{Bool}
 use mathlib.Core.Path.{_≡_}
 use mathlib.Core.List.{List}
 use Prim.Native.Nat.{ℕ}
@@ -21,7 +21,7 @@ unfoldable pub Follows : List ℕ → ℕ → ℕ → Outcome → List ℕ → �
 Follows arities capacity taken pastLimit work known r work′ = r ≡ Full
 Follows arities capacity taken (leads ms) work known r work′ = Leads arities capacity taken ms work known r work′
 
-pub record GrowIs (question : List ℕ) (taken capacity : ℕ) (work : List ℕ) (known : ℕ) (r : Growth) (work′ : List ℕ) : Type 0 where
+pub record GrowIs (differ : Bool) (question : List ℕ) (taken capacity : ℕ) (work : List ℕ) (known : ℕ) (r : Growth) (work′ : List ℕ) : Type 0 where
   pub grows : Grows capacity work known r work′
   pub is : (q : Question) → checkOf question ≡ result q → (ks : List Situation) (d : Situation) → Knows (q .arities) capacity work known ks
-      → Follows (q .arities) capacity taken (successors (settingOf false (q .bodies)) (getD ks taken d)) work known r work′
+      → Follows (q .arities) capacity taken (successors (settingOf differ (q .bodies)) (getD ks taken d)) work known r work′

@@ -28,11 +28,12 @@ pub enum Explored {
     Field(usize),
 }
 
-// What every permitted step of one side, which has `steps` of them, leads to.
+// What every step of one side, which has `steps` of them, leads to that must be answered; `differ`: all names differ.
 fn grow_side(
     arities: &[u8],
     free: &[u8],
     apart: [u8; PAIR_COUNT],
+    differ: bool,
     second: bool,
     taken: usize,
     area: &[u8],
@@ -44,7 +45,7 @@ fn grow_side(
     known: usize,
 ) -> Growth
     requires { ⌜ (taken < known) × (known ≤ capacity) × (capacity ≤ 4096) × (slotBytes * capacity ≤ length (now work)) × (steps ≤ mostSteps) × (mostSteps * stepBytes ≤ length (now area)) × (count ≤ mostSteps) × (mostSteps * stepBytes ≤ length (now others)) ⌝ }
-    ensures { λ r. ⌜ GrowsSide (now (arities .entry)) (now (free .entry)) apart second taken (now (area .entry)) steps (now (others .entry)) count capacity (now (work .entry)) known r (now (work .exit)) ⌝ }
+    ensures { λ r. ⌜ GrowsSide (now (arities .entry)) (now (free .entry)) apart differ second taken (now (area .entry)) steps (now (others .entry)) count capacity (now (work .entry)) known r (now (work .exit)) ⌝ }
 {
     let mut so_far = known;
     let mut i = 0;
@@ -53,6 +54,7 @@ fn grow_side(
             arities,
             free,
             apart,
+            differ,
             second,
             taken,
             area,
@@ -77,6 +79,7 @@ fn grow_sides(
     arities: &[u8],
     free: &[u8],
     apart: [u8; PAIR_COUNT],
+    differ: bool,
     taken: usize,
     firsts: &[u8],
     n: usize,
@@ -87,12 +90,13 @@ fn grow_sides(
     known: usize,
 ) -> Growth
     requires { ⌜ (taken < known) × (known ≤ capacity) × (capacity ≤ 4096) × (slotBytes * capacity ≤ length (now work)) × (n ≤ mostSteps) × (mostSteps * stepBytes ≤ length (now firsts)) × (m ≤ mostSteps) × (mostSteps * stepBytes ≤ length (now seconds)) ⌝ }
-    ensures { λ r. ⌜ GrowsSides (now (arities .entry)) (now (free .entry)) apart taken (now (firsts .entry)) n (now (seconds .entry)) m capacity (now (work .entry)) known r (now (work .exit)) ⌝ }
+    ensures { λ r. ⌜ GrowsSides (now (arities .entry)) (now (free .entry)) apart differ taken (now (firsts .entry)) n (now (seconds .entry)) m capacity (now (work .entry)) known r (now (work .exit)) ⌝ }
 {
     let growth = grow_side(
         arities,
         free,
         apart,
+        differ,
         false,
         taken,
         firsts,
@@ -109,6 +113,7 @@ fn grow_sides(
             arities,
             free,
             apart,
+            differ,
             true,
             taken,
             seconds,
@@ -134,9 +139,10 @@ fn grow(
     work: &mut [u8],
     capacity: usize,
     known: usize,
+    differ: bool,
 ) -> Growth
     requires { ⌜ (taken < known) × (known ≤ capacity) × (capacity ≤ 4096) × (slotBytes * capacity ≤ length (now work)) × BodiesTallied (now question) (now bodies) × (length (now numbers) ≡ tallySize) × (rowBytes * mostRows ≤ length (now rows)) × Labelled (now question) (now firsts) × Labelled (now question) (now seconds) ⌝ }
-    ensures { λ r. ⌜ GrowIs (now (question .entry)) taken capacity (now (work .entry)) known r (now (work .exit)) × Labelled (now (question .entry)) (now (firsts .exit)) × Labelled (now (question .entry)) (now (seconds .exit)) ⌝ }
+    ensures { λ r. ⌜ GrowIs differ (now (question .entry)) taken capacity (now (work .entry)) known r (now (work .exit)) × Labelled (now (question .entry)) (now (firsts .exit)) × Labelled (now (question .entry)) (now (seconds .exit)) ⌝ }
 {
     let up = take_up(
         question,
@@ -157,6 +163,7 @@ fn grow(
             arities_of(question),
             &free,
             apart,
+            differ,
             taken,
             firsts,
             n,
@@ -170,7 +177,7 @@ fn grow(
 }
 
 // Takes up the situations from the start on until none waits. The tables of the lister and the areas of the two lists are lent; each area has the
-// list that its label says, if any.
+// list that its label says, if any. `differ`: all names differ (request 2026-02).
 pub fn explore(
     question: &[u8],
     bodies: &[u32],
@@ -180,11 +187,12 @@ pub fn explore(
     seconds: &mut [u8],
     work: &mut [u8],
     capacity: usize,
+    differ: bool,
 ) -> Explored
     requires { ⌜ (1 ≤ capacity) × (capacity ≤ 4096) × (slotBytes * capacity ≤ length (now work)) × BodiesTallied (now question) (now bodies) × (length (now numbers) ≡ tallySize) × (rowBytes * mostRows ≤ length (now rows)) × Labelled (now question) (now firsts) × Labelled (now question) (now seconds) ⌝ }
-    ensures { λ r. ⌜ ExploreIs (now (question .entry)) capacity (now (work .entry)) r (now (work .exit)) × Labelled (now (question .entry)) (now (firsts .exit)) × Labelled (now (question .entry)) (now (seconds .exit)) ⌝ }
+    ensures { λ r. ⌜ ExploreIs differ (now (question .entry)) capacity (now (work .entry)) r (now (work .exit)) × Labelled (now (question .entry)) (now (firsts .exit)) × Labelled (now (question .entry)) (now (seconds .exit)) ⌝ }
 {
-    let key = start_key(question);
+    let key = start_key(question, differ);
     put(work, capacity, 0, &key);
     let mut known = 1;
     let mut taken = 0;
@@ -201,6 +209,7 @@ pub fn explore(
             work,
             capacity,
             known,
+            differ,
         );
         let Growth::Known(n) = growth else {
             return Explored::Incomplete;

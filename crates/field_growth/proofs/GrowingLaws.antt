@@ -11,43 +11,49 @@ use lib.ListN.{length, getD, set, take, drop, length-append, take-append-drop}
 use lib.Seq.{take-suc, take-all, split-at, getD-at, getD-set-same, getD-set-other, drop-set-lt}
 use borrow.Author.Tests.{eqb-true, eqb-false, eq-eqb, ne-eqb}
 use Rattle.calculus.specs.Cond.{Pairs}
+use Rattle.calculus.specs.Distinction.{among}
 use Rattle.calculus.proofs.Renaming.{map-++}
 use Rattle.terms.specs.Encoding.{InScope}
 use Rattle.terms.specs.Limits.{nameCount}
 use Rattle.steps.specs.Lists.{_∈_, All}
-use Rattle.steps.proofs.Membership.{∈-left, ∈-right, all-imp, all-++, all-∈, ∈-all}
+use Rattle.steps.proofs.Membership.{∈-map, ∈-left, ∈-right, all-imp, all-++, all-∈, ∈-all}
 use Rattle.steps.specs.Limits.{stepBytes}
-use Rattle.steps.specs.Listed.{ListedStep}
+use Rattle.steps.specs.Listed.{ListedStep, namesFrom}
 use Rattle.field_slots.specs.Chains.{LinkIs, FindsIn}
 use Rattle.field_pairs.specs.Entry.{EntryAt, TrivialIs, SameHeaderIs, AnswersIs}
 use Rattle.field.specs.Exploration.{found, together}
 use Rattle.field_growth.specs.Holding.{unanswered}
 use Rattle.field_successors.specs.Fits.{Fits}
 use Rattle.field_growth.specs.Growing.{Fitting, grownBy, grown, Knows, GrowsTo, AllFound, Puts, Grows, slotWith, KeepsStruck, several, LedTo}
-use Rattle.field_growth.specs.Growing.{joined, LeadsWhere, AddIs, Gone, AddedIs, Flagged, answered, MirroredBy, Mirrored, GrowsAnswer, AnswerIs}
-use Rattle.field_growth.specs.Growing.{GrowsAnswers, AnswersAre, FirstAnswerIs, moved, Strikes, LeadsAfter, GrowsStep, GrowsSide, GrowsSides}
+use Rattle.field_growth.specs.Growing.{joined, LeadsWhere, AddIs, Gone, AddedIs, Flagged, answered, MirroredBy, lookedWith, answeredWith, Mirrored, GrowsAnswer, AnswerIs}
+use Rattle.field_growth.specs.Growing.{GrowsAnswers, AnswersAre, FirstAnswerIs, moved, Strikes, LeadsAfter, GrowsMove, GrowsNames, GrowsStep, GrowsSide, GrowsSides}
 use Rattle.field.specs.Situation.{Proper}
-use Rattle.field_successors.specs.Leading.{placed, leading, SuccessorIs}
+use Rattle.field_successors.specs.Leading.{leading, SuccessorIs}
 use Rattle.field_slots.specs.Noted.{noteAt, SpareOnly, NotesOne, Stands, SoleIn}
-use Rattle.field_pairs.specs.PairFlags.{PermittedIs}
-use Rattle.field.specs.Situation.{Situation, freeFrom, situation}
+use Rattle.field_pairs.specs.NameFlags.{ReceivedIs}
+use Rattle.field_pairs.specs.PairFlags.{AllowedIs}
+use Rattle.field.specs.Situation.{Situation, freeFrom}
 use Rattle.field_pairs.specs.Slot.{keyOf, keyBytes, slotBytes, struckAt, LeftAtIs}
-use Rattle.field.specs.Successors.{select, permitted, answers, joinAll, moves}
-use Rattle.field.specs.Successors as field
+use Rattle.field.specs.Successors.{select, answers, allowed, received, joinAll, moves}
 use Rattle.field_renewal.specs.ListedEntries.{ListAt, EntriesAt}
 use Rattle.field_growth.specs.declared.growth.Added.{Added}
 use Rattle.field_growth.specs.declared.growth.Growth.{Growth}
 use Rattle.field_growth.specs.declared.growth.Growth.the-variants.{Full, Known}
 use Rattle.field_slots.specs.declared.find.Found.the-variants.{At, Nothing}
 use Rattle.field_pairs.proofs.EntryLaws.{trivial-header}
+use Rattle.field_pairs.proofs.PairNumbering.{names-at, length-names}
+use Rattle.field_pairs.proofs.ReceivedNames.{received-ascending}
 use Rattle.field_successors.proofs.LeadingLaws.{leading-fits}
 use Rattle.field_growth.proofs.GrownSituations.{grown-front, grown-longer, all-kept, all-grown, grown-found}
 use Rattle.field_growth.proofs.KeysDiffer.{length-key, slot-holds, found-slot, found-no-slot}
-use Rattle.field_growth.proofs.Loops.{select-++, grown-++, together-++, led, answersTo, moves-are}
+use Rattle.field_growth.proofs.Loops.{select-++, grown-++, together-++}
+use Rattle.field_growth.proofs.LookedLaws.{among-∈, looked-some, unanswered-each, together-empty, moved-++, together-moved, moved-none, moved-one}
+use Rattle.field_growth.proofs.LookedLaws.{lookedAt, looked-++, together-looked, looked-one, looked-none}
 use Rattle.field.proofs.Members.{map-∈, getD-∈, ∈-number}
-use Rattle.field_growth.proofs.MirroredLaws.{mirrored, all-rewritten, first-mirrored, one-of, one-answer-mirrored, one-step-mirrored}
+use Rattle.field_growth.proofs.MirroredLaws.{mirrored, all-rewritten, all-objects, first-mirrored, one-of, one-answer-mirrored, one-step-mirrored}
 use Rattle.field_slots.proofs.NotedLaws.{note-flag}
 use Rattle.field.proofs.Selections.{select-∈}
+use Rattle.field.proofs.Unseen.{together-∈}
 use Rattle.field_growth.proofs.SlotWriting.{slot-rest, slot-struck, knows-struck, knows-noted, knows-more}
 
 -- What holds of any growth.
@@ -137,15 +143,16 @@ module _ (arities : List ℕ) (capacity taken : ℕ) (before : List Situation) (
         sole = λ ks K b k h. inl refl;
       }
 
-  -- all that the move leads to is struck out
-  strikes-here : struckAt taken < length work → (w : List Situation) → ((ks : List Situation) → Knows arities capacity work known ks → All (Gone work ks) w)
-      → (n : ℕ) → Known known ≡ Known n → Strikes arities capacity taken before (w ∷ []) work known n (set work (struckAt taken) 1)
-  strikes-here room w gone n e =
+  -- all that one of the moves leads to is struck out
+  strikes-here : struckAt taken < length work → (ms : List (List Situation)) (w : List Situation) → w ∈ ms
+      → ((ks : List Situation) → Knows arities capacity work known ks → All (Gone work ks) w)
+      → (n : ℕ) → Known known ≡ Known n → Strikes arities capacity taken before ms work known n (set work (struckAt taken) 1)
+  strikes-here room ms w there gone n e =
       let z : known ≡ n = cc in
       record {
         must = λ u. now;
         stays = λ h. now;
-        why = λ ks K b l h. (w, inl refl, gone ks K);
+        why = λ ks K b l h. (w, there, gone ks K);
         others = λ i h l. getD-set-other work (struckAt taken) (struckAt i) 1 0 (λ k. l (omega arith));
         fresh = λ i h l. absurd (omega arith);
         notes = λ i k h l g. note-flag work taken 1 i k g;
@@ -442,9 +449,9 @@ pub joined-several : (a b : ℕ) → (b ≡ 0 → ⊥) → (a ≡ 0 → ⊥) →
 unfolding joined
 joined-several a b h g e = rw (ne-eqb b 0 h, ne-eqb a 0 g, ne-eqb a b e)
 
--- A loop over a list of steps: f says what a part of the list leads to.
-module _ {A : Type 0} (f : List ListedStep → List A) (parts : (xs ys : List ListedStep) → f (xs ++ ys) ≡ f xs ++ f ys) (xs : List ListedStep) (j : ℕ) where
-  part-next : (d : ListedStep) → j < length xs → f (take (j + 1) xs) ≡ f (take j xs) ++ f (getD xs j d ∷ [])
+-- A loop over a list of steps or names: f says what a part of the list leads to.
+module _ {A B : Type 0} (f : List B → List A) (parts : (xs ys : List B) → f (xs ++ ys) ≡ f xs ++ f ys) (xs : List B) (j : ℕ) where
+  part-next : (d : B) → j < length xs → f (take (j + 1) xs) ≡ f (take j xs) ++ f (getD xs j d ∷ [])
   part-next d h = let e : j + 1 ≡ suc j = omega arith in ap (λ k. f (take k xs)) e ∙ ap f (take-suc xs j d h) ∙ parts (take j xs) (getD xs j d ∷ [])
 
   part-rest : f xs ≡ f (take j xs) ++ f (drop j xs)
@@ -463,10 +470,10 @@ module _ (S : Situation → Type 0) where
   all-left [] ys a = tt
   all-left (x ∷ xs) ys a = (a .0, all-left xs ys (a .1))
 
-  all-one : (f : List ListedStep → List Situation) → ((xs ys : List ListedStep) → f (xs ++ ys) ≡ f xs ++ f ys)
-      → (xs : List ListedStep) (j : ℕ) (d : ListedStep) → j < length xs → All S (f xs) → All S (f (getD xs j d ∷ []))
-  all-one f parts xs j d h a =
-      let t : ListedStep = getD xs j d in
+  all-one : {B : Type 0} (f : List B → List Situation) → ((xs ys : List B) → f (xs ++ ys) ≡ f xs ++ f ys)
+      → (xs : List B) (j : ℕ) (d : B) → j < length xs → All S (f xs) → All S (f (getD xs j d ∷ []))
+  all-one {B} f parts xs j d h a =
+      let t : B = getD xs j d in
       let e : f xs ≡ f (take j xs) ++ (f (t ∷ []) ++ f (drop (suc j) xs)) =
       ap f (split-at xs j d h) ∙ parts (take j xs) (t ∷ drop (suc j) xs) ∙ ap (λ l. f (take j xs) ++ l) (parts (t ∷ []) (drop (suc j) xs)) in
       all-left (f (t ∷ [])) (f (drop (suc j) xs)) (all-right (f (take j xs)) (f (t ∷ []) ++ f (drop (suc j) xs)) (subst (All S) e a))
@@ -493,27 +500,6 @@ module _ (second : Bool) (G : List ℕ) (D : Pairs) (name : ℕ) where
       let t : ListedStep = getD ts j d in
       rw (split-at ts j d h, answered-++ s (take j ts) (t ∷ drop (suc j) ts), answered-++ s (t ∷ []) (drop (suc j) ts), answered-one s t e)
       (unanswered-some (answered second G D name s (take j ts)) (leading second (freeFrom G 0 nameCount) D s t name) (answered second G D name s (drop (suc j) ts)))
-
-module _ (second : Bool) (G : List ℕ) (D : Pairs) where
-  moved-++ : (ts xs ys : List ListedStep) → moved second G D (xs ++ ys) ts ≡ moved second G D xs ts ++ moved second G D ys ts
-  unfolding moved
-  moved-++ ts xs ys =
-      let F : List ℕ = freeFrom G 0 nameCount in
-      let g : ListedStep → List Situation = λ s. answersTo nameCount (placed second) F D s ts in
-      moves-are nameCount (placed second) F D (xs ++ ys) ts ∙ ap (map g) (select-++ (permitted D) xs ys) ∙ map-++ g (select (permitted D) xs) (select (permitted D) ys)
-      ∙ sym (ap₂ _++_ (moves-are nameCount (placed second) F D xs ts) (moves-are nameCount (placed second) F D ys ts))
-
-  together-moved : (ts xs ys : List ListedStep)
-      → together (moved second G D (xs ++ ys) ts) ≡ together (moved second G D xs ts) ++ together (moved second G D ys ts)
-  together-moved ts xs ys = ap together (moved-++ ts xs ys) ∙ together-++ (moved second G D xs ts) (moved second G D ys ts)
-
-  moved-one : (s : ListedStep) (ts : List ListedStep) → permitted D s ≡ true → moved second G D (s ∷ []) ts ≡ answered second G D nameCount s ts ∷ []
-  unfolding moved select answered leading answersTo led field.led placed
-  moved-one s ts e = moves-are nameCount (placed second) (freeFrom G 0 nameCount) D (s ∷ []) ts ∙ rw e refl
-
-  moved-none : (s : ListedStep) (ts : List ListedStep) → permitted D s ≡ false → moved second G D (s ∷ []) ts ≡ []
-  unfolding moved select
-  moved-none s ts e = moves-are nameCount (placed second) (freeFrom G 0 nameCount) D (s ∷ []) ts ∙ rw e refl
 
 together-one : (xs : List Situation) → together (xs ∷ []) ≡ xs
 unfolding together
@@ -807,167 +793,300 @@ list-entries : (arities area : List ℕ) (count : ℕ) (ts : List ListedStep) �
 unfolding EntriesAt
 list-entries arities area count ts l = (l .number, l .entry)
 
--- One step of a side.
-module _ (arities free apart : List ℕ) (second : Bool) (taken : ℕ) (area : List ℕ) (at : ℕ) (others : List ℕ) (count capacity : ℕ) (work : List ℕ) (known : ℕ) where
-  pub step-none : known ≤ capacity → PermittedIs apart area at false
-      → GrowsStep arities free apart second taken area at others count capacity work known (Known known) work
-  unfolding PermittedIs
-  step-none few P = record {
-    grows = grows-none capacity work known few;
-    is = λ G D s ts before flags e i l m p.
-        rw (moved-none second G D s ts (sym (P D s (flags .distinction) (flags .pairs) e))) (leads-none arities capacity work known before taken);
+-- One move.
+module _ (arities free apart : List ℕ) (second : Bool) (taken : ℕ) (area : List ℕ) (at : ℕ) (others : List ℕ) (first count name capacity : ℕ) (work : List ℕ)
+    (known : ℕ) (waits : taken < known) where
+  pub move-answered : (r : Growth) (work′ : List ℕ) → GrowsAnswers arities free apart second area at others first count name capacity work known r work′
+      → GrowsMove arities free apart second taken area at others first count name capacity work known r work′
+  move-answered r work′ g = record {
+    grows = g .grows;
+    is = λ G D s ts before flags e i l o some m p.
+        let xs : List Situation = answered second G D name s ts in
+        record {
+          puts = rw (together-one xs) (g .is G D s ts before flags e i l o m p);
+          strikes = λ n z. strikes-kept arities capacity taken before work known waits (xs ∷ []) n work′ some (g .keeps n z);
+        };
   }
 
-  module _ (P : PermittedIs apart area at true) (first : ℕ) (F : FirstAnswerIs area at others count first) (waits : taken < known) where
+  -- where all its answers lead is noted
+  pub move-noted : (a : Added) (work′ : List ℕ) → taken < capacity
+      → AnswersAre arities free apart second area at others first count name capacity work known a work′ → a .led < several → (work″ : List ℕ)
+      → NotesOne work′ taken (a .led) work″ → GrowsMove arities free apart second taken area at others first count name capacity work known (a .growth) work″
+  unfolding LeadsWhere
+  move-noted a work′ inside g few work″ o = record {
+    grows = record { rest = o .spare .rest capacity (omega arith) ∙ g .grown .grows .rest; within = g .grown .grows .within };
+    is = λ G D s ts before flags e i l none some m p.
+        let xs : List Situation = answered second G D name s ts in
+        let x = move-answered (a .growth) work′ (g .grown) .is G D s ts before flags e i l none some m p in
+        record {
+          puts = puts-noted arities capacity work known before (together (xs ∷ [])) (a .growth) work′ work″ taken (o .spare) (x .puts);
+          strikes = λ n z. strikes-noted arities capacity taken before work known waits xs n work′ (a .led) work″ few o
+              (λ ks K b. g .where-to G D s ts before flags e i l none m p n z ks K b) (x .strikes n z);
+        };
+  }
+
+  -- all that it leads to is struck out
+  pub move-gone : (a : Added) (work′ : List ℕ) → a .left ≡ false → known ≤ capacity → slotBytes * capacity ≤ length work
+      → AnswersAre arities free apart second area at others first count name capacity work known a work′
+      → GrowsMove arities free apart second taken area at others first count name capacity work known (Known known) (set work′ (struckAt taken) 1)
+  unfolding Puts GrowsTo
+  move-gone a work′ z few room g = rw (g .same .area z) (record {
+    grows = record {
+      rest = drop-set-lt (slotBytes * capacity) work (struckAt taken) 1 (omega arith);
+      within = grows-none capacity work known few .within;
+    };
+    is = λ G D s ts before flags e i l none some m p.
+        let xs : List Situation = answered second G D name s ts in
+        let put : Puts arities capacity work known before xs (Known known) work =
+        rw (g .same .growth z, g .same .area z) at (g .grown .is G D s ts before flags e i l none m p) in
+        record {
+          puts = rw (together-one xs) (λ ks K b. knows-struck arities capacity work known (grown ks xs) taken 1 (put ks K b));
+          strikes = strikes-here arities capacity taken before work known (omega arith) (xs ∷ []) xs (inl refl) (λ ks K. g .gone z G D s ts flags e i l none p ks K);
+        };
+  })
+
+-- A move for each name.
+module _ (arities free apart : List ℕ) (second : Bool) (taken : ℕ) (area : List ℕ) (at : ℕ) (others : List ℕ) (first count : ℕ) where
+  module _ (name capacity : ℕ) (work : List ℕ) (known : ℕ) where
+    pub name-none : known ≤ capacity → ReceivedIs free area at name false
+        → GrowsNames arities free apart second taken area at others first count (name ∷ []) capacity work known (Known known) work
+    unfolding ReceivedIs lookedWith
+    name-none few R = record {
+      grows = grows-none capacity work known few;
+      is = λ G D s ts before flags e i l none some m p.
+          rw (looked-none second G D s ts name (sym (R G s (flags .names) e))) (leads-none arities capacity work known before taken);
+    }
+
+    pub name-received : ReceivedIs free area at name true → (r : Growth) (work′ : List ℕ)
+        → GrowsMove arities free apart second taken area at others first count name capacity work known r work′
+        → GrowsNames arities free apart second taken area at others first count (name ∷ []) capacity work known r work′
+    unfolding ReceivedIs lookedWith
+    name-received R r work′ g = record {
+      grows = g .grows;
+      is = λ G D s ts before flags e i l none some m p.
+          let there : among (received true nameCount (freeFrom G 0 nameCount) s) name ≡ true = sym (R G s (flags .names) e) in
+          let one = looked-one second G D s ts name there in
+          let xs : List Situation = answered second G D name s ts in
+          rw one (g .is G D s ts before flags e i l none (some name) (m name there) (subst (All (Proper nameCount arities)) (ap together one ∙ together-one xs) p));
+    }
+
+  -- The loop over the names, once those below n are looked at.
+  module _ (capacity : ℕ) (work₀ : List ℕ) (known : ℕ) where
+    pub record Names (work : List ℕ) (now n : ℕ) : Type 0 where
+      pub grows : Grows capacity work₀ known (Known now) work
+      pub is : (G : List ℕ) (D : Pairs) (s : ListedStep) (ts : List ListedStep) (before : List Situation) → Flagged free apart G D
+          → EntryAt area at s → InScope nameCount arities 0 (s .result)
+          → ListAt arities others count ts
+          → select (answers nameCount s) (take first ts) ≡ []
+          → ((name : ℕ) → unanswered (answered second G D name s ts ∷ []) ≡ false)
+          → ((name : ℕ) → among (lookedWith true G s) name ≡ true → MirroredBy second G D name s ts before)
+          → All (Proper nameCount arities) (together (lookedAt second G D s ts (namesFrom 0 nameCount)))
+          → LeadsAfter arities capacity taken before (lookedAt second G D s ts (take n (namesFrom 0 nameCount))) work₀ known (Known now) work
+
+    pub names-start : known ≤ capacity → Names work₀ known 0
+    unfolding select answeredWith
+    names-start few = record {
+      grows = grows-none capacity work₀ known few;
+      is = λ G D s ts before flags e i l none some m p. leads-none arities capacity work₀ known before taken;
+    }
+
+    module _ (waits : taken < known) (work : List ℕ) (now n : ℕ) (x : Names work now n) (more : n < nameCount) (r : Growth) (work′ : List ℕ)
+        (g : GrowsNames arities free apart second taken area at others first count (n ∷ []) capacity work now r work′) where
+      next-name : (G : List ℕ) (D : Pairs) (s : ListedStep) (ts : List ListedStep) (before : List Situation) → Flagged free apart G D
+          → EntryAt area at s → InScope nameCount arities 0 (s .result)
+          → ListAt arities others count ts
+          → select (answers nameCount s) (take first ts) ≡ []
+          → ((name : ℕ) → unanswered (answered second G D name s ts ∷ []) ≡ false)
+          → ((name : ℕ) → among (lookedWith true G s) name ≡ true → MirroredBy second G D name s ts before)
+          → All (Proper nameCount arities) (together (lookedAt second G D s ts (namesFrom 0 nameCount)))
+          → LeadsAfter arities capacity taken before (lookedAt second G D s ts (take (n + 1) (namesFrom 0 nameCount))) work₀ known r work′
+      next-name G D s ts before flags e i l none some m p =
+          let f : List ℕ → List (List Situation) = lookedAt second G D s ts in
+          let ns : List ℕ = namesFrom 0 nameCount in
+          let h : n < length ns = omega (arith, length-names 0 nameCount) in
+          let q : getD ns n 0 ≡ n = names-at 0 nameCount n 0 more ∙ omega arith in
+          let proper : All (Proper nameCount arities) (together (f (getD ns n 0 ∷ []))) =
+          all-one (Proper nameCount arities) (λ xs. together (f xs)) (together-looked second G D s ts) ns n 0 h p in
+          rw (part-next f (looked-++ second G D s ts) ns n 0 h)
+          (leads-more arities capacity work₀ known before taken (f (take n ns)) (f (getD ns n 0 ∷ [])) before (λ ks. all-kept ks (together (f (take n ns))) before)
+          waits now (x .grows .within now refl .0) work r work′ (x .is G D s ts before flags e i l none some m p)
+          (subst (λ y. LeadsAfter arities capacity taken before (f (y ∷ [])) work now r work′) (sym q)
+          (g .is G D s ts before flags e i l none some m (subst (λ y. All (Proper nameCount arities) (together (f (y ∷ [])))) q proper))))
+
+    module _ (waits : taken < known) (work : List ℕ) (now n : ℕ) where
+      pub names-next : (k : ℕ) (work′ : List ℕ) → Names work now n → n < nameCount
+          → GrowsNames arities free apart second taken area at others first count (n ∷ []) capacity work now (Known k) work′ → Names work′ k (n + 1)
+      names-next k work′ x more g = record {
+        grows = grows-more capacity work₀ known now work (Known k) work′ (x .grows) (g .grows);
+        is = next-name waits work now n x more (Known k) work′ g;
+      }
+
+      pub names-full : (work′ : List ℕ) → Names work now n → n < nameCount
+          → GrowsNames arities free apart second taken area at others first count (n ∷ []) capacity work now Full work′
+          → GrowsNames arities free apart second taken area at others first count (namesFrom 0 nameCount) capacity work₀ known Full work′
+      names-full work′ x more g = record {
+        grows = grows-more capacity work₀ known now work Full work′ (x .grows) (g .grows);
+        is = λ G D s ts before flags e i l none some m p.
+            let f : List ℕ → List (List Situation) = lookedAt second G D s ts in
+            let ns : List ℕ = namesFrom 0 nameCount in
+            rw (part-rest f (looked-++ second G D s ts) ns (n + 1))
+            (leads-full arities capacity work₀ known before taken (f (take (n + 1) ns)) (f (drop (n + 1) ns)) work′
+            (next-name waits work now n x more Full work′ g G D s ts before flags e i l none some m p));
+      }
+
+    pub names-end : (work : List ℕ) (now n : ℕ) → Names work now n → nameCount ≤ n
+        → GrowsNames arities free apart second taken area at others first count (namesFrom 0 nameCount) capacity work₀ known (Known now) work
+    names-end work now n x h = record {
+      grows = x .grows;
+      is = λ G D s ts before flags e i l none some m p.
+          rw (part-whole (lookedAt second G D s ts) (looked-++ second G D s ts) (namesFrom 0 nameCount) n (omega (arith, length-names 0 nameCount)))
+          (x .is G D s ts before flags e i l none some m p);
+    }
+
+-- One step of a side.
+module _ (arities free apart : List ℕ) (differ second : Bool) (taken : ℕ) (area : List ℕ) (at : ℕ) (others : List ℕ) (count capacity : ℕ) (work : List ℕ)
+    (known : ℕ) where
+  pub step-none : known ≤ capacity → AllowedIs differ apart area at false
+      → GrowsStep arities free apart differ second taken area at others count capacity work known (Known known) work
+  unfolding AllowedIs
+  step-none few A = record {
+    grows = grows-none capacity work known few;
+    is = λ G D s ts before flags e i b l m p.
+        rw (moved-none differ second G D s ts (sym (A D s (flags .pairs) (flags .distinction) e))) (leads-none arities capacity work known before taken);
+  }
+
+  module _ (A : AllowedIs differ apart area at true) (first : ℕ) (F : FirstAnswerIs area at others count first) (waits : taken < known) where
+    may-be : (G : List ℕ) (D : Pairs) (s : ListedStep) → Flagged free apart G D → EntryAt area at s → allowed differ nameCount D s ≡ true
+    unfolding AllowedIs
+    may-be G D s flags e = sym (A D s (flags .pairs) (flags .distinction) e)
+
     pub step-struck : first ≡ count → known ≤ capacity → slotBytes * capacity ≤ length work
-        → GrowsStep arities free apart second taken area at others count capacity work known (Known known) (set work (struckAt taken) 1)
-    unfolding PermittedIs answered together Puts GrowsTo grown
+        → GrowsStep arities free apart differ second taken area at others count capacity work known (Known known) (set work (struckAt taken) 1)
+    unfolding answeredWith answered Puts GrowsTo grown
     step-struck q few room = record {
       grows = record {
         rest = drop-set-lt (slotBytes * capacity) work (struckAt taken) 1 (omega arith);
         within = grows-none capacity work known few .within;
       };
-      is = λ G D s ts before flags e i l m p.
+      is = λ G D s ts before flags e i b l m p.
           let n : take first ts ≡ ts = take-all first ts (omega (arith, l .number)) in
           let o : select (answers nameCount s) ts ≡ [] = ap (select (answers nameCount s)) (sym n) ∙ F .none s ts e (list-entries arities others count ts l) in
-          rw (moved-one second G D s ts (sym (P D s (flags .distinction) (flags .pairs) e)), o)
+          let f : ℕ → List Situation = λ name. answered second G D name s ts in
+          let empty : (name : ℕ) → f name ≡ [] = λ name. ap (map (λ t. leading second (freeFrom G 0 nameCount) D s t name)) o in
+          let names : List ℕ = lookedWith differ G s in
+          let (name, there) = looked-some differ G s b in
+          rw (moved-one differ second G D s ts b (may-be G D s flags e))
           (record {
-            puts = λ ks K b. knows-struck arities capacity work known ks taken 1 K;
-            strikes = strikes-here arities capacity taken before work known (omega arith) [] (λ ks K. tt);
+            puts = rw (together-empty f names empty) (λ ks K b. knows-struck arities capacity work known ks taken 1 K);
+            strikes = strikes-here arities capacity taken before work known (omega arith) (map f names) []
+                (subst (λ w. w ∈ map f names) (empty name) (∈-map f name names there)) (λ ks K. tt);
           });
     }
 
     module _ (some : first ≡ count → ⊥) where
-      -- a permitted step that has an answer
-      answered-step : (G : List ℕ) (D : Pairs) (s : ListedStep) (ts : List ListedStep) (before : List Situation) → permitted D s ≡ true
-          → EntryAt area at s → ListAt arities others count ts → (r : Growth) (work′ : List ℕ) → ((n : ℕ) → r ≡ Known n → KeepsStruck work known n work′)
-          → Puts arities capacity work known before (answered second G D nameCount s ts) r work′
-          → LeadsAfter arities capacity taken before (moved second G D (s ∷ []) ts) work known r work′
-      answered-step G D s ts before may e l r work′ keeps puts =
-          let o = moved-one second G D s ts may in
+      -- it has an answer
+      some-answer : (G : List ℕ) (D : Pairs) (s : ListedStep) (ts : List ListedStep) → EntryAt area at s → ListAt arities others count ts
+          → (name : ℕ) → unanswered (answered second G D name s ts ∷ []) ≡ false
+      some-answer G D s ts e l name =
           let h : first < count = omega (arith, F .within) in
-          record {
-            puts = rw (ap together o ∙ together-one (answered second G D nameCount s ts)) puts;
-            strikes = λ n z. strikes-kept arities capacity taken before work known waits (moved second G D (s ∷ []) ts) n work′
-                (ap unanswered o ∙ answered-some second G D nameCount s ts first s (omega (arith, l .number)) (F .answer s ts s e (list-entries arities others count ts l) h))
-                (keeps n z);
-          }
+          answered-some second G D name s ts first s (omega (arith, l .number)) (F .answer s ts s e (list-entries arities others count ts l) h)
 
-      pub step-answered : (r : Growth) (work′ : List ℕ) → GrowsAnswers arities free apart second area at others first count nameCount capacity work known r work′
-          → GrowsStep arities free apart second taken area at others count capacity work known r work′
-      unfolding PermittedIs
-      step-answered r work′ g = record {
+      -- names may merge: one move
+      pub step-open : differ ≡ false → (r : Growth) (work′ : List ℕ)
+          → GrowsMove arities free apart second taken area at others first count nameCount capacity work known r work′
+          → GrowsStep arities free apart differ second taken area at others count capacity work known r work′
+      unfolding lookedWith answeredWith
+      step-open q r work′ g = record {
         grows = g .grows;
-        is = λ G D s ts before flags e i l m p.
-            let may = sym (P D s (flags .distinction) (flags .pairs) e) in
-            let t = ap together (moved-one second G D s ts may) ∙ together-one (answered second G D nameCount s ts) in
-            answered-step G D s ts before may e l r work′ (g .keeps)
-            (g .is G D s ts before flags e i l (F .none s ts e (list-entries arities others count ts l)) (m s (inl refl) may) (subst (All (Proper nameCount arities)) t p));
+        is = λ G D s ts before flags e i b l m p.
+            let may = may-be G D s flags e in
+            let xs : List Situation = answered second G D nameCount s ts in
+            let one : moved differ second G D (s ∷ []) ts ≡ xs ∷ [] =
+            moved-one differ second G D s ts b may ∙ ap (λ d. answeredWith second G D (lookedWith d G s) s ts) q in
+            rw one (g .is G D s ts before flags e i l (F .none s ts e (list-entries arities others count ts l)) (some-answer G D s ts e l nameCount)
+            (m s (inl refl) may nameCount (subst (λ d. nameCount ∈ lookedWith d G s) (sym q) (inl refl)))
+            (subst (All (Proper nameCount arities)) (ap together one ∙ together-one xs) p));
       }
 
-      -- where all its answers lead is noted
-      pub step-noted : (a : Added) (work′ : List ℕ) → taken < capacity → AnswersAre arities free apart second area at others first count nameCount capacity work known a work′
-          → a .led < several → (work″ : List ℕ) → NotesOne work′ taken (a .led) work″
-          → GrowsStep arities free apart second taken area at others count capacity work known (a .growth) work″
-      unfolding PermittedIs LeadsWhere
-      step-noted a work′ inside g few work″ o = record {
-        grows = record { rest = o .spare .rest capacity (omega arith) ∙ g .grown .grows .rest; within = g .grown .grows .within };
-        is = λ G D s ts before flags e i l m p.
-            let may = sym (P D s (flags .distinction) (flags .pairs) e) in
-            let xs : List Situation = answered second G D nameCount s ts in
-            let one = moved-one second G D s ts may in
-            let t = ap together one ∙ together-one xs in
-            let proper = subst (All (Proper nameCount arities)) t p in
-            let none = F .none s ts e (list-entries arities others count ts l) in
-            let x = step-answered (a .growth) work′ (g .grown) .is G D s ts before flags e i l m p in
-            record {
-              puts = puts-noted arities capacity work known before (together (moved second G D (s ∷ []) ts)) (a .growth) work′ work″ taken (o .spare) (x .puts);
-              strikes = λ n z. subst (λ ms. Strikes arities capacity taken before ms work known n work″) (sym one)
-                  (strikes-noted arities capacity taken before work known waits xs n work′ (a .led) work″ few o
-                  (λ ks K b. g .where-to G D s ts before flags e i l none (m s (inl refl) may) proper n z ks K b)
-                  (subst (λ ms. Strikes arities capacity taken before ms work known n work′) one (x .strikes n z)));
-            };
+      -- all names differ: one for each name that it receives
+      pub step-named : differ ≡ true → (r : Growth) (work′ : List ℕ)
+          → GrowsNames arities free apart second taken area at others first count (namesFrom 0 nameCount) capacity work known r work′
+          → GrowsStep arities free apart differ second taken area at others count capacity work known r work′
+      unfolding lookedWith
+      step-named q r work′ g = record {
+        grows = g .grows;
+        is = λ G D s ts before flags e i b l m p.
+            let may = may-be G D s flags e in
+            let all : moved differ second G D (s ∷ []) ts ≡ lookedAt second G D s ts (namesFrom 0 nameCount) =
+            moved-one differ second G D s ts b may ∙ ap (λ d. answeredWith second G D (lookedWith d G s) s ts) q
+            ∙ ap (λ names. answeredWith second G D names s ts) (received-ascending G s b) in
+            rw all (g .is G D s ts before flags e i l (F .none s ts e (list-entries arities others count ts l)) (some-answer G D s ts e l)
+            (λ name a. m s (inl refl) may name (subst (λ d. name ∈ lookedWith d G s) (sym q) (among-∈ (lookedWith true G s) name a)))
+            (subst (λ ms. All (Proper nameCount arities) (together ms)) all p));
       }
-
-      -- all that it leads to is struck out
-      pub step-gone : (a : Added) (work′ : List ℕ) → a .left ≡ false → known ≤ capacity → slotBytes * capacity ≤ length work
-          → AnswersAre arities free apart second area at others first count nameCount capacity work known a work′
-          → GrowsStep arities free apart second taken area at others count capacity work known (Known known) (set work′ (struckAt taken) 1)
-      unfolding PermittedIs Puts GrowsTo
-      step-gone a work′ z few room g = rw (g .same .area z) (record {
-        grows = record {
-          rest = drop-set-lt (slotBytes * capacity) work (struckAt taken) 1 (omega arith);
-          within = grows-none capacity work known few .within;
-        };
-        is = λ G D s ts before flags e i l m p.
-            let may = sym (P D s (flags .distinction) (flags .pairs) e) in
-            let xs : List Situation = answered second G D nameCount s ts in
-            let t = ap together (moved-one second G D s ts may) ∙ together-one xs in
-            let o = F .none s ts e (list-entries arities others count ts l) in
-            let proper = subst (All (Proper nameCount arities)) t p in
-            let put : Puts arities capacity work known before xs (Known known) work =
-            rw (g .same .growth z, g .same .area z) at (g .grown .is G D s ts before flags e i l o (m s (inl refl) may) proper) in
-            record {
-              puts = rw t (λ ks K b. knows-struck arities capacity work known (grown ks xs) taken 1 (put ks K b));
-              strikes = rw (moved-one second G D s ts may)
-                  (strikes-here arities capacity taken before work known (omega arith) xs (λ ks K. g .gone z G D s ts flags e i l o proper ks K));
-            };
-      })
 
       -- without a condition, made by the second side: its answers have its header
-      pub step-mirrored : known ≤ capacity → second ≡ true → (b : Bool) → TrivialIs area at b → b ≡ true
-          → GrowsStep arities free apart second taken area at others count capacity work known (Known known) work
-      unfolding PermittedIs answered
-      step-mirrored few z b T q = record {
+      pub step-mirrored : known ≤ capacity → second ≡ true → (t : Bool) → TrivialIs area at t → t ≡ true
+          → GrowsStep arities free apart differ second taken area at others count capacity work known (Known known) work
+      unfolding answeredWith answered
+      step-mirrored few z t T q = record {
         grows = grows-none capacity work known few;
-        is = λ G D s ts before flags e i l m p.
-            let may = sym (P D s (flags .distinction) (flags .pairs) e) in
-            answered-step G D s ts before may e l (Known known) work (keeps-none work known)
-            (puts-known arities capacity work known before (answered second G D nameCount s ts) (all-before G D s ts before may e l m));
+        is = λ G D s ts before flags e i b l m p.
+            let may = may-be G D s flags e in
+            let f : ℕ → List Situation = λ name. answered second G D name s ts in
+            let ms : List (List Situation) = map f (lookedWith differ G s) in
+            rw (moved-one differ second G D s ts b may)
+            (record {
+              puts = puts-known arities capacity work known before (together ms) (all-before G D s ts before e l (m s (inl refl) may));
+              strikes = λ n y. strikes-kept arities capacity taken before work known waits ms n work
+                  (unanswered-each f (lookedWith differ G s) (some-answer G D s ts e l)) (keeps-none work known n y);
+            });
       }
         where
-          all-before : (G : List ℕ) (D : Pairs) (s : ListedStep) (ts : List ListedStep) (before : List Situation) → permitted D s ≡ true
-              → EntryAt area at s → ListAt arities others count ts → Mirrored second G D (s ∷ []) ts before
-              → (u : Situation) → u ∈ answered second G D nameCount s ts → u ∈ before
-          all-before G D s ts before may e l m u i =
-              let (t, w, k) = map-∈ (λ t. leading second (freeFrom G 0 nameCount) D s t nameCount) u (select (answers nameCount s) ts) i in
-              let (v, a) = select-∈ (answers nameCount s) t ts w in
-              let (j, c, y) = ∈-number t ts v in
-              let f : EntryAt others (stepBytes * j) t = subst (EntryAt others (stepBytes * j)) (sym (y s)) (l .entry j s (omega (arith, l .number))) in
-              subst (λ v. v ∈ before) (sym k) (m s (inl refl) may z t v a (trivial-header area at b T q others (stepBytes * j) s t e f a))
+          all-before : (G : List ℕ) (D : Pairs) (s : ListedStep) (ts : List ListedStep) (before : List Situation) → EntryAt area at s → ListAt arities others count ts
+              → ((name : ℕ) → name ∈ lookedWith differ G s → MirroredBy second G D name s ts before)
+              → (u : Situation) → u ∈ together (map (λ name. answered second G D name s ts) (lookedWith differ G s)) → u ∈ before
+          all-before G D s ts before e l m u i =
+              let (w, a, d) = together-∈ (map (λ name. answered second G D name s ts) (lookedWith differ G s)) u i in
+              let (name, j, k) = map-∈ (λ name. answered second G D name s ts) w (lookedWith differ G s) a in
+              let (t, v, n) = map-∈ (λ t. leading second (freeFrom G 0 nameCount) D s t name) u (select (answers nameCount s) ts) (subst (λ w. u ∈ w) k d) in
+              let (y, c) = select-∈ (answers nameCount s) t ts v in
+              let (o, g, h) = ∈-number t ts y in
+              let f : EntryAt others (stepBytes * o) t = subst (EntryAt others (stepBytes * o)) (sym (h s)) (l .entry o s (omega (arith, l .number))) in
+              subst (λ v. v ∈ before) (sym n) (m name j z t y c (trivial-header area at _ T q others (stepBytes * o) s t e f c))
 
 -- The steps of one side.
-module _ (arities free apart : List ℕ) (second : Bool) (taken : ℕ) (area : List ℕ) (steps : ℕ) (others : List ℕ) (count capacity : ℕ) (work₀ : List ℕ) (known : ℕ) where
+module _ (arities free apart : List ℕ) (differ second : Bool) (taken : ℕ) (area : List ℕ) (steps : ℕ) (others : List ℕ) (count capacity : ℕ) (work₀ : List ℕ) (known : ℕ) where
   -- The loop over them, once the first i are looked at.
   pub record Steps (work : List ℕ) (now i : ℕ) : Type 0 where
     pub grows : Grows capacity work₀ known (Known now) work
     pub is : (G : List ℕ) (D : Pairs) (ss ts : List ListedStep) (before : List Situation) → Flagged free apart G D
         → ListAt arities area steps ss → ListAt arities others count ts
-        → Mirrored second G D ss ts before
-        → All (Proper nameCount arities) (together (moved second G D ss ts))
-        → LeadsAfter arities capacity taken before (moved second G D (take i ss) ts) work₀ known (Known now) work
+        → Mirrored differ second G D ss ts before
+        → All (Proper nameCount arities) (together (moved differ second G D ss ts))
+        → LeadsAfter arities capacity taken before (moved differ second G D (take i ss) ts) work₀ known (Known now) work
 
   pub steps-start : known ≤ capacity → Steps work₀ known 0
   unfolding moved moves select joinAll
   steps-start few = record { grows = grows-none capacity work₀ known few; is = λ G D ss ts before flags k l m p. leads-none arities capacity work₀ known before taken }
 
   module _ (waits : taken < known) (work : List ℕ) (now i : ℕ) (x : Steps work now i) (more : i < steps) (r : Growth) (work′ : List ℕ)
-      (g : GrowsStep arities free apart second taken area (stepBytes * i) others count capacity work now r work′) where
+      (g : GrowsStep arities free apart differ second taken area (stepBytes * i) others count capacity work now r work′) where
     next-step : (G : List ℕ) (D : Pairs) (ss ts : List ListedStep) (before : List Situation) → Flagged free apart G D
         → ListAt arities area steps ss → ListAt arities others count ts
-        → Mirrored second G D ss ts before
-        → All (Proper nameCount arities) (together (moved second G D ss ts))
-        → LeadsAfter arities capacity taken before (moved second G D (take (i + 1) ss) ts) work₀ known r work′
+        → Mirrored differ second G D ss ts before
+        → All (Proper nameCount arities) (together (moved differ second G D ss ts))
+        → LeadsAfter arities capacity taken before (moved differ second G D (take (i + 1) ss) ts) work₀ known r work′
     next-step G D ss ts before flags k l m p =
-        let f : List ListedStep → List (List Situation) = λ xs. moved second G D xs ts in
+        let f : List ListedStep → List (List Situation) = λ xs. moved differ second G D xs ts in
         let h : i < length ss = omega (arith, k .number) in
         let d : ListedStep = some ss (omega arith) in
         let s : ListedStep = getD ss i d in
-        rw (part-next f (moved-++ second G D ts) ss i d h)
+        rw (part-next f (moved-++ differ second G D ts) ss i d h)
         (leads-more arities capacity work₀ known before taken (f (take i ss)) (f (s ∷ [])) before (λ ks. all-kept ks (together (f (take i ss))) before)
         waits now (x .grows .within now refl .0) work r work′ (x .is G D ss ts before flags k l m p)
-        (g .is G D s ts before flags (k .entry i d more) (k .scope i d more) l (one-step-mirrored second G D before ss ts s (getD-∈ ss i d h) m)
-        (all-one (Proper nameCount arities) (λ xs. together (moved second G D xs ts)) (together-moved second G D ts) ss i d h p)))
+        (g .is G D s ts before flags (k .entry i d more) (k .scope i d more) (k .objects i d more) l (one-step-mirrored second G D differ before ss ts s (getD-∈ ss i d h) m)
+        (all-one (Proper nameCount arities) (λ xs. together (moved differ second G D xs ts)) (together-moved differ second G D ts) ss i d h p)))
       where
         some : (xs : List ListedStep) → 0 < length xs → ListedStep
         some [] h = absurd (omega arith)
@@ -975,34 +1094,34 @@ module _ (arities free apart : List ℕ) (second : Bool) (taken : ℕ) (area : L
 
   module _ (waits : taken < known) (work : List ℕ) (now i : ℕ) where
     pub steps-next : (n : ℕ) (work′ : List ℕ) → Steps work now i → i < steps
-        → GrowsStep arities free apart second taken area (stepBytes * i) others count capacity work now (Known n) work′ → Steps work′ n (i + 1)
+        → GrowsStep arities free apart differ second taken area (stepBytes * i) others count capacity work now (Known n) work′ → Steps work′ n (i + 1)
     steps-next n work′ x more g = record {
       grows = grows-more capacity work₀ known now work (Known n) work′ (x .grows) (g .grows);
       is = next-step waits work now i x more (Known n) work′ g;
     }
 
     pub steps-full : (work′ : List ℕ) → Steps work now i → i < steps
-        → GrowsStep arities free apart second taken area (stepBytes * i) others count capacity work now Full work′
-        → GrowsSide arities free apart second taken area steps others count capacity work₀ known Full work′
+        → GrowsStep arities free apart differ second taken area (stepBytes * i) others count capacity work now Full work′
+        → GrowsSide arities free apart differ second taken area steps others count capacity work₀ known Full work′
     steps-full work′ x more g = record {
       grows = grows-more capacity work₀ known now work Full work′ (x .grows) (g .grows);
       is = λ G D ss ts before flags k l m p.
-          let f : List ListedStep → List (List Situation) = λ xs. moved second G D xs ts in
-          rw (part-rest f (moved-++ second G D ts) ss (i + 1))
+          let f : List ListedStep → List (List Situation) = λ xs. moved differ second G D xs ts in
+          rw (part-rest f (moved-++ differ second G D ts) ss (i + 1))
           (leads-full arities capacity work₀ known before taken (f (take (i + 1) ss)) (f (drop (i + 1) ss)) work′
           (next-step waits work now i x more Full work′ g G D ss ts before flags k l m p));
     }
 
   pub steps-end : (work : List ℕ) (now i : ℕ) → Steps work now i → steps ≤ i
-      → GrowsSide arities free apart second taken area steps others count capacity work₀ known (Known now) work
+      → GrowsSide arities free apart differ second taken area steps others count capacity work₀ known (Known now) work
   steps-end work now i x h = record {
     grows = x .grows;
     is = λ G D ss ts before flags k l m p.
-        rw (part-whole (λ xs. moved second G D xs ts) (moved-++ second G D ts) ss i (omega (arith, k .number))) (x .is G D ss ts before flags k l m p);
+        rw (part-whole (λ xs. moved differ second G D xs ts) (moved-++ differ second G D ts) ss i (omega (arith, k .number))) (x .is G D ss ts before flags k l m p);
   }
 
 -- Both sides.
-module _ (arities free apart : List ℕ) (taken : ℕ) (firsts : List ℕ) (n : ℕ) (seconds : List ℕ) (m capacity : ℕ) (work : List ℕ) (known : ℕ) where
+module _ (arities free apart : List ℕ) (differ : Bool) (taken : ℕ) (firsts : List ℕ) (n : ℕ) (seconds : List ℕ) (m capacity : ℕ) (work : List ℕ) (known : ℕ) where
   -- what holds of all moves holds of those of each side
   module _ (ms ns : List (List Situation)) (p : All (Proper nameCount arities) (together (ms ++ ns))) where
     of-both : All (Proper nameCount arities) (together ms ++ together ns)
@@ -1014,25 +1133,26 @@ module _ (arities free apart : List ℕ) (taken : ℕ) (firsts : List ℕ) (n : 
     of-second : All (Proper nameCount arities) (together ns)
     of-second = all-right (Proper nameCount arities) (together ms) (together ns) of-both
 
-  pub sides-full : (work′ : List ℕ) → GrowsSide arities free apart false taken firsts n seconds m capacity work known Full work′
-      → GrowsSides arities free apart taken firsts n seconds m capacity work known Full work′
+  pub sides-full : (work′ : List ℕ) → GrowsSide arities free apart differ false taken firsts n seconds m capacity work known Full work′
+      → GrowsSides arities free apart differ taken firsts n seconds m capacity work known Full work′
   sides-full work′ g = record {
     grows = g .grows;
     is = λ G D ps qs flags k l p.
-        let ms = moved false G D ps qs in
-        let ns = moved true G D qs ps in
-        leads-full arities capacity work known [] taken ms ns work′ (g .is G D ps qs [] flags k l (first-mirrored G D ps qs []) (of-first ms ns p));
+        let ms = moved differ false G D ps qs in
+        let ns = moved differ true G D qs ps in
+        leads-full arities capacity work known [] taken ms ns work′ (g .is G D ps qs [] flags k l (first-mirrored differ G D ps qs []) (of-first ms ns p));
   }
 
-  pub sides-both : taken < known → (now : ℕ) (work′ : List ℕ) → GrowsSide arities free apart false taken firsts n seconds m capacity work known (Known now) work′
-      → (r : Growth) (work″ : List ℕ) → GrowsSide arities free apart true taken seconds m firsts n capacity work′ now r work″
-      → GrowsSides arities free apart taken firsts n seconds m capacity work known r work″
+  pub sides-both : taken < known → (now : ℕ) (work′ : List ℕ) → GrowsSide arities free apart differ false taken firsts n seconds m capacity work known (Known now) work′
+      → (r : Growth) (work″ : List ℕ) → GrowsSide arities free apart differ true taken seconds m firsts n capacity work′ now r work″
+      → GrowsSides arities free apart differ taken firsts n seconds m capacity work known r work″
   sides-both waits now work′ g r work″ h = record {
     grows = grows-more capacity work known now work′ r work″ (g .grows) (h .grows);
     is = λ G D ps qs flags k l p.
-        let ms = moved false G D ps qs in
-        let ns = moved true G D qs ps in
+        let ms = moved differ false G D ps qs in
+        let ns = moved differ true G D qs ps in
         leads-more arities capacity work known [] taken ms ns (together ms) (λ ks b. all-grown ks (together ms)) waits now (g .grows .within now refl .0) work′ r work″
-        (g .is G D ps qs [] flags k l (first-mirrored G D ps qs []) (of-first ms ns p))
-        (h .is G D qs ps (together ms) flags l k (mirrored G D ps qs (all-rewritten arities seconds m qs l) (all-rewritten arities firsts n ps k)) (of-second ms ns p));
+        (g .is G D ps qs [] flags k l (first-mirrored differ G D ps qs []) (of-first ms ns p))
+        (h .is G D qs ps (together ms) flags l k (mirrored differ G D ps qs (all-rewritten arities seconds m qs l)
+        (all-rewritten arities firsts n ps k) (all-objects arities firsts n ps k)) (of-second ms ns p));
   }

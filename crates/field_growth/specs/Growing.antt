@@ -9,7 +9,7 @@ use lib.Dec.{eqb}
 use lib.ListN.{length, getD, take, drop}
 use lib.Seq.{sets}
 use Rattle.calculus.specs.Cond.{Pairs}
-use Rattle.calculus.specs.Distinction.{Irr}
+use Rattle.calculus.specs.Distinction.{Irr, among}
 use Rattle.terms.specs.Answer.{result}
 use Rattle.terms.specs.Encoding.{InScope}
 use Rattle.terms.specs.Limits.{nameCount}
@@ -25,7 +25,7 @@ use Rattle.field_pairs.specs.NameFlags.{HasNames}
 use Rattle.field_slots.specs.Noted.{notedCount, noteAt, Stands, SoleIn}
 use Rattle.field.specs.Situation.{Situation, freeFrom}
 use Rattle.field_pairs.specs.Slot.{flagsOf, keyOf, keyBytes, slotBytes, struckAt}
-use Rattle.field.specs.Successors.{select, permitted, answers, moves}
+use Rattle.field.specs.Successors.{select, answers, allowed, received, moves}
 use Rattle.field_renewal.specs.ListedEntries.{ListAt, EntriesAt}
 use Rattle.field_growth.specs.declared.growth.Added.{Added}
 use Rattle.field_growth.specs.declared.growth.Growth.{Growth}
@@ -140,9 +140,18 @@ abbrev pub MirroredBy : Bool → List ℕ → Pairs → ℕ → ListedStep → L
 MirroredBy second G D name s ts before =
     second ≡ true → (t : ListedStep) → t ∈ ts → answers nameCount s t ≡ true → SameHeader s t → leading second (freeFrom G 0 nameCount) D s t name ∈ before
 
--- of every permitted step
-abbrev pub Mirrored : Bool → List ℕ → Pairs → List ListedStep → List ListedStep → List Situation → Type 0
-Mirrored second G D ss ts before = (s : ListedStep) → s ∈ ss → permitted D s ≡ true → MirroredBy second G D nameCount s ts before
+-- The names with which a step is looked at: where all names differ each that it receives; else once, with none of the names.
+unfoldable pub lookedWith : Bool → List ℕ → ListedStep → List ℕ
+lookedWith false G s = nameCount ∷ []
+lookedWith true G s = received true nameCount (freeFrom G 0 nameCount) s
+
+unfoldable pub answeredWith : Bool → List ℕ → Pairs → List ℕ → ListedStep → List ListedStep → List (List Situation)
+answeredWith second G D names s ts = map (λ name. answered second G D name s ts) names
+
+-- of every step that must be answered, with each of its names
+abbrev pub Mirrored : Bool → Bool → List ℕ → Pairs → List ListedStep → List ListedStep → List Situation → Type 0
+Mirrored differ second G D ss ts before =
+    (s : ListedStep) → s ∈ ss → allowed differ nameCount D s ≡ true → (name : ℕ) → name ∈ lookedWith differ G s → MirroredBy second G D name s ts before
 
 -- One answer to the step at `at`.
 pub record GrowsAnswer (arities free apart : List ℕ) (second : Bool) (area : List ℕ) (at : ℕ) (others : List ℕ) (place name capacity : ℕ) (work : List ℕ)
@@ -212,9 +221,9 @@ pub record FirstAnswerIs (area : List ℕ) (at : ℕ) (others : List ℕ) (count
   pub answer : (s : ListedStep) (ts : List ListedStep) (d : ListedStep) → EntryAt area at s → EntriesAt others count ts → r < count
       → answers nameCount s (getD ts r d) ≡ true
 
--- what the permitted of ss lead to, each by its answers
-unfoldable pub moved : Bool → List ℕ → Pairs → List ListedStep → List ListedStep → List (List Situation)
-moved second G D ss ts = moves false nameCount (placed second) (freeFrom G 0 nameCount) D ss ts
+-- what those of ss lead to that must be answered, each by its answers
+unfoldable pub moved : Bool → Bool → List ℕ → Pairs → List ListedStep → List ListedStep → List (List Situation)
+moved differ second G D ss ts = moves differ nameCount (placed second) (freeFrom G 0 nameCount) D ss ts
 
 -- Of the situation of number `taken` the moves ms were looked at: it is struck out if one of them has no answer, and it is only if all answers of one
 -- lead to situations that were struck out before. The others keep their bytes. What is noted of it newly are only answers to moves.
@@ -240,32 +249,58 @@ pub record LeadsAfter (arities : List ℕ) (capacity taken : ℕ) (before : List
 abbrev pub Leads : List ℕ → ℕ → ℕ → List (List Situation) → List ℕ → ℕ → Growth → List ℕ → Type 0
 Leads arities capacity taken ms work known r work′ = LeadsAfter arities capacity taken [] ms work known r work′
 
--- One step.
-pub record GrowsStep (arities free apart : List ℕ) (second : Bool) (taken : ℕ) (area : List ℕ) (at : ℕ) (others : List ℕ) (count capacity : ℕ) (work : List ℕ)
-    (known : ℕ) (r : Growth) (work′ : List ℕ) : Type 0 where
+-- One move: a step that has answers, looked at with one name.
+pub record GrowsMove (arities free apart : List ℕ) (second : Bool) (taken : ℕ) (area : List ℕ) (at : ℕ) (others : List ℕ) (first count name capacity : ℕ)
+    (work : List ℕ) (known : ℕ) (r : Growth) (work′ : List ℕ) : Type 0 where
   pub grows : Grows capacity work known r work′
   pub is : (G : List ℕ) (D : Pairs) (s : ListedStep) (ts : List ListedStep) (before : List Situation) → Flagged free apart G D
       → EntryAt area at s → InScope nameCount arities 0 (s .result)
       → ListAt arities others count ts
-      → Mirrored second G D (s ∷ []) ts before
-      → All (Proper nameCount arities) (together (moved second G D (s ∷ []) ts))
-      → LeadsAfter arities capacity taken before (moved second G D (s ∷ []) ts) work known r work′
+      → select (answers nameCount s) (take first ts) ≡ []
+      → unanswered (answered second G D name s ts ∷ []) ≡ false
+      → MirroredBy second G D name s ts before
+      → All (Proper nameCount arities) (answered second G D name s ts)
+      → LeadsAfter arities capacity taken before (answered second G D name s ts ∷ []) work known r work′
+
+-- The same with those of `names` that the step receives.
+pub record GrowsNames (arities free apart : List ℕ) (second : Bool) (taken : ℕ) (area : List ℕ) (at : ℕ) (others : List ℕ) (first count : ℕ) (names : List ℕ)
+    (capacity : ℕ) (work : List ℕ) (known : ℕ) (r : Growth) (work′ : List ℕ) : Type 0 where
+  pub grows : Grows capacity work known r work′
+  pub is : (G : List ℕ) (D : Pairs) (s : ListedStep) (ts : List ListedStep) (before : List Situation) → Flagged free apart G D
+      → EntryAt area at s → InScope nameCount arities 0 (s .result)
+      → ListAt arities others count ts
+      → select (answers nameCount s) (take first ts) ≡ []
+      → ((name : ℕ) → unanswered (answered second G D name s ts ∷ []) ≡ false)
+      → ((name : ℕ) → among (lookedWith true G s) name ≡ true → MirroredBy second G D name s ts before)
+      → (let ms = answeredWith second G D (select (among (lookedWith true G s)) names) s ts in
+      All (Proper nameCount arities) (together ms) → LeadsAfter arities capacity taken before ms work known r work′)
+
+-- One step.
+pub record GrowsStep (arities free apart : List ℕ) (differ second : Bool) (taken : ℕ) (area : List ℕ) (at : ℕ) (others : List ℕ) (count capacity : ℕ)
+    (work : List ℕ) (known : ℕ) (r : Growth) (work′ : List ℕ) : Type 0 where
+  pub grows : Grows capacity work known r work′
+  pub is : (G : List ℕ) (D : Pairs) (s : ListedStep) (ts : List ListedStep) (before : List Situation) → Flagged free apart G D
+      → EntryAt area at s → InScope nameCount arities 0 (s .result) → s .object < nameCount
+      → ListAt arities others count ts
+      → Mirrored differ second G D (s ∷ []) ts before
+      → All (Proper nameCount arities) (together (moved differ second G D (s ∷ []) ts))
+      → LeadsAfter arities capacity taken before (moved differ second G D (s ∷ []) ts) work known r work′
 
 -- Every step of one side.
-pub record GrowsSide (arities free apart : List ℕ) (second : Bool) (taken : ℕ) (area : List ℕ) (steps : ℕ) (others : List ℕ) (count capacity : ℕ)
+pub record GrowsSide (arities free apart : List ℕ) (differ second : Bool) (taken : ℕ) (area : List ℕ) (steps : ℕ) (others : List ℕ) (count capacity : ℕ)
     (work : List ℕ) (known : ℕ) (r : Growth) (work′ : List ℕ) : Type 0 where
   pub grows : Grows capacity work known r work′
   pub is : (G : List ℕ) (D : Pairs) (ss ts : List ListedStep) (before : List Situation) → Flagged free apart G D
       → ListAt arities area steps ss → ListAt arities others count ts
-      → Mirrored second G D ss ts before
-      → All (Proper nameCount arities) (together (moved second G D ss ts))
-      → LeadsAfter arities capacity taken before (moved second G D ss ts) work known r work′
+      → Mirrored differ second G D ss ts before
+      → All (Proper nameCount arities) (together (moved differ second G D ss ts))
+      → LeadsAfter arities capacity taken before (moved differ second G D ss ts) work known r work′
 
 -- Both sides.
-pub record GrowsSides (arities free apart : List ℕ) (taken : ℕ) (firsts : List ℕ) (n : ℕ) (seconds : List ℕ) (m capacity : ℕ) (work : List ℕ)
+pub record GrowsSides (arities free apart : List ℕ) (differ : Bool) (taken : ℕ) (firsts : List ℕ) (n : ℕ) (seconds : List ℕ) (m capacity : ℕ) (work : List ℕ)
     (known : ℕ) (r : Growth) (work′ : List ℕ) : Type 0 where
   pub grows : Grows capacity work known r work′
   pub is : (G : List ℕ) (D : Pairs) (ps qs : List ListedStep) → Flagged free apart G D
       → ListAt arities firsts n ps → ListAt arities seconds m qs
-      → All (Proper nameCount arities) (together (moved false G D ps qs ++ moved true G D qs ps))
-      → Leads arities capacity taken (moved false G D ps qs ++ moved true G D qs ps) work known r work′
+      → All (Proper nameCount arities) (together (moved differ false G D ps qs ++ moved differ true G D qs ps))
+      → Leads arities capacity taken (moved differ false G D ps qs ++ moved differ true G D qs ps) work known r work′

@@ -1,16 +1,21 @@
 // Moved from explore.
+ghost use mathlib.Core.List.{[], _∷_};
 ghost use mathlib.Core.Path.{_≡_};
 ghost use Prim.Native.Nat.{_+_, _*_, _<_, _≤_};
 ghost use lib.ListN.{length};
+ghost use Rattle.terms.specs.Limits.{nameCount};
 ghost use Rattle.steps.specs.Limits.{stepBytes, mostSteps};
+ghost use Rattle.steps.specs.Listed.{namesFrom};
 ghost use Rattle.field_slots.specs.Chains.{LinkIs};
-ghost use Rattle.field_growth.specs.Growing.{slotWith, joined, AddedIs, AnswerIs, AnswersAre, FirstAnswerIs, GrowsStep};
+ghost use Rattle.field_growth.specs.Growing.{slotWith, joined, AddedIs, AnswerIs, AnswersAre, FirstAnswerIs};
+ghost use Rattle.field_growth.specs.Growing.{GrowsMove, GrowsNames, GrowsStep};
 ghost use Rattle.field_pairs.specs.Slot.{keyBytes, slotBytes};
 use field_pairs::entries::answers;
 use field_pairs::entries::same_header;
 use field_pairs::entries::trivial;
+use field_pairs::names::is_received;
 use field_pairs::pairs::PAIR_COUNT;
-use field_pairs::pairs::permitted;
+use field_pairs::pairs::allowed;
 use field_slots::chains::find_chained;
 use field_slots::chains::link;
 use field_slots::find::Found;
@@ -211,10 +216,9 @@ fn first_answer(area: &[u8], at: usize, others: &[u8], count: usize) -> usize
     count
 }
 
-// What the step at `at` of the situation in slot `taken` leads to, if it is permitted. Where no answer is there, or all lead to situations that are
-// struck out, none is ever left: the situation is struck out. Where all lead to one situation, that is noted. All answers to a step without a
-// condition have its header.
-pub fn grow_step(
+// What the answers to the step at `at` of the situation in slot `taken` lead to, one move. Where all lead to situations that are struck out, none is
+// ever left: the situation is struck out. Where all lead to one situation, that is noted.
+fn grow_move(
     arities: &[u8],
     free: &[u8],
     apart: [u8; PAIR_COUNT],
@@ -223,27 +227,16 @@ pub fn grow_step(
     area: &[u8],
     at: usize,
     others: &[u8],
+    first: usize,
     count: usize,
+    name: usize,
     work: &mut [u8],
     capacity: usize,
     known: usize,
 ) -> Growth
-    requires { ⌜ (taken < known) × (known ≤ capacity) × (capacity ≤ 4096) × (slotBytes * capacity ≤ length (now work)) × (at + stepBytes ≤ length (now area)) × (count ≤ mostSteps) × (mostSteps * stepBytes ≤ length (now others)) ⌝ }
-    ensures { λ r. ⌜ GrowsStep (now (arities .entry)) (now (free .entry)) apart second taken (now (area .entry)) at (now (others .entry)) count capacity (now (work .entry)) known r (now (work .exit)) ⌝ }
+    requires { ⌜ (taken < known) × (known ≤ capacity) × (capacity ≤ 4096) × (slotBytes * capacity ≤ length (now work)) × (at + stepBytes ≤ length (now area)) × (first ≤ count) × (count ≤ mostSteps) × (mostSteps * stepBytes ≤ length (now others)) ⌝ }
+    ensures { λ r. ⌜ GrowsMove (now (arities .entry)) (now (free .entry)) apart second taken (now (area .entry)) at (now (others .entry)) first count name capacity (now (work .entry)) known r (now (work .exit)) ⌝ }
 {
-    if !permitted(&apart, area, at) {
-        return Growth::Known(known);
-    }
-    let first = first_answer(area, at, others, count);
-    if first == count {
-        work[SLOT_BYTES * taken + KEY_BYTES] = 1;
-        return Growth::Known(known);
-    }
-    if second {
-        if trivial(area, at) {
-            return Growth::Known(known);
-        }
-    }
     let added = grow_answers(
         arities,
         free,
@@ -254,7 +247,7 @@ pub fn grow_step(
         others,
         first,
         count,
-        NAME_COUNT,
+        name,
         work,
         capacity,
         known,
@@ -267,6 +260,162 @@ pub fn grow_step(
     }
     work[SLOT_BYTES * taken + KEY_BYTES] = 1;
     Growth::Known(known)
+}
+
+// The move with `name`, if the step receives it.
+fn grow_name(
+    arities: &[u8],
+    free: &[u8],
+    apart: [u8; PAIR_COUNT],
+    second: bool,
+    taken: usize,
+    area: &[u8],
+    at: usize,
+    others: &[u8],
+    first: usize,
+    count: usize,
+    name: usize,
+    work: &mut [u8],
+    capacity: usize,
+    known: usize,
+) -> Growth
+    requires { ⌜ (taken < known) × (known ≤ capacity) × (capacity ≤ 4096) × (slotBytes * capacity ≤ length (now work)) × (at + stepBytes ≤ length (now area)) × (first ≤ count) × (count ≤ mostSteps) × (mostSteps * stepBytes ≤ length (now others)) × (name < nameCount) ⌝ }
+    ensures { λ r. ⌜ GrowsNames (now (arities .entry)) (now (free .entry)) apart second taken (now (area .entry)) at (now (others .entry)) first count (name ∷ []) capacity (now (work .entry)) known r (now (work .exit)) ⌝ }
+{
+    if !is_received(free, area, at, name) {
+        return Growth::Known(known);
+    }
+    grow_move(
+        arities,
+        free,
+        apart,
+        second,
+        taken,
+        area,
+        at,
+        others,
+        first,
+        count,
+        name,
+        work,
+        capacity,
+        known,
+    )
+}
+
+// Where all names differ (request 2026-02): one move for each name that the step receives.
+fn grow_names(
+    arities: &[u8],
+    free: &[u8],
+    apart: [u8; PAIR_COUNT],
+    second: bool,
+    taken: usize,
+    area: &[u8],
+    at: usize,
+    others: &[u8],
+    first: usize,
+    count: usize,
+    work: &mut [u8],
+    capacity: usize,
+    known: usize,
+) -> Growth
+    requires { ⌜ (taken < known) × (known ≤ capacity) × (capacity ≤ 4096) × (slotBytes * capacity ≤ length (now work)) × (at + stepBytes ≤ length (now area)) × (first ≤ count) × (count ≤ mostSteps) × (mostSteps * stepBytes ≤ length (now others)) ⌝ }
+    ensures { λ r. ⌜ GrowsNames (now (arities .entry)) (now (free .entry)) apart second taken (now (area .entry)) at (now (others .entry)) first count (namesFrom 0 nameCount) capacity (now (work .entry)) known r (now (work .exit)) ⌝ }
+{
+    let mut so_far = known;
+    let mut name = 0;
+    while name < NAME_COUNT {
+        let growth = grow_name(
+            arities,
+            free,
+            apart,
+            second,
+            taken,
+            area,
+            at,
+            others,
+            first,
+            count,
+            name,
+            work,
+            capacity,
+            so_far,
+        );
+        let Growth::Known(n) = growth else {
+            return Growth::Full;
+        };
+        so_far = n;
+        name += 1;
+    }
+    Growth::Known(so_far)
+}
+
+// What the step at `at` of the situation in slot `taken` leads to, if it must be answered; `differ`: all names differ. Where no answer is there, the
+// situation is struck out. All answers to a step without a condition have its header.
+pub fn grow_step(
+    arities: &[u8],
+    free: &[u8],
+    apart: [u8; PAIR_COUNT],
+    differ: bool,
+    second: bool,
+    taken: usize,
+    area: &[u8],
+    at: usize,
+    others: &[u8],
+    count: usize,
+    work: &mut [u8],
+    capacity: usize,
+    known: usize,
+) -> Growth
+    requires { ⌜ (taken < known) × (known ≤ capacity) × (capacity ≤ 4096) × (slotBytes * capacity ≤ length (now work)) × (at + stepBytes ≤ length (now area)) × (count ≤ mostSteps) × (mostSteps * stepBytes ≤ length (now others)) ⌝ }
+    ensures { λ r. ⌜ GrowsStep (now (arities .entry)) (now (free .entry)) apart differ second taken (now (area .entry)) at (now (others .entry)) count capacity (now (work .entry)) known r (now (work .exit)) ⌝ }
+{
+    if !allowed(differ, &apart, area, at) {
+        return Growth::Known(known);
+    }
+    let first = first_answer(area, at, others, count);
+    if first == count {
+        work[SLOT_BYTES * taken + KEY_BYTES] = 1;
+        return Growth::Known(known);
+    }
+    if second {
+        if trivial(area, at) {
+            return Growth::Known(known);
+        }
+    }
+    if differ {
+        return grow_names(
+            arities,
+            free,
+            apart,
+            second,
+            taken,
+            area,
+            at,
+            others,
+            first,
+            count,
+            work,
+            capacity,
+            known,
+        );
+    }
+    grow_move(
+        arities,
+        free,
+        apart,
+        second,
+        taken,
+        area,
+        at,
+        others,
+        first,
+        count,
+        NAME_COUNT,
+        work,
+        capacity,
+        known,
+    )
 }
 
 // More than any number of a slot plus 1.

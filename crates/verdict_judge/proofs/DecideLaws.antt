@@ -40,7 +40,7 @@ use Rattle.field.proofs.Members.{getD-∈}
 use Rattle.field_growth.proofs.KeysDiffer.{key-equal, slot-key}
 use Rattle.verdict_judge.specs.Judging.{judgedAnswer, DecidesIs}
 use Rattle.verdict_survival.specs.Striking.{leftOf, marks, Standing, EqualParts, demandsAt, LeadsToEqual, FieldIn, Searching, SurvivesIs, AllSole, Strikes, AllSurvive, StartSurvivesIs}
-use Rattle.verdict.specs.Verdict.{Manner, openly, differs, demandsOf, allAnswered, same, different, decided, verdictBy}
+use Rattle.verdict.specs.Verdict.{Manner, differs, demandsOf, allAnswered, same, different, decided, verdictBy}
 use Rattle.verdict_judge.specs.declared.judge.Judged.{Judged}
 use Rattle.verdict_judge.specs.declared.judge.Judged.the-variants.{Unsettled, Same, Different}
 use Rattle.verdict_strikeout.proofs.AnyOrder.{StrikesTo, NoneToStrike, survivors-left, same-found}
@@ -295,51 +295,51 @@ module _ (manner : Manner) (question : List ℕ) (q : Question) (accepted : chec
       ap (decided demands (startOf (differs manner) q)) field ∙ ap (λ b. cond b (same (length rs)) (different (length rs))) (start-verdict r v s)
 
 -- decide
-module _ (question : List ℕ) (capacity : ℕ) (work w : List ℕ) (x : Explored) (e : ExploreIs question capacity work x w) where
-  pub unsettled-is : x ≡ Incomplete → DecidesIs openly question capacity work Unsettled w
-  unfolding judgedAnswer verdictBy differs decided Explores
-  unsettled-is h = record { rest = e .rest; is = λ q a. go q (fieldOf (settingOf false (q .bodies)) capacity (startOf false q)) refl (e .is q a) }
+module _ (manner : Manner) (question : List ℕ) (capacity : ℕ) (work w : List ℕ) (x : Explored) (e : ExploreIs (differs manner) question capacity work x w) where
+  pub unsettled-is : x ≡ Incomplete → DecidesIs manner question capacity work Unsettled w
+  unfolding judgedAnswer verdictBy decided Explores
+  unsettled-is h = record { rest = e .rest; is = λ q a. go q (fieldOf (settingOf (differs manner) (q .bodies)) capacity (startOf (differs manner) q)) refl (e .is q a) }
     where
-      go : (q : Question) (y : Exploration) → fieldOf (settingOf false (q .bodies)) capacity (startOf false q) ≡ y → Explores y x w
-          → judgedAnswer Unsettled ≡ result (verdictBy openly q capacity)
-      go q incomplete f k = sym (ap (λ y. result (decided (demandsOf openly (settingOf false (q .bodies))) (startOf false q) y)) f)
+      go : (q : Question) (y : Exploration) → fieldOf (settingOf (differs manner) (q .bodies)) capacity (startOf (differs manner) q) ≡ y → Explores y x w
+          → judgedAnswer Unsettled ≡ result (verdictBy manner q capacity)
+      go q incomplete f k = sym (ap (λ y. result (decided (demandsOf manner (settingOf (differs manner) (q .bodies))) (startOf (differs manner) q) y)) f)
       go q (explored rs) f k = let z : _≡_ {A = ℕ} 0 1 = cc (k .0) in absurd (omega arith)
 
   -- what is noted when strike-out begins
-  pub sole-all : (n : ℕ) → x ≡ Field n → slotBytes * capacity ≤ length w → AllSole openly question capacity w n
-  unfolding AllSole Explores differs
+  pub sole-all : (n : ℕ) → x ≡ Field n → slotBytes * capacity ≤ length w → AllSole manner question capacity w n
+  unfolding AllSole Explores
   sole-all n h room i k l g f =
-      go (f .read) (f .accepted) (fieldOf (settingOf false (f .read .bodies)) capacity (startOf false (f .read))) refl (e .is (f .read) (f .accepted)) i k l g f
+      go (f .read) (f .accepted) (fieldOf (settingOf (differs manner) (f .read .bodies)) capacity (startOf (differs manner) (f .read))) refl (e .is (f .read) (f .accepted)) i k l g f
     where
-      go : (q : Question) → checkOf question ≡ result q → (y : Exploration) → fieldOf (settingOf false (q .bodies)) capacity (startOf false q) ≡ y → Explores y x w
-          → AllSole openly question capacity w n
+      go : (q : Question) → checkOf question ≡ result q → (y : Exploration) → fieldOf (settingOf (differs manner) (q .bodies)) capacity (startOf (differs manner) q) ≡ y → Explores y x w
+          → AllSole manner question capacity w n
       go q a incomplete f k = let z : _≡_ {A = ℕ} 0 1 = cc in absurd (omega arith)
       go q a (explored rs) f k =
           let z : n ≡ length rs = cc (k .0) in
-          subst (AllSole openly question capacity w) (sym z)
-          (explored-sole openly question q a capacity rs f w (k .1) (k .2) (subst (Chained capacity w) z (e .chained q a n h)) (omega (arith, e .within n h .1)) (k .3))
+          subst (AllSole manner question capacity w) (sym z)
+          (explored-sole manner question q a capacity rs f w (k .1) (k .2) (subst (Chained capacity w) z (e .chained q a n h)) (omega (arith, e .within n h .1)) (k .3))
 
-  module _ (n : ℕ) (h : x ≡ Field n) (room : slotBytes * capacity ≤ length w) (r : Bool) (u : List ℕ) (s : StartSurvivesIs openly question capacity w n r u) where
-    settled : (o : Judged) → judgedAnswer o ≡ result (cond r (same n) (different n)) → DecidesIs openly question capacity work o u
-    unfolding Explores differs
+  module _ (n : ℕ) (h : x ≡ Field n) (room : slotBytes * capacity ≤ length w) (r : Bool) (u : List ℕ) (s : StartSurvivesIs manner question capacity w n r u) where
+    settled : (o : Judged) → judgedAnswer o ≡ result (cond r (same n) (different n)) → DecidesIs manner question capacity work o u
+    unfolding Explores
     settled o j = record {
-      rest = strikes-rest openly question capacity n capacity (e .within n h .1) (s .strikes) ∙ e .rest;
-      is = λ q a. go q a (fieldOf (settingOf false (q .bodies)) capacity (startOf false q)) refl (e .is q a);
+      rest = strikes-rest manner question capacity n capacity (e .within n h .1) (s .strikes) ∙ e .rest;
+      is = λ q a. go q a (fieldOf (settingOf (differs manner) (q .bodies)) capacity (startOf (differs manner) q)) refl (e .is q a);
     }
       where
-        go : (q : Question) → checkOf question ≡ result q → (y : Exploration) → fieldOf (settingOf false (q .bodies)) capacity (startOf false q) ≡ y → Explores y x w
-            → judgedAnswer o ≡ result (verdictBy openly q capacity)
+        go : (q : Question) → checkOf question ≡ result q → (y : Exploration) → fieldOf (settingOf (differs manner) (q .bodies)) capacity (startOf (differs manner) q) ≡ y → Explores y x w
+            → judgedAnswer o ≡ result (verdictBy manner q capacity)
         go q a incomplete f k = let z : _≡_ {A = ℕ} 0 1 = cc in absurd (omega arith)
         go q a (explored rs) f k =
             let z : n ≡ length rs = cc (k .0) in
             j ∙ ap (λ m. result (cond r (same m) (different m))) z
-            ∙ sym (ap result (verdict-is openly question q a capacity rs f w (k .1) (k .2) (subst (Chained capacity w) z (e .chained q a n h)) (omega (arith, e .within n h .1)) r u
-            (subst (λ m. StartSurvivesIs openly question capacity w m r u) z s)))
+            ∙ sym (ap result (verdict-is manner question q a capacity rs f w (k .1) (k .2) (subst (Chained capacity w) z (e .chained q a n h)) (omega (arith, e .within n h .1)) r u
+            (subst (λ m. StartSurvivesIs manner question capacity w m r u) z s)))
 
-    pub same-is : r ≡ true → DecidesIs openly question capacity work (Same n) u
+    pub same-is : r ≡ true → DecidesIs manner question capacity work (Same n) u
     unfolding judgedAnswer
     same-is t = settled (Same n) (ap (λ b. result (cond b (same n) (different n))) (sym t))
 
-    pub different-is : r ≡ false → DecidesIs openly question capacity work (Different n) u
+    pub different-is : r ≡ false → DecidesIs manner question capacity work (Different n) u
     unfolding judgedAnswer
     different-is t = settled (Different n) (ap (λ b. result (cond b (same n) (different n))) (sym t))

@@ -5,7 +5,9 @@ ghost use mathlib.Core.List.{_++_};
 ghost use Prim.Native.Nat.{_*_, _≤_};
 ghost use lib.ListN.{length, drop, replicate};
 ghost use Rattle.verdict.specs.Judge.{slotBytes, greatestCapacity};
-ghost use Rattle.verdict.specs.Verdict.{openly};
+ghost use Rattle.late_early.specs.LateEarly.{late, early};
+ghost use Rattle.verdict.specs.Verdict.{openly, named};
+ghost use Rattle.verdict_survival.specs.Manners.{mannerOf};
 ghost use Rattle.terms_bytes.specs.Writing.{Accepted};
 ghost use Rattle.terms_converting.specs.Questions.{AcceptedFrom};
 ghost use Rattle.verdict_judge.specs.Judging.{DecidesIs, AcceptedIs, OwnIs, JudgedIs};
@@ -23,6 +25,8 @@ use terms_checks::check::is_counted;
 use terms_converting::question::convert_question;
 use verdict_capacity::capacity::capacity_check;
 use verdict_start::passes::start_survives;
+use verdict_survival::manner::Manner;
+use verdict_survival::manner::names_differ;
 
 // The number of the check that turns back, or the verdict and the size of the field.
 pub enum Judged {
@@ -45,15 +49,16 @@ fn clear(work: &mut [u8], n: usize)
 }
 
 // The verdict on an accepted question of edition one. The tallies of the bodies, the lister's tables and the lists of the two sides serve exploration and passes.
-fn decide(question: &[u8], capacity: usize, work: &mut [u8]) -> Judged
+fn decide(question: &[u8], capacity: usize, work: &mut [u8], manner: Manner) -> Judged
     requires { ⌜ (1 ≤ capacity) × (capacity ≤ greatestCapacity) × (slotBytes * capacity ≤ length (now work)) ⌝ }
-    ensures { λ r. ⌜ DecidesIs openly (now (question .entry)) capacity (now (work .entry)) r (now (work .exit)) ⌝ }
+    ensures { λ r. ⌜ DecidesIs (mannerOf manner) (now (question .entry)) capacity (now (work .entry)) r (now (work .exit)) ⌝ }
 {
     let bodies = body_tallies(question);
     let mut numbers = [0u32; SCRATCH_NUMBERS];
     let mut rows = [0u8; SCRATCH_ROWS];
     let mut firsts = [0u8; LIST_AREA];
     let mut seconds = [0u8; LIST_AREA];
+    let differ = names_differ(manner);
     let explored = explore(
         question,
         &bodies,
@@ -63,6 +68,7 @@ fn decide(question: &[u8], capacity: usize, work: &mut [u8]) -> Judged
         &mut seconds,
         work,
         capacity,
+        differ,
     );
     match explored {
         Explored::Incomplete => Judged::Unsettled,
@@ -77,6 +83,7 @@ fn decide(question: &[u8], capacity: usize, work: &mut [u8]) -> Judged
                 work,
                 capacity,
                 n,
+                manner,
             ) {
                 return Judged::Same(n);
             }
@@ -86,39 +93,39 @@ fn decide(question: &[u8], capacity: usize, work: &mut [u8]) -> Judged
 }
 
 // The verdict on an accepted question of edition one; the work area is cleared behind it.
-fn judge_accepted(question: &[u8], capacity: usize, work: &mut [u8]) -> Judged
+fn judge_accepted(question: &[u8], capacity: usize, work: &mut [u8], manner: Manner) -> Judged
     requires { ⌜ (1 ≤ capacity) × (capacity ≤ greatestCapacity) × (slotBytes * capacity ≤ length (now work)) ⌝ }
-    ensures { λ r. ⌜ AcceptedIs openly (now (question .entry)) capacity (now (work .entry)) r (now (work .exit)) ⌝ }
+    ensures { λ r. ⌜ AcceptedIs (mannerOf manner) (now (question .entry)) capacity (now (work .entry)) r (now (work .exit)) ⌝ }
 {
-    let verdict = decide(question, capacity, work);
+    let verdict = decide(question, capacity, work, manner);
     clear(work, SLOT_BYTES * capacity);
     verdict
 }
 
 // The same of edition two, by its edition-one form.
-fn judge_counted(question: &[u8], capacity: usize, work: &mut [u8]) -> Judged
+fn judge_counted(question: &[u8], capacity: usize, work: &mut [u8], manner: Manner) -> Judged
     requires { ⌜ (1 ≤ capacity) × (capacity ≤ greatestCapacity) × (slotBytes * capacity ≤ length (now work)) × AcceptedFrom (now question) true ⌝ }
-    ensures { λ r. ⌜ OwnIs openly (now (question .entry)) capacity (now (work .entry)) r (now (work .exit)) ⌝ }
+    ensures { λ r. ⌜ OwnIs (mannerOf manner) (now (question .entry)) capacity (now (work .entry)) r (now (work .exit)) ⌝ }
 {
     let mut plain = [0u8; LONGEST_QUESTION];
     let n = convert_question(question, true, &mut plain);
-    judge_accepted(&plain[..n], capacity, work)
+    judge_accepted(&plain[..n], capacity, work, manner)
 }
 
 // The verdict on an accepted question of either edition.
-fn judge_either(question: &[u8], capacity: usize, work: &mut [u8]) -> Judged
+fn judge_either(question: &[u8], capacity: usize, work: &mut [u8], manner: Manner) -> Judged
     requires { ⌜ (1 ≤ capacity) × (capacity ≤ greatestCapacity) × (slotBytes * capacity ≤ length (now work)) × Accepted (now question) ⌝ }
-    ensures { λ r. ⌜ OwnIs openly (now (question .entry)) capacity (now (work .entry)) r (now (work .exit)) ⌝ }
+    ensures { λ r. ⌜ OwnIs (mannerOf manner) (now (question .entry)) capacity (now (work .entry)) r (now (work .exit)) ⌝ }
 {
     if is_counted(question) {
-        return judge_counted(question, capacity, work);
+        return judge_counted(question, capacity, work, manner);
     }
-    judge_accepted(question, capacity, work)
+    judge_accepted(question, capacity, work, manner)
 }
 
-// Judges a question within the capacity.
-pub fn judge(question: &[u8], capacity: u64, work: &mut [u8]) -> Judged
-    ensures { λ r. ⌜ JudgedIs openly (now (question .entry)) capacity (now (work .entry)) r (now (work .exit)) ⌝ }
+// Judges a question within the capacity, in one of the manners.
+fn judge_as(question: &[u8], capacity: u64, work: &mut [u8], manner: Manner) -> Judged
+    ensures { λ r. ⌜ JudgedIs (mannerOf manner) (now (question .entry)) capacity (now (work .entry)) r (now (work .exit)) ⌝ }
 {
     let turned = capacity_check(capacity, work.len());
     if turned != 0 {
@@ -128,6 +135,27 @@ pub fn judge(question: &[u8], capacity: u64, work: &mut [u8]) -> Judged
     let checked = check(question);
     match checked {
         Checked::Refused(k) => Judged::Refused(k),
-        Checked::Accepted => judge_either(question, slots, work),
+        Checked::Accepted => judge_either(question, slots, work, manner),
     }
+}
+
+// Openly: Definition 13.
+pub fn judge(question: &[u8], capacity: u64, work: &mut [u8]) -> Judged
+    ensures { λ r. ⌜ JudgedIs openly (now (question .entry)) capacity (now (work .entry)) r (now (work .exit)) ⌝ }
+{
+    judge_as(question, capacity, work, Manner::Open)
+}
+
+// Where all names differ: Definitions 7 and 8.
+pub fn judge_late(question: &[u8], capacity: u64, work: &mut [u8]) -> Judged
+    ensures { λ r. ⌜ JudgedIs (named late) (now (question .entry)) capacity (now (work .entry)) r (now (work .exit)) ⌝ }
+{
+    judge_as(question, capacity, work, Manner::Late)
+}
+
+// Where all names differ: Definitions 9 and 10.
+pub fn judge_early(question: &[u8], capacity: u64, work: &mut [u8]) -> Judged
+    ensures { λ r. ⌜ JudgedIs (named early) (now (question .entry)) capacity (now (work .entry)) r (now (work .exit)) ⌝ }
+{
+    judge_as(question, capacity, work, Manner::Early)
 }

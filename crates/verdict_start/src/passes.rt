@@ -7,13 +7,14 @@ ghost use Rattle.field_pairs.specs.Slot.{slotBytes};
 ghost use Rattle.steps_tallies.specs.Tally.{tallySize, BodiesTallied};
 ghost use Rattle.steps_rows.specs.Rows.{rowBytes, mostRows};
 ghost use Rattle.verdict.specs.Judge.{greatestCapacity};
-ghost use Rattle.verdict.specs.Verdict.{openly};
+ghost use Rattle.verdict_survival.specs.Manners.{mannerOf};
 ghost use Rattle.verdict_survival.specs.Striking.{AllSole, FirstStruckIs, StartSurvivesIs};
 use field_slots::find::Found;
 use field_slots::find::left_at;
 use verdict_strikeout::strike::LARGEST_BLOCKS;
 use verdict_strikeout::strike::settle;
 use verdict_strikeout::strike::strike_blocks;
+use verdict_survival::manner::Manner;
 use verdict_survival::relied::clear_notes;
 
 // Passes that examine situations, until one strikes out none or the start is struck out; whether the start is left. Situations fail because of ones
@@ -29,9 +30,10 @@ fn survives_passes(
     capacity: usize,
     count: usize,
     rising: bool,
+    manner: Manner,
 ) -> bool
     requires { ⌜ (1 ≤ count) × (count ≤ capacity) × (slotBytes * capacity ≤ length (now work)) × BodiesTallied (now question) (now bodies) × (length (now numbers) ≡ tallySize) × (rowBytes * mostRows ≤ length (now rows)) × Labelled (now question) (now firsts) × Labelled (now question) (now seconds) × (capacity ≤ greatestCapacity) ⌝ }
-    ensures { λ r. ⌜ StartSurvivesIs openly (now (question .entry)) capacity (now (work .entry)) count r (now (work .exit)) ⌝ }
+    ensures { λ r. ⌜ StartSurvivesIs (mannerOf manner) (now (question .entry)) capacity (now (work .entry)) count r (now (work .exit)) ⌝ }
 {
     clear_notes(work, count);
     let mut up = rising;
@@ -52,6 +54,7 @@ fn survives_passes(
             seconds,
             up,
             true,
+            manner,
         );
         up = !up;
         if !left_at(work, 0) {
@@ -74,9 +77,10 @@ fn survives_struck(
     capacity: usize,
     count: usize,
     rising: bool,
+    manner: Manner,
 ) -> bool
-    requires { ⌜ (1 ≤ count) × (count ≤ capacity) × (slotBytes * capacity ≤ length (now work)) × BodiesTallied (now question) (now bodies) × (length (now numbers) ≡ tallySize) × (rowBytes * mostRows ≤ length (now rows)) × Labelled (now question) (now firsts) × Labelled (now question) (now seconds) × (capacity ≤ greatestCapacity) × AllSole openly (now question) capacity (now work) count ⌝ }
-    ensures { λ r. ⌜ StartSurvivesIs openly (now (question .entry)) capacity (now (work .entry)) count r (now (work .exit)) ⌝ }
+    requires { ⌜ (1 ≤ count) × (count ≤ capacity) × (slotBytes * capacity ≤ length (now work)) × BodiesTallied (now question) (now bodies) × (length (now numbers) ≡ tallySize) × (rowBytes * mostRows ≤ length (now rows)) × Labelled (now question) (now firsts) × Labelled (now question) (now seconds) × (capacity ≤ greatestCapacity) × AllSole (mannerOf manner) (now question) capacity (now work) count ⌝ }
+    ensures { λ r. ⌜ StartSurvivesIs (mannerOf manner) (now (question .entry)) capacity (now (work .entry)) count r (now (work .exit)) ⌝ }
 {
     settle(
         question,
@@ -93,6 +97,7 @@ fn survives_struck(
         seconds,
         rising,
         false,
+        manner,
     );
     if !left_at(work, 0) {
         return false;
@@ -108,6 +113,7 @@ fn survives_struck(
         capacity,
         count,
         rising,
+        manner,
     )
 }
 
@@ -138,9 +144,10 @@ pub fn start_survives(
     work: &mut [u8],
     capacity: usize,
     count: usize,
+    manner: Manner,
 ) -> bool
-    requires { ⌜ (1 ≤ count) × (count ≤ capacity) × (slotBytes * capacity ≤ length (now work)) × BodiesTallied (now question) (now bodies) × (length (now numbers) ≡ tallySize) × (rowBytes * mostRows ≤ length (now rows)) × Labelled (now question) (now firsts) × Labelled (now question) (now seconds) × (capacity ≤ greatestCapacity) × AllSole openly (now question) capacity (now work) count ⌝ }
-    ensures { λ r. ⌜ StartSurvivesIs openly (now (question .entry)) capacity (now (work .entry)) count r (now (work .exit)) ⌝ }
+    requires { ⌜ (1 ≤ count) × (count ≤ capacity) × (slotBytes * capacity ≤ length (now work)) × BodiesTallied (now question) (now bodies) × (length (now numbers) ≡ tallySize) × (rowBytes * mostRows ≤ length (now rows)) × Labelled (now question) (now firsts) × Labelled (now question) (now seconds) × (capacity ≤ greatestCapacity) × AllSole (mannerOf manner) (now question) capacity (now work) count ⌝ }
+    ensures { λ r. ⌜ StartSurvivesIs (mannerOf manner) (now (question .entry)) capacity (now (work .entry)) count r (now (work .exit)) ⌝ }
 {
     if !left_at(work, 0) {
         return false;
@@ -159,6 +166,7 @@ pub fn start_survives(
             capacity,
             count,
             2 * i < count,
+            manner,
         ),
     }
 }

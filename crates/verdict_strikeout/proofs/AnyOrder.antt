@@ -1,6 +1,6 @@
 -- Striking out one situation at a time, in any order, leaves what the rounds leave: for code that strikes out in place. Assumes nothing.
-use mathlib.Core.Path.{_≡_, refl, sym, subst}
-use mathlib.Core.Bool.{Bool, true, false}
+use mathlib.Core.Path.{_≡_, sym, subst}
+use mathlib.Core.Bool.{true, false}
 use mathlib.Core.List.{List}
 use mathlib.Core.Logic.{_⊎_, ⊎-elim, _↔_}
 use Rattle.steps.specs.Lists.{_∈_, Distinct}
@@ -9,12 +9,8 @@ use Rattle.field.specs.Exploration.{found, Row}
 use Rattle.field.proofs.Run.{selves}
 use Rattle.field.proofs.Unseen.{∈-found}
 use Rattle.verdict.specs.Verdict.{allAnswered}
+use Rattle.verdict_survival.proofs.Demands.{same-test}
 use Rattle.verdict.proofs.Rounds.{true-not-false, of-selves, same-row, survivors, survivor-row, survivor-in, EachSome, each-imp, GoodRows, each-answered, closed-survives, member-found, answered-each, selves-good, survivors-answer, found-survives}
-
-same-test : (a b : Bool) → (a ≡ true → b ≡ true) → (b ≡ true → a ≡ true) → a ≡ b
-same-test true b h k = sym (h refl)
-same-test false true h k = k refl
-same-test false false h k = refl
 
 module _ (d : Row → List (List (List Situation))) (rs : List Row) where
   -- From all rows, one with a demand that those left do not meet is struck out at a time.

@@ -7,7 +7,7 @@ ghost use Rattle.field_pairs.specs.Slot.{slotBytes};
 ghost use Rattle.steps_tallies.specs.Tally.{tallySize, BodiesTallied};
 ghost use Rattle.steps_rows.specs.Rows.{rowBytes, mostRows};
 ghost use Rattle.verdict.specs.Judge.{greatestCapacity};
-ghost use Rattle.verdict.specs.Verdict.{openly};
+ghost use Rattle.verdict_survival.specs.Manners.{mannerOf};
 ghost use Rattle.verdict_survival.specs.Striking.{NotesHold, EqualPartsIs, StrikesSole, StrikesOne, Run, PassIs, blockSlots, turned};
 use field_kept_lists::list_area::same_part;
 use field_slots::find::KEY_BYTES;
@@ -15,6 +15,7 @@ use field_slots::find::SLOT_BYTES;
 use field_slots::find::left_at;
 use field_slots::slots::first_part;
 use field_slots::slots::second_part;
+use verdict_survival::manner::Manner;
 use verdict_survival::relied::Relied;
 use verdict_survival::relied::note;
 use verdict_survival::relied::rests;
@@ -61,9 +62,10 @@ fn strike_one(
     firsts: &mut [u8],
     seconds: &mut [u8],
     examine: bool,
+    manner: Manner,
 ) -> bool
-    requires { ⌜ (i < count) × (count ≤ capacity) × (slotBytes * capacity ≤ length (now work)) × BodiesTallied (now question) (now bodies) × (length (now numbers) ≡ tallySize) × (rowBytes * mostRows ≤ length (now rows)) × Labelled (now question) (now firsts) × Labelled (now question) (now seconds) × (capacity ≤ greatestCapacity) × NotesHold examine openly (now question) capacity (now work) count ⌝ }
-    ensures { λ r. ⌜ StrikesOne examine openly (now (question .entry)) capacity (now (work .entry)) count i r (now (work .exit)) × Labelled (now (question .entry)) (now (firsts .exit)) × Labelled (now (question .entry)) (now (seconds .exit)) ⌝ }
+    requires { ⌜ (i < count) × (count ≤ capacity) × (slotBytes * capacity ≤ length (now work)) × BodiesTallied (now question) (now bodies) × (length (now numbers) ≡ tallySize) × (rowBytes * mostRows ≤ length (now rows)) × Labelled (now question) (now firsts) × Labelled (now question) (now seconds) × (capacity ≤ greatestCapacity) × NotesHold examine (mannerOf manner) (now question) capacity (now work) count ⌝ }
+    ensures { λ r. ⌜ StrikesOne examine (mannerOf manner) (now (question .entry)) capacity (now (work .entry)) count i r (now (work .exit)) × Labelled (now (question .entry)) (now (firsts .exit)) × Labelled (now (question .entry)) (now (seconds .exit)) ⌝ }
 {
     if !left_at(work, i) {
         return false;
@@ -88,6 +90,7 @@ fn strike_one(
         rows,
         firsts,
         seconds,
+        manner,
     );
     let all = answered.all;
     let relied = answered.relied;
@@ -150,9 +153,10 @@ pub fn strike_blocks(
     seconds: &mut [u8],
     rising: bool,
     examine: bool,
+    manner: Manner,
 ) -> bool
-    requires { ⌜ (from + size ≤ count) × (count ≤ capacity) × (slotBytes * capacity ≤ length (now work)) × BodiesTallied (now question) (now bodies) × (length (now numbers) ≡ tallySize) × (rowBytes * mostRows ≤ length (now rows)) × Labelled (now question) (now firsts) × Labelled (now question) (now seconds) × (capacity ≤ greatestCapacity) × NotesHold examine openly (now question) capacity (now work) count ⌝ }
-    ensures { λ r. ⌜ PassIs examine openly (now (question .entry)) capacity (now (work .entry)) count (Run from size) r (now (work .exit)) × Labelled (now (question .entry)) (now (firsts .exit)) × Labelled (now (question .entry)) (now (seconds .exit)) ⌝ }
+    requires { ⌜ (from + size ≤ count) × (count ≤ capacity) × (slotBytes * capacity ≤ length (now work)) × BodiesTallied (now question) (now bodies) × (length (now numbers) ≡ tallySize) × (rowBytes * mostRows ≤ length (now rows)) × Labelled (now question) (now firsts) × Labelled (now question) (now seconds) × (capacity ≤ greatestCapacity) × NotesHold examine (mannerOf manner) (now question) capacity (now work) count ⌝ }
+    ensures { λ r. ⌜ PassIs examine (mannerOf manner) (now (question .entry)) capacity (now (work .entry)) count (Run from size) r (now (work .exit)) × Labelled (now (question .entry)) (now (firsts .exit)) × Labelled (now (question .entry)) (now (seconds .exit)) ⌝ }
 {
     let block = width(level);
     let blocks = (size + block - 1) / block;
@@ -176,6 +180,7 @@ pub fn strike_blocks(
             seconds,
             rising,
             examine,
+            manner,
         ) {
             struck = true;
         }
@@ -201,9 +206,10 @@ pub fn settle(
     seconds: &mut [u8],
     rising: bool,
     examine: bool,
+    manner: Manner,
 ) -> bool
-    requires { ⌜ (from + size ≤ count) × (count ≤ capacity) × (slotBytes * capacity ≤ length (now work)) × BodiesTallied (now question) (now bodies) × (length (now numbers) ≡ tallySize) × (rowBytes * mostRows ≤ length (now rows)) × Labelled (now question) (now firsts) × Labelled (now question) (now seconds) × (capacity ≤ greatestCapacity) × NotesHold examine openly (now question) capacity (now work) count × (level ≡ 0 → size ≡ 1) ⌝ }
-    ensures { λ r. ⌜ PassIs examine openly (now (question .entry)) capacity (now (work .entry)) count (Run from size) r (now (work .exit)) × Labelled (now (question .entry)) (now (firsts .exit)) × Labelled (now (question .entry)) (now (seconds .exit)) ⌝ }
+    requires { ⌜ (from + size ≤ count) × (count ≤ capacity) × (slotBytes * capacity ≤ length (now work)) × BodiesTallied (now question) (now bodies) × (length (now numbers) ≡ tallySize) × (rowBytes * mostRows ≤ length (now rows)) × Labelled (now question) (now firsts) × Labelled (now question) (now seconds) × (capacity ≤ greatestCapacity) × NotesHold examine (mannerOf manner) (now question) capacity (now work) count × (level ≡ 0 → size ≡ 1) ⌝ }
+    ensures { λ r. ⌜ PassIs examine (mannerOf manner) (now (question .entry)) capacity (now (work .entry)) count (Run from size) r (now (work .exit)) × Labelled (now (question .entry)) (now (firsts .exit)) × Labelled (now (question .entry)) (now (seconds .exit)) ⌝ }
 {
     if level == 0 {
         return strike_one(
@@ -218,6 +224,7 @@ pub fn settle(
             firsts,
             seconds,
             examine,
+            manner,
         );
     }
     let mut struck = false;
@@ -238,6 +245,7 @@ pub fn settle(
             seconds,
             up,
             examine,
+            manner,
         ) {
             return struck;
         }

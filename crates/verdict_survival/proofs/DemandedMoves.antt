@@ -60,7 +60,7 @@ some-name late zs ys (inl e) z i = (z, subst (λ l. z ∈ l) (sym e) i)
 some-name early zs ys j z i = let (y, h, e) = map-∈ (λ y. y ∷ []) ys zs j in (y, subst (λ l. y ∈ l) (sym e) (inl refl))
 
 -- some name is received, if the object is one of the names
-some-received : (names : ℕ) (F : List ℕ) (s : ListedStep) → (s .kind ≡ 1 → s .object < names) → s .object ∈ received true names F s
+pub some-received : (names : ℕ) (F : List ℕ) (s : ListedStep) → (s .kind ≡ 1 → s .object < names) → s .object ∈ received true names F s
 unfolding received
 some-received names F s h = go (ℕ-discrete (s .kind) 1)
   where

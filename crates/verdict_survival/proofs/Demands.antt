@@ -2,7 +2,8 @@
 use mathlib.Core.Bool.{Bool, true, false, _&&_, or-true}
 use mathlib.Core.List.{List, [], _∷_, _++_, map}
 use mathlib.Core.Logic.{inl, inr}
-use mathlib.Core.Path.{_≡_, refl, sym, subst}
+use mathlib.Core.Path.{_≡_, refl, sym, ap, _∙_, subst}
+use Rattle.terms.proofs.Answers.{both-true}
 use Rattle.steps.specs.Lists.{_∈_}
 use Rattle.steps.proofs.Membership.{∈-map}
 use Rattle.field.proofs.Members.{map-∈}
@@ -11,6 +12,11 @@ use Rattle.field.specs.Exploration.{found}
 use Rattle.field.specs.Situation.{Situation}
 use Rattle.verdict.specs.Verdict.{allFound, answered, allAnswered}
 use Rattle.verdict_survival.specs.Striking.{SomeAnswer}
+
+pub same-test : (a b : Bool) → (a ≡ true → b ≡ true) → (b ≡ true → a ≡ true) → a ≡ b
+same-test true b h k = sym (h refl)
+same-test false true h k = k refl
+same-test false false h k = refl
 
 module _ (left : List Situation) where
   pub all-left : (l : List Situation) → ((t : Situation) → t ∈ l → found left t ≡ true) → allFound left l ≡ true
@@ -50,6 +56,18 @@ module _ (left : List Situation) where
       go : (b : Bool) → allAnswered left ms ≡ false → (b && allAnswered left ms) ≡ false
       go true e = e
       go false e = refl
+
+  pub member-answered : (ms : List (List (List Situation))) → allAnswered left ms ≡ true → (m : List (List Situation)) → m ∈ ms → answered left m ≡ true
+  unfolding allAnswered
+  member-answered (n ∷ ms) h m (inl e) = ap (answered left) e ∙ both-true (answered left n) (allAnswered left ms) h .0
+  member-answered (n ∷ ms) h m (inr i) = member-answered ms (both-true (answered left n) (allAnswered left ms) h .1) m i
+
+  pub fewer-answered : (ms ns : List (List (List Situation))) → ((m : List (List Situation)) → m ∈ ns → m ∈ ms) → allAnswered left ms ≡ true → allAnswered left ns ≡ true
+  fewer-answered ms ns h e = each-answered ns (λ m i. member-answered ms e m (h m i))
+
+  pub same-answered : (ms ns : List (List (List Situation))) → ((m : List (List Situation)) → m ∈ ms → m ∈ ns) → ((m : List (List Situation)) → m ∈ ns → m ∈ ms)
+      → allAnswered left ms ≡ allAnswered left ns
+  same-answered ms ns to from = same-test (allAnswered left ms) (allAnswered left ns) (fewer-answered ms ns from) (fewer-answered ns ms to)
 
   -- each demand has an answer that leads to situations that are left
   pub all-meet : (ms : List (List (List Situation))) → ((m : List (List Situation)) → m ∈ ms → SomeAnswer (λ t. found left t ≡ true) m)

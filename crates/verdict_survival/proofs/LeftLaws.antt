@@ -7,23 +7,19 @@ use Prim.Native.Nat.{ℕ, _*_, _<_}
 use lib.Dec.{eqb}
 use lib.ListN.{length, getD, take}
 use borrow.Author.Tests.{eqb-true, eqb-false}
-use Rattle.terms.specs.Limits.{nameCount}
 use Rattle.steps.specs.Lists.{_∈_}
 use Rattle.steps.proofs.Membership.{∈-all}
 use Rattle.field_slots.specs.Chains.{Chained, FindsIn}
-use Rattle.field_pairs.specs.Entry.{AnswersIs}
 use Rattle.field.specs.Exploration.{found}
 use Rattle.field_slots.specs.Key.{SituationAt, keyAt, FoundIs}
-use Rattle.field_successors.specs.Leading.{leading, SuccessorIs}
-use Rattle.field.specs.Situation.{Situation, freeFrom}
+use Rattle.field.specs.Situation.{Situation}
 use Rattle.field_pairs.specs.Slot.{keyOf, keyBytes, slotBytes, struckAt, LeftAtIs}
 use Rattle.field_slots.specs.declared.find.Found.{Found}
 use Rattle.field_slots.specs.declared.find.Found.the-variants.{At, Nothing}
 use Rattle.field.proofs.Unseen.{∈-found, found-∈}
-use Rattle.field.proofs.Members.{getD-∈, ∈-number}
-use Rattle.field_growth.proofs.GrowingLaws.{whole-key}
+use Rattle.field.proofs.Members.{getD-∈}
 use Rattle.field_growth.proofs.KeysDiffer.{slot-key}
-use Rattle.verdict_survival.specs.Striking.{leftOf, marks, Standing, leftAt, LeftIs, isAt, AnswerLeftIs}
+use Rattle.verdict_survival.specs.Striking.{leftOf, marks, Standing, leftAt, LeftIs, isAt}
 use Rattle.verdict_survival.proofs.Living.{living-at, at-living}
 use Rattle.verdict_survival.proofs.Marks.{length-marks, marks-at}
 
@@ -88,7 +84,7 @@ module _ (capacity : ℕ) (work : List ℕ) (count : ℕ) (key : List ℕ) where
   unfolding FoundIs
   nothing-left f = record { within = f .within; is = λ C i m q only. absurd (f .is C i m q) }
 
-left-test : (work : List ℕ) (i : ℕ) → isAt (leftAt work i) ≡ eqb (getD work (struckAt i) 0) 0
+pub left-test : (work : List ℕ) (i : ℕ) → isAt (leftAt work i) ≡ eqb (getD work (struckAt i) 0) 0
 unfolding isAt leftAt
 left-test work i = go (eqb (getD work (struckAt i) 0) 0)
   where
@@ -96,45 +92,10 @@ left-test work i = go (eqb (getD work (struckAt i) 0) 0)
     go true = refl
     go false = refl
 
-left-slot : (work : List ℕ) (i j : ℕ) → leftAt work i ≡ At j → i ≡ j
+pub left-slot : (work : List ℕ) (i j : ℕ) → leftAt work i ≡ At j → i ≡ j
 unfolding leftAt
 left-slot work i j e = go (eqb (getD work (struckAt i) 0) 0) e
   where
     go : (b : Bool) → cond b (At i) Nothing ≡ At j → i ≡ j
     go true q = cc
     go false q = no-slot j q
-
--- answer_left
-module _ (arities : List ℕ) (capacity : ℕ) (work : List ℕ) (count : ℕ) (free apart : List ℕ) (second : Bool) (area : List ℕ) (at : ℕ) (others : List ℕ) (place : ℕ) where
-  pub no-answer : (b : Bool) → AnswersIs area at others place b → b ≡ false → AnswerLeftIs arities capacity work count free apart second area at others place Nothing
-  unfolding AnswersIs isAt
-  no-answer b h q = record {
-    within = λ i z. no-slot i z;
-    is = λ known G D s t n st names pairs e f scope scope′ own closed. (
-      ap (λ b. b && found (leftOf work known) (leading second (freeFrom G 0 nameCount) D s t)) (sym q ∙ h s t e f),
-      λ i z. no-slot i z,
-    );
-  }
-
-  pub answer-left-is : (key : List ℕ) (b : Bool) (r : Found) → AnswersIs area at others place b → b ≡ true → SuccessorIs arities free apart second area at others place key
-      → LeftIs capacity work count key r → AnswerLeftIs arities capacity work count free apart second area at others place r
-  unfolding AnswersIs SuccessorIs
-  answer-left-is key b r h q k l = record {
-    within = l .within;
-    is = λ known G D s t n st names pairs e f scope scope′ own closed.
-        let u : Situation = leading second (freeFrom G 0 nameCount) D s t in
-        let may = sym q ∙ h s t e f in
-        let m = ∈-number u known (closed (sym may)) in
-        let held : SituationAt work (slotBytes * m .0) u = subst (SituationAt work (slotBytes * m .0)) (sym (m .2 u)) (st .held (m .0) u (m .1)) in
-        let there : keyAt work (m .0) ≡ take keyBytes key =
-        slot-key work (m .0) u held
-        ∙ sym (whole-key key u (record { first = held .first; second = held .second }) (k G D s t names pairs e f scope scope′ own)) in
-        let z : r ≡ leftAt work (m .0) =
-        l .is (subst (Chained capacity work) n (st .chained)) (m .0) (omega (arith, m .1)) there
-        (λ j b q. st .once j (m .0) (omega arith) (m .1) (q ∙ sym there)) in (
-          ap isAt z ∙ left-test work (m .0)
-              ∙ sym (left-found work known st (m .0) u u (m .1) (sym (m .2 u)))
-              ∙ ap (λ b. b && found (leftOf work known) u) may,
-          λ i x d. ap (λ j. getD known j d) (sym (left-slot work (m .0) i (sym z ∙ x))) ∙ sym (m .2 d),
-        );
-  }

@@ -3,6 +3,9 @@ pub mod Demands
 pub mod LeftLaws
 pub mod Living
 pub mod Marks
+mod LotLaws
 mod NoteLaws
-pub mod SideLaws
+mod RunLaws
+mod SideLaws
 mod SurviveLaws
+mod Sweeping

@@ -1,11 +1,11 @@
--- Two nested loops over the steps of one side and the other side's: which steps are answered. Assumes nothing.
-use mathlib.Core.Bool.{Bool, true, false, _&&_}
-use mathlib.Core.List.{List, [], map}
+-- Two nested loops over the steps of one side and the other side's, for a run of names: which demands are met. Assumes nothing.
+use mathlib.Core.Bool.{Bool, true, false, cond, _&&_}
+use mathlib.Core.List.{List, [], _∷_, map}
 use mathlib.Core.Logic.{inl}
 use mathlib.Core.Path.{_≡_, refl, sym, ap, _∙_, subst}
 use native.Mathlib.Omega.{arith}
 use Prim.Native.Nat.{ℕ, _+_, _*_, _<_, _≤_}
-use borrow.Author.Count.{below-more}
+use lib.Dec.{ltb}
 use lib.ListN.{length, getD}
 use Rattle.calculus.specs.Term.{nil}
 use Rattle.terms.specs.Limits.{nameCount}
@@ -15,27 +15,36 @@ use Rattle.steps.proofs.Membership.{∈-map}
 use Rattle.steps.specs.Limits.{stepBytes}
 use Rattle.steps.specs.Listed.{ListedStep}
 use Rattle.field.specs.Exploration.{found}
-use Rattle.field_successors.specs.Leading.{placed, leading}
-use Rattle.field_pairs.specs.PairFlags.{PermittedIs}
 use Rattle.field.specs.Situation.{Situation, freeFrom}
-use Rattle.field.specs.Successors.{select, permitted, answers, moves}
-use Rattle.field_slots.specs.declared.find.Found.{Found}
-use Rattle.field_slots.specs.declared.find.Found.the-variants.{At, Nothing}
-use Rattle.field_growth.proofs.Loops.{led, answersTo, moves-are}
+use Rattle.field.specs.Successors.{select, allowed, answers}
 use Rattle.field.proofs.Members.{map-∈, getD-∈, ∈-number}
 use Rattle.field.proofs.Selections.{∈-select, select-∈}
-use Rattle.verdict_survival.specs.Notes.{Has, Few, Numbers, Within, WithIs}
-use Rattle.verdict_survival.specs.Striking.{leftOf, isAt, AnswerLeftIs, Side, ReliesOn, SideAnsweredIs}
+use Rattle.field_successors.specs.Leading.{leading}
+use Rattle.verdict.specs.Verdict.{allFound, answered, allAnswered}
+use Rattle.verdict.proofs.Rounds.{true-not-false}
+use Rattle.verdict_survival.specs.Notes.{Has, Few, Numbers}
+use Rattle.verdict_survival.specs.Striking.{leftOf, lotOf, someOf, asked, demanded, runDemands, AskedIs, Side, NameRun, StepAndReply, LotLeftIs, NumberIn, SomeAnswer, ReliesOn, Meets, SideAnsweredIs}
 use Rattle.verdict_survival.specs.declared.relied.Relied.{Relied}
-use Rattle.verdict_survival.proofs.Demands.{all-meet, one-fails, each-single}
-use Rattle.verdict.proofs.Rounds.{true-not-false, single}
+use Rattle.verdict_survival.specs.declared.survive.Answered.{Answered}
+use Rattle.verdict_survival.proofs.Demands.{answer-meets, none-meets}
+use Rattle.verdict_survival.proofs.Sweeping.{within-itself, Swept, swept-none, swept-skips, swept-more, swept-fails, swept-all}
 
 abbrev noStep : ListedStep
 noStep = record { classes = []; kind = 0; channel = 0; object = 0; result = nil }
 
-module _ (arities : List ℕ) (capacity : ℕ) (work : List ℕ) (count : ℕ) (free apart : List ℕ) (second : Bool) (area : List ℕ) (n : ℕ) (others : List ℕ) (m : ℕ) where
+module _ (from to : ℕ) (arities : List ℕ) (capacity : ℕ) (work : List ℕ) (count : ℕ) (free apart : List ℕ) (second : Bool) (area : List ℕ) (n : ℕ) (others : List ℕ) (m : ℕ) where
+  -- whether all names differ
+  abbrev differ : Bool
+  differ = ltb from nameCount
+
   abbrev These : Type 0
-  These = Side arities capacity work count free apart second area n others m
+  These = Side differ arities capacity work count free apart second area n others m
+
+  abbrev known : These → List Situation
+  known p = p .known
+
+  abbrev names : These → List ℕ
+  names p = freeFrom (p .names) 0 nameCount
 
   abbrev step : These → ℕ → ListedStep
   step p k = getD (p .steps) k noStep
@@ -43,187 +52,161 @@ module _ (arities : List ℕ) (capacity : ℕ) (work : List ℕ) (count : ℕ) (
   abbrev reply : These → ℕ → ListedStep
   reply p l = getD (p .replies) l noStep
 
+  -- whether step k is asked, and what is demanded then
+  abbrev ask : These → ℕ → Bool
+  ask p k = asked differ from to (names p) (p .pairs) (step p k)
+
+  abbrev wanted : These → ℕ → List (List Situation)
+  wanted p k = demanded from to second (names p) (p .pairs) (p .replies) (step p k)
+
+  abbrev ofStep : ℕ → These → List (List (List Situation))
+  ofStep k p = cond (ask p k) (wanted p k ∷ []) []
+
+  abbrev allDemands : These → List (List (List Situation))
+  allDemands p = runDemands differ from to second (names p) (p .pairs) (p .steps) (p .replies)
+
   -- what reply l to step k leads to
-  abbrev reached : These → ℕ → ℕ → Situation
-  reached p k l = leading second (freeFrom (p .names) 0 nameCount) (p .pairs) (step p k) (reply p l)
+  abbrev reached : These → ℕ → ℕ → List Situation
+  reached p k l = map (leading second (names p) (p .pairs) (step p k) (reply p l)) (lotOf from to (names p) (step p k))
 
-  -- what the answers to step k lead to
-  abbrev reachedAll : These → ℕ → List Situation
-  reachedAll p k = answersTo nameCount (placed second) (freeFrom (p .names) 0 nameCount) (p .pairs) (step p k) (p .replies)
-
-  abbrev allMoves : These → List (List Situation)
-  allMoves p = moves false nameCount (placed second) (freeFrom (p .names) 0 nameCount) (p .pairs) (p .steps) (p .replies)
-
-  -- step k is answered, if it is permitted
-  abbrev StepAnswered : ℕ → Type 0
-  StepAnswered k = (p : These) → permitted (p .pairs) (step p k) ≡ true → (t : Situation) × (t ∈ reachedAll p k) × (found (leftOf work (p .known)) t ≡ true)
-
-  -- t is one of r
-  abbrev NumberIn : Relied → These → Situation → Type 0
-  NumberIn r p t = (j : ℕ) × (j < length (p .known)) × Has r j × ((d : Situation) → getD (p .known) j d ≡ t)
-
-  -- step k is answered by one of r, if it is permitted
-  abbrev StepRelies : Relied → ℕ → Type 0
-  StepRelies r k = Few r → (p : These) → permitted (p .pairs) (step p k) ≡ true
-      → (t : Situation) × (t ∈ reachedAll p k) × NumberIn r p t
-
-  -- reply l to step k leads to none that is left, if it answers it
+  -- reply l to step k leads to one that is not left, if it answers it
   abbrev pub ReplyFails : ℕ → ℕ → Type 0
-  ReplyFails k l = (p : These) → answers nameCount (step p k) (reply p l) ≡ true → found (leftOf work (p .known)) (reached p k l) ≡ false
+  ReplyFails k l = (p : These) → ask p k ≡ true → answers nameCount (step p k) (reply p l) ≡ true → allFound (leftOf work (p .known)) (reached p k l) ≡ false
 
-  module _ (p : These) (k : ℕ) (h : k < n) (may : permitted (p .pairs) (step p k) ≡ true) where
-    step-in : reachedAll p k ∈ allMoves p
-    step-in =
-        subst (λ ms. reachedAll p k ∈ ms) (sym (moves-are nameCount (placed second) (freeFrom (p .names) 0 nameCount) (p .pairs) (p .steps) (p .replies)))
-        (∈-map (λ s. answersTo nameCount (placed second) (freeFrom (p .names) 0 nameCount) (p .pairs) s (p .replies)) (step p k)
-        (select (permitted (p .pairs)) (p .steps))
-        (∈-select (permitted (p .pairs)) (step p k) (p .steps) (getD-∈ (p .steps) k noStep (omega (arith, p .mine .number))) may))
+  abbrev pub SideSwept : Relied → Relied → ℕ → Type 0
+  SideSwept before r i = Swept work known ofStep before r i
 
-    reply-in : (l : ℕ) → l < m → answers nameCount (step p k) (reply p l) ≡ true → reached p k l ∈ reachedAll p k
-    unfolding answersTo led leading
+  module _ (p : These) (k : ℕ) (h : k < n) (may : ask p k ≡ true) where
+    step-there : step p k ∈ p .steps
+    step-there = getD-∈ (p .steps) k noStep (omega (arith, p .mine .number))
+
+    reply-in : (l : ℕ) → l < m → answers nameCount (step p k) (reply p l) ≡ true → reached p k l ∈ wanted p k
+    unfolding demanded
     reply-in l g e =
-        ∈-map (led nameCount (placed second) (freeFrom (p .names) 0 nameCount) (p .pairs) (step p k)) (reply p l)
+        ∈-map (λ t. map (leading second (names p) (p .pairs) (step p k) t) (lotOf from to (names p) (step p k))) (reply p l)
         (select (answers nameCount (step p k)) (p .replies))
         (∈-select (answers nameCount (step p k)) (reply p l) (p .replies) (getD-∈ (p .replies) l noStep (omega (arith, p .theirs .number))) e)
 
-    -- what the code finds of reply l
-    reply-is : (l : ℕ) (r : Found) → l < m → AnswerLeftIs arities capacity work count free apart second area (stepBytes * k) others (stepBytes * l) r
-        → (isAt r ≡ (answers nameCount (step p k) (reply p l) && found (leftOf work (p .known)) (reached p k l)))
-        × ((i : ℕ) → r ≡ At i → (d : Situation) → getD (p .known) i d ≡ reached p k l)
-    reply-is l r g a =
-        a .is (p .known) (p .names) (p .pairs) (step p k) (reply p l) (p .number) (p .standing) (p .free-names) (p .apart-pairs)
-        (p .mine .entry k noStep h) (p .theirs .entry l noStep g) (p .mine .scope k noStep h) (p .theirs .scope l noStep g)
-        (p .theirs .rewritten l noStep g)
-        (λ e. p .closed (reachedAll p k) step-in (reached p k l) (reply-in l g e))
+    both : NameRun differ from to → (l : ℕ) → l < m → StepAndReply arities capacity work count free apart second area (stepBytes * k) others (stepBytes * l) from to
+    unfolding asked
+    both run l g = record {
+      differ = differ;
+      n = n;
+      m = m;
+      side = p;
+      run = run;
+      step = step p k;
+      mine = step-there;
+      may = both-true (allowed differ nameCount (p .pairs) (step p k)) (someOf (lotOf from to (names p) (step p k))) may .0;
+      entry = p .mine .entry k noStep h;
+      scope = p .mine .scope k noStep h;
+      object = p .mine .objects k noStep h;
+      reply = reply p l;
+      theirs = getD-∈ (p .replies) l noStep (omega (arith, p .theirs .number));
+      entry₂ = p .theirs .entry l noStep g;
+      scope₂ = p .theirs .scope l noStep g;
+      rewritten = p .theirs .rewritten l noStep g;
+    }
 
     -- none of the replies
-    none-left : (j : ℕ) → m ≤ j → ((l : ℕ) → l < j → ReplyFails k l) → (u : Situation) → u ∈ reachedAll p k → found (leftOf work (p .known)) u ≡ false
-    unfolding answersTo led leading
-    none-left j g so u i =
-        let (t, w, e) = map-∈ (led nameCount (placed second) (freeFrom (p .names) 0 nameCount) (p .pairs) (step p k)) u
+    none-left : (j : ℕ) → m ≤ j → ((l : ℕ) → l < j → ReplyFails k l) → answered (leftOf work (p .known)) (wanted p k) ≡ false
+    unfolding demanded
+    none-left j g so = none-meets (leftOf work (p .known)) (wanted p k) (λ w i.
+        let (t, x, e) = map-∈ (λ t. map (leading second (names p) (p .pairs) (step p k) t) (lotOf from to (names p) (step p k))) w
         (select (answers nameCount (step p k)) (p .replies)) i in
-        let (v, y) = select-∈ (answers nameCount (step p k)) t (p .replies) w in
+        let (v, y) = select-∈ (answers nameCount (step p k)) t (p .replies) x in
         let l = ∈-number t (p .replies) v in
         let z : answers nameCount (step p k) (reply p (l .0)) ≡ true = rw (sym (l .2 noStep)) y in
-        let f : found (leftOf work (p .known)) (reached p k (l .0)) ≡ false = so (l .0) (omega (arith, l .1, p .theirs .number)) p z in
-        let q : reached p k (l .0) ≡ u = ap (leading second (freeFrom (p .names) 0 nameCount) (p .pairs) (step p k)) (sym (l .2 noStep)) ∙ sym e in
-        subst (λ u. found (leftOf work (p .known)) u ≡ false) q f
+        let q : reached p k (l .0) ≡ w =
+        ap (λ t. map (leading second (names p) (p .pairs) (step p k) t) (lotOf from to (names p) (step p k))) (sym (l .2 noStep)) ∙ sym e in
+        subst (λ w. allFound (leftOf work (p .known)) w ≡ false) q (so (l .0) (omega (arith, l .1, p .theirs .number)) p may z))
 
-  not-permitted : (k : ℕ) (r : Bool) → k < n → PermittedIs apart area (stepBytes * k) r → r ≡ false → (p : These) → permitted (p .pairs) (step p k) ≡ false
-  unfolding PermittedIs
-  not-permitted k r h a e p = sym (a (p .pairs) (step p k) (p .distinction) (p .apart-pairs) (p .mine .entry k noStep h)) ∙ e
+  is-asked : (k : ℕ) (r : Bool) → k < n → AskedIs free apart area (stepBytes * k) from to r → (p : These) → r ≡ ask p k
+  unfolding AskedIs
+  is-asked k r h a p = a (p .names) (p .pairs) (step p k) (p .free-names) (p .distinction) (p .apart-pairs) (p .mine .entry k noStep h)
 
-  is-permitted : (k : ℕ) (r : Bool) → k < n → PermittedIs apart area (stepBytes * k) r → r ≡ true → (p : These) → permitted (p .pairs) (step p k) ≡ true
-  unfolding PermittedIs
-  is-permitted k r h a e p = sym (a (p .pairs) (step p k) (p .distinction) (p .apart-pairs) (p .mine .entry k noStep h)) ∙ e
+  pub side-none : (before : Relied) → Numbers before → SideSwept before before 0
+  side-none before = swept-none work known ofStep before
 
-  -- The steps below i are answered, and r has what that relies on.
-  pub record Sweep (before r : Relied) (i : ℕ) : Type 0 where
-    pub answered : (k : ℕ) → k < i → StepAnswered k
-    pub numbers : Numbers r
-    pub more : Within before r
-    pub relies : (k : ℕ) → k < i → StepRelies r k
+  pub side-skips : (before r : Relied) (k : ℕ) (b : Bool) → k < n → AskedIs free apart area (stepBytes * k) from to b → b ≡ false → SideSwept before r k
+      → SideSwept before r (k + 1)
+  side-skips before r k b h a e = swept-skips work known ofStep before r k (λ p. rw (sym (is-asked k b h a p) ∙ e) refl)
 
-  pub sweep-start : (before : Relied) → Numbers before → Sweep before before 0
-  sweep-start before n = record {
-    answered = λ k h. absurd (omega arith);
-    numbers = n;
-    more = record { few = λ f. f; has = λ f j x. x };
-    relies = λ k h. absurd (omega arith);
-  }
+  module _ (k : ℕ) (b : Bool) (h : k < n) (a : AskedIs free apart area (stepBytes * k) from to b) (on : b ≡ true) where
+    may : (p : These) → ask p k ≡ true
+    may p = sym (is-asked k b h a p) ∙ on
 
-  pub sweep-skips : (before r : Relied) (k : ℕ) (b : Bool) → k < n → PermittedIs apart area (stepBytes * k) b → b ≡ false → Sweep before r k
-      → Sweep before r (k + 1)
-  sweep-skips before r k b h a e s = record {
-    answered = below-more _ k (s .answered) (λ p may. true-not-false may (not-permitted k b h a e p));
-    numbers = s .numbers;
-    more = s .more;
-    relies = below-more _ k (s .relies) (λ f p may. true-not-false may (not-permitted k b h a e p));
-  }
+    of-step : (p : These) → ofStep k p ≡ wanted p k ∷ []
+    of-step p = ap (λ b. cond b (wanted p k ∷ []) []) (may p)
 
-  pub sweep-answered : (before r r₀ r′ : Relied) (k l i : ℕ) (x : Found) → r ≡ r₀ → k < n → l < m
-      → AnswerLeftIs arities capacity work count free apart second area (stepBytes * k) others (stepBytes * l) x → x ≡ At i → WithIs r i r′
-      → Sweep before r₀ k → Sweep before r′ (k + 1)
-  unfolding isAt
-  sweep-answered before r r₀ r′ k l i x same h g a e w s₀ = record {
-    answered = below-more _ k (s .answered)
-        (λ p may. (reached p k l, reply-in p k h may l g (both p may .0), both p may .1));
-    numbers = w .numbers;
-    more = record { few = λ f. s .more .few (w .more .few f); has = λ f j y. w .more .has f j (s .more .has (w .more .few f) j y) };
-    relies = below-more _ k earlier
-        (λ f p may. (
-          reached p k l,
-          reply-in p k h may l g (both p may .0),
-          (i, omega (arith, a .within i e, p .number), w .has f, reply-is p k h may l x g a .1 i e),
-        ));
-  }
+    module _ (run : NameRun differ from to) (l : ℕ) (g : l < m) (r : Relied) (x : Answered)
+        (lot : LotLeftIs arities capacity work count free apart second area (stepBytes * k) others (stepBytes * l) from to r x) where
+      answers-too : (p : These) → x .all ≡ true → (answers nameCount (step p k) (reply p l) ≡ true) × (allFound (leftOf work (p .known)) (reached p k l) ≡ true)
+      unfolding both
+      answers-too p e =
+          both-true (answers nameCount (step p k) (reply p l)) (allFound (leftOf work (p .known)) (reached p k l)) (sym (lot .is (both p k h (may p) run l g)) ∙ e)
+
+      step-met : x .all ≡ true → Meets These work known (ofStep k) r x
+      unfolding ReliesOn allAnswered both
+      step-met e = record {
+        is = λ p. e ∙ sym (ap (allAnswered (leftOf work (p .known))) (of-step p)
+            ∙ rw (answer-meets (leftOf work (p .known)) (wanted p k) (reached p k l) (reply-in p k h (may p) l g (answers-too p e .0)) (answers-too p e .1)) refl);
+        numbers = lot .numbers;
+        more = lot .more;
+        relies = λ q f p w i. relies p q f w (subst (λ ds. w ∈ ds) (of-step p) i);
+      }
+        where
+          relies : (p : These) → x .all ≡ true → Few (x .relied) → (w : List (List Situation)) → w ∈ (wanted p k ∷ []) → SomeAnswer (NumberIn (Has (x .relied)) (p .known)) w
+          relies p q f w (inl d) = subst (SomeAnswer (NumberIn (Has (x .relied)) (p .known))) (sym d) (
+            reached p k l,
+            reply-in p k h (may p) l g (answers-too p e .0),
+            λ t i.
+                let (y, j, c) = map-∈ (leading second (names p) (p .pairs) (step p k) (reply p l)) t (lotOf from to (names p) (step p k)) i in
+                subst (NumberIn (Has (x .relied)) (p .known)) (sym c) (lot .relies q f (both p k h (may p) run l g) y j),
+          )
+
+      pub reply-answers : (before r₀ : Relied) → r ≡ r₀ → x .all ≡ true → SideSwept before r₀ k → SideSwept before (x .relied) (k + 1)
+      reply-answers before r₀ same e s = swept-more work known ofStep before r k x (step-met e) e (subst (λ r. SideSwept before r k) (sym same) s)
+
+      pub reply-fails : x .all ≡ false → (j : ℕ) → k + 1 ≡ j + 1 → ReplyFails j l
+      unfolding both
+      reply-fails e j same = subst (λ j. ReplyFails j l) (let z : k ≡ j = omega arith in z) (λ p q t.
+          ap (λ t. t && allFound (leftOf work (p .known)) (reached p k l)) (sym t) ∙ sym (lot .is (both p k h (may p) run l g)) ∙ e)
+
+    pub step-fails : (before r r₀ : Relied) (j : ℕ) → r ≡ r₀ → m ≤ j → ((l : ℕ) → l < j → ReplyFails k l) → SideSwept before r₀ k
+        → SideAnsweredIs from to arities capacity work count free apart second area n others m before (record { all = false; relied = r })
+    unfolding allAnswered runDemands
+    step-fails before r r₀ j same g so s₀ =
+        swept-fails work known ofStep allDemands before r k one (record { all = false; relied = r }) (record {
+          is = λ p. sym (ap (allAnswered (leftOf work (p .known))) (of-step p) ∙ rw (none-left p k h (may p) j g so) refl);
+          numbers = s .numbers;
+          more = within-itself r;
+          relies = λ q. true-not-false q refl;
+        }) refl s
+      where
+        s : SideSwept before r k
+        s = subst (λ r. SideSwept before r k) (sym same) s₀
+
+        one : (p : These) (w : List (List Situation)) → w ∈ ofStep k p → w ∈ allDemands p
+        one p w i = only (subst (λ ds. w ∈ ds) (of-step p) i)
+          where
+            only : w ∈ (wanted p k ∷ []) → w ∈ allDemands p
+            only (inl d) = subst (λ w. w ∈ allDemands p) (sym d)
+                (∈-map (demanded from to second (names p) (p .pairs) (p .replies)) (step p k) (select (asked differ from to (names p) (p .pairs)) (p .steps))
+                (∈-select (asked differ from to (names p) (p .pairs)) (step p k) (p .steps) (step-there p k h (may p)) (may p)))
+
+  pub side-all : (before r : Relied) (i : ℕ) → n ≤ i → SideSwept before r i
+      → SideAnsweredIs from to arities capacity work count free apart second area n others m before (record { all = true; relied = r })
+  unfolding runDemands
+  side-all before r i h = swept-all work known ofStep allDemands before r i from-step
     where
-      s : Sweep before r k
-      s = subst (λ r. Sweep before r k) (sym same) s₀
-
-      both : (p : These) → permitted (p .pairs) (step p k) ≡ true
-          → (answers nameCount (step p k) (reply p l) ≡ true) × (found (leftOf work (p .known)) (reached p k l) ≡ true)
-      both p may =
-          both-true (answers nameCount (step p k) (reply p l)) (found (leftOf work (p .known)) (reached p k l))
-          (sym (reply-is p k h may l x g a .0) ∙ ap isAt e)
-
-      earlier : (j : ℕ) → j < k → StepRelies r′ j
-      earlier j b f p may =
-          let (t, u, (n, v, y, z)) = s .relies j b (w .more .few f) p may in
-          (t, u, (n, v, w .more .has f n y, z))
-
-  pub reply-fails : (k l : ℕ) (b : Bool) (r : Found) → k < n → l < m → PermittedIs apart area (stepBytes * k) b → b ≡ true
-      → AnswerLeftIs arities capacity work count free apart second area (stepBytes * k) others (stepBytes * l) r → r ≡ Nothing
-      → (j : ℕ) → k + 1 ≡ j + 1 → ReplyFails j l
-  unfolding isAt
-  reply-fails k l b r h g c d a e j same = subst (λ j. ReplyFails j l) (let z : k ≡ j = omega arith in z) fails
-    where
-      fails : ReplyFails k l
-      fails p may =
-          ap (λ t. t && found (leftOf work (p .known)) (reached p k l)) (sym may) ∙ sym (reply-is p k h (is-permitted k b h c d p) l r g a .0) ∙ ap isAt e
-
-  pub step-unanswered : (before r r₀ : Relied) (k j : ℕ) (b : Bool) → r ≡ r₀ → k < n → PermittedIs apart area (stepBytes * k) b → b ≡ true → m ≤ j
-      → ((l : ℕ) → l < j → ReplyFails k l) → Sweep before r₀ k
-      → SideAnsweredIs arities capacity work count free apart second area n others m before (record { all = false; relied = r })
-  step-unanswered before r r₀ k j b same h c d g so s₀ = record {
-    is = λ p.
-        let may = is-permitted k b h c d p in
-        sym (one-fails (leftOf work (p .known)) (map (map single) (allMoves p)) (map single (reachedAll p k))
-        (∈-map (map single) (reachedAll p k) (allMoves p) (step-in p k h may))
-        (λ l i. let (t, o, q) = map-∈ single l (reachedAll p k) i in (t, subst (λ l. t ∈ l) (sym q) (inl refl), none-left p k h may j g so t o)));
-    numbers = s .numbers;
-    more = s .more;
-    relies = λ e. true-not-false e refl;
-  }
-    where
-      s : Sweep before r k
-      s = subst (λ r. Sweep before r k) (sym same) s₀
-
-  -- a list of the side is what a permitted step leads to
-  from-step : (p : These) (C : List Situation → Type 0) → ((k : ℕ) → k < n → permitted (p .pairs) (step p k) ≡ true → C (reachedAll p k))
-      → (w : List Situation) → w ∈ allMoves p → C w
-  from-step p C so w g =
-      let (s, x, e) = map-∈ (λ s. answersTo nameCount (placed second) (freeFrom (p .names) 0 nameCount) (p .pairs) s (p .replies)) w
-      (select (permitted (p .pairs)) (p .steps))
-      (subst (λ ms. w ∈ ms) (moves-are nameCount (placed second) (freeFrom (p .names) 0 nameCount) (p .pairs) (p .steps) (p .replies)) g) in
-      let (v, y) = select-∈ (permitted (p .pairs)) s (p .steps) x in
-      let k = ∈-number s (p .steps) v in
-      let z : permitted (p .pairs) (step p (k .0)) ≡ true = rw (sym (k .2 noStep)) y in
-      let q : reachedAll p (k .0) ≡ w =
-      ap (λ s. answersTo nameCount (placed second) (freeFrom (p .names) 0 nameCount) (p .pairs) s (p .replies)) (sym (k .2 noStep)) ∙ sym e in
-      subst C q (so (k .0) (omega (arith, k .1, p .mine .number)) z)
-
-  pub steps-answered : (before r : Relied) (i : ℕ) → n ≤ i → Sweep before r i
-      → SideAnsweredIs arities capacity work count free apart second area n others m before (record { all = true; relied = r })
-  unfolding ReliesOn
-  steps-answered before r i h s = record {
-    is = λ p.
-        sym (all-meet (leftOf work (p .known)) (map (map single) (allMoves p))
-        (each-single (λ t. found (leftOf work (p .known)) t ≡ true) (allMoves p)
-        (from-step p (λ w. (t : Situation) × (t ∈ w) × (found (leftOf work (p .known)) t ≡ true)) (λ k l may. s .answered k (omega arith) p may))));
-    numbers = s .numbers;
-    more = s .more;
-    relies = λ e f p.
-        each-single (NumberIn r p) (allMoves p)
-        (from-step p (λ w. (t : Situation) × (t ∈ w) × NumberIn r p t) (λ k l may. s .relies k (omega arith) f p may));
-  }
+      from-step : (p : These) (w : List (List Situation)) → w ∈ allDemands p → (k : ℕ) × (k < i) × (w ∈ ofStep k p)
+      from-step p w j =
+          let (s, x, e) = map-∈ (demanded from to second (names p) (p .pairs) (p .replies)) w (select (asked differ from to (names p) (p .pairs)) (p .steps)) j in
+          let (v, y) = select-∈ (asked differ from to (names p) (p .pairs)) s (p .steps) x in
+          let k = ∈-number s (p .steps) v in
+          let z : ask p (k .0) ≡ true = ap (asked differ from to (names p) (p .pairs)) (sym (k .2 noStep)) ∙ y in (
+            k .0,
+            omega (arith, k .1, p .mine .number),
+            subst (λ ds. w ∈ ds) (sym (ap (λ b. cond b (wanted p (k .0) ∷ []) []) z)) (inl (e ∙ ap (demanded from to second (names p) (p .pairs) (p .replies)) (k .2 noStep))),
+          )

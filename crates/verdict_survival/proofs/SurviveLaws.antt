@@ -9,11 +9,14 @@ use lib.ListN.{getD}
 use Rattle.calculus.specs.Free.{fn}
 use Rattle.terms.specs.Limits.{nameCount}
 use Rattle.steps_tallies.specs.Bodies.{AritiesIs}
+use Rattle.terms.specs.Question.{Question}
+use Rattle.steps.specs.Listed.{ListedStep}
+use Rattle.steps.specs.Listing.{listed, stepsOf}
 use Rattle.steps.specs.Lists.{_∈_}
 use Rattle.steps.proofs.Membership.{∈-left, ∈-right, ∈-either}
 use Rattle.field_successors.specs.Leading.{placed}
-use Rattle.field.specs.Setting.{settingOf}
-use Rattle.field.specs.Situation.{Situation, freeFrom, freeIn}
+use Rattle.field.specs.Setting.{settingOf, stepsIn}
+use Rattle.field.specs.Situation.{Situation, freeFrom, freeIn, newName}
 use Rattle.field_pairs.specs.Slot.{slotBytes}
 use Rattle.field.specs.Successors.{moves, leads, successors}
 use Rattle.field_renewal.specs.ListedEntries.{ListAt}
@@ -22,16 +25,32 @@ use Rattle.field_taking_up.specs.declared.taking.Lists.the-variants.{Past, List
 use Rattle.field_taking_up.specs.declared.taking.TakenUp.{TakenUp}
 use Rattle.field.proofs.Members.{getD-∈}
 use Rattle.verdict_survival.specs.Notes.{Has, Few, Numbers}
-use Rattle.verdict_survival.specs.Striking.{leftOf, Side, ReliesOn, SideAnsweredIs, demandsAt, FieldIn, LeadsTo, SurvivesIs, Relies, ExaminedIs}
+use Rattle.verdict_survival.specs.Striking.{leftOf, sideDemands, Side, ReliesOn, SideMetIs, demandsAt, FieldIn, LeadsTo, SurvivesIs, Relies, ExaminedIs}
 use Rattle.verdict_survival.specs.declared.relied.Relied.{Relied}
 use Rattle.verdict_survival.specs.declared.survive.Answered.{Answered}
-use Rattle.verdict.specs.Verdict.{openly, differs, demandsOf, allAnswered}
+use Rattle.verdict.specs.Received.{namedDemands, sidesDemand}
+use Rattle.verdict.specs.Verdict.{Manner, openly, named, differs, demandsOf, allAnswered}
 use Rattle.verdict_survival.proofs.Demands.{all-both}
 use Rattle.verdict.proofs.Rounds.{true-not-false, single}
 
-module _ (question : List ℕ) (capacity : ℕ) (work : List ℕ) (count i : ℕ) (below : i < count) (r : TakenUp) (firsts seconds : List ℕ)
+-- The demands on a situation are those of its sides.
+demands-of-sides : (manner : Manner) (q : Question) (s : Situation) (ps qs : List ListedStep)
+    → stepsOf (q .bodies) (newName nameCount (s .first) (s .second)) (s .first) ≡ listed ps
+    → stepsOf (q .bodies) (newName nameCount (s .first) (s .second)) (s .second) ≡ listed qs → (ms : List (List Situation))
+    → ms ≡ moves (differs manner) nameCount (placed false) (freeIn nameCount (s .first) (s .second)) (s .apart) ps qs
+    ++ moves (differs manner) nameCount (placed true) (freeIn nameCount (s .first) (s .second)) (s .apart) qs ps
+    → demandsAt manner q s ms ≡ sideDemands manner false (freeIn nameCount (s .first) (s .second)) (s .apart) ps qs
+    ++ sideDemands manner true (freeIn nameCount (s .first) (s .second)) (s .apart) qs ps
+unfolding demandsOf sideDemands differs namedDemands sidesDemand stepsIn stepsOf settingOf placed
+demands-of-sides openly q s ps qs a b ms e =
+    let F : List ℕ = freeIn nameCount (s .first) (s .second) in
+    ap (map (map single)) e
+    ∙ map-append (map single) (moves false nameCount (placed false) F (s .apart) ps qs) (moves false nameCount (placed true) F (s .apart) qs ps)
+demands-of-sides (named k) q s ps qs a b ms e = ap₂ (sidesDemand k (settingOf true (q .bodies)) s) a b
+
+module _ (manner : Manner) (question : List ℕ) (capacity : ℕ) (work : List ℕ) (count i : ℕ) (below : i < count) (r : TakenUp) (firsts seconds : List ℕ)
     (takes : TakesUp question work (slotBytes * i) r firsts seconds) where
-  module _ (f : FieldIn openly question capacity work count) (d : Situation) where
+  module _ (f : FieldIn manner question capacity work count) (d : Situation) where
     abbrev here : Situation
     here = getD (f .known) i d
 
@@ -44,19 +63,19 @@ module _ (question : List ℕ) (capacity : ℕ) (work : List ℕ) (count i : ℕ
 
     -- the two sides of a situation within the limits
     module _ (arities : List ℕ) (a : AritiesIs question arities) (n m : ℕ) (l : SidesListed (f .read) here n m firsts seconds)
-        (ms : List (List Situation)) (e : successors (settingOf false (f .read .bodies)) here ≡ leads ms) where
+        (ms : List (List Situation)) (e : successors (settingOf (differs manner) (f .read .bodies)) here ≡ leads ms) where
       abbrev F : List ℕ
       F = fn (here .first) ++ fn (here .second)
 
       abbrev ofFirst : List (List Situation)
-      ofFirst = moves false nameCount (placed false) (freeFrom F 0 nameCount) (here .apart) (l .ps) (l .qs)
+      ofFirst = moves (differs manner) nameCount (placed false) (freeFrom F 0 nameCount) (here .apart) (l .ps) (l .qs)
 
       abbrev ofSecond : List (List Situation)
-      ofSecond = moves false nameCount (placed true) (freeFrom F 0 nameCount) (here .apart) (l .qs) (l .ps)
+      ofSecond = moves (differs manner) nameCount (placed true) (freeFrom F 0 nameCount) (here .apart) (l .qs) (l .ps)
 
       those : ms ≡ ofFirst ++ ofSecond
       unfolding freeIn
-      those = cc (l .leading false)
+      those = cc (l .leading (differs manner))
 
       read-arities : arities ≡ f .read .arities
       unfolding AritiesIs
@@ -66,7 +85,7 @@ module _ (question : List ℕ) (capacity : ℕ) (work : List ℕ) (count i : ℕ
       unfolding differs
       leads-known w g t h = f .closed here inside ms e w (subst (λ ms. w ∈ ms) (sym those) g) t h
 
-      first-side : Side arities capacity work count (r .free) (r .apart) false firsts n seconds m
+      first-side : Side (differs manner) arities capacity work count (r .free) (r .apart) false firsts n seconds m
       first-side = record {
         known = f .known;
         number = f .number;
@@ -83,7 +102,7 @@ module _ (question : List ℕ) (capacity : ℕ) (work : List ℕ) (count i : ℕ
         closed = λ w g t h. leads-known w (∈-left w ofFirst ofSecond g) t h;
       }
 
-      second-side : Side arities capacity work count (r .free) (r .apart) true seconds m firsts n
+      second-side : Side (differs manner) arities capacity work count (r .free) (r .apart) true seconds m firsts n
       second-side = record {
         known = f .known;
         number = f .number;
@@ -100,57 +119,61 @@ module _ (question : List ℕ) (capacity : ℕ) (work : List ℕ) (count i : ℕ
         closed = λ w g t h. leads-known w (∈-right w ofFirst ofSecond g) t h;
       }
 
-      demanded : demandsAt openly (f .read) here ms ≡ map (map single) ofFirst ++ map (map single) ofSecond
-      unfolding demandsOf
-      demanded = ap (map (map single)) those ∙ map-append (map single) ofFirst ofSecond
+      abbrev demandsOfSide : Bool → List ListedStep → List ListedStep → List (List (List Situation))
+      demandsOfSide second ss ts = sideDemands manner second (freeFrom F 0 nameCount) (here .apart) ss ts
+
+      both-demand : demandsAt manner (f .read) here ms ≡ demandsOfSide false (l .ps) (l .qs) ++ demandsOfSide true (l .qs) (l .ps)
+      unfolding freeIn
+      both-demand =
+          demands-of-sides manner (f .read) here (l .ps) (l .qs) (l .first-list) (l .second-list) ms those
 
       both-sides : (left : List Situation)
-          → allAnswered left (demandsAt openly (f .read) here ms) ≡ (allAnswered left (map (map single) ofFirst) && allAnswered left (map (map single) ofSecond))
-      both-sides left = ap (allAnswered left) demanded ∙ all-both left (map (map single) ofFirst) (map (map single) ofSecond)
+          → allAnswered left (demandsAt manner (f .read) here ms) ≡ (allAnswered left (demandsOfSide false (l .ps) (l .qs)) && allAnswered left (demandsOfSide true (l .qs) (l .ps)))
+      both-sides left = ap (allAnswered left) both-demand ∙ all-both left (demandsOfSide false (l .ps) (l .qs)) (demandsOfSide true (l .qs) (l .ps))
 
   pub past-limit : r .lists ≡ Past → (relied : Relied) → Numbers relied
-      → ExaminedIs openly question capacity work count i (record { all = false; relied = relied })
+      → ExaminedIs manner question capacity work count i (record { all = false; relied = relied })
   unfolding SurvivesIs ListsAre differs
   past-limit e relied n = record { is = λ f. survives (f .field); numbers = n; relies = λ q. true-not-false q refl }
     where
-      survives : (f : FieldIn openly question capacity work count) (d : Situation) (ms : List (List Situation)) → LeadsTo f i d ms
-          → false ≡ allAnswered (leftOf work (f .known)) (demandsAt openly (f .read) (getD (f .known) i d) ms)
+      survives : (f : FieldIn manner question capacity work count) (d : Situation) (ms : List (List Situation)) → LeadsTo f i d ms
+          → false ≡ allAnswered (leftOf work (f .known)) (demandsAt manner (f .read) (getD (f .known) i d) ms)
       survives f d ms h =
-          let p = subst (λ k. ListsAre (f .read) (getD (f .known) i d) k firsts seconds) e (taken f d .lists) false in
+          let p = subst (λ k. ListsAre (f .read) (getD (f .known) i d) k firsts seconds) e (taken f d .lists) (differs manner) in
           let z : _≡_ {A = ℕ} 0 1 = cc in absurd (omega arith)
 
   module _ (n m : ℕ) (e : r .lists ≡ Listed n m) (arities : List ℕ) (a : AritiesIs question arities) (before : Relied) (first : Answered)
-      (h : SideAnsweredIs arities capacity work count (r .free) (r .apart) false firsts n seconds m before first) where
-    sides : (f : FieldIn openly question capacity work count) (d : Situation) → SidesListed (f .read) (getD (f .known) i d) n m firsts seconds
+      (h : SideMetIs manner arities capacity work count (r .free) (r .apart) false firsts n seconds m before first) where
+    sides : (f : FieldIn manner question capacity work count) (d : Situation) → SidesListed (f .read) (getD (f .known) i d) n m firsts seconds
     unfolding ListsAre
     sides f d = subst (λ k. ListsAre (f .read) (getD (f .known) i d) k firsts seconds) e (taken f d .lists)
 
-    pub first-fails : first .all ≡ false → ExaminedIs openly question capacity work count i (record { all = false; relied = first .relied })
+    pub first-fails : first .all ≡ false → ExaminedIs manner question capacity work count i (record { all = false; relied = first .relied })
     unfolding SurvivesIs first-side sides moves differs
     first-fails q = record { is = λ f. survives (f .field); numbers = h .numbers; relies = λ q. true-not-false q refl }
       where
-        survives : (f : FieldIn openly question capacity work count) (d : Situation) (ms : List (List Situation)) → LeadsTo f i d ms
-            → false ≡ allAnswered (leftOf work (f .known)) (demandsAt openly (f .read) (getD (f .known) i d) ms)
+        survives : (f : FieldIn manner question capacity work count) (d : Situation) (ms : List (List Situation)) → LeadsTo f i d ms
+            → false ≡ allAnswered (leftOf work (f .known)) (demandsAt manner (f .read) (getD (f .known) i d) ms)
         survives f d ms g =
             let l = sides f d in
             let x = h .is (first-side f d arities a n m l ms g) in
             sym (both-sides f d arities a n m l ms g (leftOf work (f .known))
-            ∙ ap (λ b. b && allAnswered (leftOf work (f .known)) (map (map single) (ofSecond f d arities a n m l ms g))) (sym x ∙ q))
+            ∙ ap (λ b. b && allAnswered (leftOf work (f .known)) (demandsOfSide f d arities a n m l ms g true (l .qs) (l .ps))) (sym x ∙ q))
 
-    pub second-decides : (second : Answered) → first .all ≡ true → SideAnsweredIs arities capacity work count (r .free) (r .apart) true seconds m firsts n (first .relied) second
-        → ExaminedIs openly question capacity work count i second
+    pub second-decides : (second : Answered) → first .all ≡ true → SideMetIs manner arities capacity work count (r .free) (r .apart) true seconds m firsts n (first .relied) second
+        → ExaminedIs manner question capacity work count i second
     unfolding SurvivesIs Relies ReliesOn first-side sides second-side differs
     second-decides second q k = record { is = λ f. survives (f .field); numbers = k .numbers; relies = relies }
       where
-        survives : (f : FieldIn openly question capacity work count) (d : Situation) (ms : List (List Situation)) → LeadsTo f i d ms
-            → second .all ≡ allAnswered (leftOf work (f .known)) (demandsAt openly (f .read) (getD (f .known) i d) ms)
+        survives : (f : FieldIn manner question capacity work count) (d : Situation) (ms : List (List Situation)) → LeadsTo f i d ms
+            → second .all ≡ allAnswered (leftOf work (f .known)) (demandsAt manner (f .read) (getD (f .known) i d) ms)
         survives f d ms g =
             let l = sides f d in
             let x = h .is (first-side f d arities a n m l ms g) in
             let y = k .is (second-side f d arities a n m l ms g) in
             sym (both-sides f d arities a n m l ms g (leftOf work (f .known)) ∙ ap₂ _&&_ (sym x ∙ q) (sym y))
 
-        relies : second .all ≡ true → Few (second .relied) → Relies openly question capacity work count i (Has (second .relied))
+        relies : second .all ≡ true → Few (second .relied) → Relies manner question capacity work count i (Has (second .relied))
         relies t few f d ms g w o =
             let l = sides f d in
             ⊎-elim
@@ -158,5 +181,5 @@ module _ (question : List ℕ) (capacity : ℕ) (work : List ℕ) (count i : ℕ
             let (v, b, x) = h .relies q (k .more .few few) (first-side f d arities a n m l ms g) w o in
             (v, b, λ t u. let (j, c, y, z) = x t u in (j, c, k .more .has few j y, z)))
             (λ o. k .relies t few (second-side f d arities a n m l ms g) w o)
-            (∈-either w (map (map single) (ofFirst f d arities a n m l ms g)) (map (map single) (ofSecond f d arities a n m l ms g))
-            (subst (λ ms. w ∈ ms) (demanded f d arities a n m l ms g) o))
+            (∈-either w (demandsOfSide f d arities a n m l ms g false (l .ps) (l .qs)) (demandsOfSide f d arities a n m l ms g true (l .qs) (l .ps))
+            (subst (λ ms. w ∈ ms) (both-demand f d arities a n m l ms g) o))

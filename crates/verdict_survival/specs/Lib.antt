@@ -1,2 +1,3 @@
+pub mod Manners
 pub mod Notes
 pub mod Striking

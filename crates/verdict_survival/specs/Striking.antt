@@ -1,22 +1,21 @@
 -- Strike-out in the work area (document 01, "The field and the verdict", and request 2026-02): which situations are left, and what the code promises
 -- of them, in each manner of judging.
-use mathlib.Core.Bool.{Bool, true, false, cond, _&&_}
+use mathlib.Core.Bool.{Bool, true, false, cond, _&&_, _||_}
 use mathlib.Core.List.{List, [], _∷_, map}
 use mathlib.Core.Path.{_≡_}
 use Prim.Native.Nat.{ℕ, zero, suc, _+_, _-_, _*_, _<_, _≤_}
-use lib.Dec.{eqb}
+use lib.Dec.{eqb, ltb}
 use lib.ListN.{length, getD, set, take}
 use Rattle.calculus.specs.Cond.{Pairs}
-use Rattle.calculus.specs.Distinction.{Irr}
+use Rattle.calculus.specs.Distinction.{Irr, among}
 use Rattle.terms.specs.Answer.{result}
 use Rattle.terms.specs.Encoding.{encode, InScope}
 use Rattle.terms.specs.Limits.{nameCount}
 use Rattle.terms.specs.Question.{Question, checkOf}
 use Rattle.steps.specs.Lists.{_∈_}
-use Rattle.steps.specs.Listed.{ListedStep}
+use Rattle.steps.specs.Listed.{ListedStep, namesFrom}
 use Rattle.field_slots.specs.Chains.{Chained}
 use Rattle.field_pairs.specs.Entry.{EntryAt, Rewritten}
-use Rattle.field.specs.Exploration.{found}
 use Rattle.field_growth.specs.Holding.{unanswered}
 use Rattle.field.specs.Situation.{Proper}
 use Rattle.field_slots.specs.Key.{SituationAt, keyAt}
@@ -26,11 +25,12 @@ use Rattle.field_slots.specs.Noted.{notedCount, noteAt, SpareOnly, SoleIn}
 use Rattle.field.specs.Setting.{settingOf}
 use Rattle.field.specs.Situation.{Situation, freeFrom, sameSituation}
 use Rattle.field_pairs.specs.Slot.{flagsOf, keyBytes, slotBytes, struckAt}
-use Rattle.field.specs.Successors.{answers, moves, leads, successors}
+use Rattle.field.specs.Successors.{select, answers, allowed, received, moves, leads, successors}
 use Rattle.field_renewal.specs.ListedEntries.{ListAt}
 use Rattle.field_slots.specs.declared.find.Found.{Found}
 use Rattle.field_slots.specs.declared.find.Found.the-variants.{At, Nothing}
-use Rattle.verdict.specs.Verdict.{Manner, differs, demandsOf, allAnswered}
+use Rattle.verdict.specs.Received.{namedMoves}
+use Rattle.verdict.specs.Verdict.{Manner, openly, named, differs, demandsOf, allFound, allAnswered}
 use Rattle.verdict_survival.specs.Notes.{NotedIn, Has, Few, Numbers, Within, SoleStruckIs}
 use Rattle.verdict_survival.specs.declared.relied.Relied.{Relied}
 use Rattle.verdict_survival.specs.declared.survive.Answered.{Answered}
@@ -79,18 +79,44 @@ unfoldable pub isAt : Found → Bool
 isAt (At i) = true
 isAt Nothing = false
 
--- Whether the entry at `place` answers the one at `at` and leads to a situation that is left, and the slot of that one.
-pub record AnswerLeftIs (arities : List ℕ) (capacity : ℕ) (work : List ℕ) (count : ℕ) (free apart : List ℕ) (second : Bool) (area : List ℕ) (at : ℕ) (others : List ℕ) (place : ℕ) (r : Found) : Type 0 where
-  pub within : (i : ℕ) → r ≡ At i → i < count
-  pub is : (known : List Situation) (G : List ℕ) (D : Pairs) (s t : ListedStep) → length known ≡ count → Standing capacity work known → HasNames free G
-      → apart ≡ flagsOf D → EntryAt area at s → EntryAt others place t → InScope nameCount arities 0 (s .result) → InScope nameCount arities 0 (t .result)
-      → Rewritten t
-      → (answers nameCount s t ≡ true → leading second (freeFrom G 0 nameCount) D s t ∈ known)
-      → (isAt r ≡ (answers nameCount s t && found (leftOf work known) (leading second (freeFrom G 0 nameCount) D s t)))
-      × ((i : ℕ) → r ≡ At i → (d : Situation) → getD known i d ≡ leading second (freeFrom G 0 nameCount) D s t)
+-- The code goes over runs of names, `from` to `to` without it: openly the number behind the names, late all names, early one name at a time. Of a run
+-- count that number and the names that the step receives.
+unfoldable pub counted : List ℕ → ListedStep → ℕ → Bool
+counted F s y = eqb y nameCount || among (received true nameCount F s) y
+
+unfoldable pub lotOf : ℕ → ℕ → List ℕ → ListedStep → List ℕ
+lotOf from to F s = select (counted F s) (namesFrom from (to - from))
+
+unfoldable pub someOf : List ℕ → Bool
+someOf [] = false
+someOf (y ∷ ys) = true
+
+-- a step must be answered for the run: it is allowed, and some name of the run counts
+unfoldable pub asked : Bool → ℕ → ℕ → List ℕ → Pairs → ListedStep → Bool
+asked differ from to F D s = allowed differ nameCount D s && someOf (lotOf from to F s)
+
+-- what is demanded then: each answer leads to a situation for every name that counts
+unfoldable pub demanded : ℕ → ℕ → Bool → List ℕ → Pairs → List ListedStep → ListedStep → List (List Situation)
+demanded from to second F D ts s = map (λ t. map (leading second F D s t) (lotOf from to F s)) (select (answers nameCount s) ts)
+
+unfoldable pub runDemands : Bool → ℕ → ℕ → Bool → List ℕ → Pairs → List ListedStep → List ListedStep → List (List (List Situation))
+runDemands differ from to second F D ss ts = map (demanded from to second F D ts) (select (asked differ from to F D) ss)
+
+-- the demands of one side
+unfoldable pub sideDemands : Manner → Bool → List ℕ → Pairs → List ListedStep → List ListedStep → List (List (List Situation))
+sideDemands openly second F D ss ts = map (map (λ t. t ∷ [])) (moves false nameCount (placed second) F D ss ts)
+sideDemands (named k) second F D ss ts = namedMoves nameCount (placed second) F D k ss ts
+
+unfoldable pub CountsIs : List ℕ → List ℕ → ℕ → ℕ → Bool → Type 0
+CountsIs free area at name r = (G : List ℕ) (s : ListedStep) → HasNames free G → EntryAt area at s → r ≡ counted (freeFrom G 0 nameCount) s name
+
+unfoldable pub AskedIs : List ℕ → List ℕ → List ℕ → ℕ → ℕ → ℕ → Bool → Type 0
+AskedIs free apart area at from to r =
+    (G : List ℕ) (D : Pairs) (s : ListedStep) → HasNames free G → Irr D → apart ≡ flagsOf D → EntryAt area at s
+    → r ≡ asked (ltb from nameCount) from to (freeFrom G 0 nameCount) D s
 
 -- One side of a situation: its list of steps, the other side's, and that all answers lead to known situations.
-pub record Side (arities : List ℕ) (capacity : ℕ) (work : List ℕ) (count : ℕ) (free apart : List ℕ) (second : Bool) (area : List ℕ) (n : ℕ) (others : List ℕ) (m : ℕ) : Type 0 where
+pub record Side (differ : Bool) (arities : List ℕ) (capacity : ℕ) (work : List ℕ) (count : ℕ) (free apart : List ℕ) (second : Bool) (area : List ℕ) (n : ℕ) (others : List ℕ) (m : ℕ) : Type 0 where
   pub known : List Situation
   pub number : length known ≡ count
   pub standing : Standing capacity work known
@@ -103,13 +129,47 @@ pub record Side (arities : List ℕ) (capacity : ℕ) (work : List ℕ) (count :
   pub distinction : Irr pairs
   pub mine : ListAt arities area n steps
   pub theirs : ListAt arities others m replies
-  pub closed : (w : List Situation) → w ∈ moves false nameCount (placed second) (freeFrom names 0 nameCount) pairs steps replies
+  pub closed : (w : List Situation) → w ∈ moves differ nameCount (placed second) (freeFrom names 0 nameCount) pairs steps replies
       → (t : Situation) → t ∈ w → t ∈ known
 
--- what is demanded of it
-abbrev pub sideDemands : {arities : List ℕ} {capacity : ℕ} {work : List ℕ} {count : ℕ} {free apart : List ℕ} {second : Bool} {area : List ℕ} {n : ℕ} {others : List ℕ} {m : ℕ}
-    → Side arities capacity work count free apart second area n others m → List (List (List Situation))
-sideDemands {second} p = map (map (λ t. t ∷ [])) (moves false nameCount (placed second) (freeFrom (p .names) 0 nameCount) (p .pairs) (p .steps) (p .replies))
+-- The names of a run are names exactly if all names differ.
+abbrev pub NameRun : Bool → ℕ → ℕ → Type 0
+NameRun differ from to = (y : ℕ) → from ≤ y → y < to → ltb y nameCount ≡ differ
+
+-- An allowed step of one side and a step of the other.
+pub record StepAndReply (arities : List ℕ) (capacity : ℕ) (work : List ℕ) (count : ℕ) (free apart : List ℕ) (second : Bool) (area : List ℕ) (at : ℕ) (others : List ℕ) (place from to : ℕ) : Type 0 where
+  pub differ : Bool
+  pub n : ℕ
+  pub m : ℕ
+  pub side : Side differ arities capacity work count free apart second area n others m
+  pub run : NameRun differ from to
+  pub step : ListedStep
+  pub mine : step ∈ side .steps
+  pub may : allowed differ nameCount (side .pairs) step ≡ true
+  pub entry : EntryAt area at step
+  pub scope : InScope nameCount arities 0 (step .result)
+  pub object : step .object < nameCount
+  pub reply : ListedStep
+  pub theirs : reply ∈ side .replies
+  pub entry₂ : EntryAt others place reply
+  pub scope₂ : InScope nameCount arities 0 (reply .result)
+  pub rewritten : Rewritten reply
+
+-- t is the situation of a number in H
+abbrev pub NumberIn : (ℕ → Type 0) → List Situation → Situation → Type 0
+NumberIn H known t = (j : ℕ) × (j < length known) × H j × ((d : Situation) → getD known j d ≡ t)
+
+-- Whether the reply answers the step and every situation that it leads to is left, and that r has those.
+pub record LotLeftIs (arities : List ℕ) (capacity : ℕ) (work : List ℕ) (count : ℕ) (free apart : List ℕ) (second : Bool) (area : List ℕ) (at : ℕ) (others : List ℕ) (place from to : ℕ) (before : Relied) (r : Answered) : Type 0 where
+  pub is : (c : StepAndReply arities capacity work count free apart second area at others place from to)
+      → (let F = freeFrom (c .side .names) 0 nameCount in
+      r .all ≡ (answers nameCount (c .step) (c .reply)
+      && allFound (leftOf work (c .side .known)) (map (leading second F (c .side .pairs) (c .step) (c .reply)) (lotOf from to F (c .step)))))
+  pub numbers : Numbers (r .relied)
+  pub more : Within before (r .relied)
+  pub relies : r .all ≡ true → Few (r .relied) → (c : StepAndReply arities capacity work count free apart second area at others place from to)
+      → (let F = freeFrom (c .side .names) 0 nameCount in
+      (y : ℕ) → y ∈ lotOf from to F (c .step) → NumberIn (Has (r .relied)) (c .side .known) (leading second F (c .side .pairs) (c .step) (c .reply) y))
 
 -- an answer all of whose situations have X meets the demand
 abbrev pub SomeAnswer : (Situation → Type 0) → List (List Situation) → Type 0
@@ -117,15 +177,25 @@ SomeAnswer X m = (l : List Situation) × (l ∈ m) × ((t : Situation) → t ∈
 
 -- Each demand has an answer all of whose situations have numbers in H.
 unfoldable pub ReliesOn : (ℕ → Type 0) → List Situation → List (List (List Situation)) → Type 0
-ReliesOn H known ms = (m : List (List Situation)) → m ∈ ms → SomeAnswer (λ t. (j : ℕ) × (j < length known) × H j × ((d : Situation) → getD known j d ≡ t)) m
+ReliesOn H known ms = (m : List (List Situation)) → m ∈ ms → SomeAnswer (NumberIn H known) m
 
--- Whether each permitted step of the side is answered, and what that relies on, beside what was relied on before.
-pub record SideAnsweredIs (arities : List ℕ) (capacity : ℕ) (work : List ℕ) (count : ℕ) (free apart : List ℕ) (second : Bool) (area : List ℕ) (n : ℕ) (others : List ℕ) (m : ℕ) (before : Relied) (r : Answered) : Type 0 where
-  pub is : (p : Side arities capacity work count free apart second area n others m) → r .all ≡ allAnswered (leftOf work (p .known)) (sideDemands p)
+-- Whether those left meet each demand, and what that relies on, beside what was relied on before.
+pub record Meets (C : Type 0) (work : List ℕ) (known : C → List Situation) (demands : C → List (List (List Situation))) (before : Relied) (r : Answered) : Type 0 where
+  pub is : (c : C) → r .all ≡ allAnswered (leftOf work (known c)) (demands c)
   pub numbers : Numbers (r .relied)
   pub more : Within before (r .relied)
-  pub relies : r .all ≡ true → Few (r .relied) → (p : Side arities capacity work count free apart second area n others m)
-      → ReliesOn (Has (r .relied)) (p .known) (sideDemands p)
+  pub relies : r .all ≡ true → Few (r .relied) → (c : C) → ReliesOn (Has (r .relied)) (known c) (demands c)
+
+-- the demands of a run of names, and those of one side
+abbrev pub SideAnsweredIs : ℕ → ℕ → List ℕ → ℕ → List ℕ → ℕ → List ℕ → List ℕ → Bool → List ℕ → ℕ → List ℕ → ℕ → Relied → Answered → Type 0
+SideAnsweredIs from to arities capacity work count free apart second area n others m before r =
+    Meets (Side (ltb from nameCount) arities capacity work count free apart second area n others m) work (λ p. p .known)
+    (λ p. runDemands (ltb from nameCount) from to second (freeFrom (p .names) 0 nameCount) (p .pairs) (p .steps) (p .replies)) before r
+
+abbrev pub SideMetIs : Manner → List ℕ → ℕ → List ℕ → ℕ → List ℕ → List ℕ → Bool → List ℕ → ℕ → List ℕ → ℕ → Relied → Answered → Type 0
+SideMetIs manner arities capacity work count free apart second area n others m before r =
+    Meets (Side (differs manner) arities capacity work count free apart second area n others m) work (λ p. p .known)
+    (λ p. sideDemands manner second (freeFrom (p .names) 0 nameCount) (p .pairs) (p .steps) (p .replies)) before r
 
 -- Both parts are the same term.
 abbrev pub EqualParts : Situation → Type 0

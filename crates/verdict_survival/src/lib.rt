@@ -1,3 +1,4 @@
 // Whether a situation survives.
+pub mod manner;
 pub mod relied;
 pub mod survive;

@@ -12,13 +12,13 @@ use Rattle.field_exploration.proofs.explore.explore.Statement.{statemen
 use Rattle.field_exploration.proofs.explore.explore.Tie as tie
 
 abbrev Inv-loop : tie.InvT-loop
-Inv-loop question bodies numbers₀ rows₀ firsts₀ seconds₀ work₀ capacity known₀ taken₀ numbers rows firsts seconds work known taken =
+Inv-loop question bodies numbers₀ rows₀ firsts₀ seconds₀ work₀ capacity differ known₀ taken₀ numbers rows firsts seconds work known taken =
     (taken ≤ known) × (1 ≤ known) × (known ≤ capacity) × (length work ≡ length work₀) × (length numbers ≡ tallySize) × (rowBytes * mostRows ≤ length rows)
-    × Labelled question firsts × Labelled question seconds × Explorers question capacity work₀ work known taken
+    × Labelled question firsts × Labelled question seconds × Explorers differ question capacity work₀ work known taken
     × (length numbers ≡ length numbers₀) × (length rows ≡ length rows₀) × (length firsts ≡ length firsts₀) × (length seconds ≡ length seconds₀)
 
 abbrev μ-loop : tie.MeasureT-loop
-μ-loop question bodies numbers₀ rows₀ firsts₀ seconds₀ work₀ capacity known₀ taken₀ numbers rows firsts seconds work known taken = capacity - taken
+μ-loop question bodies numbers₀ rows₀ firsts₀ seconds₀ work₀ capacity differ known₀ taken₀ numbers rows firsts seconds work known taken = capacity - taken
 
 start-key-requires : tie.Need-start-key-requires Inv-loop μ-loop
 start-key-requires c κs = search needs
@@ -40,7 +40,7 @@ loop-holds c =
       search needs,
       g .6,
       g .7,
-      explorers-start _ _ (g .0) _ (g .2) _ (omega
+      explorers-start _ _ _ (g .0) _ (g .2) _ (omega
           arith) _ (c .before .before .put .ensures) (c .before .before .before .before .before .start-key .ensures),
       refl,
       refl,
@@ -110,8 +110,8 @@ returns c =
     let c26 = c23 .before .before .before in
     let c29 = c26 .before .before .before in
     let c37 = c29 .before .before .before .before .before .before .before .before in (
-      explored-from _ _ (c37 .pre .0) _ (c37 .pre .2) _ (omega (arith, c29 .start-key .ok)) _ (c26 .put .ensures) _ _ (explorers-full _ _ _ _ _ _
-          (explorers-cleared _ _ _ _ _ _ _ (omega (arith, c22 .loop-test .taken, c23 .loop .inv .2)) (c20 .clear-slot .ensures) (c23 .loop .inv .8))
+      explored-from _ _ _ (c37 .pre .0) _ (c37 .pre .2) _ (omega (arith, c29 .start-key .ok)) _ (c26 .put .ensures) _ _ (explorers-full _ _ _ _ _ _ _
+          (explorers-cleared _ _ _ _ _ _ _ _ (omega (arith, c22 .loop-test .taken, c23 .loop .inv .2)) (c20 .clear-slot .ensures) (c23 .loop .inv .8))
           (c22 .loop-test .taken) _ (rw (c .enum-told .given .1) at (c12 .grow .ensures .0))),
       c12 .grow .ensures .1,
       c12 .grow .ensures .2,
@@ -148,8 +148,8 @@ loop-again c =
       search needs,
       c .before .before .before .before .before .before .before .before .before .before .before .before .before .grow .ensures .1,
       c .before .before .before .before .before .before .before .before .before .before .before .before .before .grow .ensures .2,
-      explorers-next _ _ _
-          _ _ _ (explorers-cleared _ _ _ _ _ _ _ (omega (
+      explorers-next _ _ _ _
+          _ _ _ (explorers-cleared _ _ _ _ _ _ _ _ (omega (
             arith,
             c .before .before .before .before .before .before .before .before .before .before .before .before .before .before .before .before .before .before .before .before .before .before .before .loop-test .taken,
             c .before .before .before .before .before .before .before .before .before .before .before .before .before .before .before .before .before .before .before .before .before .before .before .before .loop .inv .2,
@@ -202,7 +202,7 @@ returns-2 c =
     let c1 = c .before in
     let c4 = c1 .before .before .before in
     let c15 = c4 .before .before .before .before .before .before .before .before .before .before .before in (
-      explored-from _ _ (c15 .pre .0) _ (c15 .pre .2) _ (omega arith) _ (c4 .put .ensures) _ _ (explorers-end _ _ _ _ _ _ (c1 .loop .inv .8) (omega
+      explored-from _ _ _ (c15 .pre .0) _ (c15 .pre .2) _ (omega arith) _ (c4 .put .ensures) _ _ (explorers-end _ _ _ _ _ _ _ (c1 .loop .inv .8) (omega
           arith) (omega arith) (omega arith)),
       c1 .loop .inv .6,
       c1 .loop .inv .7,

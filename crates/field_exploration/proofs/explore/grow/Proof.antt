@@ -54,7 +54,7 @@ returns : tie.Need-returns
 returns c =
     let c12 = c .before .before .before .before .before .before .before .before .before .before .before .before in
     let c25 = c12 .before .before .before .before .before .before .before .before .before .before .before .before .before in
-    (grow-past _ _ _ _ _ (c25 .pre .0) _ _ _ (c12 .take-up .ensures .0) (c .enum-told .given .1), c12 .take-up .ensures .1, c12 .take-up .ensures .2)
+    (grow-past _ _ _ _ _ _ (c25 .pre .0) _ _ _ (c12 .take-up .ensures .0) (c .enum-told .given .1), c12 .take-up .ensures .1, c12 .take-up .ensures .2)
 
 same-length-6 : tie.Need-same-length-6
 same-length-6 c = search needs
@@ -77,7 +77,7 @@ returns-2 c =
     let c9 = c7 .before .before in
     let c21 = c9 .before .before .before .before .before .before .before .before .before .before .before .before in
     let c34 = c21 .before .before .before .before .before .before .before .before .before .before .before .before .before in (
-      grow-listed _ _ _ _ _ (c34 .pre .0) _ _ _ (c21 .take-up .ensures .0) _ _ (c9 .lists .given .1) _ (c7 .arities-of .ensures) _ _
+      grow-listed _ _ _ _ _ _ (c34 .pre .0) _ _ _ (c21 .take-up .ensures .0) _ _ (c9 .lists .given .1) _ (c7 .arities-of .ensures) _ _
           (c .before .before .grow-sides .ensures),
       c21 .take-up .ensures .1,
       c21 .take-up .ensures .2,

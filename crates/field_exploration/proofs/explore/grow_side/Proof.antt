@@ -9,14 +9,14 @@ use Rattle.field_exploration.proofs.explore.grow_side.Statement.{statem
 use Rattle.field_exploration.proofs.explore.grow_side.Tie as tie
 
 abbrev Inv-loop : tie.InvT-loop
-Inv-loop arities free apart second taken area steps others count work₀ capacity known so-far₀ i₀ work so-far i =
-    (i ≤ steps) × (length work ≡ length work₀) × (known ≤ so-far) × (so-far ≤ capacity) × Steps arities free apart second taken area steps others count capacity work₀ known work so-far i
+Inv-loop arities free apart differ second taken area steps others count work₀ capacity known so-far₀ i₀ work so-far i =
+    (i ≤ steps) × (length work ≡ length work₀) × (known ≤ so-far) × (so-far ≤ capacity) × Steps arities free apart differ second taken area steps others count capacity work₀ known work so-far i
 
 abbrev μ-loop : tie.MeasureT-loop
-μ-loop arities free apart second taken area steps others count work₀ capacity known so-far₀ i₀ work so-far i = steps - i
+μ-loop arities free apart differ second taken area steps others count work₀ capacity known so-far₀ i₀ work so-far i = steps - i
 
 loop-holds : tie.Need-loop-holds Inv-loop μ-loop
-loop-holds c = (search needs, search needs, search needs, search needs, steps-start _ _ _ _ _ _ _ _ _ _ _ _ (omega arith))
+loop-holds c = (search needs, search needs, search needs, search needs, steps-start _ _ _ _ _ _ _ _ _ _ _ _ _ (omega arith))
 
 mul-grow-step : tie.Need-mul-grow-step Inv-loop μ-loop
 mul-grow-step c = search needs
@@ -38,7 +38,7 @@ returns c =
     let c4 = c .before .before .before .before in
     let c6 = c4 .before .before in
     let c7 = c6 .before in
-    steps-full _ _ _ _ _ _ _ _ _ _ _ _ (omega arith) _ _ _ _ (c7 .loop .inv .4) (c6 .loop-test .taken) (rw (c .enum-told .given .1) at
+    steps-full _ _ _ _ _ _ _ _ _ _ _ _ _ (omega arith) _ _ _ _ (c7 .loop .inv .4) (c6 .loop-test .taken) (rw (c .enum-told .given .1) at
     (c4 .grow-step .ensures))
 
 add-i : tie.Need-add-i Inv-loop μ-loop
@@ -54,7 +54,7 @@ loop-again c =
       search needs,
       omega arith,
       b .1,
-      steps-next _ _ _ _ _ _ _ _ _ _ _ _ (omega arith) _ _ _ _ _
+      steps-next _ _ _ _ _ _ _ _ _ _ _ _ _ (omega arith) _ _ _ _ _
           (c .before .before .before .before .before .before .before .before .loop .inv .4)
           (c .before .before .before .before .before .before .before .loop-test .taken) g,
     )
@@ -63,7 +63,7 @@ same-length-2 : tie.Need-same-length-2 Inv-loop μ-loop
 same-length-2 c = search needs
 
 returns-2 : tie.Need-returns-2 Inv-loop μ-loop
-returns-2 c = steps-end _ _ _ _ _ _ _ _ _ _ _ _ _ _ _ (c .before .loop .inv .4) (omega arith)
+returns-2 c = steps-end _ _ _ _ _ _ _ _ _ _ _ _ _ _ _ _ (c .before .loop .inv .4) (omega arith)
 
 pub grow-side-spec : {M : Type 1} → statement M
 grow-side-spec =

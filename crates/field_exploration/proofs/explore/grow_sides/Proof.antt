@@ -24,7 +24,7 @@ same-length : tie.Need-same-length
 same-length c = search needs
 
 returns : tie.Need-returns
-returns c = sides-full _ _ _ _ _ _ _ _ _ _ _ _ (rw (c .enum-told .given .1) at (c .before .before .before .before .grow-side .ensures))
+returns c = sides-full _ _ _ _ _ _ _ _ _ _ _ _ _ (rw (c .enum-told .given .1) at (c .before .before .before .before .grow-side .ensures))
 
 same-length-2 : tie.Need-same-length-2
 same-length-2 c = search needs
@@ -33,7 +33,7 @@ returns-2 : tie.Need-returns-2
 returns-2 c =
     let c5 = c .before .before .before .before .before in
     let c9 = c5 .before .before .before .before in
-    sides-both _ _ _ _ _ _ _ _ _ _ _ (omega arith) _ _ (rw (c5 .growth .given .1) at (c9 .grow-side .ensures)) _ _
+    sides-both _ _ _ _ _ _ _ _ _ _ _ _ (omega arith) _ _ (rw (c5 .growth .given .1) at (c9 .grow-side .ensures)) _ _
     (c .before .before .grow-side2 .ensures)
 
 pub grow-sides-spec : {M : Type 1} → statement M

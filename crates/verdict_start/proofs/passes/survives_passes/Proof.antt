@@ -1,6 +1,6 @@
 -- `verdict::strike::survives_passes` meets its contract. Assumes nothing.
 use native.Mathlib.Omega.{arith}
-use Rattle.verdict.specs.Verdict.{openly}
+use Rattle.verdict_survival.specs.Manners.{mannerOf}
 use borrow.Author.Needs.{needs}
 use borrow.Author.Tests.{not-true, not-false}
 use mathlib.Core.Bool.{true, false, cond}
@@ -20,14 +20,14 @@ use Rattle.verdict_start.proofs.passes.survives_passes.Statement.{state
 use Rattle.verdict_start.proofs.passes.survives_passes.Tie as tie
 
 abbrev Inv-loop : tie.InvT-loop
-Inv-loop question bodies numbers₀ rows₀ firsts₀ seconds₀ work₀ capacity count rising up₀ again₀ numbers rows firsts seconds work up again =
+Inv-loop question bodies numbers₀ rows₀ firsts₀ seconds₀ work₀ capacity count rising manner up₀ again₀ numbers rows firsts seconds work up again =
     (length work ≡ length work₀) × (length numbers ≡ tallySize) × (rowBytes * mostRows ≤ length rows) × Labelled question firsts × Labelled question seconds
-    × Strikes openly question capacity count work₀ work × (again ≡ false → (getD work (struckAt 0) 0 ≡ 0) × AllSurvive openly question capacity work count)
+    × Strikes (mannerOf manner) question capacity count work₀ work × (again ≡ false → (getD work (struckAt 0) 0 ≡ 0) × AllSurvive (mannerOf manner) question capacity work count)
     × (length numbers ≡ length numbers₀) × (length rows ≡ length rows₀) × (length firsts ≡ length firsts₀) × (length seconds ≡ length seconds₀)
-    × NotesHold true openly question capacity work count
+    × NotesHold true (mannerOf manner) question capacity work count
 
 abbrev μ-loop : tie.MeasureT-loop
-μ-loop question bodies numbers₀ rows₀ firsts₀ seconds₀ work₀ capacity count rising up₀ again₀ numbers rows firsts seconds work up again = zeros (marks work count) + cond again 1 0
+μ-loop question bodies numbers₀ rows₀ firsts₀ seconds₀ work₀ capacity count rising manner up₀ again₀ numbers rows firsts seconds work up again = zeros (marks work count) + cond again 1 0
 
 clear-notes-requires : tie.Need-clear-notes-requires Inv-loop μ-loop
 clear-notes-requires c κs =

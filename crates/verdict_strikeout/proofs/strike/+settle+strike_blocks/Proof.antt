@@ -1,6 +1,6 @@
 -- `verdict::strike::settle` and `strike_blocks` meet their contracts. The measure: the level of the blocks. Assumes nothing.
 use native.Mathlib.Omega.{arith}
-use Rattle.verdict.specs.Verdict.{openly}
+use Rattle.verdict_survival.specs.Manners.{mannerOf}
 use borrow.Author.Needs.{needs}
 use borrow.Author.Tests.{not-true, not-false}
 use mathlib.Core.Logic.{inr}
@@ -57,22 +57,22 @@ abbrev strike-blocks-claims : ℕ → strike-blocks-lts.Claims
 strike-blocks-claims t = (width-reads.Asked, width-reads.Learnt, turn-reads.Asked, turn-reads.Learnt, block-size-reads.Asked, block-size-reads.Learnt, settle-below t, settle.Post)
 
 abbrev settle-Inv-loop : settle-lts.InvT-loop
-settle-Inv-loop question bodies work₀ capacity count from size level numbers₀ rows₀ firsts₀ seconds₀ rising examine struck₀ up₀ work numbers rows firsts seconds struck up =
+settle-Inv-loop question bodies work₀ capacity count from size level numbers₀ rows₀ firsts₀ seconds₀ rising examine manner struck₀ up₀ work numbers rows firsts seconds struck up =
     (length work ≡ length work₀) × (length numbers ≡ length numbers₀) × (length rows ≡ length rows₀)
     × (length firsts ≡ length firsts₀) × (length seconds ≡ length seconds₀) × Labelled question firsts × Labelled question seconds
-    × PassIs examine openly question capacity work₀ count (λ j. ⊥) struck work
+    × PassIs examine (mannerOf manner) question capacity work₀ count (λ j. ⊥) struck work
 
 abbrev settle-μ-loop : settle-lts.MeasureT-loop
-settle-μ-loop question bodies work₀ capacity count from size level numbers₀ rows₀ firsts₀ seconds₀ rising examine struck₀ up₀ work numbers rows firsts seconds struck up = zeros (marks work count)
+settle-μ-loop question bodies work₀ capacity count from size level numbers₀ rows₀ firsts₀ seconds₀ rising examine manner struck₀ up₀ work numbers rows firsts seconds struck up = zeros (marks work count)
 
 abbrev strike-blocks-Inv-loop : strike-blocks-lts.InvT-loop
-strike-blocks-Inv-loop question bodies work₀ capacity count from size level numbers₀ rows₀ firsts₀ seconds₀ rising examine block blocks struck₀ i₀ work numbers rows firsts seconds struck i =
+strike-blocks-Inv-loop question bodies work₀ capacity count from size level numbers₀ rows₀ firsts₀ seconds₀ rising examine manner block blocks struck₀ i₀ work numbers rows firsts seconds struck i =
     (i ≤ blocks) × (length work ≡ length work₀) × (length numbers ≡ length numbers₀) × (length rows ≡ length rows₀)
     × (length firsts ≡ length firsts₀) × (length seconds ≡ length seconds₀) × Labelled question firsts × Labelled question seconds
-    × PassIs examine openly question capacity work₀ count (TakenUp rising blocks (Blocks from size block) i) struck work
+    × PassIs examine (mannerOf manner) question capacity work₀ count (TakenUp rising blocks (Blocks from size block) i) struck work
 
 abbrev strike-blocks-μ-loop : strike-blocks-lts.MeasureT-loop
-strike-blocks-μ-loop question bodies work₀ capacity count from size level numbers₀ rows₀ firsts₀ seconds₀ rising examine block blocks struck₀ i₀ work numbers rows firsts seconds struck i = i
+strike-blocks-μ-loop question bodies work₀ capacity count from size level numbers₀ rows₀ firsts₀ seconds₀ rising examine manner block blocks struck₀ i₀ work numbers rows firsts seconds struck i = i
 
 settle-strike-one-requires : (t : ℕ) → settle-lts.Need-strike-one-requires (settle-claims t) (settle-at t) settle.Post settle-Inv-loop settle-μ-loop
 settle-strike-one-requires t c κs =

@@ -1,4 +1,4 @@
--- `verdict::strike::survives` meets its contract. Assumes nothing.
+-- `verdict_survival::survive::survives` meets its contract. Assumes nothing.
 use native.Mathlib.Omega.{arith}
 use borrow.Author.Tests.{not-true, not-false}
 use Rattle.verdict_survival.proofs.SurviveLaws.{past-limit, first-fails, second-decides}
@@ -28,11 +28,11 @@ enum-known-lists c = search needs
 arities-of-requires : tie.Need-arities-of-requires
 arities-of-requires c κs = search needs
 
-slice-aggregate-side-answered : tie.Need-slice-aggregate-side-answered
-slice-aggregate-side-answered c = search needs
+slice-aggregate-side-met : tie.Need-slice-aggregate-side-met
+slice-aggregate-side-met c = search needs
 
-side-answered-requires : tie.Need-side-answered-requires
-side-answered-requires c κs =
+side-met-requires : tie.Need-side-met-requires
+side-met-requires c κs =
     let c5 = c .before .before .before .before .before in
     let c7 = c5 .before .before in
     let c18 = c7 .before .before .before .before .before .before .before .before .before .before .before in
@@ -77,20 +77,20 @@ returns c =
     let c8 = c6 .before .before in
     let c21 = c8 .before .before .before .before .before .before .before .before .before .before .before .before .before in
     let c33 = c21 .before .before .before .before .before .before .before .before .before .before .before .before in (
-      first-fails _ _ _ _ _ (c33 .pre .0) _ _ _ (c21 .take-up .ensures .0) _ _ (c8 .lists .given .1) _ (c6 .arities-of .ensures) _ _
-          (c .before .before .side-answered .ensures) (not-true _ (c .if1 .taken)),
+      first-fails _ _ _ _ _ _ (c33 .pre .0) _ _ _ (c21 .take-up .ensures .0) _ _ (c8 .lists .given .1) _ (c6 .arities-of .ensures) _ _
+          (c .before .before .side-met .ensures) (not-true _ (c .if1 .taken)),
       c21 .take-up .ensures .1,
       c21 .take-up .ensures .2,
     )
 
-slice-aggregate-side-answered-2 : tie.Need-slice-aggregate-side-answered-2
-slice-aggregate-side-answered-2 c =
+slice-aggregate-side-met-2 : tie.Need-slice-aggregate-side-met-2
+slice-aggregate-side-met-2 c =
     let c22 = c .before .before .before .before .before .before .before .before .before .before .before .before .before .before .before .before .before .before .before .before .before .before in
     let o = c22 .take-up .ok in
     search (needs, o)
 
-side-answered-requires-2 : tie.Need-side-answered-requires-2
-side-answered-requires-2 c κs =
+side-met-requires-2 : tie.Need-side-met-requires-2
+side-met-requires-2 c κs =
     let c5 = c .before .before .before .before .before in
     let c11 = c5 .before .before .before .before .before .before in
     let c24 = c11 .before .before .before .before .before .before .before .before .before .before .before .before .before in
@@ -106,7 +106,7 @@ side-answered-requires-2 c κs =
         c24 .take-up .ensures .1 .room,
       ),
       c36 .pre .8,
-      c5 .side-answered .ensures .numbers,
+      c5 .side-met .ensures .numbers,
     )
 
 same-length-5 : tie.Need-same-length-5
@@ -133,7 +133,7 @@ returns-2 : tie.Need-returns-2
 returns-2 c =
     let c13 = c .before .before .before .before .before .before .before .before .before .before .before .before .before in
     let c25 = c13 .before .before .before .before .before .before .before .before .before .before .before .before in (
-      past-limit _ _ _ _ _ (c25 .pre .0) _ _ _ (c13 .take-up .ensures .0) (c .enum-told .given .1) _ (c .before .before .relied-none .ensures),
+      past-limit _ _ _ _ _ _ (c25 .pre .0) _ _ _ (c13 .take-up .ensures .0) (c .enum-told .given .1) _ (c .before .before .relied-none .ensures),
       c13 .take-up .ensures .1,
       c13 .take-up .ensures .2,
     )
@@ -166,8 +166,8 @@ returns-3 c =
     let c12 = c10 .before .before in
     let c25 = c12 .before .before .before .before .before .before .before .before .before .before .before .before .before in
     let c37 = c25 .before .before .before .before .before .before .before .before .before .before .before .before in (
-      second-decides _ _ _ _ _ (c37 .pre .0) _ _ _ (c25 .take-up .ensures .0) _ _ (c12 .lists .given .1) _ (c10 .arities-of .ensures) _ _
-          (c6 .side-answered .ensures) _ (not-false _ (c4 .if1 .left)) (c .side-answered2 .ensures),
+      second-decides _ _ _ _ _ _ (c37 .pre .0) _ _ _ (c25 .take-up .ensures .0) _ _ (c12 .lists .given .1) _ (c10 .arities-of .ensures) _ _
+          (c6 .side-met .ensures) _ (not-false _ (c4 .if1 .left)) (c .side-met2 .ensures),
       c25 .take-up .ensures .1,
       c25 .take-up .ensures .2,
     )
@@ -182,15 +182,15 @@ survives-spec =
     enum-told
     enum-known-lists
     arities-of-requires
-    slice-aggregate-side-answered
-    side-answered-requires
+    slice-aggregate-side-met
+    side-met-requires
     same-length
     same-length-2
     same-length-3
     same-length-4
     returns
-    slice-aggregate-side-answered-2
-    side-answered-requires-2
+    slice-aggregate-side-met-2
+    side-met-requires-2
     same-length-5
     same-length-6
     same-length-7

@@ -1,0 +1,56 @@
+-- `field::growth::grow_move` meets its contract. Assumes nothing.
+use native.Mathlib.Omega.{arith}
+use Rattle.field_growth.proofs.GrowingLaws.{move-answered, move-noted, move-gone}
+use borrow.Author.Needs.{needs}
+use Rattle.field_growth.proofs.growth.grow_move.Statement.{statement}
+use Rattle.field_growth.proofs.growth.grow_move.Tie as tie
+
+grow-answers-requires : tie.Need-grow-answers-requires
+grow-answers-requires c κs = search needs
+
+note-sole-requires : tie.Need-note-sole-requires
+note-sole-requires c κs = (omega arith, omega (arith, c .before .if2 .taken))
+
+same-length : tie.Need-same-length
+same-length c = search needs
+
+returns : tie.Need-returns
+returns c = move-noted _ _ _ _ _ _ _ _ _ _ _ _ _ _ (c .before .before .before .before .before .before .before .before .before .before .before .before .before .before .before .before .pre .0) (c .before .before .before .before .before .before .before .before .before .grow-answers .result) _ (omega (arith, c .before .before .before .before .before .before .before .before .before .before .before .before .before .before .before .before .pre .0, c .before .before .before .before .before .before .before .before .before .before .before .before .before .before .before .before .pre .1))
+    (c .before .before .before .before .before .before .before .before .before .grow-answers .ensures) (c .before .before .before .before .if2 .taken) _ (c .before .before .note-sole .ensures)
+
+same-length-2 : tie.Need-same-length-2
+same-length-2 c = search needs
+
+returns-2 : tie.Need-returns-2
+returns-2 c = move-answered _ _ _ _ _ _ _ _ _ _ _ _ _ _ (c .before .before .before .before .before .before .before .before .before .before .before .before .pre .0) _ _ (c .before .before .before .before .before .grow-answers .ensures .grown)
+
+mul-work : tie.Need-mul-work
+mul-work c = search needs
+
+add-work : tie.Need-add-work
+add-work c = search needs
+
+slice-write-work : tie.Need-slice-write-work
+slice-write-work c = search needs
+
+same-length-3 : tie.Need-same-length-3
+same-length-3 c = search needs
+
+returns-3 : tie.Need-returns-3
+returns-3 c = move-gone _ _ _ _ _ _ _ _ _ _ _ _ _ _ (c .before .before .before .before .before .before .before .before .before .before .pre .0) (c .before .before .before .grow-answers .result) _ (c .if1 .left) (omega arith) (omega arith) (c .before .before .before .grow-answers .ensures)
+
+pub grow-move-spec : {M : Type 1} → statement M
+grow-move-spec =
+    tie.close
+    (tie.spec
+    grow-answers-requires
+    note-sole-requires
+    same-length
+    returns
+    same-length-2
+    returns-2
+    mul-work
+    add-work
+    slice-write-work
+    same-length-3
+    returns-3)

@@ -1,0 +1,91 @@
+-- `verdict_survival::survive::lot_left` meets its contract. Assumes nothing.
+use borrow.Author.Tests.{not-true, not-false}
+use Prim.Native.Nat.{_-_, _≤_}
+use Rattle.verdict_survival.proofs.LotLaws.{LotSwept, lot-none, lot-start, lot-skips, lot-more, lot-fails, lot-all}
+use native.Mathlib.Omega.{arith}
+use borrow.Author.Needs.{needs}
+use Rattle.verdict_survival.proofs.survive.lot_left.Statement.{statement}
+use Rattle.verdict_survival.proofs.survive.lot_left.Tie as tie
+
+abbrev Inv-names : tie.InvT-names
+Inv-names arities work capacity count free apart second area at others place from to before relied₀ name₀ relied name =
+    (from ≤ name) × LotSwept arities capacity work count free apart second area at others place from to before relied name
+
+abbrev μ-names : tie.MeasureT-names
+μ-names arities work capacity count free apart second area at others place from to before relied₀ name₀ relied name =
+    to - name
+
+answers-requires : tie.Need-answers-requires Inv-names μ-names
+answers-requires c κs = search needs
+
+returns : tie.Need-returns Inv-names μ-names
+returns c = lot-none _ _ _ _ _ _ _ _ _ _ _ _ _ _ (c .before .answers .ensures) _ (not-true _ (c .if1 .taken)) (c .before .before .before .before .before .before .before .pre .8)
+
+names-holds : tie.Need-names-holds Inv-names μ-names
+names-holds c = (omega arith, lot-start _ _ _ _ _ _ _ _ _ _ _ _ _ _ (c .before .before .before .before .before .before .before .pre .8))
+
+add-name : tie.Need-add-name Inv-names μ-names
+add-name c = search needs
+
+counts-requires : tie.Need-counts-requires Inv-names μ-names
+counts-requires c κs = search needs
+
+names-less : tie.Need-names-less Inv-names μ-names
+names-less c = search needs
+
+names-again : tie.Need-names-again Inv-names μ-names
+names-again c = (omega arith, lot-skips _ _ _ _ _ _ _ _ _ _ _ _ _ _ _ _ (c .before .counts .ensures) _ (not-true _ (c .if2 .taken)) (c .before .before .before .names .inv .1))
+
+successor-requires : tie.Need-successor-requires Inv-names μ-names
+successor-requires c κs = search needs
+
+slice-aggregate-find-left : tie.Need-slice-aggregate-find-left Inv-names μ-names
+slice-aggregate-find-left c = search needs
+
+find-left-requires : tie.Need-find-left-requires Inv-names μ-names
+find-left-requires c κs = search needs
+
+enum-known-found : tie.Need-enum-known-found Inv-names μ-names
+enum-known-found c = search needs
+
+relied-with-requires : tie.Need-relied-with-requires Inv-names μ-names
+relied-with-requires c κs = (c .before .before .before .before .before .before .before .before .before .names .inv .1 .numbers, omega (arith, c .before .before .before .find-left .ensures .within _ (c .before .found .given .1), c .before .before .before .before .before .before .before .before .before .before .before .before .before .before .before .before .before .pre .1, c .before .before .before .before .before .before .before .before .before .before .before .before .before .before .before .before .before .pre .5))
+
+names-less-2 : tie.Need-names-less-2 Inv-names μ-names
+names-less-2 c = search needs
+
+names-again-2 : tie.Need-names-again-2 Inv-names μ-names
+names-again-2 c = (omega arith, lot-more _ _ _ _ _ _ _ _ _ _ _ _ _ _ _ _ (c .before .before .before .before .before .before .before .before .counts .ensures) _ _ (c .before .before .before .before .before .before .successor .ensures) (c .before .before .before .before .find-left .ensures) _ _ _ (c .before .before .found .given .1) (c .relied-with .ensures) (c .before .before .before .before .before .before .before .before .before .before .names .inv .1))
+
+enum-told : tie.Need-enum-told Inv-names μ-names
+enum-told c = search needs
+
+returns-2 : tie.Need-returns-2 Inv-names μ-names
+returns-2 c = lot-fails _ _ _ _ _ _ _ _ _ _ _ _ _ _ _ _ (c .before .before .before .before .before .before .counts .ensures) _ _ (c .before .before .before .before .successor .ensures) (c .before .before .find-left .ensures) (c .before .before .before .before .before .before .before .before .names .inv .0) (omega arith) (not-false _ (c .before .before .before .before .before .if2 .left)) _ (c .before .before .before .before .before .before .before .before .before .before .answers .ensures) (not-false _ (c .before .before .before .before .before .before .before .before .before .if1 .left)) (c .enum-told .given .1) (c .before .before .before .before .before .before .before .before .before .before .before .before .before .before .before .before .pre .8)
+
+returns-3 : tie.Need-returns-3 Inv-names μ-names
+returns-3 c = lot-all _ _ _ _ _ _ _ _ _ _ _ _ _ _ (c .before .before .before .answers .ensures) _ _ _ (not-false _ (c .before .before .if1 .left)) (omega arith) (c .before .names .inv .1)
+
+pub lot-left-spec : {M : Type 1} → statement M
+lot-left-spec =
+    tie.close
+    (tie.spec
+    Inv-names
+    μ-names
+    answers-requires
+    returns
+    names-holds
+    add-name
+    counts-requires
+    names-less
+    names-again
+    successor-requires
+    slice-aggregate-find-left
+    find-left-requires
+    enum-known-found
+    relied-with-requires
+    names-less-2
+    names-again-2
+    enum-told
+    returns-2
+    returns-3)

@@ -1,0 +1,56 @@
+-- `verdict_survival::survive::side_early` meets its contract. Assumes nothing.
+use borrow.Author.Tests.{not-true, not-false}
+use Prim.Native.Nat.{_-_, _≤_}
+use Rattle.terms.specs.Limits.{nameCount}
+use Rattle.verdict_survival.proofs.RunLaws.{early-run, EarlySwept, early-none, early-more, early-fails, early-all}
+use native.Mathlib.Omega.{arith}
+use borrow.Author.Needs.{needs}
+use Rattle.verdict_survival.proofs.survive.side_early.Statement.{statement}
+use Rattle.verdict_survival.proofs.survive.side_early.Tie as tie
+
+abbrev Inv-loop : tie.InvT-loop
+Inv-loop arities work capacity count free apart second area n others m relied₀ name₀ relied name =
+    (name ≤ nameCount) × EarlySwept arities capacity work count free apart second area n others m relied₀ relied name
+
+abbrev μ-loop : tie.MeasureT-loop
+μ-loop arities work capacity count free apart second area n others m relied₀ name₀ relied name =
+    nameCount - name
+
+loop-holds : tie.Need-loop-holds Inv-loop μ-loop
+loop-holds c = (omega arith, early-none _ _ _ _ _ _ _ _ _ _ _ _ (c .before .before .before .before .before .pre .6))
+
+add-side-answered : tie.Need-add-side-answered Inv-loop μ-loop
+add-side-answered c = search needs
+
+side-answered-requires : tie.Need-side-answered-requires Inv-loop μ-loop
+side-answered-requires c κs = (c .before .before .before .before .before .before .before .pre .0, c .before .before .before .before .before .before .before .pre .1, c .before .before .before .before .before .before .before .pre .2, c .before .before .before .before .before .before .before .pre .3, c .before .before .before .before .before .before .before .pre .4, c .before .before .before .before .before .before .before .pre .5, omega arith, omega arith, early-run _, c .before .loop .inv .1 .numbers)
+
+returns : tie.Need-returns Inv-loop μ-loop
+returns c = early-fails _ _ _ _ _ _ _ _ _ _ _ _ _ _ (omega arith) _ (c .before .before .side-answered .ensures) (not-true _ (c .if1 .taken)) (c .before .before .before .before .loop .inv .1)
+
+add-name : tie.Need-add-name Inv-loop μ-loop
+add-name c = search needs
+
+loop-less : tie.Need-loop-less Inv-loop μ-loop
+loop-less c = search needs
+
+loop-again : tie.Need-loop-again Inv-loop μ-loop
+loop-again c = (omega arith, early-more _ _ _ _ _ _ _ _ _ _ _ _ _ _ (omega arith) _ (c .before .before .side-answered .ensures) (not-false _ (c .if1 .left)) (c .before .before .before .before .loop .inv .1))
+
+returns-2 : tie.Need-returns-2 Inv-loop μ-loop
+returns-2 c = early-all _ _ _ _ _ _ _ _ _ _ _ _ _ (c .before .loop .name) (omega arith) (c .before .loop .inv .1)
+
+pub side-early-spec : {M : Type 1} → statement M
+side-early-spec =
+    tie.close
+    (tie.spec
+    Inv-loop
+    μ-loop
+    loop-holds
+    add-side-answered
+    side-answered-requires
+    returns
+    add-name
+    loop-less
+    loop-again
+    returns-2)
