@@ -24,10 +24,10 @@ use Rattle.steps_walk.proofs.walk.+walk+walk_parallel.{statement}
 use Rattle.steps_walk.proofs.walk.+walk+walk_parallel.Tie.{close}
 
 abbrev μ-walk : Measures 6 walk-kinds.ps ℕ
-μ-walk κs a = 2 * (length (a .1 .1 .0 .now) - a .1 .1 .1 .1 .0) + 1
+μ-walk κs a = 2 * (length (a .1 .1 .0 .now) - a .1 .1 .1 .1 .0 .at) + 1
 
 abbrev μ-walk-parallel : Measures 6 walk-parallel-kinds.ps ℕ
-μ-walk-parallel κs a = 2 * (length (a .1 .1 .0 .now) - a .1 .1 .1 .1 .0)
+μ-walk-parallel κs a = 2 * (length (a .1 .1 .0 .now) - a .1 .1 .1 .1 .0 .at)
 
 abbrev walk-at : ℕ → In 6 walk-kinds.ps
 walk-at t = and 6 walk-kinds.ps (is 6 walk-kinds.ps μ-walk t) walk.Pre
@@ -60,27 +60,27 @@ walk-add-place : (t : ℕ) → walk-lts.Need-add-place (walk-claims t) (walk-at 
 walk-add-place t c =
     let c7 = c .before .before .before .before .before .before .before in
     let i = c .restrictions-at .ensures .inside in
-    let s = c7 .pre .1 .0 .2 in
+    let s = c7 .pre .1 .0 .1 .0 in
     omega arith
 
 walk-add-under : (t : ℕ) → walk-lts.Need-add-under (walk-claims t) (walk-at t) walk.Post
 walk-add-under t c =
-    let c7 = c .before .before .before .before .before .before .before in
-    let i = c .restrictions-at .ensures .inside in
-    let s = c7 .pre .1 .0 .2 in
-    let d = c7 .pre .1 .1 in
+    let c8 = c .before .before .before .before .before .before .before .before in
+    let i = c .before .restrictions-at .ensures .inside in
+    let s = c8 .pre .1 .0 .1 .0 in
+    let d = c8 .pre .1 .1 in
     omega arith
 
 walk-returns : (t : ℕ) → walk-lts.Need-returns (walk-claims t) (walk-at t) walk.Post
 walk-returns t c =
-    let c1 = c .before in
-    let c8 = c1 .before .before .before .before .before .before .before in
-    let a = c8 .args in
-    let k = c1 .restrictions-at .result in
-    let R = c1 .restrictions-at .ensures in
-    walk-run (a .question .now) (a .part .now) (a .at) (a .depth) (a .number) (a .x) (a .rows .now) (a .n) (a .area .now) (a .count) _ _ _ k (R .are)
-    (walk-none (a .question .now) (a .part .now) (a .at + k) (a .depth + k) (a .number) (a .x) (a .rows .now) (a .n) (a .area .now) (a .count)
-    (c .if1 .taken) (c8 .pre .1 .3))
+    let c2 = c .before .before in
+    let c9 = c2 .before .before .before .before .before .before .before in
+    let a = c9 .args in
+    let k = c2 .restrictions-at .result in
+    let R = c2 .restrictions-at .ensures in
+    walk-run (a .question .now) (a .part .now) (a .node .at) (a .node .depth) (a .node .number) (a .node .x) (a .rows .now) (a .walked .rows)
+    (a .area .now) (a .walked .count) _ _ _ k (R .are) (walk-none (a .question .now) (a .part .now) (a .node .at + k) (a .node .depth + k)
+    (a .node .number) (a .node .x) (a .rows .now) (a .walked .rows) (a .area .now) (a .walked .count) (c .if1 .taken) (c9 .pre .1 .3))
 
 walk-shared-slice-read-if2 : (t : ℕ) → walk-lts.Need-shared-slice-read-if2 (walk-claims t) (walk-at t) walk.Post
 walk-shared-slice-read-if2 t c = search needs
@@ -88,14 +88,14 @@ walk-shared-slice-read-if2 t c = search needs
 walk-walk-parallel-requires : (t : ℕ) → walk-lts.Need-walk-parallel-requires (walk-claims t) (walk-at t) walk.Post
 walk-walk-parallel-requires t c κs =
     let c4 = c .before .before .before .before in
-    let c5 = c4 .before in
-    let c12 = c5 .before .before .before .before .before .before .before in
-    let i = c5 .restrictions-at .ensures .inside in
+    let c6 = c4 .before .before in
+    let c13 = c6 .before .before .before .before .before .before .before in
+    let i = c6 .restrictions-at .ensures .inside in
     let l = c4 .if1 .left in
-    let d = c12 .pre .1 .1 in
-    let n = c12 .pre .1 .2 in
-    let e = c12 .pre .0 in
-    (omega arith, (c12 .pre .1 .0, (omega arith, omega arith), omega arith, c12 .pre .1 .3, c12 .pre .1 .4, c .before .before .if2 .taken))
+    let d = c13 .pre .1 .1 in
+    let n = c13 .pre .1 .2 in
+    let e = c13 .pre .0 in
+    (omega arith, (c13 .pre .1 .0, (omega arith, omega arith), omega arith, c13 .pre .1 .3, c13 .pre .1 .4, c .before .before .if2 .taken))
 
 walk-same-length : (t : ℕ) → walk-lts.Need-same-length (walk-claims t) (walk-at t) walk.Post
 walk-same-length t c = search needs
@@ -106,30 +106,30 @@ walk-same-length-2 t c = search needs
 walk-returns-2 : (t : ℕ) → walk-lts.Need-returns-2 (walk-claims t) (walk-at t) walk.Post
 walk-returns-2 t c =
     let c4 = c .before .before .before .before in
-    let c10 = c4 .before .before .before .before .before .before in
-    let c17 = c10 .before .before .before .before .before .before .before in
-    let a = c17 .args in
-    let k = c10 .restrictions-at .result in
-    let R = c10 .restrictions-at .ensures in
-    walk-run (a .question .now) (a .part .now) (a .at) (a .depth) (a .number) (a .x) (a .rows .now) (a .n) (a .area .now) (a .count) _
-    (c4 .walk-parallel .result) _ k (R .are) (c4 .walk-parallel .ensures)
+    let c11 = c4 .before .before .before .before .before .before .before in
+    let c18 = c11 .before .before .before .before .before .before .before in
+    let a = c18 .args in
+    let k = c11 .restrictions-at .result in
+    let R = c11 .restrictions-at .ensures in
+    walk-run (a .question .now) (a .part .now) (a .node .at) (a .node .depth) (a .node .number) (a .node .x) (a .rows .now) (a .walked .rows)
+    (a .area .now) (a .walked .count) _ (c4 .walk-parallel .result) _ k (R .are) (c4 .walk-parallel .ensures)
 
 walk-component-requires : (t : ℕ) → walk-lts.Need-component-requires (walk-claims t) (walk-at t) walk.Post
 walk-component-requires t c κs =
     let c4 = c .before .before .before .before in
-    let c5 = c4 .before in
-    let c12 = c5 .before .before .before .before .before .before .before in
-    let i = c5 .restrictions-at .ensures .inside in
+    let c6 = c4 .before .before in
+    let c13 = c6 .before .before .before .before .before .before .before in
+    let i = c6 .restrictions-at .ensures .inside in
     let l = c4 .if1 .left in
-    let d = c12 .pre .1 .1 in
-    let n = c12 .pre .1 .2 in (
-      c12 .pre .1 .0,
+    let d = c13 .pre .1 .1 in
+    let n = c13 .pre .1 .2 in (
+      c13 .pre .1 .0,
       (omega arith, omega arith),
       omega arith,
-      c12 .pre .1 .3,
-      c12 .pre .1 .4,
+      c13 .pre .1 .3,
+      c13 .pre .1 .4,
       c .before .before .if2 .left,
-      c5 .restrictions-at .ensures .ended (c4 .if1 .left),
+      c6 .restrictions-at .ensures .ended (c4 .if1 .left),
     )
 
 walk-same-length-3 : (t : ℕ) → walk-lts.Need-same-length-3 (walk-claims t) (walk-at t) walk.Post
@@ -141,21 +141,21 @@ walk-same-length-4 t c = search needs
 walk-returns-3 : (t : ℕ) → walk-lts.Need-returns-3 (walk-claims t) (walk-at t) walk.Post
 walk-returns-3 t c =
     let c4 = c .before .before .before .before in
-    let c10 = c4 .before .before .before .before .before .before in
-    let c17 = c10 .before .before .before .before .before .before .before in
-    let a = c17 .args in
-    let k = c10 .restrictions-at .result in
-    let R = c10 .restrictions-at .ensures in
-    walk-run (a .question .now) (a .part .now) (a .at) (a .depth) (a .number) (a .x) (a .rows .now) (a .n) (a .area .now) (a .count) _
-    (c4 .component .result) _ k (R .are) (c4 .component .ensures)
+    let c11 = c4 .before .before .before .before .before .before .before in
+    let c18 = c11 .before .before .before .before .before .before .before in
+    let a = c18 .args in
+    let k = c11 .restrictions-at .result in
+    let R = c11 .restrictions-at .ensures in
+    walk-run (a .question .now) (a .part .now) (a .node .at) (a .node .depth) (a .node .number) (a .node .x) (a .rows .now) (a .walked .rows)
+    (a .area .now) (a .walked .count) _ (c4 .component .result) _ k (R .are) (c4 .component .ensures)
 
 walk-parallel-middle-of-requires : (t : ℕ) → walk-parallel-lts.Need-middle-of-requires (walk-parallel-claims t) (walk-parallel-at t) walk-parallel.Post
 walk-parallel-middle-of-requires t c κs = search needs
 
-walk-parallel-add-walk : (t : ℕ) → walk-parallel-lts.Need-add-walk (walk-parallel-claims t) (walk-parallel-at t) walk-parallel.Post
-walk-parallel-add-walk t c =
+walk-parallel-add-next : (t : ℕ) → walk-parallel-lts.Need-add-next (walk-parallel-claims t) (walk-parallel-at t) walk-parallel.Post
+walk-parallel-add-next t c =
     let c7 = c .before .before .before .before .before .before .before in
-    let s = c7 .pre .1 .0 .2 in
+    let s = c7 .pre .1 .0 .1 .0 in
     let i = c7 .pre .1 .1 .1 in
     omega arith
 
@@ -179,65 +179,28 @@ walk-parallel-returns t c =
     let c6 = c .before .before .before .before .before .before in
     let c16 = c6 .before .before .before .before .before .before .before .before .before .before in
     let v = c16 .args in
-    left-passed (v .question .now) (v .part .now) (v .at) (v .depth) (v .number) (v .x) (v .rows .now) (v .n) (v .area .now) (v .count)
-    (c16 .pre .1 .5) _ (c6 .walk .result) _ (c6 .walk .ensures) (c .if1 .taken)
-
-walk-parallel-add-silent-at : (t : ℕ) → walk-parallel-lts.Need-add-silent-at (walk-parallel-claims t) (walk-parallel-at t) walk-parallel.Post
-walk-parallel-add-silent-at t c =
-    let c16 = c .before .before .before .before .before .before .before .before .before .before .before .before .before .before .before .before in
-    let s = c16 .pre .1 .0 .2 in
-    let i = c16 .pre .1 .1 .1 in
-    omega arith
+    left-passed (v .question .now) (v .part .now) (v .node .at) (v .node .depth) (v .node .number) (v .node .x) (v .rows .now) (v .walked .rows)
+    (v .area .now) (v .walked .count) (c16 .pre .1 .5) _ (c6 .walk .result) _ (c6 .walk .ensures) (c .if1 .taken)
 
 walk-parallel-silent-at-requires : (t : ℕ) → walk-parallel-lts.Need-silent-at-requires (walk-parallel-claims t) (walk-parallel-at t) walk-parallel.Post
 walk-parallel-silent-at-requires t c κs = search needs
 
-walk-parallel-add-walk-2 : (t : ℕ) → walk-parallel-lts.Need-add-walk-2 (walk-parallel-claims t) (walk-parallel-at t) walk-parallel.Post
+walk-parallel-add-further : (t : ℕ) → walk-parallel-lts.Need-add-further (walk-parallel-claims t) (walk-parallel-at t) walk-parallel.Post
 unfolding silentAt
-walk-parallel-add-walk-2 t c =
+walk-parallel-add-further t c =
     let c13 = c .before .before .before .before .before .before .before .before .before .before .before .before .before in
     let c17 = c13 .before .before .before .before in
-    let b = c13 .shared-slice-known4 .given (longestTerm + (c17 .args .at + 1)) in
+    let b = c13 .shared-slice-known4 .given (longestTerm + (c17 .args .node .at + 1)) in
     let e = c .silent-at .ensures in
     let h = c17 .pre .1 .2 in
-    let s = c17 .pre .1 .0 .2 in
+    let s = c17 .pre .1 .0 .1 .0 in
     let i = c17 .pre .1 .1 .1 in
     omega arith
 
 walk-parallel-walk-requires-2 : (t : ℕ) → walk-parallel-lts.Need-walk-requires-2 (walk-parallel-claims t) (walk-parallel-at t) walk-parallel.Post
 unfolding silentAt
 walk-parallel-walk-requires-2 t c κs =
-    let v = c .before .before .before .before .before .before .before .before .before .before .before .before .before .before .before .before .before .before .before .args in
-    let g = c .before .before .before .before .before .before .before .before .before .before .before .before .before .before .before .before .before .before .before .pre in
-    let m = middle-on (v .question .now) (v .part .now) 1 (v .tally .now) (g .1 .0 .3) (v .at)
-    (c .before .before .before .before .before .before .before .before .before .before .before .before .middle-of .result)
-    (c .before .before .before .before .before .before .before .before .before .before .before .before .middle-of .ensures) (g .1 .1 .1) in let b =
-    c .before .before .before .before .before .before .before .before .before .before .before .before .before .before .before .shared-slice-known4 .given
-    (longestTerm + (v .at + 1)) in let e = c .before .before .silent-at .ensures in let h = g .1 .2 in let s = g .1 .0 .2 in let i = g .1 .1 .1 in let
-    t = g .0 in let d = g .1 .1 .0 in (
-      omega arith,
-      (
-        (
-          search needs,
-          omega (
-            arith,
-            c .before .before .before .before .before .before .area .given,
-            g .1 .0 .1,
-          ),
-          g .1 .0 .2,
-          g .1 .0 .3,
-          g .1 .0 .4,
-        ),
-        omega arith,
-        omega arith,
-        c .before .before .before .before .before .before .before .before .before .walk .ensures .inside,
-        omega (
-          arith,
-          c .before .before .before .before .before .before .before .before .rows .given,
-          g .1 .4,
-        ),
-      ),
-    )
+    let v = c .before .before .before .before .before .before .before .before .before .before .before .before .before .before .before .before .before .before .before .args in let g = c .before .before .before .before .before .before .before .before .before .before .before .before .before .before .before .before .before .before .before .pre in let m = middle-on (v .question .now) (v .part .now) 1 (v .tally .now) (g .1 .0 .1 .1) (v .node .at) (c .before .before .before .before .before .before .before .before .before .before .before .before .middle-of .result) (c .before .before .before .before .before .before .before .before .before .before .before .before .middle-of .ensures) (g .1 .1 .1) in let b = c .before .before .before .before .before .before .before .before .before .before .before .before .before .before .before .shared-slice-known4 .given (longestTerm + (v .node .at + 1)) in let e = c .before .before .silent-at .ensures in let h = g .1 .2 in let s = g .1 .0 .1 .0 in let i = g .1 .1 .1 in let t = g .0 in let d = g .1 .1 .0 in (omega arith, (((search needs, omega (arith, c .before .before .before .before .before .before .area .given, g .1 .0 .0 .1)), g .1 .0 .1), omega arith, omega arith, c .before .before .before .before .before .before .before .before .before .walk .ensures .inside, omega (arith, c .before .before .before .before .before .before .before .before .rows .given, g .1 .4)))
 
 walk-parallel-same-length-3 : (t : ℕ) → walk-parallel-lts.Need-same-length-3 (walk-parallel-claims t) (walk-parallel-at t) walk-parallel.Post
 walk-parallel-same-length-3 t c = search needs
@@ -247,15 +210,17 @@ walk-parallel-same-length-4 t c = search needs
 
 walk-parallel-returns-2 : (t : ℕ) → walk-parallel-lts.Need-returns-2 (walk-parallel-claims t) (walk-parallel-at t) walk-parallel.Post
 walk-parallel-returns-2 t c =
-    let v = c .before .before .before .before .before .before .before .before .before .before .before .before .before .before .before .before .before .before .before .before .before .before .before .before .before .before .args in
-    right-passed (v .question .now) (v .part .now) (v .at) (v .depth) (v .number) (v .x) (v .rows .now) (v .n) (v .area .now) (v .count)
+    let v =
+    c .before .before .before .before .before .before .before .before .before .before .before .before .before .before .before .before .before .before .before .before .before .before .before .before .before .before .args
+    in right-passed (v .question .now) (v .part .now) (v .node .at) (v .node .depth) (v .node .number) (v .node .x) (v .rows .now) (v .walked .rows)
+    (v .area .now) (v .walked .count)
     (c .before .before .before .before .before .before .before .before .before .before .before .before .before .before .before .before .before .before .before .before .before .before .before .before .before .before .pre .1 .5)
     _
     (c .before .before .before .before .before .before .before .before .before .before .before .before .before .before .before .before .walk .result)
     _
     (c .before .before .before .before .before .before .before .before .before .before .before .before .before .before .before .before .walk .ensures)
     (search needs) (v .tally .now)
-    (c .before .before .before .before .before .before .before .before .before .before .before .before .before .before .before .before .before .before .before .before .before .before .before .before .before .before .pre .1 .0 .3)
+    (c .before .before .before .before .before .before .before .before .before .before .before .before .before .before .before .before .before .before .before .before .before .before .before .before .before .before .pre .1 .0 .1 .1)
     (c .before .before .before .before .before .before .before .before .before .before .before .before .before .before .before .before .before .before .before .middle-of .result)
     (c .before .before .before .before .before .before .before .before .before .before .before .before .before .before .before .before .before .before .before .middle-of .ensures)
     (c .before .before .before .before .before .before .before .before .before .silent-at .result)
@@ -271,15 +236,17 @@ walk-parallel-same-length-6 t c = search needs
 
 walk-parallel-returns-3 : (t : ℕ) → walk-parallel-lts.Need-returns-3 (walk-parallel-claims t) (walk-parallel-at t) walk-parallel.Post
 walk-parallel-returns-3 t c =
-    let v = c .before .before .before .before .before .before .before .before .before .before .before .before .before .before .before .before .before .before .before .before .before .before .before .before .before .before .before .before .args in
-    right-full (v .question .now) (v .part .now) (v .at) (v .depth) (v .number) (v .x) (v .rows .now) (v .n) (v .area .now) (v .count)
+    let v =
+    c .before .before .before .before .before .before .before .before .before .before .before .before .before .before .before .before .before .before .before .before .before .before .before .before .before .before .before .before .args
+    in right-full (v .question .now) (v .part .now) (v .node .at) (v .node .depth) (v .node .number) (v .node .x) (v .rows .now) (v .walked .rows)
+    (v .area .now) (v .walked .count)
     (c .before .before .before .before .before .before .before .before .before .before .before .before .before .before .before .before .before .before .before .before .before .before .before .before .before .before .before .before .pre .1 .5)
     _
     (c .before .before .before .before .before .before .before .before .before .before .before .before .before .before .before .before .before .before .walk .result)
     _
     (c .before .before .before .before .before .before .before .before .before .before .before .before .before .before .before .before .before .before .walk .ensures)
     (search needs) (v .tally .now)
-    (c .before .before .before .before .before .before .before .before .before .before .before .before .before .before .before .before .before .before .before .before .before .before .before .before .before .before .before .before .pre .1 .0 .3)
+    (c .before .before .before .before .before .before .before .before .before .before .before .before .before .before .before .before .before .before .before .before .before .before .before .before .before .before .before .before .pre .1 .0 .1 .1)
     (c .before .before .before .before .before .before .before .before .before .before .before .before .before .before .before .before .before .before .before .before .before .middle-of .result)
     (c .before .before .before .before .before .before .before .before .before .before .before .before .before .before .before .before .before .before .before .before .before .middle-of .ensures)
     (c .before .before .before .before .before .before .before .before .before .before .before .silent-at .result)
@@ -290,17 +257,17 @@ walk-parallel-returns-3 t c =
 walk-parallel-silent-at-requires-2 : (t : ℕ) → walk-parallel-lts.Need-silent-at-requires-2 (walk-parallel-claims t) (walk-parallel-at t) walk-parallel.Post
 walk-parallel-silent-at-requires-2 t c κs = search needs
 
-walk-parallel-add-meet : (t : ℕ) → walk-parallel-lts.Need-add-meet (walk-parallel-claims t) (walk-parallel-at t) walk-parallel.Post
+walk-parallel-add-silent : (t : ℕ) → walk-parallel-lts.Need-add-silent (walk-parallel-claims t) (walk-parallel-at t) walk-parallel.Post
 unfolding silentAt
-walk-parallel-add-meet t c =
+walk-parallel-add-silent t c =
     let c12 = c .before .before .before .before .before .before .before .before .before .before .before .before in
     let c22 = c12 .before .before .before .before .before .before .before .before .before .before in
     let c25 = c22 .before .before .before in
     let c29 = c25 .before .before .before .before in
-    let b = c25 .shared-slice-known4 .given (longestTerm + (c29 .args .at + 1)) in
+    let b = c25 .shared-slice-known4 .given (longestTerm + (c29 .args .node .at + 1)) in
     let e = c12 .silent-at .ensures in
     let h = c29 .pre .1 .2 in
-    let s = c29 .pre .1 .0 .2 in
+    let s = c29 .pre .1 .0 .1 .0 in
     let i = c29 .pre .1 .1 .1 in
     let b2 = c25 .shared-slice-known4 .given (longestTerm + c22 .middle-of .result) in
     let e2 = c .silent-at2 .ensures in
@@ -309,41 +276,7 @@ walk-parallel-add-meet t c =
 walk-parallel-meet-requires : (t : ℕ) → walk-parallel-lts.Need-meet-requires (walk-parallel-claims t) (walk-parallel-at t) walk-parallel.Post
 unfolding silentAt
 walk-parallel-meet-requires t c κs =
-    let g = c .before .before .before .before .before .before .before .before .before .before .before .before .before .before .before .before .before .before .before .before .before .before .before .before .before .before .before .before .before .before .before .pre in
-    let b =
-    c .before .before .before .before .before .before .before .before .before .before .before .before .before .before .before .before .before .before .before .before .before .before .before .before .before .before .before .shared-slice-known4 .given
-    (longestTerm +
-    (c .before .before .before .before .before .before .before .before .before .before .before .before .before .before .before .before .before .before .before .before .before .before .before .before .before .before .before .before .before .before .before .args .at
-    + 1)) in let e =
-    c .before .before .before .before .before .before .before .before .before .before .before .before .before .before .silent-at .ensures in let h =
-    g .1 .2 in let s = g .1 .0 .2 in let i = g .1 .1 .1 in let b2 =
-    c .before .before .before .before .before .before .before .before .before .before .before .before .before .before .before .before .before .before .before .before .before .before .before .before .before .before .before .shared-slice-known4 .given
-    (longestTerm +
-    c .before .before .before .before .before .before .before .before .before .before .before .before .before .before .before .before .before .before .before .before .before .before .before .before .middle-of .result)
-    in let e2 = c .before .before .silent-at2 .ensures in (
-      search needs,
-      omega (
-        arith,
-        c .before .before .before .before .before .before .before .before .before .before .before .before .before .before .before .before .before .before .area .given,
-        c .before .before .before .before .before .before .before .before .area2 .given,
-        g .1 .0 .1,
-      ),
-      g .1 .0 .2,
-      g .1 .0 .3,
-      g .1 .0 .4,
-      g .1 .1 .0,
-      g .1 .1 .1,
-      c .before .before .before .before .before .before .before .before .before .before .before .before .before .before .before .before .before .before .before .before .before .walk .ensures .on,
-      c .before .before .before .before .before .before .before .before .before .before .before .walk2 .ensures .on,
-      search needs,
-      omega (
-        arith,
-        c .before .before .before .before .before .before .before .before .before .before .before .before .before .before .before .before .before .before .before .before .rows .given,
-        c .before .before .before .before .before .before .before .before .before .before .rows2 .given,
-        g .1 .4,
-      ),
-      omega arith,
-    )
+    let g = c .before .before .before .before .before .before .before .before .before .before .before .before .before .before .before .before .before .before .before .before .before .before .before .before .before .before .before .before .before .before .before .pre in let b = c .before .before .before .before .before .before .before .before .before .before .before .before .before .before .before .before .before .before .before .before .before .before .before .before .before .before .before .shared-slice-known4 .given (longestTerm + (c .before .before .before .before .before .before .before .before .before .before .before .before .before .before .before .before .before .before .before .before .before .before .before .before .before .before .before .before .before .before .before .args .node .at + 1)) in let e = c .before .before .before .before .before .before .before .before .before .before .before .before .before .before .silent-at .ensures in let h = g .1 .2 in let s = g .1 .0 .1 .0 in let i = g .1 .1 .1 in let b2 = c .before .before .before .before .before .before .before .before .before .before .before .before .before .before .before .before .before .before .before .before .before .before .before .before .before .before .before .shared-slice-known4 .given (longestTerm + c .before .before .before .before .before .before .before .before .before .before .before .before .before .before .before .before .before .before .before .before .before .before .before .before .middle-of .result) in let e2 = c .before .before .silent-at2 .ensures in (((search needs, omega (arith, c .before .before .before .before .before .before .before .before .before .before .before .before .before .before .before .before .before .before .area .given, c .before .before .before .before .before .before .before .before .area2 .given, g .1 .0 .0 .1)), g .1 .0 .1), g .1 .1, c .before .before .before .before .before .before .before .before .before .before .before .before .before .before .before .before .before .before .before .before .before .walk .ensures .on, c .before .before .before .before .before .before .before .before .before .before .before .walk2 .ensures .on, search needs, omega (arith, c .before .before .before .before .before .before .before .before .before .before .before .before .before .before .before .before .before .before .before .before .rows .given, c .before .before .before .before .before .before .before .before .before .before .rows2 .given, g .1 .4), omega arith)
 
 walk-parallel-same-length-7 : (t : ℕ) → walk-parallel-lts.Need-same-length-7 (walk-parallel-claims t) (walk-parallel-at t) walk-parallel.Post
 walk-parallel-same-length-7 t c =
@@ -359,15 +292,17 @@ walk-parallel-same-length-8 t c =
 
 walk-parallel-returns-4 : (t : ℕ) → walk-parallel-lts.Need-returns-4 (walk-parallel-claims t) (walk-parallel-at t) walk-parallel.Post
 walk-parallel-returns-4 t c =
-    let v = c .before .before .before .before .before .before .before .before .before .before .before .before .before .before .before .before .before .before .before .before .before .before .before .before .before .before .before .before .before .before .before .before .before .before .args in
-    sides-met (v .question .now) (v .part .now) (v .at) (v .depth) (v .number) (v .x) (v .rows .now) (v .n) (v .area .now) (v .count)
+    let v =
+    c .before .before .before .before .before .before .before .before .before .before .before .before .before .before .before .before .before .before .before .before .before .before .before .before .before .before .before .before .before .before .before .before .before .before .args
+    in sides-met (v .question .now) (v .part .now) (v .node .at) (v .node .depth) (v .node .number) (v .node .x) (v .rows .now) (v .walked .rows)
+    (v .area .now) (v .walked .count)
     (c .before .before .before .before .before .before .before .before .before .before .before .before .before .before .before .before .before .before .before .before .before .before .before .before .before .before .before .before .before .before .before .before .before .before .pre .1 .5)
     _
     (c .before .before .before .before .before .before .before .before .before .before .before .before .before .before .before .before .before .before .before .before .before .before .before .before .walk .result)
     _
     (c .before .before .before .before .before .before .before .before .before .before .before .before .before .before .before .before .before .before .before .before .before .before .before .before .walk .ensures)
     (search needs) (v .tally .now)
-    (c .before .before .before .before .before .before .before .before .before .before .before .before .before .before .before .before .before .before .before .before .before .before .before .before .before .before .before .before .before .before .before .before .before .before .pre .1 .0 .3)
+    (c .before .before .before .before .before .before .before .before .before .before .before .before .before .before .before .before .before .before .before .before .before .before .before .before .before .before .before .before .before .before .before .before .before .before .pre .1 .0 .1 .1)
     (c .before .before .before .before .before .before .before .before .before .before .before .before .before .before .before .before .before .before .before .before .before .before .before .before .before .before .before .middle-of .result)
     (c .before .before .before .before .before .before .before .before .before .before .before .before .before .before .before .before .before .before .before .before .before .before .before .before .before .before .before .middle-of .ensures)
     (c .before .before .before .before .before .before .before .before .before .before .before .before .before .before .before .before .before .silent-at .result)
@@ -407,14 +342,13 @@ pub +walk+walk-parallel-spec : {M : Type 1} → statement M
     (walk-parallel-at t)
     walk-parallel.Post
     (walk-parallel-middle-of-requires t)
-    (walk-parallel-add-walk t)
+    (walk-parallel-add-next t)
     (walk-parallel-walk-requires t)
     (walk-parallel-same-length t)
     (walk-parallel-same-length-2 t)
     (walk-parallel-returns t)
-    (walk-parallel-add-silent-at t)
     (walk-parallel-silent-at-requires t)
-    (walk-parallel-add-walk-2 t)
+    (walk-parallel-add-further t)
     (walk-parallel-walk-requires-2 t)
     (walk-parallel-same-length-3 t)
     (walk-parallel-same-length-4 t)
@@ -423,7 +357,7 @@ pub +walk+walk-parallel-spec : {M : Type 1} → statement M
     (walk-parallel-same-length-6 t)
     (walk-parallel-returns-3 t)
     (walk-parallel-silent-at-requires-2 t)
-    (walk-parallel-add-meet t)
+    (walk-parallel-add-silent t)
     (walk-parallel-meet-requires t)
     (walk-parallel-same-length-7 t)
     (walk-parallel-same-length-8 t)

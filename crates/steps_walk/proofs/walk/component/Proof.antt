@@ -10,16 +10,10 @@ slice-aggregate-scan c = search needs
 
 scan-requires : tie.Need-scan-requires
 scan-requires c κs =
-    let g = c .before .before .before .before .before .before .before .before .pre in
-    let s = g .0 .2 in let i = g .1 .0 in let j = g .1 .1 in (
-      record {
-        short = g .0 .2;
-        once = search needs;
-        outer = search needs;
-        room = omega arith;
-      },
-      g .0 .3,
-      g .0 .4,
+    let g = c .before .before .before .before .before .before .before .before .pre in let s = g .0 .1 .0 in let i = g .1 .0 in let j = g .1 .1 in (
+      record { short = g .0 .1 .0; once = search needs; outer = search needs; room = omega arith },
+      g .0 .1 .1,
+      g .0 .1 .2,
       g .3,
       g .4,
     )
@@ -39,13 +33,13 @@ returns c =
     let c8 = c3 .before .before .before .before .before in
     let c17 = c8 .before .before .before .before .before .before .before .before .before in
     let v = c17 .args in
-    walk-passed (v .question .now) (v .part .now) (v .at) (v .depth) (v .number) (v .x) (v .rows .now) (v .n) (v .area .now) (v .count) (c17 .pre .5)
-    (c17 .pre .6) _ (c8 .scan .result) _ (c8 .scan .ensures) (c3 .take-rows .result) _ (c3 .take-rows .ensures) (c .if1 .taken)
+    walk-passed (v .question .now) (v .part .now) (v .node .at) (v .node .depth) (v .node .number) (v .node .x) (v .rows .now) (v .walked .rows)
+    (v .area .now) (v .walked .count) (c17 .pre .5) (c17 .pre .6) _ (c8 .scan .result) _ (c8 .scan .ensures) (c3 .take-rows .result) _
+    (c3 .take-rows .ensures) (c .if1 .taken)
 
 take-silent-requires : tie.Need-take-silent-requires
 take-silent-requires c κs =
-    let g = c .before .before .before .before .before .before .before .before .before .before .before .before .before .before .before .before .before .before .pre in
-    ((search needs, omega (arith, c .before .before .before .area .given, g .0 .1), g .0 .2, g .0 .3, g .0 .4), g .1, g .2)
+    let g = c .before .before .before .before .before .before .before .before .before .before .before .before .before .before .before .before .before .before .pre in (((search needs, omega (arith, c .before .before .before .area .given, g .0 .0 .1)), g .0 .1), g .1, g .2)
 
 same-length-3 : tie.Need-same-length-3
 same-length-3 c = search needs
@@ -55,8 +49,10 @@ same-length-4 c = search needs
 
 returns-2 : tie.Need-returns-2
 returns-2 c =
-    let v = c .before .before .before .before .before .before .before .before .before .before .before .before .before .before .before .before .before .before .before .before .before .args in
-    walk-component (v .question .now) (v .part .now) (v .at) (v .depth) (v .number) (v .x) (v .rows .now) (v .n) (v .area .now) (v .count)
+    let v =
+    c .before .before .before .before .before .before .before .before .before .before .before .before .before .before .before .before .before .before .before .before .before .args
+    in walk-component (v .question .now) (v .part .now) (v .node .at) (v .node .depth) (v .node .number) (v .node .x) (v .rows .now) (v .walked .rows)
+    (v .area .now) (v .walked .count)
     (c .before .before .before .before .before .before .before .before .before .before .before .before .before .before .before .before .before .before .before .before .before .pre .5)
     (c .before .before .before .before .before .before .before .before .before .before .before .before .before .before .before .before .before .before .before .before .before .pre .6)
     _ (c .before .before .before .before .before .before .before .before .before .before .before .before .scan .result) _

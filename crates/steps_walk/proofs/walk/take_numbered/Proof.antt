@@ -12,28 +12,33 @@ use Rattle.steps_walk.proofs.walk.take_numbered.Statement.{statement}
 use Rattle.steps_walk.proofs.walk.take_numbered.Tie as tie
 
 abbrev Inv-loop : tie.InvT-loop
-Inv-loop question bodies part tally at first x area₀ count number n₀ j₀ area n j = (n ≤ mostSteps) × (length area ≡ length area₀) × ((d : ℕ) → SilentGo question part at d first x area₀ count j n area)
+Inv-loop question bodies part tally node area₀ count first number n₀ j₀ area n j =
+    (n ≤ mostSteps) × (length area ≡ length area₀) × SilentGo question part (node .at) (node .depth) (node .number) (node .x) area₀ count j n area
 
 abbrev μ-loop : tie.MeasureT-loop
-μ-loop question bodies part tally at first x area₀ count number n₀ j₀ area n j = number - j
+μ-loop question bodies part tally node area₀ count first number n₀ j₀ area n j = number - j
 
 silent-at-requires : tie.Need-silent-at-requires Inv-loop μ-loop
 silent-at-requires c κs = search needs
 
 loop-holds : tie.Need-loop-holds Inv-loop μ-loop
 loop-holds c =
-    let v = c .before .before .before .before .before .before .args in
-    (search needs, refl, λ d. silent-start (v .question .now) (v .part .now) (v .at) d (v .first) (v .x) (v .area .now) (v .count))
+    let v = c .before .before .before .before .before .before .args in (
+      search needs,
+      refl,
+      silent-start (v .question .now) (v .part .now)
+          (v .node .at) (v .node .depth) (v .node .number) (v .node .x) (v .area .now) (v .count),
+    )
 
-add-take-candidate : tie.Need-add-take-candidate Inv-loop μ-loop
+add-i : tie.Need-add-i Inv-loop μ-loop
 unfolding silentAt
-add-take-candidate c =
+add-i c =
     let c4 = c .before .before .before .before in
     let c8 = c4 .before .before .before .before in
-    let b = c4 .shared-slice-known4 .given (longestTerm + c8 .args .at) in
+    let b = c4 .shared-slice-known4 .given (longestTerm + c8 .args .node .at) in
     let e = c .before .before .silent-at .ensures in
     let h = c8 .pre .2 in
-    let s = c8 .pre .0 .2 in
+    let s = c8 .pre .0 .1 .0 in
     let i = c8 .pre .1 in
     let l = c .loop-test .taken in
     omega arith
@@ -52,10 +57,10 @@ returns c =
     let c7 = c6 .before in
     let c13 = c7 .before .before .before .before .before .before in
     let v = c13 .args in
-    λ d. silent-passed (v .question .now) (v .part .now) (v .at) d (v .first) (v .x) (v .area .now) (v .count) (v .tally .now) (c13 .pre .0 .3)
-    (c6 .loop .j) (c6 .loop .n) (c6 .loop .area) (c6 .loop .inv .2 d) (rw (c7 .silent-at .ensures) at (c5 .loop-test .taken))
-    (c3 .take-candidate .result) _ (silent-taken (v .question .now) (v .part .now) (v .at) d (v .first) (c6 .loop .j) (v .x) (c6 .loop .area)
-    (c6 .loop .n) (c3 .take-candidate .result) _ (c3 .take-candidate .ensures)) (c .if1 .taken)
+    silent-passed (v .question .now) (v .part .now) (v .node .at) (v .node .depth) (v .node .number) (v .node .x) (v .area .now) (v .count) (v .tally .now)
+    (c13 .pre .0 .1 .1) (c6 .loop .j) (c6 .loop .n) (c6 .loop .area) (c6 .loop .inv .2) (rw (c7 .silent-at .ensures) at (c5 .loop-test .taken))
+    (c3 .take-candidate .result) _ (silent-taken (v .question .now) (v .part .now) (v .node .at) (v .node .depth) (v .node .number) (c6 .loop .j) (v .node .x)
+    (c6 .loop .area) (c6 .loop .n) (c3 .take-candidate .result) _ (c3 .take-candidate .ensures)) (c .if1 .taken)
 
 add-j : tie.Need-add-j Inv-loop μ-loop
 add-j c = search needs
@@ -67,14 +72,15 @@ loop-again : tie.Need-loop-again Inv-loop μ-loop
 loop-again c =
     let v = c .before .before .before .before .before .before .before .before .before .before .before .before .before .args in (
       search needs,
-      search needs,
-      λ d. silent-next (v .question .now) (v .part .now) (v .at) d (v .first) (v .x) (v .area .now) (v .count)
-          (v .tally .now) (c .before .before .before .before .before .before .before .before .before .before .before .before .before .pre .0 .3)
+      search
+          needs,
+      silent-next (v .question .now) (v .part .now) (v .node .at) (v .node .depth) (v .node .number) (v .node .x) (v .area .now) (v .count) (v .tally .now)
+          (c .before .before .before .before .before .before .before .before .before .before .before .before .before .pre .0 .1 .1)
           (c .before .before .before .before .before .before .loop .j) (c .before .before .before .before .before .before .loop .n)
-          (c .before .before .before .before .before .before .loop .area) (c .before .before .before .before .before .before .loop .inv .2 d) (rw
+          (c .before .before .before .before .before .before .loop .area) (c .before .before .before .before .before .before .loop .inv .2) (rw
           (c .before .before .before .before .before .before .before .silent-at .ensures) at (c .before .before .before .before .before .loop-test .taken))
-          (c .before .before .before .take-candidate .result) _ (silent-taken (v .question .now) (v .part .now) (v .at) d (v .first)
-          (c .before .before .before .before .before .before .loop .j) (v .x) (c .before .before .before .before .before .before .loop .area)
+          (c .before .before .before .take-candidate .result) _ (silent-taken (v .question .now) (v .part .now) (v .node .at) (v .node .depth) (v .node .number)
+          (c .before .before .before .before .before .before .loop .j) (v .node .x) (c .before .before .before .before .before .before .loop .area)
           (c .before .before .before .before .before .before .loop .n) (c .before .before .before .take-candidate .result) _
           (c .before .before .before .take-candidate .ensures)) (search needs),
     )
@@ -87,9 +93,9 @@ returns-2 c =
     let c1 = c .before in
     let c8 = c1 .before .before .before .before .before .before .before in
     let v = c8 .args in
-    λ d. silent-done (v .question .now) (v .part .now) (v .at) d (v .first) (v .x) (v .area .now) (v .count) (v .tally .now) (c8 .pre .0 .3)
-    (c1 .loop .j) (c1 .loop .n) (c1 .loop .area) (c1 .loop .inv .2 d) (rw (c .before .before .silent-at .ensures) at (c .loop-test .left))
-    (c1 .loop .inv .0)
+    silent-done (v .question .now) (v .part .now) (v .node .at) (v .node .depth) (v .node .number) (v .node .x) (v .area .now) (v .count) (v .tally .now)
+    (c8 .pre .0 .1 .1) (c1 .loop .j) (c1 .loop .n) (c1 .loop .area) (c1 .loop .inv .2) (rw (c .before .before .silent-at .ensures) at
+    (c .loop-test .left)) (c1 .loop .inv .0)
 
 pub take-numbered-spec : {M : Type 1} → statement M
 take-numbered-spec =
@@ -99,7 +105,7 @@ take-numbered-spec =
     μ-loop
     silent-at-requires
     loop-holds
-    add-take-candidate
+    add-i
     take-candidate-requires
     same-length
     returns

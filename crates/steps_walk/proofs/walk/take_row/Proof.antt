@@ -7,8 +7,8 @@ use borrow.Author.Needs.{needs}
 use Rattle.steps_walk.proofs.walk.take_row.Statement.{statement}
 use Rattle.steps_walk.proofs.walk.take_row.Tie as tie
 
-add-row : tie.Need-add-row
-add-row c = search needs
+add-i : tie.Need-add-i
+add-i c = search needs
 
 mul-row : tie.Need-mul-row
 mul-row c = search needs
@@ -32,10 +32,10 @@ returns : tie.Need-returns
 unfolding kindAt
 returns c =
     let c3 = c .before .before .before in
-    let c10 = c3 .before .before .before .before .before .before .before in
-    let v = c10 .args in
-    row-again (v .question .now) (v .part .now) (v .at) (v .depth) (v .rows .now) (v .first) (v .j) (v .x) (v .area .now) (v .count) (sym
-    (c3 .get .ensures) ∙ c .if1 .taken)
+    let c11 = c3 .before .before .before .before .before .before .before .before in
+    let v = c11 .args in
+    row-again (v .question .now) (v .part .now) (v .node .at) (v .node .depth) (v .rows .now) (v .own .first) (v .own .number) (v .node .x)
+    (v .area .now) (v .own .count) (sym (c3 .get .ensures) ∙ c .if1 .taken)
 
 cast-if2 : tie.Need-cast-if2
 cast-if2 c = search needs
@@ -46,14 +46,11 @@ returns-2 c =
     let c2 = c .before .before in
     let c3 = c2 .before in
     let c4 = c3 .before in
-    let c11 = c4 .before .before .before .before .before .before .before in
-    let v = c11 .args in
-    row-blocked (v .question .now) (v .part .now) (v .at) (v .depth) (v .rows .now) (v .first) (v .j) (v .x) (v .area .now) (v .count)
-    (c4 .get .result) (c3 .get2 .result) (c2 .get3 .result) (c4 .get .ensures) (c3 .get2 .ensures) (c2 .get3 .ensures) (c .before .if1 .left)
-    (c .if2 .taken) (c11 .pre .0 .0)
-
-add-take-candidate : tie.Need-add-take-candidate
-add-take-candidate c = search needs
+    let c12 = c4 .before .before .before .before .before .before .before .before in
+    let v = c12 .args in
+    row-blocked (v .question .now) (v .part .now) (v .node .at) (v .node .depth) (v .rows .now) (v .own .first) (v .own .number) (v .node .x)
+    (v .area .now) (v .own .count) (c4 .get .result) (c3 .get2 .result) (c2 .get3 .result) (c4 .get .ensures) (c3 .get2 .ensures) (c2 .get3 .ensures)
+    (c .before .if1 .left) (c .if2 .taken) (c12 .pre .0 .0 .0)
 
 take-candidate-requires : tie.Need-take-candidate-requires
 take-candidate-requires c κs = search needs
@@ -67,19 +64,16 @@ returns-3 c =
     let c2 = c .before .before in
     let c6 = c2 .before .before .before .before in
     let c9 = c6 .before .before .before in
-    let c16 = c9 .before .before .before .before .before .before .before in
-    let v = c16 .args in
-    row-taken (v .question .now) (v .part .now) (v .at) (v .depth) (v .rows .now) (v .first) (v .j) (v .x) (v .area .now) (v .count) (λ e.
-    c6 .if1 .left (c9 .get .ensures ∙ e)) (c2 .take-candidate .result) _ (c2 .take-candidate .ensures)
+    let c17 = c9 .before .before .before .before .before .before .before .before in
+    let v = c17 .args in
+    row-taken (v .question .now) (v .part .now) (v .node .at) (v .node .depth) (v .rows .now) (v .own .first) (v .own .number) (v .node .x)
+    (v .area .now) (v .own .count) (λ e. c6 .if1 .left (c9 .get .ensures ∙ e)) (c2 .take-candidate .result) _ (c2 .take-candidate .ensures)
 
 row-opens-requires : tie.Need-row-opens-requires
 row-opens-requires c κs = search needs
 
 own-names-requires : tie.Need-own-names-requires
 own-names-requires c κs = search needs
-
-add-put-classed : tie.Need-add-put-classed
-add-put-classed c = search needs
 
 slice-aggregate-put-classed : tie.Need-slice-aggregate-put-classed
 slice-aggregate-put-classed c = search needs
@@ -103,12 +97,12 @@ returns-4 c =
     let c11 = c10 .before in
     let c12 = c11 .before in
     let c13 = c12 .before in
-    let c20 = c13 .before .before .before .before .before .before .before in
-    let v = c20 .args in
-    row-opened (v .question .now) (v .part .now) (v .at) (v .depth) (v .rows .now) (v .first) (v .j) (v .x) (v .area .now) (v .count)
-    (c13 .get .result) (c12 .get2 .result) (c11 .get3 .result) (c13 .get .ensures) (c12 .get2 .ensures) (c11 .get3 .ensures) (c10 .if1 .left)
-    (c9 .if2 .left) (omega (arith, c8 .if3 .left)) (c2 .put-classed .result) _ (sym (c7 .row-opens .ensures) ∙ c6 .if4 .taken) _
-    (c5 .own-names .ensures) (c2 .put-classed .ensures)
+    let c21 = c13 .before .before .before .before .before .before .before .before in
+    let v = c21 .args in
+    row-opened (v .question .now) (v .part .now) (v .node .at) (v .node .depth) (v .rows .now) (v .own .first) (v .own .number) (v .node .x)
+    (v .area .now) (v .own .count) (c13 .get .result) (c12 .get2 .result) (c11 .get3 .result) (c13 .get .ensures) (c12 .get2 .ensures)
+    (c11 .get3 .ensures) (c10 .if1 .left) (c9 .if2 .left) (omega (arith, c8 .if3 .left)) (c2 .put-classed .result) _ (sym (c7 .row-opens .ensures) ∙
+    c6 .if4 .taken) _ (c5 .own-names .ensures) (c2 .put-classed .ensures)
 
 row-object-requires : tie.Need-row-object-requires
 row-object-requires c κs = search needs
@@ -132,18 +126,18 @@ returns-5 c =
     let c10 = c9 .before in
     let c11 = c10 .before in
     let c12 = c11 .before in
-    let c19 = c12 .before .before .before .before .before .before .before in
-    let v = c19 .args in
-    row-placed (v .question .now) (v .part .now) (v .at) (v .depth) (v .rows .now) (v .first) (v .j) (v .x) (v .area .now) (v .count)
-    (c12 .get .result) (c11 .get2 .result) (c10 .get3 .result) (c12 .get .ensures) (c11 .get2 .ensures) (c10 .get3 .ensures) (c9 .if1 .left)
-    (c8 .if2 .left) (omega (arith, c7 .if3 .left)) (c2 .put-placed .result) _ (sym (c6 .row-opens .ensures) ∙ c5 .if4 .left) (c4 .row-object .result)
-    (c4 .row-object .ensures) (c2 .put-placed .ensures)
+    let c20 = c12 .before .before .before .before .before .before .before .before in
+    let v = c20 .args in
+    row-placed (v .question .now) (v .part .now) (v .node .at) (v .node .depth) (v .rows .now) (v .own .first) (v .own .number) (v .node .x)
+    (v .area .now) (v .own .count) (c12 .get .result) (c11 .get2 .result) (c10 .get3 .result) (c12 .get .ensures) (c11 .get2 .ensures)
+    (c10 .get3 .ensures) (c9 .if1 .left) (c8 .if2 .left) (omega (arith, c7 .if3 .left)) (c2 .put-placed .result) _ (sym (c6 .row-opens .ensures) ∙
+    c5 .if4 .left) (c4 .row-object .result) (c4 .row-object .ensures) (c2 .put-placed .ensures)
 
 pub take-row-spec : {M : Type 1} → statement M
 take-row-spec =
     tie.close
     (tie.spec
-    add-row
+    add-i
     mul-row
     get-requires
     add-get
@@ -153,13 +147,11 @@ take-row-spec =
     returns
     cast-if2
     returns-2
-    add-take-candidate
     take-candidate-requires
     same-length
     returns-3
     row-opens-requires
     own-names-requires
-    add-put-classed
     slice-aggregate-put-classed
     put-classed-requires
     same-length-2

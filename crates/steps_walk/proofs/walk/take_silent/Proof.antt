@@ -14,7 +14,7 @@ take-quiet-requires c κs =
     let v = c8 .args in (
       c8 .pre .0,
       c8 .pre .1,
-      subst (λ b. QuietIs (v .question .now) (v .part .now) (v .at) 1 b) (c .before .if1 .taken)
+      subst (λ b. QuietIs (v .question .now) (v .part .now) (v .node .at) 1 b) (c .before .if1 .taken)
           (c .before .before .quiet .ensures),
     )
 
@@ -22,9 +22,7 @@ same-length : tie.Need-same-length
 same-length c = search needs
 
 returns : tie.Need-returns
-returns c =
-    let c11 = c .before .before .before .before .before .before .before .before .before .before .before in
-    c .before .before .take-quiet .ensures (c11 .args .number)
+returns c = c .before .before .take-quiet .ensures
 
 take-numbered-requires : tie.Need-take-numbered-requires
 take-numbered-requires c κs = search needs
@@ -33,9 +31,7 @@ same-length-2 : tie.Need-same-length-2
 same-length-2 c = search needs
 
 returns-2 : tie.Need-returns-2
-returns-2 c =
-    let c11 = c .before .before .before .before .before .before .before .before .before .before .before in
-    c .before .before .take-numbered .ensures (c11 .args .depth)
+returns-2 c = c .before .before .take-numbered .ensures
 
 pub take-silent-spec : {M : Type 1} → statement M
 take-silent-spec =
