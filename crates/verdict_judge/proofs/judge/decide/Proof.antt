@@ -31,15 +31,15 @@ slice-aggregate-explore-5 c = search needs
 
 explore-requires : tie.Need-explore-requires
 explore-requires c κs = (
-      c .before .before .before .before .before .before .before .before .before .before .pre .0,
-      c .before .before .before .before .before .before .before .before .before .before .pre .1,
-      c .before .before .before .before .before .before .before .before .before .before .pre .2,
-      c .before .before .before .before .before .before .before .body-tallies .ensures,
-      search needs,
-      search needs,
-      no-part _ listArea (omega arith),
-      no-part _ listArea (omega arith),
-    )
+  c .before .before .before .before .before .before .before .before .before .before .pre .0,
+  c .before .before .before .before .before .before .before .before .before .before .pre .1,
+  c .before .before .before .before .before .before .before .before .before .before .pre .2,
+  c .before .before .before .before .before .before .before .body-tallies .ensures,
+  search needs,
+  search needs,
+  no-part _ listArea (omega arith),
+  no-part _ listArea (omega arith),
+)
 
 enum-told : tie.Need-enum-told
 enum-told c = search needs
@@ -63,7 +63,7 @@ slice-aggregate-start-survives-5 : tie.Need-slice-aggregate-start-survives-5
 slice-aggregate-start-survives-5 c = search needs
 
 start-survives-requires : tie.Need-start-survives-requires
-start-survives-requires c κs = 
+start-survives-requires c κs =
     let g = c .before .before .before .before .before .before .before .before .before .before .before .before .before .before .before .before .before .before .before .before .before .before .before .before .before .before .pre in
     let w = c .before .before .before .before .before .before .before .before .before .before .before .before .before .before .before .explore .ensures .0 .within _ (c .before .before .before .before .before .before .before .explored .given .1) in (
       w .0,
