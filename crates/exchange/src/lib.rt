@@ -8,7 +8,7 @@ ghost use Rattle.fewest.specs.Apart.{ApartIs};
 ghost use Rattle.fewest_lists.specs.Bests.{apartOutcome};
 ghost use Rattle.exchange.specs.Listed.{ofSteps};
 ghost use Rattle.terms.specs.Edition.{one, two};
-ghost use Rattle.verdict.specs.Promises.{CheckIs, StepsIs, MergeIs, BesideIs, ConvertIs, JudgeIs};
+ghost use Rattle.verdict.specs.Promises.{CheckIs, StepsIs, MergeIs, BesideIs, ConvertIs, JudgeIs, LateIs, EarlyIs};
 use fewest_lists::best::Apart;
 use steps_lister::operation::StepsAnswer;
 use terms_bytes::answer::Written;
@@ -173,6 +173,22 @@ pub extern "C" fn exchange_judge(question: &[u8], capacity: u64, work: &mut [u8]
     ensures { λ r. ⌜ JudgeIs (now (question .entry)) capacity (now (work .entry)) r (now (work .exit)) ⌝ }
 {
     judged_code(verdict_judge::judge::judge(question, capacity, work))
+}
+
+// The late verdict, where all names differ: request 2026-02.
+#[no_mangle]
+pub extern "C" fn exchange_late(question: &[u8], capacity: u64, work: &mut [u8]) -> u64
+    ensures { λ r. ⌜ LateIs (now (question .entry)) capacity (now (work .entry)) r (now (work .exit)) ⌝ }
+{
+    judged_code(verdict_judge::judge::judge_late(question, capacity, work))
+}
+
+// The early verdict.
+#[no_mangle]
+pub extern "C" fn exchange_early(question: &[u8], capacity: u64, work: &mut [u8]) -> u64
+    ensures { λ r. ⌜ EarlyIs (now (question .entry)) capacity (now (work .entry)) r (now (work .exit)) ⌝ }
+{
+    judged_code(verdict_judge::judge::judge_early(question, capacity, work))
 }
 
 // Writes the question's apart list, enlarged by the fewest pairs of the names that make the parts the same, into the area.

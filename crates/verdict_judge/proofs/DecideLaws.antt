@@ -295,7 +295,11 @@ module _ (manner : Manner) (question : List ℕ) (q : Question) (accepted : chec
       ap (decided demands (startOf (differs manner) q)) field ∙ ap (λ b. cond b (same (length rs)) (different (length rs))) (start-verdict r v s)
 
 -- decide
-module _ (manner : Manner) (question : List ℕ) (capacity : ℕ) (work w : List ℕ) (x : Explored) (e : ExploreIs (differs manner) question capacity work x w) where
+module _ (manner : Manner) (question : List ℕ) (capacity : ℕ) (work w : List ℕ) (x : Explored) (differ : Bool) (which : differ ≡ differs manner)
+    (given : ExploreIs differ question capacity work x w) where
+  e : ExploreIs (differs manner) question capacity work x w
+  e = subst (λ d. ExploreIs d question capacity work x w) which given
+
   pub unsettled-is : x ≡ Incomplete → DecidesIs manner question capacity work Unsettled w
   unfolding judgedAnswer verdictBy decided Explores
   unsettled-is h = record { rest = e .rest; is = λ q a. go q (fieldOf (settingOf (differs manner) (q .bodies)) capacity (startOf (differs manner) q)) refl (e .is q a) }

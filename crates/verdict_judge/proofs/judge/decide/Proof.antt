@@ -11,6 +11,9 @@ use Rattle.verdict_judge.proofs.judge.decide.Tie as tie
 body-tallies-requires : tie.Need-body-tallies-requires
 body-tallies-requires c κs = search needs
 
+names-differ-requires : tie.Need-names-differ-requires
+names-differ-requires c κs = search needs
+
 slice-aggregate-explore : tie.Need-slice-aggregate-explore
 slice-aggregate-explore c = search needs
 
@@ -27,18 +30,16 @@ slice-aggregate-explore-5 : tie.Need-slice-aggregate-explore-5
 slice-aggregate-explore-5 c = search needs
 
 explore-requires : tie.Need-explore-requires
-explore-requires c κs =
-    let g = c .before .before .before .before .before .before .before .before .before .pre in (
-      g .0,
-      g .1,
-      g .2,
-      c .before .before .before .before .before .before .body-tallies .ensures,
-      search needs,
-      search needs,
-      no-part _ listArea (omega
-          arith),
-      no-part _ listArea (omega arith),
-    )
+explore-requires c κs = (
+  c .before .before .before .before .before .before .before .before .before .before .pre .0,
+  c .before .before .before .before .before .before .before .before .before .before .pre .1,
+  c .before .before .before .before .before .before .before .before .before .before .pre .2,
+  c .before .before .before .before .before .before .before .body-tallies .ensures,
+  search needs,
+  search needs,
+  no-part _ listArea (omega arith),
+  no-part _ listArea (omega arith),
+)
 
 enum-told : tie.Need-enum-told
 enum-told c = search needs
@@ -63,59 +64,44 @@ slice-aggregate-start-survives-5 c = search needs
 
 start-survives-requires : tie.Need-start-survives-requires
 start-survives-requires c κs =
-    let g = c .before .before .before .before .before .before .before .before .before .before .before .before .before .before .before .before .before .before .before .before .before .before .before .before .before .pre in
-    let w =
-    c .before .before .before .before .before .before .before .before .before .before .before .before .before .before .before .explore .ensures .0 .within
-    _ (c .before .before .before .before .before .before .before .explored .given .1) in (
+    let g = c .before .before .before .before .before .before .before .before .before .before .before .before .before .before .before .before .before .before .before .before .before .before .before .before .before .before .pre in
+    let w = c .before .before .before .before .before .before .before .before .before .before .before .before .before .before .before .explore .ensures .0 .within _ (c .before .before .before .before .before .before .before .explored .given .1) in (
       w .0,
       w .1,
       omega (arith, g .2),
-      c .before .before .before .before .before .before .before .before .before .before .before .before .before .before .before .before .before .before .before .before .before .before .body-tallies .ensures,
+      c .before .before .before .before .before .before .before .before .before .before .before .before .before .before .before .before .before .before .before .before .before .before .before .body-tallies .ensures,
       search needs,
       search needs,
       c .before .before .before .before .before .before .before .before .before .before .before .before .before .before .before .explore .ensures .1,
       c .before .before .before .before .before .before .before .before .before .before .before .before .before .before .before .explore .ensures .2,
       g .1,
-      sole-all _ _ _ _ _
-          (c .before .before .before .before .before .before .before .before .before .before .before .before .before .before .before .explore .ensures .0) _
-          (c .before .before .before .before .before .before .before .explored .given .1) (omega (arith, g .2)),
+      sole-all _ _ _ _ _ _ _ (c .before .before .before .before .before .before .before .before .before .before .before .before .before .before .before .before .before .before .before .before .before .before .names-differ .ensures) (c .before .before .before .before .before .before .before .before .before .before .before .before .before .before .before .explore .ensures .0) _ (c .before .before .before .before .before .before .before .explored .given .1) (omega (arith, g .2)),
     )
 
 same-length : tie.Need-same-length
 same-length c = search needs
 
 returns : tie.Need-returns
-returns c =
-    let c7 = c .before .before .before .before .before .before .before in
-    let c15 = c7 .before .before .before .before .before .before .before .before in
-    let c23 = c15 .before .before .before .before .before .before .before .before in
-    let c33 = c23 .before .before .before .before .before .before .before .before .before .before in
-    same-is _ _ _ _ _ (c23 .explore .ensures .0) _ (c15 .explored .given .1) (omega (arith, c33 .pre .0, c33 .pre .1, c33 .pre .2)) _ _
-    (c7 .start-survives .ensures) (c .if1 .taken)
+returns c = same-is _ _ _ _ _ _ _ (c .before .before .before .before .before .before .before .before .before .before .before .before .before .before .before .before .before .before .before .before .before .before .before .before .before .before .before .before .before .before .names-differ .ensures) (c .before .before .before .before .before .before .before .before .before .before .before .before .before .before .before .before .before .before .before .before .before .before .before .explore .ensures .0) _ (c .before .before .before .before .before .before .before .before .before .before .before .before .before .before .before .explored .given .1) (omega (arith, c .before .before .before .before .before .before .before .before .before .before .before .before .before .before .before .before .before .before .before .before .before .before .before .before .before .before .before .before .before .before .before .before .before .before .pre .0, c .before .before .before .before .before .before .before .before .before .before .before .before .before .before .before .before .before .before .before .before .before .before .before .before .before .before .before .before .before .before .before .before .before .before .pre .1, c .before .before .before .before .before .before .before .before .before .before .before .before .before .before .before .before .before .before .before .before .before .before .before .before .before .before .before .before .before .before .before .before .before .before .pre .2)) _ _ (c .before .before .before .before .before .before .before .start-survives .ensures) (c .if1 .taken)
 
 same-length-2 : tie.Need-same-length-2
 same-length-2 c = search needs
 
 returns-2 : tie.Need-returns-2
-returns-2 c = unsettled-is _ _ _ _ _ (c .before .before .before .before .before .before .before .before .explore .ensures .0) (c .enum-told .given .1)
+returns-2 c = unsettled-is _ _ _ _ _ _ _ (c .before .before .before .before .before .before .before .before .before .before .before .before .before .before .before .names-differ .ensures) (c .before .before .before .before .before .before .before .before .explore .ensures .0) (c .enum-told .given .1)
 
 same-length-3 : tie.Need-same-length-3
 same-length-3 c = search needs
 
 returns-3 : tie.Need-returns-3
-returns-3 c =
-    let c7 = c .before .before .before .before .before .before .before in
-    let c15 = c7 .before .before .before .before .before .before .before .before in
-    let c23 = c15 .before .before .before .before .before .before .before .before in
-    let c33 = c23 .before .before .before .before .before .before .before .before .before .before in
-    different-is _ _ _ _ _ (c23 .explore .ensures .0) _ (c15 .explored .given .1) (omega (arith, c33 .pre .0, c33 .pre .1, c33 .pre .2)) _ _
-    (c7 .start-survives .ensures) (c .if1 .left)
+returns-3 c = different-is _ _ _ _ _ _ _ (c .before .before .before .before .before .before .before .before .before .before .before .before .before .before .before .before .before .before .before .before .before .before .before .before .before .before .before .before .before .before .names-differ .ensures) (c .before .before .before .before .before .before .before .before .before .before .before .before .before .before .before .before .before .before .before .before .before .before .before .explore .ensures .0) _ (c .before .before .before .before .before .before .before .before .before .before .before .before .before .before .before .explored .given .1) (omega (arith, c .before .before .before .before .before .before .before .before .before .before .before .before .before .before .before .before .before .before .before .before .before .before .before .before .before .before .before .before .before .before .before .before .before .before .pre .0, c .before .before .before .before .before .before .before .before .before .before .before .before .before .before .before .before .before .before .before .before .before .before .before .before .before .before .before .before .before .before .before .before .before .before .pre .1, c .before .before .before .before .before .before .before .before .before .before .before .before .before .before .before .before .before .before .before .before .before .before .before .before .before .before .before .before .before .before .before .before .before .before .pre .2)) _ _ (c .before .before .before .before .before .before .before .start-survives .ensures) (c .if1 .left)
 
 pub decide-spec : {M : Type 1} → statement M
 decide-spec =
     tie.close
     (tie.spec
     body-tallies-requires
+    names-differ-requires
     slice-aggregate-explore
     slice-aggregate-explore-2
     slice-aggregate-explore-3
