@@ -18,9 +18,14 @@ abbrev μ-loop : tie.MeasureT-loop
 μ-loop arities free apart asked area others work₀ known so-far₀ name₀ work so-far name = nameCount - name
 
 loop-holds : tie.Need-loop-holds Inv-loop μ-loop
-loop-holds c =
-    (search needs, search needs, search needs, search needs, names-start _ _ _ _ _ _ _ _ _ _ _ _ _
-    (c .before .before .before .before .before .pre .few))
+loop-holds c = (
+  search needs,
+  search needs,
+  search needs,
+  search needs,
+  names-start _ _ _ _ _ _ _ _ _ _ _ _ _
+      (c .before .before .before .before .before .pre .few),
+)
 
 grow-name-requires : tie.Need-grow-name-requires Inv-loop μ-loop
 grow-name-requires c κs = search needs
@@ -51,12 +56,16 @@ loop-less c = search needs
 
 loop-again : tie.Need-loop-again Inv-loop μ-loop
 loop-again c =
-    let g = rw (c .before .growth .given .1) at (c .before .before .before .before .before .grow-name .ensures) in let b = g .grows .within _ refl in
-    ( search needs, search needs, omega (arith, b .0, c .before .before .before .before .before .before .before .before .loop .inv .2), b .1,
-    names-next _ _ _ _ _ _ _ _ _ _ _ _ _
-    (c .before .before .before .before .before .before .before .before .before .before .before .before .before .before .pre .waits) _ _ _ _ _
-    (c .before .before .before .before .before .before .before .before .loop .inv .4)
-    (c .before .before .before .before .before .before .before .loop-test .taken) g, )
+    let g = rw (c .before .growth .given .1) at (c .before .before .before .before .before .grow-name .ensures) in let b = g .grows .within _ refl in (
+      search needs,
+      search needs,
+      omega (arith, b .0, c .before .before .before .before .before .before .before .before .loop .inv .2),
+      b .1,
+      names-next _ _ _ _ _ _ _ _ _ _ _ _ _
+          (c .before .before .before .before .before .before .before .before .before .before .before .before .before .before .pre .waits) _ _ _ _ _
+          (c .before .before .before .before .before .before .before .before .loop .inv .4)
+          (c .before .before .before .before .before .before .before .loop-test .taken) g,
+    )
 
 same-length-2 : tie.Need-same-length-2 Inv-loop μ-loop
 same-length-2 c = search needs
