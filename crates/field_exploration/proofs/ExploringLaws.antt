@@ -50,21 +50,21 @@ use Rattle.field.proofs.Reached.{together-leads}
 use Rattle.field_growth.proofs.SlotWriting.{slot-rest, slot-struck, knows-noted, knows-more}
 
 module _ (differ : Bool) where
+  abbrev setting : Question → Setting
+  setting q = settingOf differ (q .bodies)
+
   -- What a proper situation of an accepted question leads to is proper.
   module _ (question : List ℕ) (q : Question) (accepted : checkOf question ≡ result q) where
     well : WellFormed q
     well = accepted-well-formed question q accepted
 
-    abbrev S : Setting
-    S = settingOf differ (q .bodies)
-
-    together-proper : (s : Situation) (ms : List (List Situation)) → Proper nameCount (q .arities) s → successors S s ≡ leads ms
+    together-proper : (s : Situation) (ms : List (List Situation)) → Proper nameCount (q .arities) s → successors (setting q) s ≡ leads ms
         → All (Proper nameCount (q .arities)) (together ms)
     unfolding settingOf definitions
     together-proper s ms p e =
         let Δ : Defs = definitions (q .arities) (q .bodies) (well .bodies) in
         ∈-all (Proper nameCount (q .arities)) (together ms)
-        (λ t i. invariant Δ S (q .arities) (question-setting differ q well Δ (λ k. refl) refl) .kept s t p (together-leads S s ms e t i))
+        (λ t i. invariant Δ (setting q) (q .arities) (question-setting differ q well Δ (λ k. refl) refl) .kept s t p (together-leads (setting q) s ms e t i))
 
     start-fitting : Fitting (q .arities) (startOf differ q)
     unfolding startOf situation
@@ -86,10 +86,10 @@ module _ (differ : Bool) where
       taken-as : TakenAs q s up firsts seconds
       taken-as = T .is q s accepted (K .slots .held taken d inside) (proper .first) (proper .second)
 
-      follows-past : up .lists ≡ Past → Follows (q .arities) capacity taken (successors (settingOf differ (q .bodies)) s) work known Full work
+      follows-past : up .lists ≡ Past → Follows (q .arities) capacity taken (successors (setting q) s) work known Full work
       unfolding ListsAre Follows
       follows-past e =
-          let p : successors (settingOf differ (q .bodies)) s ≡ pastLimit = subst (λ l. ListsAre q s l firsts seconds) e (taken-as .lists) differ in
+          let p : successors (setting q) s ≡ pastLimit = subst (λ l. ListsAre q s l firsts seconds) e (taken-as .lists) differ in
           subst (λ o. Follows (q .arities) capacity taken o work known Full work) (sym p) refl
 
       module _ (n m : ℕ) (e : up .lists ≡ Listed n m) (r : Growth) (work′ : List ℕ)
@@ -109,7 +109,7 @@ module _ (differ : Bool) where
         unfolding moved freeIn
         both = refl
 
-        follows-listed : Follows (q .arities) capacity taken (successors (settingOf differ (q .bodies)) s) work known r work′
+        follows-listed : Follows (q .arities) capacity taken (successors (setting q) s) work known r work′
         unfolding Follows
         follows-listed =
             let flags : Flagged (up .free) (up .apart) names (s .apart) =
@@ -143,12 +143,12 @@ module _ (differ : Bool) where
   -- Exploration: the known situations, of which the first `taken` have been taken up.
   pub record Explorer (q : Question) (capacity : ℕ) (work : List ℕ) (known taken : ℕ) : Type 0 where
     pub ks : List Situation
-    pub exploring : Exploring (settingOf differ (q .bodies)) capacity (startOf differ q) ks taken
+    pub exploring : Exploring (setting q) capacity (startOf differ q) ks taken
     pub knows : Knows (q .arities) capacity work known ks
-    pub struck : (i : ℕ) (ms : List (List Situation)) → i < taken → successors (settingOf differ (q .bodies)) (getD ks i (startOf differ q)) ≡ leads ms
+    pub struck : (i : ℕ) (ms : List (List Situation)) → i < taken → successors (setting q) (getD ks i (startOf differ q)) ≡ leads ms
         → StruckBy work ks i ms
     pub left : (i : ℕ) → taken ≤ i → i < known → getD work (struckAt i) 0 ≡ 0
-    pub sole : (i k : ℕ) (ms : List (List Situation)) → i < taken → k < notedCount → successors (settingOf differ (q .bodies)) (getD ks i (startOf differ q)) ≡ leads ms
+    pub sole : (i k : ℕ) (ms : List (List Situation)) → i < taken → k < notedCount → successors (setting q) (getD ks i (startOf differ q)) ≡ leads ms
         → SoleIn ks ms (noteAt work i k)
 
   -- Nothing is noted in the slot that is taken up next.
@@ -175,7 +175,7 @@ module _ (differ : Bool) where
 
   -- One more is taken up.
   module _ (q : Question) (capacity : ℕ) (work : List ℕ) (known taken : ℕ) (y : Explorer q capacity work known taken) (waits : taken < known)
-      (ms : List (List Situation)) (e : successors (settingOf differ (q .bodies)) (getD (y .ks) taken (startOf differ q)) ≡ leads ms)
+      (ms : List (List Situation)) (e : successors (setting q) (getD (y .ks) taken (startOf differ q)) ≡ leads ms)
       (empty : (k : ℕ) → k < notedCount → noteAt work taken k ≡ 0)
       (n : ℕ) (few : n ≤ capacity) (more : known ≤ n) (work′ : List ℕ) (f : Leads (q .arities) capacity taken ms work known (Known n) work′) where
     abbrev all : List Situation
@@ -211,17 +211,17 @@ module _ (differ : Bool) where
           (w, i, all-imp (Gone work (y .ks)) (Below work′ all taken) w (λ t o. below-now taken (omega arith) t (gone-below t o)) a);
     }
 
-    struck-now : (i : ℕ) (ns : List (List Situation)) → i < taken + 1 → successors (settingOf differ (q .bodies)) (getD all i (startOf differ q)) ≡ leads ns
+    struck-now : (i : ℕ) (ns : List (List Situation)) → i < taken + 1 → successors (setting q) (getD all i (startOf differ q)) ≡ leads ns
         → StruckBy work′ all i ns
     struck-now i ns h k = go (ℕ-discrete i taken)
       where
-        there : successors (settingOf differ (q .bodies)) (getD (y .ks) i (startOf differ q)) ≡ leads ns
-        there = ap (successors (settingOf differ (q .bodies))) (sym (front i (startOf differ q) (omega arith))) ∙ k
+        there : successors (setting q) (getD (y .ks) i (startOf differ q)) ≡ leads ns
+        there = ap (successors (setting q)) (sym (front i (startOf differ q) (omega arith))) ∙ k
 
         go : Dec (i ≡ taken) → StruckBy work′ all i ns
         go (yes d) =
-            let t : successors (settingOf differ (q .bodies)) (getD (y .ks) taken (startOf differ q)) ≡ leads ns =
-            subst (λ j. successors (settingOf differ (q .bodies)) (getD (y .ks) j (startOf differ q)) ≡ leads ns) d there in
+            let t : successors (setting q) (getD (y .ks) taken (startOf differ q)) ≡ leads ns =
+            subst (λ j. successors (setting q) (getD (y .ks) j (startOf differ q)) ≡ leads ns) d there in
             let z : ms ≡ ns = cc in
             rw (d, ← z) struck-taken
         go (no d) =
@@ -249,17 +249,17 @@ module _ (differ : Bool) where
         go (inl z) = absurd (omega (arith, e, z, empty k g))
         go (inr x) = x j e
 
-    sole-now : (i k : ℕ) (ns : List (List Situation)) → i < taken + 1 → k < notedCount → successors (settingOf differ (q .bodies)) (getD all i (startOf differ q)) ≡ leads ns
+    sole-now : (i k : ℕ) (ns : List (List Situation)) → i < taken + 1 → k < notedCount → successors (setting q) (getD all i (startOf differ q)) ≡ leads ns
         → SoleIn all ns (noteAt work′ i k)
     sole-now i k ns h g l = go (ℕ-discrete i taken)
       where
-        there : successors (settingOf differ (q .bodies)) (getD (y .ks) i (startOf differ q)) ≡ leads ns
-        there = ap (successors (settingOf differ (q .bodies))) (sym (front i (startOf differ q) (omega arith))) ∙ l
+        there : successors (setting q) (getD (y .ks) i (startOf differ q)) ≡ leads ns
+        there = ap (successors (setting q)) (sym (front i (startOf differ q) (omega arith))) ∙ l
 
         go : Dec (i ≡ taken) → SoleIn all ns (noteAt work′ i k)
         go (yes d) =
-            let t : successors (settingOf differ (q .bodies)) (getD (y .ks) taken (startOf differ q)) ≡ leads ns =
-            subst (λ j. successors (settingOf differ (q .bodies)) (getD (y .ks) j (startOf differ q)) ≡ leads ns) d there in
+            let t : successors (setting q) (getD (y .ks) taken (startOf differ q)) ≡ leads ns =
+            subst (λ j. successors (setting q) (getD (y .ks) j (startOf differ q)) ≡ leads ns) d there in
             let z : ms ≡ ns = cc in
             rw (d, ← z) (sole-taken k g)
         go (no d) =
@@ -268,7 +268,7 @@ module _ (differ : Bool) where
     explorer-next : Explorer q capacity work′ n (taken + 1)
     explorer-next = record {
       ks = all;
-      exploring = rw add-one (exploring-on (settingOf differ (q .bodies)) capacity (startOf differ q) (y .ks) taken (y .exploring) (omega (arith, y .knows .count)) ms e
+      exploring = rw add-one (exploring-on (setting q) capacity (startOf differ q) (y .ks) taken (y .exploring) (omega (arith, y .knows .count)) ms e
           (omega (arith, knows-all .count)));
       knows = knows-all;
       struck = struck-now;
@@ -278,10 +278,10 @@ module _ (differ : Bool) where
 
   -- all rows, once all are taken up
   struck-first : (q : Question) (capacity : ℕ) (work : List ℕ) (known taken : ℕ) (y : Explorer q capacity work known taken) (rs : List Row) → length rs ≤ taken
-      → fieldOf (settingOf differ (q .bodies)) capacity (startOf differ q) ≡ explored rs → map (λ r. r .self) rs ≡ y .ks → StruckFirst work rs
+      → fieldOf (setting q) capacity (startOf differ q) ≡ explored rs → map (λ r. r .self) rs ≡ y .ks → StruckFirst work rs
   unfolding StruckFirst
   struck-first q capacity work known taken y rs m e s i d h =
-      let S : Setting = settingOf differ (q .bodies) in
+      let S : Setting = setting q in
       let r : Row = getD rs i d in
       let there : getD (y .ks) i (startOf differ q) ≡ r .self =
       getD-within (y .ks) i (startOf differ q) (d .self) (omega (arith, ap length s, length-map rs (λ (r : Row). r .self))) ∙ sym (self i d) in
@@ -302,10 +302,10 @@ module _ (differ : Bool) where
       self j c = sym (List·getD-map (λ (r : Row). r .self) rs j c) ∙ ap (λ l. getD l j (c .self)) s
 
   sole-noted : (q : Question) (capacity : ℕ) (work : List ℕ) (known taken : ℕ) (y : Explorer q capacity work known taken) (rs : List Row) → length rs ≤ taken
-      → fieldOf (settingOf differ (q .bodies)) capacity (startOf differ q) ≡ explored rs → map (λ r. r .self) rs ≡ y .ks → SoleNoted work rs
+      → fieldOf (setting q) capacity (startOf differ q) ≡ explored rs → map (λ r. r .self) rs ≡ y .ks → SoleNoted work rs
   unfolding SoleNoted
   sole-noted q capacity work known taken y rs m e s i k d h g =
-      let S : Setting = settingOf differ (q .bodies) in
+      let S : Setting = setting q in
       let r : Row = getD rs i d in
       let there : getD (y .ks) i (startOf differ q) ≡ r .self =
       getD-within (y .ks) i (startOf differ q) (d .self) (omega (arith, ap length s, length-map rs (λ (r : Row). r .self)))
@@ -333,10 +333,10 @@ module _ (differ : Bool) where
         rest = g .grows .rest ∙ x .rest;
         is = λ q a.
             let y = x .is q a in
-            next q y (successors (settingOf differ (q .bodies)) (getD (y .ks) taken (startOf differ q))) refl (g .is q a (y .ks) (startOf differ q) (y .knows));
+            next q y (successors (setting q) (getD (y .ks) taken (startOf differ q))) refl (g .is q a (y .ks) (startOf differ q) (y .knows));
       }
         where
-          next : (q : Question) (y : Explorer q capacity work known taken) (o : Outcome) → successors (settingOf differ (q .bodies)) (getD (y .ks) taken (startOf differ q)) ≡ o
+          next : (q : Question) (y : Explorer q capacity work known taken) (o : Outcome) → successors (setting q) (getD (y .ks) taken (startOf differ q)) ≡ o
               → Follows (q .arities) capacity taken o work known (Known n) work′ → Explorer q capacity work′ n (taken + 1)
           next q y pastLimit e f = let z : _≡_ {A = ℕ} 0 1 = cc in absurd (omega arith)
           next q y (leads ms) e f =
@@ -350,15 +350,15 @@ module _ (differ : Bool) where
         within = λ n e. let z : _≡_ {A = ℕ} 0 1 = cc in absurd (omega arith);
         is = λ q a.
             let y = x .is q a in
-            rw (none q y (successors (settingOf differ (q .bodies)) (getD (y .ks) taken (startOf differ q))) refl (g .is q a (y .ks) (startOf differ q) (y .knows))) refl;
+            rw (none q y (successors (setting q) (getD (y .ks) taken (startOf differ q))) refl (g .is q a (y .ks) (startOf differ q) (y .knows))) refl;
         chained = λ q a n e. let z : _≡_ {A = ℕ} 0 1 = cc in absurd (omega arith);
       }
         where
-          none : (q : Question) (y : Explorer q capacity work known taken) (o : Outcome) → successors (settingOf differ (q .bodies)) (getD (y .ks) taken (startOf differ q)) ≡ o
-              → Follows (q .arities) capacity taken o work known Full work′ → fieldOf (settingOf differ (q .bodies)) capacity (startOf differ q) ≡ incomplete
-          none q y pastLimit e f = exploring-past (settingOf differ (q .bodies)) capacity (startOf differ q) (y .ks) taken (y .exploring) (omega (arith, y .knows .count)) e
+          none : (q : Question) (y : Explorer q capacity work known taken) (o : Outcome) → successors (setting q) (getD (y .ks) taken (startOf differ q)) ≡ o
+              → Follows (q .arities) capacity taken o work known Full work′ → fieldOf (setting q) capacity (startOf differ q) ≡ incomplete
+          none q y pastLimit e f = exploring-past (setting q) capacity (startOf differ q) (y .ks) taken (y .exploring) (omega (arith, y .knows .count)) e
           none q y (leads ms) e f =
-              exploring-full (settingOf differ (q .bodies)) capacity (startOf differ q) (y .ks) taken (y .exploring) (omega (arith, y .knows .count)) ms e (f .puts (y .ks) (y .knows) tt)
+              exploring-full (setting q) capacity (startOf differ q) (y .ks) taken (y .exploring) (omega (arith, y .knows .count)) ms e (f .puts (y .ks) (y .knows) tt)
 
     pub explorers-end : (work : List ℕ) (known taken : ℕ) → Explorers work known taken → taken ≡ known → 1 ≤ known → known ≤ capacity
         → ExploreIs differ question capacity work₀ (Field known) work
@@ -370,12 +370,12 @@ module _ (differ : Bool) where
       chained = λ q a n e. let z : known ≡ n = cc in rw (← z) (x .is q a .knows .chained);
     }
       where
-        whole : (q : Question) → Explorer q capacity work known taken → Explores (fieldOf (settingOf differ (q .bodies)) capacity (startOf differ q)) (Field known) work
+        whole : (q : Question) → Explorer q capacity work known taken → Explores (fieldOf (setting q) capacity (startOf differ q)) (Field known) work
         whole q y =
             let n : taken ≡ length (y .ks) = omega (arith, y .knows .count) in
-            let z : Exploring (settingOf differ (q .bodies)) capacity (startOf differ q) (y .ks) (length (y .ks)) = subst (Exploring (settingOf differ (q .bodies)) capacity (startOf differ q) (y .ks)) n (y .exploring) in
+            let z : Exploring (setting q) capacity (startOf differ q) (y .ks) (length (y .ks)) = subst (Exploring (setting q) capacity (startOf differ q) (y .ks)) n (y .exploring) in
             let m : known ≡ length (z .rows) = omega (arith, z .count, y .knows .count) in
-            let e = exploring-end (settingOf differ (q .bodies)) capacity (startOf differ q) (y .ks) z in
+            let e = exploring-end (setting q) capacity (startOf differ q) (y .ks) z in
             let selves = z .selves ∙ take-all (length (y .ks)) (y .ks) (omega arith) in
             rw e (ap Field m, rw selves (y .knows .slots), struck-first q capacity work known taken y (z .rows) (omega arith) e selves, sole-noted q capacity work known taken y (z .rows) (omega arith) e selves)
 
@@ -395,7 +395,7 @@ module _ (differ : Bool) where
           record { count = refl; fitting = tt; slots = record { held = λ i d k. absurd (omega arith) }; chained = chained-none capacity work } in
           record {
             ks = startOf differ q ∷ [];
-            exploring = exploring-start (settingOf differ (q .bodies)) capacity (startOf differ q) some;
+            exploring = exploring-start (setting q) capacity (startOf differ q) some;
             knows = knows-more work key 0 slot long (q .arities) capacity [] none (startOf differ q) f (whole-key key (startOf differ q) (f .fits) (S q a)) work₀ L;
             struck = λ i ms h. absurd (omega arith);
             sole = λ i k ms h. absurd (omega arith);

@@ -13,6 +13,7 @@ use Rattle.calculus.specs.Distinction.{Irr, among}
 use Rattle.terms.specs.Answer.{result}
 use Rattle.terms.specs.Encoding.{InScope}
 use Rattle.terms.specs.Limits.{nameCount}
+use Rattle.steps.specs.Limits.{stepBytes, mostSteps}
 use Rattle.steps.specs.Lists.{_∈_, All}
 use Rattle.steps.specs.Listed.{ListedStep}
 use Rattle.field_slots.specs.Chains.{Chained}
@@ -28,6 +29,7 @@ use Rattle.field_pairs.specs.Slot.{flagsOf, keyOf, keyBytes, slotBytes, struckA
 use Rattle.field.specs.Successors.{select, answers, allowed, received, moves}
 use Rattle.field_renewal.specs.ListedEntries.{ListAt, EntriesAt}
 use Rattle.field_growth.specs.declared.growth.Added.{Added}
+use Rattle.field_growth.specs.declared.growth.Asked.{Asked}
 use Rattle.field_growth.specs.declared.growth.Growth.{Growth}
 use Rattle.field_growth.specs.declared.growth.Growth.the-variants.{Full, Known}
 use Rattle.field.specs.Situation.{Proper}
@@ -274,6 +276,26 @@ pub record GrowsNames (arities free apart : List ℕ) (second : Bool) (taken : �
       → ((name : ℕ) → among (lookedWith true G s) name ≡ true → MirroredBy second G D name s ts before)
       → (let ms = answeredWith second G D (select (among (lookedWith true G s)) names) s ts in
       All (Proper nameCount arities) (together ms) → LeadsAfter arities capacity taken before ms work known r work′)
+
+-- What the code asks for: everything has its place.
+pub record CanAsk (asked : Asked) (area others work known : ℕ) : Type 0 where
+  pub waits : asked .taken < known
+  pub few : known ≤ asked .capacity
+  pub most : asked .capacity ≤ 4096
+  pub room : slotBytes * asked .capacity ≤ work
+  pub step : asked .at + stepBytes ≤ area
+  pub first : asked .first ≤ asked .count
+  pub count : asked .count ≤ mostSteps
+  pub list : mostSteps * stepBytes ≤ others
+
+-- the move, and the names, of the step that is asked
+abbrev pub MoveIs : List ℕ → List ℕ → List ℕ → Asked → List ℕ → List ℕ → ℕ → List ℕ → ℕ → Growth → List ℕ → Type 0
+MoveIs arities free apart asked area others name work known r work′ =
+    GrowsMove arities free apart (asked .second) (asked .taken) area (asked .at) others (asked .first) (asked .count) name (asked .capacity) work known r work′
+
+abbrev pub NamesAre : List ℕ → List ℕ → List ℕ → Asked → List ℕ → List ℕ → List ℕ → List ℕ → ℕ → Growth → List ℕ → Type 0
+NamesAre arities free apart asked area others names work known r work′ =
+    GrowsNames arities free apart (asked .second) (asked .taken) area (asked .at) others (asked .first) (asked .count) names (asked .capacity) work known r work′
 
 -- One step.
 pub record GrowsStep (arities free apart : List ℕ) (differ second : Bool) (taken : ℕ) (area : List ℕ) (at : ℕ) (others : List ℕ) (count capacity : ℕ)

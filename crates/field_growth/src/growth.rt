@@ -8,7 +8,7 @@ ghost use Rattle.steps.specs.Limits.{stepBytes, mostSteps};
 ghost use Rattle.steps.specs.Listed.{namesFrom};
 ghost use Rattle.field_slots.specs.Chains.{LinkIs};
 ghost use Rattle.field_growth.specs.Growing.{slotWith, joined, AddedIs, AnswerIs, AnswersAre, FirstAnswerIs};
-ghost use Rattle.field_growth.specs.Growing.{GrowsMove, GrowsNames, GrowsStep};
+ghost use Rattle.field_growth.specs.Growing.{CanAsk, MoveIs, NamesAre, GrowsStep};
 ghost use Rattle.field_pairs.specs.Slot.{keyBytes, slotBytes};
 use field_pairs::entries::answers;
 use field_pairs::entries::same_header;
@@ -216,40 +216,47 @@ fn first_answer(area: &[u8], at: usize, others: &[u8], count: usize) -> usize
     count
 }
 
-// What the answers to the step at `at` of the situation in slot `taken` lead to, one move. Where all lead to situations that are struck out, none is
-// ever left: the situation is struck out. Where all lead to one situation, that is noted.
+// A step that must be answered: the second side's or the first's, of the situation in slot `taken`, where it stands, the number of its first answer, and
+// how many steps the other side has.
+struct Asked {
+    second: bool,
+    taken: usize,
+    at: usize,
+    first: usize,
+    count: usize,
+    capacity: usize,
+}
+
+// What its answers lead to, one move. Where all lead to situations that are struck out, none is ever left: the situation is struck out. Where all lead
+// to one situation, that is noted.
 fn grow_move(
     arities: &[u8],
     free: &[u8],
     apart: [u8; PAIR_COUNT],
-    second: bool,
-    taken: usize,
+    asked: Asked,
     area: &[u8],
-    at: usize,
     others: &[u8],
-    first: usize,
-    count: usize,
     name: usize,
     work: &mut [u8],
-    capacity: usize,
     known: usize,
 ) -> Growth
-    requires { ⌜ (taken < known) × (known ≤ capacity) × (capacity ≤ 4096) × (slotBytes * capacity ≤ length (now work)) × (at + stepBytes ≤ length (now area)) × (first ≤ count) × (count ≤ mostSteps) × (mostSteps * stepBytes ≤ length (now others)) ⌝ }
-    ensures { λ r. ⌜ GrowsMove (now (arities .entry)) (now (free .entry)) apart second taken (now (area .entry)) at (now (others .entry)) first count name capacity (now (work .entry)) known r (now (work .exit)) ⌝ }
+    requires { ⌜ CanAsk asked (length (now area)) (length (now others)) (length (now work)) known ⌝ }
+    ensures { λ r. ⌜ MoveIs (now (arities .entry)) (now (free .entry)) apart asked (now (area .entry)) (now (others .entry)) name (now (work .entry)) known r (now (work .exit)) ⌝ }
 {
+    let taken = asked.taken;
     let added = grow_answers(
         arities,
         free,
         apart,
-        second,
+        asked.second,
         area,
-        at,
+        asked.at,
         others,
-        first,
-        count,
+        asked.first,
+        asked.count,
         name,
         work,
-        capacity,
+        asked.capacity,
         known,
     );
     if added.left {
@@ -267,40 +274,20 @@ fn grow_name(
     arities: &[u8],
     free: &[u8],
     apart: [u8; PAIR_COUNT],
-    second: bool,
-    taken: usize,
+    asked: Asked,
     area: &[u8],
-    at: usize,
     others: &[u8],
-    first: usize,
-    count: usize,
     name: usize,
     work: &mut [u8],
-    capacity: usize,
     known: usize,
 ) -> Growth
-    requires { ⌜ (taken < known) × (known ≤ capacity) × (capacity ≤ 4096) × (slotBytes * capacity ≤ length (now work)) × (at + stepBytes ≤ length (now area)) × (first ≤ count) × (count ≤ mostSteps) × (mostSteps * stepBytes ≤ length (now others)) × (name < nameCount) ⌝ }
-    ensures { λ r. ⌜ GrowsNames (now (arities .entry)) (now (free .entry)) apart second taken (now (area .entry)) at (now (others .entry)) first count (name ∷ []) capacity (now (work .entry)) known r (now (work .exit)) ⌝ }
+    requires { ⌜ CanAsk asked (length (now area)) (length (now others)) (length (now work)) known × (name < nameCount) ⌝ }
+    ensures { λ r. ⌜ NamesAre (now (arities .entry)) (now (free .entry)) apart asked (now (area .entry)) (now (others .entry)) (name ∷ []) (now (work .entry)) known r (now (work .exit)) ⌝ }
 {
-    if !is_received(free, area, at, name) {
+    if !is_received(free, area, asked.at, name) {
         return Growth::Known(known);
     }
-    grow_move(
-        arities,
-        free,
-        apart,
-        second,
-        taken,
-        area,
-        at,
-        others,
-        first,
-        count,
-        name,
-        work,
-        capacity,
-        known,
-    )
+    grow_move(arities, free, apart, asked, area, others, name, work, known)
 }
 
 // Where all names differ (request 2026-02): one move for each name that the step receives.
@@ -308,19 +295,14 @@ fn grow_names(
     arities: &[u8],
     free: &[u8],
     apart: [u8; PAIR_COUNT],
-    second: bool,
-    taken: usize,
+    asked: Asked,
     area: &[u8],
-    at: usize,
     others: &[u8],
-    first: usize,
-    count: usize,
     work: &mut [u8],
-    capacity: usize,
     known: usize,
 ) -> Growth
-    requires { ⌜ (taken < known) × (known ≤ capacity) × (capacity ≤ 4096) × (slotBytes * capacity ≤ length (now work)) × (at + stepBytes ≤ length (now area)) × (first ≤ count) × (count ≤ mostSteps) × (mostSteps * stepBytes ≤ length (now others)) ⌝ }
-    ensures { λ r. ⌜ GrowsNames (now (arities .entry)) (now (free .entry)) apart second taken (now (area .entry)) at (now (others .entry)) first count (namesFrom 0 nameCount) capacity (now (work .entry)) known r (now (work .exit)) ⌝ }
+    requires { ⌜ CanAsk asked (length (now area)) (length (now others)) (length (now work)) known ⌝ }
+    ensures { λ r. ⌜ NamesAre (now (arities .entry)) (now (free .entry)) apart asked (now (area .entry)) (now (others .entry)) (namesFrom 0 nameCount) (now (work .entry)) known r (now (work .exit)) ⌝ }
 {
     let mut so_far = known;
     let mut name = 0;
@@ -329,16 +311,11 @@ fn grow_names(
             arities,
             free,
             apart,
-            second,
-            taken,
+            asked,
             area,
-            at,
             others,
-            first,
-            count,
             name,
             work,
-            capacity,
             so_far,
         );
         let Growth::Known(n) = growth else {
@@ -383,37 +360,26 @@ pub fn grow_step(
             return Growth::Known(known);
         }
     }
+    let asked = Asked {
+        second,
+        taken,
+        at,
+        first,
+        count,
+        capacity,
+    };
     if differ {
-        return grow_names(
-            arities,
-            free,
-            apart,
-            second,
-            taken,
-            area,
-            at,
-            others,
-            first,
-            count,
-            work,
-            capacity,
-            known,
-        );
+        return grow_names(arities, free, apart, asked, area, others, work, known);
     }
     grow_move(
         arities,
         free,
         apart,
-        second,
-        taken,
+        asked,
         area,
-        at,
         others,
-        first,
-        count,
         NAME_COUNT,
         work,
-        capacity,
         known,
     )
 }

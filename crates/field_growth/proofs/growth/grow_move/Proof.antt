@@ -15,14 +15,21 @@ same-length : tie.Need-same-length
 same-length c = search needs
 
 returns : tie.Need-returns
-returns c = move-noted _ _ _ _ _ _ _ _ _ _ _ _ _ _ (c .before .before .before .before .before .before .before .before .before .before .before .before .before .before .before .before .pre .0) (c .before .before .before .before .before .before .before .before .before .grow-answers .result) _ (omega (arith, c .before .before .before .before .before .before .before .before .before .before .before .before .before .before .before .before .pre .0, c .before .before .before .before .before .before .before .before .before .before .before .before .before .before .before .before .pre .1))
-    (c .before .before .before .before .before .before .before .before .before .grow-answers .ensures) (c .before .before .before .before .if2 .taken) _ (c .before .before .note-sole .ensures)
+returns c =
+    let c4 = c .before .before .before .before in
+    let c9 = c4 .before .before .before .before .before in
+    let c16 = c9 .before .before .before .before .before .before .before in
+    move-noted _ _ _ _ _ _ _ _ _ _ _ _ _ _ (c16 .pre .waits) (c9 .grow-answers .result) _ (omega (arith, c16 .pre .waits, c16 .pre .few))
+    (c9 .grow-answers .ensures) (c4 .if2 .taken) _ (c .before .before .note-sole .ensures)
 
 same-length-2 : tie.Need-same-length-2
 same-length-2 c = search needs
 
 returns-2 : tie.Need-returns-2
-returns-2 c = move-answered _ _ _ _ _ _ _ _ _ _ _ _ _ _ (c .before .before .before .before .before .before .before .before .before .before .before .before .pre .0) _ _ (c .before .before .before .before .before .grow-answers .ensures .grown)
+returns-2 c =
+    let c5 = c .before .before .before .before .before in
+    let c12 = c5 .before .before .before .before .before .before .before in
+    move-answered _ _ _ _ _ _ _ _ _ _ _ _ _ _ (c12 .pre .waits) _ _ (c5 .grow-answers .ensures .grown)
 
 mul-work : tie.Need-mul-work
 mul-work c = search needs
@@ -37,7 +44,11 @@ same-length-3 : tie.Need-same-length-3
 same-length-3 c = search needs
 
 returns-3 : tie.Need-returns-3
-returns-3 c = move-gone _ _ _ _ _ _ _ _ _ _ _ _ _ _ (c .before .before .before .before .before .before .before .before .before .before .pre .0) (c .before .before .before .grow-answers .result) _ (c .if1 .left) (omega arith) (omega arith) (c .before .before .before .grow-answers .ensures)
+returns-3 c =
+    let c3 = c .before .before .before in
+    let c10 = c3 .before .before .before .before .before .before .before in
+    move-gone _ _ _ _ _ _ _ _ _ _ _ _ _ _ (c10 .pre .waits) (c3 .grow-answers .result) _ (c .if1 .left) (omega arith) (omega arith)
+    (c3 .grow-answers .ensures)
 
 pub grow-move-spec : {M : Type 1} → statement M
 grow-move-spec =

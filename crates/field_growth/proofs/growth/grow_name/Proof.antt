@@ -10,7 +10,10 @@ is-received-requires : tie.Need-is-received-requires
 is-received-requires c κs = search needs
 
 returns : tie.Need-returns
-returns c = name-none _ _ _ _ _ _ _ _ _ _ _ _ _ _ (omega arith) (rw (not-true (c .before .is-received .result) (c .if1 .taken)) at (c .before .is-received .ensures))
+returns c =
+    let c1 = c .before in
+    let c7 = c1 .before .before .before .before .before .before in
+    name-none _ _ _ _ _ _ _ _ _ _ _ _ _ _ (c7 .pre .0 .few) (rw (not-true (c1 .is-received .result) (c .if1 .taken)) at (c1 .is-received .ensures))
 
 grow-move-requires : tie.Need-grow-move-requires
 grow-move-requires c κs = search needs
@@ -19,7 +22,11 @@ same-length : tie.Need-same-length
 same-length c = search needs
 
 returns-2 : tie.Need-returns-2
-returns-2 c = name-received _ _ _ _ _ _ _ _ _ _ _ _ _ _ (rw (not-false (c .before .before .before .before .before .is-received .result) (c .before .before .before .before .if1 .left)) at (c .before .before .before .before .before .is-received .ensures)) _ _ (c .before .before .grow-move .ensures)
+returns-2 c =
+    let c4 = c .before .before .before .before in
+    let c5 = c4 .before in
+    name-received _ _ _ _ _ _ _ _ _ _ _ _ _ _ (rw (not-false (c5 .is-received .result) (c4 .if1 .left)) at (c5 .is-received .ensures)) _ _
+    (c .before .before .grow-move .ensures)
 
 pub grow-name-spec : {M : Type 1} → statement M
 grow-name-spec =

@@ -10,15 +10,22 @@ use Rattle.field_growth.proofs.growth.grow_names.Statement.{statement}
 use Rattle.field_growth.proofs.growth.grow_names.Tie as tie
 
 abbrev Inv-loop : tie.InvT-loop
-Inv-loop arities free apart second taken area at others first count work₀ capacity known so-far₀ name₀ work so-far name =
-    (name ≤ nameCount) × (length work ≡ length work₀) × (known ≤ so-far) × (so-far ≤ capacity)
-    × Names arities free apart second taken area at others first count capacity work₀ known work so-far name
+Inv-loop arities free apart asked area others work₀ known so-far₀ name₀ work so-far name =
+    (name ≤ nameCount) × (length work ≡ length work₀) × (known ≤ so-far) × (so-far ≤ asked .capacity)
+    × Names arities free apart (asked .second) (asked .taken) area (asked .at) others (asked .first) (asked .count) (asked .capacity) work₀ known work so-far name
 
 abbrev μ-loop : tie.MeasureT-loop
-μ-loop arities free apart second taken area at others first count work₀ capacity known so-far₀ name₀ work so-far name = nameCount - name
+μ-loop arities free apart asked area others work₀ known so-far₀ name₀ work so-far name = nameCount - name
 
 loop-holds : tie.Need-loop-holds Inv-loop μ-loop
-loop-holds c = (search needs, search needs, search needs, search needs, names-start _ _ _ _ _ _ _ _ _ _ _ _ _ (omega arith))
+loop-holds c = (
+  search needs,
+  search needs,
+  search needs,
+  search needs,
+  names-start _ _ _ _ _ _ _ _ _ _ _ _ _
+      (c .before .before .before .before .before .pre .few),
+)
 
 grow-name-requires : tie.Need-grow-name-requires Inv-loop μ-loop
 grow-name-requires c κs = search needs
@@ -33,7 +40,13 @@ same-length : tie.Need-same-length Inv-loop μ-loop
 same-length c = search needs
 
 returns : tie.Need-returns Inv-loop μ-loop
-returns c = names-full _ _ _ _ _ _ _ _ _ _ _ _ _ (omega arith) _ _ _ _ (c .before .before .before .before .before .before .before .loop .inv .4) (c .before .before .before .before .before .before .loop-test .taken) (rw (c .enum-told .given .1) at (c .before .before .before .before .grow-name .ensures))
+returns c =
+    let c4 = c .before .before .before .before in
+    let c6 = c4 .before .before in
+    let c7 = c6 .before in
+    let c13 = c7 .before .before .before .before .before .before in
+    names-full _ _ _ _ _ _ _ _ _ _ _ _ _ (c13 .pre .waits) _ _ _ _ (c7 .loop .inv .4) (c6 .loop-test .taken) (rw (c .enum-told .given .1) at
+    (c4 .grow-name .ensures))
 
 add-name : tie.Need-add-name Inv-loop μ-loop
 add-name c = search needs
@@ -42,13 +55,16 @@ loop-less : tie.Need-loop-less Inv-loop μ-loop
 loop-less c = search needs
 
 loop-again : tie.Need-loop-again Inv-loop μ-loop
-loop-again c = let g = rw (c .before .growth .given .1) at (c .before .before .before .before .before .grow-name .ensures) in
-    let b = g .grows .within _ refl in (
+loop-again c =
+    let g = rw (c .before .growth .given .1) at (c .before .before .before .before .before .grow-name .ensures) in let b = g .grows .within _ refl in (
       search needs,
       search needs,
-      omega arith,
+      omega (arith, b .0, c .before .before .before .before .before .before .before .before .loop .inv .2),
       b .1,
-      names-next _ _ _ _ _ _ _ _ _ _ _ _ _ (omega arith) _ _ _ _ _ (c .before .before .before .before .before .before .before .before .loop .inv .4) (c .before .before .before .before .before .before .before .loop-test .taken) g,
+      names-next _ _ _ _ _ _ _ _ _ _ _ _ _
+          (c .before .before .before .before .before .before .before .before .before .before .before .before .before .before .pre .waits) _ _ _ _ _
+          (c .before .before .before .before .before .before .before .before .loop .inv .4)
+          (c .before .before .before .before .before .before .before .loop-test .taken) g,
     )
 
 same-length-2 : tie.Need-same-length-2 Inv-loop μ-loop

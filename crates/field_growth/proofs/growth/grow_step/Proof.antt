@@ -10,7 +10,9 @@ allowed-requires : tie.Need-allowed-requires
 allowed-requires c κs = search needs
 
 returns : tie.Need-returns
-returns c = step-none _ _ _ _ _ _ _ _ _ _ _ _ _ (omega arith) (rw (not-true (c .before .allowed .result) (c .if1 .taken)) at (c .before .allowed .ensures))
+returns c =
+    let c1 = c .before in
+    step-none _ _ _ _ _ _ _ _ _ _ _ _ _ (omega arith) (rw (not-true (c1 .allowed .result) (c .if1 .taken)) at (c1 .allowed .ensures))
 
 first-answer-requires : tie.Need-first-answer-requires
 first-answer-requires c κs = search needs
@@ -28,13 +30,25 @@ same-length : tie.Need-same-length
 same-length c = search needs
 
 returns-2 : tie.Need-returns-2
-returns-2 c = step-struck _ _ _ _ _ _ _ _ _ _ _ _ _ (rw (not-false (c .before .before .before .allowed .result) (c .before .before .if1 .left)) at (c .before .before .before .allowed .ensures)) _ (c .before .first-answer .ensures) (c .before .before .before .before .before .before .before .before .before .before .pre .0) (c .if2 .taken) (omega arith) (omega arith)
+returns-2 c =
+    let c3 = c .before .before .before in
+    let c10 = c3 .before .before .before .before .before .before .before in
+    step-struck _ _ _ _ _ _ _ _ _ _ _ _ _ (rw (not-false (c3 .allowed .result) (c .before .before .if1 .left)) at (c3 .allowed .ensures)) _
+    (c .before .first-answer .ensures) (c10 .pre .0) (c .if2 .taken) (omega arith) (omega arith)
 
 trivial-requires : tie.Need-trivial-requires
 trivial-requires c κs = search needs
 
 returns-3 : tie.Need-returns-3
-returns-3 c = step-mirrored _ _ _ _ _ _ _ _ _ _ _ _ _ (rw (not-false (c .before .before .before .before .before .before .allowed .result) (c .before .before .before .before .before .if1 .left)) at (c .before .before .before .before .before .before .allowed .ensures)) _ (c .before .before .before .before .first-answer .ensures) (c .before .before .before .before .before .before .before .before .before .before .before .before .before .pre .0) (c .before .before .before .if2 .left) (omega arith) (c .before .before .if3 .taken) _ (c .before .trivial .ensures) (c .if4 .taken)
+returns-3 c =
+    let c3 = c .before .before .before in
+    let c4 = c3 .before in
+    let c5 = c4 .before in
+    let c6 = c5 .before in
+    let c13 = c6 .before .before .before .before .before .before .before in
+    step-mirrored _ _ _ _ _ _ _ _ _ _ _ _ _ (rw (not-false (c6 .allowed .result) (c5 .if1 .left)) at (c6 .allowed .ensures)) _
+    (c4 .first-answer .ensures) (c13 .pre .0) (c3 .if2 .left) (omega arith) (c .before .before .if3 .taken) _ (c .before .trivial .ensures)
+    (c .if4 .taken)
 
 grow-names-requires : tie.Need-grow-names-requires
 grow-names-requires c κs = search needs
@@ -43,7 +57,15 @@ same-length-2 : tie.Need-same-length-2
 same-length-2 c = search needs
 
 returns-4 : tie.Need-returns-4
-returns-4 c = step-named _ _ _ _ _ _ _ _ _ _ _ _ _ (rw (not-false (c .before .before .before .before .before .before .before .before .before .allowed .result) (c .before .before .before .before .before .before .before .before .if1 .left)) at (c .before .before .before .before .before .before .before .before .before .allowed .ensures)) _ (c .before .before .before .before .before .before .before .first-answer .ensures) (c .before .before .before .before .before .before .before .before .before .before .before .before .before .before .before .before .pre .0) (c .before .before .before .before .before .before .if2 .left) (c .before .before .before .before .if5 .taken) _ _ (c .before .before .grow-names .ensures)
+returns-4 c =
+    let c4 = c .before .before .before .before in
+    let c6 = c4 .before .before in
+    let c7 = c6 .before in
+    let c8 = c7 .before in
+    let c9 = c8 .before in
+    let c16 = c9 .before .before .before .before .before .before .before in
+    step-named _ _ _ _ _ _ _ _ _ _ _ _ _ (rw (not-false (c9 .allowed .result) (c8 .if1 .left)) at (c9 .allowed .ensures)) _
+    (c7 .first-answer .ensures) (c16 .pre .0) (c6 .if2 .left) (c4 .if5 .taken) _ _ (c .before .before .grow-names .ensures)
 
 grow-move-requires : tie.Need-grow-move-requires
 grow-move-requires c κs = search needs
@@ -52,7 +74,15 @@ same-length-3 : tie.Need-same-length-3
 same-length-3 c = search needs
 
 returns-5 : tie.Need-returns-5
-returns-5 c = step-open _ _ _ _ _ _ _ _ _ _ _ _ _ (rw (not-false (c .before .before .before .before .before .before .before .before .before .allowed .result) (c .before .before .before .before .before .before .before .before .if1 .left)) at (c .before .before .before .before .before .before .before .before .before .allowed .ensures)) _ (c .before .before .before .before .before .before .before .first-answer .ensures) (c .before .before .before .before .before .before .before .before .before .before .before .before .before .before .before .before .pre .0) (c .before .before .before .before .before .before .if2 .left) (c .before .before .before .before .if5 .left) _ _ (c .before .before .grow-move .ensures)
+returns-5 c =
+    let c4 = c .before .before .before .before in
+    let c6 = c4 .before .before in
+    let c7 = c6 .before in
+    let c8 = c7 .before in
+    let c9 = c8 .before in
+    let c16 = c9 .before .before .before .before .before .before .before in
+    step-open _ _ _ _ _ _ _ _ _ _ _ _ _ (rw (not-false (c9 .allowed .result) (c8 .if1 .left)) at (c9 .allowed .ensures)) _ (c7 .first-answer .ensures)
+    (c16 .pre .0) (c6 .if2 .left) (c4 .if5 .left) _ _ (c .before .before .grow-move .ensures)
 
 pub grow-step-spec : {M : Type 1} → statement M
 grow-step-spec =

@@ -23,7 +23,13 @@ same-length : tie.Need-same-length
 same-length c = search needs
 
 returns : tie.Need-returns
-returns c = received-second _ _ _ _ _ _ _ _ _ (c .before .before .before .before .before .before .before .before .before .before .before .before .before .before .pre .2) (c .before .before .before .before .before .before .before .before .before .get .ensures) (c .before .before .before .before .before .before .before .before .if1 .taken) _ _ (c .before .before .before .before .before .before .receive-result .ensures) (c .before .before .receive-result2 .ensures)
+returns c =
+    let c6 = c .before .before .before .before .before .before in
+    let c8 = c6 .before .before in
+    let c9 = c8 .before in
+    let c14 = c9 .before .before .before .before .before in
+    received-second _ _ _ _ _ _ _ _ _ (c14 .pre .2) (c9 .get .ensures) (c8 .if1 .taken) _ _ (c6 .receive-result .ensures)
+    (c .before .before .receive-result2 .ensures)
 
 receive-result-requires-3 : tie.Need-receive-result-requires-3
 receive-result-requires-3 c κs = search needs
@@ -35,7 +41,13 @@ same-length-2 : tie.Need-same-length-2
 same-length-2 c = search needs
 
 returns-2 : tie.Need-returns-2
-returns-2 c = received-first _ _ _ _ _ _ _ _ _ (c .before .before .before .before .before .before .before .before .before .before .before .before .before .before .pre .2) (c .before .before .before .before .before .before .before .before .before .get .ensures) (c .before .before .before .before .before .before .before .before .if1 .left) _ _ (c .before .before .before .before .before .before .receive-result3 .ensures) (c .before .before .receive-result4 .ensures)
+returns-2 c =
+    let c6 = c .before .before .before .before .before .before in
+    let c8 = c6 .before .before in
+    let c9 = c8 .before in
+    let c14 = c9 .before .before .before .before .before in
+    received-first _ _ _ _ _ _ _ _ _ (c14 .pre .2) (c9 .get .ensures) (c8 .if1 .left) _ _ (c6 .receive-result3 .ensures)
+    (c .before .before .receive-result4 .ensures)
 
 pub place-received-spec : {M : Type 1} → statement M
 place-received-spec =

@@ -35,7 +35,9 @@ same-length-2 : tie.Need-same-length-2
 same-length-2 c = search needs
 
 returns-2 : tie.Need-returns-2
-returns-2 c = receives-result _ _ _ _ _ _ _ _ (c .before .before .before .before .before .before .before .before .before .copy-result .ensures) (search needs) _ (c .before .before .before .before .before .replacing .ensures) _ _ (c .before .before .rename .ensures)
+returns-2 c =
+    receives-result _ _ _ _ _ _ _ _ (c .before .before .before .before .before .before .before .before .before .copy-result .ensures) (search needs) _
+    (c .before .before .before .before .before .replacing .ensures) _ _ (c .before .before .rename .ensures)
 
 pub receive-result-spec : {M : Type 1} → statement M
 receive-result-spec =

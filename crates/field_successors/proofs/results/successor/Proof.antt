@@ -17,7 +17,9 @@ complete-requires : tie.Need-complete-requires
 complete-requires c κs = search needs
 
 returns : tie.Need-returns
-returns c = successor-received _ _ _ _ _ _ _ _ _ _ _ _ (c .before .before .before .before .before .before .if1 .taken) (search needs) (c .before .before .before .before .place-received .ensures) (c .before .complete .ensures)
+returns c =
+    successor-received _ _ _ _ _ _ _ _ _ _ _ _ (c .before .before .before .before .before .before .if1 .taken) (search needs)
+    (c .before .before .before .before .place-received .ensures) (c .before .complete .ensures)
 
 slice-aggregate-place-results : tie.Need-slice-aggregate-place-results
 slice-aggregate-place-results c = search needs
@@ -35,7 +37,9 @@ complete-requires-2 : tie.Need-complete-requires-2
 complete-requires-2 c κs = search needs
 
 returns-2 : tie.Need-returns-2
-returns-2 c = successor-is _ _ _ _ _ _ _ _ _ _ _ _ _ (c .before .before .before .before .before .before .before .if1 .left) (search needs) (c .before .before .before .before .before .place-results .ensures) (c .before .before .before .updated .ensures) (c .before .complete2 .ensures)
+returns-2 c =
+    successor-is _ _ _ _ _ _ _ _ _ _ _ _ _ (c .before .before .before .before .before .before .before .if1 .left) (search needs)
+    (c .before .before .before .before .before .place-results .ensures) (c .before .before .before .updated .ensures) (c .before .complete2 .ensures)
 
 pub successor-spec : {M : Type 1} → statement M
 successor-spec =
