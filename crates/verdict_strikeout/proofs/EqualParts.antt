@@ -81,7 +81,7 @@ module _ (Δ : Defs) (S : Setting) where
 
 -- Where all names differ: one side of equal parts, whose steps are ps.
 module _ (Δ : Defs) (S : Setting) (arities : List ℕ) (x : ℕ) (P : Term) (scope : InScope (S .names) arities 0 P) (new : ¬ Free x P) (ps : List ListedStep)
-    (lists : (s : ListedStep) → (s ∈ ps) ↔ Derived Δ (S .names) x P s) (make : Term → Term → Pairs → Situation) (same : (A : Term) → EqualParts (make A A []))
+    (lists : (s : ListedStep) → (s ∈ ps) ↔ Derived (S .form) Δ (S .names) x P s) (make : Term → Term → Pairs → Situation) (same : (A : Term) → EqualParts (make A A []))
     (F : List ℕ) (D : Pairs) (k : Kind) where
   side-equal : (m : List (List Situation)) → m ∈ namedMoves (S .names) make F D k ps ps → SomeAnswer EqualParts m
   unfolding allowed led

@@ -109,7 +109,7 @@ input-object x (input a y) b e = b y (inl refl)
 input-object x (output a c) b e = absurd (omega arith)
 input-object x (newOutput a y) b e = absurd (omega arith)
 
-module _ (Δ : Defs) (names x : ℕ) (P : Term) (s : ListedStep) (d : Derived Δ names x P s) where
+module _ (form : Term → Term) (Δ : Defs) (names x : ℕ) (P : Term) (s : ListedStep) (d : Derived form Δ names x P s) where
   derived-object : s .kind ≡ 1 → s .object ≡ x
   unfolding listedAs
   derived-object e = ap (λ u. u .object) (d .listed) ∙ input-object x (d .action) (d .binds) (sym (ap (λ u. u .kind) (d .listed)) ∙ e)
@@ -181,8 +181,8 @@ module _ (question : List ℕ) (q : Question) (accepted : checkOf question ≡ r
             (m, subst (λ ds. m ∈ ds) (sym are) (∈-right m (firstDemands Δ T (q .arities) s ms lists k) (secondDemands Δ T (q .arities) s ms lists k) a), b)
 
     small : (r : ListedStep) → (r ∈ lists .firsts) ⊎ (r ∈ lists .seconds) → r .kind ≡ 1 → r .object < T .names
-    small r (inl i) e = let o = derived-object Δ (T .names) (fresh Δ T s) (s .first) r (lists .first-steps r .0 i) e in omega (arith, o, lists .receives r (inl i) e)
-    small r (inr i) e = let o = derived-object Δ (T .names) (fresh Δ T s) (s .second) r (lists .second-steps r .0 i) e in omega (arith, o, lists .receives r (inr i) e)
+    small r (inl i) e = let o = derived-object (T .form) Δ (T .names) (fresh Δ T s) (s .first) r (lists .first-steps r .0 i) e in omega (arith, o, lists .receives r (inl i) e)
+    small r (inr i) e = let o = derived-object (T .form) Δ (T .names) (fresh Δ T s) (s .second) r (lists .second-steps r .0 i) e in omega (arith, o, lists .receives r (inr i) e)
 
     named-answer : unanswered ms ≡ false → (m : List (List Situation)) → m ∈ namedDemands k T s → (l : List Situation) × (l ∈ m)
     named-answer u m i =
