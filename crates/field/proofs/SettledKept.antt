@@ -1,25 +1,25 @@
 -- A field within the limits stays within them, and grows no larger, where results and the parts of the start are brought into a form (document 02,
 -- request 2026-04): the field of formed situations is the image of the field of the situations as they are. Assumes nothing.
-use mathlib.Core.List.{List, [], _∷_, _++_, map}
-use mathlib.Core.Logic.{_⊎_, inl, inr, _↔_}
+use mathlib.Core.List.{List, [], _∷_, map}
+use mathlib.Core.Logic.{_⊎_, inl, inr}
 use mathlib.Core.Path.{_≡_, refl, sym, _∙_, ap, ap₂, subst}
 use native.Mathlib.Omega.{arith}
 use Prim.Native.Nat.{ℕ, _<_, _≤_}
 use lib.ListN.{length, length-map}
 use Rattle.calculus.specs.Cond.{Cond, Pairs, cls}
 use Rattle.calculus.specs.Definitions.{Defs}
-use Rattle.calculus.specs.Free.{In, Free}
+use Rattle.calculus.specs.Free.{Free}
 use Rattle.calculus.specs.OpenBisimulation.{update}
-use Rattle.calculus.specs.Published.{Action, input, boundNames, Transition}
+use Rattle.calculus.specs.Published.{Action, input, Transition}
 use Rattle.calculus.specs.Term.{Term, ren, put}
 use Rattle.terms.specs.Encoding.{encode}
 use Rattle.steps.specs.Derived.{Derived}
 use Rattle.steps.specs.Forms.{asItIs}
 use Rattle.steps.specs.Listed.{ListedStep, listedAs, resultBytes}
-use Rattle.steps.specs.Lists.{_∈_, All, Distinct}
+use Rattle.steps.specs.Lists.{All, Distinct}
 use Rattle.steps.proofs.FormLaws.{Form, SoMoves, free-form}
 use Rattle.steps.proofs.Membership.{∈-map, ∈-all, all-∈, distinct-length}
-use Rattle.field.specs.Field.{fresh, Move, Matches, Successor, first-moves, second-moves, both-do, both-receive, PartPast, too-many, too-long, no-name, Past, InField, at-start, successor, PastLimit, FieldSize}
+use Rattle.field.specs.Field.{fresh, Move, Successor, first-moves, second-moves, both-do, both-receive, PartPast, too-many, too-long, no-name, Past, InField, at-start, successor, PastLimit, FieldSize}
 use Rattle.field.specs.Setting.{Setting}
 use Rattle.field.specs.Situation.{Situation, situation}
 use Rattle.field.proofs.FormedParts.{new-formed, formSituation, situation-formed, update-formed, formed-update}

@@ -2,7 +2,7 @@
 -- Assumes nothing.
 use mathlib.Core.Bool.{Bool, true, false, cond}
 use mathlib.Core.List.{List}
-use mathlib.Core.Path.{_≡_, refl, sym, _∙_, subst}
+use mathlib.Core.Path.{_≡_, refl, sym, subst}
 use native.Mathlib.Omega.{arith}
 use Prim.Native.Nat.{ℕ, _≤_}
 use lib.ListN.{length}
@@ -14,7 +14,7 @@ use Rattle.calculus.specs.OpenBisimulation.{Related}
 use Rattle.calculus.specs.Published.{Action, Transition}
 use Rattle.calculus.specs.Term.{Term, nil, tau, inp, out, bout, mat, sum, par, res, call, ren}
 use Rattle.calculus.specs.Tidy.{outside, restrictUsed, tidy}
-use Rattle.calculus.proofs.Tidying.{of-free-tidy, tidy-ren, tidy-tidy}
+use Rattle.calculus.proofs.Tidying.{tidy-ren, tidy-tidy}
 use Rattle.calculus.proofs.TidySteps.{related-same-tidied}
 use Rattle.calculus.proofs.TidyTransitions.{alike-free, also-moves}
 use Rattle.terms.specs.Encoding.{encode, InScope}

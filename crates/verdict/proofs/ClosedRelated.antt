@@ -1,22 +1,22 @@
 -- A set of proper situations in which every permitted move of either side has an answer that leads back into the set: terms whose forms are the
 -- parts of a member are related. The soundness of the verdict is the instance of the survivors (Soundness). Assumes nothing.
 use mathlib.Core.Path.{_≡_, sym, _∙_, ap, subst, subst₂}
-use mathlib.Core.List.{List, _++_}
+use mathlib.Core.List.{List}
 use Prim.Native.Nat.{ℕ}
 use Rattle.calculus.specs.Term.{Term, ren}
 use Rattle.calculus.specs.Cond.{Cond, Pairs, cls}
 use Rattle.calculus.specs.Distinction.{Apart, Resp}
-use Rattle.calculus.specs.Free.{In, fn}
+use Rattle.calculus.specs.Free.{In}
 use Rattle.calculus.specs.Definitions.{Defs}
 use Rattle.calculus.specs.OpenBisimulation.{Rel, flip, update, Answered, Related}
-use Rattle.calculus.specs.Published.{Action, boundNames, extruded, Transition}
+use Rattle.calculus.specs.Published.{Action, boundNames, Transition}
 use Rattle.calculus.proofs.Renaming.{ren-id}
-use Rattle.calculus.proofs.UpToRenaming.{Either, Cl}
+use Rattle.calculus.proofs.UpToRenaming.{Cl}
 use Rattle.calculus.proofs.PublishedBisimulation.{AwayFrom, SearchBisimulation}
 use Rattle.calculus.proofs.Theorems.{related-any-fresh}
 use Rattle.steps.proofs.FormLaws.{Form, SoMoves, form-free}
 use Rattle.field.specs.Setting.{Setting}
-use Rattle.field.specs.Situation.{Situation, Proper, situation, newName}
+use Rattle.field.specs.Situation.{Situation, Proper, situation}
 use Rattle.field.specs.Field.{fresh, Move}
 use Rattle.field.proofs.Link.{firstMoves, secondMoves, ResultOf}
 use Rattle.field.proofs.FormedParts.{update-formed}

@@ -15,7 +15,7 @@ use Rattle.steps.proofs.FormLaws.{Form, as-it-is, tidied-form}
 use Rattle.steps.proofs.QuestionDefinitions.{definitions}
 use Rattle.field.specs.Field.{PastLimit, FieldSize}
 use Rattle.field.specs.Setting.{Setting, settingIn}
-use Rattle.field.specs.Situation.{Situation, situation, startIn}
+use Rattle.field.specs.Situation.{startIn}
 use Rattle.field.proofs.FormedParts.{formSituation, situation-formed}
 use Rattle.field.proofs.SettledKept.{limits-kept, no-larger}
 use Rattle.verdict.specs.Entries.{Defines}
