@@ -349,16 +349,16 @@ scan-scan-requires-5 t c κs =
     c .before .before .before .before .before .before .before .before .before .before .before .before .before .before .before .before .before .before .before .before .before .before .before .before .args
     in let p =
     c .before .before .before .before .before .before .before .before .before .before .before .before .before .before .before .before .before .before .before .before .before .before .before .before .pre
-    in let on = middle-on (a .question .now) (a .src .now) (a .calls) (a .tally .now) (p .1 .1) (a .at)
+    in let on = middle-on (a .question .now) (a .src .now) (a .scope .calls) (a .tally .now) (p .1 .1) (a .scope .at)
     (c .before .before .before .before .before .before .before .middle-of .result)
     (c .before .before .before .before .before .before .before .middle-of .ensures)
     (c .before .before .before .before .before .before .before .before .before .before .before .before .before .before .before .before .before .if1 .left)
     in (
-      weight-on (a .calls * 113) (length (a .src .now)) (a .at) (c .before .before .before .before .before .before .before .middle-of .result) t 3
+      weight-on (a .scope .calls * 113) (length (a .src .now)) (a .scope .at) (c .before .before .before .before .before .before .before .middle-of .result) t 3
           (p .0) (on)
           (c .before .before .before .before .before .before .before .before .before .before .before .before .before .before .before .before .before .if1 .left),
       (
-        room-on (a .src .now) (a .at) (c .before .before .before .before .before .before .before .middle-of .result) (a .inner) (a .depth) (a .calls)
+        room-on (a .src .now) (a .scope .at) (c .before .before .before .before .before .before .before .middle-of .result) (a .scope .inner) (a .scope .depth) (a .scope .calls)
             (p .1 .0) (omega arith),
         p .1 .1,
         p .1 .2,
