@@ -29,6 +29,15 @@ use terms_bytes::tags::PARALLEL;
 use terms_bytes::tags::RESTRICTION;
 use terms_bytes::tags::SILENT;
 
+// A term of the bytes at hand: where it stands, how many of their restrictions are around it and how many in all, and how many calls may be opened
+// one within the other.
+pub struct Scope {
+    pub at: usize,
+    pub inner: usize,
+    pub depth: usize,
+    pub calls: usize,
+}
+
 // The slot of the name byte `b` beneath `inner` restrictions of the bytes at hand, `depth` in all.
 pub fn slot(b: u8, args: &[u8], inner: usize, depth: usize) -> u8
     requires { ⌜ (inner ≤ depth) × (nameCount + depth ≤ slotCount) ⌝ }
@@ -207,73 +216,60 @@ fn side_of(src: &[u8], tally: &[u32], at: usize, i: usize, silent: bool) -> Side
     single(b, n)
 }
 
-// The communications of the two sides of the parallel at `at`: their numbers are those of the left side's visible candidates times the number
-// of the right side's, and those.
+// The communications of the two sides of a parallel: their numbers are those of the left side's visible candidates times the number of the right
+// side's, and those.
 fn nth_meeting(
     question: &[u8],
     bodies: &[u32],
     src: &[u8],
     tally: &[u32],
-    at: usize,
+    scope: Scope,
     middle: usize,
     i: usize,
     args: &[u8],
-    inner: usize,
-    depth: usize,
-    calls: usize,
 ) -> Label
-    requires { ⌜ (at < length (now src)) × (at < middle) × Within (now src) at inner depth calls × TallyIs (now question) (now src) calls (now tally) × BodiesTallied (now question) (now bodies) ⌝ }
-    ensures { λ r. ⌜ MeetingIs (now (question .entry)) (now (src .entry)) at middle i (now (args .entry)) inner depth calls r ⌝ }
+    requires { ⌜ (scope .at < length (now src)) × (scope .at < middle) × Within (now src) (scope .at) (scope .inner) (scope .depth) (scope .calls) × TallyIs (now question) (now src) (scope .calls) (now tally) × BodiesTallied (now question) (now bodies) ⌝ }
+    ensures { λ r. ⌜ MeetingIs (now (question .entry)) (now (src .entry)) (scope .at) middle i (now (args .entry)) (scope .inner) (scope .depth) (scope .calls) r ⌝ }
 {
     let n = visible_at(tally, middle);
     if n == 0 {
         return Label::blocked();
     }
-    let p = nth(
-        question,
-        bodies,
-        src,
-        tally,
-        at + 1,
-        i / n,
-        false,
-        args,
-        inner,
-        depth,
-        calls,
-    );
-    let q = nth(
-        question,
-        bodies,
-        src,
-        tally,
-        middle,
-        i % n,
-        false,
-        args,
-        inner,
-        depth,
-        calls,
-    );
+    let at = scope.at;
+    let next = at + 1;
+    let left = Scope {
+        at: next,
+        inner: scope.inner,
+        depth: scope.depth,
+        calls: scope.calls,
+    };
+    let p = nth(question, bodies, src, tally, left, i / n, false, args);
+    let right = Scope {
+        at: middle,
+        inner: scope.inner,
+        depth: scope.depth,
+        calls: scope.calls,
+    };
+    let q = nth(question, bodies, src, tally, right, i % n, false, args);
     communication(p, q)
 }
 
-// The call at `at`: the candidates of the body, while calls are left to open.
+// A call: the candidates of the body, while calls are left to open.
 fn nth_call(
     question: &[u8],
     bodies: &[u32],
     src: &[u8],
-    at: usize,
+    scope: Scope,
     i: usize,
     silent: bool,
     args: &[u8],
-    inner: usize,
-    depth: usize,
-    calls: usize,
 ) -> Label
-    requires { ⌜ (at < length (now src)) × (8 < getD (now src) at 0) × Within (now src) at inner depth calls × BodiesTallied (now question) (now bodies) ⌝ }
-    ensures { λ r. ⌜ NthIs (now (question .entry)) (now (src .entry)) at i silent (now (args .entry)) inner depth calls r ⌝ }
+    requires { ⌜ (scope .at < length (now src)) × (8 < getD (now src) (scope .at) 0) × Within (now src) (scope .at) (scope .inner) (scope .depth) (scope .calls) × BodiesTallied (now question) (now bodies) ⌝ }
+    ensures { λ r. ⌜ NthIs (now (question .entry)) (now (src .entry)) (scope .at) i silent (now (args .entry)) (scope .inner) (scope .depth) (scope .calls) r ⌝ }
 {
+    let at = scope.at;
+    let depth = scope.depth;
+    let calls = scope.calls;
     let o = call_at(question, bodies, src, at, calls);
     if !o.allowed {
         return Label::blocked();
@@ -281,60 +277,48 @@ fn nth_call(
     if src.len() < o.end {
         return Label::blocked();
     }
-    let given = arguments(src, at + 2, o.arity, args, inner, depth);
+    let given = arguments(src, at + 2, o.arity, args, scope.inner, depth);
     let body = body_at(question, o.place);
     let within = body_tally(bodies, o.definition);
-    nth(
-        question,
-        bodies,
-        body,
-        within,
-        0,
-        i,
-        silent,
-        &given,
-        0,
+    let left = calls - 1;
+    let inside = Scope {
+        at: 0,
+        inner: 0,
         depth,
-        calls - 1,
-    )
+        calls: left,
+    };
+    nth(question, bodies, body, within, inside, i, silent, &given)
 }
 
-// The i-th candidate, silent or visible, of the term at `at`, beneath `inner` restrictions of these bytes and `depth` in all; `args` has the slots of
-// the parameters, and so many calls may be opened one within the other.
+// The i-th candidate, silent or visible, of a term; `args` has the slots of the parameters.
 pub fn nth(
     question: &[u8],
     bodies: &[u32],
     src: &[u8],
     tally: &[u32],
-    at: usize,
+    scope: Scope,
     i: usize,
     silent: bool,
     args: &[u8],
-    inner: usize,
-    depth: usize,
-    calls: usize,
 ) -> Label
-    requires { ⌜ Within (now src) at inner depth calls × TallyIs (now question) (now src) calls (now tally) × BodiesTallied (now question) (now bodies) ⌝ }
-    ensures { λ r. ⌜ NthIs (now (question .entry)) (now (src .entry)) at i silent (now (args .entry)) inner depth calls r ⌝ }
+    requires { ⌜ Within (now src) (scope .at) (scope .inner) (scope .depth) (scope .calls) × TallyIs (now question) (now src) (scope .calls) (now tally) × BodiesTallied (now question) (now bodies) ⌝ }
+    ensures { λ r. ⌜ NthIs (now (question .entry)) (now (src .entry)) (scope .at) i silent (now (args .entry)) (scope .inner) (scope .depth) (scope .calls) r ⌝ }
 {
-    let p = side_of(src, tally, at, i, silent);
+    let inner = scope.inner;
+    let depth = scope.depth;
+    let calls = scope.calls;
+    let p = side_of(src, tally, scope.at, i, silent);
     let b = p.at;
     let n = p.number;
     let middle = p.middle;
+    let found = Scope {
+        at: b,
+        inner,
+        depth,
+        calls,
+    };
     if 0 < middle {
-        return nth_meeting(
-            question,
-            bodies,
-            src,
-            tally,
-            b,
-            middle,
-            n,
-            args,
-            inner,
-            depth,
-            calls,
-        );
+        return nth_meeting(question, bodies, src, tally, found, middle, n, args);
     }
     if src.len() <= b {
         return Label::blocked();
@@ -344,32 +328,18 @@ pub fn nth(
         return nth_prefix(src, b, args, inner, depth);
     }
     if RESTRICTION < t {
-        return nth_call(
-            question,
-            bodies,
-            src,
-            b,
-            n,
-            silent,
-            args,
-            inner,
-            depth,
-            calls,
-        );
+        return nth_call(question, bodies, src, found, n, silent, args);
     }
     let k = restrictions_at(src, b);
-    let label = nth(
-        question,
-        bodies,
-        src,
-        tally,
-        b + past(t, k),
-        n,
-        silent,
-        args,
-        inner + k,
-        depth + k,
+    let next = b + past(t, k);
+    let innermost = inner + k;
+    let deeper = depth + k;
+    let beneath = Scope {
+        at: next,
+        inner: innermost,
+        depth: deeper,
         calls,
-    );
+    };
+    let label = nth(question, bodies, src, tally, beneath, n, silent, args);
     outside_of(label, src, b, k, args, inner, depth)
 }

@@ -6,6 +6,7 @@ use crate::put::put_classed;
 use steps_conditions::action::Label;
 use steps_conditions::action::Status;
 use steps_entries::listed::action_bytes;
+use steps_labels::label::Scope;
 use steps_labels::label::nth;
 use steps_splicing::splice::Selection;
 use terms_bytes::limits::GREATEST_ARITY;
@@ -50,18 +51,21 @@ pub fn take_candidate(
 {
     // In a body every call is beneath a prefix (check 11), so that one call is opened.
     let none = [0u8; GREATEST_ARITY];
+    let whole = Scope {
+        at: 0,
+        inner: 0,
+        depth: 0,
+        calls: 1,
+    };
     let label = nth(
         question,
         bodies,
         part,
         tally,
-        0,
+        whole,
         candidate.number,
         candidate.silently,
         &none,
-        0,
-        0,
-        1,
     );
     let status = label.status;
     match status {

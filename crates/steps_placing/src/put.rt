@@ -13,6 +13,7 @@ use steps_entries::listed::ActionBytes;
 use steps_entries::listed::entry_of;
 use steps_entries::listed::insert;
 use steps_passing::names::NAME_SLOTS;
+use steps_plans::plan::Cursor;
 use steps_plans::plan::Task;
 use steps_results::result::write;
 use steps_splicing::locate::Located;
@@ -75,18 +76,12 @@ fn write_result(
         number: candidate.number,
     };
     let mut names = result_names(class);
-    write(
-        question,
-        bodies,
-        part,
-        tally,
-        0,
-        0,
-        task,
-        &mut names,
-        out,
-        0,
-    )
+    let whole = Cursor {
+        at: 0,
+        binders: 0,
+        put: 0,
+    };
+    write(question, bodies, part, tally, whole, task, &mut names, out)
 }
 
 // Puts a step into the list whose result was written up to `n`. A result that is too long passes a limit.

@@ -1,4 +1,4 @@
-// Moved from result.
+// The pieces that a result is written of.
 ghost use mathlib.Core.Path.{_≡_};
 ghost use mathlib.Core.Bool.{false};
 ghost use mathlib.Core.List.{[], _∷_};
@@ -7,6 +7,7 @@ ghost use lib.ListN.{length, getD};
 ghost use Rattle.steps_conditions.specs.Names.{mostBinders, nameSlots, Kept};
 ghost use Rattle.steps_plans.specs.Plans.{opening, StoreIs, TermIs, WriteIs, Room};
 ghost use Rattle.steps_tallies.specs.Tally.{TallyIs, EndsTallied};
+use crate::plan::Cursor;
 use crate::plan::Task;
 use steps_passing::names::renaming;
 use steps_passing::names::unchanged;
@@ -34,21 +35,22 @@ pub fn store(out: &mut [u8], put: usize, b: u8) -> usize
     put + 1
 }
 
-// The term at `at`, renamed by the table. Where each name stays as it is, its bytes are copied.
+// A term, renamed by the table. Where each name stays as it is, its bytes are copied.
 pub fn write_term(
     question: &[u8],
     src: &[u8],
     tally: &[u32],
-    at: usize,
-    binders: usize,
+    cursor: Cursor,
     levels: usize,
     names: &[u8],
     out: &mut [u8],
-    put: usize,
 ) -> usize
-    requires { ⌜ (binders ≤ mostBinders) × Room levels (now out) put × EndsTallied (now question) (now src) (now tally) × (length (now names) ≡ nameSlots) ⌝ }
-    ensures { λ r. ⌜ TermIs (now (question .entry)) (now (src .entry)) at binders (now (names .entry)) levels (now (out .entry)) put r (now (out .exit)) ⌝ }
+    requires { ⌜ (cursor .binders ≤ mostBinders) × Room levels (now out) (cursor .put) × EndsTallied (now question) (now src) (now tally) × (length (now names) ≡ nameSlots) ⌝ }
+    ensures { λ r. ⌜ TermIs (now (question .entry)) (now (src .entry)) (cursor .at) (cursor .binders) (now (names .entry)) levels (now (out .entry)) (cursor .put) r (now (out .exit)) ⌝ }
 {
+    let at = cursor.at;
+    let binders = cursor.binders;
+    let put = cursor.put;
     if src.len() <= at {
         return out.len() + 1;
     }
@@ -70,56 +72,46 @@ pub fn write_prefix(
     question: &[u8],
     src: &[u8],
     tally: &[u32],
-    at: usize,
-    binders: usize,
+    cursor: Cursor,
     task: Task,
     names: &mut [u8],
     out: &mut [u8],
-    put: usize,
 ) -> usize
-    requires { ⌜ (at < length (now src)) × (getD (now src) at 0 < 5) × (binders < mostBinders) × (task .still ≡ false) × (length (now names) ≡ nameSlots) × Room (task .levels) (now out) put × TallyIs (now question) (now src) (task .calls) (now tally) ⌝ }
-    ensures { λ r. ⌜ WriteIs (now (question .entry)) (now (src .entry)) at binders (now (names .entry)) task (now (out .entry)) put r (now (out .exit)) × Kept binders (now (names .entry)) (now (names .exit)) ⌝ }
+    requires { ⌜ (cursor .at < length (now src)) × (getD (now src) (cursor .at) 0 < 5) × (cursor .binders < mostBinders) × (task .still ≡ false) × (length (now names) ≡ nameSlots) × Room (task .levels) (now out) (cursor .put) × TallyIs (now question) (now src) (task .calls) (now tally) ⌝ }
+    ensures { λ r. ⌜ WriteIs (now (question .entry)) (now (src .entry)) (cursor .at) (cursor .binders) (now (names .entry)) task (now (out .entry)) (cursor .put) r (now (out .exit)) × Kept (cursor .binders) (now (names .entry)) (now (names .exit)) ⌝ }
 {
+    let at = cursor.at;
+    let binders = cursor.binders;
+    let put = cursor.put;
     let t = get(src, at);
     let levels = task.levels;
     if t == SILENT {
-        return write_term(
-            question,
-            src,
-            tally,
-            at + 1,
+        let next = at + 1;
+        let rest = Cursor {
+            at: next,
             binders,
-            levels,
-            names,
-            out,
             put,
-        );
+        };
+        return write_term(question, src, tally, rest, levels, names, out);
     }
     if t == OUTPUT {
-        return write_term(
-            question,
-            src,
-            tally,
-            at + 3,
+        let behind = at + 3;
+        let rest = Cursor {
+            at: behind,
             binders,
-            levels,
-            names,
-            out,
             put,
-        );
+        };
+        return write_term(question, src, tally, rest, levels, names, out);
     }
     names[TABLE_NAMES + binders] = task.new;
-    write_term(
-        question,
-        src,
-        tally,
-        at + 2,
-        binders + 1,
-        levels,
-        names,
-        out,
+    let bound = at + 2;
+    let inner = binders + 1;
+    let rest = Cursor {
+        at: bound,
+        binders: inner,
         put,
-    )
+    };
+    write_term(question, src, tally, rest, levels, names, out)
 }
 
 // The bytes before the sides of a parallel.

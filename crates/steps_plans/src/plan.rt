@@ -1,4 +1,4 @@
-// Moved from result.
+// What is to be written of a term, and of the two sides of a parallel.
 ghost use mathlib.Core.Path.{_≡_};
 ghost use mathlib.Core.Bool.{true, false};
 ghost use Prim.Native.Nat.{_+_, _≤_, _<_};
@@ -20,8 +20,6 @@ use steps_tallies::tally::visible_at;
 use terms_bytes::bytes::get;
 use terms_bytes::limits::TABLE_NAMES;
 
-// The component of the parallel at `at` that steps alone, where no name changes; or the parallel itself.
-
 // What is to be written of a term.
 pub struct Task {
     // what the name received or extruded is written as, by its slot
@@ -35,6 +33,13 @@ pub struct Task {
     // or the result of its silent, or visible, candidate of this number
     pub silently: bool,
     pub number: usize,
+}
+
+// Where a term is read and written: its place, the binders around it in the bytes at hand, and the place of its first byte in the area.
+pub struct Cursor {
+    pub at: usize,
+    pub binders: usize,
+    pub put: usize,
 }
 
 // What is to be written of the sides of a parallel: within a new restriction or not, and where the right side stands.
@@ -51,6 +56,7 @@ pub struct Numbers {
     pub right: usize,
 }
 
+// The component of the parallel at `at` that steps alone, where no name changes; or the parallel itself.
 pub fn alone(
     src: &[u8],
     tally: &[u32],

@@ -19,9 +19,9 @@ use steps_plans::pieces::open_pair;
 use steps_plans::pieces::store;
 use steps_plans::pieces::write_prefix;
 use steps_plans::pieces::write_term;
+use steps_plans::plan::Cursor;
 use steps_plans::plan::Task;
 use steps_plans::plan::alone;
-use steps_plans::plan::close;
 use steps_plans::plan::enter;
 use steps_plans::plan::plan_of;
 use steps_plans::plan::restrict;
@@ -44,50 +44,40 @@ fn write_parallel(
     bodies: &[u32],
     src: &[u8],
     tally: &[u32],
-    at: usize,
-    binders: usize,
+    cursor: Cursor,
     task: Task,
     names: &mut [u8],
     out: &mut [u8],
-    put: usize,
 ) -> usize
-    requires { ⌜ (at < length (now src)) × (getD (now src) at 0 ≡ 7) × (task .still ≡ false) × Writing (now question) (now bodies) (now src) (now tally) at binders (now names) task (now out) put ⌝ }
-    ensures { λ r. ⌜ WriteIs (now (question .entry)) (now (src .entry)) at binders (now (names .entry)) task (now (out .entry)) put r (now (out .exit)) × Kept binders (now (names .entry)) (now (names .exit)) ⌝ }
+    requires { ⌜ (cursor .at < length (now src)) × (getD (now src) (cursor .at) 0 ≡ 7) × (task .still ≡ false) × Writing (now question) (now bodies) (now src) (now tally) (cursor .at) (cursor .binders) (now names) task (now out) (cursor .put) ⌝ }
+    ensures { λ r. ⌜ WriteIs (now (question .entry)) (now (src .entry)) (cursor .at) (cursor .binders) (now (names .entry)) task (now (out .entry)) (cursor .put) r (now (out .exit)) × Kept (cursor .binders) (now (names .entry)) (now (names .exit)) ⌝ }
 {
+    let at = cursor.at;
+    let binders = cursor.binders;
+    let put = cursor.put;
     let plan = plan_of(question, bodies, src, tally, at, binders, task, names);
     let e = open_pair(out, put, plan.close);
     if out.len() < e {
         return e;
     }
     let left = plan.left;
-    let m = write(
-        question,
-        bodies,
-        src,
-        tally,
-        at + 1,
+    let next = at + 1;
+    let one = Cursor {
+        at: next,
         binders,
-        left,
-        names,
-        out,
-        e,
-    );
+        put: e,
+    };
+    let m = write(question, bodies, src, tally, one, left, names, out);
     if out.len() < m {
         return m;
     }
     let right = plan.right;
-    write(
-        question,
-        bodies,
-        src,
-        tally,
-        plan.middle,
+    let other = Cursor {
+        at: plan.middle,
         binders,
-        right,
-        names,
-        out,
-        m,
-    )
+        put: m,
+    };
+    write(question, bodies, src, tally, other, right, names, out)
 }
 
 // The parallel at `at`. Where a component of it steps alone and no name changes, what stands beside the component is copied: [Par].
@@ -96,48 +86,43 @@ fn write_beside(
     bodies: &[u32],
     src: &[u8],
     tally: &[u32],
-    at: usize,
-    binders: usize,
+    cursor: Cursor,
     task: Task,
     names: &mut [u8],
     out: &mut [u8],
-    put: usize,
 ) -> usize
-    requires { ⌜ (at < length (now src)) × (getD (now src) at 0 ≡ 7) × (task .still ≡ false) × Writing (now question) (now bodies) (now src) (now tally) at binders (now names) task (now out) put ⌝ }
-    ensures { λ r. ⌜ WriteIs (now (question .entry)) (now (src .entry)) at binders (now (names .entry)) task (now (out .entry)) put r (now (out .exit)) × Kept binders (now (names .entry)) (now (names .exit)) ⌝ }
+    requires { ⌜ (cursor .at < length (now src)) × (getD (now src) (cursor .at) 0 ≡ 7) × (task .still ≡ false) × Writing (now question) (now bodies) (now src) (now tally) (cursor .at) (cursor .binders) (now names) task (now out) (cursor .put) ⌝ }
+    ensures { λ r. ⌜ WriteIs (now (question .entry)) (now (src .entry)) (cursor .at) (cursor .binders) (now (names .entry)) task (now (out .entry)) (cursor .put) r (now (out .exit)) × Kept (cursor .binders) (now (names .entry)) (now (names .exit)) ⌝ }
 {
+    let at = cursor.at;
+    let binders = cursor.binders;
+    let put = cursor.put;
     let c = alone(src, tally, at, binders, task, names);
     let b = c.at;
     if b <= at {
-        return write_parallel(
-            question,
-            bodies,
-            src,
-            tally,
-            at,
-            binders,
-            task,
-            names,
-            out,
-            put,
-        );
+        return write_parallel(question, bodies, src, tally, cursor, task, names, out);
     }
     let n = b - at;
     if !room(out.len(), put, n) {
         return out.len() + 1;
     }
     copy(src, at, n, out, put);
+    let stepping = with_number(task, c.number);
+    let behind = put + n;
+    let component = Cursor {
+        at: b,
+        binders,
+        put: behind,
+    };
     let e = write(
         question,
         bodies,
         src,
         tally,
-        b,
-        binders,
-        with_number(task, c.number),
+        component,
+        stepping,
         names,
         out,
-        put + n,
     );
     copy_behind(src, tally, at, b, out, e)
 }
@@ -179,50 +164,40 @@ fn write_restriction(
     bodies: &[u32],
     src: &[u8],
     tally: &[u32],
-    at: usize,
-    binders: usize,
+    cursor: Cursor,
     task: Task,
     names: &mut [u8],
     out: &mut [u8],
-    put: usize,
 ) -> usize
-    requires { ⌜ (at < length (now src)) × (getD (now src) at 0 ≡ 8) × (task .still ≡ false) × Writing (now question) (now bodies) (now src) (now tally) at binders (now names) task (now out) put ⌝ }
-    ensures { λ r. ⌜ WriteIs (now (question .entry)) (now (src .entry)) at binders (now (names .entry)) task (now (out .entry)) put r (now (out .exit)) × Kept binders (now (names .entry)) (now (names .exit)) ⌝ }
+    requires { ⌜ (cursor .at < length (now src)) × (getD (now src) (cursor .at) 0 ≡ 8) × (task .still ≡ false) × Writing (now question) (now bodies) (now src) (now tally) (cursor .at) (cursor .binders) (now names) task (now out) (cursor .put) ⌝ }
+    ensures { λ r. ⌜ WriteIs (now (question .entry)) (now (src .entry)) (cursor .at) (cursor .binders) (now (names .entry)) task (now (out .entry)) (cursor .put) r (now (out .exit)) × Kept (cursor .binders) (now (names .entry)) (now (names .exit)) ⌝ }
 {
+    let at = cursor.at;
+    let binders = cursor.binders;
+    let put = cursor.put;
     let next = at + 1;
     let inner = binders + 1;
     if extruded(question, bodies, src, tally, at, binders, task) {
         names[TABLE_NAMES + binders] = task.new;
-        return write(
-            question,
-            bodies,
-            src,
-            tally,
-            next,
-            inner,
-            task,
-            names,
-            out,
+        let opened = Cursor {
+            at: next,
+            binders: inner,
             put,
-        );
+        };
+        return write(question, bodies, src, tally, opened, task, names, out);
     }
     let e = store(out, put, RESTRICTION);
     if out.len() < e {
         return e;
     }
     names[TABLE_NAMES + binders] = (TABLE_NAMES + task.levels) as u8;
-    write(
-        question,
-        bodies,
-        src,
-        tally,
-        next,
-        inner,
-        restrict(task),
-        names,
-        out,
-        e,
-    )
+    let beneath = restrict(task);
+    let body = Cursor {
+        at: next,
+        binders: inner,
+        put: e,
+    };
+    write(question, bodies, src, tally, body, beneath, names, out)
 }
 
 // The call at `at`: its body, with a table for the call's names.
@@ -230,16 +205,17 @@ fn write_call(
     question: &[u8],
     bodies: &[u32],
     src: &[u8],
-    at: usize,
-    binders: usize,
+    cursor: Cursor,
     task: Task,
     names: &[u8],
     out: &mut [u8],
-    put: usize,
 ) -> usize
-    requires { ⌜ (at < length (now src)) × (8 < getD (now src) at 0) × (task .still ≡ false) × (task .calls ≤ 1) × (length (now src) ≤ longestTerm) × (binders ≤ at + greatestArity) × Room (task .levels) (now out) put × BodiesTallied (now question) (now bodies) ⌝ }
-    ensures { λ r. ⌜ WriteIs (now (question .entry)) (now (src .entry)) at binders (now (names .entry)) task (now (out .entry)) put r (now (out .exit)) ⌝ }
+    requires { ⌜ (cursor .at < length (now src)) × (8 < getD (now src) (cursor .at) 0) × (task .still ≡ false) × (task .calls ≤ 1) × (length (now src) ≤ longestTerm) × (cursor .binders ≤ cursor .at + greatestArity) × Room (task .levels) (now out) (cursor .put) × BodiesTallied (now question) (now bodies) ⌝ }
+    ensures { λ r. ⌜ WriteIs (now (question .entry)) (now (src .entry)) (cursor .at) (cursor .binders) (now (names .entry)) task (now (out .entry)) (cursor .put) r (now (out .exit)) ⌝ }
 {
+    let at = cursor.at;
+    let binders = cursor.binders;
+    let put = cursor.put;
     let o = call_at(question, bodies, src, at, task.calls);
     let n = o.arity;
     if !o.allowed {
@@ -249,113 +225,75 @@ fn write_call(
     let body = body_at(question, o.place);
     let numbers = body_tally(bodies, o.definition);
     let mut given = called(src, at + 2, n, binders, names);
+    let first = Cursor {
+        at: 0,
+        binders: n,
+        put,
+    };
     write(
         question,
         bodies,
         body,
         numbers,
-        0,
-        n,
+        first,
         inner,
         &mut given,
         out,
-        put,
     )
 }
 
-// What the task asks for of the term at `at`, from `put` on. The answer is where the bytes end, or past the end of `out` where there is no room.
+// What the task asks for of the term at the cursor. The answer is where the bytes end, or past the end of `out` where there is no room.
 pub fn write(
     question: &[u8],
     bodies: &[u32],
     src: &[u8],
     tally: &[u32],
-    at: usize,
-    binders: usize,
+    cursor: Cursor,
     task: Task,
     names: &mut [u8],
     out: &mut [u8],
-    put: usize,
 ) -> usize
-    requires { ⌜ Writing (now question) (now bodies) (now src) (now tally) at binders (now names) task (now out) put ⌝ }
-    ensures { λ r. ⌜ WriteIs (now (question .entry)) (now (src .entry)) at binders (now (names .entry)) task (now (out .entry)) put r (now (out .exit)) × Kept binders (now (names .entry)) (now (names .exit)) ⌝ }
+    requires { ⌜ Writing (now question) (now bodies) (now src) (now tally) (cursor .at) (cursor .binders) (now names) task (now out) (cursor .put) ⌝ }
+    ensures { λ r. ⌜ WriteIs (now (question .entry)) (now (src .entry)) (cursor .at) (cursor .binders) (now (names .entry)) task (now (out .entry)) (cursor .put) r (now (out .exit)) × Kept (cursor .binders) (now (names .entry)) (now (names .exit)) ⌝ }
 {
+    let at = cursor.at;
+    let binders = cursor.binders;
+    let put = cursor.put;
     if src.len() <= at {
         return out.len() + 1;
     }
     if task.still {
-        return write_term(
-            question,
-            src,
-            tally,
-            at,
-            binders,
-            task.levels,
-            names,
-            out,
-            put,
-        );
+        return write_term(question, src, tally, cursor, task.levels, names, out);
     }
     let t = get(src, at);
     if t < MATCH {
-        return write_prefix(question, src, tally, at, binders, task, names, out, put);
+        return write_prefix(question, src, tally, cursor, task, names, out);
     }
     if t == MATCH {
-        return write(
-            question,
-            bodies,
-            src,
-            tally,
-            at + 3,
+        let next = at + 3;
+        let beneath = Cursor {
+            at: next,
             binders,
-            task,
-            names,
-            out,
             put,
-        );
+        };
+        return write(question, bodies, src, tally, beneath, task, names, out);
     }
     if t == CHOICE {
         let b = branch_of(src, tally, at, task.silently, task.number);
         let n = b.number;
-        return write(
-            question,
-            bodies,
-            src,
-            tally,
-            b.at,
+        let taken = with_number(task, n);
+        let branch = Cursor {
+            at: b.at,
             binders,
-            with_number(task, n),
-            names,
-            out,
             put,
-        );
+        };
+        return write(question, bodies, src, tally, branch, taken, names, out);
     }
     if t == PARALLEL {
-        return write_beside(
-            question,
-            bodies,
-            src,
-            tally,
-            at,
-            binders,
-            task,
-            names,
-            out,
-            put,
-        );
+        return write_beside(question, bodies, src, tally, cursor, task, names, out);
     }
     if t == RESTRICTION {
-        return write_restriction(
-            question,
-            bodies,
-            src,
-            tally,
-            at,
-            binders,
-            task,
-            names,
-            out,
-            put,
-        );
+        return write_restriction(question, bodies, src, tally, cursor, task, names, out);
     }
-    write_call(question, bodies, src, at, binders, task, names, out, put)
+    write_call(question, bodies, src, cursor, task, names, out)
 }

@@ -31,6 +31,10 @@ rowBytes = 4
 abbrev pub mostRows : ℕ
 mostRows = 1056
 
+-- The rows are a whole table, and the next to be filled is one of it or the one behind the last.
+abbrev pub HasRows : (rows : List ℕ) (n : ℕ) → Type 0
+HasRows rows n = (n ≤ mostRows + 1) × (rowBytes * mostRows ≤ length rows)
+
 -- The kind is 1 for an input, 2 for an output, 3 for a new-name output, and 4 more for a candidate beneath a match of two free names, whose condition
 -- the row does not say. It is 4 for a candidate that adds no step: an equal one comes earlier, which has the row that counts, or a match fails.
 unfoldable pub kindAt : List ℕ → ℕ → ℕ

@@ -1,5 +1,5 @@
 // The visible candidates of a term in a table of rows, found on one walk of the term's bytes beneath restriction, choice, parallel, match and call,
-// in the order of crates/candidates/specs/Raw. And whether the term's silent candidates have no condition.
+// in the order of steps' specs/Raw. And whether the term's silent candidates have no condition.
 ghost use mathlib.Core.Bool.{true, false};
 ghost use mathlib.Core.Path.{_≡_};
 ghost use Prim.Native.Nat.{ℕ, _+_, _-_, _*_, _≤_, _<_};
@@ -8,9 +8,10 @@ ghost use Rattle.terms.specs.Limits.{nameCount, longestTerm};
 ghost use Rattle.steps_labels.specs.LabelWalk.{Within};
 ghost use Rattle.steps_conditions.specs.Slots.{slotCount};
 ghost use Rattle.steps_tallies.specs.Tally.{EndsInside, TallyIs, EndsTallied, BodiesTallied};
-ghost use Rattle.steps_rows.specs.Rows.{rowBytes, mostRows, PutRowIs, prefixKind, PrefixRowIs, PutRepeatedIs, rootOf, ScanIs, QuietIs};
+ghost use Rattle.steps_rows.specs.Rows.{HasRows, PutRowIs, prefixKind, PrefixRowIs, PutRepeatedIs, rootOf, ScanIs, QuietIs};
 ghost use Rattle.steps_equal_branches.specs.BranchRows.{isTrivial, isFailing, behindPiece, RepeatedIs};
 use steps_equal_branches::same::same_branch;
+use steps_labels::label::Scope;
 use steps_labels::label::arguments;
 use steps_labels::label::slot;
 use steps_passing::pass::middle_of;
@@ -40,16 +41,23 @@ pub const REPEATED: u8 = 4;
 // Added to the kind of a row whose candidate stands beneath a match of two free names: the row does not say its condition.
 pub const MATCHED: u8 = 4;
 
-// The byte of a choice.
 // No part has more visible candidates.
 pub const MOST_ROWS: usize = 1056;
 
 // The bytes of so many rows.
 pub const TABLE_OF_ROWS: usize = 4224;
 
+// A branch of a choice whose rows are put: where the choice begins, whether a match of two free names stands above the branch, and the number of its
+// first row.
+pub struct RowBranch {
+    pub root: usize,
+    pub asked: bool,
+    pub row: usize,
+}
+
 // Puts one row, while there is room, and answers the number behind it.
 fn put_row(rows: &mut [u8], n: usize, kind: u8, channel: u8, object: u8) -> usize
-    requires { ⌜ (n ≤ mostRows + 1) × (rowBytes * mostRows ≤ length (now rows)) ⌝ }
+    requires { ⌜ HasRows (now rows) n ⌝ }
     ensures { λ r. ⌜ PutRowIs kind channel object n (now (rows .entry)) r (now (rows .exit)) ⌝ }
 {
     if MOST_ROWS <= n {
@@ -64,7 +72,7 @@ fn put_row(rows: &mut [u8], n: usize, kind: u8, channel: u8, object: u8) -> usiz
 
 // Puts so many rows of candidates that add no step.
 fn put_repeated(rows: &mut [u8], n: usize, count: usize) -> usize
-    requires { ⌜ (n ≤ mostRows + 1) × (rowBytes * mostRows ≤ length (now rows)) ⌝ }
+    requires { ⌜ HasRows (now rows) n ⌝ }
     ensures { λ r. ⌜ PutRepeatedIs count n (now (rows .entry)) r (now (rows .exit)) ⌝ }
 {
     let mut m = n;
@@ -98,7 +106,7 @@ fn scan_prefix(
     rows: &mut [u8],
     n: usize,
 ) -> usize
-    requires { ⌜ (at < length (now src)) × (1 < getD (now src) at 0) × (getD (now src) at 0 < 5) × (inner ≤ depth) × (nameCount + depth ≤ slotCount) × (n ≤ mostRows + 1) × (rowBytes * mostRows ≤ length (now rows)) ⌝ }
+    requires { ⌜ (at < length (now src)) × (1 < getD (now src) at 0) × (getD (now src) at 0 < 5) × (inner ≤ depth) × (nameCount + depth ≤ slotCount) × HasRows (now rows) n ⌝ }
     ensures { λ r. ⌜ PrefixRowIs (now (src .entry)) at asked (now (args .entry)) inner depth n (now (rows .entry)) r (now (rows .exit)) ⌝ }
 {
     let t = get(src, at);
@@ -255,23 +263,23 @@ fn adds_nothing(
     is_repeated(question, src, tally, root, at, args, inner, depth)
 }
 
-// The call at `at`: the rows of the body, while calls are left to open.
+// A call: the rows of the body, while calls are left to open.
 fn scan_call(
     question: &[u8],
     bodies: &[u32],
     src: &[u8],
-    at: usize,
-    asked: bool,
+    scope: Scope,
     args: &[u8],
-    inner: usize,
-    depth: usize,
-    calls: usize,
     rows: &mut [u8],
-    n: usize,
+    branch: RowBranch,
 ) -> usize
-    requires { ⌜ (at < length (now src)) × (8 < getD (now src) at 0) × Within (now src) at inner depth calls × BodiesTallied (now question) (now bodies) × (n ≤ mostRows + 1) × (rowBytes * mostRows ≤ length (now rows)) ⌝ }
-    ensures { λ r. ⌜ ((root : ℕ) → ScanIs (now (question .entry)) (now (src .entry)) root at asked (now (args .entry)) inner depth calls n (now (rows .entry)) r (now (rows .exit))) ⌝ }
+    requires { ⌜ (scope .at < length (now src)) × (8 < getD (now src) (scope .at) 0) × Within (now src) (scope .at) (scope .inner) (scope .depth) (scope .calls) × BodiesTallied (now question) (now bodies) × HasRows (now rows) (branch .row) ⌝ }
+    ensures { λ r. ⌜ ScanIs (now (question .entry)) (now (src .entry)) (branch .root) (scope .at) (branch .asked) (now (args .entry)) (scope .inner) (scope .depth) (scope .calls) (branch .row) (now (rows .entry)) r (now (rows .exit)) ⌝ }
 {
+    let at = scope.at;
+    let depth = scope.depth;
+    let calls = scope.calls;
+    let n = branch.row;
     let o = call_at(question, bodies, src, at, calls);
     if !o.allowed {
         return n;
@@ -279,47 +287,46 @@ fn scan_call(
     if src.len() < o.end {
         return n;
     }
-    let given = arguments(src, at + 2, o.arity, args, inner, depth);
+    let given = arguments(src, at + 2, o.arity, args, scope.inner, depth);
     let body = body_at(question, o.place);
     let within = body_tally(bodies, o.definition);
-    scan(
-        question,
-        bodies,
-        body,
-        within,
-        0,
-        0,
-        asked,
-        &given,
-        0,
+    let left = calls - 1;
+    let inside = Scope {
+        at: 0,
+        inner: 0,
         depth,
-        calls - 1,
-        rows,
-        n,
-    )
+        calls: left,
+    };
+    let own = RowBranch {
+        root: 0,
+        asked: branch.asked,
+        row: n,
+    };
+    scan(question, bodies, body, within, inside, &given, rows, own)
 }
 
-// Puts the visible candidates of the term at `at` into the rows from number `n` on, and answers the number behind the last. The term stands beneath
-// `inner` restrictions of these bytes and `depth` in all, in the choice that begins at `root`; `args` has the slots of the parameters. Beneath a
-// match of two free names, where `asked`, the rows say so; one of a name with itself is passed by.
+// Puts the visible candidates of a term into the rows, and answers the number behind the last; `args` has the slots of the parameters. Beneath a match
+// of two free names the rows say so; one of a name with itself is passed by.
 pub fn scan(
     question: &[u8],
     bodies: &[u32],
     src: &[u8],
     tally: &[u32],
-    root: usize,
-    at: usize,
-    asked: bool,
+    scope: Scope,
     args: &[u8],
-    inner: usize,
-    depth: usize,
-    calls: usize,
     rows: &mut [u8],
-    n: usize,
+    branch: RowBranch,
 ) -> usize
-    requires { ⌜ Within (now src) at inner depth calls × TallyIs (now question) (now src) calls (now tally) × BodiesTallied (now question) (now bodies) × (n ≤ mostRows + 1) × (rowBytes * mostRows ≤ length (now rows)) ⌝ }
-    ensures { λ r. ⌜ ScanIs (now (question .entry)) (now (src .entry)) root at asked (now (args .entry)) inner depth calls n (now (rows .entry)) r (now (rows .exit)) ⌝ }
+    requires { ⌜ Within (now src) (scope .at) (scope .inner) (scope .depth) (scope .calls) × TallyIs (now question) (now src) (scope .calls) (now tally) × BodiesTallied (now question) (now bodies) × HasRows (now rows) (branch .row) ⌝ }
+    ensures { λ r. ⌜ ScanIs (now (question .entry)) (now (src .entry)) (branch .root) (scope .at) (branch .asked) (now (args .entry)) (scope .inner) (scope .depth) (scope .calls) (branch .row) (now (rows .entry)) r (now (rows .exit)) ⌝ }
 {
+    let at = scope.at;
+    let inner = scope.inner;
+    let depth = scope.depth;
+    let calls = scope.calls;
+    let root = branch.root;
+    let asked = branch.asked;
+    let n = branch.row;
     if src.len() <= at {
         return n;
     }
@@ -328,21 +335,14 @@ pub fn scan(
         return n;
     }
     if is_trivial(src, at, args, inner, depth) {
-        return scan(
-            question,
-            bodies,
-            src,
-            tally,
-            root,
-            at + 3,
-            asked,
-            args,
+        let next = at + 3;
+        let behind = Scope {
+            at: next,
             inner,
             depth,
             calls,
-            rows,
-            n,
-        );
+        };
+        return scan(question, bodies, src, tally, behind, args, rows, branch);
     }
     if t != CHOICE {
         if adds_nothing(question, src, tally, root, at, args, inner, depth) {
@@ -353,86 +353,76 @@ pub fn scan(
         return scan_prefix(src, at, asked, args, inner, depth, rows, n);
     }
     if t == MATCH {
-        return scan(
-            question,
-            bodies,
-            src,
-            tally,
-            at + 3,
-            at + 3,
-            true,
-            args,
+        let matched = at + 3;
+        let beneath = Scope {
+            at: matched,
             inner,
             depth,
             calls,
-            rows,
-            n,
-        );
+        };
+        let alone = RowBranch {
+            root: matched,
+            asked: true,
+            row: n,
+        };
+        return scan(question, bodies, src, tally, beneath, args, rows, alone);
     }
     if t == RESTRICTION {
-        return scan(
-            question,
-            bodies,
-            src,
-            tally,
-            at + 1,
-            at + 1,
-            asked,
-            args,
-            inner + 1,
-            depth + 1,
+        let bound = at + 1;
+        let innermost = inner + 1;
+        let deeper = depth + 1;
+        let beneath = Scope {
+            at: bound,
+            inner: innermost,
+            depth: deeper,
             calls,
-            rows,
-            n,
-        );
+        };
+        let alone = RowBranch {
+            root: bound,
+            asked,
+            row: n,
+        };
+        return scan(question, bodies, src, tally, beneath, args, rows, alone);
     }
     if RESTRICTION < t {
-        return scan_call(
-            question,
-            bodies,
-            src,
-            at,
-            asked,
-            args,
-            inner,
-            depth,
-            calls,
-            rows,
-            n,
-        );
+        return scan_call(question, bodies, src, scope, args, rows, branch);
     }
     let middle = middle_of(src, tally, at);
-    let left = root_of(t, root, at + 1);
-    let m = scan(
-        question,
-        bodies,
-        src,
-        tally,
-        left,
-        at + 1,
-        asked,
-        args,
+    let first = at + 1;
+    let left_root = root_of(t, root, first);
+    let left = Scope {
+        at: first,
         inner,
         depth,
         calls,
-        rows,
-        n,
-    );
-    let right = root_of(t, root, middle);
+    };
+    let left_branch = RowBranch {
+        root: left_root,
+        asked,
+        row: n,
+    };
+    let m = scan(question, bodies, src, tally, left, args, rows, left_branch);
+    let right_root = root_of(t, root, middle);
+    let right = Scope {
+        at: middle,
+        inner,
+        depth,
+        calls,
+    };
+    let right_branch = RowBranch {
+        root: right_root,
+        asked,
+        row: m,
+    };
     scan(
         question,
         bodies,
         src,
         tally,
         right,
-        middle,
-        asked,
         args,
-        inner,
-        depth,
-        calls,
         rows,
-        m,
+        right_branch,
     )
 }
 

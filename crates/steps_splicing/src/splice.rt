@@ -9,6 +9,7 @@ ghost use Rattle.steps_splicing.specs.PlacedResults.{PlacedResultIs};
 ghost use Rattle.steps_splicing.specs.Ready.{Tallied, Inside, FoundIn};
 use crate::locate::Located;
 use steps_passing::names::NAME_SLOTS;
+use steps_plans::plan::Cursor;
 use steps_plans::plan::Task;
 use steps_results::result::write;
 use steps_tallies::tally::end_at;
@@ -77,18 +78,12 @@ pub fn write_placed(
     };
     let mut names = own_names(depth);
     copy(part, 0, at, out, 0);
-    let put = write(
-        question,
-        bodies,
-        part,
-        tally,
+    let cursor = Cursor {
         at,
-        depth,
-        task,
-        &mut names,
-        out,
-        at,
-    );
+        binders: depth,
+        put: at,
+    };
+    let put = write(question, bodies, part, tally, cursor, task, &mut names, out);
     let end = end_at(tally, at);
     let n = part.len() - end;
     if room(LONGEST_TERM, put, n) {
@@ -138,18 +133,12 @@ fn write_hole(
         number: hole.number,
     };
     let mut names = own_names(levels);
-    write(
-        question,
-        bodies,
-        part,
-        tally,
+    let cursor = Cursor {
         at,
-        levels,
-        task,
-        &mut names,
-        out,
-        e,
-    )
+        binders: levels,
+        put: e,
+    };
+    write(question, bodies, part, tally, cursor, task, &mut names, out)
 }
 
 // The part with the results of two components that communicate in their places: [Com]. The answer is as above.

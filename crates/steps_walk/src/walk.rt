@@ -13,6 +13,7 @@ use steps_communications::meet::SideRows;
 use steps_communications::meet::meet;
 use steps_entries::limits::MOST_STEPS;
 use steps_entries::listed::ActionBytes;
+use steps_labels::label::Scope;
 use steps_labels::label::restrictions_at;
 use steps_passing::pass::middle_of;
 use steps_placing::candidate::take_candidate;
@@ -23,6 +24,7 @@ use steps_rows::rows::MATCHED;
 use steps_rows::rows::MOST_ROWS;
 use steps_rows::rows::REPEATED;
 use steps_rows::rows::ROW_BYTES;
+use steps_rows::rows::RowBranch;
 use steps_rows::rows::quiet;
 use steps_rows::rows::scan;
 use steps_splicing::splice::Position;
@@ -294,21 +296,18 @@ fn component(
     let depth = node.depth;
     let n = walked.rows;
     let none = [0u8; GREATEST_ARITY];
-    let last = scan(
-        question,
-        bodies,
-        part,
-        tally,
+    let scope = Scope {
         at,
-        at,
-        false,
-        &none,
+        inner: depth,
         depth,
-        depth,
-        1,
-        rows,
-        n,
-    );
+        calls: 1,
+    };
+    let branch = RowBranch {
+        root: at,
+        asked: false,
+        row: n,
+    };
+    let last = scan(question, bodies, part, tally, scope, &none, rows, branch);
     let own = OwnRows {
         first: n,
         last,

@@ -38,13 +38,13 @@ use Rattle.steps_labels.proofs.label.+nth+nth_call+nth_meeting.{stateme
 use Rattle.steps_labels.proofs.label.+nth+nth_call+nth_meeting.Tie.{close}
 
 abbrev μ-nth : Measures 5 nth-kinds.ps ℕ
-μ-nth κs a = 4 * (a .1 .1 .1 .1 .1 .1 .1 .1 .1 .1 .0 * 113 + (length (a .1 .1 .0 .now) - a .1 .1 .1 .1 .0)) + 3
+μ-nth κs a = 4 * (a .1 .1 .1 .1 .0 .calls * 113 + (length (a .1 .1 .0 .now) - a .1 .1 .1 .1 .0 .at)) + 3
 
 abbrev μ-nth-call : Measures 4 nth-call-kinds.ps ℕ
-μ-nth-call κs a = 4 * (a .1 .1 .1 .1 .1 .1 .1 .1 .1 .0 * 113 + (length (a .1 .1 .0 .now) - a .1 .1 .1 .0)) + 2
+μ-nth-call κs a = 4 * (a .1 .1 .1 .0 .calls * 113 + (length (a .1 .1 .0 .now) - a .1 .1 .1 .0 .at)) + 2
 
 abbrev μ-nth-meeting : Measures 5 nth-meeting-kinds.ps ℕ
-μ-nth-meeting κs a = 4 * (a .1 .1 .1 .1 .1 .1 .1 .1 .1 .1 .0 * 113 + (length (a .1 .1 .0 .now) - a .1 .1 .1 .1 .0)) + 1
+μ-nth-meeting κs a = 4 * (a .1 .1 .1 .1 .0 .calls * 113 + (length (a .1 .1 .0 .now) - a .1 .1 .1 .1 .0 .at)) + 1
 
 abbrev nth-at : ℕ → In 5 nth-kinds.ps
 nth-at t = and 5 nth-kinds.ps (is 5 nth-kinds.ps μ-nth t) nth.Pre
@@ -106,12 +106,12 @@ nth-nth-meeting-requires t c κs =
     let p = c1 .side-of .result in
     let S = c1 .side-of .ensures in
     let i = S .inside (c .if1 .taken) in (
-      weight-down (a .calls * 113) (length (a .src .now)) (a .at) (p .at) t 1 (c7 .pre .0) (S .on) (omega arith),
+      weight-down (a .scope .calls * 113) (length (a .src .now)) (a .scope .at) (p .at) t 1 (c7 .pre .0) (S .on) (omega arith),
       (
         i .0,
         i .1,
-        (room-on (a .src .now)
-            (a .at) (p .at) (a .inner) (a .depth) (a .calls) (c7 .pre .1 .0) (S .on)),
+        (room-on
+            (a .src .now) (a .scope .at) (p .at) (a .scope .inner) (a .scope .depth) (a .scope .calls) (c7 .pre .1 .0) (S .on)),
         c7 .pre .1 .1,
         c7 .pre .1 .2,
       ),
@@ -121,8 +121,8 @@ nth-returns : (t : ℕ) → nth-lts.Need-returns (nth-claims t) (nth-at t) nth.P
 nth-returns t c =
     let c8 = c .before .before .before .before .before .before .before .before in
     let a = c8 .args in
-    c .before .before .side-of .ensures .met (c .before .if1 .taken) (a .question .now) (a .args .now) (a .inner) (a .depth) (a .calls) _
-    (c8 .pre .1 .1) (c .nth-meeting .ensures)
+    c .before .before .side-of .ensures .met (c .before .if1 .taken) (a .question .now) (a .args .now) (a .scope .inner) (a .scope .depth)
+    (a .scope .calls) _ (c8 .pre .1 .1) (c .nth-meeting .ensures)
 
 nth-blocked-requires : (t : ℕ) → nth-lts.Need-blocked-requires (nth-claims t) (nth-at t) nth.Post
 nth-blocked-requires t c κs = search needs
@@ -135,8 +135,9 @@ nth-returns-2 t c =
     let a = c9 .args in
     let p = c3 .side-of .result in
     let S = c3 .side-of .ensures in
-    S .is (omega (arith, c .before .before .if1 .left)) (a .question .now) (a .args .now) (a .inner) (a .depth) (a .calls) _ (c9 .pre .1 .1) (nth-none
-    (a .question .now) (a .src .now) (p .at) (p .number) (a .silent) (a .args .now) (a .inner) (a .depth) (a .calls) _ (c .before .if2 .taken))
+    S .is (omega (arith, c .before .before .if1 .left)) (a .question .now) (a .args .now) (a .scope .inner) (a .scope .depth) (a .scope .calls) _
+    (c9 .pre .1 .1) (nth-none (a .question .now) (a .src .now) (p .at) (p .number) (a .silent) (a .args .now) (a .scope .inner) (a .scope .depth)
+    (a .scope .calls) _ (c .before .if2 .taken))
 
 nth-shared-slice-read-t : (t : ℕ) → nth-lts.Need-shared-slice-read-t (nth-claims t) (nth-at t) nth.Post
 nth-shared-slice-read-t t c = search needs
@@ -156,9 +157,9 @@ nth-returns-3 t c =
     let a = c11 .args in
     let p = c5 .side-of .result in
     let S = c5 .side-of .ensures in
-    S .is (omega (arith, c4 .if1 .left)) (a .question .now) (a .args .now) (a .inner) (a .depth) (a .calls) _ (c11 .pre .1 .1) (nth-prefix
-    (a .question .now) (a .src .now) (p .at) (p .number) (a .silent) (a .args .now) (a .inner) (a .depth) (a .calls) (c .before .if3 .taken) _
-    (c .nth-prefix .ensures))
+    S .is (omega (arith, c4 .if1 .left)) (a .question .now) (a .args .now) (a .scope .inner) (a .scope .depth) (a .scope .calls) _ (c11 .pre .1 .1)
+    (nth-prefix (a .question .now) (a .src .now) (p .at) (p .number) (a .silent) (a .args .now) (a .scope .inner) (a .scope .depth) (a .scope .calls)
+    (c .before .if3 .taken) _ (c .nth-prefix .ensures))
 
 nth-nth-call-requires : (t : ℕ) → nth-lts.Need-nth-call-requires (nth-claims t) (nth-at t) nth.Post
 nth-nth-call-requires t c κs =
@@ -168,11 +169,11 @@ nth-nth-call-requires t c κs =
     let a = c11 .args in
     let p = c5 .side-of .result in
     let S = c5 .side-of .ensures in (
-      weight-down (a .calls * 113) (length (a .src .now)) (a .at) (p .at) t 2 (c11 .pre .0) (S .on) (omega arith),
+      weight-down (a .scope .calls * 113) (length (a .src .now)) (a .scope .at) (p .at) t 2 (c11 .pre .0) (S .on) (omega arith),
       (
         c3 .if2 .left,
         c .if4 .taken,
-        (room-on (a .src .now) (a .at) (p .at) (a .inner) (a .depth) (a .calls) (c11 .pre .1 .0) (S .on)),
+        (room-on (a .src .now) (a .scope .at) (p .at) (a .scope .inner) (a .scope .depth) (a .scope .calls) (c11 .pre .1 .0) (S .on)),
         c11 .pre .1 .2,
       ),
     )
@@ -186,7 +187,8 @@ nth-returns-4 t c =
     let a = c12 .args in
     let p = c6 .side-of .result in
     let S = c6 .side-of .ensures in
-    S .is (omega (arith, c5 .if1 .left)) (a .question .now) (a .args .now) (a .inner) (a .depth) (a .calls) _ (c12 .pre .1 .1) (c .nth-call .ensures)
+    S .is (omega (arith, c5 .if1 .left)) (a .question .now) (a .args .now) (a .scope .inner) (a .scope .depth) (a .scope .calls) _ (c12 .pre .1 .1)
+    (c .nth-call .ensures)
 
 nth-restrictions-at-requires : (t : ℕ) → nth-lts.Need-restrictions-at-requires (nth-claims t) (nth-at t) nth.Post
 nth-restrictions-at-requires t c κs = search needs
@@ -194,8 +196,8 @@ nth-restrictions-at-requires t c κs = search needs
 nth-past-requires : (t : ℕ) → nth-lts.Need-past-requires (nth-claims t) (nth-at t) nth.Post
 nth-past-requires t c κs = search needs
 
-nth-add-nth : (t : ℕ) → nth-lts.Need-add-nth (nth-claims t) (nth-at t) nth.Post
-nth-add-nth t c =
+nth-add-next : (t : ℕ) → nth-lts.Need-add-next (nth-claims t) (nth-at t) nth.Post
+nth-add-next t c =
     let c1 = c .before in
     let c5 = c1 .before .before .before .before in
     let c7 = c5 .before .before in
@@ -211,8 +213,8 @@ nth-add-nth t c =
           (c1 .restrictions-at .result),
     )
 
-nth-add-nth-2 : (t : ℕ) → nth-lts.Need-add-nth-2 (nth-claims t) (nth-at t) nth.Post
-nth-add-nth-2 t c =
+nth-add-innermost : (t : ℕ) → nth-lts.Need-add-innermost (nth-claims t) (nth-at t) nth.Post
+nth-add-innermost t c =
     let c5 = c .before .before .before .before .before in
     let c7 = c5 .before .before in
     let c13 = c7 .before .before .before .before .before .before in
@@ -220,8 +222,8 @@ nth-add-nth-2 t c =
     let o = c13 .pre .1 .0 .outer in
     omega (arith, c .before .restrictions-at .ensures .inside, c5 .if2 .left, c7 .side-of .ensures .on)
 
-nth-add-nth-3 : (t : ℕ) → nth-lts.Need-add-nth-3 (nth-claims t) (nth-at t) nth.Post
-nth-add-nth-3 t c =
+nth-add-deeper : (t : ℕ) → nth-lts.Need-add-deeper (nth-claims t) (nth-at t) nth.Post
+nth-add-deeper t c =
     let c5 = c .before .before .before .before .before in
     let c7 = c5 .before .before in
     let c13 = c7 .before .before .before .before .before .before in
@@ -247,10 +249,18 @@ nth-nth-requires t c κs =
       arith,
       c6 .if1 .left,
     )) (c5 .if2 .left)) (sym (c .past .ensures) ∙ e) in (
-      weight-on (a .calls * 113) (length (a .src .now)) (a .at) (p .at + n) t 3 (c13 .pre .0) (omega (arith, S .on)) (omega (arith, S .on)),
+      weight-on (a .scope .calls * 113) (length (a .src .now)) (a .scope .at) (p .at + n) t 3 (c13 .pre .0) (omega (arith, S .on)) (omega (
+        arith,
+        S .on,
+      )),
       (
-        room-under (a .src .now) (p .at) (a .inner) (a .depth) (a .calls) k n (room-on (a .src .now) (a .at) (p .at) (a .inner) (a .depth) (a .calls)
-            (c13 .pre .1 .0) (S .on)) h (R .inside) (omega (arith, past-over (a .src .now) (p .at) k R, c .past .ensures)),
+        room-under (a .src .now) (p .at) (a .scope .inner) (a .scope .depth) (a .scope .calls) k n (room-on (a .src .now) (a .scope .at)
+            (p .at) (a .scope .inner) (a .scope .depth) (a .scope .calls) (c13 .pre .1 .0) (S .on)) h (R .inside) (omega (
+              arith,
+              past-over (a .src .now)
+                  (p .at) k R,
+              c .past .ensures,
+            )),
         c13 .pre .1 .1,
         c13 .pre .1 .2,
       ),
@@ -287,8 +297,8 @@ nth-returns-5 t c =
     let S = c9 .side-of .ensures in
     let k = c3 .restrictions-at .result in
     let R = c3 .restrictions-at .ensures in
-    S .is (omega (arith, c8 .if1 .left)) (a .question .now) (a .args .now) (a .inner) (a .depth) (a .calls) _ (c15 .pre .1 .1)
-    (c .outside-of .ensures .is (a .question .now) (p .number) (a .silent) (a .calls) (past-some (a .src .now) (p .at) k R (c7 .if2 .left)
+    S .is (omega (arith, c8 .if1 .left)) (a .question .now) (a .args .now) (a .scope .inner) (a .scope .depth) (a .scope .calls) _ (c15 .pre .1 .1)
+    (c .outside-of .ensures .is (a .question .now) (p .number) (a .silent) (a .scope .calls) (past-some (a .src .now) (p .at) k R (c7 .if2 .left)
     (c5 .if3 .left) (c4 .if4 .left) (S .one (omega (arith, c8 .if1 .left)) (c7 .if2 .left))) (R .are) (rw (c .before .before .past .ensures) at
     (c .before .nth .ensures)))
 
@@ -303,8 +313,8 @@ nth-call-returns t c =
     let c3 = c .before .before .before in
     let c8 = c3 .before .before .before .before .before in
     let a = c8 .args in
-    nth-closed (a .question .now) (a .src .now) (a .at) (a .i) (a .silent) (a .args .now) (a .inner) (a .depth) (a .calls) (c8 .pre .1 .1)
-    (c3 .call-at .result) (c3 .call-at .ensures) _ (not-true _ (c .before .if1 .taken))
+    nth-closed (a .question .now) (a .src .now) (a .scope .at) (a .i) (a .silent) (a .args .now) (a .scope .inner) (a .scope .depth) (a .scope .calls)
+    (c8 .pre .1 .1) (c3 .call-at .result) (c3 .call-at .ensures) _ (not-true _ (c .before .if1 .taken))
 
 nth-call-blocked-requires-2 : (t : ℕ) → nth-call-lts.Need-blocked-requires-2 (nth-call-claims t) (nth-call-at t) nth-call.Post
 nth-call-blocked-requires-2 t c κs = search needs
@@ -314,8 +324,8 @@ nth-call-returns-2 t c =
     let c5 = c .before .before .before .before .before in
     let c10 = c5 .before .before .before .before .before in
     let a = c10 .args in
-    nth-cut (a .question .now) (a .src .now) (a .at) (a .i) (a .silent) (a .args .now) (a .inner) (a .depth) (a .calls) (c10 .pre .1 .1)
-    (c5 .call-at .result) (c5 .call-at .ensures) _ (c .before .if2 .taken)
+    nth-cut (a .question .now) (a .src .now) (a .scope .at) (a .i) (a .silent) (a .args .now) (a .scope .inner) (a .scope .depth) (a .scope .calls)
+    (c10 .pre .1 .1) (c5 .call-at .result) (c5 .call-at .ensures) _ (c .before .if2 .taken)
 
 nth-call-add-arguments : (t : ℕ) → nth-call-lts.Need-add-arguments (nth-call-claims t) (nth-call-at t) nth-call.Post
 nth-call-add-arguments t c = search needs
@@ -341,11 +351,11 @@ nth-call-body-tally-requires t c κs =
 nth-call-slice-aggregate-nth : (t : ℕ) → nth-call-lts.Need-slice-aggregate-nth (nth-call-claims t) (nth-call-at t) nth-call.Post
 nth-call-slice-aggregate-nth t c = search needs
 
-nth-call-sub-nth : (t : ℕ) → nth-call-lts.Need-sub-nth (nth-call-claims t) (nth-call-at t) nth-call.Post
-nth-call-sub-nth t c =
-    let c6 = c .before .before .before .before .before .before in
-    let c8 = c6 .before .before in
-    let m = c8 .call-at .ensures .may (not-false _ (c6 .if1 .left)) in
+nth-call-sub-left : (t : ℕ) → nth-call-lts.Need-sub-left (nth-call-claims t) (nth-call-at t) nth-call.Post
+nth-call-sub-left t c =
+    let c5 = c .before .before .before .before .before in
+    let c7 = c5 .before .before in
+    let m = c7 .call-at .ensures .may (not-false _ (c5 .if1 .left)) in
     omega (arith, m)
 
 nth-call-nth-requires : (t : ℕ) → nth-call-lts.Need-nth-requires (nth-call-claims t) (nth-call-at t) nth-call.Post
@@ -363,14 +373,13 @@ nth-call-nth-requires t c κs =
       ap length ((c2 .body-at .ensures (c8 .call-at .result .definition)
           (c8 .call-at .ensures .place)) .piece),
     ) in (
-      weight-body (a .calls) (length (a .src .now)) (a .at) (length (c2 .body-at .result .now)) t 2 (c13 .pre .0) (m .0) b,
+      weight-body (a .scope .calls) (length (a .src .now)) (a .scope .at) (length (c2 .body-at .result .now)) t 2 (c13 .pre .0) (m .0) b,
       (
-        room-body (a .src .now)
-            (a .at) (a .inner) (a .depth) (a .calls) (c2 .body-at .result .now) (c13 .pre .1 .2) (m .0) b,
-        called-tally (a .question .now) (a .bodies .now)
-            (a .src .now) (a .at) (a .calls) (c13 .pre .1 .3) (c8 .call-at .result) (c8 .call-at .ensures) (not-false _ (c6 .if1 .left))
-            (c13 .pre .1 .2 .once) (c2 .body-at .result .now) (c2 .body-at .ensures (c8 .call-at .result .definition) (c8 .call-at .ensures .place))
-            (c1 .body-tally .result .now) (c1 .body-tally .ensures) _ refl,
+        room-body
+            (a .src .now) (a .scope .at) (a .scope .inner) (a .scope .depth) (a .scope .calls) (c2 .body-at .result .now) (c13 .pre .1 .2) (m .0) b,
+        called-tally (a .question .now) (a .bodies .now) (a .src .now) (a .scope .at) (a .scope .calls) (c13 .pre .1 .3) (c8 .call-at .result)
+            (c8 .call-at .ensures) (not-false _ (c6 .if1 .left)) (c13 .pre .1 .2 .once) (c2 .body-at .result .now) (c2 .body-at .ensures
+            (c8 .call-at .result .definition) (c8 .call-at .ensures .place)) (c1 .body-tally .result .now) (c1 .body-tally .ensures) _ refl,
         c13 .pre .1 .3,
       ),
     )
@@ -384,9 +393,9 @@ nth-call-returns-3 t c =
     let c14 = c9 .before .before .before .before .before in
     let a = c14 .args in
     let m = c9 .call-at .ensures .may (not-false _ (c7 .if1 .left)) in
-    nth-called (a .question .now) (a .src .now) (a .at) (a .i) (a .silent) (a .args .now) (a .inner) (a .depth) (a .calls) (c14 .pre .1 .1)
-    (c9 .call-at .result) (c9 .call-at .ensures) _ (m .0) (c3 .body-at .result .now) (c3 .body-at .ensures (c9 .call-at .result .definition)
-    (c9 .call-at .ensures .place)) (c4 .arguments .result) (c4 .arguments .ensures) (c .nth .ensures)
+    nth-called (a .question .now) (a .src .now) (a .scope .at) (a .i) (a .silent) (a .args .now) (a .scope .inner) (a .scope .depth) (a .scope .calls)
+    (c14 .pre .1 .1) (c9 .call-at .result) (c9 .call-at .ensures) _ (m .0) (c3 .body-at .result .now) (c3 .body-at .ensures
+    (c9 .call-at .result .definition) (c9 .call-at .ensures .place)) (c4 .arguments .result) (c4 .arguments .ensures) (c .nth .ensures)
 
 nth-meeting-visible-at-requires : (t : ℕ) → nth-meeting-lts.Need-visible-at-requires (nth-meeting-claims t) (nth-meeting-at t) nth-meeting.Post
 nth-meeting-visible-at-requires t c κs = search needs
@@ -399,11 +408,11 @@ nth-meeting-returns t c =
     let c2 = c .before .before in
     let c8 = c2 .before .before .before .before .before .before in
     let a = c8 .args in
-    meet-none (a .question .now) (a .src .now) (a .at) (a .middle) (a .i) (a .args .now) (a .inner) (a .depth) (a .calls) (a .tally .now)
-    (c8 .pre .1 .3) _ (c2 .visible-at .result) (c2 .visible-at .ensures) (c .before .if1 .taken)
+    meet-none (a .question .now) (a .src .now) (a .scope .at) (a .middle) (a .i) (a .args .now) (a .scope .inner) (a .scope .depth) (a .scope .calls)
+    (a .tally .now) (c8 .pre .1 .3) _ (c2 .visible-at .result) (c2 .visible-at .ensures) (c .before .if1 .taken)
 
-nth-meeting-add-nth : (t : ℕ) → nth-meeting-lts.Need-add-nth (nth-meeting-claims t) (nth-meeting-at t) nth-meeting.Post
-nth-meeting-add-nth t c = search needs
+nth-meeting-add-next : (t : ℕ) → nth-meeting-lts.Need-add-next (nth-meeting-claims t) (nth-meeting-at t) nth-meeting.Post
+nth-meeting-add-next t c = search needs
 
 nth-meeting-div-nth : (t : ℕ) → nth-meeting-lts.Need-div-nth (nth-meeting-claims t) (nth-meeting-at t) nth-meeting.Post
 nth-meeting-div-nth t c = search needs
@@ -412,10 +421,9 @@ nth-meeting-nth-requires : (t : ℕ) → nth-meeting-lts.Need-nth-requires (nth-
 nth-meeting-nth-requires t c κs =
     let c7 = c .before .before .before .before .before .before .before in
     let a = c7 .args in (
-      weight-on (a .calls * 113) (length (a .src .now)) (a .at) (a .at + 1) t 1 (c7 .pre .0) (omega arith) (c7 .pre .1 .0),
+      weight-on (a .scope .calls * 113) (length (a .src .now)) (a .scope .at) (a .scope .at + 1) t 1 (c7 .pre .0) (omega arith) (c7 .pre .1 .0),
       (
-        room-on (a .src .now)
-            (a .at) (a .at + 1) (a .inner) (a .depth) (a .calls) (c7 .pre .1 .2) (omega arith),
+        room-on (a .src .now) (a .scope .at) (a .scope .at + 1) (a .scope .inner) (a .scope .depth) (a .scope .calls) (c7 .pre .1 .2) (omega arith),
         c7 .pre .1 .3,
         c7 .pre .1 .4,
       ),
@@ -428,10 +436,10 @@ nth-meeting-nth-requires-2 : (t : ℕ) → nth-meeting-lts.Need-nth-requires-2 (
 nth-meeting-nth-requires-2 t c κs =
     let c8 = c .before .before .before .before .before .before .before .before in
     let a = c8 .args in (
-      weight-on (a .calls * 113) (length (a .src .now)) (a .at) (a .middle) t 1 (c8 .pre .0) (c8 .pre .1 .1) (c8 .pre .1 .0),
+      weight-on (a .scope .calls * 113) (length (a .src .now)) (a .scope .at) (a .middle) t 1 (c8 .pre .0) (c8 .pre .1 .1) (c8 .pre .1 .0),
       (
-        room-on (a .src .now)
-            (a .at) (a .middle) (a .inner) (a .depth) (a .calls) (c8 .pre .1 .2) (omega (arith, c8 .pre .1 .1)),
+        room-on
+            (a .src .now) (a .scope .at) (a .middle) (a .scope .inner) (a .scope .depth) (a .scope .calls) (c8 .pre .1 .2) (omega (arith, c8 .pre .1 .1)),
         c8 .pre .1 .3,
         c8 .pre .1 .4,
       ),
@@ -448,9 +456,9 @@ nth-meeting-returns-2 t c =
     let c4 = c3 .before in
     let c10 = c4 .before .before .before .before .before .before in
     let a = c10 .args in
-    meet-both (a .question .now) (a .src .now) (a .at) (a .middle) (a .i) (a .args .now) (a .inner) (a .depth) (a .calls) (a .tally .now)
-    (c10 .pre .1 .3) _ (c4 .visible-at .result) (c4 .visible-at .ensures) (c3 .if1 .left) (let w = c10 .pre .1 .2 .room in omega arith)
-    (c2 .nth .result) (c1 .nth2 .result) (c2 .nth .ensures) (c1 .nth2 .ensures) (c .communication .ensures)
+    meet-both (a .question .now) (a .src .now) (a .scope .at) (a .middle) (a .i) (a .args .now) (a .scope .inner) (a .scope .depth) (a .scope .calls)
+    (a .tally .now) (c10 .pre .1 .3) _ (c4 .visible-at .result) (c4 .visible-at .ensures) (c3 .if1 .left) (let w = c10 .pre .1 .2 .room in omega
+    arith) (c2 .nth .result) (c1 .nth2 .result) (c2 .nth .ensures) (c1 .nth2 .ensures) (c .communication .ensures)
 
 pub +nth+nth-call+nth-meeting-spec : {M : Type 1} → statement M
 +nth+nth-call+nth-meeting-spec =
@@ -469,9 +477,9 @@ pub +nth+nth-call+nth-meeting-spec : {M : Type 1} → statement M
     (nth-returns-4 t)
     (nth-restrictions-at-requires t)
     (nth-past-requires t)
-    (nth-add-nth t)
-    (nth-add-nth-2 t)
-    (nth-add-nth-3 t)
+    (nth-add-next t)
+    (nth-add-innermost t)
+    (nth-add-deeper t)
     (nth-nth-requires t)
     (nth-outside-of-requires t)
     (nth-returns-5 t))
@@ -487,8 +495,8 @@ pub +nth+nth-call+nth-meeting-spec : {M : Type 1} → statement M
     (nth-call-arguments-requires t)
     (nth-call-body-at-requires t)
     (nth-call-body-tally-requires t)
+    (nth-call-sub-left t)
     (nth-call-slice-aggregate-nth t)
-    (nth-call-sub-nth t)
     (nth-call-nth-requires t)
     (nth-call-returns-3 t))
     λ t. nth-meeting-lts.spec (nth-meeting-claims t)
@@ -497,7 +505,7 @@ pub +nth+nth-call+nth-meeting-spec : {M : Type 1} → statement M
     (nth-meeting-visible-at-requires t)
     (nth-meeting-blocked-requires t)
     (nth-meeting-returns t)
-    (nth-meeting-add-nth t)
+    (nth-meeting-add-next t)
     (nth-meeting-div-nth t)
     (nth-meeting-nth-requires t)
     (nth-meeting-rem-nth t)

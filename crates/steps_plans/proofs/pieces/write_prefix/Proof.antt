@@ -12,14 +12,19 @@ use Rattle.steps_plans.proofs.pieces.write_prefix.Tie as tie
 get-requires : tie.Need-get-requires
 get-requires c κs = search needs
 
-add-write-term : tie.Need-add-write-term
-add-write-term c = search needs
+add-next : tie.Need-add-next
+add-next c = search needs
 
 write-term-requires : tie.Need-write-term-requires
 write-term-requires c κs =
-    let v = c .before .before .before .before .before .before .before .before .before .args in
-    let g = c .before .before .before .before .before .before .before .before .before .pre in
-    (search needs, g .5, ends-tallied (v .question .now) (v .src .now) (v .task .calls) (v .tally .now) (g .6), g .4)
+    let v = c .before .before .before .before .before .before .before .before .before .args in let g =
+    c .before .before .before .before .before .before .before .before .before .pre in (
+      search needs,
+      g .5,
+      ends-tallied (v .question .now)
+          (v .src .now) (v .task .calls) (v .tally .now) (g .6),
+      g .4,
+    )
 
 same-length : tie.Need-same-length
 same-length c = search needs
@@ -34,19 +39,25 @@ returns c =
     let c6 = c5 .before in
     let c12 = c6 .before .before .before .before .before .before in
     let a = c12 .args in (
-      write-tau (a .question .now) (a .src .now) (a .at) (a .binders) (a .names .now) (a .task) (a .out .now) (a .put) (c2 .write-term .result) _
-          (c12 .pre .3) (sym (c6 .get .ensures) ∙ c5 .if1 .taken) (c2 .write-term .ensures),
-      kept-all (a .binders) (a .names .now),
+      write-tau (a .question .now) (a .src .now) (a .cursor .at) (a .cursor .binders) (a .names .now) (a .task) (a .out .now) (a .cursor .put)
+          (c2 .write-term .result) _ (c12 .pre .3) (sym (c6 .get .ensures) ∙ c5 .if1 .taken) (c2 .write-term .ensures),
+      kept-all (a .cursor .binders)
+          (a .names .now),
     )
 
-add-write-term-2 : tie.Need-add-write-term-2
-add-write-term-2 c = search needs
+add-behind : tie.Need-add-behind
+add-behind c = search needs
 
 write-term-requires-2 : tie.Need-write-term-requires-2
 write-term-requires-2 c κs =
-    let v = c .before .before .before .before .before .before .before .before .before .before .args in
-    let g = c .before .before .before .before .before .before .before .before .before .before .pre in
-    (search needs, g .5, ends-tallied (v .question .now) (v .src .now) (v .task .calls) (v .tally .now) (g .6), g .4)
+    let v = c .before .before .before .before .before .before .before .before .before .before .args in let g =
+    c .before .before .before .before .before .before .before .before .before .before .pre in (
+      search needs,
+      g .5,
+      ends-tallied (v .question .now)
+          (v .src .now) (v .task .calls) (v .tally .now) (g .6),
+      g .4,
+    )
 
 same-length-3 : tie.Need-same-length-3
 same-length-3 c = search needs
@@ -61,9 +72,10 @@ returns-2 c =
     let c7 = c5 .before .before in
     let c13 = c7 .before .before .before .before .before .before in
     let a = c13 .args in (
-      write-out (a .question .now) (a .src .now) (a .at) (a .binders) (a .names .now) (a .task) (a .out .now) (a .put) (c2 .write-term2 .result) _
-          (c13 .pre .3) (sym (c7 .get .ensures) ∙ c5 .if2 .taken) (c2 .write-term2 .ensures),
-      kept-all (a .binders) (a .names .now),
+      write-out (a .question .now) (a .src .now) (a .cursor .at) (a .cursor .binders) (a .names .now) (a .task) (a .out .now) (a .cursor .put)
+          (c2 .write-term2 .result) _ (c13 .pre .3) (sym (c7 .get .ensures) ∙ c5 .if2 .taken) (c2 .write-term2 .ensures),
+      kept-all (a .cursor .binders)
+          (a .names .now),
     )
 
 add-names : tie.Need-add-names
@@ -72,21 +84,20 @@ add-names c = search needs
 slice-write-names : tie.Need-slice-write-names
 slice-write-names c = search needs
 
-add-write-term-3 : tie.Need-add-write-term-3
-add-write-term-3 c = search needs
+add-bound : tie.Need-add-bound
+add-bound c = search needs
 
-add-write-term-4 : tie.Need-add-write-term-4
-add-write-term-4 c = search needs
+add-inner : tie.Need-add-inner
+add-inner c = search needs
 
 write-term-requires-3 : tie.Need-write-term-requires-3
 write-term-requires-3 c κs =
     let v = c .before .before .before .before .before .before .before .before .before .before .args in (
       search needs,
       c .before .before .before .before .before .before .before .before .before .before .pre .5,
-      ends-tallied (v .question .now)
-          (v .src .now) (v .task .calls) (v .tally .now) (c .before .before .before .before .before .before .before .before .before .before .pre .6),
-      search
-          needs,
+      ends-tallied (v .question .now) (v .src .now)
+          (v .task .calls) (v .tally .now) (c .before .before .before .before .before .before .before .before .before .before .pre .6),
+      search needs,
     )
 
 same-length-5 : tie.Need-same-length-5
@@ -103,10 +114,11 @@ returns-3 c =
     let c7 = c6 .before in
     let c13 = c7 .before .before .before .before .before .before in
     let a = c13 .args in (
-      write-bound (a .question .now) (a .src .now) (a .at) (a .binders) (a .names .now) (a .task) (a .out .now) (a .put) (c2 .write-term3 .result) _
-          (c13 .pre .3) (omega (arith, c13 .pre .2, c13 .pre .4)) (c2 .write-term3 .ensures) (c13 .pre .1) (λ e. c6 .if1 .left (c7 .get .ensures ∙ e)) (λ e.
-          c5 .if2 .left (c7 .get .ensures ∙ e)),
-      kept-within (a .binders) (a .task .new) (a .names .now) _ (kept-all (a .binders + 1) _),
+      write-bound (a .question .now) (a .src .now) (a .cursor .at) (a .cursor .binders) (a .names .now) (a .task) (a .out .now) (a .cursor .put)
+          (c2 .write-term3 .result) _ (c13 .pre .3) (omega (arith, c13 .pre .2, c13 .pre .4)) (c2 .write-term3 .ensures) (c13 .pre .1) (λ e. c6 .if1 .left
+          (c7 .get .ensures ∙ e)) (λ e. c5 .if2 .left (c7 .get .ensures ∙ e)),
+      kept-within (a .cursor .binders) (a .task .new) (a .names .now) _ (kept-all
+          (a .cursor .binders + 1) _),
     )
 
 pub write-prefix-spec : {M : Type 1} → statement M
@@ -114,20 +126,20 @@ write-prefix-spec =
     tie.close
     (tie.spec
     get-requires
-    add-write-term
+    add-next
     write-term-requires
     same-length
     same-length-2
     returns
-    add-write-term-2
+    add-behind
     write-term-requires-2
     same-length-3
     same-length-4
     returns-2
     add-names
     slice-write-names
-    add-write-term-3
-    add-write-term-4
+    add-bound
+    add-inner
     write-term-requires-3
     same-length-5
     same-length-6

@@ -15,7 +15,8 @@ returns : tie.Need-returns
 returns c =
     let c6 = c .before .before .before .before .before .before in
     let a = c6 .args in
-    term-none (a .question .now) (a .src .now) (a .at) (a .binders) (a .names .now) (a .levels) (a .out .now) (a .put) (c .if1 .taken) (c6 .pre .1 .1)
+    term-none (a .question .now) (a .src .now) (a .cursor .at) (a .cursor .binders) (a .names .now) (a .levels) (a .out .now) (a .cursor .put)
+    (c .if1 .taken) (c6 .pre .1 .1)
 
 end-at-requires : tie.Need-end-at-requires
 end-at-requires c κs = search needs
@@ -23,7 +24,7 @@ end-at-requires c κs = search needs
 sub-n : tie.Need-sub-n
 sub-n c =
     let c7 = c .before .before .before .before .before .before .before in
-    omega (arith, c .end-at .ensures, c7 .pre .2 .on (c7 .args .at) (c .before .if1 .left))
+    omega (arith, c .end-at .ensures, c7 .pre .2 .on (c7 .args .cursor .at) (c .before .if1 .left))
 
 room-requires : tie.Need-room-requires
 room-requires c κs = search needs
@@ -36,8 +37,9 @@ returns-2 c =
     let c2 = c .before .before in
     let c9 = c2 .before .before .before .before .before .before .before in
     let a = c9 .args in
-    term-full (a .question .now) (a .src .now) (a .at) (a .binders) (a .names .now) (a .levels) (a .out .now) (a .put) (a .tally .now) (c9 .pre .2)
-    (c2 .end-at .result) (c2 .end-at .ensures) (c9 .pre .1 .1) (leb-false _ _ (sym (c .before .room .ensures) ∙ not-true _ (c .if2 .taken)))
+    term-full (a .question .now) (a .src .now) (a .cursor .at) (a .cursor .binders) (a .names .now) (a .levels) (a .out .now) (a .cursor .put)
+    (a .tally .now) (c9 .pre .2) (c2 .end-at .result) (c2 .end-at .ensures) (c9 .pre .1 .1) (leb-false _ _ (sym (c .before .room .ensures) ∙ not-true
+    _ (c .if2 .taken)))
 
 unchanged-requires : tie.Need-unchanged-requires
 unchanged-requires c κs = search needs
@@ -49,7 +51,7 @@ copy-requires c κs =
     let c5 = c4 .before in
     let c6 = c5 .before in
     let c12 = c6 .before .before .before .before .before .before in
-    let o = c12 .pre .2 .on (c12 .args .at) (c6 .if1 .left) in
+    let o = c12 .pre .2 .on (c12 .args .cursor .at) (c6 .if1 .left) in
     (omega (arith, o, c5 .end-at .ensures), leb-true _ _ (sym (c4 .room .ensures) ∙ not-false _ (c3 .if2 .left)))
 
 add-result-3 : tie.Need-add-result-3
@@ -57,7 +59,7 @@ add-result-3 c =
     let c8 = c .before .before .before .before .before .before .before .before in
     let c9 = c8 .before in
     let c15 = c9 .before .before .before .before .before .before in
-    omega (arith, c15 .pre .1 .1, c15 .pre .2 .on (c15 .args .at) (c9 .if1 .left), c8 .end-at .ensures, c15 .good, c15 .fits)
+    omega (arith, c15 .pre .1 .1, c15 .pre .2 .on (c15 .args .cursor .at) (c9 .if1 .left), c8 .end-at .ensures, c15 .good, c15 .fits)
 
 same-length : tie.Need-same-length
 same-length c = search needs
@@ -71,9 +73,10 @@ returns-3 c =
     let c8 = c7 .before in
     let c15 = c8 .before .before .before .before .before .before .before in
     let a = c15 .args in
-    term-same (a .question .now) (a .src .now) (a .at) (a .binders) (a .names .now) (a .levels) (a .out .now) (a .put) (a .tally .now) (c15 .pre .2)
-    (c8 .end-at .result) (c8 .end-at .ensures) (leb-true _ _ (sym (c7 .room .ensures) ∙ not-false _ (c6 .if2 .left))) (subst (UnchangedIs
-    (a .names .now) (a .binders) (a .levels)) (c4 .if3 .taken) (c5 .unchanged .ensures)) _ (c .before .before .copy .ensures)
+    term-same (a .question .now) (a .src .now) (a .cursor .at) (a .cursor .binders) (a .names .now) (a .levels) (a .out .now) (a .cursor .put)
+    (a .tally .now) (c15 .pre .2) (c8 .end-at .result) (c8 .end-at .ensures) (leb-true _ _ (sym (c7 .room .ensures) ∙ not-false _ (c6 .if2 .left)))
+    (subst (UnchangedIs (a .names .now) (a .cursor .binders) (a .levels)) (c4 .if3 .taken) (c5 .unchanged .ensures)) _
+    (c .before .before .copy .ensures)
 
 renaming-requires : tie.Need-renaming-requires
 renaming-requires c κs = search needs
@@ -92,7 +95,7 @@ add-result-4 c =
     let c11 = c .before .before .before .before .before .before .before .before .before .before .before in
     let c12 = c11 .before in
     let c18 = c12 .before .before .before .before .before .before in
-    omega (arith, c18 .pre .1 .1, c18 .pre .2 .on (c18 .args .at) (c12 .if1 .left), c11 .end-at .ensures, c18 .good, c18 .fits)
+    omega (arith, c18 .pre .1 .1, c18 .pre .2 .on (c18 .args .cursor .at) (c12 .if1 .left), c11 .end-at .ensures, c18 .good, c18 .fits)
 
 same-length-2 : tie.Need-same-length-2
 same-length-2 c = search needs
@@ -107,9 +110,9 @@ returns-4 c =
     let c11 = c10 .before in
     let c18 = c11 .before .before .before .before .before .before .before in
     let a = c18 .args in
-    term-done (a .question .now) (a .src .now) (a .at) (a .binders) (a .names .now) (a .levels) (a .out .now) (a .put) (a .tally .now) (c18 .pre .2)
-    (c11 .end-at .result) (c11 .end-at .ensures) (c18 .pre .1 .0) (leb-true _ _ (sym (c10 .room .ensures) ∙ not-false _ (c9 .if2 .left)))
-    (c5 .arities-of .result .now) (c5 .arities-of .ensures) (c6 .renaming .result) (c6 .renaming .ensures) (c2 .rename .result) _
+    term-done (a .question .now) (a .src .now) (a .cursor .at) (a .cursor .binders) (a .names .now) (a .levels) (a .out .now) (a .cursor .put)
+    (a .tally .now) (c18 .pre .2) (c11 .end-at .result) (c11 .end-at .ensures) (c18 .pre .1 .0) (leb-true _ _ (sym (c10 .room .ensures) ∙ not-false _
+    (c9 .if2 .left))) (c5 .arities-of .result .now) (c5 .arities-of .ensures) (c6 .renaming .result) (c6 .renaming .ensures) (c2 .rename .result) _
     (c2 .rename .ensures)
 
 pub write-term-spec : {M : Type 1} → statement M

@@ -54,19 +54,19 @@ use Rattle.steps_results.proofs.result.+write+write_beside+write_call+w
 use Rattle.steps_results.proofs.result.+write+write_beside+write_call+write_parallel+write_restriction.Tie.{close}
 
 abbrev μ-write : Measures 6 write-kinds.ps ℕ
-μ-write κs a = 3 * (a .1 .1 .1 .1 .1 .1 .0 .calls * 113 + (length (a .1 .1 .0 .now) - a .1 .1 .1 .1 .0)) + 2
+μ-write κs a = 3 * (a .1 .1 .1 .1 .1 .0 .calls * 113 + (length (a .1 .1 .0 .now) - a .1 .1 .1 .1 .0 .at)) + 2
 
 abbrev μ-write-beside : Measures 6 write-beside-kinds.ps ℕ
-μ-write-beside κs a = 3 * (a .1 .1 .1 .1 .1 .1 .0 .calls * 113 + (length (a .1 .1 .0 .now) - a .1 .1 .1 .1 .0)) + 1
+μ-write-beside κs a = 3 * (a .1 .1 .1 .1 .1 .0 .calls * 113 + (length (a .1 .1 .0 .now) - a .1 .1 .1 .1 .0 .at)) + 1
 
 abbrev μ-write-call : Measures 5 write-call-kinds.ps ℕ
-μ-write-call κs a = 3 * (a .1 .1 .1 .1 .1 .0 .calls * 113 + (length (a .1 .1 .0 .now) - a .1 .1 .1 .0))
+μ-write-call κs a = 3 * (a .1 .1 .1 .1 .0 .calls * 113 + (length (a .1 .1 .0 .now) - a .1 .1 .1 .0 .at))
 
 abbrev μ-write-parallel : Measures 6 write-parallel-kinds.ps ℕ
-μ-write-parallel κs a = 3 * (a .1 .1 .1 .1 .1 .1 .0 .calls * 113 + (length (a .1 .1 .0 .now) - a .1 .1 .1 .1 .0))
+μ-write-parallel κs a = 3 * (a .1 .1 .1 .1 .1 .0 .calls * 113 + (length (a .1 .1 .0 .now) - a .1 .1 .1 .1 .0 .at))
 
 abbrev μ-write-restriction : Measures 6 write-restriction-kinds.ps ℕ
-μ-write-restriction κs a = 3 * (a .1 .1 .1 .1 .1 .1 .0 .calls * 113 + (length (a .1 .1 .0 .now) - a .1 .1 .1 .1 .0))
+μ-write-restriction κs a = 3 * (a .1 .1 .1 .1 .1 .0 .calls * 113 + (length (a .1 .1 .0 .now) - a .1 .1 .1 .1 .0 .at))
 
 abbrev write-at : ℕ → In 6 write-kinds.ps
 write-at t = and 6 write-kinds.ps (is 6 write-kinds.ps μ-write t) write.Pre
@@ -186,11 +186,9 @@ write-returns : (t : ℕ) → write-lts.Need-returns (write-claims t) (write-at 
 write-returns t c =
     let c7 = c .before .before .before .before .before .before .before in
     let a = c7 .args in (
-      write-none (a .question .now) (a .src .now) (a .at) (a .binders) (a .names .now) (a .task) (a .out .now) (a .put) _ _ (omega (
-        arith,
-        c7 .pre .1 .4,
-      )) (c .if1 .taken),
-      kept-all (a .binders) (a .names .now),
+      write-none (a .question .now) (a .src .now) (a .cursor .at) (a .cursor .binders) (a .names .now) (a .task) (a .out .now) (a .cursor .put) _ _
+          (omega (arith, c7 .pre .1 .4)) (c .if1 .taken),
+      kept-all (a .cursor .binders) (a .names .now),
     )
 
 write-write-term-requires : (t : ℕ) → write-lts.Need-write-term-requires (write-claims t) (write-at t) write.Post
@@ -217,9 +215,9 @@ write-returns-2 t c =
     let c5 = c2 .before .before .before in
     let c13 = c5 .before .before .before .before .before .before .before .before in
     let a = c13 .args in (
-      write-still (a .question .now) (a .src .now) (a .at) (a .binders) (a .names .now) (a .task) (a .out .now) (a .put) (c2 .write-term .result) _
-          (c5 .if2 .taken) (c2 .write-term .ensures),
-      kept-all (a .binders) (a .names .now),
+      write-still (a .question .now) (a .src .now) (a .cursor .at) (a .cursor .binders) (a .names .now) (a .task) (a .out .now) (a .cursor .put)
+          (c2 .write-term .result) _ (c5 .if2 .taken) (c2 .write-term .ensures),
+      kept-all (a .cursor .binders) (a .names .now),
     )
 
 write-get-requires : (t : ℕ) → write-lts.Need-get-requires (write-claims t) (write-at t) write.Post
@@ -249,8 +247,8 @@ write-same-length-4 t c = search needs
 write-returns-3 : (t : ℕ) → write-lts.Need-returns-3 (write-claims t) (write-at t) write.Post
 write-returns-3 t c = c .before .before .before .before .write-prefix .ensures
 
-write-add-write : (t : ℕ) → write-lts.Need-add-write (write-claims t) (write-at t) write.Post
-write-add-write t c = search needs
+write-add-next : (t : ℕ) → write-lts.Need-add-next (write-claims t) (write-at t) write.Post
+write-add-next t c = search needs
 
 write-write-requires : (t : ℕ) → write-lts.Need-write-requires (write-claims t) (write-at t) write.Post
 write-write-requires t c κs =
@@ -282,8 +280,8 @@ write-returns-4 t c =
     let c10 = c9 .before in
     let c18 = c10 .before .before .before .before .before .before .before .before in
     let a = c18 .args in (
-      write-mat (a .question .now) (a .src .now) (a .at) (a .binders) (a .names .now) (a .task) (c10 .if2 .left) (a .out .now) (a .put) (sym
-          (c9 .get .ensures) ∙ c7 .if4 .taken) (c4 .write .result) _ (c4 .write .ensures .0),
+      write-mat (a .question .now) (a .src .now) (a .cursor .at) (a .cursor .binders) (a .names .now) (a .task) (c10 .if2 .left) (a .out .now)
+          (a .cursor .put) (sym (c9 .get .ensures) ∙ c7 .if4 .taken) (c4 .write .result) _ (c4 .write .ensures .0),
       c4 .write .ensures .1,
     )
 
@@ -334,9 +332,9 @@ write-returns-5 t c =
     let c13 = c8 .before .before .before .before .before in
     let c21 = c13 .before .before .before .before .before .before .before .before in
     let a = c21 .args in (
-      write-branch (a .question .now) (a .src .now) (a .at) (a .binders) (a .names .now) (a .task) (c13 .if2 .left) (a .out .now) (a .put)
-          (a .tally .now) (c21 .pre .1 .5) (c8 .branch-of .result) (c8 .branch-of .ensures) (c7 .with-number .result) (c7 .with-number .ensures)
-          (c4 .write2 .result) _ (c4 .write2 .ensures .0),
+      write-branch (a .question .now) (a .src .now) (a .cursor .at) (a .cursor .binders) (a .names .now) (a .task) (c13 .if2 .left) (a .out .now)
+          (a .cursor .put) (a .tally .now) (c21 .pre .1 .5) (c8 .branch-of .result) (c8 .branch-of .ensures) (c7 .with-number .result)
+          (c7 .with-number .ensures) (c4 .write2 .result) _ (c4 .write2 .ensures .0),
       c4 .write2 .ensures .1,
     )
 
@@ -415,7 +413,7 @@ write-returns-8 : (t : ℕ) → write-lts.Need-returns-8 (write-claims t) (write
 write-returns-8 t c =
     let c19 = c .before .before .before .before .before .before .before .before .before .before .before .before .before .before .before .before .before .before .before in
     let a = c19 .args in
-    (c .before .before .write-call .ensures, kept-all (a .binders) (a .names .now))
+    (c .before .before .write-call .ensures, kept-all (a .cursor .binders) (a .names .now))
 
 write-beside-alone-requires : (t : ℕ) → write-beside-lts.Need-alone-requires (write-beside-claims t) (write-beside-at t) write-beside.Post
 write-beside-alone-requires t c κs =
@@ -459,10 +457,11 @@ write-beside-returns-2 t c =
     let c3 = c2 .before in
     let c11 = c3 .before .before .before .before .before .before .before .before in
     let v = c11 .args in (
-      beside-full (v .question .now) (v .src .now) (v .tally .now) (v .at) (v .binders) (v .names .now) (v .task) (c11 .pre .1 .3 .5) (v .out .now)
-          (v .put) (c3 .alone .result .at) (c3 .alone .result .number) (c3 .alone .ensures .is (c11 .pre .1 .2) (c2 .if1 .left)) (c2 .if1 .left)
-          (c11 .pre .1 .3 .4 .1) (leb-false _ _ (sym (c .before .room .ensures) ∙ not-true _ (c .if2 .taken))),
-      kept-all (v .binders) (v .names .now),
+      beside-full (v .question .now) (v .src .now) (v .tally .now) (v .cursor .at) (v .cursor .binders) (v .names .now) (v .task) (c11 .pre .1 .3 .5)
+          (v .out .now) (v .cursor .put) (c3 .alone .result .at) (c3 .alone .result .number) (c3 .alone .ensures .is (c11 .pre .1 .2) (c2 .if1 .left))
+          (c2 .if1 .left) (c11 .pre .1 .3 .4 .1) (leb-false _ _ (sym (c .before .room .ensures) ∙ not-true _ (c .if2 .taken))),
+      kept-all
+          (v .cursor .binders) (v .names .now),
     )
 
 write-beside-copy-requires : (t : ℕ) → write-beside-lts.Need-copy-requires (write-beside-claims t) (write-beside-at t) write-beside.Post
@@ -477,11 +476,11 @@ write-beside-copy-requires t c κs =
 write-beside-with-number-requires : (t : ℕ) → write-beside-lts.Need-with-number-requires (write-beside-claims t) (write-beside-at t) write-beside.Post
 write-beside-with-number-requires t c κs = search needs
 
-write-beside-add-write : (t : ℕ) → write-beside-lts.Need-add-write (write-beside-claims t) (write-beside-at t) write-beside.Post
-write-beside-add-write t c =
-    let c10 = c .before .before .before .before .before .before .before .before .before .before in
-    let c18 = c10 .before .before .before .before .before .before .before .before in
-    omega (arith, c10 .alone .ensures .inside, c18 .pre .1 .3 .0, c18 .pre .1 .3 .4 .1, c18 .good, c18 .fits)
+write-beside-add-behind : (t : ℕ) → write-beside-lts.Need-add-behind (write-beside-claims t) (write-beside-at t) write-beside.Post
+write-beside-add-behind t c =
+    let c8 = c .before .before .before .before .before .before .before .before in
+    let c16 = c8 .before .before .before .before .before .before .before .before in
+    omega (arith, c8 .alone .ensures .inside, c16 .pre .1 .3 .0, c16 .pre .1 .3 .4 .1, c16 .good)
 
 write-beside-write-requires : (t : ℕ) → write-beside-lts.Need-write-requires (write-beside-claims t) (write-beside-at t) write-beside.Post
 write-beside-write-requires t c κs =
@@ -496,8 +495,8 @@ write-beside-write-requires t c κs =
     let k : c2 .with-number .result .calls ≡ v .task .calls = ap (λ (t : Task). t .calls) (c2 .with-number .ensures) in
     let l : c2 .with-number .result .levels ≡ v .task .levels = ap (λ (t : Task). t .levels) (c2 .with-number .ensures) in
     let s = c5 .copy .kept .1 .1 .1 .0 in
-    let fits : v .put + (c10 .alone .result .at - v .at) ≤ length (v .out .now) = leb-true _ _ (sym (c8 .room .ensures) ∙ not-false _ (c7 .if2 .left))
-    in (
+    let fits : v .cursor .put + (c10 .alone .result .at - v .cursor .at) ≤ length (v .out .now) = leb-true _ _ (sym (c8 .room .ensures) ∙ not-false _
+    (c7 .if2 .left)) in (
       omega (arith, k, c18 .pre .0, c18 .pre .1 .0, c9 .if1 .left),
       (
         c18 .pre .1 .3 .0,
@@ -539,11 +538,12 @@ write-beside-returns-3 t c =
     let c27 = c19 .before .before .before .before .before .before .before .before in
     let v = c27 .args in
     let s = c14 .copy .kept .1 .1 .1 .0 in
-    let u = c8 .write .kept .1 .1 .1 .1 .1 .1 .1 .1 .0 in (
-      beside-written (v .question .now) (v .src .now) (v .tally .now) (v .at) (v .binders) (v .names .now) (v .task) (c27 .pre .1 .3 .5) (v .out .now)
-          (v .put) (c19 .alone .result .at) (c19 .alone .result .number) (c19 .alone .ensures .is (c27 .pre .1 .2) (c18 .if1 .left)) (c18 .if1 .left)
-          (leb-true _ _ (sym (c17 .room .ensures) ∙ not-false _ (c16 .if2 .left))) _ s (c14 .copy .ensures) (c11 .with-number .result)
-          (c11 .with-number .ensures) (c8 .write .result) _ (u ∙ s) (c8 .write .ensures .0) (c2 .copy-behind .result) _ (c2 .copy-behind .ensures),
+    let u = c8 .write .kept .1 .1 .1 .1 .1 .1 .1 .0 in (
+      beside-written (v .question .now) (v .src .now) (v .tally .now) (v .cursor .at) (v .cursor .binders) (v .names .now) (v .task)
+          (c27 .pre .1 .3 .5) (v .out .now) (v .cursor .put) (c19 .alone .result .at) (c19 .alone .result .number) (c19 .alone .ensures .is (c27 .pre .1 .2)
+          (c18 .if1 .left)) (c18 .if1 .left) (leb-true _ _ (sym (c17 .room .ensures) ∙ not-false _ (c16 .if2 .left))) _ s (c14 .copy .ensures)
+          (c11 .with-number .result) (c11 .with-number .ensures) (c8 .write .result) _ (u ∙ s) (c8 .write .ensures .0) (c2 .copy-behind .result) _
+          (c2 .copy-behind .ensures),
       c8 .write .ensures .1,
     )
 
@@ -558,8 +558,8 @@ write-call-returns t c =
     let c2 = c .before .before in
     let c8 = c2 .before .before .before .before .before .before in
     let a = c8 .args in
-    write-closed (a .question .now) (a .src .now) (a .at) (a .binders) (a .names .now) (a .task) (c8 .pre .1 .2) (a .out .now) (a .put)
-    (c8 .pre .1 .1) (c2 .call-at .result) (c2 .call-at .ensures) (not-true _ (c .if1 .taken)) _ _ (omega (arith, c8 .pre .1 .6))
+    write-closed (a .question .now) (a .src .now) (a .cursor .at) (a .cursor .binders) (a .names .now) (a .task) (c8 .pre .1 .2) (a .out .now)
+    (a .cursor .put) (c8 .pre .1 .1) (c2 .call-at .result) (c2 .call-at .ensures) (not-true _ (c .if1 .taken)) _ _ (omega (arith, c8 .pre .1 .6))
 
 write-call-enter-requires : (t : ℕ) → write-call-lts.Need-enter-requires (write-call-claims t) (write-call-at t) write-call.Post
 write-call-enter-requires t c κs = let m = c .before .before .call-at .ensures .may (not-false _ (c .if1 .left)) in m .0
@@ -591,8 +591,8 @@ write-call-slice-aggregate-write t c = search needs
 
 write-call-write-requires : (t : ℕ) → write-call-lts.Need-write-requires (write-call-claims t) (write-call-at t) write-call.Post
 write-call-write-requires t c κs =
-    let g = c .before .before .before .before .before .before .before .before .before .before .before .before .before .before .pre in
-    let a = c .before .before .before .before .before .before .before .before .before .before .before .before .before .before .args in let m =
+    let g = c .before .before .before .before .before .before .before .before .before .before .before .before .before .before .pre in let a =
+    c .before .before .before .before .before .before .before .before .before .before .before .before .before .before .args in let m =
     c .before .before .before .before .before .before .before .before .call-at .ensures .may (not-false _
     (c .before .before .before .before .before .before .if1 .left)) in let k : c .before .before .before .before .before .enter .result .calls ≡
     a .task .calls - 1 = ap (λ (t : Task). t .calls) (c .before .before .before .before .before .enter .ensures) in let l :
@@ -608,7 +608,7 @@ write-call-write-requires t c κs =
         search needs,
         (omega (arith, l, g .1 .6), g .1 .6 .1),
         called-tally
-            (a .question .now) (a .bodies .now) (a .src .now) (a .at) (a .task .calls) (g .1 .7)
+            (a .question .now) (a .bodies .now) (a .src .now) (a .cursor .at) (a .task .calls) (g .1 .7)
             (c .before .before .before .before .before .before .before .before .call-at .result)
             (c .before .before .before .before .before .before .before .before .call-at .ensures) (not-false _
             (c .before .before .before .before .before .before .if1 .left)) (g .1 .3) (c .before .before .before .before .body-at .result .now)
@@ -634,8 +634,8 @@ write-call-returns-2 t c =
     let c18 = c12 .before .before .before .before .before .before in
     let a = c18 .args in
     let m = c12 .call-at .ensures .may (not-false _ (c10 .if1 .left)) in
-    write-opened (a .question .now) (a .src .now) (a .at) (a .binders) (a .names .now) (a .task) (c18 .pre .1 .2) (a .out .now) (a .put)
-    (c18 .pre .1 .1) (c12 .call-at .result) (c12 .call-at .ensures) (c8 .body-at .result .now) (c8 .body-at .ensures
+    write-opened (a .question .now) (a .src .now) (a .cursor .at) (a .cursor .binders) (a .names .now) (a .task) (c18 .pre .1 .2) (a .out .now)
+    (a .cursor .put) (c18 .pre .1 .1) (c12 .call-at .result) (c12 .call-at .ensures) (c8 .body-at .result .now) (c8 .body-at .ensures
     (c12 .call-at .result .definition) (c12 .call-at .ensures .place)) (a .task .calls - 1) (omega (arith, m)) (c9 .enter .result)
     (c9 .enter .ensures) (c6 .called .result) (c6 .called .ensures) (c3 .write .result) _ (c3 .write .ensures .0)
 
@@ -668,17 +668,17 @@ write-parallel-returns t c =
     let c13 = c5 .before .before .before .before .before .before .before .before in
     let a = c13 .args in
     let s = c3 .open-pair .kept .0 in (
-      write-par-stop (a .question .now) (a .src .now) (a .at) (a .binders) (a .names .now) (a .task) (c13 .pre .1 .2) (a .out .now) (a .put)
-          (c13 .pre .1 .1) (c5 .plan-of .result) (c5 .plan-of .ensures) (c3 .open-pair .result) _ (c3 .open-pair .ensures) (omega (
+      write-par-stop (a .question .now) (a .src .now) (a .cursor .at) (a .cursor .binders) (a .names .now) (a .task) (c13 .pre .1 .2) (a .out .now)
+          (a .cursor .put) (c13 .pre .1 .1) (c5 .plan-of .result) (c5 .plan-of .ensures) (c3 .open-pair .result) _ (c3 .open-pair .ensures) (omega (
             arith,
             s,
             c .if1 .taken,
           )),
-      kept-all (a .binders) (a .names .now),
+      kept-all (a .cursor .binders) (a .names .now),
     )
 
-write-parallel-add-write : (t : ℕ) → write-parallel-lts.Need-add-write (write-parallel-claims t) (write-parallel-at t) write-parallel.Post
-write-parallel-add-write t c = search needs
+write-parallel-add-next : (t : ℕ) → write-parallel-lts.Need-add-next (write-parallel-claims t) (write-parallel-at t) write-parallel.Post
+write-parallel-add-next t c = search needs
 
 write-parallel-write-requires : (t : ℕ) → write-parallel-lts.Need-write-requires (write-parallel-claims t) (write-parallel-at t) write-parallel.Post
 write-parallel-write-requires t c κs =
@@ -688,8 +688,8 @@ write-parallel-write-requires t c κs =
     let c16 = c8 .before .before .before .before .before .before .before .before in
     let a = c16 .args in
     let s = c6 .open-pair .kept .0 in
-    let w = written-to (a .out .now) (a .put) (opening (c8 .plan-of .result .close)) (c6 .open-pair .result) _ (c6 .open-pair .ensures .is) (omega
-    (arith, s, c3 .if1 .left)) in
+    let w = written-to (a .out .now) (a .cursor .put) (opening (c8 .plan-of .result .close)) (c6 .open-pair .result) _ (c6 .open-pair .ensures .is)
+    (omega (arith, s, c3 .if1 .left)) in
     let k = c8 .plan-of .ensures .leftCalls in (
       omega (arith, c16 .pre .0, c16 .pre .1 .0, k),
       (
@@ -719,9 +719,9 @@ write-parallel-returns-2 t c =
     let c22 = c14 .before .before .before .before .before .before .before .before in
     let a = c22 .args in
     let s = c12 .open-pair .kept .0 in
-    let u = c5 .write .kept .1 .1 .1 .1 .1 .1 .1 .1 .0 in (
-      write-left-stop (a .question .now) (a .src .now) (a .at) (a .binders) (a .names .now) (a .task) (c22 .pre .1 .2) (a .out .now) (a .put)
-          (c22 .pre .1 .1) (c14 .plan-of .result) (c14 .plan-of .ensures) (c12 .open-pair .result) _ (c12 .open-pair .ensures) (omega (
+    let u = c5 .write .kept .1 .1 .1 .1 .1 .1 .1 .0 in (
+      write-left-stop (a .question .now) (a .src .now) (a .cursor .at) (a .cursor .binders) (a .names .now) (a .task) (c22 .pre .1 .2) (a .out .now)
+          (a .cursor .put) (c22 .pre .1 .1) (c14 .plan-of .result) (c14 .plan-of .ensures) (c12 .open-pair .result) _ (c12 .open-pair .ensures) (omega (
             arith,
             s,
             c9 .if1 .left,
@@ -739,10 +739,10 @@ write-parallel-write-requires-2 t c κs =
     let c25 = c17 .before .before .before .before .before .before .before .before in
     let a = c25 .args in
     let s = c15 .open-pair .kept .0 in
-    let w = written-to (a .out .now) (a .put) (opening (c17 .plan-of .result .close)) (c15 .open-pair .result) _ (c15 .open-pair .ensures .is) (omega
-    (arith, s, c12 .if1 .left)) in
-    let u = c8 .write .kept .1 .1 .1 .1 .1 .1 .1 .1 .0 in
-    let v = c8 .write .kept .1 .1 .1 .1 .1 .1 .1 .0 in
+    let w = written-to (a .out .now) (a .cursor .put) (opening (c17 .plan-of .result .close)) (c15 .open-pair .result) _ (c15 .open-pair .ensures .is)
+    (omega (arith, s, c12 .if1 .left)) in
+    let u = c8 .write .kept .1 .1 .1 .1 .1 .1 .1 .0 in
+    let v = c8 .write .kept .1 .1 .1 .1 .1 .1 .0 in
     let k = c17 .plan-of .ensures .rightCalls in (
       omega (arith, c25 .pre .0, c25 .pre .1 .0, k, c17 .plan-of .ensures .on),
       (
@@ -766,8 +766,8 @@ write-parallel-write-requires-2 t c κs =
           ),
           omega (arith, s, u, c3 .if2 .left),
         ),
-        subst (λ (n : ℕ). TallyIs (a .question .now)
-            (a .src .now) n (a .tally .now)) (sym k) (c25 .pre .1 .3 .5),
+        subst (λ (n : ℕ). TallyIs
+            (a .question .now) (a .src .now) n (a .tally .now)) (sym k) (c25 .pre .1 .3 .5),
         c25 .pre .1 .3 .6,
       ),
     )
@@ -789,15 +789,16 @@ write-parallel-returns-3 t c =
     let c30 = c22 .before .before .before .before .before .before .before .before in
     let a = c30 .args in
     let s = c20 .open-pair .kept .0 in
-    let u = c13 .write .kept .1 .1 .1 .1 .1 .1 .1 .1 .0 in (
-      write-par (a .question .now) (a .src .now) (a .at) (a .binders) (a .names .now) (a .task) (c30 .pre .1 .2) (a .out .now) (a .put)
-          (c30 .pre .1 .1) (c22 .plan-of .result) (c22 .plan-of .ensures) (c20 .open-pair .result) _ (c20 .open-pair .ensures) (omega (
+    let u = c13 .write .kept .1 .1 .1 .1 .1 .1 .1 .0 in (
+      write-par (a .question .now) (a .src .now) (a .cursor .at) (a .cursor .binders) (a .names .now) (a .task) (c30 .pre .1 .2) (a .out .now)
+          (a .cursor .put) (c30 .pre .1 .1) (c22 .plan-of .result) (c22 .plan-of .ensures) (c20 .open-pair .result) _ (c20 .open-pair .ensures) (omega (
             arith,
             s,
             c17 .if1 .left,
-          )) s (c13 .write .result) _ (c13 .write .ensures .0) (omega (arith, s, u, c8 .if2 .left)) (u ∙ s) _ (c13 .write .ensures .1)
-          (c4 .write2 .result) _ (c4 .write2 .ensures .0),
-      kept-then (a .binders) (a .names .now) _ _ (c13 .write .ensures .1) (c4 .write2 .ensures .1),
+          )) s (c13 .write .result) _ (c13 .write .ensures .0) (omega (arith, s, u, c8 .if2 .left)) (u ∙ s) _
+          (c13 .write .ensures .1) (c4 .write2 .result) _ (c4 .write2 .ensures .0),
+      kept-then (a .cursor .binders) (a .names .now) _ _
+          (c13 .write .ensures .1) (c4 .write2 .ensures .1),
     )
 
 write-restriction-add-next : (t : ℕ) → write-restriction-lts.Need-add-next (write-restriction-claims t) (write-restriction-at t) write-restriction.Post
@@ -833,7 +834,7 @@ write-restriction-write-requires t c κs =
         omega (arith, c10 .pre .1 .3 .1),
         c10 .pre .1 .3 .2,
         length-set (a .names .now)
-            (tableNames + a .binders) (a .task .new) ∙ c10 .pre .1 .3 .3,
+            (tableNames + a .cursor .binders) (a .task .new) ∙ c10 .pre .1 .3 .3,
         c10 .pre .1 .3 .4,
         c10 .pre .1 .3 .5,
         c10 .pre .1 .3 .6,
@@ -844,7 +845,7 @@ write-restriction-same-length : (t : ℕ) → write-restriction-lts.Need-same-le
 write-restriction-same-length t c =
     let c4 = c .before .before .before .before in
     let c15 = c4 .before .before .before .before .before .before .before .before .before .before .before in
-    c4 .write .kept .1 .1 .1 .1 .1 .1 .1 .0 ∙ length-set (c15 .args .names .now) _ _
+    c4 .write .kept .1 .1 .1 .1 .1 .1 .0 ∙ length-set (c15 .args .names .now) _ _
 
 write-restriction-same-length-2 : (t : ℕ) → write-restriction-lts.Need-same-length-2 (write-restriction-claims t) (write-restriction-at t) write-restriction.Post
 write-restriction-same-length-2 t c = search needs
@@ -856,16 +857,16 @@ write-restriction-returns t c =
     let c8 = c7 .before in
     let c15 = c8 .before .before .before .before .before .before .before in
     let a = c15 .args in (
-      write-open (a .question .now) (a .src .now) (a .at) (a .binders) (a .names .now) (a .task) (c15 .pre .1 .2) (a .out .now) (a .put)
-          (c15 .pre .1 .1) (c8 .extruded .ensures .passed) (c8 .extruded .ensures .does) (omega (
+      write-open (a .question .now) (a .src .now) (a .cursor .at) (a .cursor .binders) (a .names .now) (a .task) (c15 .pre .1 .2) (a .out .now)
+          (a .cursor .put) (c15 .pre .1 .1) (c8 .extruded .ensures .passed) (c8 .extruded .ensures .does) (omega (
             arith,
             c15 .pre .1 .3 .0,
             c15 .pre .1 .3 .1,
             c15 .pre .1 .3 .3,
             c15 .pre .1 .0,
-          )) (sym (c8 .extruded .ensures .is) ∙ c7 .if1 .taken) (c4 .write .result) _ (c4 .write .ensures .0),
-      kept-within
-          (a .binders) (a .task .new) (a .names .now) _ (c4 .write .ensures .1),
+          )) (sym (c8 .extruded .ensures .is) ∙ c7 .if1 .taken) (c4 .write .result) _
+          (c4 .write .ensures .0),
+      kept-within (a .cursor .binders) (a .task .new) (a .names .now) _ (c4 .write .ensures .1),
     )
 
 write-restriction-store-requires : (t : ℕ) → write-restriction-lts.Need-store-requires (write-restriction-claims t) (write-restriction-at t) write-restriction.Post
@@ -882,10 +883,10 @@ write-restriction-returns-2 t c =
     let c13 = c6 .before .before .before .before .before .before .before in
     let a = c13 .args in
     let s = c3 .store .kept .0 in (
-      write-res-stop (a .question .now) (a .src .now) (a .at) (a .binders) (a .names .now) (a .task) (c13 .pre .1 .2) (a .out .now) (a .put)
-          (c13 .pre .1 .1) (c6 .extruded .ensures .passed) (c6 .extruded .ensures .does) (sym (c6 .extruded .ensures .is) ∙ c5 .if1 .left)
+      write-res-stop (a .question .now) (a .src .now) (a .cursor .at) (a .cursor .binders) (a .names .now) (a .task) (c13 .pre .1 .2) (a .out .now)
+          (a .cursor .put) (c13 .pre .1 .1) (c6 .extruded .ensures .passed) (c6 .extruded .ensures .does) (sym (c6 .extruded .ensures .is) ∙ c5 .if1 .left)
           (c3 .store .result) _ (c3 .store .ensures) (omega (arith, s, c .if2 .taken)),
-      kept-all (a .binders) (a .names .now),
+      kept-all (a .cursor .binders) (a .names .now),
     )
 
 write-restriction-add-names-2 : (t : ℕ) → write-restriction-lts.Need-add-names-2 (write-restriction-claims t) (write-restriction-at t) write-restriction.Post
@@ -921,7 +922,7 @@ write-restriction-write-requires-2 t c κs =
     let c17 = c7 .before .before .before .before .before .before .before .before .before .before in
     let a = c17 .args in
     let s = c7 .store .kept .0 in
-    let w = written-to (a .out .now) (a .put) (8 ∷ []) (c7 .store .result) _ (c7 .store .ensures .is) (omega (arith, s, c4 .if2 .left)) in
+    let w = written-to (a .out .now) (a .cursor .put) (8 ∷ []) (c7 .store .result) _ (c7 .store .ensures .is) (omega (arith, s, c4 .if2 .left)) in
     let k : c2 .restrict .result .calls ≡ a .task .calls = ap (λ (t : Task). t .calls) (c2 .restrict .ensures) in
     let l : c2 .restrict .result .levels ≡ a .task .levels + 1 = ap (λ (t : Task). t .levels) (c2 .restrict .ensures) in (
       omega (arith, c17 .pre .0, c17 .pre .1 .0, k),
@@ -929,7 +930,7 @@ write-restriction-write-requires-2 t c κs =
         c17 .pre .1 .3 .0,
         omega (arith, c17 .pre .1 .3 .1),
         omega (arith, k, c17 .pre .1 .3 .2),
-        length-set (a .names .now) (tableNames + a .binders) (tableNames + a .task .levels) ∙ c17 .pre .1 .3 .3,
+        length-set (a .names .now) (tableNames + a .cursor .binders) (tableNames + a .task .levels) ∙ c17 .pre .1 .3 .3,
         (
           omega (
             arith,
@@ -950,7 +951,7 @@ write-restriction-same-length-4 : (t : ℕ) → write-restriction-lts.Need-same-
 write-restriction-same-length-4 t c =
     let c4 = c .before .before .before .before in
     let c22 = c4 .before .before .before .before .before .before .before .before .before .before .before .before .before .before .before .before .before .before in
-    c4 .write2 .kept .1 .1 .1 .1 .1 .1 .1 .0 ∙ length-set (c22 .args .names .now) _ _
+    c4 .write2 .kept .1 .1 .1 .1 .1 .1 .0 ∙ length-set (c22 .args .names .now) _ _
 
 write-restriction-same-length-5 : (t : ℕ) → write-restriction-lts.Need-same-length-5 (write-restriction-claims t) (write-restriction-at t) write-restriction.Post
 write-restriction-same-length-5 t c = search needs
@@ -966,12 +967,17 @@ write-restriction-returns-3 t c =
     let c22 = c15 .before .before .before .before .before .before .before in
     let a = c22 .args in
     let s = c12 .store .kept .0 in (
-      write-res (a .question .now) (a .src .now) (a .at) (a .binders) (a .names .now) (a .task) (c22 .pre .1 .2) (a .out .now) (a .put)
-          (c22 .pre .1 .1) (c15 .extruded .ensures .passed) (c15 .extruded .ensures .does) (sym (c15 .extruded .ensures .is) ∙ c14 .if1 .left)
-          (c12 .store .result) _ (c12 .store .ensures) (omega (arith, c22 .pre .1 .3 .0, c22 .pre .1 .3 .1, c22 .pre .1 .3 .3, c22 .pre .1 .0)) (omega
-          (arith, s, c9 .if2 .left)) s (c7 .restrict .result) (c7 .restrict .ensures) (c4 .write2 .result) _ (c4 .write2 .ensures .0),
-      kept-within
-          (a .binders) (tableNames + a .task .levels) (a .names .now) _ (c4 .write2 .ensures .1),
+      write-res (a .question .now) (a .src .now) (a .cursor .at) (a .cursor .binders) (a .names .now) (a .task) (c22 .pre .1 .2) (a .out .now)
+          (a .cursor .put) (c22 .pre .1 .1) (c15 .extruded .ensures .passed) (c15 .extruded .ensures .does) (sym (c15 .extruded .ensures .is) ∙
+          c14 .if1 .left) (c12 .store .result) _ (c12 .store .ensures) (omega (
+            arith,
+            c22 .pre .1 .3 .0,
+            c22 .pre .1 .3 .1,
+            c22 .pre .1 .3 .3,
+            c22 .pre .1 .0,
+          )) (omega (arith, s, c9 .if2 .left)) s (c7 .restrict .result) (c7 .restrict .ensures) (c4 .write2 .result) _
+          (c4 .write2 .ensures .0),
+      kept-within (a .cursor .binders) (tableNames + a .task .levels) (a .names .now) _ (c4 .write2 .ensures .1),
     )
 
 pub +write+write-beside+write-call+write-parallel+write-restriction-spec :
@@ -997,7 +1003,7 @@ pub +write+write-beside+write-call+write-parallel+write-restriction-spec :
     (write-same-length-3 t)
     (write-same-length-4 t)
     (write-returns-3 t)
-    (write-add-write t)
+    (write-add-next t)
     (write-write-requires t)
     (write-same-length-5 t)
     (write-same-length-6 t)
@@ -1035,7 +1041,7 @@ pub +write+write-beside+write-call+write-parallel+write-restriction-spec :
     (write-beside-returns-2 t)
     (write-beside-copy-requires t)
     (write-beside-with-number-requires t)
-    (write-beside-add-write t)
+    (write-beside-add-behind t)
     (write-beside-write-requires t)
     (write-beside-copy-behind-requires t)
     (write-beside-same-length-4 t)
@@ -1064,7 +1070,7 @@ pub +write+write-beside+write-call+write-parallel+write-restriction-spec :
     (write-parallel-same-length t)
     (write-parallel-same-length-2 t)
     (write-parallel-returns t)
-    (write-parallel-add-write t)
+    (write-parallel-add-next t)
     (write-parallel-write-requires t)
     (write-parallel-same-length-3 t)
     (write-parallel-same-length-4 t)

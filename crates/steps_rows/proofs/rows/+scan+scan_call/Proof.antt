@@ -35,10 +35,10 @@ use Rattle.steps_rows.proofs.rows.+scan+scan_call.{statement}
 use Rattle.steps_rows.proofs.rows.+scan+scan_call.Tie.{close}
 
 abbrev μ-scan : Measures 6 scan-kinds.ps ℕ
-μ-scan κs a = 4 * (a .1 .1 .1 .1 .1 .1 .1 .1 .1 .1 .0 * 113 + (length (a .1 .1 .0 .now) - a .1 .1 .1 .1 .1 .0)) + 3
+μ-scan κs a = 4 * (a .1 .1 .1 .1 .0 .calls * 113 + (length (a .1 .1 .0 .now) - a .1 .1 .1 .1 .0 .at)) + 3
 
 abbrev μ-scan-call : Measures 5 scan-call-kinds.ps ℕ
-μ-scan-call κs a = 4 * (a .1 .1 .1 .1 .1 .1 .1 .1 .0 * 113 + (length (a .1 .1 .0 .now) - a .1 .1 .1 .0)) + 2
+μ-scan-call κs a = 4 * (a .1 .1 .1 .0 .calls * 113 + (length (a .1 .1 .0 .now) - a .1 .1 .1 .0 .at)) + 2
 
 abbrev scan-at : ℕ → In 6 scan-kinds.ps
 scan-at t = and 6 scan-kinds.ps (is 6 scan-kinds.ps μ-scan t) scan.Pre
@@ -83,8 +83,8 @@ scan-returns t c =
     let c7 = c .before .before .before .before .before .before .before in
     let a = c7 .args in
     let p = c7 .pre in
-    scan-none (a .question .now) (a .src .now) (a .root) (a .at) (a .asked) (a .args .now) (a .inner) (a .depth) (a .calls) (a .n) (a .rows .now)
-    (p .1 .3) (c .if1 .taken)
+    scan-none (a .question .now) (a .src .now) (a .branch .root) (a .scope .at) (a .branch .asked) (a .args .now) (a .scope .inner) (a .scope .depth)
+    (a .scope .calls) (a .branch .row) (a .rows .now) (p .1 .3 .0) (c .if1 .taken)
 
 scan-shared-slice-read-t : (t : ℕ) → scan-lts.Need-shared-slice-read-t (scan-claims t) (scan-at t) scan.Post
 scan-shared-slice-read-t t c = search needs
@@ -94,8 +94,8 @@ scan-returns-2 t c =
     let c9 = c .before .before .before .before .before .before .before .before .before in
     let a = c9 .args in
     let p = c9 .pre in
-    scan-idle (a .question .now) (a .src .now) (a .root) (a .at) (a .asked) (a .args .now) (a .inner) (a .depth) (a .calls) (a .n) (a .rows .now)
-    (p .1 .3) (c .if2 .taken)
+    scan-idle (a .question .now) (a .src .now) (a .branch .root) (a .scope .at) (a .branch .asked) (a .args .now) (a .scope .inner) (a .scope .depth)
+    (a .scope .calls) (a .branch .row) (a .rows .now) (p .1 .3 .0) (c .if2 .taken)
 
 scan-is-trivial-requires : (t : ℕ) → scan-lts.Need-is-trivial-requires (scan-claims t) (scan-at t) scan.Post
 scan-is-trivial-requires t c κs =
@@ -103,8 +103,8 @@ scan-is-trivial-requires t c κs =
     let w = c9 .pre .1 .0 .room in
     (c .before .before .if1 .left, c9 .pre .1 .0 .outer, omega arith)
 
-scan-add-scan : (t : ℕ) → scan-lts.Need-add-scan (scan-claims t) (scan-at t) scan.Post
-scan-add-scan t c =
+scan-add-next : (t : ℕ) → scan-lts.Need-add-next (scan-claims t) (scan-at t) scan.Post
+scan-add-next t c =
     let c4 = c .before .before .before .before in
     let c11 = c4 .before .before .before .before .before .before .before in
     let w = c11 .pre .1 .0 .short in
@@ -116,14 +116,13 @@ scan-scan-requires t c κs =
     let c12 = c5 .before .before .before .before .before .before .before in
     let a = c12 .args in
     let p = c12 .pre in (
-      weight-on (a .calls * 113) (length (a .src .now)) (a .at) (a .at + 3) t 3 (p .0) (omega arith) (c5 .if1 .left),
+      weight-on (a .scope .calls * 113) (length (a .src .now)) (a .scope .at) (a .scope .at + 3) t 3 (p .0) (omega arith) (c5 .if1 .left),
       (
-        room-on (a .src .now) (a .at)
-            (a .at + 3) (a .inner) (a .depth) (a .calls) (p .1 .0) (omega arith),
+        room-on
+            (a .src .now) (a .scope .at) (a .scope .at + 3) (a .scope .inner) (a .scope .depth) (a .scope .calls) (p .1 .0) (omega arith),
         p .1 .1,
         p .1 .2,
         p .1 .3,
-        p .1 .4,
       ),
     )
 
@@ -137,8 +136,9 @@ scan-returns-3 t c =
     let c15 = c5 .before .before .before .before .before .before .before .before .before .before in
     let a = c15 .args in
     let p = c15 .pre in
-    scan-trivial (a .question .now) (a .src .now) (a .root) (a .at) (a .asked) (a .args .now) (a .inner) (a .depth) (a .calls) (a .n) (a .rows .now)
-    (sym (c5 .is-trivial .ensures) ∙ c4 .if3 .taken) _ _ (c .before .before .scan .ensures)
+    scan-trivial (a .question .now) (a .src .now) (a .branch .root) (a .scope .at) (a .branch .asked) (a .args .now) (a .scope .inner)
+    (a .scope .depth) (a .scope .calls) (a .branch .row) (a .rows .now) (sym (c5 .is-trivial .ensures) ∙ c4 .if3 .taken) _ _
+    (c .before .before .scan .ensures)
 
 scan-adds-nothing-requires : (t : ℕ) → scan-lts.Need-adds-nothing-requires (scan-claims t) (scan-at t) scan.Post
 scan-adds-nothing-requires t c κs =
@@ -153,7 +153,7 @@ scan-visible-at-requires t c κs = search needs
 scan-put-repeated-requires : (t : ℕ) → scan-lts.Need-put-repeated-requires (scan-claims t) (scan-at t) scan.Post
 scan-put-repeated-requires t c κs =
     let c16 = c .before .before .before .before .before .before .before .before .before .before .before .before .before .before .before .before in
-    (c16 .pre .1 .3, c16 .pre .1 .4)
+    c16 .pre .1 .3
 
 scan-same-length-2 : (t : ℕ) → scan-lts.Need-same-length-2 (scan-claims t) (scan-at t) scan.Post
 scan-same-length-2 t c = search needs
@@ -169,10 +169,11 @@ scan-returns-4 t c =
     let c19 = c9 .before .before .before .before .before .before .before .before .before .before in
     let a = c19 .args in
     let p = c19 .pre in
-    scan-again (a .question .now) (a .src .now) (a .root) (a .at) (a .asked) (a .args .now) (a .inner) (a .depth) (a .calls) (a .n) (a .rows .now)
-    (c7 .if4 .taken) (sym (c9 .is-trivial .ensures) ∙ c8 .if3 .left) (a .tally .now) (p .1 .1) (subst (RepeatedIs (a .question .now) (a .src .now)
-    (a .args .now) (a .inner) (a .depth) (a .root) (a .at)) (c5 .if5 .taken) (c6 .adds-nothing .ensures (ends-tallied (a .question .now) (a .src .now)
-    (a .calls) (a .tally .now) (p .1 .1)))) (c3 .visible-at .result) (c3 .visible-at .ensures) _ _ (c .before .before .put-repeated .ensures)
+    scan-again (a .question .now) (a .src .now) (a .branch .root) (a .scope .at) (a .branch .asked) (a .args .now) (a .scope .inner) (a .scope .depth)
+    (a .scope .calls) (a .branch .row) (a .rows .now) (c7 .if4 .taken) (sym (c9 .is-trivial .ensures) ∙ c8 .if3 .left) (a .tally .now) (p .1 .1)
+    (subst (RepeatedIs (a .question .now) (a .src .now) (a .args .now) (a .scope .inner) (a .scope .depth) (a .branch .root) (a .scope .at))
+    (c5 .if5 .taken) (c6 .adds-nothing .ensures (ends-tallied (a .question .now) (a .src .now) (a .scope .calls) (a .tally .now) (p .1 .1))))
+    (c3 .visible-at .result) (c3 .visible-at .ensures) _ _ (c .before .before .put-repeated .ensures)
 
 scan-scan-prefix-requires : (t : ℕ) → scan-lts.Need-scan-prefix-requires (scan-claims t) (scan-at t) scan.Post
 scan-scan-prefix-requires t c κs =
@@ -182,7 +183,7 @@ scan-scan-prefix-requires t c κs =
     let a = c14 .args in
     let p = c14 .pre in
     let w = p .1 .0 .room in
-    (c7 .if1 .left, omega (arith, c5 .if2 .left), c .before .if6 .taken, p .1 .0 .outer, omega arith, p .1 .3, p .1 .4)
+    (c7 .if1 .left, omega (arith, c5 .if2 .left), c .before .if6 .taken, p .1 .0 .outer, omega arith, p .1 .3)
 
 scan-same-length-3 : (t : ℕ) → scan-lts.Need-same-length-3 (scan-claims t) (scan-at t) scan.Post
 scan-same-length-3 t c = search needs
@@ -194,18 +195,12 @@ scan-returns-5 t c =
     let c17 = c8 .before .before .before .before .before .before .before .before .before in
     let a = c17 .args in
     let p = c17 .pre in
-    scan-prefix (a .question .now) (a .src .now) (a .root) (a .at) (a .asked) (a .args .now) (a .inner) (a .depth) (a .calls) (a .n) (a .rows .now)
-    (omega (arith, c8 .if2 .left)) (c4 .if6 .taken) _ _ (c .before .before .scan-prefix .ensures)
+    scan-prefix (a .question .now) (a .src .now) (a .branch .root) (a .scope .at) (a .branch .asked) (a .args .now) (a .scope .inner)
+    (a .scope .depth) (a .scope .calls) (a .branch .row) (a .rows .now) (omega (arith, c8 .if2 .left)) (c4 .if6 .taken) _ _
+    (c .before .before .scan-prefix .ensures)
 
-scan-add-scan-2 : (t : ℕ) → scan-lts.Need-add-scan-2 (scan-claims t) (scan-at t) scan.Post
-scan-add-scan-2 t c =
-    let c7 = c .before .before .before .before .before .before .before in
-    let c14 = c7 .before .before .before .before .before .before .before in
-    let w = c14 .pre .1 .0 .short in
-    omega (arith, c7 .if1 .left)
-
-scan-add-scan-3 : (t : ℕ) → scan-lts.Need-add-scan-3 (scan-claims t) (scan-at t) scan.Post
-scan-add-scan-3 t c =
+scan-add-matched : (t : ℕ) → scan-lts.Need-add-matched (scan-claims t) (scan-at t) scan.Post
+scan-add-matched t c =
     let c7 = c .before .before .before .before .before .before .before in
     let c14 = c7 .before .before .before .before .before .before .before in
     let w = c14 .pre .1 .0 .short in
@@ -217,14 +212,13 @@ scan-scan-requires-2 t c κs =
     let c15 = c8 .before .before .before .before .before .before .before in
     let a = c15 .args in
     let p = c15 .pre in (
-      weight-on (a .calls * 113) (length (a .src .now)) (a .at) (a .at + 3) t 3 (p .0) (omega arith) (c8 .if1 .left),
+      weight-on (a .scope .calls * 113) (length (a .src .now)) (a .scope .at) (a .scope .at + 3) t 3 (p .0) (omega arith) (c8 .if1 .left),
       (
-        room-on (a .src .now) (a .at)
-            (a .at + 3) (a .inner) (a .depth) (a .calls) (p .1 .0) (omega arith),
+        room-on
+            (a .src .now) (a .scope .at) (a .scope .at + 3) (a .scope .inner) (a .scope .depth) (a .scope .calls) (p .1 .0) (omega arith),
         p .1 .1,
         p .1 .2,
         p .1 .3,
-        p .1 .4,
       ),
     )
 
@@ -237,33 +231,26 @@ scan-returns-6 t c =
     let c18 = c4 .before .before .before .before .before .before .before .before .before .before .before .before .before .before in
     let a = c18 .args in
     let p = c18 .pre in
-    scan-mat (a .question .now) (a .src .now) (a .root) (a .at) (a .asked) (a .args .now) (a .inner) (a .depth) (a .calls) (a .n) (a .rows .now)
-    (c4 .if7 .taken) _ _ (c .before .before .scan2 .ensures)
+    scan-mat (a .question .now) (a .src .now) (a .branch .root) (a .scope .at) (a .branch .asked) (a .args .now) (a .scope .inner) (a .scope .depth)
+    (a .scope .calls) (a .branch .row) (a .rows .now) (c4 .if7 .taken) _ _ (c .before .before .scan2 .ensures)
 
-scan-add-scan-4 : (t : ℕ) → scan-lts.Need-add-scan-4 (scan-claims t) (scan-at t) scan.Post
-scan-add-scan-4 t c =
+scan-add-bound : (t : ℕ) → scan-lts.Need-add-bound (scan-claims t) (scan-at t) scan.Post
+scan-add-bound t c =
     let c8 = c .before .before .before .before .before .before .before .before in
     let c15 = c8 .before .before .before .before .before .before .before in
     let w = c15 .pre .1 .0 .short in
     omega (arith, c8 .if1 .left)
 
-scan-add-scan-5 : (t : ℕ) → scan-lts.Need-add-scan-5 (scan-claims t) (scan-at t) scan.Post
-scan-add-scan-5 t c =
-    let c8 = c .before .before .before .before .before .before .before .before in
-    let c15 = c8 .before .before .before .before .before .before .before in
-    let w = c15 .pre .1 .0 .short in
-    omega (arith, c8 .if1 .left)
-
-scan-add-scan-6 : (t : ℕ) → scan-lts.Need-add-scan-6 (scan-claims t) (scan-at t) scan.Post
-scan-add-scan-6 t c =
+scan-add-innermost : (t : ℕ) → scan-lts.Need-add-innermost (scan-claims t) (scan-at t) scan.Post
+scan-add-innermost t c =
     let c8 = c .before .before .before .before .before .before .before .before in
     let c15 = c8 .before .before .before .before .before .before .before in
     let w = c15 .pre .1 .0 .room in
     let o = c15 .pre .1 .0 .outer in
     omega (arith, c8 .if1 .left)
 
-scan-add-scan-7 : (t : ℕ) → scan-lts.Need-add-scan-7 (scan-claims t) (scan-at t) scan.Post
-scan-add-scan-7 t c =
+scan-add-deeper : (t : ℕ) → scan-lts.Need-add-deeper (scan-claims t) (scan-at t) scan.Post
+scan-add-deeper t c =
     let c8 = c .before .before .before .before .before .before .before .before in
     let c15 = c8 .before .before .before .before .before .before .before in
     let w = c15 .pre .1 .0 .room in
@@ -275,14 +262,15 @@ scan-scan-requires-3 t c κs =
     let c16 = c9 .before .before .before .before .before .before .before in
     let a = c16 .args in
     let p = c16 .pre in (
-      weight-on (a .calls * 113) (length (a .src .now)) (a .at) (a .at + 1) t 3 (p .0) (omega arith) (c9 .if1 .left),
+      weight-on (a .scope .calls * 113) (length (a .src .now)) (a .scope .at) (a .scope .at + 1) t 3 (p .0) (omega arith) (c9 .if1 .left),
       (
-        room-under (a .src .now) (a .at)
-            (a .inner) (a .depth) (a .calls) 1 1 (p .1 .0) (c9 .if1 .left) (omega (arith, c9 .if1 .left)) (omega arith),
+        room-under (a .src .now) (a .scope .at) (a .scope .inner) (a .scope .depth) (a .scope .calls) 1 1 (p .1 .0) (c9 .if1 .left) (omega (
+          arith,
+          c9 .if1 .left,
+        )) (omega arith),
         p .1 .1,
         p .1 .2,
         p .1 .3,
-        p .1 .4,
       ),
     )
 
@@ -295,8 +283,8 @@ scan-returns-7 t c =
     let c19 = c4 .before .before .before .before .before .before .before .before .before .before .before .before .before .before .before in
     let a = c19 .args in
     let p = c19 .pre in
-    scan-res (a .question .now) (a .src .now) (a .root) (a .at) (a .asked) (a .args .now) (a .inner) (a .depth) (a .calls) (a .n) (a .rows .now)
-    (c4 .if8 .taken) _ _ (c .before .before .scan3 .ensures)
+    scan-res (a .question .now) (a .src .now) (a .branch .root) (a .scope .at) (a .branch .asked) (a .args .now) (a .scope .inner) (a .scope .depth)
+    (a .scope .calls) (a .branch .row) (a .rows .now) (c4 .if8 .taken) _ _ (c .before .before .scan3 .ensures)
 
 scan-scan-call-requires : (t : ℕ) → scan-lts.Need-scan-call-requires (scan-claims t) (scan-at t) scan.Post
 scan-scan-call-requires t c κs =
@@ -304,14 +292,13 @@ scan-scan-call-requires t c κs =
     let c17 = c10 .before .before .before .before .before .before .before in
     let a = c17 .args in
     let p = c17 .pre in (
-      weight-part (a .calls * 113) (length (a .src .now)) (a .at) t 2 (p .0),
+      weight-part (a .scope .calls * 113) (length (a .src .now)) (a .scope .at) t 2 (p .0),
       (
         c10 .if1 .left,
         c .before .if9 .taken,
         p .1 .0,
         p .1 .2,
         p .1 .3,
-        p .1 .4,
       ),
     )
 
@@ -319,9 +306,7 @@ scan-same-length-6 : (t : ℕ) → scan-lts.Need-same-length-6 (scan-claims t) (
 scan-same-length-6 t c = search needs
 
 scan-returns-8 : (t : ℕ) → scan-lts.Need-returns-8 (scan-claims t) (scan-at t) scan.Post
-scan-returns-8 t c =
-    let c20 = c .before .before .before .before .before .before .before .before .before .before .before .before .before .before .before .before .before .before .before .before in
-    c .before .before .scan-call .ensures (c20 .args .root)
+scan-returns-8 t c = c .before .before .scan-call .ensures
 
 scan-middle-of-requires : (t : ℕ) → scan-lts.Need-middle-of-requires (scan-claims t) (scan-at t) scan.Post
 scan-middle-of-requires t c κs =
@@ -329,8 +314,8 @@ scan-middle-of-requires t c κs =
     let c16 = c9 .before .before .before .before .before .before .before in
     (c9 .if1 .left, c16 .pre .1 .0 .short)
 
-scan-add-root-of : (t : ℕ) → scan-lts.Need-add-root-of (scan-claims t) (scan-at t) scan.Post
-scan-add-root-of t c =
+scan-add-first : (t : ℕ) → scan-lts.Need-add-first (scan-claims t) (scan-at t) scan.Post
+scan-add-first t c =
     let c10 = c .before .before .before .before .before .before .before .before .before .before in
     let c17 = c10 .before .before .before .before .before .before .before in
     let w = c17 .pre .1 .0 .short in
@@ -339,27 +324,19 @@ scan-add-root-of t c =
 scan-root-of-requires : (t : ℕ) → scan-lts.Need-root-of-requires (scan-claims t) (scan-at t) scan.Post
 scan-root-of-requires t c κs = search needs
 
-scan-add-scan-8 : (t : ℕ) → scan-lts.Need-add-scan-8 (scan-claims t) (scan-at t) scan.Post
-scan-add-scan-8 t c =
-    let c11 = c .before .before .before .before .before .before .before .before .before .before .before in
-    let c18 = c11 .before .before .before .before .before .before .before in
-    let w = c18 .pre .1 .0 .short in
-    omega (arith, c11 .if1 .left)
-
 scan-scan-requires-4 : (t : ℕ) → scan-lts.Need-scan-requires-4 (scan-claims t) (scan-at t) scan.Post
 scan-scan-requires-4 t c κs =
     let c12 = c .before .before .before .before .before .before .before .before .before .before .before .before in
     let c19 = c12 .before .before .before .before .before .before .before in
     let a = c19 .args in
     let p = c19 .pre in (
-      weight-on (a .calls * 113) (length (a .src .now)) (a .at) (a .at + 1) t 3 (p .0) (omega arith) (c12 .if1 .left),
+      weight-on (a .scope .calls * 113) (length (a .src .now)) (a .scope .at) (a .scope .at + 1) t 3 (p .0) (omega arith) (c12 .if1 .left),
       (
-        room-on (a .src .now) (a .at)
-            (a .at + 1) (a .inner) (a .depth) (a .calls) (p .1 .0) (omega arith),
+        room-on
+            (a .src .now) (a .scope .at) (a .scope .at + 1) (a .scope .inner) (a .scope .depth) (a .scope .calls) (p .1 .0) (omega arith),
         p .1 .1,
         p .1 .2,
         p .1 .3,
-        p .1 .4,
       ),
     )
 
@@ -372,21 +349,20 @@ scan-scan-requires-5 t c κs =
     c .before .before .before .before .before .before .before .before .before .before .before .before .before .before .before .before .before .before .before .before .before .before .before .before .args
     in let p =
     c .before .before .before .before .before .before .before .before .before .before .before .before .before .before .before .before .before .before .before .before .before .before .before .before .pre
-    in let on = middle-on (a .question .now) (a .src .now) (a .calls) (a .tally .now) (p .1 .1) (a .at)
+    in let on = middle-on (a .question .now) (a .src .now) (a .scope .calls) (a .tally .now) (p .1 .1) (a .scope .at)
     (c .before .before .before .before .before .before .before .middle-of .result)
     (c .before .before .before .before .before .before .before .middle-of .ensures)
     (c .before .before .before .before .before .before .before .before .before .before .before .before .before .before .before .before .before .if1 .left)
     in (
-      weight-on (a .calls * 113) (length (a .src .now)) (a .at) (c .before .before .before .before .before .before .before .middle-of .result) t 3
+      weight-on (a .scope .calls * 113) (length (a .src .now)) (a .scope .at) (c .before .before .before .before .before .before .before .middle-of .result) t 3
           (p .0) (on)
           (c .before .before .before .before .before .before .before .before .before .before .before .before .before .before .before .before .before .if1 .left),
       (
-        room-on (a .src .now) (a .at) (c .before .before .before .before .before .before .before .middle-of .result) (a .inner) (a .depth) (a .calls)
+        room-on (a .src .now) (a .scope .at) (c .before .before .before .before .before .before .before .middle-of .result) (a .scope .inner) (a .scope .depth) (a .scope .calls)
             (p .1 .0) (omega arith),
         p .1 .1,
         p .1 .2,
-        c .before .before .before .before .scan4 .ensures .inside,
-        search needs,
+        (c .before .before .before .before .scan4 .ensures .inside, search needs),
       ),
     )
 
@@ -406,10 +382,10 @@ scan-returns-9 t c =
     let c27 = c14 .before .before .before .before .before .before .before .before .before .before .before .before .before in
     let a = c27 .args in
     let p = c27 .pre in
-    scan-two (a .question .now) (a .src .now) (a .root) (a .at) (a .asked) (a .args .now) (a .inner) (a .depth) (a .calls) (a .n) (a .rows .now)
-    (omega (arith, c14 .if6 .left, c13 .if7 .left)) (omega (arith, c12 .if8 .left, c11 .if9 .left)) (a .tally .now) (p .1 .1) (c10 .middle-of .result)
-    (c10 .middle-of .ensures) (c9 .root-of .result) (c9 .root-of .ensures) (c4 .root-of2 .result) (c4 .root-of2 .ensures) _ _ (c7 .scan4 .ensures) _ _
-    (c .before .before .scan5 .ensures)
+    scan-two (a .question .now) (a .src .now) (a .branch .root) (a .scope .at) (a .branch .asked) (a .args .now) (a .scope .inner) (a .scope .depth)
+    (a .scope .calls) (a .branch .row) (a .rows .now) (omega (arith, c14 .if6 .left, c13 .if7 .left)) (omega (arith, c12 .if8 .left, c11 .if9 .left))
+    (a .tally .now) (p .1 .1) (c10 .middle-of .result) (c10 .middle-of .ensures) (c9 .root-of .result) (c9 .root-of .ensures) (c4 .root-of2 .result)
+    (c4 .root-of2 .ensures) _ _ (c7 .scan4 .ensures) _ _ (c .before .before .scan5 .ensures)
 
 scan-call-call-at-requires : (t : ℕ) → scan-call-lts.Need-call-at-requires (scan-call-claims t) (scan-call-at t) scan-call.Post
 scan-call-call-at-requires t c κs = search needs
@@ -418,15 +394,17 @@ scan-call-returns : (t : ℕ) → scan-call-lts.Need-returns (scan-call-claims t
 scan-call-returns t c =
     let c2 = c .before .before in
     let c8 = c2 .before .before .before .before .before .before in
-    λ root. let a = c8 .args in let p = c8 .pre in scan-closed (a .question .now) (a .src .now) root (a .at) (a .asked) (a .args .now) (a .inner)
-    (a .depth) (a .calls) (a .n) (a .rows .now) (p .1 .1) (c2 .call-at .result) (c2 .call-at .ensures) (p .1 .4) (not-true _ (c .if1 .taken))
+    let a = c8 .args in let p = c8 .pre in scan-closed (a .question .now) (a .src .now) (a .branch .root) (a .scope .at) (a .branch .asked) (a .args .now)
+    (a .scope .inner) (a .scope .depth) (a .scope .calls) (a .branch .row) (a .rows .now) (p .1 .1) (c2 .call-at .result) (c2 .call-at .ensures)
+    (p .1 .4 .0) (not-true _ (c .if1 .taken))
 
 scan-call-returns-2 : (t : ℕ) → scan-call-lts.Need-returns-2 (scan-call-claims t) (scan-call-at t) scan-call.Post
 scan-call-returns-2 t c =
     let c4 = c .before .before .before .before in
     let c10 = c4 .before .before .before .before .before .before in
-    λ root. let a = c10 .args in let p = c10 .pre in scan-cut (a .question .now) (a .src .now) root (a .at) (a .asked) (a .args .now) (a .inner)
-    (a .depth) (a .calls) (a .n) (a .rows .now) (p .1 .1) (c4 .call-at .result) (c4 .call-at .ensures) (p .1 .4) (c .if2 .taken)
+    let a = c10 .args in let p = c10 .pre in scan-cut (a .question .now) (a .src .now) (a .branch .root) (a .scope .at) (a .branch .asked) (a .args .now)
+    (a .scope .inner) (a .scope .depth) (a .scope .calls) (a .branch .row) (a .rows .now) (p .1 .1) (c4 .call-at .result) (c4 .call-at .ensures)
+    (p .1 .4 .0) (c .if2 .taken)
 
 scan-call-add-arguments : (t : ℕ) → scan-call-lts.Need-add-arguments (scan-call-claims t) (scan-call-at t) scan-call.Post
 scan-call-add-arguments t c = search needs
@@ -455,11 +433,11 @@ scan-call-body-tally-requires t c κs =
 scan-call-slice-aggregate-scan : (t : ℕ) → scan-call-lts.Need-slice-aggregate-scan (scan-call-claims t) (scan-call-at t) scan-call.Post
 scan-call-slice-aggregate-scan t c = search needs
 
-scan-call-sub-scan : (t : ℕ) → scan-call-lts.Need-sub-scan (scan-call-claims t) (scan-call-at t) scan-call.Post
-scan-call-sub-scan t c =
-    let c6 = c .before .before .before .before .before .before in
-    let c8 = c6 .before .before in
-    let m = c8 .call-at .ensures .may (not-false _ (c6 .if1 .left)) in
+scan-call-sub-left : (t : ℕ) → scan-call-lts.Need-sub-left (scan-call-claims t) (scan-call-at t) scan-call.Post
+scan-call-sub-left t c =
+    let c5 = c .before .before .before .before .before in
+    let c7 = c5 .before .before in
+    let m = c7 .call-at .ensures .may (not-false _ (c5 .if1 .left)) in
     omega (arith, m)
 
 scan-call-scan-requires : (t : ℕ) → scan-call-lts.Need-scan-requires (scan-call-claims t) (scan-call-at t) scan-call.Post
@@ -478,17 +456,16 @@ scan-call-scan-requires t c κs =
       ap length ((c3 .body-at .ensures (c9 .call-at .result .definition)
           (c9 .call-at .ensures .place)) .piece),
     ) in (
-      weight-body (a .calls) (length (a .src .now)) (a .at) (length (c3 .body-at .result .now)) t 2 (p .0) (m .0) b,
+      weight-body (a .scope .calls) (length (a .src .now)) (a .scope .at) (length (c3 .body-at .result .now)) t 2 (p .0) (m .0) b,
       (
-        room-body (a .src .now) (a .at)
-            (a .inner) (a .depth) (a .calls) (c3 .body-at .result .now) (p .1 .2) (m .0) b,
-        called-tally (a .question .now) (a .bodies .now) (a .src .now)
-            (a .at) (a .calls) (p .1 .3) (c9 .call-at .result) (c9 .call-at .ensures) (not-false _ (c7 .if1 .left)) (p .1 .2 .once) (c3 .body-at .result .now)
-            (c3 .body-at .ensures (c9 .call-at .result .definition) (c9 .call-at .ensures .place)) (c2 .body-tally .result .now) (c2 .body-tally .ensures) _
-            refl,
+        room-body
+            (a .src .now) (a .scope .at) (a .scope .inner) (a .scope .depth) (a .scope .calls) (c3 .body-at .result .now) (p .1 .2) (m .0) b,
+        called-tally
+            (a .question .now) (a .bodies .now) (a .src .now) (a .scope .at) (a .scope .calls) (p .1 .3) (c9 .call-at .result) (c9 .call-at .ensures)
+            (not-false _ (c7 .if1 .left)) (p .1 .2 .once) (c3 .body-at .result .now) (c3 .body-at .ensures (c9 .call-at .result .definition)
+            (c9 .call-at .ensures .place)) (c2 .body-tally .result .now) (c2 .body-tally .ensures) _ refl,
         p .1 .3,
         p .1 .4,
-        p .1 .5,
       ),
     )
 
@@ -502,10 +479,11 @@ scan-call-returns-3 t c =
     let c10 = c7 .before .before .before in
     let c12 = c10 .before .before in
     let c18 = c12 .before .before .before .before .before .before in
-    λ root. let a = c18 .args in let p = c18 .pre in let m = c12 .call-at .ensures .may (not-false _ (c10 .if1 .left)) in scan-called
-    (a .question .now) (a .src .now) root (a .at) (a .asked) (a .args .now) (a .inner) (a .depth) (a .calls) (a .n) (a .rows .now) (p .1 .1)
-    (c12 .call-at .result) (c12 .call-at .ensures) (m .0) (c6 .body-at .result .now) (c6 .body-at .ensures (c12 .call-at .result .definition)
-    (c12 .call-at .ensures .place)) (c7 .arguments .result) (c7 .arguments .ensures) _ _ (c .before .before .scan .ensures)
+    let a = c18 .args in let p = c18 .pre in let m = c12 .call-at .ensures .may (not-false _ (c10 .if1 .left)) in scan-called
+    (a .question .now) (a .src .now) (a .branch .root) (a .scope .at) (a .branch .asked) (a .args .now) (a .scope .inner) (a .scope .depth) (a .scope .calls)
+    (a .branch .row) (a .rows .now) (p .1 .1) (c12 .call-at .result) (c12 .call-at .ensures) (m .0) (c6 .body-at .result .now) (c6 .body-at .ensures
+    (c12 .call-at .result .definition) (c12 .call-at .ensures .place)) (c7 .arguments .result) (c7 .arguments .ensures) _ _
+    (c .before .before .scan .ensures)
 
 pub +scan+scan-call-spec : {M : Type 1} → statement M
 +scan+scan-call-spec = close μ-scan μ-scan-call (λ t. scan-lts.spec (scan-claims t)
@@ -515,7 +493,7 @@ pub +scan+scan-call-spec : {M : Type 1} → statement M
     (scan-shared-slice-read-t t)
     (scan-returns-2 t)
     (scan-is-trivial-requires t)
-    (scan-add-scan t)
+    (scan-add-next t)
     (scan-scan-requires t)
     (scan-same-length t)
     (scan-returns-3 t)
@@ -527,15 +505,13 @@ pub +scan+scan-call-spec : {M : Type 1} → statement M
     (scan-scan-prefix-requires t)
     (scan-same-length-3 t)
     (scan-returns-5 t)
-    (scan-add-scan-2 t)
-    (scan-add-scan-3 t)
+    (scan-add-matched t)
     (scan-scan-requires-2 t)
     (scan-same-length-4 t)
     (scan-returns-6 t)
-    (scan-add-scan-4 t)
-    (scan-add-scan-5 t)
-    (scan-add-scan-6 t)
-    (scan-add-scan-7 t)
+    (scan-add-bound t)
+    (scan-add-innermost t)
+    (scan-add-deeper t)
     (scan-scan-requires-3 t)
     (scan-same-length-5 t)
     (scan-returns-7 t)
@@ -543,9 +519,8 @@ pub +scan+scan-call-spec : {M : Type 1} → statement M
     (scan-same-length-6 t)
     (scan-returns-8 t)
     (scan-middle-of-requires t)
-    (scan-add-root-of t)
+    (scan-add-first t)
     (scan-root-of-requires t)
-    (scan-add-scan-8 t)
     (scan-scan-requires-4 t)
     (scan-root-of-requires-2 t)
     (scan-scan-requires-5 t)
@@ -572,8 +547,8 @@ pub +scan+scan-call-spec : {M : Type 1} → statement M
     (scan-call-arguments-requires t)
     (scan-call-body-at-requires t)
     (scan-call-body-tally-requires t)
+    (scan-call-sub-left t)
     (scan-call-slice-aggregate-scan t)
-    (scan-call-sub-scan t)
     (scan-call-scan-requires t)
     (scan-call-same-length t)
     (scan-call-returns-3 t)

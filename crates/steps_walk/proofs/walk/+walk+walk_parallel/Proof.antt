@@ -59,6 +59,7 @@ walk-restrictions-at-requires t c κs = search needs
 walk-add-place : (t : ℕ) → walk-lts.Need-add-place (walk-claims t) (walk-at t) walk.Post
 walk-add-place t c =
     let c7 = c .before .before .before .before .before .before .before in
+    let c7 = c7 in
     let i = c .restrictions-at .ensures .inside in
     let s = c7 .pre .1 .0 .1 .0 in
     omega arith
@@ -66,6 +67,7 @@ walk-add-place t c =
 walk-add-under : (t : ℕ) → walk-lts.Need-add-under (walk-claims t) (walk-at t) walk.Post
 walk-add-under t c =
     let c8 = c .before .before .before .before .before .before .before .before in
+    let c8 = c8 in
     let i = c .before .restrictions-at .ensures .inside in
     let s = c8 .pre .1 .0 .1 .0 in
     let d = c8 .pre .1 .1 in
@@ -88,6 +90,7 @@ walk-shared-slice-read-if2 t c = search needs
 walk-walk-parallel-requires : (t : ℕ) → walk-lts.Need-walk-parallel-requires (walk-claims t) (walk-at t) walk.Post
 walk-walk-parallel-requires t c κs =
     let c4 = c .before .before .before .before in
+    let c4 = c4 in
     let c6 = c4 .before .before in
     let c13 = c6 .before .before .before .before .before .before .before in
     let i = c6 .restrictions-at .ensures .inside in
@@ -106,6 +109,7 @@ walk-same-length-2 t c = search needs
 walk-returns-2 : (t : ℕ) → walk-lts.Need-returns-2 (walk-claims t) (walk-at t) walk.Post
 walk-returns-2 t c =
     let c4 = c .before .before .before .before in
+    let c4 = c4 in
     let c11 = c4 .before .before .before .before .before .before .before in
     let c18 = c11 .before .before .before .before .before .before .before in
     let a = c18 .args in
@@ -117,6 +121,7 @@ walk-returns-2 t c =
 walk-component-requires : (t : ℕ) → walk-lts.Need-component-requires (walk-claims t) (walk-at t) walk.Post
 walk-component-requires t c κs =
     let c4 = c .before .before .before .before in
+    let c4 = c4 in
     let c6 = c4 .before .before in
     let c13 = c6 .before .before .before .before .before .before .before in
     let i = c6 .restrictions-at .ensures .inside in
@@ -141,6 +146,7 @@ walk-same-length-4 t c = search needs
 walk-returns-3 : (t : ℕ) → walk-lts.Need-returns-3 (walk-claims t) (walk-at t) walk.Post
 walk-returns-3 t c =
     let c4 = c .before .before .before .before in
+    let c4 = c4 in
     let c11 = c4 .before .before .before .before .before .before .before in
     let c18 = c11 .before .before .before .before .before .before .before in
     let a = c18 .args in
@@ -155,6 +161,7 @@ walk-parallel-middle-of-requires t c κs = search needs
 walk-parallel-add-next : (t : ℕ) → walk-parallel-lts.Need-add-next (walk-parallel-claims t) (walk-parallel-at t) walk-parallel.Post
 walk-parallel-add-next t c =
     let c7 = c .before .before .before .before .before .before .before in
+    let c7 = c7 in
     let s = c7 .pre .1 .0 .1 .0 in
     let i = c7 .pre .1 .1 .1 in
     omega arith
@@ -162,6 +169,7 @@ walk-parallel-add-next t c =
 walk-parallel-walk-requires : (t : ℕ) → walk-parallel-lts.Need-walk-requires (walk-parallel-claims t) (walk-parallel-at t) walk-parallel.Post
 walk-parallel-walk-requires t c κs =
     let c9 = c .before .before .before .before .before .before .before .before .before in
+    let c9 = c9 in
     let l = c9 .pre .1 .1 .1 in
     let t = c9 .pre .0 in
     let d = c9 .pre .1 .1 .0 in
@@ -177,6 +185,7 @@ walk-parallel-same-length-2 t c = search needs
 walk-parallel-returns : (t : ℕ) → walk-parallel-lts.Need-returns (walk-parallel-claims t) (walk-parallel-at t) walk-parallel.Post
 walk-parallel-returns t c =
     let c6 = c .before .before .before .before .before .before in
+    let c6 = c6 in
     let c16 = c6 .before .before .before .before .before .before .before .before .before .before in
     let v = c16 .args in
     left-passed (v .question .now) (v .part .now) (v .node .at) (v .node .depth) (v .node .number) (v .node .x) (v .rows .now) (v .walked .rows)
@@ -189,6 +198,7 @@ walk-parallel-add-further : (t : ℕ) → walk-parallel-lts.Need-add-further (wa
 unfolding silentAt
 walk-parallel-add-further t c =
     let c13 = c .before .before .before .before .before .before .before .before .before .before .before .before .before in
+    let c13 = c13 in
     let c17 = c13 .before .before .before .before in
     let b = c13 .shared-slice-known4 .given (longestTerm + (c17 .args .node .at + 1)) in
     let e = c .silent-at .ensures in
@@ -200,7 +210,33 @@ walk-parallel-add-further t c =
 walk-parallel-walk-requires-2 : (t : ℕ) → walk-parallel-lts.Need-walk-requires-2 (walk-parallel-claims t) (walk-parallel-at t) walk-parallel.Post
 unfolding silentAt
 walk-parallel-walk-requires-2 t c κs =
-    let v = c .before .before .before .before .before .before .before .before .before .before .before .before .before .before .before .before .before .before .before .args in let g = c .before .before .before .before .before .before .before .before .before .before .before .before .before .before .before .before .before .before .before .pre in let m = middle-on (v .question .now) (v .part .now) 1 (v .tally .now) (g .1 .0 .1 .1) (v .node .at) (c .before .before .before .before .before .before .before .before .before .before .before .before .middle-of .result) (c .before .before .before .before .before .before .before .before .before .before .before .before .middle-of .ensures) (g .1 .1 .1) in let b = c .before .before .before .before .before .before .before .before .before .before .before .before .before .before .before .shared-slice-known4 .given (longestTerm + (v .node .at + 1)) in let e = c .before .before .silent-at .ensures in let h = g .1 .2 in let s = g .1 .0 .1 .0 in let i = g .1 .1 .1 in let t = g .0 in let d = g .1 .1 .0 in (omega arith, (((search needs, omega (arith, c .before .before .before .before .before .before .area .given, g .1 .0 .0 .1)), g .1 .0 .1), omega arith, omega arith, c .before .before .before .before .before .before .before .before .before .walk .ensures .inside, omega (arith, c .before .before .before .before .before .before .before .before .rows .given, g .1 .4)))
+    let c3 = c .before .before .before in
+    let c6 = c3 .before .before .before in
+    let c8 = c6 .before .before in
+    let c9 = c8 .before in
+    let c12 = c9 .before .before .before in
+    let c15 = c12 .before .before .before in
+    let c19 = c15 .before .before .before .before in
+    let v = c19 .args in
+    let g = c19 .pre in
+    let m = middle-on (v .question .now) (v .part .now) 1 (v .tally .now) (g .1 .0 .1 .1) (v .node .at) (c12 .middle-of .result)
+    (c12 .middle-of .ensures) (g .1 .1 .1) in
+    let b = c15 .shared-slice-known4 .given (longestTerm + (v .node .at + 1)) in
+    let e = c .before .before .silent-at .ensures in
+    let h = g .1 .2 in
+    let s = g .1 .0 .1 .0 in
+    let i = g .1 .1 .1 in
+    let t = g .0 in
+    let d = g .1 .1 .0 in (
+      omega arith,
+      (
+        ((c3 .if1 .left, omega (arith, c6 .area .given, g .1 .0 .0 .1)), g .1 .0 .1),
+        omega arith,
+        omega arith,
+        c9 .walk .ensures .inside,
+        omega (arith, c8 .rows .given, g .1 .4),
+      ),
+    )
 
 walk-parallel-same-length-3 : (t : ℕ) → walk-parallel-lts.Need-same-length-3 (walk-parallel-claims t) (walk-parallel-at t) walk-parallel.Post
 walk-parallel-same-length-3 t c = search needs
@@ -261,6 +297,7 @@ walk-parallel-add-silent : (t : ℕ) → walk-parallel-lts.Need-add-silent (walk
 unfolding silentAt
 walk-parallel-add-silent t c =
     let c12 = c .before .before .before .before .before .before .before .before .before .before .before .before in
+    let c12 = c12 in
     let c22 = c12 .before .before .before .before .before .before .before .before .before .before in
     let c25 = c22 .before .before .before in
     let c29 = c25 .before .before .before .before in
@@ -276,17 +313,46 @@ walk-parallel-add-silent t c =
 walk-parallel-meet-requires : (t : ℕ) → walk-parallel-lts.Need-meet-requires (walk-parallel-claims t) (walk-parallel-at t) walk-parallel.Post
 unfolding silentAt
 walk-parallel-meet-requires t c κs =
-    let g = c .before .before .before .before .before .before .before .before .before .before .before .before .before .before .before .before .before .before .before .before .before .before .before .before .before .before .before .before .before .before .before .pre in let b = c .before .before .before .before .before .before .before .before .before .before .before .before .before .before .before .before .before .before .before .before .before .before .before .before .before .before .before .shared-slice-known4 .given (longestTerm + (c .before .before .before .before .before .before .before .before .before .before .before .before .before .before .before .before .before .before .before .before .before .before .before .before .before .before .before .before .before .before .before .args .node .at + 1)) in let e = c .before .before .before .before .before .before .before .before .before .before .before .before .before .before .silent-at .ensures in let h = g .1 .2 in let s = g .1 .0 .1 .0 in let i = g .1 .1 .1 in let b2 = c .before .before .before .before .before .before .before .before .before .before .before .before .before .before .before .before .before .before .before .before .before .before .before .before .before .before .before .shared-slice-known4 .given (longestTerm + c .before .before .before .before .before .before .before .before .before .before .before .before .before .before .before .before .before .before .before .before .before .before .before .before .middle-of .result) in let e2 = c .before .before .silent-at2 .ensures in (((search needs, omega (arith, c .before .before .before .before .before .before .before .before .before .before .before .before .before .before .before .before .before .before .area .given, c .before .before .before .before .before .before .before .before .area2 .given, g .1 .0 .0 .1)), g .1 .0 .1), g .1 .1, c .before .before .before .before .before .before .before .before .before .before .before .before .before .before .before .before .before .before .before .before .before .walk .ensures .on, c .before .before .before .before .before .before .before .before .before .before .before .walk2 .ensures .on, search needs, omega (arith, c .before .before .before .before .before .before .before .before .before .before .before .before .before .before .before .before .before .before .before .before .rows .given, c .before .before .before .before .before .before .before .before .before .before .rows2 .given, g .1 .4), omega arith)
+    let c3 = c .before .before .before in
+    let c5 = c3 .before .before in
+    let c8 = c5 .before .before .before in
+    let c10 = c8 .before .before in
+    let c11 = c10 .before in
+    let c14 = c11 .before .before .before in
+    let c18 = c14 .before .before .before .before in
+    let c20 = c18 .before .before in
+    let c21 = c20 .before in
+    let c24 = c21 .before .before .before in
+    let c27 = c24 .before .before .before in
+    let c31 = c27 .before .before .before .before in
+    let g = c31 .pre in
+    let b = c27 .shared-slice-known4 .given (longestTerm + (c31 .args .node .at + 1)) in
+    let e = c14 .silent-at .ensures in
+    let h = g .1 .2 in
+    let s = g .1 .0 .1 .0 in
+    let i = g .1 .1 .1 in
+    let b2 = c27 .shared-slice-known4 .given (longestTerm + c24 .middle-of .result) in
+    let e2 = c .before .before .silent-at2 .ensures in (
+      ((c5 .if2 .left, omega (arith, c18 .area .given, c8 .area2 .given, g .1 .0 .0 .1)), g .1 .0 .1),
+      g .1 .1,
+      c21 .walk .ensures .on,
+      c11 .walk2 .ensures .on,
+      c3 .if3 .left,
+      omega (arith, c20 .rows .given, c10 .rows2 .given, g .1 .4),
+      omega arith,
+    )
 
 walk-parallel-same-length-7 : (t : ℕ) → walk-parallel-lts.Need-same-length-7 (walk-parallel-claims t) (walk-parallel-at t) walk-parallel.Post
 walk-parallel-same-length-7 t c =
     let c13 = c .before .before .before .before .before .before .before .before .before .before .before .before .before in
+    let c13 = c13 in
     let c23 = c13 .before .before .before .before .before .before .before .before .before .before in
     omega (arith, c23 .rows .given, c13 .rows2 .given)
 
 walk-parallel-same-length-8 : (t : ℕ) → walk-parallel-lts.Need-same-length-8 (walk-parallel-claims t) (walk-parallel-at t) walk-parallel.Post
 walk-parallel-same-length-8 t c =
     let c11 = c .before .before .before .before .before .before .before .before .before .before .before in
+    let c11 = c11 in
     let c21 = c11 .before .before .before .before .before .before .before .before .before .before in
     omega (arith, c21 .area .given, c11 .area2 .given, c .before .area3 .given)
 

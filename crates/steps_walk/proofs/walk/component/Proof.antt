@@ -14,8 +14,7 @@ scan-requires c κs =
       record { short = g .0 .1 .0; once = search needs; outer = search needs; room = omega arith },
       g .0 .1 .1,
       g .0 .1 .2,
-      g .3,
-      g .4,
+      (g .3, g .4),
     )
 
 take-rows-requires : tie.Need-take-rows-requires
