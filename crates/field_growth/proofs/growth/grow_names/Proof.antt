@@ -45,7 +45,7 @@ returns c =
     let c6 = c4 .before .before in
     let c7 = c6 .before in
     let c13 = c7 .before .before .before .before .before .before in
-    names-full _ _ _ _ _ _ _ _ _ _ _ _ _ (c13 .pre .waits) _ _ _ _ (c7 .loop .inv .4) (c6 .loop-test .taken) (rw (c .enum-told .given .1) at
+    names-full _ _ _ _ _ _ _ _ _ _ _ _ _ (c13 .pre .waits) _ _ _ _ (c7 .loop .inv .4) (omega (arith, c6 .loop-test .taken)) (rw (c .enum-told .given .1) at
     (c4 .grow-name .ensures))
 
 add-name : tie.Need-add-name Inv-loop μ-loop
@@ -64,7 +64,7 @@ loop-again c =
       names-next _ _ _ _ _ _ _ _ _ _ _ _ _
           (c .before .before .before .before .before .before .before .before .before .before .before .before .before .before .pre .waits) _ _ _ _ _
           (c .before .before .before .before .before .before .before .before .loop .inv .4)
-          (c .before .before .before .before .before .before .before .loop-test .taken) g,
+          (omega (arith, c .before .before .before .before .before .before .before .loop-test .taken)) g,
     )
 
 same-length-2 : tie.Need-same-length-2 Inv-loop μ-loop
