@@ -33,7 +33,7 @@ use Rattle.verdict_survival.specs.Striking.{EqualPartsIs, Strikes, none-struck,
 use Rattle.verdict_survival.specs.Striking.{PassIs, FirstStruckIs, StartSurvivesIs, blockSlots, turned}
 use Rattle.verdict.specs.Verdict.{Manner, differs, demandsOf, allAnswered}
 use Rattle.verdict_survival.specs.declared.survive.Answered.{Answered}
-use Rattle.verdict_strikeout.proofs.AnyOrder.{StrikesTo, all-left}
+use Rattle.verdict_strikeout.proofs.AnyOrder.{StrikesTo}
 use Rattle.verdict_strikeout.proofs.AnyOrder as order
 use Rattle.verdict_strikeout.proofs.BlockLaws.{Blocks, block-of, in-block}
 use Rattle.verdict_strikeout.proofs.EqualParts.{equal-survives, equal-bytes}

@@ -1,9 +1,9 @@
 -- What exploration strikes out: situations with a permitted step whose answers, if any, are all struck out and come before them. They may be struck out
 -- one after the other, and where there are none, all are answered. Assumes nothing.
-use mathlib.Core.Bool.{Bool, true, false, cond, _&&_, _||_}
-use mathlib.Core.List.{List, [], _∷_, map}
-use mathlib.Core.Logic.{_⊎_, inl, inr}
-use mathlib.Core.Path.{_≡_, refl, sym, ap, ap₂, _∙_, subst}
+use mathlib.Core.Bool.{Bool, true, false, cond}
+use mathlib.Core.List.{List, [], _∷_}
+use mathlib.Core.Logic.{_⊎_}
+use mathlib.Core.Path.{_≡_, refl, sym, ap, _∙_, subst}
 use native.Mathlib.Decide.{ℕ-discrete}
 use native.Mathlib.Omega.{arith}
 use Prim.Native.Nat.{ℕ, zero, suc, _<_, _≤_}
@@ -17,7 +17,6 @@ use Rattle.field.specs.Exploration.{found, Row}
 use Rattle.field.specs.Situation.{Situation, sameSituation}
 use Rattle.field.proofs.Members.{getD-∈, getD-within}
 use Rattle.field.proofs.Run.{selves}
-use Rattle.field.proofs.Unseen.{∈-found}
 use Rattle.verdict_survival.specs.Striking.{living}
 use Rattle.verdict_strikeout.proofs.AnyOrder.{StrikesTo, all-left, one-struck}
 use Rattle.verdict_survival.proofs.Living.{living-at, struck-either, struck-within, all-living}

@@ -1,6 +1,6 @@
 -- What is demanded of a situation, and what it leads to, in each manner of judging: an answer to a demand leads where exploration went, and to every
 -- move belongs a demand whose answers all lead to situations of that move. Assumes nothing.
-use mathlib.Core.Bool.{Bool, true, false}
+use mathlib.Core.Bool.{true, false}
 use mathlib.Core.List.{List, [], _∷_, _++_, map}
 use mathlib.Core.Logic.{_⊎_, inl, inr}
 use mathlib.Core.Path.{_≡_, refl, sym, _∙_, ap, subst}
@@ -8,7 +8,6 @@ use native.Mathlib.Decide.{ℕ-discrete}
 use native.Mathlib.Omega.{arith}
 use Prim.Native.Nat.{ℕ, _<_}
 use borrow.Author.Tests.{eq-eqb, ne-eqb}
-use lib.Dec.{eqb}
 use Rattle.calculus.specs.Cond.{Pairs}
 use Rattle.calculus.specs.Definitions.{Defs}
 use Rattle.calculus.specs.Free.{In}
@@ -26,7 +25,7 @@ use Rattle.steps.proofs.Membership.{∈-map, ∈-left, ∈-right}
 use Rattle.steps.proofs.QuestionDefinitions.{definitions}
 use Rattle.field.specs.Field.{fresh}
 use Rattle.field.specs.Setting.{Setting, settingOf}
-use Rattle.field.specs.Situation.{Situation, freeFrom, freeIn, Proper}
+use Rattle.field.specs.Situation.{Situation, freeIn, Proper}
 use Rattle.field.specs.Successors.{received, led, answersTo, moves, leads, successors}
 use Rattle.field.proofs.Link.{SettingFor, firstMoves, secondMoves, ListedFor, Linked}
 use Rattle.field.proofs.Members.{map-∈, ∈-either}

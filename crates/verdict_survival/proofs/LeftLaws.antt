@@ -1,9 +1,9 @@
 -- Whether a situation is left, by the byte of its slot. Assumes nothing.
-use mathlib.Core.Bool.{Bool, true, false, cond, _&&_}
+use mathlib.Core.Bool.{Bool, true, false, cond}
 use mathlib.Core.List.{List}
 use mathlib.Core.Path.{_≡_, refl, sym, ap, _∙_, subst}
 use native.Mathlib.Omega.{arith}
-use Prim.Native.Nat.{ℕ, _*_, _<_}
+use Prim.Native.Nat.{ℕ, _<_}
 use lib.Dec.{eqb}
 use lib.ListN.{length, getD, take}
 use borrow.Author.Tests.{eqb-true, eqb-false}
@@ -11,9 +11,9 @@ use Rattle.steps.specs.Lists.{_∈_}
 use Rattle.steps.proofs.Membership.{∈-all}
 use Rattle.field_slots.specs.Chains.{Chained, FindsIn}
 use Rattle.field.specs.Exploration.{found}
-use Rattle.field_slots.specs.Key.{SituationAt, keyAt, FoundIs}
+use Rattle.field_slots.specs.Key.{keyAt, FoundIs}
 use Rattle.field.specs.Situation.{Situation}
-use Rattle.field_pairs.specs.Slot.{keyOf, keyBytes, slotBytes, struckAt, LeftAtIs}
+use Rattle.field_pairs.specs.Slot.{keyOf, keyBytes, struckAt, LeftAtIs}
 use Rattle.field_slots.specs.declared.find.Found.{Found}
 use Rattle.field_slots.specs.declared.find.Found.the-variants.{At, Nothing}
 use Rattle.field.proofs.Unseen.{∈-found, found-∈}

@@ -1,13 +1,13 @@
 -- Names that count, steps that are asked, and whether every situation is left that an answer leads to for the names of a run. Assumes nothing.
-use mathlib.Core.Bool.{Bool, true, false, _&&_, _||_}
+use mathlib.Core.Bool.{Bool, true, false, _&&_}
 use mathlib.Core.List.{List, [], _∷_, map}
 use mathlib.Core.Logic.{inl, inr}
 use mathlib.Core.Path.{_≡_, refl, sym, ap, _∙_, subst}
 use native.Mathlib.Decide.{ℕ-discrete}
 use native.Mathlib.Omega.{arith}
 use Prim.Native.Nat.{ℕ, zero, suc, _+_, _-_, _*_, _<_, _≤_}
-use lib.Dec.{eqb, ltb}
-use lib.ListN.{length, getD, take}
+use lib.Dec.{ltb}
+use lib.ListN.{getD, take}
 use borrow.Author.Count.{below-more}
 use borrow.Author.Tests.{eq-eqb, ne-eqb, ltb-true}
 use Rattle.calculus.specs.Cond.{Pairs}
@@ -20,7 +20,7 @@ use Rattle.steps.proofs.Membership.{∈-map}
 use Rattle.steps.specs.Listed.{ListedStep, namesFrom}
 use Rattle.field.specs.Exploration.{found}
 use Rattle.field.specs.Situation.{Situation, freeFrom}
-use Rattle.field.specs.Successors.{select, answers, allowed, received, led, answersTo}
+use Rattle.field.specs.Successors.{answers, received, led, answersTo}
 use Rattle.field.proofs.Members.{map-∈, ∈-number}
 use Rattle.field.proofs.Moves.{in-moves, in-answers}
 use Rattle.field.proofs.Selections.{∈-select, select-∈}

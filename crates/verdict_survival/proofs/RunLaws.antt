@@ -5,7 +5,7 @@ use mathlib.Core.Logic.{inl, inr}
 use mathlib.Core.Path.{_≡_, refl, sym, ap, _∙_, subst}
 use native.Mathlib.Omega.{arith}
 use Prim.Native.Nat.{ℕ, _+_, _-_, _<_, _≤_}
-use lib.Dec.{eqb, ltb}
+use lib.Dec.{ltb}
 use borrow.Author.Tests.{lt-ltb, le-ltb}
 use Rattle.calculus.specs.Cond.{Pairs}
 use Rattle.calculus.specs.Distinction.{among}
@@ -26,7 +26,7 @@ use Rattle.field_successors.specs.Leading.{placed, leading}
 use Rattle.verdict.specs.Received.{lots, demandOf}
 use Rattle.verdict.specs.Verdict.{openly, named, differs}
 use Rattle.verdict.proofs.NamedDemands.{of-demands, in-demands}
-use Rattle.verdict.proofs.Rounds.{single, true-not-false}
+use Rattle.verdict.proofs.Rounds.{single}
 use Rattle.verdict_survival.specs.Striking.{counted, lotOf, someOf, asked, demanded, runDemands, sideDemands, Side, NameRun, ReliesOn, Meets, SideAnsweredIs, SideMetIs}
 use Rattle.verdict_survival.specs.Manners.{mannerOf}
 use Rattle.verdict_survival.specs.Notes.{Numbers}

@@ -6,7 +6,7 @@ use mathlib.Core.Path.{_≡_, refl, sym, ap, _∙_, subst}
 use native.Mathlib.Omega.{arith}
 use Prim.Native.Nat.{ℕ, _+_, _*_, _<_, _≤_}
 use lib.Dec.{ltb}
-use lib.ListN.{length, getD}
+use lib.ListN.{getD}
 use Rattle.calculus.specs.Term.{nil}
 use Rattle.terms.specs.Limits.{nameCount}
 use Rattle.terms.proofs.Answers.{both-true}
@@ -14,7 +14,6 @@ use Rattle.steps.specs.Lists.{_∈_}
 use Rattle.steps.proofs.Membership.{∈-map}
 use Rattle.steps.specs.Limits.{stepBytes}
 use Rattle.steps.specs.Listed.{ListedStep}
-use Rattle.field.specs.Exploration.{found}
 use Rattle.field.specs.Situation.{Situation, freeFrom}
 use Rattle.field.specs.Successors.{select, allowed, answers}
 use Rattle.field.proofs.Members.{map-∈, getD-∈, ∈-number}

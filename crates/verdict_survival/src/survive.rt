@@ -1,6 +1,6 @@
 // Whether a situation survives: those left meet each demand on it. Document 01, "The field and the verdict", and request 2026-02.
 ghost use mathlib.Core.Path.{_≡_};
-ghost use Prim.Native.Nat.{_+_, _-_, _*_, _<_, _≤_, min};
+ghost use Prim.Native.Nat.{_+_, _-_, _*_, _<_, _≤_};
 ghost use lib.Dec.{ltb};
 ghost use lib.ListN.{length};
 ghost use Rattle.field_kept_lists.specs.ListArea.{Labelled};

@@ -2,7 +2,6 @@
 use mathlib.Core.Path.{sym, ap}
 use Rattle.verdict.specs.Verdict.{differs}
 use Rattle.verdict_survival.specs.Manners.{mannerOf}
-use native.Mathlib.Omega.{arith}
 use borrow.Author.Needs.{needs}
 use borrow.Author.Needs.{needs}
 use Rattle.verdict_survival.proofs.manner.names_differ.Statement.{statement}

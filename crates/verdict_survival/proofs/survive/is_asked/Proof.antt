@@ -32,7 +32,12 @@ counts-requires : tie.Need-counts-requires Inv-loop μ-loop
 counts-requires c κs = search needs
 
 returns-2 : tie.Need-returns-2 Inv-loop μ-loop
-returns-2 c = asked-for _ _ _ _ _ _ _ (c .before .before .before .before .before .allowed .ensures) (not-false _ (c .before .before .before .before .if1 .left)) _ _ (c .before .before .before .loop .inv .0) (omega arith) (c .before .counts .ensures) (c .if2 .taken)
+returns-2 c =
+    let c3 = c .before .before .before in
+    let c4 = c3 .before in
+    let c5 = c4 .before in
+    asked-for _ _ _ _ _ _ _ (c5 .allowed .ensures) (not-false _ (c4 .if1 .left)) _ _ (c3 .loop .inv .0) (omega arith) (c .before .counts .ensures)
+    (c .if2 .taken)
 
 add-name : tie.Need-add-name Inv-loop μ-loop
 add-name c = search needs
@@ -41,10 +46,14 @@ loop-less : tie.Need-loop-less Inv-loop μ-loop
 loop-less c = search needs
 
 loop-again : tie.Need-loop-again Inv-loop μ-loop
-loop-again c = (omega arith, below-more _ _ (c .before .before .before .loop .inv .1) (λ h. subst (CountsIs _ _ _ _) (c .if2 .left) (c .before .counts .ensures)))
+loop-again c =
+    let c3 = c .before .before .before in
+    (omega arith, below-more _ _ (c3 .loop .inv .1) (λ h. subst (CountsIs _ _ _ _) (c .if2 .left) (c .before .counts .ensures)))
 
 returns-3 : tie.Need-returns-3 Inv-loop μ-loop
-returns-3 c = asked-for-none _ _ _ _ _ _ _ (c .before .before .before .allowed .ensures) (not-false _ (c .before .before .if1 .left)) _ (omega arith) (c .before .loop .inv .1)
+returns-3 c =
+    let c3 = c .before .before .before in
+    asked-for-none _ _ _ _ _ _ _ (c3 .allowed .ensures) (not-false _ (c .before .before .if1 .left)) _ (omega arith) (c .before .loop .inv .1)
 
 pub is-asked-spec : {M : Type 1} → statement M
 is-asked-spec =

@@ -19,7 +19,9 @@ answers-requires : tie.Need-answers-requires Inv-names μ-names
 answers-requires c κs = search needs
 
 returns : tie.Need-returns Inv-names μ-names
-returns c = lot-none _ _ _ _ _ _ _ _ _ _ _ _ _ _ (c .before .answers .ensures) _ (not-true _ (c .if1 .taken)) (c .before .before .before .before .before .before .before .pre .8)
+returns c =
+    let c7 = c .before .before .before .before .before .before .before in
+    lot-none _ _ _ _ _ _ _ _ _ _ _ _ _ _ (c .before .answers .ensures) _ (not-true _ (c .if1 .taken)) (c7 .pre .8)
 
 names-holds : tie.Need-names-holds Inv-names μ-names
 names-holds c = (omega arith, lot-start _ _ _ _ _ _ _ _ _ _ _ _ _ _ (c .before .before .before .before .before .before .before .pre .8))
@@ -34,7 +36,9 @@ names-less : tie.Need-names-less Inv-names μ-names
 names-less c = search needs
 
 names-again : tie.Need-names-again Inv-names μ-names
-names-again c = (omega arith, lot-skips _ _ _ _ _ _ _ _ _ _ _ _ _ _ _ _ (c .before .counts .ensures) _ (not-true _ (c .if2 .taken)) (c .before .before .before .names .inv .1))
+names-again c =
+    let c3 = c .before .before .before in
+    (omega arith, lot-skips _ _ _ _ _ _ _ _ _ _ _ _ _ _ _ _ (c .before .counts .ensures) _ (not-true _ (c .if2 .taken)) (c3 .names .inv .1))
 
 successor-requires : tie.Need-successor-requires Inv-names μ-names
 successor-requires c κs = search needs
@@ -49,22 +53,47 @@ enum-known-found : tie.Need-enum-known-found Inv-names μ-names
 enum-known-found c = search needs
 
 relied-with-requires : tie.Need-relied-with-requires Inv-names μ-names
-relied-with-requires c κs = (c .before .before .before .before .before .before .before .before .before .names .inv .1 .numbers, omega (arith, c .before .before .before .find-left .ensures .within _ (c .before .found .given .1), c .before .before .before .before .before .before .before .before .before .before .before .before .before .before .before .before .before .pre .1, c .before .before .before .before .before .before .before .before .before .before .before .before .before .before .before .before .before .pre .5))
+relied-with-requires c κs =
+    let c3 = c .before .before .before in
+    let c9 = c3 .before .before .before .before .before .before in
+    let c17 = c9 .before .before .before .before .before .before .before .before in
+    (c9 .names .inv .1 .numbers, omega (arith, c3 .find-left .ensures .within _ (c .before .found .given .1), c17 .pre .1, c17 .pre .5))
 
 names-less-2 : tie.Need-names-less-2 Inv-names μ-names
 names-less-2 c = search needs
 
 names-again-2 : tie.Need-names-again-2 Inv-names μ-names
-names-again-2 c = (omega arith, lot-more _ _ _ _ _ _ _ _ _ _ _ _ _ _ _ _ (c .before .before .before .before .before .before .before .before .counts .ensures) _ _ (c .before .before .before .before .before .before .successor .ensures) (c .before .before .before .before .find-left .ensures) _ _ _ (c .before .before .found .given .1) (c .relied-with .ensures) (c .before .before .before .before .before .before .before .before .before .before .names .inv .1))
+names-again-2 c =
+    let c4 = c .before .before .before .before in
+    let c6 = c4 .before .before in
+    let c8 = c6 .before .before in
+    let c10 = c8 .before .before in (
+      omega arith,
+      lot-more _ _ _ _ _ _ _ _ _ _ _ _ _ _ _ _ (c8 .counts .ensures) _ _ (c6 .successor .ensures) (c4 .find-left .ensures) _ _ _
+          (c .before .before .found .given .1) (c .relied-with .ensures) (c10 .names .inv .1),
+    )
 
 enum-told : tie.Need-enum-told Inv-names μ-names
 enum-told c = search needs
 
 returns-2 : tie.Need-returns-2 Inv-names μ-names
-returns-2 c = lot-fails _ _ _ _ _ _ _ _ _ _ _ _ _ _ _ _ (c .before .before .before .before .before .before .counts .ensures) _ _ (c .before .before .before .before .successor .ensures) (c .before .before .find-left .ensures) (c .before .before .before .before .before .before .before .before .names .inv .0) (omega arith) (not-false _ (c .before .before .before .before .before .if2 .left)) _ (c .before .before .before .before .before .before .before .before .before .before .answers .ensures) (not-false _ (c .before .before .before .before .before .before .before .before .before .if1 .left)) (c .enum-told .given .1) (c .before .before .before .before .before .before .before .before .before .before .before .before .before .before .before .before .pre .8)
+returns-2 c =
+    let c4 = c .before .before .before .before in
+    let c5 = c4 .before in
+    let c6 = c5 .before in
+    let c8 = c6 .before .before in
+    let c9 = c8 .before in
+    let c10 = c9 .before in
+    let c16 = c10 .before .before .before .before .before .before in
+    lot-fails _ _ _ _ _ _ _ _ _ _ _ _ _ _ _ _ (c6 .counts .ensures) _ _ (c4 .successor .ensures) (c .before .before .find-left .ensures)
+    (c8 .names .inv .0) (omega arith) (not-false _ (c5 .if2 .left)) _ (c10 .answers .ensures) (not-false _ (c9 .if1 .left)) (c .enum-told .given .1)
+    (c16 .pre .8)
 
 returns-3 : tie.Need-returns-3 Inv-names μ-names
-returns-3 c = lot-all _ _ _ _ _ _ _ _ _ _ _ _ _ _ (c .before .before .before .answers .ensures) _ _ _ (not-false _ (c .before .before .if1 .left)) (omega arith) (c .before .names .inv .1)
+returns-3 c =
+    let c3 = c .before .before .before in
+    lot-all _ _ _ _ _ _ _ _ _ _ _ _ _ _ (c3 .answers .ensures) _ _ _ (not-false _ (c .before .before .if1 .left)) (omega arith)
+    (c .before .names .inv .1)
 
 pub lot-left-spec : {M : Type 1} → statement M
 lot-left-spec =

@@ -27,7 +27,11 @@ abbrev μ-steps : tie.MeasureT-steps
     n - i
 
 steps-holds : tie.Need-steps-holds Inv-loop μ-loop Inv-steps μ-steps
-steps-holds c = (search needs, side-none (c .before .before .before .before .before .args .from) (c .before .before .before .before .before .args .to) _ _ _ _ _ _ _ _ _ _ _ _ (c .before .before .before .before .before .pre .9))
+steps-holds c = (
+  search needs,
+  side-none (c .before .before .before .before .before .args .from) (c .before .before .before .before .before .args .to) _ _ _ _ _ _
+      _ _ _ _ _ _ (c .before .before .before .before .before .pre .9),
+)
 
 mul-at : tie.Need-mul-at Inv-loop μ-loop Inv-steps μ-steps
 mul-at c = search needs
@@ -36,13 +40,19 @@ add-i : tie.Need-add-i Inv-loop μ-loop Inv-steps μ-steps
 add-i c = search needs
 
 is-asked-requires : tie.Need-is-asked-requires Inv-loop μ-loop Inv-steps μ-steps
-is-asked-requires c κs = (c .before .before .before .before .before .before .before .before .pre .6, c .before .before .before .before .before .before .before .before .pre .7, omega (arith, c .before .before .before .before .before .before .before .before .pre .3))
+is-asked-requires c κs =
+    let c8 = c .before .before .before .before .before .before .before .before in
+    (c8 .pre .6, c8 .pre .7, omega (arith, c8 .pre .3))
 
 steps-less : tie.Need-steps-less Inv-loop μ-loop Inv-steps μ-steps
 steps-less c = search needs
 
 steps-again : tie.Need-steps-again Inv-loop μ-loop Inv-steps μ-steps
-steps-again c = (search needs, side-skips _ _ _ _ _ _ _ _ _ _ _ _ _ _ _ _ _ (omega arith) (c .before .is-asked .ensures) (not-true _ (c .if1 .taken)) (c .before .before .before .before .steps .inv .1))
+steps-again c = (
+  search needs,
+  side-skips _ _ _ _ _ _ _ _ _ _ _ _ _ _ _ _ _ (omega arith) (c .before .is-asked .ensures) (not-true _ (c .if1 .taken))
+      (c .before .before .before .before .steps .inv .1),
+)
 
 loop-holds : tie.Need-loop-holds Inv-loop μ-loop Inv-steps μ-steps
 loop-holds c = (search needs, refl, λ l h. absurd (omega arith))
@@ -51,13 +61,33 @@ mul-lot-left : tie.Need-mul-lot-left Inv-loop μ-loop Inv-steps μ-steps
 mul-lot-left c = search needs
 
 lot-left-requires : tie.Need-lot-left-requires Inv-loop μ-loop Inv-steps μ-steps
-lot-left-requires c κs = (c .before .before .before .before .before .before .before .before .before .before .before .before .pre .0, c .before .before .before .before .before .before .before .before .before .before .before .before .pre .1, c .before .before .before .before .before .before .before .before .before .before .before .before .pre .2, omega (arith, c .before .before .before .before .before .before .before .before .before .before .before .before .pre .3), omega (arith, c .before .before .before .before .before .before .before .before .before .before .before .before .pre .4), c .before .before .before .before .before .before .before .before .before .before .before .before .pre .5, c .before .before .before .before .before .before .before .before .before .before .before .before .pre .6, c .before .before .before .before .before .before .before .before .before .before .before .before .pre .7, subst Numbers (sym (c .before .loop .inv .1)) (c .before .before .before .before .before .before .steps .inv .1 .numbers))
+lot-left-requires c κs =
+    let c6 = c .before .before .before .before .before .before in
+    let c12 = c6 .before .before .before .before .before .before in (
+      c12 .pre .0,
+      c12 .pre .1,
+      c12 .pre .2,
+      omega (arith, c12 .pre .3),
+      omega (arith, c12 .pre .4),
+      c12 .pre .5,
+      c12 .pre .6,
+      c12 .pre .7,
+      subst
+          Numbers (sym (c .before .loop .inv .1)) (c6 .steps .inv .1 .numbers),
+    )
 
 steps-less-2 : tie.Need-steps-less-2 Inv-loop μ-loop Inv-steps μ-steps
 steps-less-2 c = search needs
 
 steps-again-2 : tie.Need-steps-again-2 Inv-loop μ-loop Inv-steps μ-steps
-steps-again-2 c = (search needs, reply-answers _ _ _ _ _ _ _ _ _ _ _ _ _ _ _ (omega arith) (c .before .before .before .before .before .before .is-asked .ensures) (not-false _ (c .before .before .before .before .before .if1 .left)) (c .before .before .before .before .before .before .before .before .before .before .before .before .before .before .before .pre .8) _ (omega arith) _ _ (c .before .before .lot-left .ensures) _ _ (c .before .before .before .before .loop .inv .1) (c .before .if2 .taken) (c .before .before .before .before .before .before .before .before .before .steps .inv .1))
+steps-again-2 c = (
+  search needs,
+  reply-answers _ _ _ _ _ _ _ _ _ _ _ _ _ _ _ (omega arith) (c .before .before .before .before .before .before .is-asked .ensures)
+      (not-false _ (c .before .before .before .before .before .if1 .left))
+      (c .before .before .before .before .before .before .before .before .before .before .before .before .before .before .before .pre .8) _ (omega
+      arith) _ _ (c .before .before .lot-left .ensures) _ _ (c .before .before .before .before .loop .inv .1) (c .before .if2 .taken)
+      (c .before .before .before .before .before .before .before .before .before .steps .inv .1),
+)
 
 add-j : tie.Need-add-j Inv-loop μ-loop Inv-steps μ-steps
 add-j c = search needs
@@ -66,13 +96,29 @@ loop-less : tie.Need-loop-less Inv-loop μ-loop Inv-steps μ-steps
 loop-less c = search needs
 
 loop-again : tie.Need-loop-again Inv-loop μ-loop Inv-steps μ-steps
-loop-again c = (search needs, c .before .before .before .loop .inv .1, below-more _ _ (c .before .before .before .loop .inv .2) (reply-fails _ _ _ _ _ _ _ _ _ _ _ _ _ (c .before .before .before .before .before .before .before .before .steps .i) _ (omega arith) (c .before .before .before .before .before .is-asked .ensures) (not-false _ (c .before .before .before .before .if1 .left)) (c .before .before .before .before .before .before .before .before .before .before .before .before .before .before .pre .8) (c .before .before .before .loop .j) (omega arith) _ _ (c .before .lot-left .ensures) (c .if2 .left)))
+loop-again c = (
+  search needs,
+  c .before .before .before .loop .inv .1,
+  below-more _ _ (c .before .before .before .loop .inv .2) (reply-fails _ _ _ _ _ _ _ _ _ _
+      _ _ _ (c .before .before .before .before .before .before .before .before .steps .i) _ (omega arith)
+      (c .before .before .before .before .before .is-asked .ensures) (not-false _ (c .before .before .before .before .if1 .left))
+      (c .before .before .before .before .before .before .before .before .before .before .before .before .before .before .pre .8)
+      (c .before .before .before .loop .j) (omega arith) _ _ (c .before .lot-left .ensures) (c .if2 .left)),
+)
 
 returns : tie.Need-returns Inv-loop μ-loop Inv-steps μ-steps
-returns c = step-fails _ _ _ _ _ _ _ _ _ _ _ _ _ (c .before .before .before .before .before .before .steps .i) _ (omega arith) (c .before .before .before .is-asked .ensures) (not-false _ (c .before .before .if1 .left)) _ _ _ _ (c .before .loop .inv .1) (omega arith) (λ l h. c .before .loop .inv .2 l h (c .before .before .before .before .before .before .steps .i) refl) (c .before .before .before .before .before .before .steps .inv .1)
+returns c =
+    let c1 = c .before in
+    let c3 = c1 .before .before in
+    let c6 = c3 .before .before .before in
+    step-fails _ _ _ _ _ _ _ _ _ _ _ _ _ (c6 .steps .i) _ (omega arith) (c3 .is-asked .ensures) (not-false _ (c .before .before .if1 .left)) _ _ _ _
+    (c1 .loop .inv .1) (omega arith) (λ l h. c1 .loop .inv .2 l h (c6 .steps .i) refl) (c6 .steps .inv .1)
 
 returns-2 : tie.Need-returns-2 Inv-loop μ-loop Inv-steps μ-steps
-returns-2 c = side-all (c .before .before .before .before .before .before .before .args .from) (c .before .before .before .before .before .before .before .args .to) _ _ _ _ _ _ _ _ _ _ _ _ _ (c .before .steps .i) (omega arith) (c .before .steps .inv .1)
+returns-2 c =
+    let c1 = c .before in
+    let c7 = c1 .before .before .before .before .before .before in
+    side-all (c7 .args .from) (c7 .args .to) _ _ _ _ _ _ _ _ _ _ _ _ _ (c1 .steps .i) (omega arith) (c1 .steps .inv .1)
 
 pub side-answered-spec : {M : Type 1} → statement M
 side-answered-spec =

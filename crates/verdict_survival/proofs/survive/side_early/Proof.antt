@@ -23,10 +23,15 @@ add-side-answered : tie.Need-add-side-answered Inv-loop μ-loop
 add-side-answered c = search needs
 
 side-answered-requires : tie.Need-side-answered-requires Inv-loop μ-loop
-side-answered-requires c κs = (c .before .before .before .before .before .before .before .pre .0, c .before .before .before .before .before .before .before .pre .1, c .before .before .before .before .before .before .before .pre .2, c .before .before .before .before .before .before .before .pre .3, c .before .before .before .before .before .before .before .pre .4, c .before .before .before .before .before .before .before .pre .5, omega arith, omega arith, early-run _, c .before .loop .inv .1 .numbers)
+side-answered-requires c κs =
+    let c7 = c .before .before .before .before .before .before .before in
+    (c7 .pre .0, c7 .pre .1, c7 .pre .2, c7 .pre .3, c7 .pre .4, c7 .pre .5, omega arith, omega arith, early-run _, c .before .loop .inv .1 .numbers)
 
 returns : tie.Need-returns Inv-loop μ-loop
-returns c = early-fails _ _ _ _ _ _ _ _ _ _ _ _ _ _ (omega arith) _ (c .before .before .side-answered .ensures) (not-true _ (c .if1 .taken)) (c .before .before .before .before .loop .inv .1)
+returns c =
+    let c4 = c .before .before .before .before in
+    early-fails _ _ _ _ _ _ _ _ _ _ _ _ _ _ (omega arith) _ (c .before .before .side-answered .ensures) (not-true _ (c .if1 .taken))
+    (c4 .loop .inv .1)
 
 add-name : tie.Need-add-name Inv-loop μ-loop
 add-name c = search needs
@@ -35,7 +40,12 @@ loop-less : tie.Need-loop-less Inv-loop μ-loop
 loop-less c = search needs
 
 loop-again : tie.Need-loop-again Inv-loop μ-loop
-loop-again c = (omega arith, early-more _ _ _ _ _ _ _ _ _ _ _ _ _ _ (omega arith) _ (c .before .before .side-answered .ensures) (not-false _ (c .if1 .left)) (c .before .before .before .before .loop .inv .1))
+loop-again c =
+    let c4 = c .before .before .before .before in (
+      omega arith,
+      early-more _ _ _ _ _ _ _ _ _ _ _ _ _ _ (omega arith) _ (c .before .before .side-answered .ensures) (not-false _ (c .if1 .left))
+          (c4 .loop .inv .1),
+    )
 
 returns-2 : tie.Need-returns-2 Inv-loop μ-loop
 returns-2 c = early-all _ _ _ _ _ _ _ _ _ _ _ _ _ (c .before .loop .name) (omega arith) (c .before .loop .inv .1)

@@ -13,13 +13,17 @@ add-side-answered : tie.Need-add-side-answered
 add-side-answered c = search needs
 
 side-answered-requires : tie.Need-side-answered-requires
-side-answered-requires c κs = (c .before .before .before .before .before .before .before .pre .0, c .before .before .before .before .before .before .before .pre .1, c .before .before .before .before .before .before .before .pre .2, c .before .before .before .before .before .before .before .pre .3, c .before .before .before .before .before .before .before .pre .4, c .before .before .before .before .before .before .before .pre .5, omega arith, omega arith, open-run, c .before .before .before .before .before .before .before .pre .6)
+side-answered-requires c κs =
+    let c7 = c .before .before .before .before .before .before .before in
+    (c7 .pre .0, c7 .pre .1, c7 .pre .2, c7 .pre .3, c7 .pre .4, c7 .pre .5, omega arith, omega arith, open-run, c7 .pre .6)
 
 enum-told-2 : tie.Need-enum-told-2
 enum-told-2 c = search needs
 
 side-answered-requires-2 : tie.Need-side-answered-requires-2
-side-answered-requires-2 c κs = (c .before .before .before .before .before .before .before .pre .0, c .before .before .before .before .before .before .before .pre .1, c .before .before .before .before .before .before .before .pre .2, c .before .before .before .before .before .before .before .pre .3, c .before .before .before .before .before .before .before .pre .4, c .before .before .before .before .before .before .before .pre .5, omega arith, omega arith, late-run, c .before .before .before .before .before .before .before .pre .6)
+side-answered-requires-2 c κs =
+    let c7 = c .before .before .before .before .before .before .before in
+    (c7 .pre .0, c7 .pre .1, c7 .pre .2, c7 .pre .3, c7 .pre .4, c7 .pre .5, omega arith, omega arith, late-run, c7 .pre .6)
 
 enum-told-3 : tie.Need-enum-told-3
 enum-told-3 c = search needs
