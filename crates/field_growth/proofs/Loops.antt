@@ -1,15 +1,10 @@
 -- What a situation leads to, part by part: the steps of a side, the answers to each, and the known situations that grow by them. Assumes nothing.
 use mathlib.Core.Bool.{Bool, true, false, cond}
-use mathlib.Core.List.{List, [], _∷_, _++_, map, append-assoc}
+use mathlib.Core.List.{List, [], _∷_, _++_, append-assoc}
 use mathlib.Core.Path.{_≡_, refl, sym, _∙_, ap}
-use Prim.Native.Nat.{ℕ}
-use Rattle.calculus.specs.Cond.{Pairs}
-use Rattle.calculus.specs.Term.{Term, ren}
-use Rattle.steps.specs.Listed.{ListedStep, classIn}
 use Rattle.field.specs.Situation.{Situation}
-use Rattle.field.specs.Successors.{select, permitted, answers, updatedBy, moves}
+use Rattle.field.specs.Successors.{select}
 use Rattle.field.specs.Exploration.{together}
-use Rattle.field.proofs.Moves.{moves-open}
 use Rattle.field_growth.specs.Growing.{grownBy, grown}
 
 pub grown-++ : (known xs ys : List Situation) → grown known (xs ++ ys) ≡ grown (grown known xs) ys
@@ -32,15 +27,3 @@ module _ {A : Type 0} (f : A → Bool) where
           → cond b (x ∷ select f (xs ++ ys)) (select f (xs ++ ys)) ≡ cond b (x ∷ select f xs) (select f xs) ++ select f ys
       go true e = ap (x ∷_) e
       go false e = e
-
-module _ (names : ℕ) (make : Term → Term → Pairs → Situation) (F : List ℕ) (D : Pairs) where
-  -- what the answers ts to the step s lead to
-  unfoldable pub led : ListedStep → ListedStep → Situation
-  led s t = make (s .result) (ren (classIn (s .classes)) (t .result)) (updatedBy F D s)
-
-  unfoldable pub answersTo : ListedStep → List ListedStep → List Situation
-  answersTo s ts = map (led s) (select (answers names s) ts)
-
-  pub moves-are : (ss ts : List ListedStep) → moves false names make F D ss ts ≡ map (λ s. answersTo s ts) (select (permitted D) ss)
-  unfolding answersTo led
-  moves-are ss ts = moves-open names make F D ss ts
