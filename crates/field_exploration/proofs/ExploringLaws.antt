@@ -171,7 +171,7 @@ module _ (differ : Bool) where
   }
     where
       mark : (i : ℕ) → getD work′ (struckAt i) 0 ≡ getD work (struckAt i) 0
-      mark i = c .spare .slots i 241 (omega arith)
+      mark i = c .spare .slots i keyBytes (omega arith)
 
   -- One more is taken up.
   module _ (q : Question) (capacity : ℕ) (work : List ℕ) (known taken : ℕ) (y : Explorer q capacity work known taken) (waits : taken < known)

@@ -191,7 +191,7 @@ module _ (arities : List ℕ) (capacity taken : ℕ) (before : List Situation) (
     }
       where
         mark : (i : ℕ) → getD work″ (struckAt i) 0 ≡ getD work′ (struckAt i) 0
-        mark i = o .spare .slots i 241 (omega arith)
+        mark i = o .spare .slots i keyBytes (omega arith)
 
         go : (ks : List Situation) → Knows arities capacity work known ks → AllFound ks before → (k : ℕ)
             → (noteAt work″ taken k ≡ noteAt work′ taken k) ⊎ (noteAt work″ taken k ≡ led)

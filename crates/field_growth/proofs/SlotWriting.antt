@@ -78,7 +78,7 @@ module _ (work key : List ℕ) (i : ℕ) (room : slotBytes * i + slotBytes ≤ l
   abbrev new : List ℕ
   new = take keyBytes key ++ (0 ∷ [])
 
-  new-length : length new ≡ 242
+  new-length : length new ≡ keyBytes + 1
   new-length = length-append (take keyBytes key) (0 ∷ []) ∙ omega (arith, length-take-le keyBytes key long)
 
   pub slot-rest : (capacity : ℕ) → i < capacity → (work′ : List ℕ) → LinkIs capacity (slotWith work i key) i work′

@@ -37,7 +37,7 @@ use Rattle.steps_entries.proofs.EntryOrder.{comes-before}
 use Rattle.steps.proofs.ListedBytes.{step-size, step-length}
 use Rattle.steps_lister.proofs.NewNameLaws.{neighbours-sorted, renewed-length, renewed-steps}
 use Rattle.steps.proofs.Sorted.{Sorted}
-use Rattle.field_pairs.specs.Entry.{EntryAt, BindsIs}
+use Rattle.field_pairs.specs.Entry.{EntryAt, BindsIs, objectByte, resultByte}
 use Rattle.field_kept_lists.specs.ListArea.{labelPlace, labelBytes, keptBytes, labelAt, LabelIs, countIn, ListIn, Kept, KeptPlace, Labelled, SideIs}
 use Rattle.field_renewal.specs.Renewing.{RenewsStep, RenewsSteps, Ascends, RenewedIs}
 use Rattle.field.specs.Successors.{bindsName}
@@ -102,23 +102,23 @@ laidOut classes kind channel object r =
     classes ++ (kind ∷ channel ∷ object ∷ length r ∷ (r ++ replicate (longestTerm - length r) 0))
 
 module _ (l classes r : List ℕ) (p kind channel object : ℕ) (count : length classes ≡ nameCount) where
-  object-put : (x : ℕ) → set (sets l p (laidOut classes kind channel object r)) (p + 18) x ≡ sets l p (laidOut classes kind channel x r)
+  object-put : (x : ℕ) → set (sets l p (laidOut classes kind channel object r)) (p + objectByte) x ≡ sets l p (laidOut classes kind channel x r)
   object-put x =
       let rest : List ℕ = length r ∷ (r ++ replicate (longestTerm - length r) 0) in
       let front : List ℕ = kind ∷ channel ∷ [] in
-      let e : p + 18 ≡ p + length (classes ++ front) = omega (arith, length-append classes front) in
-      ap (λ w. set (sets l p w) (p + 18) x) (sym (append-assoc classes front ((object ∷ []) ++ rest)))
-      ∙ sets-within l (classes ++ front) (object ∷ []) (x ∷ []) rest p (p + 18) e refl
+      let e : p + objectByte ≡ p + length (classes ++ front) = omega (arith, length-append classes front) in
+      ap (λ w. set (sets l p w) (p + objectByte) x) (sym (append-assoc classes front ((object ∷ []) ++ rest)))
+      ∙ sets-within l (classes ++ front) (object ∷ []) (x ∷ []) rest p (p + objectByte) e refl
       ∙ ap (sets l p) (append-assoc classes front ((x ∷ []) ++ rest))
 
   result-put : (r′ : List ℕ) → length r′ ≡ length r
-      → sets (sets l p (laidOut classes kind channel object r)) (p + 18 + 2) r′ ≡ sets l p (laidOut classes kind channel object r′)
+      → sets (sets l p (laidOut classes kind channel object r)) (p + objectByte + 2) r′ ≡ sets l p (laidOut classes kind channel object r′)
   result-put r′ same =
       let fill : List ℕ = replicate (longestTerm - length r) 0 in
       let front : List ℕ = kind ∷ channel ∷ object ∷ length r ∷ [] in
-      let e : p + 18 + 2 ≡ p + length (classes ++ front) = omega (arith, length-append classes front) in
-      ap (λ w. sets (sets l p w) (p + 18 + 2) r′) (sym (append-assoc classes front (r ++ fill)))
-      ∙ sets-within l (classes ++ front) r r′ fill p (p + 18 + 2) e (sym same)
+      let e : p + objectByte + 2 ≡ p + length (classes ++ front) = omega (arith, length-append classes front) in
+      ap (λ w. sets (sets l p w) (p + objectByte + 2) r′) (sym (append-assoc classes front (r ++ fill)))
+      ∙ sets-within l (classes ++ front) r r′ fill p (p + objectByte + 2) e (sym same)
       ∙ ap (sets l p) (append-assoc classes front (r′ ++ fill))
       ∙ ap (λ m. sets l p (classes ++ (kind ∷ channel ∷ object ∷ m ∷ (r′ ++ replicate (longestTerm - m) 0)))) (sym same)
 
@@ -141,22 +141,22 @@ module _ (src : List ℕ) (at : ℕ) (arities table : List ℕ) (x : ℕ) (area 
   step-stays f y s names e scope =
       step-copied s e ∙ ap (λ t. sets area to (bytes longestTerm t)) (sym (renewed-not y x s (step-binds s e ∙ f)))
 
-  pub step-renewed : b ≡ true → (r : ℕ) (area₂ : List ℕ) → RenameIs src (at + 18 + 2) arities table area₁ (to + 18 + 2) r area₂
-      → RenewsStep src at arities table x area to (set area₂ (to + 18) x)
+  pub step-renewed : b ≡ true → (r : ℕ) (area₂ : List ℕ) → RenameIs src (at + objectByte + 2) arities table area₁ (to + objectByte + 2) r area₂
+      → RenewsStep src at arities table x area to (set area₂ (to + objectByte) x)
   unfolding RenewsStep RenameIs bytes resultBytes
   step-renewed t r area₂ R y s names e scope =
       let P = s .result in
       let c : ℕ → ℕ = put y x in
       let fill : List ℕ = replicate (longestTerm - length (encode 0 P)) 0 in
-      let n : at + 18 + 2 ≡ at + 19 + 1 = omega arith in
-      let there : drop (at + 18 + 2) src ≡ encode 0 P ++ (fill ++ e .rest) =
-      ap (λ k. drop k src) n ∙ behind src (at + 19) P (e .rest) (entry-result src at s e) in
+      let n : at + objectByte + 2 ≡ at + resultByte + 1 = omega arith in
+      let there : drop (at + objectByte + 2) src ≡ encode 0 P ++ (fill ++ e .rest) =
+      ap (λ k. drop k src) n ∙ behind src (at + resultByte) P (e .rest) (entry-result src at s e) in
       let w = step-copied s e in
       let done = R nameCount 0 0 c P (fill ++ e .rest) (omega arith)
       (represents-free table c (λ m l. (names m l, put-below y x m small l))) scope there (omega (arith, e .fits, height-bytes 0 P))
       (omega (arith, e .fits, ap length w, length-sets area to (bytes longestTerm s))) in
-      ap (λ l. set l (to + 18) x)
-      (done .1 ∙ ap (λ l. sets l (to + 18 + 2) (encode 0 (ren c P))) w
+      ap (λ l. set l (to + objectByte) x)
+      (done .1 ∙ ap (λ l. sets l (to + objectByte + 2) (encode 0 (ren c P))) w
       ∙ result-put area (s .classes) (encode 0 P) to (s .kind) (s .channel) (s .object) (e .count) (encode 0 (ren c P)) (length-ren 0 0 c P))
       ∙ object-put area (s .classes) (encode 0 (ren c P)) to (s .kind) (s .channel) (s .object) (e .count) x
       ∙ ap (λ u. sets area to (bytes longestTerm u)) (sym (renewed-so y x s (step-binds s e ∙ t)))

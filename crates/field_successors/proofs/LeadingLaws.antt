@@ -17,14 +17,14 @@ use Rattle.terms.proofs.RenamingKeeps.{scope-ren}
 use Rattle.terms.proofs.RenamingKeeps.{length-ren}
 use Rattle.terms_bytes.proofs.Stores.{sets-join, sets-middle, sets-start}
 use Rattle.steps.specs.Listed.{ListedStep, namesFrom, classIn, resultBytes}
-use Rattle.field_pairs.specs.Entry.{EntryAt}
+use Rattle.field_pairs.specs.Entry.{EntryAt, objectByte}
 use Rattle.field_slots.specs.Key.{PartIs, Packs}
 use Rattle.field_successors.specs.Leading.{placed, leading, PartsStand, PlacesResults, PlacesReceived, FreeOfParts, CompletesKey, SuccessorIs}
 use Rattle.field_pairs.specs.NameFlags.{FreeInEitherIs}
 use Rattle.field_pairs.specs.PairFlags.{pairCount, NoneApartIs}
 use Rattle.field_successors.specs.Resulting.{CopiesResult, RewritesResult, ReceivesResult}
 use Rattle.field.specs.Situation.{freeFrom, pairsOf, allPairs, situation}
-use Rattle.field_pairs.specs.Slot.{partBytes, flag, flagsOf, octet, octets, packed, keyOf, keyBytes}
+use Rattle.field_pairs.specs.Slot.{partBytes, flag, flagsOf, octet, octets, packed, keyOf, keyBytes, partRoom}
 use Rattle.field.specs.Successors.{updatedBy, led}
 use Rattle.field_slots.specs.Update.{KeptIs, UpdatedIs}
 use Rattle.field_pairs.proofs.EntryLaws.{entry-object}
@@ -45,19 +45,19 @@ free-of-parts key arities first second free p q f P Q h =
 -- The flags of the pairs that are kept take their place behind them.
 completed : (arities key apart flags key′ : List ℕ)
     → ((P Q : Term) (E : Pairs) → PartsStand arities key P Q → apart ≡ flagsOf E → flags ≡ flagsOf (situation nameCount P Q E .apart))
-    → Packs flags key 226 key′ → CompletesKey arities apart key key′
+    → Packs flags key (partRoom + partRoom) key′ → CompletesKey arities apart key key′
 unfolding Packs CompletesKey keyOf situation
 completed arities key apart flags key′ k p P Q E h e =
     let E′ : Pairs = situation nameCount P Q E .apart in
     let bits : List ℕ = packed (flagsOf E′) in
     let parts : List ℕ = partBytes P ++ partBytes Q in
     let t : key ≡ parts ++ (h .rest ++ []) = h .there ∙ simp (append-assoc, append-nil) in
-    let n : 226 ≡ length parts = omega (arith, length-append (partBytes P) (partBytes Q), length-part P (h .fits), length-part Q (h .fits₂)) in
-    p E′ (k P Q E h e) ∙ ap (λ l. sets l 226 bits) t
-    ∙ sets-middle parts (h .rest) [] bits 226 n (length-packed (flagsOf E′) ∙ sym (h .bits))
+    let n : (partRoom + partRoom) ≡ length parts = omega (arith, length-append (partBytes P) (partBytes Q), length-part P (h .fits), length-part Q (h .fits₂)) in
+    p E′ (k P Q E h e) ∙ ap (λ l. sets l (partRoom + partRoom) bits) t
+    ∙ sets-middle parts (h .rest) [] bits (partRoom + partRoom) n (length-packed (flagsOf E′) ∙ sym (h .bits))
     ∙ simp (append-assoc, append-nil)
 
-pub completes : (arities key free apart flags key′ : List ℕ) → FreeOfParts key arities free → KeptIs apart free flags → Packs flags key 226 key′
+pub completes : (arities key free apart flags key′ : List ℕ) → FreeOfParts key arities free → KeptIs apart free flags → Packs flags key (partRoom + partRoom) key′
     → CompletesKey arities apart key key′
 unfolding FreeOfParts KeptIs
 completes arities key free apart flags key′ f k p = completed arities key apart flags key′ (λ P Q E h e. k P Q E (f P Q h) e) p
@@ -68,12 +68,12 @@ unfolding packed octet flagsOf allPairs pairsOf namesFrom holdsApart flag
 no-bits = refl
 
 pub completes-none : (arities key apart : List ℕ) (r : Bool) (key′ : List ℕ) → NoneApartIs apart r → r ≡ true
-    → key′ ≡ sets key 226 (replicate octets 0) → CompletesKey arities apart key key′
+    → key′ ≡ sets key (partRoom + partRoom) (replicate octets 0) → CompletesKey arities apart key key′
 unfolding NoneApartIs Packs
 completes-none arities key apart r key′ n q w =
     completed arities key apart (flagsOf []) key′
     (λ P Q E h e. ap flagsOf (sym (none-kept P Q E (λ k l. pair-off apart k l E e (n q k l)))))
-    (λ D e. w ∙ ap (sets key 226) (no-bits ∙ ap packed e))
+    (λ D e. w ∙ ap (sets key (partRoom + partRoom)) (no-bits ∙ ap packed e))
 
 -- A result fits, renamed or not.
 result-fits : (area : List ℕ) (at : ℕ) (c : ℕ → ℕ) (s : ListedStep) → EntryAt area at s → length (encode 0 (ren c (s .result))) ≤ longestTerm
@@ -117,7 +117,7 @@ module _ (arities : List ℕ) (second : Bool) (area : List ℕ) (at : ℕ) (othe
         (sets-join key 0 113 (partBytes R) (partBytes (s .result)) (omega (arith, length-part R (result-fits others place (classIn (s .classes)) t f)))))
 
     -- with a received name
-    module _ (name x : ℕ) (l : name < nameCount) (o : x ≡ getD area (at + 18) 0) where
+    module _ (name x : ℕ) (l : name < nameCount) (o : x ≡ getD area (at + objectByte) 0) where
       object : (s : ListedStep) → EntryAt area at s → x ≡ s .object
       object s e = o ∙ entry-object area at s e
 
@@ -145,7 +145,7 @@ module _ (arities : List ℕ) (second : Bool) (area : List ℕ) (at : ℕ) (othe
       → PartsStand arities key P Q
   parts-stand key P Q g h k l key₀ n w =
       let parts : List ℕ = partBytes P ++ partBytes Q in
-      let m : length parts ≡ 226 = omega (arith, length-append (partBytes P) (partBytes Q), length-part P k, length-part Q l) in
+      let m : length parts ≡ (partRoom + partRoom) = omega (arith, length-append (partBytes P) (partBytes Q), length-part P k, length-part Q l) in
       record {
         rest = drop (length parts) key₀;
         there = w ∙ sets-start key₀ parts (omega arith) ∙ append-assoc (partBytes P) (partBytes Q) (drop (length parts) key₀);

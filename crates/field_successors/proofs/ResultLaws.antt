@@ -17,20 +17,20 @@ use Rattle.terms_bytes.proofs.NameTables.{represents-free}
 use Rattle.terms.proofs.RenamingKeeps.{length-ren}
 use Rattle.steps.specs.Limits.{stepBytes}
 use Rattle.steps.specs.Listed.{ListedStep, classIn, resultBytes}
-use Rattle.field_pairs.specs.Entry.{EntryAt, SameClassesIs}
+use Rattle.field_pairs.specs.Entry.{EntryAt, SameClassesIs, objectByte, resultByte}
 use Rattle.field_successors.specs.Resulting.{CopiesResult, RewritesResult, ReceivesResult}
-use Rattle.field_pairs.specs.Slot.{partBytes}
+use Rattle.field_pairs.specs.Slot.{partBytes, partRoom}
 use Rattle.field.proofs.Moves.{put-same}
 use Rattle.field_pairs.proofs.EntryLaws.{entry-class, entry-result}
 use Rattle.field_slots.proofs.KeyLaws.{length-part, behind}
 
-pub copies-result : (area : List ℕ) (at : ℕ) (slot : List ℕ) (put : ℕ) (slot′ : List ℕ) → slot′ ≡ sets slot put (take 113 (drop (at + 18 + 1) area))
+pub copies-result : (area : List ℕ) (at : ℕ) (slot : List ℕ) (put : ℕ) (slot′ : List ℕ) → slot′ ≡ sets slot put (take partRoom (drop (at + objectByte + 1) area))
     → CopiesResult area at slot put slot′
 unfolding CopiesResult resultBytes
 copies-result area at slot put slot′ w s e =
-    let n : at + 18 + 1 ≡ at + 19 = omega arith in
-    w ∙ ap (sets slot put) (ap (λ k. take 113 (drop k area)) n ∙ ap (take 113) (entry-result area at s e)
-    ∙ take-at (partBytes (s .result)) (e .rest) 113 (length-part (s .result) (e .fits)))
+    let n : at + objectByte + 1 ≡ at + resultByte = omega arith in
+    w ∙ ap (sets slot put) (ap (λ k. take partRoom (drop k area)) n ∙ ap (take partRoom) (entry-result area at s e)
+    ∙ take-at (partBytes (s .result)) (e .rest) partRoom (length-part (s .result) (e .fits)))
 
 -- What is rewritten by a condition already is not rewritten by the same one.
 pub copied-same : (area : List ℕ) (at : ℕ) (others : List ℕ) (place : ℕ) (arities slot : List ℕ) (put : ℕ) (slot₁ : List ℕ)
@@ -58,16 +58,16 @@ sets-over l (x ∷ xs) (y ∷ ys) fill p e =
 
 -- A result that is copied and then renamed by a table.
 module _ (others : List ℕ) (place : ℕ) (arities table slot : List ℕ) (at : ℕ) (room : at + 113 ≤ length slot) (slot₁ : List ℕ) (r : ℕ) (slot₂ : List ℕ)
-    (w : CopiesResult others place slot at slot₁) (R : RenameIs others (place + 18 + 2) arities table slot₁ (at + 1) r slot₂) where
+    (w : CopiesResult others place slot at slot₁) (R : RenameIs others (place + objectByte + 2) arities table slot₁ (at + 1) r slot₂) where
   renamed-result : (c : ℕ → ℕ) → ((n : ℕ) → n < nameCount → (getD table n 0 ≡ c n) × (c n < nameCount)) → (t : ListedStep) → EntryAt others place t
       → InScope nameCount arities 0 (t .result) → slot₂ ≡ sets slot at (partBytes (ren c (t .result)))
   unfolding CopiesResult RenameIs partBytes resultBytes
   renamed-result c h t f scope =
       let P = t .result in
       let fill : List ℕ = replicate (longestTerm - length (encode 0 P)) 0 in
-      let n : place + 18 + 2 ≡ place + 19 + 1 = omega arith in
-      let there : drop (place + 18 + 2) others ≡ encode 0 P ++ (fill ++ f .rest) =
-      ap (λ k. drop k others) n ∙ behind others (place + 19) P (f .rest) (entry-result others place t f) in
+      let n : place + objectByte + 2 ≡ place + resultByte + 1 = omega arith in
+      let there : drop (place + objectByte + 2) others ≡ encode 0 P ++ (fill ++ f .rest) =
+      ap (λ k. drop k others) n ∙ behind others (place + resultByte) P (f .rest) (entry-result others place t f) in
       let y = R nameCount 0 0 c P (fill ++ f .rest) (omega arith) (represents-free table c h) scope there
       (omega (arith, f .fits, height-bytes 0 P)) (omega (arith, f .fits, ap length (w t f), length-sets slot at (partBytes P))) in
       let same : length (encode 0 (ren c P)) ≡ length (encode 0 P) = length-ren 0 0 c P in
@@ -76,7 +76,7 @@ module _ (others : List ℕ) (place : ℕ) (arities table slot : List ℕ) (at :
 
 pub rewrites-result : (area : List ℕ) (at : ℕ) (others : List ℕ) (place : ℕ) (arities slot : List ℕ) (put : ℕ) → at + stepBytes ≤ length area
     → put + 113 ≤ length slot → (slot₁ : List ℕ) (r : ℕ) (slot₂ : List ℕ) → CopiesResult others place slot put slot₁
-    → RenameIs others (place + 18 + 2) arities (take (length area - at) (drop at area)) slot₁ (put + 1) r slot₂
+    → RenameIs others (place + objectByte + 2) arities (take (length area - at) (drop at area)) slot₁ (put + 1) r slot₂
     → RewritesResult area at others place arities slot put slot₂
 unfolding RewritesResult
 rewrites-result area at others place arities slot put inside room slot₁ r slot₂ w R s t e f scope own =
@@ -102,7 +102,7 @@ module _ (area : List ℕ) (at : ℕ) (arities : List ℕ) (x y : ℕ) (slot : L
       w s e ∙ ap (λ P. sets slot to (partBytes P)) (sym (ap (λ z. ren (put x z) (s .result)) (sym q) ∙ put-same x (s .result)))
 
   pub receives-result : to + 113 ≤ length slot → (table : List ℕ) → ((n : ℕ) → n < nameCount → getD table n 0 ≡ put x y n) → (r : ℕ) (slot₂ : List ℕ)
-      → RenameIs area (at + 18 + 2) arities table slot₁ (to + 1) r slot₂ → ReceivesResult area at arities x y slot to slot₂
+      → RenameIs area (at + objectByte + 2) arities table slot₁ (to + 1) r slot₂ → ReceivesResult area at arities x y slot to slot₂
   unfolding ReceivesResult
   receives-result room table h r slot₂ R s e scope l =
       renamed-result area at arities table slot to room slot₁ r slot₂ w R (put x y) (λ n k. (h n k, put-below x y n l k)) s e scope

@@ -15,7 +15,7 @@ use Rattle.field_slots.specs.Noted.{notedCount, noteAt, SpareOnly, SoleIn}
 use Rattle.field.specs.Exploration.{found}
 use Rattle.field.specs.Situation.{Situation}
 use Rattle.field.proofs.Members.{getD-∈}
-use Rattle.field_pairs.specs.Slot.{slotBytes, struckAt}
+use Rattle.field_pairs.specs.Slot.{slotBytes, struckAt, keyBytes, headByte, noteByte}
 use Rattle.field_slots.proofs.ChainLaws.{key-flag, keeps-key, chained-kept}
 use Rattle.field_slots.proofs.NotedLaws.{note-flag}
 use Rattle.field_growth.proofs.SlotWriting.{situation-kept}
@@ -31,7 +31,7 @@ use Rattle.verdict.specs.Verdict.{Manner, allAnswered}
 -- Keys and chains are as they were.
 pub record SameField (v u : List ℕ) : Type 0 where
   pub keys : (i : ℕ) → keyAt u i ≡ keyAt v i
-  pub links : (i j : ℕ) → 242 ≤ j → j < 246 → getD u (slotBytes * i + j) 0 ≡ getD v (slotBytes * i + j) 0
+  pub links : (i j : ℕ) → headByte ≤ j → j < noteByte → getD u (slotBytes * i + j) 0 ≡ getD v (slotBytes * i + j) 0
 
 pub same-none : (v : List ℕ) → SameField v v
 same-none v = record { keys = λ i. refl; links = λ i j g h. refl }
@@ -167,7 +167,7 @@ module _ (manner : Manner) (question : List ℕ) (capacity count : ℕ) where
   -- Notes change nothing that is left.
   module _ (v u : List ℕ) (s : SpareOnly count v u) where
     pub spare-mark : (i : ℕ) → getD u (struckAt i) 0 ≡ getD v (struckAt i) 0
-    spare-mark i = s .slots i 241 (omega arith)
+    spare-mark i = s .slots i keyBytes (omega arith)
 
     searching-back : Searching manner question capacity u count → Searching manner question capacity v count
     unfolding field-kept

@@ -7,6 +7,7 @@ use Rattle.field_renewal.proofs.RenewingLaws.{step-stays, step-renewed}
 use borrow.Author.Needs.{needs}
 use Rattle.field_renewal.proofs.renewing.renew_step.Statement.{statement}
 use Rattle.field_renewal.proofs.renewing.renew_step.Tie as tie
+use Rattle.field_pairs.specs.Entry.{objectByte}
 
 copy-requires : tie.Need-copy-requires
 copy-requires c κs = search needs
@@ -51,7 +52,7 @@ same-length-2 c =
     let c14 = c8 .before .before .before .before .before .before in
     omega (
       arith,
-      length-set (c2 .rename .last .1 .1 .1 .1 .0) (c14 .args .to + 18) (c14 .args .x),
+      length-set (c2 .rename .last .1 .1 .1 .1 .0) (c14 .args .to + objectByte) (c14 .args .x),
       c2 .rename .kept .1 .1 .1 .1 .0,
       c8 .copy .kept .1 .1 .1 .0,
     )
