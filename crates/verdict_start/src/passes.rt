@@ -1,4 +1,4 @@
-// Moved from strike.
+// Passes of strike-out over the whole field: whether the start survives. Document 01, "The field and the verdict".
 ghost use mathlib.Core.Path.{_≡_};
 ghost use Prim.Native.Nat.{_+_, _-_, _*_, _<_, _≤_};
 ghost use lib.ListN.{length};

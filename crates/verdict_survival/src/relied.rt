@@ -1,6 +1,6 @@
 // What is noted in a slot. Exploration notes situations that are the only answer to a step: if one is struck out, so is this one. Passes note what a
-// situation that survives relies on: for each permitted step the situation that its first left answer leads to. While those are left, the situation
-// still survives. In both cases its steps need not be listed again.
+// situation that survives relies on: for each demand the situations that its first left answer leads to. While those are left, the situation still
+// survives. In both cases its steps need not be listed again.
 ghost use Prim.Native.Nat.{_+_, _*_, _<_, _≤_};
 ghost use lib.ListN.{length};
 ghost use Rattle.field_pairs.specs.Slot.{slotBytes};

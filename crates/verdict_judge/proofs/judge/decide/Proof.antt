@@ -1,4 +1,4 @@
--- `verdict::judge::decide` meets its contract. Assumes nothing.
+-- `verdict_judge::judge::decide` meets its contract. Assumes nothing.
 use native.Mathlib.Omega.{arith}
 use Rattle.field_kept_lists.specs.ListArea.{listArea}
 use Rattle.field_kept_lists.proofs.ListAreaLaws.{no-part}
