@@ -28,7 +28,7 @@ use Rattle.field.proofs.Run.{selves}
 use Rattle.field.proofs.Unseen.{∈-found}
 use Rattle.field.proofs.Members.{getD-∈}
 use Rattle.verdict_survival.specs.Notes.{NoteIs, RestsIs, SoleStruckIs}
-use Rattle.verdict_survival.specs.Striking.{demandsAt, marks, living, zeros, leftOf, EqualParts, Searching, SurvivesIs, ExaminedIs, AllNoted, NotesHold}
+use Rattle.verdict_survival.specs.Striking.{demandsAt, marks, living, zeros, leftOf, EqualParts, Searching, MeetsIs, SurvivesIs, ExaminedIs, AllNoted, NotesHold}
 use Rattle.verdict_survival.specs.Striking.{EqualPartsIs, Strikes, none-struck, one-struck, notes-changed, StrikesSole, StrikesOne, AllSurvive, Run}
 use Rattle.verdict_survival.specs.Striking.{PassIs, FirstStruckIs, StartSurvivesIs, blockSlots, turned}
 use Rattle.verdict.specs.Verdict.{Manner, differs, demandsOf, allAnswered}
@@ -44,6 +44,12 @@ use Rattle.verdict.proofs.Rounds.{true-not-false, self-in}
 use Rattle.verdict_strikeout.proofs.Unanswered.{strikes-flagged}
 use Rattle.verdict_survival.proofs.DemandedMoves.{move-demanded, demand-followed, demand-answered}
 use Rattle.verdict_survival.proofs.Demands.{all-meet, one-fails}
+
+-- What holds of every field holds of one that is being searched.
+met-survives : (manner : Manner) (question : List ℕ) (capacity : ℕ) (work : List ℕ) (count i : ℕ) (r : Bool) → MeetsIs manner question capacity work count i r
+    → SurvivesIs manner question capacity work count i r
+unfolding MeetsIs SurvivesIs
+met-survives manner question capacity work count i r h f = h (f .field)
 
 -- first_struck
 pub first-gone : (work : List ℕ) (count i : ℕ) (r : Bool) → i < count → LeftAtIs work i r → r ≡ false → ((j : ℕ) → j < i → getD work (struckAt j) 0 ≡ 0)
@@ -213,7 +219,7 @@ module _ (manner : Manner) (question : List ℕ) (capacity count : ℕ) where
       unfolding NotesHold
       survivor-noted r v h s e t = record {
         struck = λ q. true-not-false q refl;
-        kept = λ q. (spare-more work v h (t .spare), λ x z. subst (SurvivesIs manner question capacity work count i) e (s .is));
+        kept = λ q. (spare-more work v h (t .spare), λ x z. subst (SurvivesIs manner question capacity work count i) e (met-survives manner question capacity work count i (r .all) (s .is)));
         noted = subst (λ b. NotesHold b manner question capacity v count) (sym on) (noted-one manner question capacity count work v i r s e t relied);
       }
         where
@@ -223,7 +229,7 @@ module _ (manner : Manner) (question : List ℕ) (capacity count : ℕ) where
     pub one-strikes : (r : Answered) → getD work (struckAt i) 0 ≡ 0 → ExaminedIs manner question capacity work count i r → r .all ≡ false
         → StrikesOne examine manner question capacity work count i true (set work (struckAt i) 1)
     one-strikes r z s e = record {
-      struck = λ q. (z, subst (SurvivesIs manner question capacity work count i) e (s .is), refl);
+      struck = λ q. (z, subst (SurvivesIs manner question capacity work count i) e (met-survives manner question capacity work count i (r .all) (s .is)), refl);
       kept = λ q. true-not-false refl q;
       noted = notes-struck manner question capacity count examine work i n;
     }

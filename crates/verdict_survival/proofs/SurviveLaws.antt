@@ -25,7 +25,7 @@ use Rattle.field_taking_up.specs.declared.taking.Lists.the-variants.{Past, List
 use Rattle.field_taking_up.specs.declared.taking.TakenUp.{TakenUp}
 use Rattle.field.proofs.Members.{getD-∈}
 use Rattle.verdict_survival.specs.Notes.{Has, Few, Numbers}
-use Rattle.verdict_survival.specs.Striking.{leftOf, sideDemands, Side, ReliesOn, SideMetIs, demandsAt, FieldIn, LeadsTo, SurvivesIs, Relies, ExaminedIs}
+use Rattle.verdict_survival.specs.Striking.{leftOf, sideDemands, Side, ReliesOn, SideMetIs, demandsAt, FieldIn, LeadsTo, MeetsIs, Relies, ExaminedIs}
 use Rattle.verdict_survival.specs.declared.relied.Relied.{Relied}
 use Rattle.verdict_survival.specs.declared.survive.Answered.{Answered}
 use Rattle.verdict.specs.Received.{namedDemands, sidesDemand}
@@ -133,8 +133,8 @@ module _ (manner : Manner) (question : List ℕ) (capacity : ℕ) (work : List �
 
   pub past-limit : r .lists ≡ Past → (relied : Relied) → Numbers relied
       → ExaminedIs manner question capacity work count i (record { all = false; relied = relied })
-  unfolding SurvivesIs ListsAre differs
-  past-limit e relied n = record { is = λ f. survives (f .field); numbers = n; relies = λ q. true-not-false q refl }
+  unfolding MeetsIs ListsAre differs
+  past-limit e relied n = record { is = survives; numbers = n; relies = λ q. true-not-false q refl }
     where
       survives : (f : FieldIn manner question capacity work count) (d : Situation) (ms : List (List Situation)) → LeadsTo f i d ms
           → false ≡ allAnswered (leftOf work (f .known)) (demandsAt manner (f .read) (getD (f .known) i d) ms)
@@ -149,8 +149,8 @@ module _ (manner : Manner) (question : List ℕ) (capacity : ℕ) (work : List �
     sides f d = subst (λ k. ListsAre (f .read) (getD (f .known) i d) k firsts seconds) e (taken f d .lists)
 
     pub first-fails : first .all ≡ false → ExaminedIs manner question capacity work count i (record { all = false; relied = first .relied })
-    unfolding SurvivesIs first-side sides moves differs
-    first-fails q = record { is = λ f. survives (f .field); numbers = h .numbers; relies = λ q. true-not-false q refl }
+    unfolding MeetsIs first-side sides moves differs
+    first-fails q = record { is = survives; numbers = h .numbers; relies = λ q. true-not-false q refl }
       where
         survives : (f : FieldIn manner question capacity work count) (d : Situation) (ms : List (List Situation)) → LeadsTo f i d ms
             → false ≡ allAnswered (leftOf work (f .known)) (demandsAt manner (f .read) (getD (f .known) i d) ms)
@@ -162,8 +162,8 @@ module _ (manner : Manner) (question : List ℕ) (capacity : ℕ) (work : List �
 
     pub second-decides : (second : Answered) → first .all ≡ true → SideMetIs manner arities capacity work count (r .free) (r .apart) true seconds m firsts n (first .relied) second
         → ExaminedIs manner question capacity work count i second
-    unfolding SurvivesIs Relies ReliesOn first-side sides second-side differs
-    second-decides second q k = record { is = λ f. survives (f .field); numbers = k .numbers; relies = relies }
+    unfolding MeetsIs Relies ReliesOn first-side sides second-side differs
+    second-decides second q k = record { is = survives; numbers = k .numbers; relies = relies }
       where
         survives : (f : FieldIn manner question capacity work count) (d : Situation) (ms : List (List Situation)) → LeadsTo f i d ms
             → second .all ≡ allAnswered (leftOf work (f .known)) (demandsAt manner (f .read) (getD (f .known) i d) ms)

@@ -234,7 +234,13 @@ pub record Searching (manner : Manner) (question : List ℕ) (capacity : ℕ) (w
       → getD work (struckAt i) 0 ≡ 0 → ⊥
   pub equal : (i : ℕ) (d : Situation) → i < count → EqualParts (getD (field .known) i d) → getD work (struckAt i) 0 ≡ 0
 
--- Whether those left meet each demand on situation i.
+-- Whether those left meet each demand on situation i of the field in the work area.
+unfoldable pub MeetsIs : Manner → List ℕ → ℕ → List ℕ → ℕ → ℕ → Bool → Type 0
+MeetsIs manner question capacity work count i r =
+    (f : FieldIn manner question capacity work count) (d : Situation) (ms : List (List Situation)) → LeadsTo f i d ms
+    → r ≡ allAnswered (leftOf work (f .known)) (demandsAt manner (f .read) (getD (f .known) i d) ms)
+
+-- The same of a field that is being searched.
 unfoldable pub SurvivesIs : Manner → List ℕ → ℕ → List ℕ → ℕ → ℕ → Bool → Type 0
 SurvivesIs manner question capacity work count i r =
     (f : Searching manner question capacity work count) (d : Situation) (ms : List (List Situation)) → LeadsTo (f .field) i d ms
@@ -247,7 +253,7 @@ Relies manner question capacity work count i H =
     → ReliesOn H (f .known) (demandsAt manner (f .read) (getD (f .known) i d) ms)
 
 pub record ExaminedIs (manner : Manner) (question : List ℕ) (capacity : ℕ) (work : List ℕ) (count i : ℕ) (r : Answered) : Type 0 where
-  pub is : SurvivesIs manner question capacity work count i (r .all)
+  pub is : MeetsIs manner question capacity work count i (r .all)
   pub numbers : Numbers (r .relied)
   pub relies : r .all ≡ true → Few (r .relied) → Relies manner question capacity work count i (Has (r .relied))
 
