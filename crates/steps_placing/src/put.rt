@@ -39,7 +39,7 @@ fn result_names(class: &[u8]) -> [u8; NAME_SLOTS]
 
 // The result of the candidate number `i`, rewritten by the classes of its condition, or with its own names. The answer is where its bytes end, or
 // past the end of `out` where there is no room.
-fn write_result(
+pub fn write_result(
     question: &[u8],
     bodies: &[u32],
     part: &[u8],
@@ -50,7 +50,7 @@ fn write_result(
     x: u8,
     out: &mut [u8],
 ) -> usize
-    requires { ⌜ (length (now part) ≤ longestTerm) × (nameCount ≤ length (now class)) × (length (now out) ≤ longestTerm) × TallyIs (now question) (now part) 1 (now tally) × BodiesTallied (now question) (now bodies) ⌝ }
+    requires { ⌜ (length (now part) ≤ longestTerm) × (nameCount ≤ length (now class)) × TallyIs (now question) (now part) 1 (now tally) × BodiesTallied (now question) (now bodies) ⌝ }
     ensures { λ r. ⌜ ResultIs (now (question .entry)) (now (part .entry)) silently i (now (class .entry)) x (now (out .entry)) r (now (out .exit)) ⌝ }
 {
     let task = Task {

@@ -237,7 +237,7 @@ fn write_call(
     out: &mut [u8],
     put: usize,
 ) -> usize
-    requires { ⌜ (at < length (now src)) × (8 < getD (now src) at 0) × (task .still ≡ false) × (task .calls ≤ 1) × (length (now src) ≤ longestTerm) × (binders ≤ at + greatestArity) × Room (task .levels) (now out) put × BodiesTallied (now question) (now bodies) ⌝ }
+    requires { ⌜ (at < length (now src)) × (8 < getD (now src) at 0) × (task .still ≡ false) × (task .calls ≤ 1) × (length (now src) ≤ longestTerm) × (binders ≤ at + greatestArity) × Room (task .calls) (task .levels) at (now out) put × BodiesTallied (now question) (now bodies) ⌝ }
     ensures { λ r. ⌜ WriteIs (now (question .entry)) (now (src .entry)) at binders (now (names .entry)) task (now (out .entry)) put r (now (out .exit)) ⌝ }
 {
     let o = call_at(question, bodies, src, at, task.calls);

@@ -76,8 +76,7 @@ write-requires c κs =
       omega arith,
       search needs,
       (
-        omega
-            (arith, g .3, c .before .before .before .before .before .before .before .if3 .left),
+        omega (arith, g .0),
         omega (arith, g .3),
       ),
       g .5,
@@ -97,7 +96,7 @@ returns-4 c =
     let c20 = c13 .before .before .before .before .before .before .before in
     let v = c20 .args in
     let h : v .put + (v .hole .at - v .from) ≤ longestTerm = leb-true _ _ (sym (c13 .room .ensures) ∙ not-false _ (c12 .if2 .left)) in
-    hole-written (v .question .now) (v .part .now) (v .from) (v .hole) (v .new) (v .out .now) (v .put) (omega (arith, c20 .pre .3))
+    hole-written (v .question .now) (v .part .now) (v .from) (v .hole) (v .new) (v .out .now) (v .put) (omega (arith, c20 .pre .3)) (omega (arith, c20 .pre .3))
     (c6 .own-names .result) (c6 .own-names .ensures) _ (c9 .copy .ensures) (c3 .write .result) _ (c3 .write .ensures .0)
 
 pub write-hole-spec : {M : Type 1} → statement M
