@@ -1,6 +1,7 @@
 pub mod ClassTests
 pub mod Explored
 pub mod FieldIsSmallest
+pub mod FormedParts
 pub mod Link
 pub mod Members
 pub mod MoveLaws
@@ -14,5 +15,6 @@ pub mod QuestionField
 pub mod Reached
 pub mod Run
 pub mod Selections
+pub mod SettledKept
 pub mod SuccessorsLinked
 pub mod Unseen

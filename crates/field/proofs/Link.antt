@@ -12,6 +12,7 @@ use Rattle.calculus.specs.Definitions.{Defs}
 use Rattle.calculus.specs.OpenBisimulation.{update}
 use Rattle.steps.specs.Lists.{_∈_}
 use Rattle.steps.proofs.Calls.{Opens}
+use Rattle.steps.proofs.FormLaws.{Form}
 use Rattle.steps.proofs.Scope.{CallsInScope}
 use Rattle.steps.specs.Derived.{Derived}
 use Rattle.steps.specs.Listed.{ListedStep}
@@ -30,6 +31,7 @@ pub record SettingFor (Δ : Defs) (S : Setting) (arities : List ℕ) : Type 0 wh
   pub opens : (P : Term) → CallsInScope arities P → Opens Δ (S .calls) P
   -- each name, and the one behind them, has a byte
   pub few : S .names < 128
+  pub formed : Form (S .form)
 
 module _ (Δ : Defs) (S : Setting) where
   -- The two results on their sides: the first side moves, or the second does.
@@ -43,7 +45,7 @@ module _ (Δ : Defs) (S : Setting) where
   pub record ResultOf (make : Term → Term → Pairs → Situation) (D : Pairs) {x : ℕ} {P : Term} (Q : Term) (m : Move Δ S x P) (t : Situation) : Type 0 where
     pub answer : Move Δ S x Q
     pub matches : Matches Δ S m answer
-    pub result : t ≡ make (m .result) (ren (cls (m .condition)) (answer .result)) (update D P Q (m .action) (m .condition))
+    pub result : t ≡ make (S .form (m .result)) (S .form (ren (cls (m .condition)) (answer .result))) (update D P Q (m .action) (m .condition))
 
   -- m is permitted, and w is its list.
   pub record ListOf (make : Term → Term → Pairs → Situation) (D : Pairs) {x : ℕ} {P : Term} (Q : Term) (m : Move Δ S x P) (w : List Situation)
@@ -77,8 +79,8 @@ module _ (Δ : Defs) (S : Setting) where
       pub seconds : List ListedStep
       pub first-list : stepsIn S (fresh Δ S s) (s .first) ≡ listed firsts
       pub second-list : stepsIn S (fresh Δ S s) (s .second) ≡ listed seconds
-      pub first-steps : (r : ListedStep) → (r ∈ firsts) ↔ Derived Δ (S .names) (fresh Δ S s) (s .first) r
-      pub second-steps : (r : ListedStep) → (r ∈ seconds) ↔ Derived Δ (S .names) (fresh Δ S s) (s .second) r
+      pub first-steps : (r : ListedStep) → (r ∈ firsts) ↔ Derived (S .form) Δ (S .names) (fresh Δ S s) (s .first) r
+      pub second-steps : (r : ListedStep) → (r ∈ seconds) ↔ Derived (S .form) Δ (S .names) (fresh Δ S s) (s .second) r
       -- an input is listed only if the new name is one of the names
       pub receives : (r : ListedStep) → (r ∈ firsts) ⊎ (r ∈ seconds) → r .kind ≡ 1 → fresh Δ S s < S .names
       pub is : ms ≡ moves (S .differ) (S .names) firstMoves (freeIn (S .names) (s .first) (s .second)) (s .apart) firsts seconds

@@ -84,9 +84,9 @@ module _ (Δ : Defs) where
   module _ (S : Setting) {x : ℕ} {P : Term} (m : Move Δ S x P) where
     -- a move as it is listed
     abbrev pub listedMove : ListedStep
-    listedMove = listedAs (S .names) (m .condition) (m .action) (m .result)
+    listedMove = listedAs (S .names) (m .condition) (m .action) (S .form (m .result))
 
-    pub move-derived : Derived Δ (S .names) x P listedMove
+    pub move-derived : Derived (S .form) Δ (S .names) x P listedMove
     move-derived = record {
       condition = m .condition;
       action = m .action;
@@ -119,7 +119,7 @@ module _ (Δ : Defs) where
           (result-calls arities bodies (m .transition) (scope-calls (S .names) arities 0 P scope))
 
   -- a derived step is a move, listed
-  pub derived-move : (S : Setting) {x : ℕ} {P : Term} {s : ListedStep} → Derived Δ (S .names) x P s → (m : Move Δ S x P) × (s ≡ listedMove S m)
+  pub derived-move : (S : Setting) {x : ℕ} {P : Term} {s : ListedStep} → Derived (S .form) Δ (S .names) x P s → (m : Move Δ S x P) × (s ≡ listedMove S m)
   derived-move S d = (
     record { condition = d .condition; action = d .action; result = d .result; transition = d .transition; binds = d .binds },
     d .listed,

@@ -49,14 +49,14 @@ binds-some (t ∷ ss) s (inr m) h = go (bindsName t) (binds-some ss s m h)
     go true e = refl
     go false e = e
 
-module _ (Δ : Defs) (S : Setting) {x : ℕ} {P : Term} (ss : List ListedStep) (lists : (s : ListedStep) → (s ∈ ss) ↔ Derived Δ (S .names) x P s) where
+module _ (Δ : Defs) (S : Setting) {x : ℕ} {P : Term} (ss : List ListedStep) (lists : (s : ListedStep) → (s ∈ ss) ↔ Derived (S .form) Δ (S .names) x P s) where
   pub binding-move : someBinds ss ≡ true → (m : Move Δ S x P) × (y : ℕ) × In y (boundNames (m .action))
   binding-move e =
       let (s, k, h) = some-binds ss e in
       let (m, d) = derived-move Δ S (lists s .0 k) in
-      let (y, i) = binds-bound (S .names) (m .condition) (m .action) (m .result) (subst (λ t. bindsName t ≡ true) d h) in
+      let (y, i) = binds-bound (S .names) (m .condition) (m .action) (S .form (m .result)) (subst (λ t. bindsName t ≡ true) d h) in
       (m, y, i)
 
   pub move-binds : (m : Move Δ S x P) (y : ℕ) → In y (boundNames (m .action)) → someBinds ss ≡ true
   move-binds m y i =
-      binds-some ss (listedMove Δ S m) (lists (listedMove Δ S m) .1 (move-derived Δ S m)) (bound-binds (S .names) (m .condition) (m .action) (m .result) y i)
+      binds-some ss (listedMove Δ S m) (lists (listedMove Δ S m) .1 (move-derived Δ S m)) (bound-binds (S .names) (m .condition) (m .action) (S .form (m .result)) y i)

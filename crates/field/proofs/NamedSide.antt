@@ -23,6 +23,7 @@ use Rattle.steps.specs.Lists.{_∈_}
 use Rattle.steps.specs.Derived.{Derived}
 use Rattle.steps.specs.Listed.{ListedStep, namesFrom, classesOf, classIn, kindOf, objectOf, listedAs}
 use Rattle.steps.proofs.ClassLists.{Within, unmatched, class-list}
+use Rattle.steps.proofs.FormLaws.{Form}
 use Rattle.field.specs.Setting.{Setting}
 use Rattle.field.specs.Situation.{Situation}
 use Rattle.field.specs.Successors.{answers, ownClasses, unconditional, allowed, received, led, answersTo, moves}
@@ -61,9 +62,9 @@ nil-action α = ap (λ f. renAction f α) cls-nil ∙ action-id α
 -- P moves and Q answers. Their listed steps, for a name x that is free in neither, are ps and qs.
 module _ (Δ : Defs) (S : Setting) (arities : List ℕ) (x : ℕ) (P Q : Term) (scope : InScope (S .names) arities 0 P) (scope′ : InScope (S .names) arities 0 Q)
     (new : ¬ Free x P) (new′ : ¬ Free x Q) (ps qs : List ListedStep)
-    (lists : (s : ListedStep) → (s ∈ ps) ↔ Derived Δ (S .names) x P s) (lists′ : (s : ListedStep) → (s ∈ qs) ↔ Derived Δ (S .names) x Q s) where
+    (lists : (s : ListedStep) → (s ∈ ps) ↔ Derived (S .form) Δ (S .names) x P s) (lists′ : (s : ListedStep) → (s ∈ qs) ↔ Derived (S .form) Δ (S .names) x Q s) where
   abbrev pub unconditionally : Action → Term → ListedStep
-  unconditionally α R = listedAs (S .names) [] α R
+  unconditionally α R = listedAs (S .names) [] α (S .form R)
 
   abbrev pub BindsNew : Action → Type 0
   BindsNew α = (y : ℕ) → In y (boundNames α) → y ≡ x
@@ -71,7 +72,7 @@ module _ (Δ : Defs) (S : Setting) (arities : List ℕ) (x : ℕ) (P Q : Term) (
   pub avoids : (α : Action) (T : Term) → BindsNew α → ¬ Free x T → Avoids α T
   avoids α T b h y i f = h (subst (λ n. Free n T) (b y i) f)
 
-  derived : (T : Term) (α : Action) (R : Term) → Concrete Δ T α R → BindsNew α → ¬ Free x T → Derived Δ (S .names) x T (unconditionally α R)
+  derived : (T : Term) (α : Action) (R : Term) → Concrete Δ T α R → BindsNew α → ¬ Free x T → Derived (S .form) Δ (S .names) x T (unconditionally α R)
   derived T α R t b h =
       record { condition = []; action = α; result = R; transition = concrete-transition Δ t (avoids α T b h); binds = b; listed = refl }
 
@@ -86,7 +87,7 @@ module _ (Δ : Defs) (S : Setting) (arities : List ℕ) (x : ℕ) (P Q : Term) (
 
   test : (α : Action) (R : Term) (M : Cond) (β : Action) (T : Term) → Within (S .names) M
       → (answers (S .names) (unconditionally α R) (listedAs (S .names) M β T) ≡ true) ↔ (([] ▷ M) × (α ≡ renAction (cls []) β))
-  test α R M β T w = answers-iff (S .names) [] α R (within-nil (S .names)) M β T w (λ y i. ap (λ f. f y) cls-nil)
+  test α R M β T w = answers-iff (S .names) [] α (S .form R) (within-nil (S .names)) M β T w (λ y i. ap (λ f. f y) cls-nil)
 
   -- an answer that is listed
   pub record Listed (α : Action) (t : ListedStep) : Type 0 where
@@ -97,13 +98,13 @@ module _ (Δ : Defs) (S : Setting) (arities : List ℕ) (x : ℕ) (P Q : Term) (
   pub listed-answer : (α : Action) (R : Term) (t : ListedStep) → t ∈ qs → answers (S .names) (unconditionally α R) t ≡ true → Listed α t
   listed-answer α R t i a =
       let (n, d) = derived-move Δ S (lists′ t .0 i) in
-      let (imp, e) = test α R (n .condition) (n .action) (n .result) (move-within Δ S n arities scope′) .0 (subst (λ u. answers (S .names) (unconditionally α R) u ≡ true) d a) in
+      let (imp, e) = test α R (n .condition) (n .action) (S .form (n .result)) (move-within Δ S n arities scope′) .0 (subst (λ u. answers (S .names) (unconditionally α R) u ≡ true) d a) in
       let v = nil-trivial (n .condition) imp in
       let f : n .action ≡ α = sym (e ∙ nil-action (n .action)) in
       record {
         result = n .result;
         transition = subst (λ β. Concrete Δ Q β (n .result)) f (transition-concrete Δ (n .transition) v .0);
-        is = d ∙ (λ i. listedAs (S .names) (transition-nil Δ (n .transition) v i) (f i) (n .result));
+        is = d ∙ (λ i. listedAs (S .names) (transition-nil Δ (n .transition) v i) (f i) (S .form (n .result)));
       }
 
   -- a transition of Q by the same action answers
@@ -111,7 +112,7 @@ module _ (Δ : Defs) (S : Setting) (arities : List ℕ) (x : ℕ) (P Q : Term) (
   answer-listed α T t b = lists′ (unconditionally α T) .1 (derived Q α T t b new′)
 
   pub answers-own : (α : Action) (R T : Term) → answers (S .names) (unconditionally α R) (unconditionally α T) ≡ true
-  answers-own α R T = test α R [] α T (within-nil (S .names)) .1 (tt, sym (nil-action α))
+  answers-own α R T = test α R [] α (S .form T) (within-nil (S .names)) .1 (tt, sym (nil-action α))
 
   -- the condition of a step that passes the test
   trivial-step : (m : Move Δ S x P) → unconditional (S .names) (listedMove Δ S m) ≡ true → Trivial (m .condition)
@@ -147,11 +148,11 @@ module _ (Δ : Defs) (S : Setting) (arities : List ℕ) (x : ℕ) (P Q : Term) (
         binds = m .binds;
         result = m .result;
         does = transition-concrete Δ (m .transition) v .0;
-        is = d ∙ ap (λ M. listedAs (S .names) M (m .action) (m .result)) (transition-nil Δ (m .transition) v);
+        is = d ∙ ap (λ M. listedAs (S .names) M (m .action) (S .form (m .result))) (transition-nil Δ (m .transition) v);
       }
 
   -- Where a situation of `moves` comes from, and that every such one is there.
-  module _ (make : Term → Term → Pairs → Situation) (F : List ℕ) (D : Pairs) where
+  module _ (formed : Form (S .form)) (make : Term → Term → Pairs → Situation) (F : List ℕ) (D : Pairs) where
     pub record Matched (t : Situation) : Type 0 where
       pub action : Action
       pub binds : BindsNew action
@@ -161,7 +162,11 @@ module _ (Δ : Defs) (S : Setting) (arities : List ℕ) (x : ℕ) (P Q : Term) (
       pub answering : Concrete Δ Q action right
       pub name : ℕ
       pub offered : name ∈ received true (S .names) F (unconditionally action left)
-      pub is : t ≡ make (ren (put (objectOf action) name) left) (ren (put (objectOf action) name) right) []
+      pub is : t ≡ make (S .form (ren (put (objectOf action) name) left)) (S .form (ren (put (objectOf action) name) right)) []
+
+    rewritten : (x y : ℕ) (A B : Term)
+        → make (ren (put x y) (S .form A)) (ren (put x y) (S .form B)) [] ≡ make (S .form (ren (put x y) A)) (S .form (ren (put x y) B)) []
+    rewritten x y A B = λ i. make (sym (formed .renamed (put x y) A) i) (sym (formed .renamed (put x y) B) i) []
 
     pub matched : (w : List Situation) → w ∈ moves true (S .names) make F D ps qs → (t : Situation) → t ∈ w → Matched t
     unfolding allowed led listedAs
@@ -179,7 +184,7 @@ module _ (Δ : Defs) (S : Setting) (arities : List ℕ) (x : ℕ) (P Q : Term) (
           answering = z .transition;
           name = m .name;
           offered = subst (λ r. m .name ∈ received true (S .names) F r) (d .is) (m .offered);
-          is = a .is ∙ (λ i. led true make F D (d .is i) (z .is i) (m .name));
+          is = a .is ∙ (λ i. led true make F D (d .is i) (z .is i) (m .name)) ∙ rewritten (objectOf (d .action)) (m .name) (d .result) (z .result);
         }
 
     pub of-matched : (t : Situation) → Matched t → (w : List Situation) × (w ∈ moves true (S .names) make F D ps qs) × (t ∈ w)
@@ -188,7 +193,7 @@ module _ (Δ : Defs) (S : Setting) (arities : List ℕ) (x : ℕ) (P Q : Term) (
         let s : ListedStep = unconditionally (m .action) (m .left) in (
           answersTo true (S .names) make F D qs s (m .name),
           in-moves true (S .names) make F D ps qs s (step-listed (m .action) (m .left) (m .moving) (m .binds)) (own-step (m .action) (m .left)) (m .name) (m .offered),
-          subst (λ u. u ∈ answersTo true (S .names) make F D qs s (m .name)) (sym (m .is))
+          subst (λ u. u ∈ answersTo true (S .names) make F D qs s (m .name)) (sym (m .is ∙ sym (rewritten (objectOf (m .action)) (m .name) (m .left) (m .right))))
               (in-answers true (S .names) make F D qs s (m .name) (unconditionally (m .action) (m .right))
               (answer-listed (m .action) (m .right) (m .answering) (m .binds)) (answers-own (m .action) (m .left) (m .right))),
         )

@@ -20,6 +20,7 @@ use Rattle.steps.proofs.Membership.{∈-map}
 use Rattle.steps.specs.Derived.{Derived}
 use Rattle.steps.specs.Listed.{ListedStep, classIn, kindOf, objectOf, listedAs}
 use Rattle.steps.proofs.ClassLists.{Within}
+use Rattle.steps.proofs.FormLaws.{Form}
 use Rattle.field.specs.Setting.{Setting}
 use Rattle.field.specs.Situation.{Situation}
 use Rattle.field.specs.Successors.{select, permitted, answers, extrudedBy, updatedBy, moves}
@@ -48,7 +49,7 @@ times-more (x ∷ xs) F G h a b d = go (of-apart-++ (map (λ y. (x, y)) F) (time
     go (inl e) r = apart-left (map (λ y. (x, y)) G) (times xs G) a b (row-more x F G h a b e)
     go (inr e) r = apart-right (map (λ y. (x, y)) G) (times xs G) a b (r e)
 
-update-more : (σ : ℕ → ℕ) (xs F G : List ℕ) (D : Pairs) → ((n : ℕ) → In n F → In n G) → (a b : ℕ) → Apart (mapP σ (times xs F ++ D)) a b
+pub update-more : (σ : ℕ → ℕ) (xs F G : List ℕ) (D : Pairs) → ((n : ℕ) → In n F → In n G) → (a b : ℕ) → Apart (mapP σ (times xs F ++ D)) a b
     → Apart (mapP σ (times xs G ++ D)) a b
 update-more σ xs F G D h a b d =
     let (c, e, f, p, q) = of-apart-map σ (times xs F ++ D) a b d in
@@ -73,9 +74,9 @@ unfolding updatedBy
 listed-update names M α R w F D = λ i. mapP (listed-class names M α R w i) (times (extruded-bytes names M α R i) F ++ D)
 
 -- P moves and Q answers. Their listed steps are ps and qs, and F are the names free in at least one of them.
-module _ (Δ : Defs) (S : Setting) (arities : List ℕ) (x : ℕ) (P Q : Term) (scope : InScope (S .names) arities 0 P) (scope′ : InScope (S .names) arities 0 Q)
+module _ (Δ : Defs) (S : Setting) (formed : Form (S .form)) (arities : List ℕ) (x : ℕ) (P Q : Term) (scope : InScope (S .names) arities 0 P) (scope′ : InScope (S .names) arities 0 Q)
     (new : ¬ Free x P) (F : List ℕ) (free : (n : ℕ) → In n F ↔ Either n P Q) (ps qs : List ListedStep)
-    (lists : (s : ListedStep) → (s ∈ ps) ↔ Derived Δ (S .names) x P s) (lists′ : (s : ListedStep) → (s ∈ qs) ↔ Derived Δ (S .names) x Q s)
+    (lists : (s : ListedStep) → (s ∈ ps) ↔ Derived (S .form) Δ (S .names) x P s) (lists′ : (s : ListedStep) → (s ∈ qs) ↔ Derived (S .form) Δ (S .names) x Q s)
     (make : Term → Term → Pairs → Situation)
     (by-pairs : (P Q : Term) (D E : Pairs) → ((a b : ℕ) → Apart D a b ↔ Apart E a b) → make P Q D ≡ make P Q E) (D : Pairs) where
   -- what `moves` makes of a listed step s, and of an answer t to it
@@ -93,23 +94,26 @@ module _ (Δ : Defs) (S : Setting) (arities : List ℕ) (x : ℕ) (P Q : Term) (
     unfolding update
     updated-pairs a b =
         subst (λ E. Apart E a b ↔ Apart (mapP (cls (m .condition)) (times (extruded (m .action)) (fn P ++ fn Q) ++ D)) a b)
-        (sym (listed-update (S .names) (m .condition) (m .action) (m .result) within F D)) (
+        (sym (listed-update (S .names) (m .condition) (m .action) (S .form (m .result)) within F D)) (
           update-more (cls (m .condition)) (extruded (m .action)) F (fn P ++ fn Q) D (λ n i. either→fn n P Q (free n .0 i)) a b,
           update-more (cls (m .condition)) (extruded (m .action)) (fn P ++ fn Q) F D (λ n i. free n .1 (fn→either n P Q i)) a b,
         )
 
     result-of : (n : Move Δ S x Q)
         → result (listedMove Δ S m) (listedMove Δ S n)
-        ≡ make (m .result) (ren (cls (m .condition)) (n .result)) (update D P Q (m .action) (m .condition))
+        ≡ make (S .form (m .result)) (S .form (ren (cls (m .condition)) (n .result))) (update D P Q (m .action) (m .condition))
     unfolding listedAs
     result-of n =
-        ap (λ f. make (m .result) (ren f (n .result)) (updatedBy F D (listedMove Δ S m))) (listed-class (S .names) (m .condition) (m .action) (m .result) within)
-        ∙ by-pairs (m .result) (ren (cls (m .condition)) (n .result)) (updatedBy F D (listedMove Δ S m)) (update D P Q (m .action) (m .condition)) updated-pairs
+        let R = S .form (m .result) in
+        let T = ren (cls (m .condition)) (S .form (n .result)) in
+        ap (λ f. make R (ren f (S .form (n .result))) (updatedBy F D (listedMove Δ S m))) (listed-class (S .names) (m .condition) (m .action) R within)
+        ∙ by-pairs R T (updatedBy F D (listedMove Δ S m)) (update D P Q (m .action) (m .condition)) updated-pairs
+        ∙ ap (λ X. make R X (update D P Q (m .action) (m .condition))) (sym (formed .renamed (cls (m .condition)) (n .result)))
 
     answers-matches : (n : Move Δ S x Q) → (answers (S .names) (listedMove Δ S m) (listedMove Δ S n) ≡ true) ↔ Matches Δ S m n
     answers-matches n =
         let (f, g) =
-        answers-iff (S .names) (m .condition) (m .action) (m .result) within (n .condition) (n .action) (n .result)
+        answers-iff (S .names) (m .condition) (m .action) (S .form (m .result)) within (n .condition) (n .action) (S .form (n .result))
         (move-within Δ S n arities scope′) (λ y i. subst (λ z. cls (m .condition) z ≡ z) (sym (n .binds y i)) (move-fixes Δ S m new)) in
         (λ e. record { implied = f e .0; equal = f e .1 }, λ h. g (h .implied, h .equal))
 
@@ -138,7 +142,7 @@ module _ (Δ : Defs) (S : Setting) (arities : List ℕ) (x : ℕ) (P Q : Term) (
             (∈-select (answers (S .names) s) (listedMove Δ S n) qs (lists′ (listedMove Δ S n) .1 (move-derived Δ S n)) (answers-matches n .1 (r .matches))))
 
     permitted-move : (permitted D (listedMove Δ S m) ≡ true) ↔ Resp (m .condition) D
-    permitted-move = permitted-iff (S .names) (m .condition) (m .action) (m .result) within D
+    permitted-move = permitted-iff (S .names) (m .condition) (m .action) (S .form (m .result)) within D
 
     -- a permitted move has its list
     pub move-listed : Resp (m .condition) D → (w : List Situation) × (w ∈ moves false (S .names) make F D ps qs) × ListOf Δ S make D Q m w

@@ -32,6 +32,7 @@ use Rattle.steps.proofs.Scope.{scope-calls, in-scope, calls-ren}
 use Rattle.steps.specs.Derived.{Derived, TooMany, TooLong, ListsExactly}
 use Rattle.steps.specs.Listed.{ListedStep, kindOf, objectOf, listedAs}
 use Rattle.steps.specs.Listing.{Listing, unsettled, listed, listing}
+use Rattle.steps.proofs.FormLaws.{form-scope}
 use Rattle.steps.proofs.ListingLaws.{listing-exact}
 use Rattle.field.specs.Setting.{Setting, stepsIn}
 use Rattle.field.specs.Situation.{Situation, freeIn}
@@ -116,20 +117,20 @@ module _ (Δ : Defs) (S : Setting) (arities : List ℕ) (set : SettingFor Δ S a
 
   -- a part's list, also where the new name is the one behind the names
   part-exact : (P : Term) → InScope (S .names) arities 0 P → ¬ Free x P
-      → ListsExactly Δ (S .names) (S .longest) (S .most) x P (stepsIn S x P)
+      → ListsExactly (S .form) Δ (S .names) (S .longest) (S .most) x P (stepsIn S x P)
   unfolding stepsIn
   part-exact P scope new =
       let w = x-within in
       let few = set .few in
-      subst (λ b. ListsExactly Δ (S .names) (S .longest) (S .most) x P (listing (S .names) (S .longest) (S .most) b (S .calls) x P)) (set .bodies)
-      (listing-exact Δ (S .names) (suc (S .names)) (omega arith) arities (set .calls) x (omega arith) P scope
+      subst (λ b. ListsExactly (S .form) Δ (S .names) (S .longest) (S .most) x P (listing (S .form) (S .names) (S .longest) (S .most) b (S .calls) x P)) (set .bodies)
+      (listing-exact (set .formed) Δ (S .names) (suc (S .names)) (omega arith) arities (set .calls) x (omega arith) P scope
       (S .longest) (S .calls) (set .opens P (scope-calls (S .names) arities 0 P scope)) new (omega arith) (S .most))
 
   abbrev Exact : Term → Listing → Type 0
-  Exact P l = ListsExactly Δ (S .names) (S .longest) (S .most) x P l
+  Exact P l = ListsExactly (S .form) Δ (S .names) (S .longest) (S .most) x P l
 
   abbrev Steps : Term → List ListedStep → Type 0
-  Steps P ss = (r : ListedStep) → (r ∈ ss) ↔ Derived Δ (S .names) x P r
+  Steps P ss = (r : ListedStep) → (r ∈ ss) ↔ Derived (S .form) Δ (S .names) x P r
 
   -- the limit of names, tested
   abbrev test : List ListedStep → List ListedStep → Bool
@@ -159,7 +160,7 @@ module _ (Δ : Defs) (S : Setting) (arities : List ℕ) (set : SettingFor Δ S a
       go false h = h
 
   -- The limits.
-  part-past : {P : Term} → TooMany Δ (S .names) (S .most) x P ⊎ TooLong Δ (S .names) (S .longest) x P → PartPast Δ S x P
+  part-past : {P : Term} → TooMany (S .form) Δ (S .names) (S .most) x P ⊎ TooLong (S .form) Δ (S .names) (S .longest) x P → PartPast Δ S x P
   part-past (inl h) = too-many h
   part-past (inr h) = too-long h
 
@@ -247,27 +248,33 @@ module _ (Δ : Defs) (S : Setting) (arities : List ℕ) (set : SettingFor Δ S a
     input-offered a R y (inl e) l = from-free (x ∷ F) 0 (S .names) y (inl e) (omega arith) (omega arith)
     input-offered a R y (inr h) l = from-free (x ∷ F) 0 (S .names) y (inr (free y .1 h)) (omega arith) (let b = free-below-names y h in omega arith)
 
+    -- where a step by α and its answer lead, with the name y received
+    abbrev received-at : Action → ℕ → Term → Term → Situation
+    received-at α y A B = firstMoves Δ S (S .form (ren (put (objectOf α) y) A)) (S .form (ren (put (objectOf α) y) B)) []
+
+    own-received : (α : Action) (A B : Term) → received-at α (objectOf α) A B ≡ firstMoves Δ S (S .form A) (S .form B) []
+    own-received α A B = λ j. firstMoves Δ S (S .form (put-same (objectOf α) A j)) (S .form (put-same (objectOf α) B j)) []
+
     named-successor : S .differ ≡ true → (t : Situation) (α : Action) → BindsNew α → (A B : Term) → Concrete Δ (s .first) α A → Concrete Δ (s .second) α B → (y : ℕ)
-        → OfferedAt α y → t ≡ firstMoves Δ S (ren (put (objectOf α) y) A) (ren (put (objectOf α) y) B) [] → Successor Δ S s t
+        → OfferedAt α y → t ≡ received-at α y A B → Successor Δ S s t
     unfolding objectOf
     named-successor o t α b A B u v y (own-name e h) q =
         both-do o α b h A B (concrete-transition Δ u (λ z i k. away .left (subst (λ n. Free n (s .first)) (b z i) k)))
         (concrete-transition Δ v (λ z i k. away .right (subst (λ n. Free n (s .second)) (b z i) k)))
-        (q ∙ ap (λ z. firstMoves Δ S (ren (put (objectOf α) z) A) (ren (put (objectOf α) z) B) []) e
-        ∙ (λ j. firstMoves Δ S (put-same (objectOf α) A j) (put-same (objectOf α) B j) []))
+        (q ∙ ap (λ z. received-at α z A B) e ∙ own-received α A B)
     named-successor o t α b A B u v y (a-name a z e h) q =
         let d : z ≡ x = b z (subst (λ β. In z (boundNames β)) (sym e) (inl refl)) in
         let k : α ≡ input a x = e ∙ ap (input a) d in
         both-receive o a y (subst (λ n. (y ≡ n) ⊎ Free y (s .first) ⊎ Free y (s .second)) d h) A B
         (subst (λ β. Transition Δ (s .first) [] β A) k (concrete-transition Δ u (λ z i k. away .left (subst (λ n. Free n (s .first)) (b z i) k))))
         (subst (λ β. Transition Δ (s .second) [] β B) k (concrete-transition Δ v (λ z i k. away .right (subst (λ n. Free n (s .second)) (b z i) k))))
-        (subst (λ β. t ≡ firstMoves Δ S (ren (put (objectOf β) y) A) (ren (put (objectOf β) y) B) []) k q)
+        (subst (λ β. t ≡ received-at β y A B) k q)
 
     first-listed : (m : Move Δ S x (s .first)) → Resp (m .condition) (s .apart)
         → (w : List Situation) × (w ∈ (both false)) × ListOf Δ S (firstMoves Δ S) (s .apart) (s .second) m w
     first-listed m r =
         let (w, k, l) =
-        move-listed Δ S arities x (s .first) (s .second) (proper .first) (proper .second) (away .left) F free ps qs f g
+        move-listed Δ S (set .formed) arities x (s .first) (s .second) (proper .first) (proper .second) (away .left) F free ps qs f g
         (firstMoves Δ S) (same-first S Δ) (s .apart) m r in
         (w, ∈-left w (firsts false) (seconds false) k, l)
 
@@ -275,7 +282,7 @@ module _ (Δ : Defs) (S : Setting) (arities : List ℕ) (set : SettingFor Δ S a
         → (w : List Situation) × (w ∈ (both false)) × ListOf Δ S (secondMoves Δ S) (s .apart) (s .first) m w
     second-listed m r =
         let (w, k, l) =
-        move-listed Δ S arities x (s .second) (s .first) (proper .second) (proper .first) (away .right) F free-swapped qs ps g f
+        move-listed Δ S (set .formed) arities x (s .second) (s .first) (proper .second) (proper .first) (away .right) F free-swapped qs ps g f
         (secondMoves Δ S) (same-second S Δ) (s .apart) m r in
         (w, ∈-right w (firsts false) (seconds false) k, l)
 
@@ -285,12 +292,12 @@ module _ (Δ : Defs) (S : Setting) (arities : List ℕ) (set : SettingFor Δ S a
         go : (w ∈ firsts false) ⊎ (w ∈ seconds false) → ListOfSome Δ S s w
         go (inl j) =
             let (m, l) =
-            listed-move Δ S arities x (s .first) (s .second) (proper .first) (proper .second) (away .left) F free ps qs f g
+            listed-move Δ S (set .formed) arities x (s .first) (s .second) (proper .first) (proper .second) (away .left) F free ps qs f g
             (firstMoves Δ S) (same-first S Δ) (s .apart) w j in
             of-first m l
         go (inr j) =
             let (m, l) =
-            listed-move Δ S arities x (s .second) (s .first) (proper .second) (proper .first) (away .right) F free-swapped qs ps g f
+            listed-move Δ S (set .formed) arities x (s .second) (s .first) (proper .second) (proper .first) (away .right) F free-swapped qs ps g f
             (secondMoves Δ S) (same-second S Δ) (s .apart) w j in
             of-second m l
 
@@ -327,25 +334,28 @@ module _ (Δ : Defs) (S : Setting) (arities : List ℕ) (set : SettingFor Δ S a
     second-scope m =
         move-scope Δ S m arities (proper .second) (set .calls) (λ y i. below-names y (m .binds y i) (λ e. second-test ps qs g e m y i))
 
+    stays : (P : Term) → InScope (S .names) arities 0 P → InScope (S .names) arities 0 (S .form P)
+    stays = form-scope (set .formed) (S .names) arities 0
+
     successor-proper : (t : Situation) → Successor Δ S s t → Proper (S .names) arities t
     successor-proper t (first-moves o m n r h e) =
         subst (Proper (S .names) arities) (sym e)
-        (situation-proper (S .names) arities (m .result) (ren (cls (m .condition)) (n .result)) (first-scope m)
-        (class-scope (S .names) arities (m .condition) (n .result) (second-scope n))
+        (situation-proper (S .names) arities (S .form (m .result)) (S .form (ren (cls (m .condition)) (n .result))) (stays (m .result) (first-scope m))
+        (stays (ren (cls (m .condition)) (n .result)) (class-scope (S .names) arities (m .condition) (n .result) (second-scope n)))
         (update (s .apart) (s .first) (s .second) (m .action) (m .condition)) (move-irr Δ S m (s .second) (s .apart) (away .right) (away .dist) r))
     successor-proper t (second-moves o m n r h e) =
         subst (Proper (S .names) arities) (sym e)
-        (situation-proper (S .names) arities (ren (cls (m .condition)) (n .result)) (m .result)
-        (class-scope (S .names) arities (m .condition) (n .result) (first-scope n)) (second-scope m)
+        (situation-proper (S .names) arities (S .form (ren (cls (m .condition)) (n .result))) (S .form (m .result))
+        (stays (ren (cls (m .condition)) (n .result)) (class-scope (S .names) arities (m .condition) (n .result) (first-scope n))) (stays (m .result) (second-scope m))
         (update (s .apart) (s .second) (s .first) (m .action) (m .condition)) (move-irr Δ S m (s .first) (s .apart) (away .left) (away .dist) r))
     successor-proper t (both-do o α b i A B u v e) =
         subst (Proper (S .names) arities) (sym e)
-        (situation-proper (S .names) arities A B
-        (first-scope (record { condition = []; action = α; result = A; transition = u; binds = b }))
-        (second-scope (record { condition = []; action = α; result = B; transition = v; binds = b })) [] (λ a c d. absurd d))
+        (situation-proper (S .names) arities (S .form A) (S .form B)
+        (stays A (first-scope (record { condition = []; action = α; result = A; transition = u; binds = b })))
+        (stays B (second-scope (record { condition = []; action = α; result = B; transition = v; binds = b }))) [] (λ a c d. absurd d))
     successor-proper t (both-receive o a y i A B u v e) =
         subst (Proper (S .names) arities) (sym e)
-        (situation-proper (S .names) arities (ren (put x y) A) (ren (put x y) B)
+        (situation-proper (S .names) arities (S .form (ren (put x y) A)) (S .form (ren (put x y) B))
         (received-scope A (first-scope (record { condition = []; action = input a x; result = A; transition = u; binds = binds-new })))
         (received-scope B (second-scope (record { condition = []; action = input a x; result = B; transition = v; binds = binds-new })))
         [] (λ a c d. absurd d))
@@ -358,34 +368,33 @@ module _ (Δ : Defs) (S : Setting) (arities : List ℕ) (set : SettingFor Δ S a
             below-names y q (λ d. first-test ps qs f d (record { condition = []; action = input a x; result = A; transition = u; binds = binds-new }) x (inl refl))
         received-below (inr h) = free-below-names y h
 
-        received-scope : (T : Term) → InScope (S .names) arities 0 T → InScope (S .names) arities 0 (ren (put x y) T)
-        received-scope T g = put-scope (S .names) arities x y T (received-below i) g
+        received-scope : (T : Term) → InScope (S .names) arities 0 T → InScope (S .names) arities 0 (S .form (ren (put x y) T))
+        received-scope T g = stays (ren (put x y) T) (put-scope (S .names) arities x y T (received-below i) g)
 
     -- Where all names differ.
-    named-first : (t : Situation) → Matched Δ S arities x (s .first) (s .second) (proper .first) (proper .second) (away .left) (away .right) ps qs f g (firstMoves Δ S) F (s .apart) t
+    named-first : (t : Situation) → Matched Δ S arities x (s .first) (s .second) (proper .first) (proper .second) (away .left) (away .right) ps qs f g (set .formed) (firstMoves Δ S) F (s .apart) t
         → S .differ ≡ true → Successor Δ S s t
     named-first t m o =
-        named-successor o t (m .action) (m .binds) (m .left) (m .right) (m .moving) (m .answering) (m .name) (offered-at (m .action) (m .left) (m .name) (m .offered)) (m .is)
+        named-successor o t (m .action) (m .binds) (m .left) (m .right) (m .moving) (m .answering) (m .name) (offered-at (m .action) (S .form (m .left)) (m .name) (m .offered)) (m .is)
 
-    named-second : (t : Situation) → Matched Δ S arities x (s .second) (s .first) (proper .second) (proper .first) (away .right) (away .left) qs ps g f (secondMoves Δ S) F (s .apart) t
+    named-second : (t : Situation) → Matched Δ S arities x (s .second) (s .first) (proper .second) (proper .first) (away .right) (away .left) qs ps g f (set .formed) (secondMoves Δ S) F (s .apart) t
         → S .differ ≡ true → Successor Δ S s t
     named-second t m o =
-        named-successor o t (m .action) (m .binds) (m .right) (m .left) (m .answering) (m .moving) (m .name) (offered-at (m .action) (m .left) (m .name) (m .offered)) (m .is)
+        named-successor o t (m .action) (m .binds) (m .right) (m .left) (m .answering) (m .moving) (m .name) (offered-at (m .action) (S .form (m .left)) (m .name) (m .offered)) (m .is)
 
     named-member : S .differ ≡ true → (t : Situation) → t ∈ together (both true) → Successor Δ S s t
     named-member o t k = let (w, j, i) = together-∈ (both true) t k in go w i (∈-either w (firsts true) (seconds true) j)
       where
         go : (w : List Situation) → t ∈ w → (w ∈ firsts true) ⊎ (w ∈ seconds true) → Successor Δ S s t
         go w i (inl j) =
-            named-first t (matched Δ S arities x (s .first) (s .second) (proper .first) (proper .second) (away .left) (away .right) ps qs f g (firstMoves Δ S) F (s .apart) w j t i) o
+            named-first t (matched Δ S arities x (s .first) (s .second) (proper .first) (proper .second) (away .left) (away .right) ps qs f g (set .formed) (firstMoves Δ S) F (s .apart) w j t i) o
         go w i (inr j) =
-            named-second t (matched Δ S arities x (s .second) (s .first) (proper .second) (proper .first) (away .right) (away .left) qs ps g f (secondMoves Δ S) F (s .apart) w j t i) o
+            named-second t (matched Δ S arities x (s .second) (s .first) (proper .second) (proper .first) (away .right) (away .left) qs ps g f (set .formed) (secondMoves Δ S) F (s .apart) w j t i) o
 
     of-named : (t : Situation) → (α : Action) → BindsNew α → (A B : Term) → Transition Δ (s .first) [] α A → Transition Δ (s .second) [] α B → (y : ℕ)
-        → y ∈ received true (S .names) F (listedAs (S .names) [] α A)
-        → t ≡ firstMoves Δ S (ren (put (objectOf α) y) A) (ren (put (objectOf α) y) B) [] → t ∈ together (both true)
+        → y ∈ received true (S .names) F (listedAs (S .names) [] α (S .form A)) → t ≡ received-at α y A B → t ∈ together (both true)
     of-named t α b A B u v y i e =
-        let (w, k, l) = of-matched Δ S arities x (s .first) (s .second) (proper .first) (proper .second) (away .left) (away .right) ps qs f g (firstMoves Δ S) F (s .apart) t
+        let (w, k, l) = of-matched Δ S arities x (s .first) (s .second) (proper .first) (proper .second) (away .left) (away .right) ps qs f g (set .formed) (firstMoves Δ S) F (s .apart) t
         (record { action = α; binds = b; left = A; moving = transition-concrete Δ u tt .0; right = B; answering = transition-concrete Δ v tt .0; name = y; offered = i; is = e }) in
         ∈-together (both true) w t (∈-left w (firsts true) (seconds true) k) l
 
@@ -394,11 +403,10 @@ module _ (Δ : Defs) (S : Setting) (arities : List ℕ) (set : SettingFor Δ S a
     of-named-member t o (first-moves p m n r h e) = let z : _≡_ {A = ℕ} 0 1 = cc in absurd (omega arith)
     of-named-member t o (second-moves p m n r h e) = let z : _≡_ {A = ℕ} 0 1 = cc in absurd (omega arith)
     of-named-member t o (both-do p α b i A B u v e) =
-        of-named t α b A B u v (objectOf α) (own-offered α A i)
-        (e ∙ sym (λ j. firstMoves Δ S (put-same (objectOf α) A j) (put-same (objectOf α) B j) []))
+        of-named t α b A B u v (objectOf α) (own-offered α (S .form A) i) (e ∙ sym (own-received α A B))
     of-named-member t o (both-receive p a y i A B u v e) =
         of-named t (input a x) binds-new A B u v y
-        (input-offered a A y i (below-names x refl (λ d. first-test ps qs f d (record { condition = []; action = input a x; result = A; transition = u; binds = binds-new }) x (inl refl)))) e
+        (input-offered a (S .form A) y i (below-names x refl (λ d. first-test ps qs f d (record { condition = []; action = input a x; result = A; transition = u; binds = binds-new }) x (inl refl)))) e
       where
         binds-new : (z : ℕ) → In z (x ∷ []) → z ≡ x
         binds-new z (inl q) = q

@@ -35,27 +35,27 @@ module _ (Δ : Defs) (S : Setting) where
     pub implied : m .condition ▷ n .condition
     pub equal : m .action ≡ renAction (cls (m .condition)) (n .action)
 
-  -- The resulting situation: both results rewritten by the condition, the apart pairs updated as in Definition 15.
+  -- The resulting situation: both results rewritten by the condition and in their form, the apart pairs updated as in Definition 15.
   pub data Successor (s t : Situation) : Type 0 where
     first-moves : S .differ ≡ false → (m : Move (fresh s) (s .first)) (n : Move (fresh s) (s .second)) → Resp (m .condition) (s .apart) → Matches m n
-        → t ≡ situation (S .names) (m .result) (ren (cls (m .condition)) (n .result))
+        → t ≡ situation (S .names) (S .form (m .result)) (S .form (ren (cls (m .condition)) (n .result)))
         (update (s .apart) (s .first) (s .second) (m .action) (m .condition))
         → Successor s t
     second-moves : S .differ ≡ false → (m : Move (fresh s) (s .second)) (n : Move (fresh s) (s .first)) → Resp (m .condition) (s .apart) → Matches m n
-        → t ≡ situation (S .names) (ren (cls (m .condition)) (n .result)) (m .result)
+        → t ≡ situation (S .names) (S .form (ren (cls (m .condition)) (n .result))) (S .form (m .result))
         (update (s .apart) (s .second) (s .first) (m .action) (m .condition))
         → Successor s t
     -- Where all names differ: matched steps whose conditions are trivial, an input with a name that is free in one of the parts, or the new one.
     both-do : S .differ ≡ true → (α : Action) → ((y : ℕ) → In y (boundNames α) → y ≡ fresh s) → ((a y : ℕ) → α ≢ input a y) → (P Q : Term)
-        → Transition Δ (s .first) [] α P → Transition Δ (s .second) [] α Q → t ≡ situation (S .names) P Q [] → Successor s t
+        → Transition Δ (s .first) [] α P → Transition Δ (s .second) [] α Q → t ≡ situation (S .names) (S .form P) (S .form Q) [] → Successor s t
     both-receive : S .differ ≡ true → (a y : ℕ) → (y ≡ fresh s) ⊎ Free y (s .first) ⊎ Free y (s .second) → (P Q : Term)
         → Transition Δ (s .first) [] (input a (fresh s)) P → Transition Δ (s .second) [] (input a (fresh s)) Q
-        → t ≡ situation (S .names) (ren (put (fresh s) y) P) (ren (put (fresh s) y) Q) [] → Successor s t
+        → t ≡ situation (S .names) (S .form (ren (put (fresh s) y) P)) (S .form (ren (put (fresh s) y) Q)) [] → Successor s t
 
   -- The limits of one part of a situation whose new name is x: steps, a result, and names, where all of them are free and a step binds one.
   pub data PartPast (x : ℕ) (P : Term) : Type 0 where
-    too-many : TooMany Δ (S .names) (S .most) x P → PartPast x P
-    too-long : TooLong Δ (S .names) (S .longest) x P → PartPast x P
+    too-many : TooMany (S .form) Δ (S .names) (S .most) x P → PartPast x P
+    too-long : TooLong (S .form) Δ (S .names) (S .longest) x P → PartPast x P
     no-name : x ≡ S .names → (m : Move x P) (y : ℕ) → In y (boundNames (m .action)) → PartPast x P
 
   abbrev pub Past : Situation → Type 0

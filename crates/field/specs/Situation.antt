@@ -11,6 +11,7 @@ use Rattle.terms.specs.Encoding.{encode}
 use Rattle.terms.specs.Limits.{nameCount}
 use Rattle.terms.specs.Operations.{holdsApart}
 use Rattle.terms.specs.Question.{Question, pairBytes}
+use Rattle.steps.specs.Forms.{resultForm}
 use mathlib.Core.Path.{_≡_}
 use Rattle.calculus.specs.Distinction.{Irr}
 use Rattle.terms.specs.Encoding.{InScope}
@@ -38,9 +39,13 @@ pairsOf (a ∷ bs) = map (λ b. (a, b)) bs ++ pairsOf bs
 unfoldable pub situation : ℕ → Term → Term → Pairs → Situation
 situation names P Q D = record { first = P; second = Q; apart = keep (holdsApart D) (pairsOf (freeIn names P Q)) }
 
--- The start: the two parts under the apart list, which plays no part where all names differ.
+-- The start: the two parts, in the form that results have, under the apart list, which plays no part where all names differ.
+unfoldable pub startIn : (Term → Term) → Bool → Question → Situation
+startIn form differ q = situation nameCount (form (q .first)) (form (q .second)) (cond differ [] (q .apart))
+
 unfoldable pub startOf : Bool → Question → Situation
-startOf differ q = situation nameCount (q .first) (q .second) (cond differ [] (q .apart))
+unfolding startIn
+startOf differ q = startIn resultForm differ q
 
 -- the smallest name that is not in F, of those from n on, k of them; the one behind them if all are in F
 unfoldable pub missing : List ℕ → ℕ → ℕ → ℕ

@@ -18,6 +18,8 @@ use Rattle.terms.specs.Encoding.{InScope}
 use Rattle.terms.specs.Limits.{nameCount, longestTerm}
 use Rattle.terms.specs.Question.{Question}
 use Rattle.terms.proofs.WellFormed.{WellFormed, accepted-well-formed}
+use Rattle.steps.specs.Forms.{resultForm}
+use Rattle.steps.proofs.FormLaws.{result-form}
 use Rattle.steps.specs.Lists.{_∈_}
 use Rattle.steps.proofs.Membership.{∈-all}
 use Rattle.steps.proofs.QuestionDefinitions.{definitions, bodies-in-scope, opens-one}
@@ -76,29 +78,29 @@ module _ (question part : List ℕ) (x : ℕ) (q : Question) (P : Term) (l : Lis
   unfolding definitions
   closed = bodies-in-scope (q .arities) (q .bodies) (well .bodies) Δ (λ k. refl) refl
 
-  exact : ListsExactly Δ nameCount longestTerm mostSteps x P (stepsOf (q .bodies) x P)
+  exact : ListsExactly resultForm Δ nameCount longestTerm mostSteps x P (stepsOf (q .bodies) x P)
   unfolding stepsOf definitions
   exact =
       let w = l .new in
-      listing-exact Δ nameCount (suc nameCount) (omega arith) (q .arities) closed x (omega arith) P (l .scope) longestTerm 1
+      listing-exact result-form Δ nameCount (suc nameCount) (omega arith) (q .arities) closed x (omega arith) P (l .scope) longestTerm 1
       (opens-one (q .arities) (q .bodies) (well .bodies) Δ (λ k. refl) refl P (scope-calls nameCount (q .arities) 0 P (l .scope)))
       new (omega arith) mostSteps
 
   module _ (ss : List ListedStep) (given : stepsOf (q .bodies) x P ≡ listed ss) where
-    step-derived : (s : ListedStep) → s ∈ ss → Derived Δ nameCount x P s
+    step-derived : (s : ListedStep) → s ∈ ss → Derived resultForm Δ nameCount x P s
     step-derived s k = exact .members ss given s .0 k
 
-    step-classes : (s : ListedStep) → Derived Δ nameCount x P s → length (s .classes) ≡ nameCount
+    step-classes : (s : ListedStep) → Derived resultForm Δ nameCount x P s → length (s .classes) ≡ nameCount
     unfolding listedAs
     step-classes s d = ap (λ t. length (t .classes)) (d .listed) ∙ length-classes nameCount (d .condition)
 
-    step-within : (s : ListedStep) → Derived Δ nameCount x P s → (n : ℕ) → n < nameCount → classIn (s .classes) n < nameCount
+    step-within : (s : ListedStep) → Derived resultForm Δ nameCount x P s → (n : ℕ) → n < nameCount → classIn (s .classes) n < nameCount
     unfolding listedAs classIn
     step-within s d n h =
         let e : classIn (s .classes) n ≡ classIn (listedAs nameCount (d .condition) (d .action) (d .result) .classes) n = ap (λ t. classIn (t .classes) n) (d .listed) in
         omega (arith, e, class-of nameCount (d .condition) n n h, cls-le (d .condition) n)
 
-    step-fits : (s : ListedStep) → Derived Δ nameCount x P s → length (resultBytes s) ≤ longestTerm
+    step-fits : (s : ListedStep) → Derived resultForm Δ nameCount x P s → length (resultBytes s) ≤ longestTerm
     step-fits s d = go (decLe (length (resultBytes s)) longestTerm)
       where
         go : Dec (length (resultBytes s) ≤ longestTerm) → length (resultBytes s) ≤ longestTerm

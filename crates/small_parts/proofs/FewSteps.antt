@@ -14,6 +14,7 @@ use Rattle.calculus.specs.Cond.{Cond, mapP, cls}
 use Rattle.terms.specs.Limits.{nameCount, longestTerm}
 use Rattle.terms.specs.Encoding.{encode}
 use Rattle.terms.specs.Question.{bodyOf}
+use Rattle.steps.specs.Forms.{resultForm}
 use Rattle.steps.specs.Lists.{All}
 use Rattle.steps.specs.Raw.{Candidate, step, blocked, matching, leftSteps, rightSteps, meet, communication, communications, sparesRestricted, outside, restrictedAction, restricted, visibleOf, silentOf, visibleCalls, silentCalls, visible, silent}
 use Rattle.steps.specs.Limits.{mostSteps}
@@ -229,27 +230,27 @@ insert-all S longest s (t ∷ ts) h k = go (insert-all S longest s ts h (k .1)) 
     go r Ordering·eq = k
     go r Ordering·gt = (k .0, r)
 
-short-canon : (names x n : ℕ) (M : Cond) (α : Act) (P : Term) → size P < n → Short n (canonStep names x M α P)
+short-canon : (names x n : ℕ) (M : Cond) (α : Act) (P : Term) → size P < n → Short n (canonStep resultForm names x M α P)
 unfolding canonStep listedAs
 short-canon names x n M tauA P h = omega (arith, size-ren (cls M) P)
 short-canon names x n M (inpA a) P h = omega (arith, size-ren (x • cls M) P)
 short-canon names x n M (outA a b) P h = omega (arith, size-ren (cls M) P)
 short-canon names x n M (boutA a) P h = omega (arith, size-ren (x • cls M) P)
 
-collect-length : (names longest x : ℕ) (cs : List Candidate) (found : List ListedStep) → length (collect names longest x cs found) ≤ length cs + length found
+collect-length : (names longest x : ℕ) (cs : List Candidate) (found : List ListedStep) → length (collect resultForm names longest x cs found) ≤ length cs + length found
 unfolding collect
 collect-length names longest x [] found = omega arith
 collect-length names longest x (step M α P ∷ cs) found =
-    omega (arith, collect-length names longest x cs (insert longest (canonStep names x M α P) found), insert-length longest (canonStep names x M α P) found)
+    omega (arith, collect-length names longest x cs (insert longest (canonStep resultForm names x M α P) found), insert-length longest (canonStep resultForm names x M α P) found)
 collect-length names longest x (blocked ∷ cs) found = omega (arith, collect-length names longest x cs found)
 
 collect-all : (names longest x n : ℕ) (cs : List Candidate) (found : List ListedStep) → All (Shorter n) cs → All (Short n) found
-    → All (Short n) (collect names longest x cs found)
+    → All (Short n) (collect resultForm names longest x cs found)
 unfolding collect
 collect-all names longest x n [] found h k = k
 collect-all names longest x n (step M α P ∷ cs) found h k =
-    collect-all names longest x n cs (insert longest (canonStep names x M α P) found) (h .1)
-    (insert-all (Short n) longest (canonStep names x M α P) found (short-canon names x n M α P (h .0)) k)
+    collect-all names longest x n cs (insert longest (canonStep resultForm names x M α P) found) (h .1)
+    (insert-all (Short n) longest (canonStep resultForm names x M α P) found (short-canon names x n M α P (h .0)) k)
 collect-all names longest x n (blocked ∷ cs) found h k = collect-all names longest x n cs found (h .1) k
 
 fit : (n longest : ℕ) (ss : List ListedStep) → n ≤ longest → All (Short n) ss → allFit longest ss ≡ true
@@ -301,7 +302,7 @@ few-listed x P h = record {
     cs = visibleOf vc P ++ silentOf vc sc P
 
     ss : List ListedStep
-    ss = collect nameCount longestTerm x cs []
+    ss = collect resultForm nameCount longestTerm x cs []
 
     few : 3 * length ss ≤ size P + 1
     few = omega (arith, collect-length nameCount longestTerm x cs [], length-append (visibleOf vc P) (silentOf vc sc P), few-steps vc sc nv ns P h)

@@ -34,22 +34,23 @@ filled f x A e = sym (ren-triangle f (inst x) (x • f) A go)
     go zero = e
     go (suc n) = refl
 
-canon-of : (names x : ℕ) (M : Cond) (α : Act) (A : Term) → cls M x ≡ x
-    → canonStep names x M α A ≡ listedAs names M (renAction (cls M) (named x α)) (ren (cls M) (fill (named x α) A))
-unfolding canonStep
-canon-of names x M tauA A e = refl
-canon-of names x M (inpA a) A e = ap (listedAs names M (input (cls M a) x)) (filled (cls M) x A e)
-canon-of names x M (outA a b) A e = refl
-canon-of names x M (boutA a) A e = ap (listedAs names M (newOutput (cls M a) x)) (filled (cls M) x A e)
+module _ (form : Term → Term) where
+  canon-of : (names x : ℕ) (M : Cond) (α : Act) (A : Term) → cls M x ≡ x
+      → canonStep form names x M α A ≡ listedAs names M (renAction (cls M) (named x α)) (form (ren (cls M) (fill (named x α) A)))
+  unfolding canonStep
+  canon-of names x M tauA A e = refl
+  canon-of names x M (inpA a) A e = ap (λ R. listedAs names M (input (cls M a) x) (form R)) (filled (cls M) x A e)
+  canon-of names x M (outA a b) A e = refl
+  canon-of names x M (boutA a) A e = ap (λ R. listedAs names M (newOutput (cls M a) x) (form R)) (filled (cls M) x A e)
 
--- the same by the canonical form of an equivalent condition
-pub canon-listed : (names x : ℕ) (M N : Cond) (α : Act) (A : Term) → M ~ N → cls M x ≡ x
-    → canonStep names x M α A
-    ≡ listedAs names (canonical N) (renAction (cls (canonical N)) (named x α)) (ren (cls (canonical N)) (fill (named x α) A))
-unfolding listedAs classesOf
-canon-listed names x M N α A s e =
-    let f : cls (canonical N) ≡ cls M = canonical-cls N ∙ sym (cls-~ M N s) in
-    rw f (canon-of names x M α A e)
+  -- the same by the canonical form of an equivalent condition
+  pub canon-listed : (names x : ℕ) (M N : Cond) (α : Act) (A : Term) → M ~ N → cls M x ≡ x
+      → canonStep form names x M α A
+      ≡ listedAs names (canonical N) (renAction (cls (canonical N)) (named x α)) (form (ren (cls (canonical N)) (fill (named x α) A)))
+  unfolding listedAs classesOf
+  canon-listed names x M N α A s e =
+      let f : cls (canonical N) ≡ cls M = canonical-cls N ∙ sym (cls-~ M N s) in
+      rw f (canon-of names x M α A e)
 
 -- an action that binds no name but x
 renamed : (x : ℕ) (α : Action) → ((y : ℕ) → In y (boundNames α) → y ≡ x) → α ≡ named x (act α)
@@ -62,12 +63,12 @@ named-binds : (x : ℕ) (α : Act) (f : ℕ → ℕ) (y : ℕ) → In y (boundNa
 named-binds x (inpA a) f y (inl e) = e
 named-binds x (boutA a) f y (inl e) = e
 
-module _ (Δ : Defs) (names x : ℕ) (P : Term) (fresh : ¬ Free x P) where
+module _ (form : Term → Term) (Δ : Defs) (names x : ℕ) (P : Term) (fresh : ¬ Free x P) where
   own-class : {M : Cond} {α : Act} {A : Term} → Trans Δ P M α A → cls M x ≡ x
   own-class {M} t = unmatched M x (λ o. fresh (cond-free Δ t x o))
 
   -- a transition of the working presentation, in canonical form
-  pub derived : (M : Cond) (α : Act) (A : Term) → Trans Δ P M α A → Derived Δ names x P (canonStep names x M α A)
+  pub derived : (M : Cond) (α : Act) (A : Term) → Trans Δ P M α A → Derived form Δ names x P (canonStep form names x M α A)
   derived M α A t =
       let record { cond = N; step = s; same = e } = name-it Δ t x fresh in
       record {
@@ -76,7 +77,7 @@ module _ (Δ : Defs) (names x : ℕ) (P : Term) (fresh : ¬ Free x P) where
         result = ren (cls (canonical N)) (fill (named x α) A);
         transition = Canon s (avoids-named x α P fresh);
         binds = named-binds x α (cls (canonical N));
-        listed = canon-listed names x M N α A (~-sym N M e) (own-class t);
+        listed = canon-listed form names x M N α A (~-sym N M e) (own-class t);
       }
 
   -- a raw step whose canonical form is s
@@ -85,14 +86,14 @@ module _ (Δ : Defs) (names x : ℕ) (P : Term) (fresh : ¬ Free x P) where
     pub action : Act
     pub residual : Term
     pub there : step condition action residual ∈ (visible (Δ .body) n P ++ silentSteps (Δ .body) n P)
-    pub canon : s ≡ canonStep names x condition action residual
+    pub canon : s ≡ canonStep form names x condition action residual
 
   of-candidates : (n : ℕ) (silent? : Bool) (c : Candidate) → c ∈ candidates Δ silent? n P → c ∈ (visible (Δ .body) n P ++ silentSteps (Δ .body) n P)
   of-candidates n true c m = ∈-right c (visible (Δ .body) n P) (silentSteps (Δ .body) n P) m
   of-candidates n false c m = ∈-left c (visible (Δ .body) n P) (silentSteps (Δ .body) n P) m
 
   of-transition : (n : ℕ) → Opens Δ n P → {M : Cond} {α : Action} {P′ : Term} → Transition Δ P M α P′
-      → ((y : ℕ) → In y (boundNames α) → y ≡ x) → Raw n (listedAs names M α P′)
+      → ((y : ℕ) → In y (boundNames α) → y ≡ x) → Raw n (listedAs names M α (form P′))
   of-transition n o (Canon {N = N} {α = α} {P′ = P′} s av) b =
       let record { abs = A; step = t; filled = e; away = _ } = unname Δ s in
       let record { condition = K; same = k; there = m } = raw-complete Δ n o t in
@@ -105,12 +106,12 @@ module _ (Δ : Defs) (names x : ℕ) (P : Term) (fresh : ¬ Free x P) where
         residual = A;
         there = of-candidates n (isSilent (act α)) (step K (act α) A) m;
         canon =
-            ap (λ X. listedAs names (canonical N) (renAction f α) (ren f X)) e
-            ∙ ap (λ β. listedAs names (canonical N) (renAction f β) (ren f (fill β A))) α-named
-            ∙ sym (canon-listed names x K N (act α) A (~-sym N K k) own);
+            ap (λ X. listedAs names (canonical N) (renAction f α) (form (ren f X))) e
+            ∙ ap (λ β. listedAs names (canonical N) (renAction f β) (form (ren f (fill β A)))) α-named
+            ∙ sym (canon-listed form names x K N (act α) A (~-sym N K k) own);
       }
 
   -- a published transition for the new name comes from a raw step
-  pub derived-raw : (n : ℕ) → Opens Δ n P → (s : ListedStep) → Derived Δ names x P s → Raw n s
+  pub derived-raw : (n : ℕ) → Opens Δ n P → (s : ListedStep) → Derived form Δ names x P s → Raw n s
   derived-raw n o s d =
       subst (λ r. Raw n r) (sym (d .listed)) (of-transition n o (d .transition) (d .binds))

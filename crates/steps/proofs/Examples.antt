@@ -4,9 +4,13 @@ use mathlib.Core.Path.{_≡_, refl}
 use Prim.Native.Nat.{ℕ, zero, suc}
 use lib.ListN.{length}
 use Rattle.calculus.specs.Cond.{join, cls}
+use Rattle.calculus.specs.Distinction.{among}
+use Rattle.calculus.specs.Free.{fn, lowerL}
 use Rattle.calculus.specs.Term.{Term, nil, tau, inp, out, bout, mat, sum, par, res, call}
+use Rattle.calculus.specs.Tidy.{restrictUsed, tidy}
 use Rattle.terms.specs.Encoding.{encode, nameByte}
 use Rattle.steps.specs.Raw.{matching, leftSteps, rightSteps, meet, communication, communications, spares, sparesRestricted, outside, restrictedAction, restricted, visibleOf, silentOf, visibleCalls, silentCalls, visible, silent}
+use Rattle.steps.specs.Forms.{asItIs}
 use Rattle.steps.specs.Listed.{ListedStep, namesFrom, classesOf, kindOf, channelOf, objectOf, listedAs, canonStep, resultBytes, bytes}
 use Rattle.steps.specs.Listing.{order, insert, allFit, collect, Listing, unsettled, listed, limited, listing}
 
@@ -22,7 +26,7 @@ entry c k a b P = record { classes = c; kind = k; channel = a; object = b; resul
 
 -- K of arity 1, with the body given
 abbrev steps : Term → Term → Listing
-steps K P = listing 16 112 256 (λ k. K) 1 3 P
+steps K P = listing asItIs 16 112 256 (λ k. K) 1 3 P
 
 abbrev rows : List (Listing × Listing)
 rows =
@@ -73,10 +77,10 @@ more =
     ∷ (steps nil (sum (tau nil) (tau nil)), listed (entry single 0 0 0 nil ∷ []))
     ∷ (steps (inp 0 (out 1 0 nil)) (call 0 (0 ∷ [])), listed (entry single 1 0 3 (out 0 3 nil) ∷ []))
     ∷ (steps (out 1 0 nil) (call 0 (0 ∷ 1 ∷ [])), listed (entry single 2 0 1 nil ∷ []))
-    ∷ (listing 16 112 1 (λ k. nil) 1 3 (sum (tau nil) (mat 0 1 (tau nil))), unsettled)
-    ∷ (listing 16 2 256 (λ k. nil) 1 3 (tau (tau nil)), listed (entry single 0 0 0 (tau nil) ∷ []))
-    ∷ (listing 16 1 256 (λ k. nil) 1 3 (tau (tau nil)), unsettled)
-    ∷ (listing 16 1 256 (λ k. nil) 1 3 (res (out 0 0 (tau nil))), listed [])
+    ∷ (listing asItIs 16 112 1 (λ k. nil) 1 3 (sum (tau nil) (mat 0 1 (tau nil))), unsettled)
+    ∷ (listing asItIs 16 2 256 (λ k. nil) 1 3 (tau (tau nil)), listed (entry single 0 0 0 (tau nil) ∷ []))
+    ∷ (listing asItIs 16 1 256 (λ k. nil) 1 3 (tau (tau nil)), unsettled)
+    ∷ (listing asItIs 16 1 256 (λ k. nil) 1 3 (res (out 0 0 (tau nil))), listed [])
     ∷ []
 
 pub turnings : map (λ r. r .0) more ≡ map (λ r. r .1) more
@@ -84,6 +88,33 @@ unfolding listing limited collect insert order allFit bytes resultBytes canonSte
     silent visibleCalls silentCalls visibleOf silentOf restricted restrictedAction outside sparesRestricted spares communications communication meet
     leftSteps rightSteps matching encode nameByte cls join
 turnings = refl
+
+-- Results tidied (request 2026-04): a restriction whose name goes unused in the result goes, beneath a prefix too; one that is used stays.
+abbrev tidied : Term → Listing
+tidied P = listing tidy 16 112 256 (λ k. nil) 1 3 P
+
+abbrev unused : List (Listing × Listing)
+unused =
+    (tidied (inp 0 (res (out 1 1 nil))), listed (entry single 1 0 3 (out 3 3 nil) ∷ []))
+    ∷ (tidied (inp 0 (res (out 1 0 (res nil)))), listed (entry single 1 0 3 (res (out 4 0 nil)) ∷ []))
+    ∷ (tidied (tau (res (res (out 1 2 nil)))), listed (entry single 0 0 0 (res (out 0 1 nil)) ∷ []))
+    ∷ (tidied (sum (tau (res (res (out 1 2 nil)))) (tau (res (res (out 0 2 nil))))), listed (entry single 0 0 0 (res (out 0 1 nil)) ∷ []))
+    ∷ (tidied (tau (res (inp 0 (res (call 0 (1 ∷ [])))))), listed (entry single 0 0 0 (res (inp 0 (call 0 (0 ∷ [])))) ∷ []))
+    -- a name that no restriction binds after [Close], and one that the communication used last
+    ∷ (
+      tidied (par (bout 0 nil) (inp 0 nil)),
+      listed (entry single 0 0 0 (par nil nil) ∷ entry single 1 0 3 (par (bout 0 nil) nil) ∷ entry single 3 0 3 (par nil (inp 0 nil)) ∷ []),
+    )
+    ∷ (tidied (res (par (inp 0 nil) (out 0 1 nil))), listed (entry single 0 0 0 (par nil nil) ∷ []))
+    -- a result longer than the limit before it is tidied
+    ∷ (listing tidy 16 1 256 (λ k. nil) 1 3 (tau (res (res nil))), listed (entry single 0 0 0 nil ∷ []))
+    ∷ []
+
+pub tidied-exchanges : map (λ r. r .0) unused ≡ map (λ r. r .1) unused
+unfolding listing limited collect insert order allFit bytes resultBytes canonStep listedAs kindOf channelOf objectOf classesOf namesFrom visible
+    silent visibleCalls silentCalls visibleOf silentOf restricted restrictedAction outside sparesRestricted spares communications communication meet
+    leftSteps rightSteps matching encode nameByte cls join tidy restrictUsed among fn lowerL
+tidied-exchanges = refl
 
 -- 37 silent components side by side have 37 steps: nothing grows with the number of pairs of components
 abbrev silents : ℕ → Term

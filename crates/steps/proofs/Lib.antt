@@ -4,6 +4,7 @@ pub mod CanonSteps
 pub mod ClassLists
 pub mod DerivedLaws
 pub mod Examples
+pub mod FormLaws
 pub mod Limited
 pub mod ListedBytes
 pub mod ListedIffDerived

@@ -26,11 +26,13 @@ use Rattle.steps.proofs.Calls.{Opens}
 use Rattle.steps.proofs.QuestionDefinitions.{bodies-in-scope, opens-one}
 use Rattle.steps.proofs.Scope.{CallsInScope, scope-calls}
 use Rattle.steps.specs.Derived.{Derived, ListsExactly}
+use Rattle.steps.specs.Forms.{resultForm}
 use Rattle.steps.specs.Operations.{ListsSide}
 use Rattle.steps.specs.Limits.{mostSteps, stepBytes}
 use Rattle.steps.specs.Listed.{ListedStep}
 use Rattle.steps.specs.Listing.{Listing, listed, listing, stepsOf}
 use Rattle.steps.specs.Operations.{sideOf, isNew, listOf, listBytes}
+use Rattle.steps.proofs.FormLaws.{result-form}
 use Rattle.steps.proofs.ListedBytes.{length-listBytes}
 use Rattle.steps.proofs.ListingLaws.{listing-sizes, derived-well, listing-exact}
 
@@ -45,23 +47,23 @@ module _ (arities : List ℕ) (bodies : List Term) (allowed : BodiesAllowed arit
   opens = opens-one arities bodies allowed Δ arity-same body-same P (scope-calls nameCount arities 0 P scope)
 
   -- the new name may also be the one behind the 16
-  pub steps-exact : (x : ℕ) → x ≤ nameCount → ¬ Free x P → ListsExactly Δ nameCount longestTerm mostSteps x P (stepsOf bodies x P)
+  pub steps-exact : (x : ℕ) → x ≤ nameCount → ¬ Free x P → ListsExactly resultForm Δ nameCount longestTerm mostSteps x P (stepsOf bodies x P)
   unfolding stepsOf
   steps-exact x within fresh =
-      subst (λ b. ListsExactly Δ nameCount longestTerm mostSteps x P (listing nameCount longestTerm mostSteps b 1 x P)) body-same
-      (listing-exact Δ nameCount (suc nameCount) (omega arith) arities closed-calls x (omega arith) P scope longestTerm 1 opens fresh (omega arith) mostSteps)
+      subst (λ b. ListsExactly resultForm Δ nameCount longestTerm mostSteps x P (listing resultForm nameCount longestTerm mostSteps b 1 x P)) body-same
+      (listing-exact result-form Δ nameCount (suc nameCount) (omega arith) arities closed-calls x (omega arith) P scope longestTerm 1 opens fresh (omega arith) mostSteps)
 
   pub steps-length : (x : ℕ) → x ≤ nameCount → (ss : List ListedStep) → stepsOf bodies x P ≡ listed ss → length (listBytes ss) ≡ length ss * stepBytes
   unfolding stepsOf
   steps-length x within ss e =
       length-listBytes ss
-      (listing-sizes Δ nameCount (suc nameCount) (omega arith) arities closed-calls x (omega arith) P scope longestTerm 1 opens mostSteps ss
-      (ap (λ b. listing nameCount longestTerm mostSteps b 1 x P) body-same ∙ e))
+      (listing-sizes result-form Δ nameCount (suc nameCount) (omega arith) arities closed-calls x (omega arith) P scope longestTerm 1 opens mostSteps ss
+      (ap (λ b. listing resultForm nameCount longestTerm mostSteps b 1 x P) body-same ∙ e))
 
   -- results are in scope again
-  pub result-in-scope : (x : ℕ) → x < nameCount → ¬ Free x P → (s : ListedStep) → Derived Δ nameCount x P s → InScope nameCount arities 0 (s .result)
+  pub result-in-scope : (x : ℕ) → x < nameCount → ¬ Free x P → (s : ListedStep) → Derived resultForm Δ nameCount x P s → InScope nameCount arities 0 (s .result)
   result-in-scope x below fresh s d =
-      derived-well Δ nameCount nameCount (omega arith) arities closed-calls x below P scope longestTerm 1 opens fresh (omega arith) s d .scope
+      derived-well result-form Δ nameCount nameCount (omega arith) arities closed-calls x below P scope longestTerm 1 opens fresh (omega arith) s d .scope
 
 pub side-allowed : (q : Question) → WellFormed q → (side : ℕ) (P : Term) → sideOf q side ≡ result P → PartAllowed (q .arities) P
 unfolding sideOf
@@ -93,7 +95,7 @@ listed-iff-derived question side x room r e =
       fresh = fresh;
       steps = sym s;
       exact = λ Δ same-arity same-body.
-          subst (ListsExactly Δ nameCount longestTerm mostSteps x P) s
+          subst (ListsExactly resultForm Δ nameCount longestTerm mostSteps x P) s
           (steps-exact (q .arities) (q .bodies) (w .bodies) Δ same-arity same-body P (side-allowed q w side P c .scope) x (omega arith) fresh);
     }
   where

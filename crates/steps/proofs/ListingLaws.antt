@@ -22,6 +22,7 @@ use Rattle.steps.specs.Raw.{Candidate, step, blocked, visible, silent}
 use Rattle.steps.specs.Lists.{_∈_, All, Distinct}
 use Rattle.steps.proofs.Membership.{all-++, all-imp, all-∈, distinct-length}
 use Rattle.steps.proofs.Calls.{Opens}
+use Rattle.steps.proofs.FormLaws.{Form, form-scope}
 use Rattle.steps.proofs.Scope.{CallsInScope, scope-calls, in-scope, calls-ren, calls-residual}
 use Rattle.steps.specs.Listed.{ListedStep, listedAs, canonStep, resultBytes, bytes}
 use Rattle.steps.specs.Listing.{collect, unsettled, listed, limited, listing}
@@ -44,7 +45,7 @@ sorted-distinct longest (s ∷ ss) a =
     (λ m. before-irreflexive (bytes longest s) (all-∈ (Precedes longest s) ss (a .0) s m), sorted-distinct longest ss (a .1))
 
 -- The new name is below `wide`; it may be the one behind the names, where those are all in use.
-module _ (Δ : Defs) (names wide : ℕ) (within : names ≤ wide) (arities : List ℕ) (bodies : (k : ℕ) → CallsInScope arities (Δ .body k))
+module _ {form : Term → Term} (formed : Form form) (Δ : Defs) (names wide : ℕ) (within : names ≤ wide) (arities : List ℕ) (bodies : (k : ℕ) → CallsInScope arities (Δ .body k))
     (x : ℕ) (x-below : x < wide) (P : Term) (scope : InScope names arities 0 P) where
   below : (n : ℕ) → Free n P → n < wide
   below n f = let h = free-below names arities 0 P scope n f in omega arith
@@ -64,14 +65,14 @@ module _ (Δ : Defs) (names wide : ℕ) (within : names ≤ wide) (arities : Lis
       go (suc m, g, e) = let k = class-below wide M m (below m (h m g)) in omega arith
 
   well : (M : Cond) (α : Action) (ρ : ℕ → ℕ) (A : Term) → CallsInScope arities A → ((n : ℕ) → Free n (ren ρ A) → n < 0 + wide)
-      → WellListed names wide arities (listedAs names M α (ren ρ A))
+      → WellListed names wide arities (listedAs names M α (form (ren ρ A)))
   unfolding listedAs
-  well M α ρ A c h = record { count = length-classes names M; scope = in-scope wide arities 0 (ren ρ A) h (calls-ren arities A ρ c) }
+  well M α ρ A c h = record { count = length-classes names M; scope = form-scope formed wide arities 0 (ren ρ A) (in-scope wide arities 0 (ren ρ A) h (calls-ren arities A ρ c)) }
 
   calls-after : {M : Cond} {α : Act} {A : Term} → Trans Δ P M α A → CallsInScope arities A
   calls-after t = calls-residual arities Δ bodies t (scope-calls names arities 0 P scope)
 
-  pub well-listed : (M : Cond) (α : Act) (A : Term) → Trans Δ P M α A → WellListed names wide arities (canonStep names x M α A)
+  pub well-listed : (M : Cond) (α : Act) (A : Term) → Trans Δ P M α A → WellListed names wide arities (canonStep form names x M α A)
   unfolding canonStep
   well-listed M tauA A t = well M _ (cls M) A (calls-after t) (free-result M A (resid-free Δ t))
   well-listed M (inpA a) A t = well M _ (x • cls M) A (calls-after t) (bound-result M A (resid-free Δ t))
@@ -83,24 +84,24 @@ module _ (Δ : Defs) (names wide : ℕ) (within : names ≤ wide) (arities : Lis
     raw = visible (Δ .body) n P ++ silent (Δ .body) n P
 
     abbrev pub found : List ListedStep
-    found = collect names longest x raw []
+    found = collect form names longest x raw []
 
     pub raw-sound : All (Sound Δ P) raw
     raw-sound = all-++ (Sound Δ P) (visible (Δ .body) n P) (silent (Δ .body) n P) (visible-sound Δ n P opens) (silent-sound Δ n P opens)
 
     -- what holds of every transition's listed step holds of every step in the list
-    pub found-all : (S : ListedStep → Type 0) → ((M : Cond) (α : Act) (A : Term) → Trans Δ P M α A → S (canonStep names x M α A)) → All S found
-    found-all S h = collect-all names longest x S raw [] (all-imp (Sound Δ P) (OfCandidate names longest x S) raw go raw-sound) tt
+    pub found-all : (S : ListedStep → Type 0) → ((M : Cond) (α : Act) (A : Term) → Trans Δ P M α A → S (canonStep form names x M α A)) → All S found
+    found-all S h = collect-all form names longest x S raw [] (all-imp (Sound Δ P) (OfCandidate form names longest x S) raw go raw-sound) tt
       where
-        go : (c : Candidate) → Sound Δ P c → OfCandidate names longest x S c
+        go : (c : Candidate) → Sound Δ P c → OfCandidate form names longest x S c
         go (step M α A) t = h M α A t
         go blocked t = tt
 
     pub found-sorted : Sorted longest found
-    found-sorted = collect-sorted names longest x raw [] tt
+    found-sorted = collect-sorted form names longest x raw [] tt
 
     -- every listed step takes the same number of bytes
-    pub listing-sizes : (most : ℕ) (ss : List ListedStep) → listing names longest most (Δ .body) n x P ≡ listed ss
+    pub listing-sizes : (most : ℕ) (ss : List ListedStep) → listing form names longest most (Δ .body) n x P ≡ listed ss
         → All (λ s. length (bytes longest s) ≡ names + (4 + longest)) ss
     unfolding listing
     listing-sizes most ss e =
@@ -113,43 +114,43 @@ module _ (Δ : Defs) (names wide : ℕ) (within : names ≤ wide) (arities : Lis
         all-both (t ∷ ts) a b = (step-size names longest t (a .0 .count) (b .0), all-both ts (a .1) (b .1))
 
     module _ (fresh : ¬ Free x P) (few : wide ≤ 128) where
-      found-derived : All (Derived Δ names x P) found
-      found-derived = found-all (Derived Δ names x P) (derived Δ names x P fresh)
+      found-derived : All (Derived form Δ names x P) found
+      found-derived = found-all (Derived form Δ names x P) (derived form Δ names x P fresh)
 
       -- a derived step has a result in scope
-      pub derived-well : (s : ListedStep) → Derived Δ names x P s → WellListed names wide arities s
+      pub derived-well : (s : ListedStep) → Derived form Δ names x P s → WellListed names wide arities s
       derived-well s d =
-          let record { condition = M; action = α; residual = A; there = m; canon = e } = derived-raw Δ names x P fresh n opens s d in
+          let record { condition = M; action = α; residual = A; there = m; canon = e } = derived-raw form Δ names x P fresh n opens s d in
           subst (WellListed names wide arities) (sym e) (well-listed M α A (all-∈ (Sound Δ P) raw raw-sound (step M α A) m))
 
-      derived-found : (s : ListedStep) → Derived Δ names x P s → s ∈ found
+      derived-found : (s : ListedStep) → Derived form Δ names x P s → s ∈ found
       derived-found s d =
-          let record { condition = M; action = α; residual = A; there = m; canon = e } = derived-raw Δ names x P fresh n opens s d in
-          let (u, l, b) = collect-new names longest x raw [] M α A m in
+          let record { condition = M; action = α; residual = A; there = m; canon = e } = derived-raw form Δ names x P fresh n opens s d in
+          let (u, l, b) = collect-new form names longest x raw [] M α A m in
           let g : WellListed names wide arities u = all-∈ (WellListed names wide arities) found (found-all (WellListed names wide arities) well-listed) u l in
           let c : s ≡ u = bytes-determine names wide few arities longest s u (derived-well s d) g (ap (bytes longest) e ∙ b) in
           subst (λ r. r ∈ found) (sym c) l
 
-      found-iff : (s : ListedStep) → (s ∈ found) ↔ Derived Δ names x P s
-      found-iff s = (all-∈ (Derived Δ names x P) found found-derived s, derived-found s)
+      found-iff : (s : ListedStep) → (s ∈ found) ↔ Derived form Δ names x P s
+      found-iff s = (all-∈ (Derived form Δ names x P) found found-derived s, derived-found s)
 
       module _ (most : ℕ) where
-        passed : (most < length found) ⊎ Long longest found → TooMany Δ names most x P ⊎ TooLong Δ names longest x P
+        passed : (most < length found) ⊎ Long longest found → TooMany form Δ names most x P ⊎ TooLong form Δ names longest x P
         passed (inl h) =
             inl (record { steps = found; distinct = sorted-distinct longest found found-sorted; derived = found-derived; many = h })
         passed (inr (s, m, l)) = inr (record { step = s; derived = found-iff s .0 m; long = l })
 
-        not-within : TooMany Δ names most x P ⊎ TooLong Δ names longest x P → limited longest most found ≡ unsettled
+        not-within : TooMany form Δ names most x P ⊎ TooLong form Δ names longest x P → limited longest most found ≡ unsettled
         not-within (inl h) =
             let l : length (h .steps) ≤ length found =
-            distinct-length (h .steps) found (h .distinct) (λ s m. derived-found s (all-∈ (Derived Δ names x P) (h .steps) (h .derived) s m)) in
+            distinct-length (h .steps) found (h .distinct) (λ s m. derived-found s (all-∈ (Derived form Δ names x P) (h .steps) (h .derived) s m)) in
             limited-many longest most found (omega (arith, h .many))
         not-within (inr h) = limited-long longest most found (h .step, derived-found (h .step) (h .derived), h .long)
 
-        pub listing-exact : ListsExactly Δ names longest most x P (listing names longest most (Δ .body) n x P)
+        pub listing-exact : ListsExactly form Δ names longest most x P (listing form names longest most (Δ .body) n x P)
         unfolding listing
         listing-exact = record {
-          members = λ ss e s. subst (λ l. (s ∈ l) ↔ Derived Δ names x P s) (limited-given longest most found ss e) (found-iff s);
+          members = λ ss e s. subst (λ l. (s ∈ l) ↔ Derived form Δ names x P s) (limited-given longest most found ss e) (found-iff s);
           ascending = λ ss e. subst (λ l. Ascending longest l) (limited-given longest most found ss e) (sorted-ascending longest found found-sorted);
           limits = (λ e. passed (limited-passed longest most found e), not-within);
         }

@@ -116,45 +116,45 @@ ascending-sorted longest (s ∷ ss) a = (
   ascending-sorted longest ss (a .1),
 )
 
-module _ (names longest x : ℕ) where
+module _ (form : Term → Term) (names longest x : ℕ) where
   pub collect-sorted : (cs : List Candidate) (found : List ListedStep) → Sorted longest found
-      → Sorted longest (collect names longest x cs found)
+      → Sorted longest (collect form names longest x cs found)
   unfolding collect
   collect-sorted [] found a = a
   collect-sorted (step M α P ∷ cs) found a =
-      collect-sorted cs (insert longest (canonStep names x M α P) found) (insert-sorted longest (canonStep names x M α P) found a)
+      collect-sorted cs (insert longest (canonStep form names x M α P) found) (insert-sorted longest (canonStep form names x M α P) found a)
   collect-sorted (blocked ∷ cs) found a = collect-sorted cs found a
 
   -- what holds of each candidate's listed step holds of each in the list
   abbrev pub OfCandidate : (ListedStep → Type 0) → Candidate → Type 0
-  OfCandidate S (step M α P) = S (canonStep names x M α P)
+  OfCandidate S (step M α P) = S (canonStep form names x M α P)
   OfCandidate S blocked = Unit
 
   pub collect-all : (S : ListedStep → Type 0) (cs : List Candidate) (found : List ListedStep) → All (OfCandidate S) cs → All S found
-      → All S (collect names longest x cs found)
+      → All S (collect form names longest x cs found)
   unfolding collect
   collect-all S [] found h a = a
   collect-all S (step M α P ∷ cs) found h a =
-      collect-all S cs (insert longest (canonStep names x M α P) found) (h .1) (insert-all longest S (canonStep names x M α P) found (h .0) a)
+      collect-all S cs (insert longest (canonStep form names x M α P) found) (h .1) (insert-all longest S (canonStep form names x M α P) found (h .0) a)
   collect-all S (blocked ∷ cs) found h a = collect-all S cs found (h .1) a
 
-  pub collect-old : (cs : List Candidate) (found : List ListedStep) (u : ListedStep) → u ∈ found → u ∈ collect names longest x cs found
+  pub collect-old : (cs : List Candidate) (found : List ListedStep) (u : ListedStep) → u ∈ found → u ∈ collect form names longest x cs found
   unfolding collect
   collect-old [] found u m = m
   collect-old (step M α P ∷ cs) found u m =
-      collect-old cs (insert longest (canonStep names x M α P) found) u (insert-old longest (canonStep names x M α P) found u m)
+      collect-old cs (insert longest (canonStep form names x M α P) found) u (insert-old longest (canonStep form names x M α P) found u m)
   collect-old (blocked ∷ cs) found u m = collect-old cs found u m
 
-  same-step : (M N : Cond) (α β : Act) (P Q : Term) → step M α P ≡ step N β Q → canonStep names x M α P ≡ canonStep names x N β Q
+  same-step : (M N : Cond) (α β : Act) (P Q : Term) → step M α P ≡ step N β Q → canonStep form names x M α P ≡ canonStep form names x N β Q
   same-step M N α β P Q e = cc
 
   pub collect-new : (cs : List Candidate) (found : List ListedStep) (M : Cond) (α : Act) (P : Term) → step M α P ∈ cs
-      → HasBytes longest (canonStep names x M α P) (collect names longest x cs found)
+      → HasBytes longest (canonStep form names x M α P) (collect form names longest x cs found)
   unfolding collect
   collect-new (step N β Q ∷ cs) found M α P (inl e) =
-      let s : ListedStep = canonStep names x N β Q in
+      let s : ListedStep = canonStep form names x N β Q in
       let (u, m, b) = insert-new longest s found in
       (u, collect-old cs (insert longest s found) u m, ap (bytes longest) (same-step M N α β P Q e) ∙ b)
-  collect-new (step N β Q ∷ cs) found M α P (inr m) = collect-new cs (insert longest (canonStep names x N β Q) found) M α P m
+  collect-new (step N β Q ∷ cs) found M α P (inr m) = collect-new cs (insert longest (canonStep form names x N β Q) found) M α P m
   collect-new (blocked ∷ cs) found M α P (inl e) = let z : _≡_ {A = ℕ} 0 1 = cc in absurd (omega arith)
   collect-new (blocked ∷ cs) found M α P (inr m) = collect-new cs found M α P m

@@ -18,7 +18,8 @@ abbrev pub Ascending : ℕ → List ListedStep → Type 0
 Ascending longest [] = Unit
 Ascending longest (s ∷ ss) = All (λ t. order (bytes longest s) (bytes longest t) ≡ Ordering·lt) ss × Ascending longest ss
 
-module _ (Δ : Defs) where
+-- Results are listed in the form given.
+module _ (form : Term → Term) (Δ : Defs) where
   pub record Derived (names x : ℕ) (P : Term) (s : ListedStep) : Type 0 where
     pub condition : Cond
     pub action : Action
@@ -26,7 +27,7 @@ module _ (Δ : Defs) where
     pub transition : Transition Δ P condition action result
     -- the name received or extruded is x
     pub binds : (y : ℕ) → In y (boundNames action) → y ≡ x
-    pub listed : s ≡ listedAs names condition action result
+    pub listed : s ≡ listedAs names condition action (form result)
 
   -- more than `most` distinct steps are derived
   pub record TooMany (names most x : ℕ) (P : Term) : Type 0 where

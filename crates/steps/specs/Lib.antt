@@ -5,6 +5,8 @@ pub mod Lists
 pub mod Limits
 -- the candidates of a term by Table 4.1
 pub mod Raw
+-- the form of a result
+pub mod Forms
 -- a step as it is listed
 pub mod Listed
 -- the list: order, duplicates, limits

@@ -54,12 +54,12 @@ unfoldable pub listedAs : ℕ → Cond → Action → Term → ListedStep
 listedAs names M α P =
     record { classes = classesOf names M; kind = kindOf α; channel = channelOf α; object = objectOf α; result = P }
 
--- Rule Canon for a raw step: action and result are rewritten by the condition. The name received or extruded is x.
-unfoldable pub canonStep : ℕ → ℕ → Cond → Act → Term → ListedStep
-canonStep names x M tauA P = listedAs names M silent (ren (cls M) P)
-canonStep names x M (inpA a) P = listedAs names M (input (cls M a) x) (ren (x • cls M) P)
-canonStep names x M (outA a b) P = listedAs names M (output (cls M a) (cls M b)) (ren (cls M) P)
-canonStep names x M (boutA a) P = listedAs names M (newOutput (cls M a) x) (ren (x • cls M) P)
+-- Rule Canon for a raw step: action and result are rewritten by the condition, and the result has its form. The name received or extruded is x.
+unfoldable pub canonStep : (Term → Term) → ℕ → ℕ → Cond → Act → Term → ListedStep
+canonStep form names x M tauA P = listedAs names M silent (form (ren (cls M) P))
+canonStep form names x M (inpA a) P = listedAs names M (input (cls M a) x) (form (ren (x • cls M) P))
+canonStep form names x M (outA a b) P = listedAs names M (output (cls M a) (cls M b)) (form (ren (cls M) P))
+canonStep form names x M (boutA a) P = listedAs names M (newOutput (cls M a) x) (form (ren (x • cls M) P))
 
 -- Its bytes: classes, kind, channel, object, length of the result, the result filled with 0 to `longest` bytes.
 unfoldable pub resultBytes : ListedStep → List ℕ

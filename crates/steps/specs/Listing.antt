@@ -8,6 +8,7 @@ use Rattle.calculus.specs.Term.{Term}
 use Rattle.terms.specs.Limits.{nameCount, longestTerm}
 use Rattle.terms.specs.Question.{bodyOf}
 use Rattle.steps.specs.Raw.{Candidate, step, blocked, visible, silent}
+use Rattle.steps.specs.Forms.{resultForm}
 use Rattle.steps.specs.Limits.{mostSteps}
 use Rattle.steps.specs.Listed.{ListedStep, canonStep, resultBytes, bytes}
 
@@ -34,10 +35,10 @@ module _ (longest : ℕ) where
   allFit (s ∷ ss) = leb (length (resultBytes s)) longest && allFit ss
 
 -- the candidates that are not blocked, for the new name x, put into a list one by one
-unfoldable pub collect : (names longest x : ℕ) → List Candidate → List ListedStep → List ListedStep
-collect names longest x [] found = found
-collect names longest x (step M α P ∷ cs) found = collect names longest x cs (insert longest (canonStep names x M α P) found)
-collect names longest x (blocked ∷ cs) found = collect names longest x cs found
+unfoldable pub collect : (Term → Term) → (names longest x : ℕ) → List Candidate → List ListedStep → List ListedStep
+collect form names longest x [] found = found
+collect form names longest x (step M α P ∷ cs) found = collect form names longest x cs (insert longest (canonStep form names x M α P) found)
+collect form names longest x (blocked ∷ cs) found = collect form names longest x cs found
 
 pub data Listing : Type 0 where
   unsettled : Listing
@@ -47,11 +48,11 @@ pub data Listing : Type 0 where
 unfoldable pub limited : (longest most : ℕ) → List ListedStep → Listing
 limited longest most found = cond (leb (length found) most && allFit longest found) (listed found) unsettled
 
--- the steps of P, for the new name x, which open at most `calls` calls one within the other
-unfoldable pub listing : (names longest most : ℕ) (body : ℕ → Term) (calls x : ℕ) → Term → Listing
-listing names longest most body calls x P =
-    limited longest most (collect names longest x (visible body calls P ++ silent body calls P) [])
+-- the steps of P, for the new name x, which open at most `calls` calls one within the other, their results in the form given
+unfoldable pub listing : (Term → Term) → (names longest most : ℕ) (body : ℕ → Term) (calls x : ℕ) → Term → Listing
+listing form names longest most body calls x P =
+    limited longest most (collect form names longest x (visible body calls P ++ silent body calls P) [])
 
 -- The steps of a part of a question with these definitions. In a body every call is beneath a prefix (check 11): one call is opened.
 unfoldable pub stepsOf : List Term → ℕ → Term → Listing
-stepsOf bodies x P = listing nameCount longestTerm mostSteps (bodyOf bodies) 1 x P
+stepsOf bodies x P = listing resultForm nameCount longestTerm mostSteps (bodyOf bodies) 1 x P

@@ -12,6 +12,7 @@ use Rattle.calculus.specs.Term.{Term}
 use Rattle.terms.specs.Answer.{Answer, refused, result, _>>=_, _>>_, need}
 use Rattle.terms.specs.Limits.{nameCount, longestTerm}
 use Rattle.terms.specs.Question.{Question, questionOf, bodyOf}
+use Rattle.steps.specs.Forms.{resultForm}
 use Rattle.steps.specs.Limits.{mostSteps, stepBytes}
 use Rattle.steps.specs.Listed.{ListedStep, bytes}
 use Rattle.steps.specs.Listing.{Listing, unsettled, listed, stepsOf}
@@ -55,4 +56,4 @@ pub record ListsSide (question : List ℕ) (side x : ℕ) (r : Listing) : Type 0
   pub steps : r ≡ stepsOf (asked .bodies) x part
   -- for the question's definitions, of which proofs/QuestionDefinitions has one
   pub exact : (Δ : Defs) → ((k : ℕ) → Δ .arity k ≡ getD (asked .arities) k 0) → Δ .body ≡ bodyOf (asked .bodies)
-      → ListsExactly Δ nameCount longestTerm mostSteps x part r
+      → ListsExactly resultForm Δ nameCount longestTerm mostSteps x part r

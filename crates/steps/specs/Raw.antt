@@ -9,6 +9,7 @@ use Rattle.calculus.specs.Abstraction.{swap, Act, tauA, inpA, outA, boutA, weak
 use Rattle.calculus.specs.Term.{Term, nil, tau, inp, out, bout, mat, sum, par, res, call, ren, inst}
 use Rattle.calculus.specs.Cond.{Cond, mapP}
 use Rattle.calculus.specs.Definitions.{opened}
+unfoldable pub use Rattle.calculus.specs.Tidy.{outside}
 
 -- A step: its condition, its action and its result. The result of an input or a new-name output is an abstraction, in which index 0 is the
 -- name received or extruded.
@@ -67,11 +68,6 @@ spares (suc a) (suc b) = true
 unfoldable pub sparesRestricted : Cond → Bool
 sparesRestricted [] = true
 sparesRestricted (p ∷ M) = spares (p .0) (p .1) && sparesRestricted M
-
--- a name as it is outside the restriction
-unfoldable pub outside : ℕ → ℕ
-outside zero = zero
-outside (suc n) = n
 
 -- [Res], and [Open] where the object alone is the restricted name; else an action that names it is blocked. The binder of a bound action
 -- and the restriction change places.

@@ -16,6 +16,7 @@ use Rattle.calculus.proofs.Renaming.{map-++}
 use Rattle.terms.specs.Limits.{nameCount, longestTerm}
 use Rattle.terms.specs.Question.{Question}
 use Rattle.terms.specs.Question.{bodyOf}
+use Rattle.steps.specs.Forms.{resultForm}
 use Rattle.steps.specs.Lists.{_∈_, Among}
 use Rattle.steps_tallies.specs.Candidates.{candidates}
 use Rattle.steps.specs.Raw.{Candidate, blocked, communication, communications, visible, silent}
@@ -49,11 +50,11 @@ nth-met K s ts w = nth-by (raised K) (raised-blocked K) (map (communication s) t
 
 -- Those that are blocked in the end are none.
 collect-blocked : (x : ℕ) (K : List Frame) (s : Candidate) → ((t : Candidate) → raised K (communication s t) ≡ blocked) → (ts : List Candidate) (found : List ListedStep)
-    → collect nameCount longestTerm x (met K s ts) found ≡ found
+    → collect resultForm nameCount longestTerm x (met K s ts) found ≡ found
 unfolding collect
 collect-blocked x K s e [] found = refl
 collect-blocked x K s e (t ∷ ts) found =
-    ap (λ c. collect nameCount longestTerm x (c ∷ met K s ts) found) (e t) ∙ collect-blocked x K s e ts found
+    ap (λ c. collect resultForm nameCount longestTerm x (c ∷ met K s ts) found) (e t) ∙ collect-blocked x K s e ts found
 
 collect-stopped : (x : ℕ) (K : List Frame) (d : ℕ) → restrictions K ≡ d → (s : Candidate) → decided d s ≡ blocked → (ts : List Candidate) (area : List ℕ) (count : ℕ) → count ≤ mostSteps
     → CollectIs (met K s ts) x area count count area

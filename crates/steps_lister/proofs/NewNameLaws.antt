@@ -25,6 +25,8 @@ use Rattle.terms.specs.Limits.{nameCount, longestTerm}
 use Rattle.terms.specs.Question.{Question}
 use Rattle.terms.proofs.RenamingKeeps.{length-ren}
 use Rattle.terms.proofs.WellFormed.{accepted-well-formed}
+use Rattle.steps.specs.Forms.{resultForm}
+use Rattle.steps.proofs.FormLaws.{result-form}
 use Rattle.steps.specs.Lists.{_∈_, Among, All}
 use Rattle.steps.specs.Raw.{Candidate, step, blocked}
 use Rattle.steps.proofs.Calls.{Opens}
@@ -104,7 +106,7 @@ module _ (Δ : Defs) (names y x : ℕ) (P : Term) (fresh : ¬ Free y P) where
       go zero f = put-self y x y refl
       go (suc m) f = put-other y x (cls M m) (h m f)
 
-  canon-renewed : (M : Cond) (α : Act) (A : Term) → Trans Δ P M α A → renewed y x (canonStep names y M α A) ≡ canonStep names x M α A
+  canon-renewed : (M : Cond) (α : Act) (A : Term) → Trans Δ P M α A → renewed y x (canonStep resultForm names y M α A) ≡ canonStep resultForm names x M α A
   unfolding canonStep renewed bindsNew listedAs kindOf channelOf objectOf
   canon-renewed M tauA A t = refl
   canon-renewed M (inpA a) A t =
@@ -127,15 +129,15 @@ module _ (Δ : Defs) (names wide : ℕ) (within : names ≤ wide) (few : wide �
     (P : Term) (scope : InScope names arities 0 P) (longest n : ℕ) (opens : Opens Δ n P) where
   module _ (x : ℕ) (below : x < wide) where
     abbrev all : List ListedStep
-    all = found Δ names wide within arities bodies x below P scope longest n opens
+    all = found result-form Δ names wide within arities bodies x below P scope longest n opens
 
     abbrev candidates : List Candidate
-    candidates = raw Δ names wide within arities bodies x below P scope longest n opens
+    candidates = raw result-form Δ names wide within arities bodies x below P scope longest n opens
 
     well : All (WellListed names wide arities) all
     well =
-        found-all Δ names wide within arities bodies x below P scope longest n opens (WellListed names wide arities)
-        (well-listed Δ names wide within arities bodies x below P scope)
+        found-all result-form Δ names wide within arities bodies x below P scope longest n opens (WellListed names wide arities)
+        (well-listed result-form Δ names wide within arities bodies x below P scope)
 
     -- a step of the list, and the candidate that it is of
     record Of (s : ListedStep) : Type 0 where
@@ -143,38 +145,38 @@ module _ (Δ : Defs) (names wide : ℕ) (within : names ≤ wide) (few : wide �
       pub action : Act
       pub residual : Term
       pub there : step condition action residual ∈ candidates
-      pub is : s ≡ canonStep names x condition action residual
+      pub is : s ≡ canonStep resultForm names x condition action residual
 
     of-found : (s : ListedStep) → s ∈ all → Of s
-    of-found s m = all-∈ Of all (collect-all names longest x Of candidates [] (∈-all (OfCandidate names longest x Of) candidates each) tt) s m
+    of-found s m = all-∈ Of all (collect-all resultForm names longest x Of candidates [] (∈-all (OfCandidate resultForm names longest x Of) candidates each) tt) s m
       where
-        each : (c : Candidate) → c ∈ candidates → OfCandidate names longest x Of c
+        each : (c : Candidate) → c ∈ candidates → OfCandidate resultForm names longest x Of c
         each (step M α A) k = record { condition = M; action = α; residual = A; there = k; is = refl }
         each blocked k = tt
 
     sound : (M : Cond) (α : Act) (A : Term) → step M α A ∈ candidates → Trans Δ P M α A
-    sound M α A m = all-∈ _ candidates (raw-sound Δ names wide within arities bodies x below P scope longest n opens) (step M α A) m
+    sound M α A m = all-∈ _ candidates (raw-sound result-form Δ names wide within arities bodies x below P scope longest n opens) (step M α A) m
 
-    in-found : (M : Cond) (α : Act) (A : Term) → step M α A ∈ candidates → canonStep names x M α A ∈ all
+    in-found : (M : Cond) (α : Act) (A : Term) → step M α A ∈ candidates → canonStep resultForm names x M α A ∈ all
     in-found M α A m =
-        let (u, l, b) = collect-new names longest x candidates [] M α A m in
-        let e : canonStep names x M α A ≡ u =
-        bytes-determine names wide few arities longest (canonStep names x M α A) u
-        (well-listed Δ names wide within arities bodies x below P scope M α A (sound M α A m)) (all-∈ (WellListed names wide arities) all well u l) b in
+        let (u, l, b) = collect-new resultForm names longest x candidates [] M α A m in
+        let e : canonStep resultForm names x M α A ≡ u =
+        bytes-determine names wide few arities longest (canonStep resultForm names x M α A) u
+        (well-listed result-form Δ names wide within arities bodies x below P scope M α A (sound M α A m)) (all-∈ (WellListed names wide arities) all well u l) b in
         subst (λ s. s ∈ all) (sym e) l
 
   module _ (y x : ℕ) (y-below : y < wide) (x-below : x < wide) (fresh : ¬ Free y P) where
     renewed-found : Sorted longest (map (renewed y x) (all y y-below)) → all x x-below ≡ map (renewed y x) (all y y-below)
     renewed-found sorted =
         sorted-same longest (all x x-below) (map (renewed y x) (all y y-below))
-        (found-sorted Δ names wide within arities bodies x x-below P scope longest n opens) sorted to from
+        (found-sorted result-form Δ names wide within arities bodies x x-below P scope longest n opens) sorted to from
       where
         to : Among (all x x-below) (map (renewed y x) (all y y-below))
         to u m =
             let record { condition = M; action = α; residual = A; there = k; is = e } = of-found x x-below u m in
             subst (λ s. s ∈ map (renewed y x) (all y y-below))
             (canon-renewed Δ names y x P fresh M α A (sound y y-below M α A k) ∙ sym e)
-            (∈-map (renewed y x) (canonStep names y M α A) (all y y-below) (in-found y y-below M α A k))
+            (∈-map (renewed y x) (canonStep resultForm names y M α A) (all y y-below) (in-found y y-below M α A k))
 
         from : Among (map (renewed y x) (all y y-below)) (all x x-below)
         from u m =
@@ -184,8 +186,8 @@ module _ (Δ : Defs) (names wide : ℕ) (within : names ≤ wide) (few : wide �
             (sym (d ∙ ap (renewed y x) e ∙ canon-renewed Δ names y x P fresh M α A (sound y y-below M α A k)))
             (in-found x x-below M α A k)
 
-    pub renewed-listing : (most : ℕ) (ss : List ListedStep) → listing names longest most (Δ .body) n y P ≡ listed ss
-        → Sorted longest (map (renewed y x) ss) → listing names longest most (Δ .body) n x P ≡ listed (map (renewed y x) ss)
+    pub renewed-listing : (most : ℕ) (ss : List ListedStep) → listing resultForm names longest most (Δ .body) n y P ≡ listed ss
+        → Sorted longest (map (renewed y x) ss) → listing resultForm names longest most (Δ .body) n x P ≡ listed (map (renewed y x) ss)
     unfolding listing
     renewed-listing most ss e sorted =
         let g : all y y-below ≡ ss = limited-given longest most (all y y-below) ss e in

@@ -5,6 +5,7 @@ use mathlib.Core.Logic.{_⊎_, inl, inr}
 use mathlib.Core.Path.{_≡_, refl, sym, _∙_, ap₂, subst}
 use Prim.Native.Nat.{ℕ}
 use Rattle.calculus.specs.Term.{Term, nil, tau, inp, out, bout, mat, sum, par, res, call}
+use Rattle.steps.specs.Forms.{resultForm}
 use Rattle.steps.specs.Lists.{_∈_, Among, All}
 use Rattle.steps.specs.Raw.{Candidate, step, blocked, leftSteps, rightSteps, restricted, communications, visibleOf, silentOf, visible, silent}
 use Rattle.steps.proofs.Membership.{∈-left, ∈-right, ∈-either, ∈-map, ∈-mapped, within-either, within-map, all-map, all-∈, ∈-all}
@@ -129,7 +130,7 @@ ascends-same (b ∷ bs) (c ∷ cs) a z h k =
 -- The bytes of the steps found.
 module _ (names longest x : ℕ) where
   abbrev found : List Candidate → List (List ℕ)
-  found cs = map (bytes longest) (collect names longest x cs [])
+  found cs = map (bytes longest) (collect resultForm names longest x cs [])
 
   found-ascends : (ss : List ListedStep) → Sorted longest ss → Ascends (map (bytes longest) ss)
   found-ascends [] a = tt
@@ -139,23 +140,23 @@ module _ (names longest x : ℕ) where
     abbrev There : ListedStep → Type 0
     There s = bytes longest s ∈ found ds
 
-    there : (c : Candidate) → c ∈ cs → OfCandidate names longest x There c
+    there : (c : Candidate) → c ∈ cs → OfCandidate resultForm names longest x There c
     there (step M α P) n =
-        let (u, l, e) = collect-new names longest x ds [] M α P (h (step M α P) n) in
-        subst (λ y. y ∈ found ds) (sym e) (∈-map (bytes longest) u (collect names longest x ds []) l)
+        let (u, l, e) = collect-new resultForm names longest x ds [] M α P (h (step M α P) n) in
+        subst (λ y. y ∈ found ds) (sym e) (∈-map (bytes longest) u (collect resultForm names longest x ds []) l)
     there blocked n = tt
 
     found-within : Among (found cs) (found ds)
     found-within b m =
-        let (s, n, e) = ∈-mapped (bytes longest) b (collect names longest x cs []) m in
-        let all : All There (collect names longest x cs []) =
-        collect-all names longest x There cs [] (∈-all (OfCandidate names longest x There) cs there) tt in
-        subst (λ y. y ∈ found ds) (sym e) (all-∈ There (collect names longest x cs []) all s n)
+        let (s, n, e) = ∈-mapped (bytes longest) b (collect resultForm names longest x cs []) m in
+        let all : All There (collect resultForm names longest x cs []) =
+        collect-all resultForm names longest x There cs [] (∈-all (OfCandidate resultForm names longest x There) cs there) tt in
+        subst (λ y. y ∈ found ds) (sym e) (all-∈ There (collect resultForm names longest x cs []) all s n)
 
   pub same-found : (cs ds : List Candidate) → Among cs ds → Among ds cs
-      → map (bytes longest) (collect names longest x cs []) ≡ map (bytes longest) (collect names longest x ds [])
+      → map (bytes longest) (collect resultForm names longest x cs []) ≡ map (bytes longest) (collect resultForm names longest x ds [])
   same-found cs ds h k =
       ascends-same (found cs) (found ds)
-      (found-ascends (collect names longest x cs []) (collect-sorted names longest x cs [] tt))
-      (found-ascends (collect names longest x ds []) (collect-sorted names longest x ds [] tt))
+      (found-ascends (collect resultForm names longest x cs []) (collect-sorted resultForm names longest x cs [] tt))
+      (found-ascends (collect resultForm names longest x ds []) (collect-sorted resultForm names longest x ds [] tt))
       (found-within cs ds h) (found-within ds cs k)

@@ -9,6 +9,7 @@ use Rattle.calculus.specs.Term.{Term}
 use Rattle.terms.specs.Limits.{nameCount, longestTerm}
 use Rattle.terms.specs.Question.{Question}
 use Rattle.terms.specs.Question.{bodyOf}
+use Rattle.steps.specs.Forms.{resultForm}
 use Rattle.steps.specs.Lists.{_∈_, All}
 use Rattle.steps.specs.Raw.{Candidate, step, blocked, visible, silent}
 use Rattle.steps.proofs.Membership.{∈-map, ∈-mapped, ∈-all, all-∈}
@@ -34,10 +35,10 @@ module _ (names longest x : ℕ) where
   abbrev Classed : ListedStep → Type 0
   Classed s = length (s .classes) ≡ names
 
-  found-classed : (cs : List Candidate) → All Classed (collect names longest x cs [])
-  found-classed cs = collect-all names longest x Classed cs [] (∈-all (OfCandidate names longest x Classed) cs go) tt
+  found-classed : (cs : List Candidate) → All Classed (collect resultForm names longest x cs [])
+  found-classed cs = collect-all resultForm names longest x Classed cs [] (∈-all (OfCandidate resultForm names longest x Classed) cs go) tt
     where
-      go : (c : Candidate) → c ∈ cs → OfCandidate names longest x Classed c
+      go : (c : Candidate) → c ∈ cs → OfCandidate resultForm names longest x Classed c
       go (step M α P) m = canon-classes names longest x M α P
       go blocked m = tt
 
@@ -90,10 +91,10 @@ module _ (question part : List ℕ) (x : ℕ) (area : List ℕ) (n : ℕ) (area�
     body = bodyOf (q .bodies)
 
     abbrev found : List ListedStep
-    found = collect nameCount longestTerm x (walked body P) []
+    found = collect resultForm nameCount longestTerm x (walked body P) []
 
     abbrev whole : List ListedStep
-    whole = collect nameCount longestTerm x (visible body 1 P ++ silent body 1 P) []
+    whole = collect resultForm nameCount longestTerm x (visible body 1 P ++ silent body 1 P) []
 
     same : map (bytes longestTerm) found ≡ map (bytes longestTerm) whole
     same = same-found nameCount longestTerm x (walked body P) (visible body 1 P ++ silent body 1 P) (walked-raw body P) (raw-walked body P)
@@ -110,7 +111,7 @@ module _ (question part : List ℕ) (x : ℕ) (area : List ℕ) (n : ℕ) (area�
         → map (bytes longestTerm) f ≡ map (bytes longestTerm) g → limited longestTerm mostSteps f ≡ unsettled → limited longestTerm mostSteps g ≡ unsettled
     both f g a b e = unsettled-same nameCount longestTerm x mostSteps f g a b e
 
-    classed : (cs : List Candidate) → All (Classed nameCount longestTerm x) (collect nameCount longestTerm x cs [])
+    classed : (cs : List Candidate) → All (Classed nameCount longestTerm x) (collect resultForm nameCount longestTerm x cs [])
     classed cs = found-classed nameCount longestTerm x cs
 
     answers-passed : mostSteps < n → AnswersListing (stepsOf (q .bodies) x P) Unsettled area′

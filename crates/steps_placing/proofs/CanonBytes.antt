@@ -13,6 +13,7 @@ use Rattle.calculus.specs.Published.{Action, silent, input, output, newOutput}
 use Rattle.terms.specs.Limits.{nameCount, longestTerm}
 use Rattle.terms.specs.Encoding.{encode}
 use Rattle.steps_entries.specs.EntryBytes.{entryBytes}
+use Rattle.steps.specs.Forms.{resultForm}
 use Rattle.steps.specs.Listed.{classesOf, kindOf, channelOf, objectOf, listedAs, canonStep, resultBytes, bytes}
 use Rattle.steps_entries.specs.declared.listed.ActionBytes.{ActionBytes}
 use Rattle.steps.proofs.ClassLists.{length-classes, class-of}
@@ -40,7 +41,7 @@ module _ (class : List ℕ) (M : Cond) (many : nameCount ≤ length class) (clas
   entry-listed α A = rw classes-are refl
 
   pub entry-canonical : (x : ℕ) (α : Act) (A : Term)
-      → entryBytes class (coded (actionOfStep M x α)) (resultBytes (canonStep nameCount x M α A)) ≡ bytes longestTerm (canonStep nameCount x M α A)
+      → entryBytes class (coded (actionOfStep M x α)) (resultBytes (canonStep resultForm nameCount x M α A)) ≡ bytes longestTerm (canonStep resultForm nameCount x M α A)
   unfolding canonStep resultBytes listedAs
   entry-canonical x tauA A = entry-listed silent (ren (cls M) A)
   entry-canonical x (inpA a) A = entry-listed (input (cls M a) x) (ren (x • cls M) A)

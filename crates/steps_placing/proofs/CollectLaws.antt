@@ -12,6 +12,7 @@ use Rattle.calculus.specs.Abstraction.{Act, tauA, inpA, outA, boutA}
 use Rattle.calculus.specs.Cond.{Cond}
 use Rattle.calculus.specs.Term.{Term}
 use Rattle.terms.specs.Limits.{nameCount, longestTerm}
+use Rattle.steps.specs.Forms.{resultForm}
 use Rattle.steps.specs.Lists.{_∈_, All}
 use Rattle.steps.specs.Raw.{Candidate, step, blocked}
 use Rattle.steps.proofs.Membership.{all-∈, all-imp}
@@ -40,21 +41,21 @@ insert-length longest s (t ∷ ts) = go (order (bytes longest s) (bytes longest 
     go Ordering·gt h = omega arith
 
 module _ (names longest x : ℕ) where
-  collect-length : (cs : List Candidate) (found : List ListedStep) → length found ≤ length (collect names longest x cs found)
+  collect-length : (cs : List Candidate) (found : List ListedStep) → length found ≤ length (collect resultForm names longest x cs found)
   unfolding collect
   collect-length [] found = omega arith
   collect-length (step M α P ∷ cs) found =
-      omega (arith, insert-length longest (canonStep names x M α P) found, collect-length cs (insert longest (canonStep names x M α P) found))
+      omega (arith, insert-length longest (canonStep resultForm names x M α P) found, collect-length cs (insert longest (canonStep resultForm names x M α P) found))
   collect-length (blocked ∷ cs) found = collect-length cs found
 
   pub collect-++ : (cs ds : List Candidate) (found : List ListedStep)
-      → collect names longest x (cs ++ ds) found ≡ collect names longest x ds (collect names longest x cs found)
+      → collect resultForm names longest x (cs ++ ds) found ≡ collect resultForm names longest x ds (collect resultForm names longest x cs found)
   unfolding collect
   collect-++ [] ds found = refl
-  collect-++ (step M α P ∷ cs) ds found = collect-++ cs ds (insert longest (canonStep names x M α P) found)
+  collect-++ (step M α P ∷ cs) ds found = collect-++ cs ds (insert longest (canonStep resultForm names x M α P) found)
   collect-++ (blocked ∷ cs) ds found = collect-++ cs ds found
 
-  pub canon-classes : (M : Cond) (α : Act) (A : Term) → length (canonStep names x M α A .classes) ≡ names
+  pub canon-classes : (M : Cond) (α : Act) (A : Term) → length (canonStep resultForm names x M α A .classes) ≡ names
   unfolding canonStep listedAs
   canon-classes M tauA A = length-classes names M
   canon-classes M (inpA a) A = length-classes names M
@@ -63,12 +64,12 @@ module _ (names longest x : ℕ) where
 
 -- A limit once passed stays passed.
 pub limited-grows : (names longest x most : ℕ) (cs : List Candidate) (found : List ListedStep) → limited longest most found ≡ unsettled
-    → limited longest most (collect names longest x cs found) ≡ unsettled
+    → limited longest most (collect resultForm names longest x cs found) ≡ unsettled
 limited-grows names longest x most cs found e = go (limited-passed longest most found e)
   where
-    go : (most < length found) ⊎ Long longest found → limited longest most (collect names longest x cs found) ≡ unsettled
-    go (inl h) = limited-many longest most (collect names longest x cs found) (omega (arith, collect-length names longest x cs found))
-    go (inr (s, m, l)) = limited-long longest most (collect names longest x cs found) (s, collect-old names longest x cs found s m, l)
+    go : (most < length found) ⊎ Long longest found → limited longest most (collect resultForm names longest x cs found) ≡ unsettled
+    go (inl h) = limited-many longest most (collect resultForm names longest x cs found) (omega (arith, collect-length names longest x cs found))
+    go (inr (s, m, l)) = limited-long longest most (collect resultForm names longest x cs found) (s, collect-old resultForm names longest x cs found s m, l)
 
 -- what was stored at the beginning
 pub take-sets : (l xs : List ℕ) (n : ℕ) → length xs ≡ n → n ≤ length l → take n (sets l 0 xs) ≡ xs
@@ -81,12 +82,12 @@ module _ (area : List ℕ) (x count : ℕ) (found : List ListedStep) (s : Stands
   put-blocked h = record { stands = λ _. s; passed = λ g. absurd (omega arith) }
 
   module _ (M : Cond) (α : Act) (A : Term) where
-    pub put-step : length (resultBytes (canonStep nameCount x M α A)) ≤ longestTerm
-        → (entry : List ℕ) → entry ≡ bytes longestTerm (canonStep nameCount x M α A)
+    pub put-step : length (resultBytes (canonStep resultForm nameCount x M α A)) ≤ longestTerm
+        → (entry : List ℕ) → entry ≡ bytes longestTerm (canonStep resultForm nameCount x M α A)
         → (r : ℕ) (area′ : List ℕ) → InsertIs area count entry r area′ → PutInto (step M α A) x r area′ found
     unfolding collect InsertIs
     put-step f entry e r area′ i =
-        let t : ListedStep = canonStep nameCount x M α A in
+        let t : ListedStep = canonStep resultForm nameCount x M α A in
         let (n, p) = i t found e (s .ascending) (s .number) (s .indexed) in
         let size : length (bytes longestTerm t) ≡ stepBytes = step-size nameCount longestTerm t (canon-classes nameCount longestTerm x M α A) f in
         let sorted = insert-sorted longestTerm t found (ascending-sorted longestTerm found (s .ascending)) in
@@ -99,16 +100,16 @@ module _ (area : List ℕ) (x count : ℕ) (found : List ListedStep) (s : Stands
             indexed = p h;
           };
           passed = λ h cs.
-              limited-many longestTerm mostSteps (collect nameCount longestTerm x cs (insert longestTerm t found))
+              limited-many longestTerm mostSteps (collect resultForm nameCount longestTerm x cs (insert longestTerm t found))
               (omega (arith, n, collect-length nameCount longestTerm x cs (insert longestTerm t found)));
         }
 
     -- a step whose result is too long stands in the list, whatever comes after it
-    pub put-long : longestTerm < length (resultBytes (canonStep nameCount x M α A)) → (area′ : List ℕ)
+    pub put-long : longestTerm < length (resultBytes (canonStep resultForm nameCount x M α A)) → (area′ : List ℕ)
         → PutInto (step M α A) x (mostSteps + 1) area′ found
     unfolding collect
     put-long f area′ =
-        let t : ListedStep = canonStep nameCount x M α A in
+        let t : ListedStep = canonStep resultForm nameCount x M α A in
         let all : All (λ u. (u ≡ t) ⊎ (length (bytes longestTerm u) ≡ stepBytes)) (insert longestTerm t found) =
         insert-all longestTerm (λ u. (u ≡ t) ⊎ (length (bytes longestTerm u) ≡ stepBytes)) t found (inl refl)
         (all-imp (λ u. length (bytes longestTerm u) ≡ stepBytes) (λ u. (u ≡ t) ⊎ (length (bytes longestTerm u) ≡ stepBytes)) found (λ u h. inr h) (s .sized)) in
@@ -118,36 +119,36 @@ module _ (area : List ℕ) (x count : ℕ) (found : List ListedStep) (s : Stands
         record {
           stands = λ h. absurd (omega arith);
           passed = λ h cs.
-              limited-long longestTerm mostSteps (collect nameCount longestTerm x cs (insert longestTerm t found))
-              (t, collect-old nameCount longestTerm x cs (insert longestTerm t found) t there, f);
+              limited-long longestTerm mostSteps (collect resultForm nameCount longestTerm x cs (insert longestTerm t found))
+              (t, collect-old resultForm nameCount longestTerm x cs (insert longestTerm t found) t there, f);
         }
       where
-        is-t : (u : ListedStep) → u ∈ insert longestTerm (canonStep nameCount x M α A) found
-            → bytes longestTerm (canonStep nameCount x M α A) ≡ bytes longestTerm u
-            → (u ≡ canonStep nameCount x M α A) ⊎ (length (bytes longestTerm u) ≡ stepBytes)
-            → canonStep nameCount x M α A ∈ insert longestTerm (canonStep nameCount x M α A) found
-        is-t u m b (inl e) = subst (λ v. v ∈ insert longestTerm (canonStep nameCount x M α A) found) e m
+        is-t : (u : ListedStep) → u ∈ insert longestTerm (canonStep resultForm nameCount x M α A) found
+            → bytes longestTerm (canonStep resultForm nameCount x M α A) ≡ bytes longestTerm u
+            → (u ≡ canonStep resultForm nameCount x M α A) ⊎ (length (bytes longestTerm u) ≡ stepBytes)
+            → canonStep resultForm nameCount x M α A ∈ insert longestTerm (canonStep resultForm nameCount x M α A) found
+        is-t u m b (inl e) = subst (λ v. v ∈ insert longestTerm (canonStep resultForm nameCount x M α A) found) e m
         is-t u m b (inr e) =
             let c = canon-classes nameCount longestTerm x M α A in
-            absurd (omega (arith, step-length longestTerm (canonStep nameCount x M α A), ap length b))
+            absurd (omega (arith, step-length longestTerm (canonStep resultForm nameCount x M α A), ap length b))
 
 -- What the area holds when the first i candidates have been put into it.
 module _ (cs : List Candidate) (x : ℕ) (area₀ : List ℕ) (count₀ : ℕ) where
   abbrev after : ℕ → List ListedStep → List ListedStep
-  after i found = collect nameCount longestTerm x (take i cs) found
+  after i found = collect resultForm nameCount longestTerm x (take i cs) found
 
   abbrev pub Progresses : ℕ → ℕ → List ℕ → Type 0
-  Progresses i n area = (found : List ListedStep) → Stands area₀ count₀ found → Stands area n (collect nameCount longestTerm x (take i cs) found)
+  Progresses i n area = (found : List ListedStep) → Stands area₀ count₀ found → Stands area n (collect resultForm nameCount longestTerm x (take i cs) found)
 
   pub progress-start : Progresses 0 count₀ area₀
   unfolding collect
   progress-start found s = s
 
   next : (i : ℕ) → i < length cs → (found : List ListedStep)
-      → collect nameCount longestTerm x (getD cs i blocked ∷ []) (after i found) ≡ after (i + 1) found
+      → collect resultForm nameCount longestTerm x (getD cs i blocked ∷ []) (after i found) ≡ after (i + 1) found
   next i h found =
       sym (collect-++ nameCount longestTerm x (take i cs) (getD cs i blocked ∷ []) found)
-      ∙ ap (λ ds. collect nameCount longestTerm x ds found) (sym (take-suc cs i blocked h) ∙ ap (λ k. take k cs) (sym (add-one i)))
+      ∙ ap (λ ds. collect resultForm nameCount longestTerm x ds found) (sym (take-suc cs i blocked h) ∙ ap (λ k. take k cs) (sym (add-one i)))
 
   pub progress-step : (i n m : ℕ) (area area′ : List ℕ) → i < length cs → Progresses i n area → PutIs (getD cs i blocked) x area n m area′
       → m ≤ mostSteps → Progresses (i + 1) m area′
@@ -169,16 +170,16 @@ module _ (cs : List Candidate) (x : ℕ) (area₀ : List ℕ) (count₀ : ℕ) w
   pub progress-done : (i n : ℕ) (area : List ℕ) → length cs ≤ i → n ≤ mostSteps → Progresses i n area → CollectIs cs x area₀ count₀ n area
   unfolding CollectIs
   progress-done i n area h k p found s =
-      let e : after i found ≡ collect nameCount longestTerm x cs found = ap (λ ds. collect nameCount longestTerm x ds found) (take-all i cs h) in
+      let e : after i found ≡ collect resultForm nameCount longestTerm x cs found = ap (λ ds. collect resultForm nameCount longestTerm x ds found) (take-all i cs h) in
       subst (λ l. Found l n area) e (record { stands = λ _. p found s; passed = λ l. absurd (omega arith) })
 
   pub progress-passed : (i n m : ℕ) (area area′ : List ℕ) → i < length cs → Progresses i n area → PutIs (getD cs i blocked) x area n m area′
       → mostSteps < m → CollectIs cs x area₀ count₀ m area′
   unfolding CollectIs PutIs
   progress-passed i n m area area′ h p u k found s =
-      let e : collect nameCount longestTerm x (getD cs i blocked ∷ drop (suc i) cs) (after i found) ≡ collect nameCount longestTerm x cs found =
+      let e : collect resultForm nameCount longestTerm x (getD cs i blocked ∷ drop (suc i) cs) (after i found) ≡ collect resultForm nameCount longestTerm x cs found =
       sym (collect-++ nameCount longestTerm x (take i cs) (getD cs i blocked ∷ drop (suc i) cs) found)
-      ∙ ap (λ ds. collect nameCount longestTerm x ds found) (sym (split-at cs i blocked h)) in
+      ∙ ap (λ ds. collect resultForm nameCount longestTerm x ds found) (sym (split-at cs i blocked h)) in
       record {
         stands = λ l. absurd (omega arith);
         passed = λ _. subst (λ l. limited longestTerm mostSteps l ≡ unsettled) e (u (after i found) (p found s) .passed k (drop (suc i) cs));
@@ -193,13 +194,13 @@ module _ (cs ds : List Candidate) (x : ℕ) (area : List ℕ) (count m : ℕ) (a
   pub collect-then : m ≤ mostSteps → (r : ℕ) (area₂ : List ℕ) → CollectIs ds x area₁ m r area₂ → CollectIs (cs ++ ds) x area count r area₂
   unfolding CollectIs
   collect-then h r area₂ second found s =
-      let f : List ListedStep = collect nameCount longestTerm x cs found in
+      let f : List ListedStep = collect resultForm nameCount longestTerm x cs found in
       subst (λ l. Found l r area₂) (sym (collect-++ nameCount longestTerm x cs ds found)) (second f (first found s .stands h))
 
   pub collect-over : mostSteps < m → CollectIs (cs ++ ds) x area count m area₁
   unfolding CollectIs
   collect-over h found s =
-      let f : List ListedStep = collect nameCount longestTerm x cs found in
+      let f : List ListedStep = collect resultForm nameCount longestTerm x cs found in
       subst (λ l. Found l m area₁) (sym (collect-++ nameCount longestTerm x cs ds found))
       (record {
         stands = λ l. absurd (omega arith);

@@ -13,6 +13,7 @@ use Rattle.calculus.specs.Cond.{Cond, mapP, Unif, cls, _▷_, canonical}
 use Rattle.calculus.specs.Term.{Term, ren, _•_}
 use Rattle.calculus.proofs.Canonical.{canonical-~, canonical-cls, canonical-same}
 use Rattle.calculus.proofs.Conditions.{_~_, E2, ▷-all, ~-sym, mapP-~, Unif-++, Unif-left, Unif-right}
+use Rattle.steps.specs.Forms.{resultForm}
 use Rattle.steps.specs.Lists.{_∈_, Among}
 use Rattle.steps.specs.Raw.{Candidate, step, blocked, matching, leftSteps, rightSteps, meet, communication, spares, sparesRestricted, outside, restrictedAction, restricted}
 use Rattle.steps.proofs.Membership.{∈-left, ∈-right, ∈-either, ∈-map}
@@ -359,7 +360,7 @@ module _ (K : List Frame) (d : ℕ) (level : restrictions K ≡ d) (s t : Candid
   met-blocked e = outside-blocked (raised K (communication s t)) (decided-met ∙ ap (decided 0) e)
 
 -- Steps with the same classes are listed alike.
-pub like-listed : (names x : ℕ) (M N : Cond) → cls M ≡ cls N → (α : Act) (A : Term) → canonStep names x M α A ≡ canonStep names x N α A
+pub like-listed : (names x : ℕ) (M N : Cond) → cls M ≡ cls N → (α : Act) (A : Term) → canonStep resultForm names x M α A ≡ canonStep resultForm names x N α A
 unfolding canonStep listedAs classesOf kindOf channelOf objectOf
 like-listed names x M N e tauA A = λ i. record { classes = map (e i) (namesFrom 0 names); kind = 0; channel = 0; object = 0; result = ren (e i) A }
 like-listed names x M N e (inpA a) A = λ i. record { classes = map (e i) (namesFrom 0 names); kind = 1; channel = e i a; object = x; result = ren (x • e i) A }

@@ -16,10 +16,12 @@ use Rattle.terms.specs.Encoding.{encode, InScope}
 use Rattle.terms.specs.Limits.{nameCount, longestTerm}
 use Rattle.terms.proofs.RenamingKeeps.{length-ren}
 use Rattle.terms_bytes.proofs.Stores.{sets-start}
+use Rattle.steps_plans.proofs.ResultLaws.{written-of}
 use Rattle.steps_tallies.specs.Bodies.{AritiesIs}
 use Rattle.terms.specs.Question.{bodyOf}
 use Rattle.steps_conditions.specs.Names.{OwnNames}
 use Rattle.steps_tallies.specs.Candidates.{candidates}
+use Rattle.steps.specs.Forms.{resultForm}
 use Rattle.steps.specs.Raw.{step}
 use Rattle.steps_plans.specs.Plans.{receiving, Written}
 use Rattle.steps_results.proofs.SilentSteps.{silent-action}
@@ -57,7 +59,7 @@ module _ (class : List ℕ) (action : ActionBytes) (result : List ℕ) (n : ℕ)
   put-result-long long area′ = record {
     is = λ out x M α A size w classes acts found s.
         put-long area x count found s M α A
-        (over (length (resultBytes (canonStep nameCount x M α A))) (λ k. w .fits (omega arith) .0)) area′;
+        (over (length (resultBytes (canonStep resultForm nameCount x M α A))) (λ k. w .fits (omega arith) .0)) area′;
   }
     where
       over : (b : ℕ) → (b ≤ longestTerm → n ≡ 0 + b) → longestTerm < b
@@ -72,7 +74,7 @@ module _ (class : List ℕ) (action : ActionBytes) (result : List ℕ) (n : ℕ)
   unfolding PutIs
   put-result-inserted short many entry made r area′ inserted = record {
     is = λ out x M α A size w classes acts found s.
-        let bs : List ℕ = resultBytes (canonStep nameCount x M α A) in
+        let bs : List ℕ = resultBytes (canonStep resultForm nameCount x M α A) in
         let fit : length bs ≤ longestTerm = within (length bs) (λ k. omega (arith, w .over (omega arith))) in
         let f = w .fits (omega arith) in
         let t : take n result ≡ bs = ap (take n) (f .1) ∙ take-sets out bs n (omega (arith, f .0)) (omega arith) in
@@ -94,7 +96,11 @@ pub classed-put : (question part : List ℕ) (silently : Bool) (i : ℕ) (class 
 unfolding ResultIs
 classed-put question part silently i class action x area count r area′ out result n size w p = record {
   is = λ q P l M α A e classes acts.
-      p .is out x M α A size (rw (receiving-canonical x M α A) (w q P l M α A e (cls M) (λ k h. (classes k h, omega (arith, cls-le M k))))) classes acts;
+      let B : List ℕ = encode 0 (ren (receiving x (cls M) α) A) in
+      p .is out x M α A size
+      (rw (receiving-canonical x M α A)
+      (written-of 0 A out 0 B n result (omega arith) (length-ren 0 0 (receiving x (cls M) α) A)
+      (λ low shallow. w low q P l M α A e (cls M) (λ k h. (classes k h, omega (arith, cls-le M k))) (λ t. let k = shallow t in omega arith)))) classes acts;
 }
 
 -- A silent step whose result was written with its own names.
@@ -107,7 +113,9 @@ classed-merged question part true quiet i class action x area count r area′ ou
       let t : α ≡ tauA = silent-action (bodyOf (q .bodies)) 1 P i M α A e in
       let e₁ = e ∙ ap (λ (α : Act). step M α A) t in
       let w₁ : Written out 0 (encode 0 A) n result =
-      subst (λ (B : Term). Written out 0 (encode 0 B) n result) (ren-id A) (w q P l M tauA A e₁ (λ k. k) (λ k h. (owns k (omega arith), h))) in
+      subst (λ (B : Term). Written out 0 (encode 0 B) n result) (ren-id A)
+      (written-of 0 A out 0 (encode 0 (ren (λ k. k) A)) n result (omega arith) (length-ren 0 0 (λ k. k) A)
+      (λ low shallow. w low q P l M tauA A e₁ (λ k. k) (λ k h. (owns k (omega arith), h)) (λ t. let k = shallow t in omega arith))) in
       subst (λ (α : Act). PutIs (step M α A) x area count r area′) (sym t)
       (p .is q out x M A (l .accepted) size classes (silent-scope question q P (l .accepted) (l .scope) i M A e₁) w₁);
 }
@@ -152,7 +160,7 @@ module _ (question part : List ℕ) (left right : Located) (new : ℕ) (class ar
   unfolding receiving stepAction
   met-put p = record {
     is = λ q x M A ok c scope H.
-        let e : resultBytes (canonStep nameCount x M tauA A) ≡ encode 0 A = trivial-result x M tauA A (c .trivial refl) ∙ ap (encode 0) (ren-id A) in
+        let e : resultBytes (canonStep resultForm nameCount x M tauA A) ≡ encode 0 A = trivial-result x M tauA A (c .trivial refl) ∙ ap (encode 0) (ren-id A) in
         p .is out x M tauA A size (rw e (w .is q (encode 0 A) ok H)) (c .classes) refl;
   }
 

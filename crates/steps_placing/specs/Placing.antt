@@ -9,6 +9,7 @@ use Rattle.calculus.specs.Cond.{Cond, cls}
 use Rattle.calculus.specs.Term.{Term, out}
 use Rattle.terms.specs.Limits.{nameCount, longestTerm}
 use Rattle.terms.specs.Question.{Question}
+use Rattle.steps.specs.Forms.{resultForm}
 use Rattle.steps.specs.Raw.{step, blocked}
 use Rattle.steps_plans.specs.Plans.{Written}
 use Rattle.steps_splicing.specs.Collecting.{PutIs}
@@ -24,7 +25,7 @@ use Rattle.steps_entries.specs.StepActions.{stepAction}
 -- A step put into the list, from the classes of its condition, the bytes of its action and those that were written for its result.
 pub record PutResultIs (class : List ℕ) (action : ActionBytes) (result : List ℕ) (n : ℕ) (area : List ℕ) (count r : ℕ) (area′ : List ℕ) : Type 0 where
   pub is : (out : List ℕ) (x : ℕ) (M : Cond) (α : Act) (A : Term) → length out ≡ longestTerm
-      → Written out 0 (resultBytes (canonStep nameCount x M α A)) n result
+      → Written out 0 (resultBytes (canonStep resultForm nameCount x M α A)) n result
       → ((n : ℕ) → n < nameCount → getD class n 0 ≡ cls M n) → action ≡ stepAction x M α
       → PutIs (step M α A) x area count r area′
 

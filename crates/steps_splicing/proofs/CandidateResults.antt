@@ -7,11 +7,12 @@ use Rattle.calculus.specs.Term.{Term, ren}
 use Rattle.terms.specs.Encoding.{encode}
 use Rattle.terms.specs.Limits.{nameCount}
 use Rattle.steps_plans.specs.Plans.{receiving}
+use Rattle.steps.specs.Forms.{resultForm}
 use Rattle.steps.specs.Listed.{listedAs, canonStep, resultBytes}
 
 -- The result that the writer writes by this table is that in canonical form.
 pub receiving-canonical : (x : ℕ) (M : Cond) (α : Act) (A : Term)
-    → resultBytes (canonStep nameCount x M α A) ≡ encode 0 (ren (receiving x (cls M) α) A)
+    → resultBytes (canonStep resultForm nameCount x M α A) ≡ encode 0 (ren (receiving x (cls M) α) A)
 unfolding resultBytes canonStep listedAs receiving
 receiving-canonical x M tauA A = refl
 receiving-canonical x M (inpA a) A = refl

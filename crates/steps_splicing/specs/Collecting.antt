@@ -4,6 +4,7 @@ use mathlib.Core.Path.{_≡_}
 use Prim.Native.Nat.{ℕ, _<_, _≤_}
 use lib.ListN.{length}
 use Rattle.terms.specs.Limits.{nameCount, longestTerm}
+use Rattle.steps.specs.Forms.{resultForm}
 use Rattle.steps.specs.Lists.{All}
 use Rattle.steps.specs.Raw.{Candidate}
 use Rattle.steps.specs.Derived.{Ascending}
@@ -29,8 +30,8 @@ pub record Found (found : List ListedStep) (r : ℕ) (area′ : List ℕ) : Type
 -- One candidate c put into the list found, for the new name x. An answer above the limit says that a limit is passed,
 -- whatever comes after it.
 pub record PutInto (c : Candidate) (x r : ℕ) (area′ : List ℕ) (found : List ListedStep) : Type 0 where
-  pub stands : r ≤ mostSteps → Stands area′ r (collect nameCount longestTerm x (c ∷ []) found)
-  pub passed : mostSteps < r → (cs : List Candidate) → limited longestTerm mostSteps (collect nameCount longestTerm x (c ∷ cs) found) ≡ unsettled
+  pub stands : r ≤ mostSteps → Stands area′ r (collect resultForm nameCount longestTerm x (c ∷ []) found)
+  pub passed : mostSteps < r → (cs : List Candidate) → limited longestTerm mostSteps (collect resultForm nameCount longestTerm x (c ∷ cs) found) ≡ unsettled
 
 unfoldable pub PutIs : Candidate → ℕ → List ℕ → ℕ → ℕ → List ℕ → Type 0
 PutIs c x area count r area′ = (found : List ListedStep) → Stands area count found → PutInto c x r area′ found
@@ -38,4 +39,4 @@ PutIs c x area count r area′ = (found : List ListedStep) → Stands area count
 -- The candidates cs put into the list that stands in the area, for the new name x.
 unfoldable pub CollectIs : List Candidate → ℕ → List ℕ → ℕ → ℕ → List ℕ → Type 0
 CollectIs cs x area count r area′ =
-    (found : List ListedStep) → Stands area count found → Found (collect nameCount longestTerm x cs found) r area′
+    (found : List ListedStep) → Stands area count found → Found (collect resultForm nameCount longestTerm x cs found) r area′

@@ -11,6 +11,7 @@ use Rattle.terms.specs.Limits.{nameCount}
 use Rattle.terms.specs.Question.{Question}
 use Rattle.terms.specs.Question.{bodyOf}
 use Rattle.steps_tallies.specs.Candidates.{candidates}
+use Rattle.steps.specs.Forms.{resultForm}
 use Rattle.steps.specs.Raw.{step, blocked}
 use Rattle.steps_plans.specs.Plans.{Written}
 use Rattle.steps_splicing.specs.Contexts.{Frame, raised, Placed}
@@ -46,4 +47,4 @@ pub record PlacedResultIs (question part : List ℕ) (at depth : ℕ) (silently 
   pub is : (q : Question) (P : Term) → Lists question part x q P
       → (K : List Frame) (C : Term) (first number : ℕ) (M : Cond) (α : Act) (A : Term)
       → Raises q P K C at depth first number silently j M α A → Trivial M
-      → Written area 0 (resultBytes (canonStep nameCount x M α A)) r area′
+      → Written area 0 (resultBytes (canonStep resultForm nameCount x M α A)) r area′

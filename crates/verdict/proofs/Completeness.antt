@@ -13,8 +13,9 @@ use Rattle.calculus.specs.Published.{boundNames}
 use Rattle.calculus.specs.OpenBisimulation.{update, Related}
 use Rattle.calculus.proofs.Distinctions.{apart-at}
 use Rattle.calculus.proofs.PublishedBisimulation.{AwayFrom, bound-ren}
-use Rattle.calculus.proofs.Theorems.{related-sym, related-answered}
+use Rattle.calculus.proofs.Theorems.{related-sym, related-trans, related-answered}
 use Rattle.steps.specs.Lists.{_∈_}
+use Rattle.steps.proofs.FormLaws.{Form, form-related}
 use Rattle.field.specs.Setting.{Setting}
 use Rattle.field.specs.Situation.{Situation, situation}
 use Rattle.field.specs.Exploration.{Row}
@@ -51,7 +52,8 @@ module _ (Δ : Defs) (S : Setting) where
         related = o .related;
       }
 
-module _ (Δ : Defs) (S : Setting) (arities : List ℕ) (rs : List Row) (field : FieldRows Δ S arities rs) (merging : S .differ ≡ false) where
+module _ (Δ : Defs) (S : Setting) (formed : Form (S .form)) (arities : List ℕ) (rs : List Row) (field : FieldRows Δ S arities rs)
+    (merging : S .differ ≡ false) where
   abbrev RelatedIn : Situation → Type 1
   RelatedIn s = Related Δ (s .apart) (s .first) (s .second)
 
@@ -59,15 +61,18 @@ module _ (Δ : Defs) (S : Setting) (arities : List ℕ) (rs : List Row) (field :
     away : AwayFrom (fresh Δ S (r .self)) (r .self .first) (r .self .second) (r .self .apart)
     away = new-away (S .names) arities (r .self) (field .proper (r .self) (self-in r rs row))
 
-    -- related parts in a list of the row, and their distinction: the situation cut from it is related, and a row of the field
-    related-member : (w : List Situation) → w ∈ r .wants → (P Q : Term) (D : Pairs) → Related Δ D P Q → situation (S .names) P Q D ∈ w
-        → Some (λ s. RelatedIn s × (s ∈ selves rs)) w
+    -- related parts, whose forms are in a list of the row, and their distinction: the situation cut from it is related, and a row of the field
+    related-member : (w : List Situation) → w ∈ r .wants → (P Q : Term) (D : Pairs) → Related Δ D P Q
+        → situation (S .names) (S .form P) (S .form Q) D ∈ w → Some (λ s. RelatedIn s × (s ∈ selves rs)) w
     unfolding situation
     related-member w i P Q D h k =
-        let s : Situation = situation (S .names) P Q D in
+        let A = S .form P in
+        let B = S .form Q in
+        let s : Situation = situation (S .names) A B D in
         let j = field .closed r row w i s k in
         let p = field .proper s j in
-        record { there = s; member = k; holds = (related-situation (S .names) P Q (either-below (S .names) arities P Q (p .first) (p .second)) D (h .distinction) Δ .0 h, j) }
+        let l : Related Δ D A B = related-trans Δ (related-sym Δ (form-related formed Δ D (h .distinction) P)) (related-trans Δ h (form-related formed Δ D (h .distinction) Q)) in
+        record { there = s; member = k; holds = (related-situation (S .names) A B (either-below (S .names) arities A B (p .first) (p .second)) D (h .distinction) Δ .0 l, j) }
 
     some : (w : List Situation) → w ∈ r .wants → ListOfSome Δ S (r .self) w → Some (λ s. RelatedIn s × (s ∈ selves rs)) w
     some w i (of-first m l) =

@@ -1,5 +1,5 @@
 -- What `decided` says of an explored field, against the limits of document 01 and Definition 13. Assumes nothing.
-use mathlib.Core.Path.{_≡_, refl, sym, _∙_, ap}
+use mathlib.Core.Path.{_≡_, refl, sym, _∙_, ap, subst}
 use mathlib.Core.Bool.{Bool, true, false, cond}
 use mathlib.Core.List.{List}
 use mathlib.Core.Logic.{_⊎_, inl, inr, _↔_}
@@ -8,6 +8,7 @@ use native.Mathlib.Omega.{arith}
 use lib.ListN.{length, length-map}
 use Rattle.calculus.specs.Definitions.{Defs}
 use Rattle.calculus.specs.OpenBisimulation.{Related}
+use Rattle.calculus.specs.Term.{Term}
 use Rattle.steps.specs.Lists.{_∈_, Distinct}
 use Rattle.field.specs.Setting.{Setting}
 use Rattle.field.specs.Situation.{Situation}
@@ -124,17 +125,20 @@ module _ (Δ : Defs) (S : Setting) (arities : List ℕ) (setting : SettingFor Δ
     abbrev demands : Row → List (List (List Situation))
     demands = demandsOf openly S
 
-    pub decided-same : (n : ℕ) → decided demands start (fieldOf S capacity start) ≡ same n → Related Δ (start .apart) (start .first) (start .second)
-    decided-same n e =
+    -- terms whose forms are the parts of the start
+    pub decided-same : (n : ℕ) → decided demands start (fieldOf S capacity start) ≡ same n → (P Q : Term) → start .first ≡ S .form P → start .second ≡ S .form Q
+        → Related Δ (start .apart) P Q
+    decided-same n e P Q p q =
         let s = of-same demands start (fieldOf S capacity start) n e in
         let f = field-of (s .rows) (s .found-rows) in
-        survivor-related Δ S few arities (s .rows) f merging start
-        (found-survives demands (Proper (S .names) arities) (same-equal (S .names) few arities) (s .rows) (good-rows f) start proper (s .survives))
+        survivor-related Δ S (setting .formed) few arities (s .rows) f merging P Q (start .apart)
+        (subst (λ t. t ∈ selves (survivors demands (s .rows))) (λ i. record { first = p i; second = q i; apart = start .apart })
+        (found-survives demands (Proper (S .names) arities) (same-equal (S .names) few arities) (s .rows) (good-rows f) start proper (s .survives)))
 
     pub decided-different : (n : ℕ) → decided demands start (fieldOf S capacity start) ≡ different n → ¬ Related Δ (start .apart) (start .first) (start .second)
     decided-different n e r =
         let s = of-different demands start (fieldOf S capacity start) n e in
         let rows = explored-rows Δ S arities setting start proper capacity (s .rows) (s .found-rows) in
-        let k = related-survives Δ S arities (s .rows) (field-of (s .rows) (s .found-rows)) merging start (rows .reached start .1 at-start) r in
+        let k = related-survives Δ S (setting .formed) arities (s .rows) (field-of (s .rows) (s .found-rows)) merging start (rows .reached start .1 at-start) r in
         let z : _≡_ {A = ℕ} 0 1 = cc (∈-found (selves (survivors demands (s .rows))) start k, s .survives) in
         omega arith

@@ -5,6 +5,7 @@ pub mod DecidedField
 pub mod EditionsAlike
 pub mod EntriesKeep
 pub mod FieldRows
+pub mod FormedBisimilar
 pub mod InsideVerdict
 pub mod JudgeIsDefinition13
 pub mod ListOfEntries
@@ -16,6 +17,7 @@ pub mod OutcomeLaws
 pub mod RearrangedVerdict
 pub mod RelatedVerdicts
 pub mod Rounds
+pub mod SettledKept
 pub mod SmallOutcomes
 pub mod Soundness
 pub mod VerdictIsDefinition13

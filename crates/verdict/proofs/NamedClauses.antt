@@ -20,6 +20,7 @@ use Rattle.terms.specs.Encoding.{InScope}
 use Rattle.steps.specs.Lists.{_∈_}
 use Rattle.steps.proofs.Membership.{∈-map}
 use Rattle.steps.specs.Derived.{Derived}
+use Rattle.steps.proofs.FormLaws.{Form}
 use Rattle.steps.specs.Listed.{ListedStep, kindOf, objectOf, listedAs}
 use Rattle.field.specs.Setting.{Setting}
 use Rattle.field.specs.Situation.{Situation}
@@ -31,14 +32,21 @@ use Rattle.verdict.specs.Received.{lots, demandOf, namedMoves}
 use Rattle.verdict.proofs.NamedDemands.{of-demands, in-demands, of-demand, in-demand}
 use Rattle.verdict.proofs.Rounds.{Met}
 
-module _ (Δ : Defs) (S : Setting) (arities : List ℕ) (x : ℕ) (P Q : Term) (scope : InScope (S .names) arities 0 P) (scope′ : InScope (S .names) arities 0 Q)
+module _ (Δ : Defs) (S : Setting) (formed : Form (S .form)) (arities : List ℕ) (x : ℕ) (P Q : Term) (scope : InScope (S .names) arities 0 P) (scope′ : InScope (S .names) arities 0 Q)
     (new : ¬ Free x P) (new′ : ¬ Free x Q) (ps qs : List ListedStep)
-    (lists : (s : ListedStep) → (s ∈ ps) ↔ Derived Δ (S .names) x P s) (lists′ : (s : ListedStep) → (s ∈ qs) ↔ Derived Δ (S .names) x Q s)
+    (lists : (s : ListedStep) → (s ∈ ps) ↔ Derived (S .form) Δ (S .names) x P s) (lists′ : (s : ListedStep) → (s ∈ qs) ↔ Derived (S .form) Δ (S .names) x Q s)
     (make : Term → Term → Pairs → Situation) (F : List ℕ) (D : Pairs)
     (offers : (a : ℕ) (R : Term) → listedAs (S .names) [] (input a x) R ∈ ps → (y : ℕ) → Offered Δ P Q x y
     → y ∈ received true (S .names) F (listedAs (S .names) [] (input a x) R)) where
   abbrev step : Action → Term → ListedStep
-  step α R = listedAs (S .names) [] α R
+  step α R = listedAs (S .names) [] α (S .form R)
+
+  -- where a step by α and its answer lead, with the name y received
+  abbrev received-at : Action → ℕ → Term → Term → Situation
+  received-at α y A B = make (S .form (ren (put (objectOf α) y) A)) (S .form (ren (put (objectOf α) y) B)) []
+
+  rewritten : (α : Action) (y : ℕ) (A B : Term) → make (ren (put (objectOf α) y) (S .form A)) (ren (put (objectOf α) y) (S .form B)) [] ≡ received-at α y A B
+  rewritten α y A B = λ i. make (sym (formed .renamed (put (objectOf α) y) A) i) (sym (formed .renamed (put (objectOf α) y) B) i) []
 
   abbrev BindsNew : Action → Type 0
   BindsNew α = (y : ℕ) → In y (boundNames α) → y ≡ x
@@ -58,7 +66,7 @@ module _ (Δ : Defs) (S : Setting) (arities : List ℕ) (x : ℕ) (P Q : Term) (
     record Answer (α : Action) (R : Term) (ys : List ℕ) : Type 0 where
       result : Term
       transition : Concrete Δ Q α result
-      all : (y : ℕ) → y ∈ ys → L (make (ren (put (objectOf α) y) R) (ren (put (objectOf α) y) result) [])
+      all : (y : ℕ) → y ∈ ys → L (received-at α y R result)
 
     demand-met : (α : Action) (R : Term) → Concrete Δ P α R → BindsNew α → (ys : List ℕ) → ys ∈ lots k (received true (S .names) F (step α R)) → Answer α R ys
     unfolding led listedAs
@@ -71,9 +79,10 @@ module _ (Δ : Defs) (S : Setting) (arities : List ℕ) (x : ℕ) (P Q : Term) (
           result = c .result;
           transition = c .transition;
           all = λ y h.
-              m .all (led true make F D s (step α (c .result)) y)
+              subst L (rewritten α y R (c .result))
+              (m .all (led true make F D s (step α (c .result)) y)
               (subst (λ l. led true make F D s (step α (c .result)) y ∈ l) (sym (u .is ∙ ap (λ v. map (led true make F D s v) ys) (c .is)))
-              (∈-map (led true make F D s (step α (c .result))) y ys h));
+              (∈-map (led true make F D s (step α (c .result))) y ys h)));
         }
 
   binds-input : (a : ℕ) → BindsNew (input a x)
@@ -81,15 +90,15 @@ module _ (Δ : Defs) (S : Setting) (arities : List ℕ) (x : ℕ) (P Q : Term) (
 
   -- Clause (i)
   pub found-input : (k : Kind) (L : Situation → Type 0) → AllMet k L → (a : ℕ) (P′ : Term) → Concrete Δ P (input a x) P′
-      → Found Δ k (λ A B. L (make A B [])) a x P P′ Q
+      → Found Δ k (λ A B. L (make (S .form A) (S .form B) [])) a x P P′ Q
   unfolding lots objectOf
   found-input late L met a P′ t =
       let r = demand-met late L met (input a x) P′ t (binds-input a) (received true (S .names) F (step (input a x) P′)) (inl refl) in
-      record { result = r .result; transition = r .transition; related = λ y o. r .all y (offers a P′ (listed (input a x) P′ t (binds-input a)) y o) }
+      record { result = r .result; transition = r .transition; related = λ y o. r .all y (offers a (S .form P′) (listed (input a x) P′ t (binds-input a)) y o) }
   found-input early L met a P′ t =
       λ y o.
       let r = demand-met early L met (input a x) P′ t (binds-input a) (y ∷ [])
-      (∈-map (λ y. y ∷ []) y (received true (S .names) F (step (input a x) P′)) (offers a P′ (listed (input a x) P′ t (binds-input a)) y o)) in
+      (∈-map (λ y. y ∷ []) y (received true (S .names) F (step (input a x) P′)) (offers a (S .form P′) (listed (input a x) P′ t (binds-input a)) y o)) in
       record { result = r .result; transition = r .transition; related = r .all y (inl refl) }
 
   -- Clause (ii)
@@ -99,17 +108,17 @@ module _ (Δ : Defs) (S : Setting) (arities : List ℕ) (x : ℕ) (P Q : Term) (
   one-lot early y = inl refl
 
   found-other : (k : Kind) (L : Situation → Type 0) → AllMet k L → (α : Action) (P′ : Term) → Concrete Δ P α P′ → BindsNew α
-      → (objectOf α ∷ []) ∈ lots k (received true (S .names) F (step α P′)) → AnsweredAs Δ (λ A B. L (make A B [])) α P′ Q
+      → (objectOf α ∷ []) ∈ lots k (received true (S .names) F (step α P′)) → AnsweredAs Δ (λ A B. L (make (S .form A) (S .form B) [])) α P′ Q
   found-other k L met α P′ t b i =
       let r = demand-met k L met α P′ t b (objectOf α ∷ []) i in
       record {
         result = r .result;
         transition = r .transition;
-        related = subst₂ (λ A B. L (make A B [])) (put-same (objectOf α) P′) (put-same (objectOf α) (r .result)) (r .all (objectOf α) (inl refl));
+        related = subst₂ (λ A B. L (make (S .form A) (S .form B) [])) (put-same (objectOf α) P′) (put-same (objectOf α) (r .result)) (r .all (objectOf α) (inl refl));
       }
 
   pub found-answer : (k : Kind) (L : Situation → Type 0) → AllMet k L → (α : Act) → ((a : ℕ) → α ≢ inpA a) → (P′ : Term) → Concrete Δ P (named x α) P′
-      → AnsweredAs Δ (λ A B. L (make A B [])) (named x α) P′ Q
+      → AnsweredAs Δ (λ A B. L (make (S .form A) (S .form B) [])) (named x α) P′ Q
   unfolding received listedAs kindOf objectOf
   found-answer k L met tauA h P′ t = found-other k L met silent P′ t (λ y i. absurd i) (one-lot k 0)
   found-answer k L met (inpA a) h P′ t = absurd (h a refl)
@@ -120,7 +129,7 @@ module _ (Δ : Defs) (S : Setting) (arities : List ℕ) (x : ℕ) (P Q : Term) (
       binds-new a y (inl e) = e
 
   -- Bisimilar parts meet each demand.
-  module _ (k : Kind) (L : Situation → Type 1) (intro : (A B : Term) → Bisimilar Δ k A B → L (make A B [])) where
+  module _ (k : Kind) (L : Situation → Type 1) (intro : (A B : Term) → Bisimilar Δ k A B → L (make (S .form A) (S .form B) [])) where
     meets-by : (α : Action) (R T : Term) → Concrete Δ Q α T → BindsNew α → (ys : List ℕ)
         → ((y : ℕ) → y ∈ ys → Bisimilar Δ k (ren (put (objectOf α) y) R) (ren (put (objectOf α) y) T)) → Met L (demandOf (S .names) make F D qs (step α R) ys)
     unfolding led listedAs
@@ -130,7 +139,7 @@ module _ (Δ : Defs) (S : Setting) (arities : List ℕ) (x : ℕ) (P Q : Term) (
           (answer-listed Δ S arities x P Q scope scope′ new new′ ps qs lists lists′ α T t b)
           (answers-own Δ S arities x P Q scope scope′ new new′ ps qs lists lists′ α R T);
       all = λ u i. let (y, j, e) = map-∈ (led true make F D (step α R) (step α T)) u ys i in
-          subst L (sym e) (intro (ren (put (objectOf α) y) R) (ren (put (objectOf α) y) T) (h y j));
+          subst L (sym (e ∙ rewritten α y R T)) (intro (ren (put (objectOf α) y) R) (ren (put (objectOf α) y) T) (h y j));
     }
 
     meets-other : Bisimilar Δ k P Q → (α : Action) (R : Term) → Concrete Δ P α R → BindsNew α → ((a y : ℕ) → α ≢ input a y) → (ys : List ℕ) → ys ≡ objectOf α ∷ []
@@ -156,7 +165,7 @@ module _ (Δ : Defs) (S : Setting) (arities : List ℕ) (x : ℕ) (P Q : Term) (
   only-lot late z ys (inl e) = e
   only-lot early z ys (inl e) = e
 
-  meets-input : (k : Kind) (L : Situation → Type 1) → ((A B : Term) → Bisimilar Δ k A B → L (make A B [])) → Bisimilar Δ k P Q
+  meets-input : (k : Kind) (L : Situation → Type 1) → ((A B : Term) → Bisimilar Δ k A B → L (make (S .form A) (S .form B) [])) → Bisimilar Δ k P Q
       → (a : ℕ) (R : Term) → Concrete Δ P (input a x) R → (ys : List ℕ) → ys ∈ lots k (received true (S .names) F (step (input a x) R))
       → Met L (demandOf (S .names) make F D qs (step (input a x) R) ys)
   unfolding lots objectOf
@@ -177,7 +186,7 @@ module _ (Δ : Defs) (S : Setting) (arities : List ℕ) (x : ℕ) (P Q : Term) (
       one : (y : ℕ) (r : ReceivedAs Δ (b .by) a x y R Q) → (z : ℕ) → z ∈ (y ∷ []) → Bisimilar Δ early (ren (put x z) R) (ren (put x z) (r .result))
       one y r z (inl q) = record { by = b .by; bisimulation = b .bisimulation; relates = subst (λ z. b .by (ren (put x z) R) (ren (put x z) (r .result))) (sym q) (r .related) }
 
-  meets-at : (k : Kind) (L : Situation → Type 1) → ((A B : Term) → Bisimilar Δ k A B → L (make A B [])) → Bisimilar Δ k P Q
+  meets-at : (k : Kind) (L : Situation → Type 1) → ((A B : Term) → Bisimilar Δ k A B → L (make (S .form A) (S .form B) [])) → Bisimilar Δ k P Q
       → (α : Action) (R : Term) → Concrete Δ P α R → BindsNew α → (ys : List ℕ) → ys ∈ lots k (received true (S .names) F (step α R))
       → Met L (demandOf (S .names) make F D qs (step α R) ys)
   unfolding received listedAs kindOf objectOf
@@ -191,7 +200,7 @@ module _ (Δ : Defs) (S : Setting) (arities : List ℕ) (x : ℕ) (P Q : Term) (
   meets-at k L intro b (newOutput a y) R t n ys i =
       meets-other k L intro b (newOutput a y) R t n (λ a y e. let z : _≡_ {A = ℕ} 0 1 = cc in omega arith) ys (only-lot k y ys i)
 
-  pub bisimilar-meets : (k : Kind) (L : Situation → Type 1) → ((A B : Term) → Bisimilar Δ k A B → L (make A B [])) → Bisimilar Δ k P Q → AllMet k L
+  pub bisimilar-meets : (k : Kind) (L : Situation → Type 1) → ((A B : Term) → Bisimilar Δ k A B → L (make (S .form A) (S .form B) [])) → Bisimilar Δ k P Q → AllMet k L
   unfolding allowed
   bisimilar-meets k L intro b w i =
       let d = of-demands (S .names) make F D k ps qs w i in

@@ -8,7 +8,7 @@ use Prim.Native.Nat.{ℕ, _≤_, _<_}
 use native.Mathlib.Omega.{arith}
 use Rattle.calculus.specs.Abstraction.{Act, inpA}
 use Rattle.calculus.specs.Term.{Term}
-use Rattle.calculus.specs.Free.{In}
+use Rattle.calculus.specs.Free.{In, Free}
 use Rattle.calculus.specs.Cond.{Pairs}
 use Rattle.calculus.specs.Definitions.{Defs}
 use Rattle.calculus.specs.Published.{input}
@@ -21,6 +21,7 @@ use Rattle.late_early.proofs.ReceivedNames.{Offered, Found, FoundAnswers, found
 use Rattle.calculus.proofs.UpToRenaming.{Either}
 use Rattle.steps.specs.Lists.{_∈_}
 use Rattle.steps.specs.Listed.{ListedStep, kindOf, objectOf, listedAs}
+use Rattle.steps.proofs.FormLaws.{Form, form-free}
 use Rattle.steps.proofs.Membership.{∈-left, ∈-right}
 use Rattle.field.specs.Exploration.{Row}
 use Rattle.field.specs.Field.{fresh}
@@ -36,6 +37,7 @@ use Rattle.verdict.specs.Received.{namedDemands}
 use Rattle.verdict.specs.Verdict.{Manner, demandsOf}
 use Rattle.verdict.specs.Verdict.{named as byName}
 use Rattle.verdict.proofs.FieldRows.{FieldRows}
+use Rattle.verdict.proofs.FormedBisimilar.{bisimilar-formed, found-formed, answered-formed}
 use Rattle.verdict.proofs.NamedClauses.{found-input, found-answer, bisimilar-meets}
 use Rattle.verdict.proofs.NamedDemands.{firstDemands, secondDemands, demands-are, demanded-among}
 use Rattle.verdict.proofs.Rounds.{Met, of-selves, self-in, survivors, survivor-row, Closed, GoodRows, closed-survives, survivors-answer}
@@ -45,7 +47,7 @@ abbrev pub Alike : Defs → Kind → Situation → Type 1
 Alike Δ k t = Bisimilar Δ k (t .first) (t .second)
 
 -- A situation whose lists of steps are known.
-module _ (Δ : Defs) (S : Setting) (arities : List ℕ) (k : Kind) (s : Situation) (proper : Proper (S .names) arities s)
+module _ (Δ : Defs) (S : Setting) (formed : Form (S .form)) (arities : List ℕ) (k : Kind) (s : Situation) (proper : Proper (S .names) arities s)
     (ms : List (List Situation)) (l : ListedFor Δ S arities s ms) where
   abbrev x : ℕ
   x = fresh Δ S s
@@ -83,23 +85,29 @@ module _ (Δ : Defs) (S : Setting) (arities : List ℕ) (k : Kind) (s : Situatio
   offers-second a R i y o = receivable a R (l .receives (listedAs (S .names) [] (input a x) R) (inr i) refl) y (swapped y o)
 
   -- What its two sides answer within L.
+  abbrev First : (Situation → Type 0) → Binary
+  First L A B = L (firstMoves Δ S (S .form A) (S .form B) [])
+
+  abbrev Second : (Situation → Type 0) → Binary
+  Second L A B = L (secondMoves Δ S (S .form A) (S .form B) [])
+
   pub record Answering (L : Situation → Type 0) : Type 0 where
-    pub first-receives : (a : ℕ) (P′ : Term) → Concrete Δ (s .first) (input a x) P′ → Found Δ k (λ A B. L (firstMoves Δ S A B [])) a x (s .first) P′ (s .second)
+    pub first-receives : (a : ℕ) (P′ : Term) → Concrete Δ (s .first) (input a x) P′ → Found Δ k (First L) a x (s .first) P′ (s .second)
     pub first-does : (α : Act) → ((a : ℕ) → α ≢ inpA a) → (P′ : Term) → Concrete Δ (s .first) (named x α) P′
-        → AnsweredAs Δ (λ A B. L (firstMoves Δ S A B [])) (named x α) P′ (s .second)
-    pub second-receives : (a : ℕ) (P′ : Term) → Concrete Δ (s .second) (input a x) P′ → Found Δ k (λ A B. L (secondMoves Δ S A B [])) a x (s .second) P′ (s .first)
+        → AnsweredAs Δ (First L) (named x α) P′ (s .second)
+    pub second-receives : (a : ℕ) (P′ : Term) → Concrete Δ (s .second) (input a x) P′ → Found Δ k (Second L) a x (s .second) P′ (s .first)
     pub second-does : (α : Act) → ((a : ℕ) → α ≢ inpA a) → (P′ : Term) → Concrete Δ (s .second) (named x α) P′
-        → AnsweredAs Δ (λ A B. L (secondMoves Δ S A B [])) (named x α) P′ (s .first)
+        → AnsweredAs Δ (Second L) (named x α) P′ (s .first)
 
   pub met-answering : (L : Situation → Type 0) → ((w : List (List Situation)) → w ∈ namedDemands k S s → Met L w) → Answering L
   met-answering L met = record {
-    first-receives = found-input Δ S arities x (s .first) (s .second) (proper .first) (proper .second) (away .left) (away .right) (l .firsts) (l .seconds)
+    first-receives = found-input Δ S formed arities x (s .first) (s .second) (proper .first) (proper .second) (away .left) (away .right) (l .firsts) (l .seconds)
         (l .first-steps) (l .second-steps) (firstMoves Δ S) F (s .apart) offers-first k L one;
-    first-does = found-answer Δ S arities x (s .first) (s .second) (proper .first) (proper .second) (away .left) (away .right) (l .firsts) (l .seconds)
+    first-does = found-answer Δ S formed arities x (s .first) (s .second) (proper .first) (proper .second) (away .left) (away .right) (l .firsts) (l .seconds)
         (l .first-steps) (l .second-steps) (firstMoves Δ S) F (s .apart) offers-first k L one;
-    second-receives = found-input Δ S arities x (s .second) (s .first) (proper .second) (proper .first) (away .right) (away .left) (l .seconds) (l .firsts)
+    second-receives = found-input Δ S formed arities x (s .second) (s .first) (proper .second) (proper .first) (away .right) (away .left) (l .seconds) (l .firsts)
         (l .second-steps) (l .first-steps) (secondMoves Δ S) F (s .apart) offers-second k L other;
-    second-does = found-answer Δ S arities x (s .second) (s .first) (proper .second) (proper .first) (away .right) (away .left) (l .seconds) (l .firsts)
+    second-does = found-answer Δ S formed arities x (s .second) (s .first) (proper .second) (proper .first) (away .right) (away .left) (l .seconds) (l .firsts)
         (l .second-steps) (l .first-steps) (secondMoves Δ S) F (s .apart) offers-second k L other;
   }
     where
@@ -120,16 +128,19 @@ module _ (Δ : Defs) (S : Setting) (arities : List ℕ) (k : Kind) (s : Situatio
   unfolding situation
   alike-meets b w i = go (∈-either w (firstDemands Δ S arities s ms l k) (secondDemands Δ S arities s ms l k) (subst (λ ws. w ∈ ws) (demands-are Δ S arities s ms l k) i))
     where
+      of-forms : (A B : Term) → Bisimilar Δ k A B → Bisimilar Δ k (S .form A) (S .form B)
+      of-forms A B h = bisimilar-formed Δ formed h (S .form A) (S .form B) (sym (formed .again A)) (sym (formed .again B))
+
       go : (w ∈ firstDemands Δ S arities s ms l k) ⊎ (w ∈ secondDemands Δ S arities s ms l k) → Met (Alike Δ k) w
       go (inl j) =
-          bisimilar-meets Δ S arities x (s .first) (s .second) (proper .first) (proper .second) (away .left) (away .right) (l .firsts) (l .seconds)
-          (l .first-steps) (l .second-steps) (firstMoves Δ S) F (s .apart) offers-first k (Alike Δ k) (λ A B h. h) b w j
+          bisimilar-meets Δ S formed arities x (s .first) (s .second) (proper .first) (proper .second) (away .left) (away .right) (l .firsts) (l .seconds)
+          (l .first-steps) (l .second-steps) (firstMoves Δ S) F (s .apart) offers-first k (Alike Δ k) (λ A B h. of-forms A B h) b w j
       go (inr j) =
-          bisimilar-meets Δ S arities x (s .second) (s .first) (proper .second) (proper .first) (away .right) (away .left) (l .seconds) (l .firsts)
-          (l .second-steps) (l .first-steps) (secondMoves Δ S) F (s .apart) offers-second k (Alike Δ k) (λ A B h. bisimilar-sym Δ h) (bisimilar-sym Δ b) w j
+          bisimilar-meets Δ S formed arities x (s .second) (s .first) (proper .second) (proper .first) (away .right) (away .left) (l .seconds) (l .firsts)
+          (l .second-steps) (l .first-steps) (secondMoves Δ S) F (s .apart) offers-second k (Alike Δ k) (λ A B h. bisimilar-sym Δ (of-forms A B h)) (bisimilar-sym Δ b) w j
 
 -- The rows of a field.
-module _ (Δ : Defs) (S : Setting) (few : S .names ≤ 128) (arities : List ℕ) (k : Kind) (rs : List Row) (field : FieldRows Δ S arities rs) (naming : S .differ ≡ true) where
+module _ (Δ : Defs) (S : Setting) (formed : Form (S .form)) (few : S .names ≤ 128) (arities : List ℕ) (k : Kind) (rs : List Row) (field : FieldRows Δ S arities rs) (naming : S .differ ≡ true) where
   abbrev demands : Row → List (List (List Situation))
   demands = demandsOf (byName k) S
 
@@ -153,7 +164,7 @@ module _ (Δ : Defs) (S : Setting) (few : S .names ≤ 128) (arities : List ℕ)
   Left s = s ∈ selves (survivors demands rs)
 
   abbrev AnswersWithin : Situation → Type 0
-  AnswersWithin s = (p : Proper (S .names) arities s) (ms : List (List Situation)) (l : ListedFor Δ S arities s ms) → Answering Δ S arities k s p ms l Left
+  AnswersWithin s = (p : Proper (S .names) arities s) (ms : List (List Situation)) (l : ListedFor Δ S arities s ms) → Answering Δ S formed arities k s p ms l Left
 
   survivor-answers : (s : Situation) → Left s → AnswersWithin s
   unfolding demandsOf
@@ -161,14 +172,14 @@ module _ (Δ : Defs) (S : Setting) (few : S .names ≤ 128) (arities : List ℕ)
     where
       of-row : (r : Row) → r ∈ survivors demands rs → AnswersWithin (r .self)
       of-row r j p ms l =
-          met-answering Δ S arities k (r .self) p ms l Left
+          met-answering Δ S formed arities k (r .self) p ms l Left
           (survivors-answer demands (Proper (S .names) arities) (same-equal (S .names) few arities) rs named-rows r j .some)
 
   record Survivor (s : Situation) : Type 0 where
     proper : Proper (S .names) arities s
     wants : List (List Situation)
     lists : ListedFor Δ S arities s wants
-    answering : Answering Δ S arities k s proper wants lists Left
+    answering : Answering Δ S formed arities k s proper wants lists Left
 
   survivor : (s : Situation) → Left s → Survivor s
   survivor s i =
@@ -180,34 +191,59 @@ module _ (Δ : Defs) (S : Setting) (few : S .names ≤ 128) (arities : List ℕ)
       go p ms l = record { proper = p; wants = ms; lists = l; answering = survivor-answers s i p ms l }
 
   abbrev R : Binary
-  R P Q = Left (situation (S .names) P Q [])
+  R P Q = Left (situation (S .names) (S .form P) (S .form Q) [])
 
-  away-of : (s : Situation) → Left s → AwayFrom (fresh Δ S s) (s .first) (s .second) (s .apart)
-  away-of s i = new-away (S .names) arities s (survivor s i .proper)
+  -- the situation of their forms, and its new name
+  abbrev here : Term → Term → Situation
+  here P Q = situation (S .names) (S .form P) (S .form Q) []
+
+  abbrev name : Term → Term → ℕ
+  name P Q = fresh Δ S (here P Q)
+
+  away-of : (P Q : Term) → R P Q → AwayFrom (name P Q) (S .form P) (S .form Q) (here P Q .apart)
+  unfolding situation
+  away-of P Q i = new-away (S .names) arities (here P Q) (survivor (here P Q) i .proper)
+
+  left-new : (P Q : Term) → R P Q → ¬ Free (name P Q) P
+  left-new P Q i f = away-of P Q i .left (form-free formed (name P Q) P f)
+
+  right-new : (P Q : Term) → R P Q → ¬ Free (name P Q) Q
+  right-new P Q i f = away-of P Q i .right (form-free formed (name P Q) Q f)
+
+  abbrev Forms : Binary
+  Forms A B = Left (situation (S .names) A B [])
 
   forth : FoundAnswers Δ k R
   unfolding situation
   forth = record {
-    name = λ {P} {Q} i. fresh Δ S (situation (S .names) P Q []);
-    left = λ {P} {Q} i. away-of (situation (S .names) P Q []) i .left;
-    right = λ {P} {Q} i. away-of (situation (S .names) P Q []) i .right;
-    received = λ {P} {Q} i {a} {P′} t. survivor (situation (S .names) P Q []) i .answering .first-receives a P′ t;
-    answered = λ {P} {Q} i α h {P′} t. survivor (situation (S .names) P Q []) i .answering .first-does α h P′ t;
+    name = λ {P} {Q} i. name P Q;
+    left = λ {P} {Q} i. left-new P Q i;
+    right = λ {P} {Q} i. right-new P Q i;
+    received = λ {P} {Q} i {a} {P′} t.
+        found-formed Δ formed Forms P Q (name P Q) (left-new P Q i) (right-new P Q i) k a P′ t
+        (λ A u. survivor (here P Q) i .answering .first-receives a A u);
+    answered = λ {P} {Q} i α h {P′} t.
+        answered-formed Δ formed Forms P Q (name P Q) (left-new P Q i) (right-new P Q i) α P′ t
+        (λ A u. survivor (here P Q) i .answering .first-does α h A u);
   }
 
   -- P is the second part
   back : FoundAnswers Δ k (λ P Q. R Q P)
   unfolding situation
   back = record {
-    name = λ {P} {Q} i. fresh Δ S (situation (S .names) Q P []);
-    left = λ {P} {Q} i. away-of (situation (S .names) Q P []) i .right;
-    right = λ {P} {Q} i. away-of (situation (S .names) Q P []) i .left;
-    received = λ {P} {Q} i {a} {P′} t. survivor (situation (S .names) Q P []) i .answering .second-receives a P′ t;
-    answered = λ {P} {Q} i α h {P′} t. survivor (situation (S .names) Q P []) i .answering .second-does α h P′ t;
+    name = λ {P} {Q} i. name Q P;
+    left = λ {P} {Q} i. right-new Q P i;
+    right = λ {P} {Q} i. left-new Q P i;
+    received = λ {P} {Q} i {a} {P′} t.
+        found-formed Δ formed (λ A B. Forms B A) P Q (name Q P) (right-new Q P i) (left-new Q P i) k a P′ t
+        (λ A u. survivor (here Q P) i .answering .second-receives a A u);
+    answered = λ {P} {Q} i α h {P′} t.
+        answered-formed Δ formed (λ A B. Forms B A) P Q (name Q P) (right-new Q P i) (left-new Q P i) α P′ t
+        (λ A u. survivor (here Q P) i .answering .second-does α h A u);
   }
 
-  -- The parts of a survivor are bisimilar.
-  pub survivor-bisimilar : (P Q : Term) → situation (S .names) P Q [] ∈ selves (survivors (demandsOf (byName k) S) rs) → Bisimilar Δ k P Q
+  -- Terms whose forms are the parts of a survivor are bisimilar.
+  pub survivor-bisimilar : (P Q : Term) → situation (S .names) (S .form P) (S .form Q) [] ∈ selves (survivors (demandsOf (byName k) S) rs) → Bisimilar Δ k P Q
   survivor-bisimilar P Q i = found-bisimilar Δ R k (record { forth = forth; back = back }) i
 
   alike-closed : Closed demands (Alike Δ k) rs
@@ -215,7 +251,7 @@ module _ (Δ : Defs) (S : Setting) (few : S .names ≤ 128) (arities : List ℕ)
   alike-closed = record {
     answers = λ r m b. record {
       some = λ w i.
-          let o = alike-meets Δ S arities k (r .self) (row-proper r m) (r .wants) (row-lists r m) b w i in
+          let o = alike-meets Δ S formed arities k (r .self) (row-proper r m) (r .wants) (row-lists r m) b w i in
           record { answer = o .answer; member = o .member; all = λ t j. (o .all t j, among-rows r m w i (o .answer) (o .member) t j) };
     };
   }

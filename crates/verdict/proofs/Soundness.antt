@@ -9,6 +9,7 @@ use Rattle.calculus.specs.Definitions.{Defs}
 use Rattle.calculus.specs.OpenBisimulation.{Related}
 use Rattle.steps.specs.Lists.{_∈_}
 use Rattle.steps.proofs.Membership.{∈-map}
+use Rattle.steps.proofs.FormLaws.{Form}
 use Rattle.field.specs.Setting.{Setting}
 use Rattle.field.specs.Situation.{Situation, Proper}
 use Rattle.field.specs.Exploration.{Row}
@@ -21,7 +22,7 @@ use Rattle.verdict.proofs.ClosedRelated.{Led, Answering, closed-related
 use Rattle.verdict.proofs.Rounds.{single, met-some, survivors, of-selves, survivor-row, survivor-in, survivors-answer}
 use Rattle.verdict.proofs.FieldRows.{FieldRows, good-rows}
 
-module _ (Δ : Defs) (S : Setting) (few : S .names ≤ 128) (arities : List ℕ) (rs : List Row) (field : FieldRows Δ S arities rs) (merging : S .differ ≡ false) where
+module _ (Δ : Defs) (S : Setting) (formed : Form (S .form)) (few : S .names ≤ 128) (arities : List ℕ) (rs : List Row) (field : FieldRows Δ S arities rs) (merging : S .differ ≡ false) where
   abbrev Survives : Situation → Type 0
   Survives s = s ∈ selves (survivors (demandsOf openly S) rs)
 
@@ -49,6 +50,7 @@ module _ (Δ : Defs) (S : Setting) (few : S .names ≤ 128) (arities : List ℕ)
         second = λ m h. let (w, j, l) = row-links r i .second m h in led r i w j l;
       }
 
-  -- The parts of every survivor are related.
-  pub survivor-related : (s : Situation) → s ∈ selves (survivors (demandsOf openly S) rs) → Related Δ (s .apart) (s .first) (s .second)
-  survivor-related = closed-related Δ S arities Survives (λ s k. field .proper s (survivor-in (demandsOf openly S) rs s k)) answering
+  -- Terms whose forms are the parts of a survivor are related.
+  pub survivor-related : (P Q : Term) (D : Pairs) → record { first = S .form P; second = S .form Q; apart = D } ∈ selves (survivors (demandsOf openly S) rs)
+      → Related Δ D P Q
+  survivor-related = closed-related Δ S formed arities Survives (λ s k. field .proper s (survivor-in (demandsOf openly S) rs s k)) answering

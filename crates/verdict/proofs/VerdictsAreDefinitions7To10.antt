@@ -9,6 +9,7 @@ use Prim.Native.Nat.{ℕ, _≤_, _*_}
 use native.Mathlib.Omega.{arith}
 use lib.ListN.{length}
 use Rattle.calculus.specs.Definitions.{Defs}
+use Rattle.calculus.specs.Term.{Term}
 use Rattle.late_early.specs.LateEarly.{Kind, late, early, Bisimilar}
 use Rattle.late_early.proofs.LateEarlyTheorems.{related-late, late-is-early}
 use Rattle.terms.specs.Answer.{result}
@@ -17,14 +18,14 @@ use Rattle.terms.specs.Question.{Question, questionOf}
 use Rattle.terms.proofs.OwnEdition.{own-well-formed}
 use Rattle.terms.proofs.WellFormed.{WellFormed}
 use Rattle.steps.specs.Lists.{_∈_}
+use Rattle.steps.proofs.FormLaws.{Form, result-form}
 use Rattle.steps.proofs.Membership.{distinct-length}
 use Rattle.field.specs.Exploration.{Row, fieldOf}
 use Rattle.field.specs.Field.{PastLimit, FieldSize}
-use Rattle.field.specs.Setting.{Setting, settingOf}
-use Rattle.field.specs.Situation.{Situation, situation, startOf, Proper}
+use Rattle.field.specs.Setting.{Setting, settingIn, settingOf}
+use Rattle.field.specs.Situation.{Situation, situation, startIn, startOf, Proper}
 use Rattle.field.proofs.Link.{SettingFor}
 use Rattle.field.proofs.Proper.{same-equal}
-use Rattle.field.proofs.QuestionField.{question-setting, start-proper}
 use Rattle.field.proofs.Reached.{at-start}
 use Rattle.field.proofs.Run.{selves}
 use Rattle.field.proofs.Unseen.{∈-found}
@@ -33,78 +34,90 @@ use Rattle.verdict.specs.Judge.{greatestCapacity, slotBytes}
 use Rattle.verdict.specs.Meaning.{Means, Decision}
 use Rattle.verdict.specs.Outcome.{sameOf, differentOf, Says, ofVerdict}
 use Rattle.verdict.specs.Promises.{JudgesBy, JudgeIs, LateIs, EarlyIs}
-use Rattle.verdict.specs.Verdict.{named, differs, demandsOf, Verdict, Numbered, unsettled, same, different, decided, verdictBy, verdictOf}
-use Rattle.verdict.proofs.DecidedField.{of-same, of-different, field-of, few, decided-unsettled, decided-size}
+use Rattle.verdict.specs.Verdict.{named, differs, demandsOf, Verdict, Numbered, unsettled, same, different, decided, verdictIn, verdictBy, verdictOf}
+use Rattle.verdict.proofs.DecidedField.{of-same, of-different, field-of, few}
 use Rattle.verdict.proofs.FieldRows.{explored-rows}
+use Rattle.verdict.proofs.FormedBisimilar.{bisimilar-formed}
 use Rattle.verdict.proofs.JudgeIsDefinition13.{judge-answers}
 use Rattle.verdict.proofs.NamedStrike.{named-rows, survivor-bisimilar, bisimilar-survives}
 use Rattle.verdict.proofs.NeverDifferentLaws.{judged-same, judged-different}
 use Rattle.verdict.proofs.Rounds.{survivors, found-survives}
-use Rattle.verdict.proofs.VerdictIsDefinition13.{same-is-related, means-by}
+use Rattle.verdict.proofs.VerdictIsDefinition13.{setting, start, formed-unsettled, formed-size, same-is-related, means-by}
 
 module _ (Δ : Defs) (S : Setting) (naming : S .differ ≡ true) (arities : List ℕ) (setting : SettingFor Δ S arities)
-    (start : Situation) (proper : Proper (S .names) arities start) (plain : start ≡ situation (S .names) (start .first) (start .second) []) (k : Kind) (capacity : ℕ) where
+    (start : Situation) (proper : Proper (S .names) arities start) (k : Kind) (capacity : ℕ) where
   abbrev demands : Row → List (List (List Situation))
   demands = demandsOf (named k) S
 
-  decided-same : (n : ℕ) → decided demands start (fieldOf S capacity start) ≡ same n → Bisimilar Δ k (start .first) (start .second)
-  decided-same n e =
+  -- terms whose forms are the parts of the start
+  decided-same : (n : ℕ) → decided demands start (fieldOf S capacity start) ≡ same n → (P Q : Term) → start ≡ situation (S .names) (S .form P) (S .form Q) []
+      → Bisimilar Δ k P Q
+  decided-same n e P Q plain =
       let s = of-same demands start (fieldOf S capacity start) n e in
       let small = few Δ S arities setting start proper capacity in
       let f = field-of Δ S arities setting start proper capacity (s .rows) (s .found-rows) in
-      survivor-bisimilar Δ S small arities k (s .rows) f naming (start .first) (start .second)
+      survivor-bisimilar Δ S (setting .formed) small arities k (s .rows) f naming P Q
       (subst (λ t. t ∈ selves (survivors demands (s .rows))) plain
       (found-survives demands (Proper (S .names) arities) (same-equal (S .names) small arities) (s .rows)
-      (named-rows Δ S small arities k (s .rows) f naming) start proper (s .survives)))
+      (named-rows Δ S (setting .formed) small arities k (s .rows) f naming) start proper (s .survives)))
 
   decided-different : (n : ℕ) → decided demands start (fieldOf S capacity start) ≡ different n → ¬ Bisimilar Δ k (start .first) (start .second)
   decided-different n e b =
       let s = of-different demands start (fieldOf S capacity start) n e in
       let f = field-of Δ S arities setting start proper capacity (s .rows) (s .found-rows) in
       let rows = explored-rows Δ S arities setting start proper capacity (s .rows) (s .found-rows) in
-      let i = bisimilar-survives Δ S (few Δ S arities setting start proper capacity) arities k (s .rows) f naming start (rows .reached start .1 at-start) b in
+      let i = bisimilar-survives Δ S (setting .formed) (few Δ S arities setting start proper capacity) arities k (s .rows) f naming start (rows .reached start .1 at-start) b in
       let z : _≡_ {A = ℕ} 0 1 = cc (∈-found (selves (survivors demands (s .rows))) start i, s .survives) in
       omega arith
 
-module _ (question : List ℕ) (q : Question) (accepted : questionOf question ≡ result q) (Δ : Defs) (defines : Defines q Δ) (k : Kind) (capacity : ℕ) where
+-- For every form of results.
+module _ {form : Term → Term} (formed : Form form) (q : Question) (well : WellFormed q) (Δ : Defs) (defines : Defines q Δ) (k : Kind) (capacity : ℕ) where
   abbrev S : Setting
-  S = settingOf true (q .bodies)
+  S = settingIn form true (q .bodies)
 
-  well : WellFormed q
-  well = own-well-formed question q accepted
-
-  setting : SettingFor Δ S (q .arities)
-  setting = question-setting true q well Δ (defines .arities) (defines .bodies)
-
-  start : Proper (S .names) (q .arities) (startOf true q)
-  unfolding settingOf
-  start = start-proper true q well
-
-  plain : startOf true q ≡ situation (S .names) (startOf true q .first) (startOf true q .second) []
-  unfolding settingOf startOf situation
+  plain : startIn form true q ≡ situation (S .names) (form (q .first)) (form (q .second)) []
+  unfolding settingIn startIn
   plain = refl
 
   naming : S .differ ≡ true
-  unfolding settingOf
+  unfolding settingIn
   naming = refl
 
+  pub formed-bisimilar : (n : ℕ) → verdictIn form (named k) q capacity ≡ same n → Bisimilar Δ k (q .first) (q .second)
+  unfolding verdictIn differs settingIn
+  formed-bisimilar n e =
+      decided-same Δ S naming (q .arities) (setting formed (named k) q well Δ defines) (startIn form true q) (start formed (named k) q well Δ defines)
+      k capacity n e (q .first) (q .second) plain
+
+  pub formed-not-bisimilar : (n : ℕ) → verdictIn form (named k) q capacity ≡ different n → ¬ Bisimilar Δ k (q .first) (q .second)
+  unfolding verdictIn differs settingIn startIn situation
+  formed-not-bisimilar n e b =
+      decided-different Δ S naming (q .arities) (setting formed (named k) q well Δ defines) (startIn form true q) (start formed (named k) q well Δ defines)
+      k capacity n e
+      (bisimilar-formed Δ formed b (form (q .first)) (form (q .second)) (sym (formed .again (q .first))) (sym (formed .again (q .second))))
+
+-- In the form of the service.
+module _ (question : List ℕ) (q : Question) (accepted : questionOf question ≡ result q) (Δ : Defs) (defines : Defines q Δ) (k : Kind) (capacity : ℕ) where
+  well : WellFormed q
+  well = own-well-formed question q accepted
+
   pub same-is-bisimilar : (n : ℕ) → verdictBy (named k) q capacity ≡ same n → Bisimilar Δ k (q .first) (q .second)
-  unfolding verdictBy differs startOf situation
-  same-is-bisimilar n e = decided-same Δ S naming (q .arities) setting (startOf true q) start plain k capacity n e
+  unfolding verdictBy
+  same-is-bisimilar = formed-bisimilar result-form q well Δ defines k capacity
 
   pub different-is-not-bisimilar : (n : ℕ) → verdictBy (named k) q capacity ≡ different n → ¬ Bisimilar Δ k (q .first) (q .second)
-  unfolding verdictBy differs startOf situation
-  different-is-not-bisimilar n e = decided-different Δ S naming (q .arities) setting (startOf true q) start plain k capacity n e
+  unfolding verdictBy
+  different-is-not-bisimilar = formed-not-bisimilar result-form q well Δ defines k capacity
 
   -- late and early are unsettled together,
   pub unsettled-iff-past-a-limit : (verdictBy (named k) q capacity ≡ unsettled) ↔ PastLimit Δ (settingOf true (q .bodies)) (startOf true q) capacity
   unfolding verdictBy differs
-  unsettled-iff-past-a-limit = decided-unsettled Δ S (q .arities) setting (startOf true q) start capacity (demandsOf (named k) S)
+  unsettled-iff-past-a-limit = formed-unsettled result-form (named k) q well Δ defines capacity
 
   -- and have one n
   pub number-is-field-size : (n : ℕ) → Numbered (verdictBy (named k) q capacity) n → FieldSize Δ (settingOf true (q .bodies)) (startOf true q) n
   unfolding verdictBy differs
-  number-is-field-size n h = decided-size Δ S (q .arities) setting (startOf true q) start capacity (demandsOf (named k) S) n h
+  number-is-field-size = formed-size result-form (named k) q well Δ defines capacity
 
   pub verdict-means : Means (named k) Δ q capacity (ofVerdict (result (verdictBy (named k) q capacity)))
   unfolding differs

@@ -8,10 +8,12 @@ use mathlib.Core.Path.{_≡_}
 use Prim.Native.Nat.{ℕ, zero, suc}
 use lib.ListN.{length}
 use lib.Dec.{eqb}
+use Rattle.calculus.specs.Term.{Term}
 use Rattle.terms.specs.Question.{Question}
+use Rattle.steps.specs.Forms.{resultForm}
 use Rattle.late_early.specs.LateEarly.{Kind}
-use Rattle.field.specs.Setting.{Setting, settingOf}
-use Rattle.field.specs.Situation.{Situation, startOf}
+use Rattle.field.specs.Setting.{Setting, settingIn, settingOf}
+use Rattle.field.specs.Situation.{Situation, startIn, startOf}
 use Rattle.field.specs.Successors.{select}
 use Rattle.field.specs.Exploration.{found, Row, Exploration, incomplete, explored, fieldOf}
 use Rattle.verdict.specs.Received.{namedDemands}
@@ -71,11 +73,16 @@ decided demands start (explored rs) =
     let n = length rs in
     cond (found (map (λ r. r .self) (rounds demands n rs)) start) (same n) (different n)
 
-unfoldable pub verdictBy : Manner → Question → ℕ → Verdict
-verdictBy m q capacity =
-    let S = settingOf (differs m) (q .bodies) in
-    let start = startOf (differs m) q in
+-- results in the form given
+unfoldable pub verdictIn : (Term → Term) → Manner → Question → ℕ → Verdict
+verdictIn form m q capacity =
+    let S = settingIn form (differs m) (q .bodies) in
+    let start = startIn form (differs m) q in
     decided (demandsOf m S) start (fieldOf S capacity start)
+
+unfoldable pub verdictBy : Manner → Question → ℕ → Verdict
+unfolding verdictIn settingOf startOf
+verdictBy m q capacity = verdictIn resultForm m q capacity
 
 -- the open one
 abbrev pub verdictOf : Question → ℕ → Verdict

@@ -52,9 +52,9 @@ module _ (Δ : Defs) (S : Setting) where
       here l =
           let E : Pairs = update D P P (m .action) (m .condition) in
           let R : Term = ren (cls (m .condition)) (m .result) in (
-            make (m .result) R E,
-            l .members (make (m .result) R E) .1 (record { answer = m; matches = answers-itself m; result = refl }),
-            subst (λ R. EqualParts (make (m .result) R E)) (sym (move-rewritten Δ S m)) (same (m .result) E),
+            make (S .form (m .result)) (S .form R) E,
+            l .members (make (S .form (m .result)) (S .form R) E) .1 (record { answer = m; matches = answers-itself m; result = refl }),
+            subst (λ R. EqualParts (make (S .form (m .result)) (S .form R) E)) (sym (move-rewritten Δ S m)) (same (S .form (m .result)) E),
           )
 
   pub some-equal : (s : Situation) (w : List Situation) → EqualParts s → ListOfSome Δ S s w → SomeEqual w

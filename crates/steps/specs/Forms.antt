@@ -1,0 +1,9 @@
+-- The form in which results are listed, and in which the parts of a situation stand: as they are, or tidied (document 02, request 2026-04).
+use Rattle.calculus.specs.Term.{Term}
+
+abbrev pub asItIs : Term → Term
+asItIs P = P
+
+-- The form of the service; proofs/FormLaws says what every form has.
+abbrev pub resultForm : Term → Term
+resultForm P = asItIs P
