@@ -16,6 +16,7 @@ use Rattle.terms.specs.Encoding.{encode, InScope}
 use Rattle.terms.specs.Limits.{nameCount, longestTerm}
 use Rattle.terms.proofs.RenamingKeeps.{length-ren}
 use Rattle.terms_bytes.proofs.Stores.{sets-start}
+use Rattle.steps_plans.proofs.ResultLaws.{written-of}
 use Rattle.steps_tallies.specs.Bodies.{AritiesIs}
 use Rattle.terms.specs.Question.{bodyOf}
 use Rattle.steps_conditions.specs.Names.{OwnNames}
@@ -95,7 +96,11 @@ pub classed-put : (question part : List ℕ) (silently : Bool) (i : ℕ) (class 
 unfolding ResultIs
 classed-put question part silently i class action x area count r area′ out result n size w p = record {
   is = λ q P l M α A e classes acts.
-      p .is out x M α A size (rw (receiving-canonical x M α A) (w q P l M α A e (cls M) (λ k h. (classes k h, omega (arith, cls-le M k))))) classes acts;
+      let B : List ℕ = encode 0 (ren (receiving x (cls M) α) A) in
+      p .is out x M α A size
+      (rw (receiving-canonical x M α A)
+      (written-of 0 A out 0 B n result (omega arith) (length-ren 0 0 (receiving x (cls M) α) A)
+      (λ low shallow. w low q P l M α A e (cls M) (λ k h. (classes k h, omega (arith, cls-le M k))) (λ t. let k = shallow t in omega arith)))) classes acts;
 }
 
 -- A silent step whose result was written with its own names.
@@ -108,7 +113,9 @@ classed-merged question part true quiet i class action x area count r area′ ou
       let t : α ≡ tauA = silent-action (bodyOf (q .bodies)) 1 P i M α A e in
       let e₁ = e ∙ ap (λ (α : Act). step M α A) t in
       let w₁ : Written out 0 (encode 0 A) n result =
-      subst (λ (B : Term). Written out 0 (encode 0 B) n result) (ren-id A) (w q P l M tauA A e₁ (λ k. k) (λ k h. (owns k (omega arith), h))) in
+      subst (λ (B : Term). Written out 0 (encode 0 B) n result) (ren-id A)
+      (written-of 0 A out 0 (encode 0 (ren (λ k. k) A)) n result (omega arith) (length-ren 0 0 (λ k. k) A)
+      (λ low shallow. w low q P l M tauA A e₁ (λ k. k) (λ k h. (owns k (omega arith), h)) (λ t. let k = shallow t in omega arith))) in
       subst (λ (α : Act). PutIs (step M α A) x area count r area′) (sym t)
       (p .is q out x M A (l .accepted) size classes (silent-scope question q P (l .accepted) (l .scope) i M A e₁) w₁);
 }

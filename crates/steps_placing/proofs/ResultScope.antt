@@ -24,11 +24,11 @@ use Rattle.steps.proofs.QuestionDefinitions.{definitions, bodies-in-scope, open
 use Rattle.steps.proofs.Scope.{scope-calls, in-scope, calls-residual}
 use Rattle.steps.proofs.RawSound.{Sound, silent-sound}
 
-all-at : (S : Candidate → Type 0) (cs : List Candidate) → All S cs → (i : ℕ) → i < length cs → S (getD cs i blocked)
+pub all-at : (S : Candidate → Type 0) (cs : List Candidate) → All S cs → (i : ℕ) → i < length cs → S (getD cs i blocked)
 all-at S (c ∷ cs) a zero h = a .0
 all-at S (c ∷ cs) a (suc i) h = all-at S cs (a .1) i (omega arith)
 
-within : (cs : List Candidate) (i : ℕ) (M : Cond) (α : Act) (A : Term) → getD cs i blocked ≡ step M α A → i < length cs
+pub within : (cs : List Candidate) (i : ℕ) (M : Cond) (α : Act) (A : Term) → getD cs i blocked ≡ step M α A → i < length cs
 within [] i M α A e = never M α A e
 within (c ∷ cs) zero M α A e = omega arith
 within (c ∷ cs) (suc i) M α A e = let h = within cs i M α A e in omega arith

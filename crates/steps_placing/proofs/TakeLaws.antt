@@ -12,6 +12,7 @@ use Rattle.terms.specs.Encoding.{encode}
 use Rattle.terms.specs.Limits.{nameCount}
 use Rattle.terms_bytes.specs.NameTable.{tableNames}
 use Rattle.terms.specs.Question.{Question}
+use Rattle.terms_bytes.specs.Shape.{height}
 use Rattle.steps_labels.specs.LabelWalk.{NthIs}
 use Rattle.steps_conditions.specs.Labels.{Labels}
 use Rattle.terms.specs.Question.{bodyOf}
@@ -63,8 +64,8 @@ pub result-written : (question part : List ℕ) (silently : Bool) (i : ℕ) (cla
     → WriteIs question part 0 0 names (record { new = x; levels = 0; calls = 1; still = false; silently = silently; number = i }) out 0 r out′
     → ResultIs question part silently i class x out r out′
 unfolding ResultIs chosen candidatesOf
-result-written question part silently i class x names has out r out′ w q P l M α A e ρ is =
-    w .is q nameCount (λ n. n) P [] (encode 0 (ren (receiving x ρ α) A)) (l .accepted) (omega arith) (l .scope)
+result-written question part silently i class x names has out r out′ w low q P l M α A e ρ is shallow =
+    w .is low q nameCount (λ n. n) P [] (encode 0 (ren (receiving x ρ α) A)) (height A) (l .accepted) (omega arith) (l .scope)
     (l .bytes ∙ sym (append-nil (encode 0 P)))
     (record {
       ρ = ρ;
@@ -76,7 +77,8 @@ result-written question part silently i class x names has out r out′ w q P l M
       result = A;
       candidate = ap (λ R. getD (candidates silently (bodyOf (q .bodies)) 1 R) i blocked) (ren-id P) ∙ e;
       bytes = refl;
-    })
+      bounded = omega arith;
+    }) shallow
 
 -- A step is put into the list by its header.
 pub step-put : (question part : List ℕ) (silently : Bool) (i : ℕ) (h : Label) (x : ℕ) (area : List ℕ) (count : ℕ) (action : ActionBytes)

@@ -55,7 +55,7 @@ fn result_names(class: &[u8]) -> [u8; NAME_SLOTS]
 
 // The result of a candidate of the part, rewritten by the classes of its condition, or with its own names. The answer is where its bytes end, or past
 // the end of `out` where there is no room.
-fn write_result(
+pub fn write_result(
     question: &[u8],
     bodies: &[u32],
     part: &[u8],
@@ -64,7 +64,7 @@ fn write_result(
     class: &[u8],
     out: &mut [u8],
 ) -> usize
-    requires { ⌜ Tallied (now question) (now bodies) (now part) (now tally) × (nameCount ≤ length (now class)) × (length (now out) ≤ longestTerm) ⌝ }
+    requires { ⌜ Tallied (now question) (now bodies) (now part) (now tally) × (nameCount ≤ length (now class)) ⌝ }
     ensures { λ r. ⌜ ResultIs (now (question .entry)) (now (part .entry)) (candidate .silently) (candidate .number) (now (class .entry)) (candidate .x) (now (out .entry)) r (now (out .exit)) ⌝ }
 {
     let task = Task {

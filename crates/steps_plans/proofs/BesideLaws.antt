@@ -2,6 +2,7 @@
 use mathlib.Core.Path.{_≡_, refl, sym, ap, ap₂, subst, _∙_}
 use mathlib.Core.Bool.{Bool, true, false}
 use mathlib.Core.List.{List, [], _∷_, _++_, append-assoc, append-nil}
+use mathlib.Core.Logic.{inl, inr}
 use Prim.Native.Nat.{ℕ, _+_, _-_, _<_, _≤_}
 use native.Mathlib.Omega.{arith}
 use lib.Dec.{leb}
@@ -17,7 +18,7 @@ use Rattle.steps_plans.specs.Beside.{Beside, StandsBeside, FoundBeside, 
 use Rattle.terms.specs.Question.{bodyOf}
 use Rattle.steps_conditions.specs.Names.{UnchangedIs}
 use Rattle.steps_passing.specs.Passing.{MiddleIs}
-use Rattle.steps_plans.specs.Plans.{Asks, Written, WriteIs, numbered}
+use Rattle.steps_plans.specs.Plans.{Asks, Writes, WriteIs, numbered}
 use Rattle.steps_tallies.specs.Tally.{endAt, TallyIs}
 use Rattle.steps_tallies.specs.Tallying.{numberAt}
 use Rattle.steps_plans.specs.declared.plan.Task.{Task}
@@ -25,21 +26,21 @@ use Rattle.steps_plans.proofs.AskLaws.{asks-still}
 use Rattle.steps_tallies.proofs.CandidateForms.{tag-at, only-par}
 use Rattle.steps_tallies.proofs.FrontLaws.{behind}
 use Rattle.steps_plans.proofs.PlanLaws.{plan-left, plan-right}
-use Rattle.steps_plans.proofs.ResultLaws.{written-then, written-stop}
+use Rattle.steps_plans.proofs.ResultLaws.{writes-of, written-then, written-stop}
 use Rattle.steps_conditions.proofs.SlotLaws.{unchanged-bytes}
 use Rattle.steps_passing.proofs.TwoSides.{at-left}
 
 -- A side that makes no step.
-rested : (names : List ℕ) (task : Task) (q : Question) (free D : ℕ) (σ : ℕ → ℕ) (P : Term) (bs : List ℕ) → task .still ≡ true → free ≤ nameCount
-    → UnchangedIs names D (task .levels) true → InScope free (q .arities) D P → Asks names task (bodyOf (q .bodies)) free D σ P bs → bs ≡ encode D P
-rested names task q free D σ P bs still few U scope K =
-    asks-still names task (bodyOf (q .bodies)) free D σ P bs still K
+rested : (names : List ℕ) (task : Task) (q : Question) (free D : ℕ) (σ : ℕ → ℕ) (P : Term) (bs : List ℕ) (top : ℕ) → task .still ≡ true → free ≤ nameCount
+    → UnchangedIs names D (task .levels) true → InScope free (q .arities) D P → Asks names task (bodyOf (q .bodies)) free D σ P bs top → bs ≡ encode D P
+rested names task q free D σ P bs top still few U scope K =
+    asks-still names task (bodyOf (q .bodies)) free D σ P bs top still K .0
     ∙ unchanged-bytes free D (task .levels) names (q .arities) (λ n. K .ρ (σ n)) (K .has) (omega arith) U P scope
 
 module _ (s t : List ℕ) (at : ℕ) (silently : Bool) (number : ℕ) where
   pub beside-start : FoundBeside s t at silently number at number
   unfolding FoundBeside StandsBeside
-  beside-start D names task walks quiet is U question T q free σ P rest bs ok few scope st K = record {
+  beside-start D names task walks quiet is U question T q free σ P rest bs top ok few scope st K = record {
     before = [];
     term = P;
     own = bs;
@@ -47,14 +48,14 @@ module _ (s t : List ℕ) (at : ℕ) (silently : Bool) (number : ℕ) where
     place = omega arith;
     whole = sym (append-nil (encode D P));
     scope = scope;
-    asks = subst (λ (n : ℕ). Asks names (numbered n task) (bodyOf (q .bodies)) free D σ P bs) is K;
+    asks = subst (λ (n : ℕ). Asks names (numbered n task) (bodyOf (q .bodies)) free D σ P bs top) is K;
     bytes = sym (append-nil bs);
   }
 
   -- Where the component stands that was found.
-  stands-at : (D : ℕ) (names : List ℕ) (task : Task) (q : Question) (free : ℕ) (σ : ℕ → ℕ) (P : Term) (rest bs : List ℕ) (b n : ℕ)
-      → drop at s ≡ encode D P ++ rest → (A : Beside names task q free D σ P bs at b n) → drop b s ≡ encode D (A .term) ++ (A .behind ++ rest)
-  stands-at D names task q free σ P rest bs b n st A =
+  stands-at : (D : ℕ) (names : List ℕ) (task : Task) (q : Question) (free : ℕ) (σ : ℕ → ℕ) (P : Term) (rest bs : List ℕ) (top b n : ℕ)
+      → drop at s ≡ encode D P ++ rest → (A : Beside names task q free D σ P bs top at b n) → drop b s ≡ encode D (A .term) ++ (A .behind ++ rest)
+  stands-at D names task q free σ P rest bs top b n st A =
       ap (λ (k : ℕ). drop k s) (sym (A .place))
       ∙ behind s at (length (A .before)) (A .before) (encode D (A .term) ++ (A .behind ++ rest))
       (st ∙ ap (λ (l : List ℕ). l ++ rest) (A .whole) ∙ append-assoc (A .before) (encode D (A .term) ++ A .behind) rest
@@ -63,18 +64,18 @@ module _ (s t : List ℕ) (at : ℕ) (silently : Bool) (number : ℕ) where
   module _ (b n : ℕ) (g : getD s b 0 ≡ 7) (some : b < length s) (F : FoundBeside s t at silently number b n) where
     pub beside-left : n < numberAt t (b + 1) silently → FoundBeside s t at silently number (b + 1) n
     unfolding FoundBeside StandsBeside encode InScope
-    beside-left h D names task walks quiet is U question T q free σ P rest bs ok few scope st K =
-        let A = F D names task walks quiet is U question T q free σ P rest bs ok few scope st K in
-        let st₁ = stands-at D names task q free σ P rest bs b n st A in
+    beside-left h D names task walks quiet is U question T q free σ P rest bs top ok few scope st K =
+        let A = F D names task walks quiet is U question T q free σ P rest bs top ok few scope st K in
+        let st₁ = stands-at D names task q free σ P rest bs top b n st A in
         only-par (λ C. InScope free (q .arities) D C → drop b s ≡ encode D C ++ (A .behind ++ rest) → encode D P ≡ A .before ++ (encode D C ++ A .behind)
-        → Asks names (numbered n task) (bodyOf (q .bodies)) free D σ C (A .own) → Beside names task q free D σ P bs at (b + 1) n)
+        → Asks names (numbered n task) (bodyOf (q .bodies)) free D σ C (A .own) top → Beside names task q free D σ P bs top at (b + 1) n)
         (λ L R scope st whole K.
         let st₂ = at-left D s b L R (A .behind ++ rest) 7 st in
         let middle : MiddleIs s t b (endAt t (b + 1)) =
         record { none = λ h. absurd (omega (arith, encode-some D L, simp (length-append, length-drop) at (ap length st₂))); is = λ h. refl } in
-        let p = plan-left question s b D names (numbered n task) walks t T (endAt t (b + 1)) middle some (rw quiet h) .is q free σ L R (A .behind ++ rest) (A .own)
+        let p = plan-left question s b D names (numbered n task) walks t T (endAt t (b + 1)) middle some (rw quiet h) .is q free σ L R (A .behind ++ rest) (A .own) top
         ok few (scope .0) (scope .1) st₂ K in
-        let e : p .second ≡ encode D R = rested names _ q free D σ R (p .second) refl few U (scope .1) (p .right) in
+        let e : p .second ≡ encode D R = rested names _ q free D σ R (p .second) top refl few U (scope .1) (p .right) in
         record {
           before = A .before ++ (7 ∷ []);
           term = L;
@@ -91,16 +92,16 @@ module _ (s t : List ℕ) (at : ℕ) (silently : Bool) (number : ℕ) where
     pub beside-right : numberAt t (b + 1) silently ≤ n → (m : ℕ) → MiddleIs s t b m → (j : ℕ) → j ≡ n - numberAt t (b + 1) silently → j < numberAt t m silently
         → FoundBeside s t at silently number m j
     unfolding FoundBeside StandsBeside encode InScope
-    beside-right l m N j J h D names task walks quiet is U question T q free σ P rest bs ok few scope st K =
-        let A = F D names task walks quiet is U question T q free σ P rest bs ok few scope st K in
-        let st₁ = stands-at D names task q free σ P rest bs b n st A in
+    beside-right l m N j J h D names task walks quiet is U question T q free σ P rest bs top ok few scope st K =
+        let A = F D names task walks quiet is U question T q free σ P rest bs top ok few scope st K in
+        let st₁ = stands-at D names task q free σ P rest bs top b n st A in
         only-par (λ C. InScope free (q .arities) D C → drop b s ≡ encode D C ++ (A .behind ++ rest) → encode D P ≡ A .before ++ (encode D C ++ A .behind)
-        → Asks names (numbered n task) (bodyOf (q .bodies)) free D σ C (A .own) → Beside names task q free D σ P bs at m j)
+        → Asks names (numbered n task) (bodyOf (q .bodies)) free D σ C (A .own) top → Beside names task q free D σ P bs top at m j)
         (λ L R scope st whole K.
         let st₂ = at-left D s b L R (A .behind ++ rest) 7 st in
-        let p = plan-right question s b D names (numbered n task) walks t T m N some (rw quiet l) j (rw quiet J) (rw quiet h) .is q free σ L R (A .behind ++ rest) (A .own)
+        let p = plan-right question s b D names (numbered n task) walks t T m N some (rw quiet l) j (rw quiet J) (rw quiet h) .is q free σ L R (A .behind ++ rest) (A .own) top
         ok few (scope .0) (scope .1) st₂ K in
-        let e : p .first ≡ encode D L = rested names _ q free D σ L (p .first) refl few U (scope .0) (p .left) in
+        let e : p .first ≡ encode D L = rested names _ q free D σ L (p .first) top refl few U (scope .0) (p .left) in
         record {
           before = A .before ++ (7 ∷ encode D L);
           term = R;
@@ -121,11 +122,11 @@ module _ (question s tally : List ℕ) (at D : ℕ) (names : List ℕ) (task : T
   unfolding StandsBeside
   beside-full room full = record {
     on = omega arith;
-    is = λ q free σ P rest bs ok few scope st K.
-        let A = F question T q free σ P rest bs ok few scope st K in
+    is = λ low q free σ P rest bs top ok few scope st K shallow.
+        let A = F question T q free σ P rest bs top ok few scope st K in
         record {
-          fits = λ h. absurd (omega (arith, A .place, ap length (A .bytes), length-append (A .before) (A .own ++ A .behind)));
-          over = λ h. omega arith;
+          ends = inr (omega arith);
+          fits = λ t h. absurd (omega (arith, A .place, ap length (A .bytes), length-append (A .before) (A .own ++ A .behind)));
         };
   }
 
@@ -136,19 +137,19 @@ module _ (question s tally : List ℕ) (at D : ℕ) (names : List ℕ) (task : T
   unfolding StandsBeside
   beside-written room out₁ same₁ copied task′ et e out₂ same₂ W₀ r out₃ B = record {
     on = omega (arith, W₀ .on, B .on);
-    is = λ q free σ P rest bs ok few scope st K.
-        let A = F question T q free σ P rest bs ok few scope st K in
+    is = λ low q free σ P rest bs top ok few scope st K shallow.
+        let A = F question T q free σ P rest bs top ok few scope st K in
         let W = subst (λ (t : Task). WriteIs question s b D names t out₁ (put + (b - at)) e out₂) et W₀ in
-        let st₁ = stands-at s tally at (task .silently) (task .number) D names task q free σ P rest bs b n st A in
+        let st₁ = stands-at s tally at (task .silently) (task .number) D names task q free σ P rest bs top b n st A in
         let k : b - at ≡ length (A .before) = omega (arith, A .place) in
         let c : take (b - at) (drop at s) ≡ A .before =
         ap (take (b - at)) (st ∙ ap (λ (l : List ℕ). l ++ rest) (A .whole) ∙ append-assoc (A .before) (encode D (A .term) ++ A .behind) rest)
         ∙ take-at (A .before) ((encode D (A .term) ++ A .behind) ++ rest) (b - at) (sym k) in
-        let first : Written out put (A .before) (put + (b - at)) out₁ =
-        record { fits = λ h. (omega arith, copied ∙ ap (sets out put) c); over = λ h. absurd (omega arith) } in
-        let both : Written out put (A .before ++ A .own) e out₂ =
-        written-then out put (A .before) (put + (b - at)) out₁ first (A .own) e out₂ room same₁
-        (W .is q free σ (A .term) (A .behind ++ rest) (A .own) ok few (A .scope) st₁ (A .asks)) in
+        let first : Writes low out put (A .before) (put + (b - at)) out₁ =
+        record { ends = inl (omega arith); fits = λ t h. (omega arith, copied ∙ ap (sets out put) c) } in
+        let both : Writes low out put (A .before ++ A .own) e out₂ =
+        written-then low out put (A .before) (put + (b - at)) out₁ first (A .own) e out₂ room same₁
+        (W .is low q free σ (A .term) (A .behind ++ rest) (A .own) top ok few (A .scope) st₁ (A .asks) shallow) in
         let end : endAt tally at ≡ at + length (encode D P) = T .is q at free D σ P rest ok scope st .2 in
         let inner : endAt tally b ≡ b + length (encode D (A .term)) = T .is q b free D σ (A .term) (A .behind ++ rest) ok (A .scope) st₁ .2 in
         let size : length (encode D P) ≡ length (A .before) + (length (encode D (A .term)) + length (A .behind)) =
@@ -157,19 +158,19 @@ module _ (question s tally : List ℕ) (at D : ℕ) (names : List ℕ) (task : T
         ap (λ (j : ℕ). take (endAt tally at - endAt tally b) (drop j s)) inner
         ∙ ap (take (endAt tally at - endAt tally b)) (behind s b (length (encode D (A .term))) (encode D (A .term)) (A .behind ++ rest) st₁ refl)
         ∙ take-at (A .behind) rest (endAt tally at - endAt tally b) (omega (arith, end, inner, size, A .place)) in
-        rw (A .bytes ∙ sym (append-assoc (A .before) (A .own) (A .behind)))
-        (ended (A .before ++ A .own) (A .behind) both (omega (arith, end, inner, size, A .place)) d (leb e (length out₂)) refl);
+        subst (λ (l : List ℕ). Writes low out put l r out₃) (sym (A .bytes ∙ sym (append-assoc (A .before) (A .own) (A .behind))))
+        (ended low (A .before ++ A .own) (A .behind) both (omega (arith, end, inner, size, A .place)) d (leb e (length out₂)) refl);
   }
     where
-      ended : (xs ys : List ℕ) → Written out put xs e out₂ → endAt tally b ≤ endAt tally at
-          → take (endAt tally at - endAt tally b) (drop (endAt tally b) s) ≡ ys → (t : Bool) → leb e (length out₂) ≡ t → Written out put (xs ++ ys) r out₃
-      ended xs ys w le d true h =
+      ended : (low : Bool) (xs ys : List ℕ) → Writes low out put xs e out₂ → endAt tally b ≤ endAt tally at
+          → take (endAt tally at - endAt tally b) (drop (endAt tally b) s) ≡ ys → (t : Bool) → leb e (length out₂) ≡ t → Writes low out put (xs ++ ys) r out₃
+      ended low xs ys w le d true h =
           let l = leb-true e (length out₂) h in
-          written-then out put xs e out₂ w ys r out₃ (omega (arith, same₂)) same₂ (rw (sym d) (B .is l le))
-      ended xs ys w le d false h =
+          written-then low out put xs e out₂ w ys r out₃ (omega (arith, same₂)) same₂ (writes-of low out₂ e ys r out₃ (rw (sym d) (B .is l le)))
+      ended low xs ys w le d false h =
           let l = leb-false e (length out₂) h in
           let (x, y) = B .stopped l in
-          rw (x, y) (written-stop out put xs e out₂ w ys (omega (arith, same₂)))
+          rw (x, y) (written-stop low out put xs e out₂ w ys (omega (arith, same₂)))
 
 -- Nothing more, or what stands behind.
 module _ (s t : List ℕ) (at b : ℕ) (out : List ℕ) (put : ℕ) where

@@ -17,6 +17,8 @@ use Rattle.terms.specs.Limits.{nameCount}
 use Rattle.terms_bytes.specs.NameTable.{tableNames}
 use Rattle.terms.specs.Question.{Question, checkOf}
 use Rattle.terms.specs.Question.{bodyOf}
+use Rattle.terms_bytes.specs.Shape.{height}
+use Rattle.terms_bytes.proofs.Heights.{height-ren}
 use Rattle.steps_conditions.specs.Names.{HasNames, HasNew}
 use Rattle.steps_tallies.specs.Candidates.{candidates}
 use Rattle.steps_passing.specs.Passing.{Sent, Does, PassIs, MiddleIs}
@@ -44,10 +46,10 @@ weak-received x ρ (outA a b) Q = refl
 weak-received x ρ (boutA a) Q = ren-triangle (x • ρ) suc ρ Q (λ n. refl)
 
 -- What a side that makes no step is asked for.
-rests : (names : List ℕ) (task : Task) (body : ℕ → Term) (free D : ℕ) (σ ρ : ℕ → ℕ) (x : ℕ) (Q : Term) → HasNames free D (task .levels) names (λ n. ρ (σ n))
-    → HasNew (task .levels) (task .new) x → Asks names (resting task) body free D σ Q (encode (task .levels) (ren ρ (ren σ Q)))
+rests : (names : List ℕ) (task : Task) (body : ℕ → Term) (free D : ℕ) (σ ρ : ℕ → ℕ) (x : ℕ) (Q : Term) (top : ℕ) → HasNames free D (task .levels) names (λ n. ρ (σ n))
+    → HasNew (task .levels) (task .new) x → task .levels + height (ren σ Q) ≤ top → Asks names (resting task) body free D σ Q (encode (task .levels) (ren ρ (ren σ Q))) top
 unfolding chosen receiving
-rests names task body free D σ ρ x Q has new = record {
+rests names task body free D σ ρ x Q top has new bounded = record {
   ρ = ρ;
   x = x;
   has = has;
@@ -57,21 +59,29 @@ rests names task body free D σ ρ x Q has new = record {
   result = ren σ Q;
   candidate = refl;
   bytes = refl;
+  bounded = bounded;
 }
+
+-- A side of a parallel, which may go beneath a binder.
+side-height : (α : Act) (Q : Term) → height (weak α Q) ≡ height Q
+side-height tauA Q = refl
+side-height (inpA a) Q = height-ren suc Q
+side-height (outA a b) Q = refl
+side-height (boutA a) Q = height-ren suc Q
 
 module _ (question s : List ℕ) (at D : ℕ) (names : List ℕ) (task : Task) (walks : task .still ≡ false) (tally : List ℕ) (T : TallyIs question s (task .calls) tally)
     (m : ℕ) (N : MiddleIs s tally at m) (some : at < length s) where
   -- The left side steps.
   pub plan-left : task .number < numberAt tally (at + 1) (task .silently)
       → PlanIs question s at D names task (record { close = false; middle = m; left = task; right = resting task })
-  unfolding encode
+  unfolding encode height
   plan-left h = record {
     on = middle-on question s (task .calls) tally T at m N some;
     leftLevels = omega arith;
     rightLevels = omega arith;
     leftCalls = refl;
     rightCalls = refl;
-    is = λ q free σ P Q rest bs ok few sp sq st K.
+    is = λ q free σ P Q rest bs top ok few sp sq st K.
         let body = bodyOf (q .bodies) in
         let n = number-is question s (task .calls) tally T (task .silently) q (at + 1) free D σ P (encode D Q ++ rest) ok sp st in
         let cs = candidates (task .silently) body (task .calls) (ren σ P) in
@@ -92,8 +102,9 @@ module _ (question s : List ℕ) (at D : ℕ) (names : List ℕ) (task : Task) (
             result = b .result;
             candidate = chosen-is task body (ren σ P) walks ∙ b .premise .is;
             bytes = refl;
+            bounded = omega (arith, K .bounded, ap height (b .is));
           };
-          right = rests names task body free D σ (K .ρ) (K .x) Q (K .has) (K .new);
+          right = rests names task body free D σ (K .ρ) (K .x) Q top (K .has) (K .new) (omega (arith, K .bounded, ap height (b .is), side-height (K .action) (ren σ Q)));
           bytes =
               K .bytes ∙ ap (λ (A : Term). encode (task .levels) (ren (receiving (K .x) (K .ρ) (K .action)) A)) (b .is)
               ∙ ap (λ (T : Term). 7 ∷ (encode (task .levels) (ren (receiving (K .x) (K .ρ) (K .action)) (b .result)) ++ encode (task .levels) T))
@@ -104,14 +115,14 @@ module _ (question s : List ℕ) (at D : ℕ) (names : List ℕ) (task : Task) (
   -- The right side steps.
   pub plan-right : numberAt tally (at + 1) (task .silently) ≤ task .number → (j : ℕ) → j ≡ task .number - numberAt tally (at + 1) (task .silently)
       → j < numberAt tally m (task .silently) → PlanIs question s at D names task (record { close = false; middle = m; left = resting task; right = numbered j task })
-  unfolding encode
+  unfolding encode height
   plan-right l j J h = record {
     on = middle-on question s (task .calls) tally T at m N some;
     leftLevels = omega arith;
     rightLevels = omega arith;
     leftCalls = refl;
     rightCalls = refl;
-    is = λ q free σ P Q rest bs ok few sp sq st K.
+    is = λ q free σ P Q rest bs top ok few sp sq st K.
         let body = bodyOf (q .bodies) in
         let n = number-is question s (task .calls) tally T (task .silently) q (at + 1) free D σ P (encode D Q ++ rest) ok sp st in
         let k = right-number question s (task .calls) tally T at m N q free D σ P Q rest ok sp sq st (task .silently) in
@@ -126,7 +137,7 @@ module _ (question s : List ℕ) (at D : ℕ) (names : List ℕ) (task : Task) (
           middle = middle-is question s (task .calls) tally T at m N q free D σ P Q rest ok sp sq st;
           first = encode (task .levels) (ren (K .ρ) (ren σ P));
           second = encode (task .levels) (ren (receiving (K .x) (K .ρ) (K .action)) (b .result));
-          left = rests names task body free D σ (K .ρ) (K .x) P (K .has) (K .new);
+          left = rests names task body free D σ (K .ρ) (K .x) P top (K .has) (K .new) (omega (arith, K .bounded, ap height (b .is), side-height (K .action) (ren σ P)));
           right = record {
             ρ = K .ρ;
             x = K .x;
@@ -137,6 +148,7 @@ module _ (question s : List ℕ) (at D : ℕ) (names : List ℕ) (task : Task) (
             result = b .result;
             candidate = chosen-is (numbered j task) body (ren σ Q) walks ∙ b .premise .is;
             bytes = refl;
+            bounded = omega (arith, K .bounded, ap height (b .is));
           };
           bytes =
               K .bytes ∙ ap (λ (A : Term). encode (task .levels) (ren (receiving (K .x) (K .ρ) (K .action)) A)) (b .is)
@@ -269,7 +281,7 @@ module _ (question s : List ℕ) (at D : ℕ) (names : List ℕ) (task : Task) (
                   (g .right .condition) (g .rightAction) (g .rightResult) (g .right .is);
             }
 
-    module _ (bs : List ℕ) (K : Asks names task body free D σ (par P Q) bs) where
+    module _ (bs : List ℕ) (top : ℕ) (K : Asks names task body free D σ (par P Q) bs top) where
       m : Met free D σ (getD ss (u .left) blocked) (getD ts (u .right) blocked) (K .action) (K .result) x z
       m = met (K .condition) (K .action) (K .result) (K .candidate)
 
@@ -278,10 +290,10 @@ module _ (question s : List ℕ) (at D : ℕ) (names : List ℕ) (task : Task) (
       silent-bytes = K .bytes ∙ ap (λ (α : Act). encode (task .levels) (ren (receiving (K .x) (K .ρ) α) (K .result))) (m .meeting .silent)
 
       -- What a side is asked for, under any renaming and new name.
-      left-asks : (t : Task) → t .still ≡ false → t .silently ≡ false → t .calls ≡ task .calls → t .number ≡ u .left → (ρ : ℕ → ℕ) (y : ℕ)
+      left-asks : (t : Task) → t .levels + height (m .meeting .leftResult) ≤ top → t .still ≡ false → t .silently ≡ false → t .calls ≡ task .calls → t .number ≡ u .left → (ρ : ℕ → ℕ) (y : ℕ)
           → HasNames free D (t .levels) names (λ n. ρ (σ n)) → HasNew (t .levels) (t .new) y
-          → Asks names t body free D σ P (encode (t .levels) (ren (receiving y ρ (m .meeting .leftAction)) (m .meeting .leftResult)))
-      left-asks t still sil calls number ρ y has new = record {
+          → Asks names t body free D σ P (encode (t .levels) (ren (receiving y ρ (m .meeting .leftAction)) (m .meeting .leftResult))) top
+      left-asks t bounded still sil calls number ρ y has new = record {
         ρ = ρ;
         x = y;
         has = has;
@@ -291,12 +303,13 @@ module _ (question s : List ℕ) (at D : ℕ) (names : List ℕ) (task : Task) (
         result = m .meeting .leftResult;
         candidate = chosen-is t body (ren σ P) still ∙ rw (sil, calls, number) (m .meeting .left .is);
         bytes = refl;
+        bounded = bounded;
       }
 
-      right-asks : (t : Task) → t .still ≡ false → t .silently ≡ false → t .calls ≡ task .calls → t .number ≡ u .right → (ρ : ℕ → ℕ) (y : ℕ)
+      right-asks : (t : Task) → t .levels + height (m .meeting .rightResult) ≤ top → t .still ≡ false → t .silently ≡ false → t .calls ≡ task .calls → t .number ≡ u .right → (ρ : ℕ → ℕ) (y : ℕ)
           → HasNames free D (t .levels) names (λ n. ρ (σ n)) → HasNew (t .levels) (t .new) y
-          → Asks names t body free D σ Q (encode (t .levels) (ren (receiving y ρ (m .meeting .rightAction)) (m .meeting .rightResult)))
-      right-asks t still sil calls number ρ y has new = record {
+          → Asks names t body free D σ Q (encode (t .levels) (ren (receiving y ρ (m .meeting .rightAction)) (m .meeting .rightResult))) top
+      right-asks t bounded still sil calls number ρ y has new = record {
         ρ = ρ;
         x = y;
         has = has;
@@ -306,6 +319,7 @@ module _ (question s : List ℕ) (at D : ℕ) (names : List ℕ) (task : Task) (
         result = m .meeting .rightResult;
         candidate = chosen-is t body (ren σ Q) still ∙ rw (sil, calls, number) (m .meeting .right .is);
         bytes = refl;
+        bounded = bounded;
       }
 
       -- The name sent.
@@ -314,8 +328,8 @@ module _ (question s : List ℕ) (at D : ℕ) (names : List ℕ) (task : Task) (
       sent-new o n l e = let (f, b) = K .has n l in (ap (λ (k : ℕ). getD names k 0) e ∙ f, b)
 
       com-right : x .kind ≡ 2 → Parts names (record { close = false; middle = m₀; left = visibly (u .left) task; right = sending (getD names (x .object) 0) (visibly (u .right) task) })
-          body free D σ at P Q bs
-      unfolding encode receiving
+          body free D σ at P Q bs top
+      unfolding encode receiving height
       com-right e =
           let S = sends free D σ (m .meeting .leftAction) (x .kind) (x .object) (m .leftDoes) e in
           let T = right-receives (S .channel) (S .object) (m .meeting .leftResult) (m .meeting .rightAction) (m .meeting .rightResult) (K .result)
@@ -327,8 +341,9 @@ module _ (question s : List ℕ) (at D : ℕ) (names : List ℕ) (task : Task) (
             middle = ends;
             first = encode L (ren (receiving (K .x) (K .ρ) (m .meeting .leftAction)) (m .meeting .leftResult));
             second = encode L (ren (receiving y (K .ρ) (m .meeting .rightAction)) (m .meeting .rightResult));
-            left = left-asks (visibly (u .left) task) refl refl refl refl (K .ρ) (K .x) (K .has) (K .new);
-            right = right-asks (sending (getD names (x .object) 0) (visibly (u .right) task)) refl refl refl refl (K .ρ) y
+            left = left-asks (visibly (u .left) task) (omega (arith, K .bounded, ap height (T .whole))) refl refl refl refl (K .ρ) (K .x) (K .has) (K .new);
+            right = right-asks (sending (getD names (x .object) 0) (visibly (u .right) task))
+                (omega (arith, K .bounded, ap height (T .whole), height-ren (inst (S .object)) (m .meeting .rightResult))) refl refl refl refl (K .ρ) y
                 (K .has) (sent-new (x .object) (S .sent .name) (S .sent .within) (S .sent .slot));
             bytes =
                 silent-bytes ∙ ap (λ (A : Term). encode L (ren (K .ρ) A)) (T .whole)
@@ -339,8 +354,8 @@ module _ (question s : List ℕ) (at D : ℕ) (names : List ℕ) (task : Task) (
           }
 
       com-left : z .kind ≡ 2 → Parts names (record { close = false; middle = m₀; left = sending (getD names (z .object) 0) (visibly (u .left) task); right = visibly (u .right) task })
-          body free D σ at P Q bs
-      unfolding encode receiving
+          body free D σ at P Q bs top
+      unfolding encode receiving height
       com-left e =
           let S = sends free D σ (m .meeting .rightAction) (z .kind) (z .object) (m .rightDoes) e in
           let T = left-receives (S .channel) (S .object) (m .meeting .leftAction) (m .meeting .leftResult) (m .meeting .rightResult) (K .result)
@@ -352,9 +367,10 @@ module _ (question s : List ℕ) (at D : ℕ) (names : List ℕ) (task : Task) (
             middle = ends;
             first = encode L (ren (receiving y (K .ρ) (m .meeting .leftAction)) (m .meeting .leftResult));
             second = encode L (ren (receiving (K .x) (K .ρ) (m .meeting .rightAction)) (m .meeting .rightResult));
-            left = left-asks (sending (getD names (z .object) 0) (visibly (u .left) task)) refl refl refl refl (K .ρ) y
+            left = left-asks (sending (getD names (z .object) 0) (visibly (u .left) task))
+                (omega (arith, K .bounded, ap height (T .whole), height-ren (inst (S .object)) (m .meeting .leftResult))) refl refl refl refl (K .ρ) y
                 (K .has) (sent-new (z .object) (S .sent .name) (S .sent .within) (S .sent .slot));
-            right = right-asks (visibly (u .right) task) refl refl refl refl (K .ρ) (K .x) (K .has) (K .new);
+            right = right-asks (visibly (u .right) task) (omega (arith, K .bounded, ap height (T .whole))) refl refl refl refl (K .ρ) (K .x) (K .has) (K .new);
             bytes =
                 silent-bytes ∙ ap (λ (A : Term). encode L (ren (K .ρ) A)) (T .whole)
                 ∙ ap (λ (B : Term). 7 ∷ (encode L B ++ encode L (ren (K .ρ) (m .meeting .rightResult)))) (received (K .ρ) (S .object) (m .meeting .leftResult))
@@ -375,8 +391,8 @@ module _ (question s : List ℕ) (at D : ℕ) (names : List ℕ) (task : Task) (
           rw e (sym (slot-bound tableNames (1 + task .levels) 0 (omega arith) ∙ omega arith), omega arith)
 
       closes : (x .kind ≡ 2 → ⊥) → (z .kind ≡ 2 → ⊥)
-          → Parts names (record { close = true; middle = m₀; left = closing (visibly (u .left) task); right = closing (visibly (u .right) task) }) body free D σ at P Q bs
-      unfolding encode
+          → Parts names (record { close = true; middle = m₀; left = closing (visibly (u .left) task); right = closing (visibly (u .right) task) }) body free D σ at P Q bs top
+      unfolding encode height
       closes nx nz =
           let (whole, bl, br) = both-bound free D σ (m .meeting .leftAction) (m .meeting .leftResult) (m .meeting .rightAction) (m .meeting .rightResult) (K .result)
           (x .kind) (x .object) (z .kind) (z .object) (m .meeting .meets) (m .leftDoes) (m .rightDoes) nx nz in
@@ -387,8 +403,8 @@ module _ (question s : List ℕ) (at D : ℕ) (names : List ℕ) (task : Task) (
             middle = ends;
             first = encode (L + 1) (ren (receiving 0 up (m .meeting .leftAction)) (m .meeting .leftResult));
             second = encode (L + 1) (ren (receiving 0 up (m .meeting .rightAction)) (m .meeting .rightResult));
-            left = left-asks (closing (visibly (u .left) task)) refl refl refl refl up 0 closed-names closed-new;
-            right = right-asks (closing (visibly (u .right) task)) refl refl refl refl up 0 closed-names closed-new;
+            left = left-asks (closing (visibly (u .left) task)) (omega (arith, K .bounded, ap height whole)) refl refl refl refl up 0 closed-names closed-new;
+            right = right-asks (closing (visibly (u .right) task)) (omega (arith, K .bounded, ap height whole)) refl refl refl refl up 0 closed-names closed-new;
             bytes =
                 silent-bytes ∙ ap (λ (A : Term). encode L (ren (K .ρ) A)) whole
                 ∙ ap (λ (f : ℕ → ℕ). 8 ∷ 7 ∷ (encode (1 + L) (ren f (m .meeting .leftResult)) ++ encode (1 + L) (ren f (m .meeting .rightResult)))) (sym (lift-is (K .ρ)))
@@ -408,7 +424,7 @@ module _ (question s : List ℕ) (at D : ℕ) (names : List ℕ) (task : Task) (
         rightLevels = omega arith;
         leftCalls = refl;
         rightCalls = refl;
-        is = λ q free σ P Q rest bs ok few sp sq st K. com-right q free σ P Q rest ok few sp sq st bs K (eqb-true (x .kind) 2 b);
+        is = λ q free σ P Q rest bs top ok few sp sq st K. com-right q free σ P Q rest ok few sp sq st bs top K (eqb-true (x .kind) 2 b);
       }
       go false b true d = rw (b, d) record {
         on = middle-on question s (task .calls) tally T at m₀ N some;
@@ -416,7 +432,7 @@ module _ (question s : List ℕ) (at D : ℕ) (names : List ℕ) (task : Task) (
         rightLevels = omega arith;
         leftCalls = refl;
         rightCalls = refl;
-        is = λ q free σ P Q rest bs ok few sp sq st K. com-left q free σ P Q rest ok few sp sq st bs K (eqb-true (z .kind) 2 d);
+        is = λ q free σ P Q rest bs top ok few sp sq st K. com-left q free σ P Q rest ok few sp sq st bs top K (eqb-true (z .kind) 2 d);
       }
       go false b false d = rw (b, d) record {
         on = middle-on question s (task .calls) tally T at m₀ N some;
@@ -424,5 +440,5 @@ module _ (question s : List ℕ) (at D : ℕ) (names : List ℕ) (task : Task) (
         rightLevels = omega arith;
         leftCalls = refl;
         rightCalls = refl;
-        is = λ q free σ P Q rest bs ok few sp sq st K. closes q free σ P Q rest ok few sp sq st bs K (eqb-false (x .kind) 2 b) (eqb-false (z .kind) 2 d);
+        is = λ q free σ P Q rest bs top ok few sp sq st K. closes q free σ P Q rest ok few sp sq st bs top K (eqb-false (x .kind) 2 b) (eqb-false (z .kind) 2 d);
       }

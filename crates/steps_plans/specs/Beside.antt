@@ -17,7 +17,7 @@ use Rattle.steps_passing.specs.declared.pass.Branch.{Branch}
 use Rattle.steps_plans.specs.declared.plan.Task.{Task}
 
 -- Of the term P at `at` bs is asked for. A term at b stands in it between other bytes, and so does what is asked for of its candidate number n in bs.
-pub record Beside (names : List ℕ) (task : Task) (q : Question) (free D : ℕ) (σ : ℕ → ℕ) (P : Term) (bs : List ℕ) (at b n : ℕ) : Type 0 where
+pub record Beside (names : List ℕ) (task : Task) (q : Question) (free D : ℕ) (σ : ℕ → ℕ) (P : Term) (bs : List ℕ) (top at b n : ℕ) : Type 0 where
   pub before : List ℕ
   pub term : Term
   pub own : List ℕ
@@ -25,20 +25,20 @@ pub record Beside (names : List ℕ) (task : Task) (q : Question) (free D : ℕ)
   pub place : at + length before ≡ b
   pub whole : encode D P ≡ before ++ (encode D term ++ behind)
   pub scope : InScope free (q .arities) D term
-  pub asks : Asks names (numbered n task) (bodyOf (q .bodies)) free D σ term own
+  pub asks : Asks names (numbered n task) (bodyOf (q .bodies)) free D σ term own top
   pub bytes : bs ≡ before ++ (own ++ behind)
 
 -- So it is for a task of the term at `at`, where no name changes.
 unfoldable pub StandsBeside : (s t : List ℕ) (at D : ℕ) (names : List ℕ) (task : Task) (b n : ℕ) → Type 0
 StandsBeside s t at D names task b n =
     (question : List ℕ) → TallyIs question s (task .calls) t
-    → (q : Question) (free : ℕ) (σ : ℕ → ℕ) (P : Term) (rest bs : List ℕ)
+    → (q : Question) (free : ℕ) (σ : ℕ → ℕ) (P : Term) (rest bs : List ℕ) (top : ℕ)
     → checkOf question ≡ result q
     → free ≤ nameCount
     → InScope free (q .arities) D P
     → drop at s ≡ encode D P ++ rest
-    → Asks names task (bodyOf (q .bodies)) free D σ P bs
-    → Beside names task q free D σ P bs at b n
+    → Asks names task (bodyOf (q .bodies)) free D σ P bs top
+    → Beside names task q free D σ P bs top at b n
 
 -- And so it is for any task of this number.
 unfoldable pub FoundBeside : (s t : List ℕ) (at : ℕ) (silently : Bool) (number b n : ℕ) → Type 0

@@ -4,6 +4,7 @@
 use mathlib.Core.Path.{_≡_}
 use mathlib.Core.Bool.{Bool, true, false, cond}
 use mathlib.Core.List.{List, [], _∷_, _++_}
+use mathlib.Core.Logic.{_⊎_}
 use Prim.Native.Nat.{ℕ, _+_, _-_, _*_, _<_, _≤_}
 use lib.ListN.{length, getD, drop, set}
 use lib.Seq.{sets}
@@ -15,6 +16,7 @@ use Rattle.terms.specs.Answer.{result}
 use Rattle.terms.specs.Encoding.{encode, InScope}
 use Rattle.terms.specs.Limits.{nameCount}
 use Rattle.terms_bytes.specs.NameTable.{tableNames}
+use Rattle.terms_bytes.specs.Shape.{height}
 use Rattle.terms.specs.Question.{Question, checkOf}
 use Rattle.terms.specs.Question.{bodyOf}
 use Rattle.steps_conditions.specs.Names.{HasNames, HasNew}
@@ -37,8 +39,8 @@ unfoldable pub chosen : Task → (ℕ → Term) → Term → Candidate
 chosen task body P =
     cond (task .still) (step [] tauA P) (getD (candidates (task .silently) body (task .calls) P) (task .number) blocked)
 
--- The bytes that a task asks for of the term `ren σ P`, by the table of its names.
-pub record Asks (names : List ℕ) (task : Task) (body : ℕ → Term) (free D : ℕ) (σ : ℕ → ℕ) (P : Term) (bs : List ℕ) : Type 0 where
+-- The bytes that a task asks for of the term `ren σ P`, by the table of its names; at most `top` binders stand one within the other in the whole.
+pub record Asks (names : List ℕ) (task : Task) (body : ℕ → Term) (free D : ℕ) (σ : ℕ → ℕ) (P : Term) (bs : List ℕ) (top : ℕ) : Type 0 where
   pub ρ : ℕ → ℕ
   pub x : ℕ
   pub has : HasNames free D (task .levels) names (λ n. ρ (σ n))
@@ -48,6 +50,7 @@ pub record Asks (names : List ℕ) (task : Task) (body : ℕ → Term) (free D :
   pub result : Term
   pub candidate : chosen task body (ren σ P) ≡ step condition action result
   pub bytes : bs ≡ encode (task .levels) (ren (receiving x ρ action) result)
+  pub bounded : task .levels + height result ≤ top
 
 -- Stored from `put` on if there is room, and the answer is where they end; else the answer is past the end of the area.
 pub record Written (out : List ℕ) (put : ℕ) (bs : List ℕ) (r : ℕ) (out′ : List ℕ) : Type 0 where
@@ -58,31 +61,39 @@ pub record StoreIs (out : List ℕ) (put : ℕ) (bs : List ℕ) (r : ℕ) (out�
   pub on : put ≤ r
   pub is : Written out put bs r out′
 
+-- The same where, if `low`, every index of a binder has a byte. Whether or not, the answer is where they end, or past the end of the area.
+pub record Writes (low : Bool) (out : List ℕ) (put : ℕ) (bs : List ℕ) (r : ℕ) (out′ : List ℕ) : Type 0 where
+  pub ends : (r ≡ put + length bs) ⊎ (length out < r)
+  pub fits : low ≡ true → put + length bs ≤ length out → (r ≡ put + length bs) × (out′ ≡ sets out put bs)
+
 -- A term, renamed by the table.
 pub record TermIs (question s : List ℕ) (at D : ℕ) (names : List ℕ) (levels : ℕ) (out : List ℕ) (put r : ℕ) (out′ : List ℕ) : Type 0 where
   pub on : put ≤ r
-  pub is : (q : Question) (free : ℕ) (τ : ℕ → ℕ) (P : Term) (rest : List ℕ)
+  pub is : (low : Bool) (q : Question) (free : ℕ) (τ : ℕ → ℕ) (P : Term) (rest : List ℕ)
       → checkOf question ≡ result q
       → free ≤ nameCount
       → InScope free (q .arities) D P
       → drop at s ≡ encode D P ++ rest
       → HasNames free D levels names τ
-      → Written out put (encode levels (ren τ P)) r out′
+      → (low ≡ true → levels + height P ≤ 128)
+      → Writes low out put (encode levels (ren τ P)) r out′
 
 -- What a task asks for of the term at `at`.
 pub record WriteIs (question s : List ℕ) (at D : ℕ) (names : List ℕ) (task : Task) (out : List ℕ) (put r : ℕ) (out′ : List ℕ) : Type 0 where
   pub on : put ≤ r
-  pub is : (q : Question) (free : ℕ) (σ : ℕ → ℕ) (P : Term) (rest bs : List ℕ)
+  pub is : (low : Bool) (q : Question) (free : ℕ) (σ : ℕ → ℕ) (P : Term) (rest bs : List ℕ) (top : ℕ)
       → checkOf question ≡ result q
       → free ≤ nameCount
       → InScope free (q .arities) D P
       → drop at s ≡ encode D P ++ rest
-      → Asks names task (bodyOf (q .bodies)) free D σ P bs
-      → Written out put bs r out′
+      → Asks names task (bodyOf (q .bodies)) free D σ P bs top
+      → (low ≡ true → top ≤ 128)
+      → Writes low out put bs r out′
 
--- Room: every index of a binder has a byte, however many restrictions are written.
-abbrev pub Room : ℕ → List ℕ → ℕ → Type 0
-Room levels out put = (levels + length out ≤ 128 + put) × (put ≤ length out)
+-- Room: the restrictions that are written stand in the part before `at`, or one was added by [Close]; in the body of a call, in both. So a slot of
+-- each has a byte.
+abbrev pub Room : ℕ → ℕ → ℕ → List ℕ → ℕ → Type 0
+Room calls levels at out put = (levels + calls * 112 ≤ at + 113) × (put ≤ length out)
 
 -- The tasks that the code makes of a task.
 abbrev pub numbered : ℕ → Task → Task
@@ -137,12 +148,12 @@ meetingPlan names t middle n x z =
     (record { close = true; middle = middle; left = closing (visibly (n .left) t); right = closing (visibly (n .right) t) }))
 
 -- What is to be written of the two sides, and that the bytes of the whole are those.
-pub record Parts (names : List ℕ) (plan : Plan) (body : ℕ → Term) (free D : ℕ) (σ : ℕ → ℕ) (at : ℕ) (P Q : Term) (bs : List ℕ) : Type 0 where
+pub record Parts (names : List ℕ) (plan : Plan) (body : ℕ → Term) (free D : ℕ) (σ : ℕ → ℕ) (at : ℕ) (P Q : Term) (bs : List ℕ) (top : ℕ) : Type 0 where
   pub middle : plan .middle ≡ at + 1 + length (encode D P)
   pub first : List ℕ
   pub second : List ℕ
-  pub left : Asks names (plan .left) body free D σ P first
-  pub right : Asks names (plan .right) body free D σ Q second
+  pub left : Asks names (plan .left) body free D σ P first top
+  pub right : Asks names (plan .right) body free D σ Q second top
   pub bytes : bs ≡ opening (plan .close) ++ (first ++ second)
 
 pub record PlanIs (question s : List ℕ) (at D : ℕ) (names : List ℕ) (task : Task) (plan : Plan) : Type 0 where
@@ -151,11 +162,11 @@ pub record PlanIs (question s : List ℕ) (at D : ℕ) (names : List ℕ) (task 
   pub rightLevels : 1 + plan .right .levels ≡ task .levels + length (opening (plan .close))
   pub leftCalls : plan .left .calls ≡ task .calls
   pub rightCalls : plan .right .calls ≡ task .calls
-  pub is : (q : Question) (free : ℕ) (σ : ℕ → ℕ) (P Q : Term) (rest bs : List ℕ)
+  pub is : (q : Question) (free : ℕ) (σ : ℕ → ℕ) (P Q : Term) (rest bs : List ℕ) (top : ℕ)
       → checkOf question ≡ result q
       → free ≤ nameCount
       → InScope free (q .arities) D P
       → InScope free (q .arities) D Q
       → drop (at + 1) s ≡ encode D P ++ (encode D Q ++ rest)
-      → Asks names task (bodyOf (q .bodies)) free D σ (par P Q) bs
-      → Parts names plan (bodyOf (q .bodies)) free D σ at P Q bs
+      → Asks names task (bodyOf (q .bodies)) free D σ (par P Q) bs top
+      → Parts names plan (bodyOf (q .bodies)) free D σ at P Q bs top

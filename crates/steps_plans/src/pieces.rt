@@ -5,7 +5,7 @@ ghost use mathlib.Core.List.{[], _∷_};
 ghost use Prim.Native.Nat.{_+_, _≤_, _<_};
 ghost use lib.ListN.{length, getD};
 ghost use Rattle.steps_conditions.specs.Names.{mostBinders, nameSlots, Kept};
-ghost use Rattle.steps_plans.specs.Plans.{opening, StoreIs, TermIs, WriteIs, Room};
+ghost use Rattle.steps_plans.specs.Plans.{opening, StoreIs, TermIs, WriteIs};
 ghost use Rattle.steps_tallies.specs.Tally.{TallyIs, EndsTallied};
 use crate::plan::Cursor;
 use crate::plan::Task;
@@ -22,6 +22,9 @@ use terms_bytes::tags::PARALLEL;
 use terms_bytes::tags::RESTRICTION;
 use terms_bytes::tags::SILENT;
 use terms_renaming::rename::rename;
+
+// Binders one within the other whose indices have a byte.
+const MOST_LEVELS: usize = 128;
 
 // One byte.
 pub fn store(out: &mut [u8], put: usize, b: u8) -> usize
@@ -45,7 +48,7 @@ pub fn write_term(
     names: &[u8],
     out: &mut [u8],
 ) -> usize
-    requires { ⌜ (cursor .binders ≤ mostBinders) × Room levels (now out) (cursor .put) × EndsTallied (now question) (now src) (now tally) × (length (now names) ≡ nameSlots) ⌝ }
+    requires { ⌜ (cursor .binders ≤ mostBinders) × (cursor .put ≤ length (now out)) × EndsTallied (now question) (now src) (now tally) × (length (now names) ≡ nameSlots) ⌝ }
     ensures { λ r. ⌜ TermIs (now (question .entry)) (now (src .entry)) (cursor .at) (cursor .binders) (now (names .entry)) levels (now (out .entry)) (cursor .put) r (now (out .exit)) ⌝ }
 {
     let at = cursor.at;
@@ -62,6 +65,10 @@ pub fn write_term(
         copy(src, at, n, out, put);
         return put + n;
     }
+    // an index of more than a byte: what is written is not used
+    if MOST_LEVELS < levels {
+        return out.len() + 1;
+    }
     let table = renaming(names, binders, levels);
     rename(src, at, arities_of(question), &table, out, put);
     put + n
@@ -77,7 +84,7 @@ pub fn write_prefix(
     names: &mut [u8],
     out: &mut [u8],
 ) -> usize
-    requires { ⌜ (cursor .at < length (now src)) × (getD (now src) (cursor .at) 0 < 5) × (cursor .binders < mostBinders) × (task .still ≡ false) × (length (now names) ≡ nameSlots) × Room (task .levels) (now out) (cursor .put) × TallyIs (now question) (now src) (task .calls) (now tally) ⌝ }
+    requires { ⌜ (cursor .at < length (now src)) × (getD (now src) (cursor .at) 0 < 5) × (cursor .binders < mostBinders) × (task .still ≡ false) × (length (now names) ≡ nameSlots) × (cursor .put ≤ length (now out)) × TallyIs (now question) (now src) (task .calls) (now tally) ⌝ }
     ensures { λ r. ⌜ WriteIs (now (question .entry)) (now (src .entry)) (cursor .at) (cursor .binders) (now (names .entry)) task (now (out .entry)) (cursor .put) r (now (out .exit)) × Kept (cursor .binders) (now (names .entry)) (now (names .exit)) ⌝ }
 {
     let at = cursor.at;

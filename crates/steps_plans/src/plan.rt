@@ -121,7 +121,7 @@ fn side(task: Task, n: usize) -> Task
 
 // Beneath a restriction that is written: [Res].
 pub fn restrict(task: Task) -> Task
-    requires { ⌜ task .levels ≤ 128 ⌝ }
+    requires { ⌜ task .levels ≤ 225 ⌝ }
     ensures { λ r. ⌜ r ≡ beneath task ⌝ }
 {
     Task {
@@ -151,7 +151,7 @@ fn receive(task: Task, names: &[u8], slot: usize) -> Task
 
 // The name received or extruded is that of a new restriction: [Close].
 pub fn close(task: Task) -> Task
-    requires { ⌜ task .levels ≤ 128 ⌝ }
+    requires { ⌜ task .levels ≤ 225 ⌝ }
     ensures { λ r. ⌜ r ≡ closing task ⌝ }
 {
     Task {
@@ -194,7 +194,7 @@ fn split(j: usize, n: usize) -> Numbers
 
 // The sides of a communication whose actions are those of `x` and `z`.
 fn meet(task: Task, names: &[u8], middle: usize, n: Numbers, x: Passed, z: Passed) -> Plan
-    requires { ⌜ task .levels ≤ 128 ⌝ }
+    requires { ⌜ task .levels ≤ 225 ⌝ }
     ensures { λ r. ⌜ r ≡ meetingPlan (now (names .entry)) task middle n x z ⌝ }
 {
     let left = side(task, n.left);
@@ -234,7 +234,7 @@ pub fn plan_of(
     task: Task,
     names: &[u8],
 ) -> Plan
-    requires { ⌜ (length (now src) ≤ longestTerm) × (at < length (now src)) × (binders ≤ at + greatestArity) × (task .levels ≤ 128) × (task .still ≡ false) × (task .calls ≤ 1) × TallyIs (now question) (now src) (task .calls) (now tally) × BodiesTallied (now question) (now bodies) ⌝ }
+    requires { ⌜ (length (now src) ≤ longestTerm) × (at < length (now src)) × (binders ≤ at + greatestArity) × (task .levels ≤ 225) × (task .still ≡ false) × (task .calls ≤ 1) × TallyIs (now question) (now src) (task .calls) (now tally) × BodiesTallied (now question) (now bodies) ⌝ }
     ensures { λ r. ⌜ PlanIs (now (question .entry)) (now (src .entry)) at binders (now (names .entry)) task r ⌝ }
 {
     let calls = task.calls;

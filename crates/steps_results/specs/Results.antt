@@ -23,5 +23,5 @@ pub record ExtrudedIs (question s : List ℕ) (at D : ℕ) (task : Task) (r : Bo
 -- What the walk needs.
 abbrev pub Writing : List ℕ → List ℕ → List ℕ → List ℕ → ℕ → ℕ → List ℕ → Task → List ℕ → ℕ → Type 0
 Writing question bodies s t at D names task out put =
-    (length s ≤ longestTerm) × (D ≤ at + greatestArity) × (task .calls ≤ 1) × (length names ≡ nameSlots) × Room (task .levels) out put
+    (length s ≤ longestTerm) × (D ≤ at + greatestArity) × (task .calls ≤ 1) × (length names ≡ nameSlots) × Room (task .calls) (task .levels) at out put
     × TallyIs question s (task .calls) t × BodiesTallied question bodies

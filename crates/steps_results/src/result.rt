@@ -210,7 +210,7 @@ fn write_call(
     names: &[u8],
     out: &mut [u8],
 ) -> usize
-    requires { ⌜ (cursor .at < length (now src)) × (8 < getD (now src) (cursor .at) 0) × (task .still ≡ false) × (task .calls ≤ 1) × (length (now src) ≤ longestTerm) × (cursor .binders ≤ cursor .at + greatestArity) × Room (task .levels) (now out) (cursor .put) × BodiesTallied (now question) (now bodies) ⌝ }
+    requires { ⌜ (cursor .at < length (now src)) × (8 < getD (now src) (cursor .at) 0) × (task .still ≡ false) × (task .calls ≤ 1) × (length (now src) ≤ longestTerm) × (cursor .binders ≤ cursor .at + greatestArity) × Room (task .calls) (task .levels) (cursor .at) (now out) (cursor .put) × BodiesTallied (now question) (now bodies) ⌝ }
     ensures { λ r. ⌜ WriteIs (now (question .entry)) (now (src .entry)) (cursor .at) (cursor .binders) (now (names .entry)) task (now (out .entry)) (cursor .put) r (now (out .exit)) ⌝ }
 {
     let at = cursor.at;

@@ -9,17 +9,19 @@ use lib.Seq.{sets, length-sets, take-at, take-all}
 use Rattle.calculus.proofs.Renaming.{ren-id}
 use Rattle.terms.specs.Answer.{result}
 use Rattle.terms.specs.Encoding.{encode}
-use Rattle.terms.specs.Limits.{nameCount}
+use Rattle.terms.specs.Limits.{nameCount, longestTerm}
 use Rattle.terms.specs.Question.{Question, checkOf}
 use Rattle.terms.specs.Question.{bodyOf}
+use Rattle.terms_bytes.specs.Shape.{height}
+use Rattle.terms.proofs.RenamingKeeps.{length-ren}
 use Rattle.steps_conditions.specs.Names.{OwnNames}
 use Rattle.steps_tallies.specs.Candidates.{candidates}
 use Rattle.steps.specs.Raw.{blocked}
-use Rattle.steps_plans.specs.Plans.{chosen, Written, WriteIs}
+use Rattle.steps_plans.specs.Plans.{receiving, chosen, Written, WriteIs}
 use Rattle.steps_tallies.specs.Tally.{endAt, TallyIs}
 use Rattle.steps_tallies.proofs.FrontLaws.{stands, behind}
 use Rattle.steps_conditions.proofs.NameSlots.{names-own}
-use Rattle.steps_plans.proofs.ResultLaws.{written-to, written-then, written-stop}
+use Rattle.steps_plans.proofs.ResultLaws.{stored-to, stored-then, stored-stop, written-of}
 use Rattle.steps_splicing.specs.Locating.{Hole, HoleIs, Holes, MetResultIs}
 use Rattle.steps_splicing.specs.declared.locate.Located.{Located}
 
@@ -43,13 +45,13 @@ module _ (question part : List ℕ) (from : ℕ) (l : Located) (new : ℕ) (out 
   pub hole-shallow : put + (l .at - from) < l .depth → (r : ℕ) (out′ : List ℕ) → HoleIs question part from l new out put r out′
   hole-shallow h r out′ = record { is = λ q before bs after ok H deep. absurd (omega (arith, H .place)) }
 
-  pub hole-written : put + (l .at - from) ≤ length out → (names : List ℕ) → OwnNames (l .depth) names → (out₁ : List ℕ)
+  pub hole-written : length out ≤ longestTerm → put + (l .at - from) ≤ length out → (names : List ℕ) → OwnNames (l .depth) names → (out₁ : List ℕ)
       → out₁ ≡ sets out put (take (l .at - from) (drop from part)) → (r : ℕ) (out₂ : List ℕ)
       → WriteIs question part (l .at) (l .depth) names
       (record { new = new; levels = l .depth; calls = 1; still = false; silently = false; number = l .number }) out₁ (put + (l .at - from)) r out₂
       → HoleIs question part from l new out put r out₂
   unfolding chosen candidates
-  hole-written room names own out₁ copied r out₂ w = record {
+  hole-written small room names own out₁ copied r out₂ w = record {
     is = λ q before bs after ok H deep.
         let n : ℕ = l .at - from in
         let e : n ≡ length before = omega (arith, H .place) in
@@ -57,8 +59,11 @@ module _ (question part : List ℕ) (from : ℕ) (l : Located) (new : ℕ) (out 
         ap (take n) (H .bytes) ∙ take-at before (encode (l .depth) (H .term) ++ after) n (sym e) in
         let first : Written out put before (put + n) out₁ =
         record { fits = λ k. (omega arith, copied ∙ ap (sets out put) c); over = λ k. absurd (omega arith) } in
+        let same : length out₁ ≡ length out = ap length copied ∙ length-sets out put (take n (drop from part)) in
         let own-bytes : Written out₁ (put + n) bs r out₂ =
-        w .is q nameCount (λ m. m) (H .term) after bs ok (omega arith) (H .scope) (hole-stands q part from l new before bs after H)
+        written-of (l .depth) (H .result) out₁ (put + n) bs r out₂ (omega arith)
+        (ap length (H .is) ∙ length-ren (l .depth) (l .depth) (receiving (H .name) (λ n. n) (H .action)) (H .result))
+        (λ low shallow. w .is low q nameCount (λ m. m) (H .term) after bs (l .depth + height (H .result)) ok (omega arith) (H .scope) (hole-stands q part from l new before bs after H)
         (record {
           ρ = λ m. m;
           x = H .name;
@@ -69,8 +74,9 @@ module _ (question part : List ℕ) (from : ℕ) (l : Located) (new : ℕ) (out 
           result = H .result;
           candidate = ap (λ R. getD (candidates false (bodyOf (q .bodies)) 1 R) (l .number) blocked) (ren-id (H .term)) ∙ H .own;
           bytes = H .is;
-        }) in
-        written-then out put before (put + n) out₁ first bs r out₂ (omega arith) (ap length copied ∙ length-sets out put (take n (drop from part))) own-bytes;
+          bounded = omega arith;
+        }) shallow) in
+        stored-then out put before (put + n) out₁ first bs r out₂ (omega arith) same own-bytes;
   }
 
 -- Two results.
@@ -83,7 +89,7 @@ module _ (question part tally : List ℕ) (T : TallyIs question part 1 tally) (l
   met-stop h = record {
     is = λ q bytes ok H.
         rw (H .is ∙ sym (append-assoc (H .first) (H .one) (H .between ++ (H .two ++ H .last))))
-        (written-stop out 0 (H .first ++ H .one) m out₁ (first-written q bytes ok H) (H .between ++ (H .two ++ H .last)) h);
+        (stored-stop out 0 (H .first ++ H .one) m out₁ (first-written q bytes ok H) (H .between ++ (H .two ++ H .last)) h);
   }
 
   module _ (fits : m ≤ length out) (same : length out₁ ≡ length out) (from : ℕ) (at-from : from ≡ endAt tally (left .at)) (e : ℕ) (out₂ : List ℕ)
@@ -103,8 +109,8 @@ module _ (question part tally : List ℕ) (T : TallyIs question part 1 tally) (l
         → Written out 0 ((H .first ++ H .one) ++ (H .between ++ H .two)) e out₂
     both-written q bytes ok H =
         let w = first-written q bytes ok H in
-        let k = written-to out 0 (H .first ++ H .one) m out₁ w fits in
-        written-then out 0 (H .first ++ H .one) m out₁ w (H .between ++ H .two) e out₂ fits same
+        let k = stored-to out 0 (H .first ++ H .one) m out₁ w fits in
+        stored-then out 0 (H .first ++ H .one) m out₁ w (H .between ++ H .two) e out₂ fits same
         (two .is q (H .between) (H .two) (H .last) ok (right-hole q bytes ok H) (omega (arith, k, H .rightDeep, length-append (H .first) (H .one))))
 
     joined : (q : Question) (bytes : List ℕ) (H : Holes q part left right new bytes) → bytes ≡ ((H .first ++ H .one) ++ (H .between ++ H .two)) ++ H .last
@@ -114,7 +120,7 @@ module _ (question part tally : List ℕ) (T : TallyIs question part 1 tally) (l
     met-stop-2 h = record {
       is = λ q bytes ok H.
           rw (joined q bytes H)
-          (written-stop out 0 ((H .first ++ H .one) ++ (H .between ++ H .two)) e out₂ (both-written q bytes ok H) (H .last) h);
+          (stored-stop out 0 ((H .first ++ H .one) ++ (H .between ++ H .two)) e out₂ (both-written q bytes ok H) (H .last) h);
     }
 
     module _ (fits₂ : e ≤ length out) (same₂ : length out₂ ≡ length out) (end : ℕ) (at-end : end ≡ endAt tally (right .at)) where
@@ -144,7 +150,7 @@ module _ (question part tally : List ℕ) (T : TallyIs question part 1 tally) (l
           → Written out₂ e (H .last) r out₃ → Written out 0 bytes r out₃
       ended q bytes ok H r out₃ w =
           rw (joined q bytes H)
-          (written-then out 0 ((H .first ++ H .one) ++ (H .between ++ H .two)) e out₂ (both-written q bytes ok H) (H .last) r out₃ fits₂ same₂ w)
+          (stored-then out 0 ((H .first ++ H .one) ++ (H .between ++ H .two)) e out₂ (both-written q bytes ok H) (H .last) r out₃ fits₂ same₂ w)
 
       pub met-short : length part < end → (r : ℕ) (out₃ : List ℕ) → MetResultIs question part left right new out r out₃
       met-short h r out₃ = record { is = λ q bytes ok H. absurd (omega (arith, within q bytes ok H)) }

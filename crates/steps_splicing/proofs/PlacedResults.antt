@@ -13,10 +13,13 @@ use Rattle.calculus.specs.Cond.{Cond, mapP}
 use Rattle.calculus.specs.Term.{Term, par, res, ren, lift, _•_}
 use Rattle.calculus.proofs.Renaming.{lift-id, ren-id, ren-triangle}
 use Rattle.terms.specs.Encoding.{encode}
-use Rattle.terms.specs.Limits.{nameCount}
+use Rattle.terms.specs.Limits.{nameCount, longestTerm}
 use Rattle.terms.specs.Question.{Question}
 use Rattle.terms_bytes.proofs.Stores.{sets-join}
 use Rattle.terms.specs.Question.{bodyOf}
+use Rattle.terms_bytes.specs.Shape.{height}
+use Rattle.terms.proofs.RenamingKeeps.{length-ren}
+use Rattle.steps_plans.proofs.ResultLaws.{written-of}
 use Rattle.steps_conditions.specs.Names.{OwnNames}
 use Rattle.steps_tallies.specs.Candidates.{candidates}
 use Rattle.steps.specs.Forms.{resultForm}
@@ -184,7 +187,8 @@ trivial-result x M α A t = receiving-canonical x M α A ∙ ap (λ (f : ℕ →
 -- What is written of a component, between what is copied.
 module _ (question part tally : List ℕ) (T : TallyIs question part 1 tally) (at depth : ℕ) (silently : Bool) (j x : ℕ) (out names : List ℕ)
     (own : OwnNames depth names) (m : ℕ) (out₁ out₂ : List ℕ) (copied : out₁ ≡ sets out 0 (take at (drop 0 part)))
-    (w : WriteIs question part at depth names (record { new = x; levels = depth; calls = 1; still = false; silently = silently; number = j }) out₁ at m out₂) (end : ℕ) (ends : end ≡ endAt tally at) where
+    (w : WriteIs question part at depth names (record { new = x; levels = depth; calls = 1; still = false; silently = silently; number = j }) out₁ at m out₂)
+    (small : length out ≤ longestTerm) (deep : depth ≤ at) (end : ℕ) (ends : end ≡ endAt tally at) where
   module _ (q : Question) (P : Term) (l : Lists question part x q P) (K : List Frame) (C : Term) (first number : ℕ) (M : Cond) (α : Act) (A : Term)
       (r : Raises q P K C at depth first number silently j M α A) (t : Trivial M) where
     abbrev own-result : List ℕ
@@ -200,7 +204,9 @@ module _ (question part tally : List ℕ) (T : TallyIs question part 1 tally) (a
     written : Written out₁ at own-result m out₂
     unfolding chosen
     written =
-        w .is q nameCount (λ n. n) C (bytesBehind K) own-result (l .accepted) (omega arith) (r .placed .scope) (placed-bytes l (r .placed))
+        let same : length out₁ ≡ length out = ap length copied ∙ length-sets out 0 (take at (drop 0 part)) in
+        written-of depth (r .result) out₁ at own-result m out₂ (omega arith) (length-ren depth depth (receiving (depth + x) (λ n. n) (r .action)) (r .result))
+        (λ low shallow. w .is low q nameCount (λ n. n) C (bytesBehind K) own-result (depth + height (r .result)) (l .accepted) (omega arith) (r .placed .scope) (placed-bytes l (r .placed))
         (record {
           ρ = λ n. n;
           x = depth + x;
@@ -211,7 +217,8 @@ module _ (question part tally : List ℕ) (T : TallyIs question part 1 tally) (a
           result = r .result;
           candidate = ap (λ R. getD (candidates silently (bodyOf (q .bodies)) 1 R) j blocked) (ren-id C) ∙ r .own;
           bytes = refl;
-        })
+          bounded = omega arith;
+        }) shallow)
 
     before : take at (drop 0 part) ≡ bytesBefore K
     before = ap (take at) (placed-split l (r .placed)) ∙ take-at (bytesBefore K) (encode depth C ++ bytesBehind K) at (r .placed .place)

@@ -85,7 +85,7 @@ fn-ren ρ (par P Q) = ap₂ _++_ (fn-ren ρ P) (fn-ren ρ Q) ∙ sym (map-++ ρ 
 fn-ren ρ (res P) = ap lowerL (fn-ren (lift ρ) P) ∙ lower-map ρ (fn P)
 fn-ren ρ (call k xs) = refl
 
-restrictions-ren : (ρ : ℕ → ℕ) (P : Term) → restrictions (ren ρ P) ≡ restrictions P
+pub restrictions-ren : (ρ : ℕ → ℕ) (P : Term) → restrictions (ren ρ P) ≡ restrictions P
 unfolding restrictions
 restrictions-ren ρ nil = refl
 restrictions-ren ρ (tau P) = restrictions-ren ρ P

@@ -5,7 +5,7 @@ use mathlib.Core.List.{[], _∷_}
 use native.Mathlib.Omega.{arith}
 use borrow.Author.Tests.{not-true, not-false}
 use borrow.Author.Needs.{needs}
-use Rattle.steps_plans.proofs.ResultLaws.{written-then, written-stop}
+use Rattle.steps_plans.proofs.ResultLaws.{stored-then, stored-stop}
 use Rattle.steps_plans.proofs.pieces.open_pair.Statement.{statement}
 use Rattle.steps_plans.proofs.pieces.open_pair.Tie as tie
 
@@ -34,7 +34,7 @@ returns-2 c =
     let e : v .closed ≡ true = not-false _ (c .before .before .before .before .before .if1 .left) in rw e (record {
       on =
           c .before .before .before .store2 .ensures .on;
-      is = written-stop (v .out .now) (v .put) (8 ∷ []) (c .before .before .before .store2 .result) _
+      is = stored-stop (v .out .now) (v .put) (8 ∷ []) (c .before .before .before .store2 .result) _
           (c .before .before .before .store2 .ensures .is) (7 ∷ []) (search needs);
     })
 
@@ -51,7 +51,7 @@ returns-3 c =
       on
           = omega (arith, c .before .before .before .before .before .before .before .store2 .ensures .on, c .before .before .store3 .ensures .on);
       is =
-          written-then (v .out .now) (v .put) (8 ∷ []) (c .before .before .before .before .before .before .before .store2 .result) _
+          stored-then (v .out .now) (v .put) (8 ∷ []) (c .before .before .before .before .before .before .before .store2 .result) _
           (c .before .before .before .before .before .before .before .store2 .ensures .is) (7 ∷ []) (c .before .before .store3 .result) _ (search needs)
           (search needs) (c .before .before .store3 .ensures .is);
     })

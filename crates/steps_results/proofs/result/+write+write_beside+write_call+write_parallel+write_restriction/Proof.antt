@@ -17,7 +17,7 @@ use Rattle.terms_bytes.proofs.bytes.room.Reads as room-reads
 use Rattle.steps_tallies.specs.Tally.{TallyIs}
 use Rattle.steps_plans.specs.Plans.{opening}
 use Rattle.steps_plans.specs.declared.plan.Task.{Task}
-use Rattle.steps_plans.proofs.ResultLaws.{ends-tallied, written-to, write-none, write-still, write-mat, write-branch, write-open, write-res, write-res-stop, write-closed, write-opened, write-par-stop, write-left-stop, write-par}
+use Rattle.steps_plans.proofs.ResultLaws.{ends-tallied, opening-short, write-none, write-still, write-mat, write-branch, write-open, write-res, write-res-stop, write-closed, write-opened, write-par-stop, write-left-stop, write-par}
 use Rattle.steps_conditions.proofs.NameSlots.{kept-all, kept-within, kept-then}
 use Rattle.steps_results.proofs.result.write.Reads as write
 use Rattle.steps_results.proofs.result.write.Kinds as write-kinds
@@ -197,7 +197,7 @@ write-write-term-requires t c κs =
     let c10 = c3 .before .before .before .before .before .before .before in
     let v = c10 .args in (
       omega (arith, c10 .pre .1 .0, c10 .pre .1 .1, c3 .if1 .left),
-      c10 .pre .1 .4,
+      c10 .pre .1 .4 .1,
       ends-tallied (v .question .now) (v .src .now) (v .task .calls)
           (v .tally .now) (c10 .pre .1 .5),
       c10 .pre .1 .3,
@@ -234,7 +234,7 @@ write-write-prefix-requires t c κs =
       omega (arith, c12 .pre .1 .0, c12 .pre .1 .1, c5 .if1 .left),
       c4 .if2 .left,
       c12 .pre .1 .3,
-      c12 .pre .1 .4,
+      c12 .pre .1 .4 .1,
       c12 .pre .1 .5,
     )
 
@@ -260,7 +260,7 @@ write-write-requires t c κs =
         omega (arith, c13 .pre .1 .1),
         c13 .pre .1 .2,
         c13 .pre .1 .3,
-        c13 .pre .1 .4,
+        (omega (arith, c13 .pre .1 .4 .0), c13 .pre .1 .4 .1),
         c13 .pre .1 .5,
         c13 .pre .1 .6,
       ),
@@ -688,8 +688,7 @@ write-parallel-write-requires t c κs =
     let c16 = c8 .before .before .before .before .before .before .before .before in
     let a = c16 .args in
     let s = c6 .open-pair .kept .0 in
-    let w = written-to (a .out .now) (a .cursor .put) (opening (c8 .plan-of .result .close)) (c6 .open-pair .result) _ (c6 .open-pair .ensures .is)
-    (omega (arith, s, c3 .if1 .left)) in
+    let w = opening-short (c8 .plan-of .result .close) in
     let k = c8 .plan-of .ensures .leftCalls in (
       omega (arith, c16 .pre .0, c16 .pre .1 .0, k),
       (
@@ -697,7 +696,7 @@ write-parallel-write-requires t c κs =
         omega (arith, c16 .pre .1 .3 .1),
         omega (arith, k, c16 .pre .1 .3 .2),
         c16 .pre .1 .3 .3,
-        (omega (arith, s, w, c16 .pre .1 .3 .4, c8 .plan-of .ensures .leftLevels), omega (arith, s, c3 .if1 .left)),
+        (omega (arith, w, k, c16 .pre .1 .3 .4 .0, c8 .plan-of .ensures .leftLevels), omega (arith, s, c3 .if1 .left)),
         subst (λ (n : ℕ).
             TallyIs (a .question .now) (a .src .now) n (a .tally .now)) (sym k) (c16 .pre .1 .3 .5),
         c16 .pre .1 .3 .6,
@@ -739,8 +738,7 @@ write-parallel-write-requires-2 t c κs =
     let c25 = c17 .before .before .before .before .before .before .before .before in
     let a = c25 .args in
     let s = c15 .open-pair .kept .0 in
-    let w = written-to (a .out .now) (a .cursor .put) (opening (c17 .plan-of .result .close)) (c15 .open-pair .result) _ (c15 .open-pair .ensures .is)
-    (omega (arith, s, c12 .if1 .left)) in
+    let w = opening-short (c17 .plan-of .result .close) in
     let u = c8 .write .kept .1 .1 .1 .1 .1 .1 .1 .0 in
     let v = c8 .write .kept .1 .1 .1 .1 .1 .1 .0 in
     let k = c17 .plan-of .ensures .rightCalls in (
@@ -755,15 +753,7 @@ write-parallel-write-requires-2 t c κs =
         omega (arith, k, c25 .pre .1 .3 .2),
         v ∙ c25 .pre .1 .3 .3,
         (
-          omega (
-            arith,
-            s,
-            u,
-            w,
-            c25 .pre .1 .3 .4,
-            c17 .plan-of .ensures .rightLevels,
-            c8 .write .ensures .0 .on,
-          ),
+          omega (arith, w, k, c25 .pre .1 .3 .4 .0, c17 .plan-of .ensures .rightLevels, c17 .plan-of .ensures .on),
           omega (arith, s, u, c3 .if2 .left),
         ),
         subst (λ (n : ℕ). TallyIs
@@ -835,7 +825,7 @@ write-restriction-write-requires t c κs =
         c10 .pre .1 .3 .2,
         length-set (a .names .now)
             (tableNames + a .cursor .binders) (a .task .new) ∙ c10 .pre .1 .3 .3,
-        c10 .pre .1 .3 .4,
+        (omega (arith, c10 .pre .1 .3 .4 .0), c10 .pre .1 .3 .4 .1),
         c10 .pre .1 .3 .5,
         c10 .pre .1 .3 .6,
       ),
@@ -922,7 +912,6 @@ write-restriction-write-requires-2 t c κs =
     let c17 = c7 .before .before .before .before .before .before .before .before .before .before in
     let a = c17 .args in
     let s = c7 .store .kept .0 in
-    let w = written-to (a .out .now) (a .cursor .put) (8 ∷ []) (c7 .store .result) _ (c7 .store .ensures .is) (omega (arith, s, c4 .if2 .left)) in
     let k : c2 .restrict .result .calls ≡ a .task .calls = ap (λ (t : Task). t .calls) (c2 .restrict .ensures) in
     let l : c2 .restrict .result .levels ≡ a .task .levels + 1 = ap (λ (t : Task). t .levels) (c2 .restrict .ensures) in (
       omega (arith, c17 .pre .0, c17 .pre .1 .0, k),
@@ -932,13 +921,7 @@ write-restriction-write-requires-2 t c κs =
         omega (arith, k, c17 .pre .1 .3 .2),
         length-set (a .names .now) (tableNames + a .cursor .binders) (tableNames + a .task .levels) ∙ c17 .pre .1 .3 .3,
         (
-          omega (
-            arith,
-            l,
-            s,
-            w,
-            c17 .pre .1 .3 .4,
-          ),
+          omega (arith, l, k, c17 .pre .1 .3 .4 .0),
           omega (arith, s, c4 .if2 .left),
         ),
         subst (λ (n : ℕ). TallyIs (a .question .now) (a .src .now) n (a .tally .now)) (sym k)

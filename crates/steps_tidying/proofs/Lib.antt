@@ -1,0 +1,4 @@
+pub mod RawBounds
+pub mod TidiedResults
+pub mod TidyLists
+pub mod Unrestricted

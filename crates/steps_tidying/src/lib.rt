@@ -1,0 +1,2 @@
+// Results tidied before they are listed.
+pub mod result;
