@@ -129,7 +129,7 @@ fn the_exit_status_is_that_of_the_worst() {
         assert_eq!(status(&desk(&["explain", file])), expected);
     }
     assert_eq!(status(&desk(&["explain", missing])), 3);
-    for wrong in [&["judge"][..], &["judge", "--early", &same], &["jugde"], &[]] {
+    for wrong in [&["judge"][..], &["explain", "--early", &same], &["jugde"], &[]] {
         assert_eq!(status(&desk(wrong)), 4);
     }
     for help in [&["--help"][..], &["judge", "--help"], &["draw", "-h"]] {
