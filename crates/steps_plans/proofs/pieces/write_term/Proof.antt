@@ -15,7 +15,8 @@ returns : tie.Need-returns
 returns c =
     let c6 = c .before .before .before .before .before .before in
     let a = c6 .args in
-    term-none (a .question .now) (a .src .now) (a .cursor .at) (a .cursor .binders) (a .names .now) (a .levels) (a .out .now) (a .cursor .put) (c .if1 .taken) (c6 .pre .1)
+    term-none (a .question .now) (a .src .now) (a .cursor .at) (a .cursor .binders) (a .names .now) (a .levels) (a .out .now) (a .cursor .put)
+    (c .if1 .taken) (c6 .pre .1)
 
 end-at-requires : tie.Need-end-at-requires
 end-at-requires c κs = search needs
@@ -36,8 +37,8 @@ returns-2 c =
     let c2 = c .before .before in
     let c9 = c2 .before .before .before .before .before .before .before in
     let a = c9 .args in
-    term-full (a .question .now) (a .src .now) (a .cursor .at) (a .cursor .binders) (a .names .now) (a .levels) (a .out .now) (a .cursor .put) (a .tally .now) (c9 .pre .2)
-    (c2 .end-at .result) (c2 .end-at .ensures) (c9 .pre .1) (leb-false _ _ (sym (c .before .room .ensures) ∙ not-true _ (c .if2 .taken)))
+    term-full (a .question .now) (a .src .now) (a .cursor .at) (a .cursor .binders) (a .names .now) (a .levels) (a .out .now) (a .cursor .put)
+    (a .tally .now) (c9 .pre .2) (c2 .end-at .result) (c2 .end-at .ensures) (c9 .pre .1) (leb-false _ _ (sym (c .before .room .ensures) ∙ not-true _ (c .if2 .taken)))
 
 unchanged-requires : tie.Need-unchanged-requires
 unchanged-requires c κs = search needs
@@ -84,8 +85,8 @@ returns-4 c =
     let c5 = c .before .before .before .before .before in
     let c12 = c5 .before .before .before .before .before .before .before in
     let a = c12 .args in
-    term-deep (a .question .now) (a .src .now) (a .cursor .at) (a .cursor .binders) (a .names .now) (a .levels) (a .out .now) (a .cursor .put) (a .tally .now) (c12 .pre .2)
-    (c5 .end-at .result) (c5 .end-at .ensures) (c12 .pre .1) (omega (arith, c .if4 .taken))
+    term-deep (a .question .now) (a .src .now) (a .cursor .at) (a .cursor .binders) (a .names .now) (a .levels) (a .out .now) (a .cursor .put)
+    (a .tally .now) (c12 .pre .2) (c5 .end-at .result) (c5 .end-at .ensures) (c12 .pre .1) (omega (arith, c .if4 .taken))
 
 renaming-requires : tie.Need-renaming-requires
 renaming-requires c κs = search needs
@@ -119,8 +120,8 @@ returns-5 c =
     let c12 = c11 .before in
     let c19 = c12 .before .before .before .before .before .before .before in
     let a = c19 .args in
-    term-done (a .question .now) (a .src .now) (a .cursor .at) (a .cursor .binders) (a .names .now) (a .levels) (a .out .now) (a .cursor .put) (a .tally .now) (c19 .pre .2)
-    (c12 .end-at .result) (c12 .end-at .ensures) (leb-true _ _ (sym (c11 .room .ensures) ∙ not-false _ (c10 .if2 .left)))
+    term-done (a .question .now) (a .src .now) (a .cursor .at) (a .cursor .binders) (a .names .now) (a .levels) (a .out .now) (a .cursor .put)
+    (a .tally .now) (c19 .pre .2) (c12 .end-at .result) (c12 .end-at .ensures) (leb-true _ _ (sym (c11 .room .ensures) ∙ not-false _ (c10 .if2 .left)))
     (c5 .arities-of .result .now) (c5 .arities-of .ensures) (c6 .renaming .result) (c6 .renaming .ensures) (c2 .rename .result) _
     (c2 .rename .ensures)
 

@@ -15,7 +15,6 @@ use Rattle.terms_bytes.proofs.bytes.copy.Reads as copy-reads
 use Rattle.terms_bytes.proofs.bytes.get.Reads as get-reads
 use Rattle.terms_bytes.proofs.bytes.room.Reads as room-reads
 use Rattle.steps_tallies.specs.Tally.{TallyIs}
-use Rattle.steps_plans.specs.Plans.{opening}
 use Rattle.steps_plans.specs.declared.plan.Task.{Task}
 use Rattle.steps_plans.proofs.ResultLaws.{ends-tallied, opening-short, write-none, write-still, write-mat, write-branch, write-open, write-res, write-res-stop, write-closed, write-opened, write-par-stop, write-left-stop, write-par}
 use Rattle.steps_conditions.proofs.NameSlots.{kept-all, kept-within, kept-then}

@@ -71,8 +71,8 @@ returns c =
     c4 .if1 .taken) in
     placed-stored (a .question .now) (a .part .now) (a .tally .now) (c23 .pre .0 .1) (a .place .at) (a .place .depth) (a .candidate .silently)
     (a .candidate .number) (a .candidate .x) (a .out .now) (c17 .own-names .result) (c17 .own-names .ensures) (c10 .write .result) _ _
-    (c15 .copy .ensures) (c10 .write .ensures .0) (omega (arith, c23 .pre .2)) (c23 .pre .1 .0) (c6 .end-at .result) (c6 .end-at .ensures) (omega (arith, c23 .pre .2)) _
-    (c .before .before .copy2 .ensures)
+    (c15 .copy .ensures) (c10 .write .ensures .0) (omega (arith, c23 .pre .2)) (c23 .pre .1 .0)
+    (c6 .end-at .result) (c6 .end-at .ensures) (omega (arith, c23 .pre .2)) _ (c .before .before .copy2 .ensures)
 
 add-result-2 : tie.Need-add-result-2
 add-result-2 c = search needs
@@ -92,7 +92,8 @@ returns-2 c =
     c .if1 .left) in
     placed-over (a .question .now) (a .part .now) (a .tally .now) (c19 .pre .0 .1) (a .place .at) (a .place .depth) (a .candidate .silently)
     (a .candidate .number) (a .candidate .x) (a .out .now) (c13 .own-names .result) (c13 .own-names .ensures) (c6 .write .result) _ _
-    (c11 .copy .ensures) (c6 .write .ensures .0) (omega (arith, c19 .pre .2)) (c19 .pre .1 .0) (c2 .end-at .result) (c2 .end-at .ensures) (omega arith) _ (omega arith)
+    (c11 .copy .ensures) (c6 .write .ensures .0) (omega (arith, c19 .pre .2)) (c19 .pre .1 .0)
+    (c2 .end-at .result) (c2 .end-at .ensures) (omega arith) _ (omega arith)
 
 pub write-placed-spec : {M : Type 1} → statement M
 write-placed-spec =

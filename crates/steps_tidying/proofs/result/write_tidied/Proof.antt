@@ -32,8 +32,9 @@ returns c =
     let c7 = c4 .before .before .before in
     let c15 = c7 .before .before .before .before .before .before .before .before in
     let v = c15 .args in
-    tidied-written (v .question .now) (v .part .now) (v .candidate .silently) (v .candidate .number) (v .class .now) (v .candidate .x) (replicate longestRaw 0) _ (v .out .now) _ (c4 .arities-of .result .now)
-    (c7 .write-result .result) (c2 .tidy .result) refl (c15 .pre .2) (c7 .write-result .ensures) (c4 .arities-of .ensures) (c2 .tidy .ensures)
+    tidied-written (v .question .now) (v .part .now) (v .candidate .silently) (v .candidate .number) (v .class .now) (v .candidate .x)
+    (replicate longestRaw 0) _ (v .out .now) _ (c4 .arities-of .result .now) (c7 .write-result .result) (c2 .tidy .result) refl
+    (c15 .pre .2) (c7 .write-result .ensures) (c4 .arities-of .ensures) (c2 .tidy .ensures)
 
 pub write-tidied-spec : {M : Type 1} → statement M
 write-tidied-spec =
