@@ -1,34 +1,24 @@
--- Loops without an exit: one counts where a test fails, the other says whether it fails anywhere. Assumes nothing.
+-- Loops without an exit, which say whether a test fails anywhere: exactly, or on one side. Assumes nothing.
 use mathlib.Core.Path.{_≡_}
 use mathlib.Core.Bool.{Bool, true, false}
 use Prim.Native.Nat.{ℕ, _+_, _<_, _≤_}
 use native.Mathlib.Omega.{arith}
 use borrow.Author.Count.{below-more}
 
--- Of the numbers below i, n fail the test.
-pub record Failing (holds : ℕ → Type 0) (i n : ℕ) : Type 0 where
-  pub few : n ≤ i
-  pub none : n ≡ 0 → (j : ℕ) → j < i → holds j
-  pub all : ((j : ℕ) → j < i → holds j) → n ≡ 0
+-- The answer is yes exactly if the numbers below i pass the test.
+pub record Deciding (holds : ℕ → Type 0) (i : ℕ) (t : Bool) : Type 0 where
+  pub yes : t ≡ true → (j : ℕ) → j < i → holds j
+  pub no : t ≡ false → ((j : ℕ) → j < i → holds j) → ⊥
 
 module _ (holds : ℕ → Type 0) where
-  pub failing-start : Failing holds 0 0
-  failing-start = record { few = omega arith; none = λ z j l. absurd (omega arith); all = λ h. omega arith }
+  pub deciding-start : Deciding holds 0 true
+  deciding-start = record { yes = λ q j l. absurd (omega arith); no = λ q h. let z : _≡_ {A = ℕ} 0 1 = cc in absurd (omega arith) }
 
-  module _ (i n : ℕ) (so : Failing holds i n) where
-    pub failing-not : holds i → Failing holds (i + 1) n
-    failing-not h = record {
-      few = omega (arith, so .few);
-      none = λ z. below-more holds i (so .none z) h;
-      all = λ t. so .all (λ j l. t j (omega arith));
-    }
+  pub deciding-failed : (i : ℕ) → (holds i → ⊥) → Deciding holds (i + 1) false
+  deciding-failed i k = record { yes = λ q. let z : _≡_ {A = ℕ} 0 1 = cc in absurd (omega arith); no = λ q h. k (h i (omega arith)) }
 
-    pub failing-more : (holds i → ⊥) → Failing holds (i + 1) (n + 1)
-    failing-more k = record {
-      few = omega (arith, so .few);
-      none = λ z. absurd (omega arith);
-      all = λ t. absurd (k (t i (omega arith)));
-    }
+  pub deciding-next : (i : ℕ) (t : Bool) → Deciding holds i t → holds i → Deciding holds (i + 1) t
+  deciding-next i t so h = record { yes = λ q. below-more holds i (so .yes q) h; no = λ q a. so .no q (λ j l. a j (omega arith)) }
 
 -- Where the answer is yes, the numbers below i pass the test.
 abbrev pub Passing : (ℕ → Type 0) → ℕ → Bool → Type 0

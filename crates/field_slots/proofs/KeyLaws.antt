@@ -6,8 +6,6 @@ use Prim.Native.Nat.{ℕ, zero, suc, _+_, _-_, _*_, _/_, _%_, _^_, _<_, _≤_}
 use native.Mathlib.Decide.{decLt}
 use native.Mathlib.Nat.{zero-div}
 use native.Mathlib.Omega.{arith}
-use borrow.Author.Tests.{eqb-true, eqb-false}
-use lib.Dec.{eqb}
 use lib.ListN.{length, getD, take, drop, set, replicate, length-append, length-drop, length-replicate, getD-replicate, List·getD-eq-default}
 use lib.Seq.{sets, drop-drop, drop-at, take-at, getD-take, getD-drop, length-take-le, ext-getD}
 use Rattle.calculus.specs.Cond.{Pairs}
@@ -25,7 +23,7 @@ use Rattle.field_pairs.specs.PairFlags.{pairCount}
 use Rattle.field.specs.Situation.{Situation}
 use Rattle.field_pairs.specs.Slot.{partBytes, flag, flagsOf, octet, octets, packed, keyOf, keyBytes, slotBytes, partRoom}
 use Rattle.field_slots.specs.declared.find.Found.the-variants.{At}
-use Rattle.field_pairs.proofs.Counting.{Failing}
+use Rattle.field_pairs.proofs.Counting.{Deciding}
 use Rattle.field_pairs.proofs.PairLaws.{length-flags, flag-at}
 use Rattle.field_slots.proofs.Runs.{length-mapped, mapped-at, fill-run, fill-past}
 
@@ -265,18 +263,17 @@ module _ (area : List ℕ) (at : ℕ) (key : List ℕ) (la : at + keyBytes ≤ l
   read : (i : ℕ) → i < keyBytes → getD (take keyBytes (drop at area)) i 0 ≡ getD area (at + i) 0
   read i l = getD-take keyBytes (drop at area) i 0 l ∙ getD-drop at area i 0
 
-  -- the number of bytes that differ is 0
-  pub key-is : (i n : ℕ) → i ≡ keyBytes → Failing (SameByte area at key) i n → SameKeyIs area at key (eqb n 0)
-  key-is i n past so = record {
+  -- no byte differs
+  pub key-is : (i : ℕ) (t : Bool) → i ≡ keyBytes → Deciding (SameByte area at key) i t → SameKeyIs area at key t
+  key-is i t past so = record {
     same = λ q. ext-getD 0 (take keyBytes (drop at area)) (take keyBytes key) (length-span area at keyBytes la ∙ sym (length-take-le keyBytes key lk))
         (λ j l.
         let m : j < keyBytes = omega (arith, length-span area at keyBytes la) in
-        read j m ∙ so .none (eqb-true n 0 q) j (omega arith) ∙ sym (getD-take keyBytes key j 0 m));
+        read j m ∙ so .yes q j (omega arith) ∙ sym (getD-take keyBytes key j 0 m));
     other = λ q e.
-        let all : n ≡ 0 = so .all (λ j l.
+        so .no q (λ j l.
         let m : j < keyBytes = omega arith in
-        sym (read j m) ∙ ap (λ x. getD x j 0) e ∙ getD-take keyBytes key j 0 m) in
-        eqb-false n 0 q all;
+        sym (read j m) ∙ ap (λ x. getD x j 0) e ∙ getD-take keyBytes key j 0 m);
   }
 
 -- Which slot has the key.

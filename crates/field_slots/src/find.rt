@@ -16,15 +16,15 @@ pub fn same_key(area: &[u8], at: usize, key: &[u8]) -> bool
     requires { ⌜ (at + keyBytes ≤ length (now area)) × (keyBytes ≤ length (now key)) ⌝ }
     ensures { λ r. ⌜ SameKeyIs (now (area .entry)) at (now (key .entry)) r ⌝ }
 {
-    let mut different: u16 = 0;
+    let mut same = true;
     let mut i = 0;
     while i < KEY_BYTES {
         if area[at + i] != key[i] {
-            different += 1;
+            same = false;
         }
         i += 1;
     }
-    different == 0
+    same
 }
 
 // What a search among the slots finds.
