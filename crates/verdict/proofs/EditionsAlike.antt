@@ -13,14 +13,16 @@ use Rattle.terms.specs.Question.{questionOf}
 use Rattle.terms.proofs.Converting.{there-and-back, one-question}
 use Rattle.steps.specs.Operations.{listOf}
 use Rattle.steps.specs.Operations.{areaAfter as listingAfter}
-use Rattle.verdict.specs.Judge.{judgeBy, judgeOf, workAfter}
+use Rattle.verdict.specs.Judge.{judgeBy, workAfter}
 use Rattle.verdict.specs.Outcome.{Outcome, gave, turnedBack, Says, ofNumber, ofVerdict, ofListing, codeOf}
-use Rattle.verdict.specs.Promises.{StepsIs, ConvertIs, JudgeIs}
+use Rattle.verdict.specs.Promises.{StepsIs, ConvertIs, JudgesBy}
+use Rattle.verdict.specs.Verdict.{Manner}
 use Rattle.verdict.proofs.OutcomeLaws.{says-once}
 
--- The two are one question to judge and to listing: answers and every lent byte are the same.
+-- The two are one question to judge, openly, late and early, and to listing: answers and every lent byte are the same.
 pub record Alike (question next : List ℕ) : Type 0 where
-  pub judged : (capacity : ℕ) (work : List ℕ) (r s : ℕ) (after after′ : List ℕ) → JudgeIs question capacity work r after → JudgeIs next capacity work s after′
+  pub judged : (m : Manner) (capacity : ℕ) (work : List ℕ) (r s : ℕ) (after after′ : List ℕ) → JudgesBy m question capacity work r after
+      → JudgesBy m next capacity work s after′
       → (r ≡ s) × (after ≡ after′)
   pub listed : (side name : ℕ) (area : List ℕ) (r s : ℕ) (after after′ : List ℕ) → StepsIs question side name area r after → StepsIs next side name area s after′
       → (r ≡ s) × (after ≡ after′)
@@ -28,8 +30,8 @@ pub record Alike (question next : List ℕ) : Type 0 where
 pub same-question : (question next : List ℕ) → questionOf next ≡ questionOf question → Alike question next
 unfolding judgeBy listOf
 same-question question next e = record {
-  judged = λ capacity work r s after after′ p q.
-      let same : judgeOf next capacity (length work) ≡ judgeOf question capacity (length work) = rw e in (
+  judged = λ m capacity work r s after after′ p q.
+      let same : judgeBy m next capacity (length work) ≡ judgeBy m question capacity (length work) = rw e in (
         p .answer .number ∙ sym (q .answer .number ∙ ap (λ m. codeOf (ofVerdict m)) same),
         p .left ∙ sym (q .left ∙ ap (λ m. workAfter m capacity work) same),
       );
