@@ -1,9 +1,9 @@
 #!/usr/bin/env python3
 """Questions whose fewest pairs to hold apart are sought (document 02, request 2026-06), and their lines.
 
-Writes stdin (the number of cases; for each its length in two bytes, the greater half first, then its capacity in two bytes, the length of the
-result area in one, the names behind their number, and the question) and stdout (one line a case: the length and the bytes of the list, in
-decimal). Run it in this folder after a change of the cases.
+Writes stdin (the number of cases; for each its length in two bytes, the greater half first, then its capacity in two bytes, how many bytes
+the result area is too short in one, the names behind their number, and the question) and stdout (one line a case: the length and the bytes of
+the list, in decimal). Run it in this folder after a change of the cases.
 """
 
 
@@ -20,9 +20,9 @@ def calling(edition, called):
     return [edition, 1, 2] + field(bytes.fromhex("05 80 81 01 00")) + field(bytes.fromhex(called)) + field([0]) + field([])
 
 
-def case(names, asked, capacity=256, space=240):
+def case(names, asked, capacity=256, short=0):
     names = list(bytes.fromhex(names))
-    return field([capacity // 256, capacity % 256, space, len(names), *names, *asked])
+    return field([capacity // 256, capacity % 256, short, len(names), *names, *asked])
 
 
 NEWCOMER = question("07 02 00 00 03 01 02 00", "06 02 00 03 01 02 00 03 01 02 02 00 00")
@@ -59,8 +59,8 @@ CASES = [
     ("refused 18", case("00 00", question())),
     ("refused 18", case("10", question())),
     ("refused 18", case("00 01 02 03 04", question())),
-    ("refused 18", case("00 00", question(), space=239)),
-    ("refused 15", case("00 01", question("05 00 01 01 00"), space=239)),
+    ("refused 18", case("00 00", question(), short=1)),
+    ("refused 15", case("00 01", question("05 00 01 01 00"), short=1)),
     # 1, 3 and 12 before 18
     ("refused 1", case("00 00", question(), capacity=0)),
     ("refused 3", case("00 00", [])),

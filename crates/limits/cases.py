@@ -5,6 +5,10 @@ Writes stdin (the number of cases; for each its length in two bytes, the greater
 Run it in this folder after a change of the cases.
 """
 
+# the free names of a part are those below
+NAMES = 16
+PAIRS = NAMES * (NAMES - 1) // 2
+
 
 def field(bs):
     return [len(bs) // 256, len(bs) % 256, *bs]
@@ -64,9 +68,9 @@ CASES = [
     ("accepted", question(first=[9, 0], arities=[0], bodies=[[0]])),
     ("refused 8", question(first=[9, 1], arities=[0], bodies=[[0]])),
     ("refused 8", question(first=[9, 0])),
-    # check 9: 0F and 10, a binder within reach and past it, a free name in a body
-    ("accepted", question(first=[2, 15, 0])),
-    ("refused 9", question(first=[2, 16, 0])),
+    # check 9: the last name and the byte behind it, a binder within reach and past it, a free name in a body
+    ("accepted", question(first=[2, NAMES - 1, 0])),
+    ("refused 9", question(first=[2, NAMES, 0])),
     ("refused 9", question(first=[2, 127, 0])),
     ("accepted", question(first=[2, 0, 3, 128, 128, 0])),
     ("refused 9", question(first=[2, 0, 3, 129, 128, 0])),
@@ -82,14 +86,14 @@ CASES = [
     ("accepted", question(arities=[0], bodies=[[1, 9, 0]])),
     ("refused 11", question(arities=[0], bodies=[[9, 0]])),
     ("refused 11", question(arities=[0], bodies=[[6, 0, 8, 9, 0]])),
-    # check 12: odd length, 240 and 242 bytes, a byte above 0F, a name with itself
+    # check 12: odd length, every pair once and two bytes more, a byte above the last name, a name with itself
     ("accepted", question(apart=[0, 1])),
     ("refused 12", question(apart=[0])),
-    ("accepted", question(apart=[0, 1] * 120)),
-    ("refused 12", question(apart=[0, 1] * 121)),
-    ("accepted", question(apart=[15, 0])),
-    ("refused 12", question(apart=[16, 0])),
-    ("refused 12", question(apart=[0, 16])),
+    ("accepted", question(apart=[0, 1] * PAIRS)),
+    ("refused 12", question(apart=[0, 1] * (PAIRS + 1))),
+    ("accepted", question(apart=[NAMES - 1, 0])),
+    ("refused 12", question(apart=[NAMES, 0])),
+    ("refused 12", question(apart=[0, NAMES])),
     ("refused 12", question(apart=[3, 3])),
     # edition two, check 16 directly after 8: another number than the arity; missing, or names missing (7); no such definition first
     ("accepted", two([9, 0, 1, 0])),
@@ -98,8 +102,8 @@ CASES = [
     ("refused 7", two([9, 0])),
     ("refused 7", two([9, 0, 1])),
     ("refused 8", two([9, 1, 5])),
-    ("refused 16", two([9, 0, 0, 16])),
-    ("refused 9", two([9, 0, 1, 16])),
+    ("refused 16", two([9, 0, 0, NAMES])),
+    ("refused 9", two([9, 0, 1, NAMES])),
     ("refused 16", two([6, 9, 0, 0, 10])),
     ("refused 7", two([6, 10, 9, 0, 0])),
     ("refused 7", two([9, 0, 1, 0, 0])),
@@ -114,10 +118,10 @@ CASES = [
     ("refused 5", question(first=[], arities=[9], bodies=[[0]])),
     ("refused 6", question(first=[10], second=[])),
     ("refused 6", question(arities=[0], bodies=[[10]], second=taus(113))),
-    ("refused 9", question(first=[3, 16, 0, 10])),
-    ("refused 7", question(first=[6, 10, 2, 16, 0])),
-    ("refused 8", question(first=[6, 9, 0, 2, 16, 0])),
-    ("refused 9", question(first=[2, 16, 9, 0], second=[10])),
+    ("refused 9", question(first=[3, NAMES, 0, 10])),
+    ("refused 7", question(first=[6, 10, 2, NAMES, 0])),
+    ("refused 8", question(first=[6, 9, 0, 2, NAMES, 0])),
+    ("refused 9", question(first=[2, NAMES, 9, 0], second=[10])),
     ("refused 9", question(arities=[0], bodies=[[2, 0, 0]], first=[10])),
     ("refused 7", question(arities=[0], bodies=[[7, 0, 0]], second=[1])),
     ("refused 10", question(arities=[0], bodies=[[9, 0]], second=[1, 7, 0, 0])),

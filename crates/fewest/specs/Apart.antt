@@ -9,7 +9,7 @@ use Rattle.calculus.specs.Cond.{Pairs}
 use Rattle.calculus.specs.Distinction.{among}
 use Rattle.terms.specs.Answer.{Answer, refused, result, _>>=_, _>>_, need}
 use Rattle.terms.specs.Limits.{nameCount, longestApart}
-use Rattle.terms.specs.Question.{all, questionOf, pairBytes}
+use Rattle.terms.specs.Question.{every, questionOf, pairBytes}
 use Rattle.verdict.specs.Judge.{slotBytes, withinCapacity}
 use Rattle.verdict.specs.Outcome.{Outcome, gave, turnedBack, unsettledOutcome, noneOutcome, Says}
 use Rattle.fewest.specs.Choices.{enlarged}
@@ -24,7 +24,7 @@ noRepeat (n ∷ ns) = not (among ns n) && noRepeat ns
 
 -- Check 18: at most four names, all of them names, none twice.
 unfoldable pub namesGiven : List ℕ → Bool
-namesGiven names = leb (length names) mostNames && all (λ n. ltb n nameCount) names && noRepeat names
+namesGiven names = leb (length names) mostNames && every (λ n. ltb n nameCount) names && noRepeat names
 
 -- the list that is written for a choice
 unfoldable pub listFor : Pairs → Fewest → Fewest

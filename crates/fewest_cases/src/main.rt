@@ -1,6 +1,6 @@
 // Finds the fewest pairs to hold apart for the questions of standard input, and writes one line for each. The first byte is their number; each
-// stands behind its length in two bytes: the capacity in two bytes, the length of the result area in one (239 or 240), the names behind their
-// number, the question.
+// stands behind its length in two bytes: the capacity in two bytes, how many bytes the result area is short of the longest list in one (0 or 1),
+// the names behind their number, the question.
 use fewest_lists::best::Apart;
 use fewest_search::apart::apart;
 use report::print_line;
@@ -48,7 +48,7 @@ fn write_found(question: &[u8], capacity: u64, names: &[u8], work: &mut [u8]) {
 
 // Searches with one that is a byte too short.
 fn write_short(question: &[u8], capacity: u64, names: &[u8], work: &mut [u8]) {
-    let mut area = [255u8; 239];
+    let mut area = [255u8; LONGEST_APART - 1];
     let answer = apart(question, capacity, names, work, &mut area);
     print_apart(answer, &area);
 }
@@ -59,7 +59,7 @@ fn write_answer(input: &[u8], work: &mut [u8]) {
         return;
     }
     let capacity = 256 * get(input, 0) as u64 + get(input, 1) as u64;
-    if get(input, 2) < 240 {
+    if 0 < get(input, 2) {
         write_short(&input[names..], capacity, &input[4..names], work);
         return;
     }

@@ -13,7 +13,7 @@ use Rattle.terms.specs.Limits.{nameCount}
 use Rattle.terms.specs.Operations.{holdsApart}
 use Rattle.field_pairs.specs.PairFlags.{pairCount}
 use Rattle.field_pairs.specs.Slot.{flag, flagsOf}
-use Rattle.field_pairs.proofs.EntryLaws.{inside}
+use Rattle.steps_conditions.proofs.ClassBytes.{inside}
 use Rattle.field_pairs.proofs.PairLaws.{flag-at}
 use Rattle.field_pairs.proofs.NamePairs.{length-pairs}
 use Rattle.fewest.specs.Choices.{mayChoose, candidatePairs, inOrder}

@@ -10,7 +10,7 @@ use lib.Seq.{drop-cons}
 use borrow.Author.Tests.{eq-eqb, ne-eqb, lt-ltb, le-ltb, le-leb, lt-leb}
 use Rattle.calculus.specs.Distinction.{among}
 use Rattle.terms.specs.Limits.{nameCount}
-use Rattle.terms.specs.Question.{all}
+use Rattle.terms.specs.Question.{every}
 use Rattle.fewest.specs.Apart.{mostNames, noRepeat, namesGiven}
 
 module _ (names : List ℕ) (i n : ℕ) where
@@ -35,18 +35,18 @@ abbrev pub named : ℕ → Bool
 named n = ltb n nameCount
 
 abbrev pub each : List ℕ → Bool
-each names = all named names && noRepeat names
+each names = every named names && noRepeat names
 
 pub too-many : (names : List ℕ) → mostNames < length names → false ≡ namesGiven names
 unfolding namesGiven
-too-many names h = sym (ap (λ t. t && all named names && noRepeat names) (lt-leb (length names) mostNames h))
+too-many names h = sym (ap (λ t. t && every named names && noRepeat names) (lt-leb (length names) mostNames h))
 
 pub few-enough : (names : List ℕ) → length names ≤ mostNames → namesGiven names ≡ each names
 unfolding namesGiven
-few-enough names h = ap (λ t. t && all named names && noRepeat names) (le-leb (length names) mostNames h)
+few-enough names h = ap (λ t. t && every named names && noRepeat names) (le-leb (length names) mostNames h)
 
 pub each-end : (names : List ℕ) (i : ℕ) → length names ≤ i → true ≡ each (drop i names)
-unfolding all noRepeat
+unfolding every noRepeat
 each-end names i h = sym (ap each (drop-of-length-le names h))
 
 module _ (names : List ℕ) (i : ℕ) (inside : i < length names) where
@@ -60,16 +60,16 @@ module _ (names : List ℕ) (i : ℕ) (inside : i < length names) where
   one = let s : suc i ≡ i + 1 = omega arith in drop-cons names i 0 inside ∙ ap (λ k. getD names i 0 ∷ drop k names) s
 
   pub each-no-name : nameCount ≤ x → false ≡ each (drop i names)
-  unfolding all noRepeat
-  each-no-name h = sym (ap each one ∙ ap (λ t. (t && all named xs) && (not (among xs x) && noRepeat xs)) (le-ltb x nameCount h))
+  unfolding every noRepeat
+  each-no-name h = sym (ap each one ∙ ap (λ t. (t && every named xs) && (not (among xs x) && noRepeat xs)) (le-ltb x nameCount h))
 
   pub each-again : true ≡ among xs x → false ≡ each (drop i names)
-  unfolding all noRepeat
+  unfolding every noRepeat
   each-again h =
-      sym (ap each one ∙ ap (λ t. (named x && all named xs) && (not t && noRepeat xs)) (sym h) ∙ and-false (named x && all named xs))
+      sym (ap each one ∙ ap (λ t. (named x && every named xs) && (not t && noRepeat xs)) (sym h) ∙ and-false (named x && every named xs))
 
   pub each-on : x < nameCount → false ≡ among xs x → each (drop i names) ≡ each xs
-  unfolding all noRepeat
+  unfolding every noRepeat
   each-on h k =
-      ap each one ∙ ap (λ t. (t && all named xs) && (not (among xs x) && noRepeat xs)) (lt-ltb x nameCount h)
-      ∙ ap (λ t. all named xs && (not t && noRepeat xs)) (sym k)
+      ap each one ∙ ap (λ t. (t && every named xs) && (not (among xs x) && noRepeat xs)) (lt-ltb x nameCount h)
+      ∙ ap (λ t. every named xs && (not t && noRepeat xs)) (sym k)

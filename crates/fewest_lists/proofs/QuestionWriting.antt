@@ -15,7 +15,7 @@ use Rattle.terms.proofs.LiteralBytes.{joined-apart, declared-bytes}
 use Rattle.terms.proofs.OwnEdition.{own-well-formed, own-fits}
 use Rattle.terms.proofs.WellFormed.{written-length}
 use Rattle.terms_bytes.specs.FieldPlaces.{definitionsOf, afterField, fieldPlace}
-use Rattle.terms_bytes.specs.Writing.{Accepted}
+use Rattle.terms_bytes.specs.Writing.{IsAccepted}
 use Rattle.terms_bytes.proofs.QuestionPlaces.{framable-of, joined-in, joined-length}
 use Rattle.terms_bytes.proofs.Stores.{span, sets-join, sets-start}
 use Rattle.fewest.specs.Choices.{inOrder, underList}
@@ -79,12 +79,12 @@ module _ (s : List ℕ) (first second apart : ℕ) (first-at : first ≡ fieldPl
       ) in
       (l, ap (λ (n : ℕ). take n s) l ∙ ap (take (length F)) b ∙ take-append-seam F (sized (pairBytes (q .apart))))
 
-  pub apart-inside : Accepted s → apart + 2 ≤ length s
-  unfolding Accepted
+  pub apart-inside : IsAccepted s → apart + 2 ≤ length s
+  unfolding IsAccepted
   apart-inside (q, e) = omega (arith, place-is q e)
 
-  pub apart-room : Accepted s → apart + 2 + longestApart ≤ longestQuestion
-  unfolding Accepted
+  pub apart-room : IsAccepted s → apart + 2 + longestApart ≤ longestQuestion
+  unfolding IsAccepted
   apart-room (q, e) = omega (arith, before-is q e .0, before-short s q e)
 
 -- a store before a run may come after it
@@ -106,7 +106,7 @@ sized-stored l p size xs e =
 
 -- The whole question.
 module _ (s flags out out₁ out₂ : List ℕ) (first second apart end size : ℕ) (first-at : first ≡ fieldPlace s (definitionsOf s))
-    (second-at : second ≡ afterField s first) (apart-at : apart ≡ afterField s second) (accepted : Accepted s) (room : longestQuestion ≤ length out)
+    (second-at : second ≡ afterField s first) (apart-at : apart ≡ afterField s second) (accepted : IsAccepted s) (room : longestQuestion ≤ length out)
     (copied : out₁ ≡ sets out 0 (span s 0 apart)) (put : PairsWritten flags out₁ (apart + 2) end out₂) (sizes : size ≡ end - apart - 2) where
   L : List ℕ
   L = pairBytes (flagged flags (allPairs nameCount))

@@ -3,7 +3,7 @@ ghost use mathlib.Core.Path.{_≡_};
 ghost use Prim.Native.Nat.{_+_, _<_, _≤_};
 ghost use lib.ListN.{length};
 ghost use Rattle.terms.specs.Limits.{longestApart, longestQuestion};
-ghost use Rattle.terms_bytes.specs.Writing.{Accepted};
+ghost use Rattle.terms_bytes.specs.Writing.{IsAccepted};
 ghost use Rattle.field_pairs.specs.PairFlags.{pairCount};
 ghost use Rattle.fewest_lists.specs.Lists.{ApartFlagIs, ApartFlagsAre, OpenFlagIs, OpenFlagsAre, PairWritten, PairsWritten, QuestionWritten};
 use crate::names::has_name;
@@ -102,7 +102,7 @@ pub fn write_pairs(flags: &[u8], out: &mut [u8], put: usize) -> usize
 
 // Writes the accepted question with those pairs for its apart list. Answers its length.
 pub fn write_question(question: &[u8], flags: &[u8], out: &mut [u8]) -> usize
-    requires { ⌜ Accepted (now question) × (length (now flags) ≡ pairCount) × (longestQuestion ≤ length (now out)) ⌝ }
+    requires { ⌜ IsAccepted (now question) × (length (now flags) ≡ pairCount) × (longestQuestion ≤ length (now out)) ⌝ }
     ensures { λ r. ⌜ QuestionWritten (now (question .entry)) (now (flags .entry)) (now (out .entry)) r (now (out .exit)) ⌝ }
 {
     let first = field_place(question, definitions(question));

@@ -15,7 +15,7 @@ use Rattle.terms.specs.Operations.{checkAnswer}
 use Rattle.terms.specs.Question.{Question, editionOf, questionOf, questionWith, pairBytes}
 use Rattle.terms.proofs.Answers.{need-passed, need-failed, bind-result, bind-to}
 use Rattle.terms_bytes.specs.FieldPlaces.{definitionsOf, afterField, fieldAt, fieldPlace}
-use Rattle.terms_bytes.specs.Writing.{Accepted}
+use Rattle.terms_bytes.specs.Writing.{IsAccepted}
 use Rattle.terms_bytes.proofs.QuestionPlaces.{apart-in}
 use Rattle.terms_bytes.proofs.Stores.{sets-start}
 use Rattle.terms_checks.specs.Checking.{checkedAnswer}
@@ -81,7 +81,7 @@ module _ (question : List ℕ) (capacity : ℕ) (names work area : List ℕ) whe
   answers = apartOf question capacity names (length work) (length area)
 
   -- apart_accepted
-  module _ (accepted : Accepted question) (allowed : Allowed capacity (length work)) where
+  module _ (accepted : IsAccepted question) (allowed : Allowed capacity (length work)) where
     checks-passed : (q : Question) → questionOf question ≡ result q
         → answers ≡ (need 18 (namesGiven names) >> (need 15 (leb longestApart (length area)) >> result (listFor (q .apart) (fewestOf q capacity names))))
     unfolding apartOf
@@ -89,13 +89,13 @@ module _ (question : List ℕ) (capacity : ℕ) (names work area : List ℕ) whe
         within-passes capacity (slotBytes * capacity) (length work) _ (record { some = allowed .some; most = allowed .most; fits = allowed .fits }) ∙ bind-to _ e
 
     pub names-refused : false ≡ namesGiven names → CheckedIs question capacity names work area (told.Refused 18) work area
-    unfolding CheckedIs Accepted
+    unfolding CheckedIs IsAccepted
     names-refused h =
         let (q, e) = accepted in
         does-refused answers capacity work area 18 (checks-passed q e ∙ need-failed 18 (namesGiven names) _ (sym h))
 
     pub area-refused : true ≡ namesGiven names → length area < longestApart → CheckedIs question capacity names work area (told.Refused 15) work area
-    unfolding CheckedIs Accepted
+    unfolding CheckedIs IsAccepted
     area-refused h l =
         let (q, e) = accepted in
         does-refused answers capacity work area 15
@@ -103,7 +103,7 @@ module _ (question : List ℕ) (capacity : ℕ) (names work area : List ℕ) whe
 
     pub search-told : true ≡ namesGiven names → longestApart ≤ length area → (best : Best) (work′ : List ℕ) → FoundIs question capacity names work best work′
         → (r : Apart) (area′ : List ℕ) → Tells best area r area′ → CheckedIs question capacity names work area r work′ area′
-    unfolding CheckedIs Accepted FoundIs Tells workAfter clearedBy
+    unfolding CheckedIs IsAccepted FoundIs Tells workAfter clearedBy
     search-told h l best work′ f r area′ t =
         let (q, e) = accepted in
         let k = f q e in
@@ -144,7 +144,7 @@ module _ (question : List ℕ) (capacity : ℕ) (names work area : List ℕ) whe
           go (refused i) e = ap refused (cc)
           go (result q) e = let z : _≡_ {A = ℕ} 0 1 = cc in absurd (omega arith)
 
-pub is-accepted : (question : List ℕ) (c : Checked) → checkAnswer question ≡ checkedAnswer c → c ≡ checked.Accepted → Accepted question
-unfolding checkAnswer checkedAnswer Accepted
+pub is-accepted : (question : List ℕ) (c : Checked) → checkAnswer question ≡ checkedAnswer c → c ≡ checked.Accepted → IsAccepted question
+unfolding checkAnswer checkedAnswer IsAccepted
 is-accepted question c e h =
     let (q, d, z) = bind-result (questionOf question) (λ q. result 0) 0 (e ∙ ap checkedAnswer h) in (q, d)

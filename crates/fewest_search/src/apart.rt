@@ -3,7 +3,7 @@ ghost use mathlib.Core.Path.{_≡_};
 ghost use Prim.Native.Nat.{_≤_};
 ghost use lib.ListN.{length};
 ghost use Rattle.terms.specs.Limits.{longestApart};
-ghost use Rattle.terms_bytes.specs.Writing.{Accepted};
+ghost use Rattle.terms_bytes.specs.Writing.{IsAccepted};
 ghost use Rattle.fewest.specs.Apart.{apartOf};
 ghost use Rattle.fewest_search.specs.Searching.{Allowed, FoundIs, CheckedIs, ApartDoes};
 use crate::search::front;
@@ -26,7 +26,7 @@ use verdict_capacity::capacity::capacity_check;
 
 // The search over an accepted question and allowed names.
 fn find(question: &[u8], capacity: u64, names: &[u8], work: &mut [u8]) -> Best
-    requires { ⌜ Accepted (now question) × Allowed capacity (length (now work)) ⌝ }
+    requires { ⌜ IsAccepted (now question) × Allowed capacity (length (now work)) ⌝ }
     ensures { λ r. ⌜ FoundIs (now (question .entry)) capacity (now (names .entry)) (now (work .entry)) r (now (work .exit)) ⌝ }
 {
     let first = field_place(question, definitions(question));
@@ -46,7 +46,7 @@ fn apart_accepted(
     work: &mut [u8],
     area: &mut [u8],
 ) -> Apart
-    requires { ⌜ Accepted (now question) × Allowed capacity (length (now work)) ⌝ }
+    requires { ⌜ IsAccepted (now question) × Allowed capacity (length (now work)) ⌝ }
     ensures { λ r. ⌜ CheckedIs (now (question .entry)) capacity (now (names .entry)) (now (work .entry)) (now (area .entry)) r (now (work .exit)) (now (area .exit)) ⌝ }
 {
     if !names_given(names) {

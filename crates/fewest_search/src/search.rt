@@ -2,7 +2,7 @@
 ghost use mathlib.Core.Path.{_≡_};
 ghost use Prim.Native.Nat.{_≤_};
 ghost use lib.ListN.{length, take};
-ghost use Rattle.terms_bytes.specs.Writing.{Accepted};
+ghost use Rattle.terms_bytes.specs.Writing.{IsAccepted};
 ghost use Rattle.fewest_search.specs.Searching.{Allowed, ListJudged, NextIs, SearchedIs, SizesIs};
 use fewest_lists::best::Best;
 use fewest_lists::best::nothing;
@@ -25,7 +25,7 @@ pub fn front(bytes: &[u8], n: usize) -> &[u8]
 
 // Judges the accepted question under the pairs that the flags say.
 fn judge_list(question: &[u8], flags: [u8; PAIR_COUNT], capacity: u64, work: &mut [u8]) -> Judged
-    requires { ⌜ Accepted (now question) × Allowed capacity (length (now work)) ⌝ }
+    requires { ⌜ IsAccepted (now question) × Allowed capacity (length (now work)) ⌝ }
     ensures { λ r. ⌜ ListJudged (now (question .entry)) flags capacity (now (work .entry)) r (now (work .exit)) ⌝ }
 {
     let mut asked = [0u8; LONGEST_QUESTION];
@@ -41,7 +41,7 @@ fn judge_next(
     capacity: u64,
     work: &mut [u8],
 ) -> Best
-    requires { ⌜ Accepted (now question) × Allowed capacity (length (now work)) ⌝ }
+    requires { ⌜ IsAccepted (now question) × Allowed capacity (length (now work)) ⌝ }
     ensures { λ r. ⌜ NextIs (now (question .entry)) flags best capacity (now (work .entry)) r (now (work .exit)) ⌝ }
 {
     let judged = judge_list(question, flags, capacity, work);
@@ -65,7 +65,7 @@ fn search(
     capacity: u64,
     work: &mut [u8],
 ) -> Best
-    requires { ⌜ Accepted (now question) × Allowed capacity (length (now work)) ⌝ }
+    requires { ⌜ IsAccepted (now question) × Allowed capacity (length (now work)) ⌝ }
     ensures { λ r. ⌜ SearchedIs (now (question .entry)) (now (pairs .entry)) at size flags best capacity (now (work .entry)) r (now (work .exit)) ⌝ }
 {
     let stop = best.unsettled;
@@ -100,7 +100,7 @@ pub fn search_sizes(
     capacity: u64,
     work: &mut [u8],
 ) -> Best
-    requires { ⌜ Accepted (now question) × Allowed capacity (length (now work)) ⌝ }
+    requires { ⌜ IsAccepted (now question) × Allowed capacity (length (now work)) ⌝ }
     ensures { λ r. ⌜ SizesIs (now (question .entry)) (now (pairs .entry)) flags capacity (now (work .entry)) r (now (work .exit)) ⌝ }
 {
     let mut best = judge_next(question, flags, nothing(), capacity, work);

@@ -16,9 +16,9 @@ use Rattle.calculus.specs.Distinction.{Apart, Resp}
 use Rattle.calculus.specs.Published.{Action, silent, input, output, newOutput, boundNames, renAction}
 use Rattle.calculus.proofs.Conditions.{E2, cls-le, ▷-cls, Unif-ext}
 use Rattle.terms.proofs.Answers.{both-true, true-both}
-use Rattle.steps.specs.Listed.{ListedStep, namesFrom, classesOf, classIn, kindOf, channelOf, objectOf, listedAs}
-use Rattle.steps.proofs.ClassLists.{Within, unmatched, class-list}
-use Rattle.field.specs.Successors.{permitted, implies, answers}
+use Rattle.steps.specs.Listed.{ListedStep, namesFrom, classesOf, classIn, implies, kindOf, channelOf, objectOf, listedAs}
+use Rattle.steps.proofs.ClassLists.{Within, unmatched, class-list, in-implies}
+use Rattle.field.specs.Successors.{permitted, answers}
 
 -- Four tests.
 all-four : (a b c d : Bool) → (a && b && c && d) ≡ true → (a ≡ true) × (b ≡ true) × (c ≡ true) × (d ≡ true)
@@ -75,13 +75,6 @@ implies-in c d (m ∷ ns) e n (inl h) =
     ∙ ap (classIn c) (sym h)
 implies-in c d (m ∷ ns) e n (inr h) =
     implies-in c d ns (both-true (eqb (classIn c (classIn d m)) (classIn c m)) (implies c d ns) e .1) n h
-
-pub in-implies : (c d ns : List ℕ) → ((n : ℕ) → classIn c (classIn d n) ≡ classIn c n) → implies c d ns ≡ true
-unfolding implies
-in-implies c d [] h = refl
-in-implies c d (n ∷ ns) h =
-    true-both (eqb (classIn c (classIn d n)) (classIn c n)) (implies c d ns)
-    (eq-eqb (classIn c (classIn d n)) (classIn c n) (h n)) (in-implies c d ns h)
 
 in-names : (n k m : ℕ) → n ≤ m → m < n + k → In m (namesFrom n k)
 unfolding namesFrom

@@ -1,3 +1,4 @@
+pub mod AlikeSettings
 pub mod ClassTests
 pub mod Explored
 pub mod FieldIsSmallest

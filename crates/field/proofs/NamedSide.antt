@@ -1,14 +1,14 @@
 -- Where all names differ: the steps of a list whose conditions are trivial are the transitions of Table 3.1, and their answers those by the same action.
 -- Assumes nothing.
 use mathlib.Core.Path.{_≡_, refl, sym, _∙_, ap, subst}
-use mathlib.Core.Bool.{Bool, true, false, cond, _&&_}
+use mathlib.Core.Bool.{true}
 use mathlib.Core.List.{List, [], _∷_, map}
-use mathlib.Core.Logic.{_⊎_, inl, inr, _↔_}
-use Prim.Native.Nat.{ℕ, zero, suc, _+_, _<_, _≤_}
+use mathlib.Core.Logic.{_↔_}
+use Prim.Native.Nat.{ℕ, _<_}
 use native.Mathlib.Omega.{arith}
-use native.Mathlib.Decide.{ℕ-discrete, decLt}
+use native.Mathlib.Decide.{decLt}
 use lib.Dec.{eqb}
-use borrow.Author.Tests.{eq-eqb, eqb-true}
+use borrow.Author.Tests.{eq-eqb}
 use Rattle.calculus.specs.Term.{Term, ren, put}
 use Rattle.calculus.specs.Free.{In, Free}
 use Rattle.calculus.specs.Cond.{Pairs, Cond, cls, _▷_}
@@ -18,15 +18,15 @@ use Rattle.late_early.specs.Concrete.{Concrete}
 use Rattle.calculus.proofs.Conditions.{E2, Unif-ext}
 use Rattle.late_early.proofs.ConcreteSteps.{Trivial, nil-trivial, concrete-transition, transition-concrete, transition-nil, action-id}
 use Rattle.terms.specs.Encoding.{InScope}
-use Rattle.terms.proofs.Answers.{both-true, true-both}
+use Rattle.terms.proofs.Answers.{true-both}
 use Rattle.steps.specs.Lists.{_∈_}
 use Rattle.steps.specs.Derived.{Derived}
-use Rattle.steps.specs.Listed.{ListedStep, namesFrom, classesOf, classIn, kindOf, objectOf, listedAs}
-use Rattle.steps.proofs.ClassLists.{Within, unmatched, class-list}
+use Rattle.steps.specs.Listed.{ListedStep, namesFrom, classesOf, classIn, ownClasses, kindOf, objectOf, listedAs}
+use Rattle.steps.proofs.ClassLists.{Within, unmatched, class-list, all-own}
 use Rattle.steps.proofs.FormLaws.{Form}
 use Rattle.field.specs.Setting.{Setting}
 use Rattle.field.specs.Situation.{Situation}
-use Rattle.field.specs.Successors.{answers, ownClasses, unconditional, allowed, received, led, answersTo, moves}
+use Rattle.field.specs.Successors.{answers, unconditional, allowed, received, led, answersTo, moves}
 use Rattle.field.specs.Field.{Move}
 use Rattle.field.proofs.ClassTests.{answers-iff}
 use Rattle.field.proofs.MoveLaws.{listedMove, move-within, derived-move}
@@ -37,17 +37,6 @@ own-all : (c ns : List ℕ) → ((n : ℕ) → classIn c n ≡ n) → ownClasses
 unfolding ownClasses
 own-all c [] h = refl
 own-all c (n ∷ ns) h = true-both (eqb (classIn c n) n) (ownClasses c ns) (eq-eqb (classIn c n) n (h n)) (own-all c ns h)
-
-pub all-own : (c : List ℕ) (k n : ℕ) → ownClasses c (namesFrom k n) ≡ true → (j : ℕ) → k ≤ j → j < k + n → classIn c j ≡ j
-unfolding ownClasses namesFrom
-all-own c k zero e j h l = absurd (omega arith)
-all-own c k (suc n) e j h l =
-    let (a, b) = both-true (eqb (classIn c k) k) (ownClasses c (namesFrom (suc k) n)) e in
-    go (eqb-true (classIn c k) k a) (λ h′. all-own c (suc k) n b j h′ (omega arith)) (ℕ-discrete j k)
-  where
-    go : classIn c k ≡ k → (suc k ≤ j → classIn c j ≡ j) → Dec (j ≡ k) → classIn c j ≡ j
-    go a r (yes q) = subst (λ m. classIn c m ≡ m) (sym q) a
-    go a r (no q) = r (omega arith)
 
 within-nil : (names : ℕ) → Within names []
 within-nil names n o = absurd o
@@ -132,15 +121,15 @@ module _ (Δ : Defs) (S : Setting) (arities : List ℕ) (x : ℕ) (P Q : Term) (
           go (no l) = unmatched (m .condition) n (λ o. l (w n o))
 
   -- a step of P that passes the test is a transition of Table 3.1
-  pub record Does (s : ListedStep) : Type 0 where
+  pub record Performs (s : ListedStep) : Type 0 where
     pub action : Action
     pub binds : BindsNew action
     pub result : Term
     pub does : Concrete Δ P action result
     pub is : s ≡ unconditionally action result
 
-  pub listed-does : (s : ListedStep) → s ∈ ps → unconditional (S .names) s ≡ true → Does s
-  listed-does s i u =
+  pub listed-performs : (s : ListedStep) → s ∈ ps → unconditional (S .names) s ≡ true → Performs s
+  listed-performs s i u =
       let (m, d) = derived-move Δ S (lists s .0 i) in
       let v = trivial-step m (subst (λ r. unconditional (S .names) r ≡ true) d u) in
       record {
@@ -172,7 +161,7 @@ module _ (Δ : Defs) (S : Setting) (arities : List ℕ) (x : ℕ) (P Q : Term) (
     unfolding allowed led listedAs
     matched w i t h =
         let m = of-moves true (S .names) make F D ps qs w i in
-        let d = listed-does (m .step) (m .among) (m .allowed-is) in
+        let d = listed-performs (m .step) (m .among) (m .allowed-is) in
         let a = of-answers true (S .names) make F D qs (m .step) (m .name) t (subst (λ w. t ∈ w) (m .is) h) in
         let z = listed-answer (d .action) (d .result) (a .answer) (a .among) (subst (λ r. answers (S .names) r (a .answer) ≡ true) (d .is) (a .answers-is)) in
         record {

@@ -6,7 +6,7 @@ use lib.Dec.{eqb}
 use Rattle.calculus.specs.Cond.{Pairs, mapP}
 use Rattle.calculus.specs.OpenBisimulation.{times}
 use Rattle.calculus.specs.Term.{Term, ren, put}
-use Rattle.steps.specs.Listed.{ListedStep, namesFrom, classIn}
+use Rattle.steps.specs.Listed.{ListedStep, namesFrom, classIn, implies, ownClasses}
 use Rattle.steps.specs.Listing.{Listing, unsettled, listed}
 use Rattle.field.specs.Setting.{Setting, stepsIn}
 use Rattle.field.specs.Situation.{Situation, freeFrom, freeIn, situation, newName}
@@ -20,11 +20,6 @@ module _ {A : Type 0} where
 unfoldable pub permitted : Pairs → ListedStep → Bool
 permitted [] s = true
 permitted (p ∷ D) s = not (eqb (classIn (s .classes) (p .0)) (classIn (s .classes) (p .1))) && permitted D s
-
--- the condition with the classes c implies that with the classes d, over the names ns
-unfoldable pub implies : List ℕ → List ℕ → List ℕ → Bool
-implies c d [] = true
-implies c d (n ∷ ns) = eqb (classIn c (classIn d n)) (classIn c n) && implies c d ns
 
 -- t answers s: its condition is implied by that of s, and its action is equal under it
 unfoldable pub answers : ℕ → ListedStep → ListedStep → Bool
@@ -40,11 +35,7 @@ extrudedBy s = cond (eqb (s .kind) 3) (s .object ∷ []) []
 unfoldable pub updatedBy : List ℕ → Pairs → ListedStep → Pairs
 updatedBy F D s = mapP (classIn (s .classes)) (times (extrudedBy s) F ++ D)
 
--- Where all names differ (request 2026-02) the condition must be trivial: each name is its own class.
-unfoldable pub ownClasses : List ℕ → List ℕ → Bool
-ownClasses c [] = true
-ownClasses c (n ∷ ns) = eqb (classIn c n) n && ownClasses c ns
-
+-- Where all names differ (request 2026-02) the condition must be trivial.
 unfoldable pub unconditional : ℕ → ListedStep → Bool
 unconditional names s = ownClasses (s .classes) (namesFrom 0 names)
 

@@ -29,7 +29,7 @@ use Rattle.field_exploration.specs.Exploring.{StruckFirst, SoleNoted, Ex
 use Rattle.field_successors.specs.Leading.{placed, StartIs}
 use Rattle.field_slots.specs.Noted.{notedCount, noteAt, ClearsSlot, Stands, SoleIn}
 use Rattle.field.specs.Setting.{Setting, settingOf}
-use Rattle.field.specs.Situation.{Situation, freeIn, situation, startOf}
+use Rattle.field.specs.Situation.{Situation, freeIn, startOf}
 use Rattle.field_pairs.specs.Slot.{keyBytes, slotBytes, struckAt}
 use Rattle.field.specs.Successors.{Outcome, pastLimit, leads, moves, successors}
 use Rattle.field_taking_up.specs.TakingUp.{SidesListed, ListsAre, TakenAs, TakesUp}
@@ -45,7 +45,7 @@ use Rattle.field.proofs.FieldIsSmallest.{invariant}
 use Rattle.field_growth.proofs.GrownSituations.{grown-front, Exploring, exploring-start, exploring-past, exploring-full, exploring-on, exploring-end}
 use Rattle.field_growth.proofs.GrowingLaws.{sole-more, grows-full, whole-key}
 use Rattle.field.proofs.Members.{getD-∈, getD-within}
-use Rattle.field.proofs.QuestionField.{question-setting, start-proper}
+use Rattle.field.proofs.QuestionField.{question-setting, start-proper, start-short}
 use Rattle.field.proofs.Reached.{together-leads}
 use Rattle.field_growth.proofs.SlotWriting.{slot-rest, slot-struck, knows-noted, knows-more}
 
@@ -67,8 +67,9 @@ module _ (differ : Bool) where
         (λ t i. invariant Δ (setting q) (q .arities) (question-setting differ q well Δ (λ k. refl) refl) .kept s t p (together-leads (setting q) s ms e t i))
 
     start-fitting : Fitting (q .arities) (startOf differ q)
-    unfolding startOf situation
-    start-fitting = record { proper = start-proper differ q well; fits = record { first = well .first .size; second = well .second .size } }
+    start-fitting =
+        let (f, s) = start-short differ q well in
+        record { proper = start-proper differ q well; fits = record { first = f; second = s } }
 
   -- The situation of number `taken`.
   module _ (question : List ℕ) (taken capacity : ℕ) (work : List ℕ) (known : ℕ) (waits : taken < known) (up : TakenUp) (firsts seconds : List ℕ)

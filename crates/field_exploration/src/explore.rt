@@ -14,8 +14,8 @@ use field_growth::growth::Growth;
 use field_growth::growth::grow_step;
 use field_growth::growth::put;
 use field_pairs::pairs::PAIR_COUNT;
-use field_slots::find::SLOT_BYTES;
 use field_slots::notes::clear_slot;
+use field_slots::slot::SLOT_BYTES;
 use field_successors::start::start_key;
 use field_taking_up::taking::Lists;
 use field_taking_up::taking::take_up;
@@ -132,7 +132,7 @@ fn grow(
     question: &[u8],
     bodies: &[u32],
     taken: usize,
-    numbers: &mut [u32],
+    tallies: &mut [u32],
     rows: &mut [u8],
     firsts: &mut [u8],
     seconds: &mut [u8],
@@ -141,7 +141,7 @@ fn grow(
     known: usize,
     differ: bool,
 ) -> Growth
-    requires { ⌜ (taken < known) × (known ≤ capacity) × (capacity ≤ 4096) × (slotBytes * capacity ≤ length (now work)) × BodiesTallied (now question) (now bodies) × (length (now numbers) ≡ tallySize) × (rowBytes * mostRows ≤ length (now rows)) × Labelled (now question) (now firsts) × Labelled (now question) (now seconds) ⌝ }
+    requires { ⌜ (taken < known) × (known ≤ capacity) × (capacity ≤ 4096) × (slotBytes * capacity ≤ length (now work)) × BodiesTallied (now question) (now bodies) × (length (now tallies) ≡ tallySize) × (rowBytes * mostRows ≤ length (now rows)) × Labelled (now question) (now firsts) × Labelled (now question) (now seconds) ⌝ }
     ensures { λ r. ⌜ GrowIs differ (now (question .entry)) taken capacity (now (work .entry)) known r (now (work .exit)) × Labelled (now (question .entry)) (now (firsts .exit)) × Labelled (now (question .entry)) (now (seconds .exit)) ⌝ }
 {
     let up = take_up(
@@ -149,7 +149,7 @@ fn grow(
         bodies,
         work,
         SLOT_BYTES * taken,
-        numbers,
+        tallies,
         rows,
         firsts,
         seconds,
@@ -181,7 +181,7 @@ fn grow(
 pub fn explore(
     question: &[u8],
     bodies: &[u32],
-    numbers: &mut [u32],
+    tallies: &mut [u32],
     rows: &mut [u8],
     firsts: &mut [u8],
     seconds: &mut [u8],
@@ -189,7 +189,7 @@ pub fn explore(
     capacity: usize,
     differ: bool,
 ) -> Explored
-    requires { ⌜ (1 ≤ capacity) × (capacity ≤ 4096) × (slotBytes * capacity ≤ length (now work)) × BodiesTallied (now question) (now bodies) × (length (now numbers) ≡ tallySize) × (rowBytes * mostRows ≤ length (now rows)) × Labelled (now question) (now firsts) × Labelled (now question) (now seconds) ⌝ }
+    requires { ⌜ (1 ≤ capacity) × (capacity ≤ 4096) × (slotBytes * capacity ≤ length (now work)) × BodiesTallied (now question) (now bodies) × (length (now tallies) ≡ tallySize) × (rowBytes * mostRows ≤ length (now rows)) × Labelled (now question) (now firsts) × Labelled (now question) (now seconds) ⌝ }
     ensures { λ r. ⌜ ExploreIs differ (now (question .entry)) capacity (now (work .entry)) r (now (work .exit)) × Labelled (now (question .entry)) (now (firsts .exit)) × Labelled (now (question .entry)) (now (seconds .exit)) ⌝ }
 {
     let key = start_key(question, differ);
@@ -202,7 +202,7 @@ pub fn explore(
             question,
             bodies,
             taken,
-            numbers,
+            tallies,
             rows,
             firsts,
             seconds,

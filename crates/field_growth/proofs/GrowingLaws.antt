@@ -20,7 +20,8 @@ use Rattle.steps.proofs.Membership.{∈-map, ∈-left, ∈-right, all-imp, all-
 use Rattle.steps.specs.Limits.{stepBytes}
 use Rattle.steps.specs.Listed.{ListedStep, namesFrom}
 use Rattle.field_slots.specs.Chains.{LinkIs, FindsIn}
-use Rattle.field_pairs.specs.Entry.{EntryAt, TrivialIs, SameHeaderIs, AnswersIs}
+use Rattle.steps_conditions.specs.Conditions.{TrivialIs}
+use Rattle.field_pairs.specs.Entry.{EntryAt, SameHeaderIs, AnswersIs}
 use Rattle.field.specs.Exploration.{found, together}
 use Rattle.field_growth.specs.Holding.{unanswered}
 use Rattle.field_successors.specs.Fits.{Fits}

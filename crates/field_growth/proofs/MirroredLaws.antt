@@ -12,13 +12,13 @@ use Rattle.calculus.specs.OpenBisimulation.{times}
 use Rattle.calculus.specs.Term.{ren, put}
 use Rattle.terms.specs.Limits.{nameCount}
 use Rattle.steps.specs.Lists.{_∈_}
-use Rattle.steps.specs.Listed.{ListedStep, namesFrom, classIn}
+use Rattle.steps.specs.Listed.{ListedStep, namesFrom, classIn, implies, ownClasses}
 use Rattle.field_pairs.specs.Entry.{Rewritten, SameHeader}
 use Rattle.field.specs.Exploration.{together}
 use Rattle.field_growth.specs.Growing.{lookedWith, MirroredBy, Mirrored, moved}
 use Rattle.field_successors.specs.Leading.{placed, leading}
 use Rattle.field.specs.Situation.{Situation, freeFrom, situation}
-use Rattle.field.specs.Successors.{permitted, implies, answers, extrudedBy, updatedBy, ownClasses, unconditional, allowed, received, led, answersTo}
+use Rattle.field.specs.Successors.{permitted, answers, extrudedBy, updatedBy, unconditional, allowed, received, led, answersTo}
 use Rattle.field_renewal.specs.ListedEntries.{ListAt}
 use Rattle.field_growth.proofs.LookedLaws.{Offered, looked-offered}
 use Rattle.field.proofs.Members.{∈-number}

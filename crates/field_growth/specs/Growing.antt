@@ -73,10 +73,6 @@ pub record Grows (capacity : ℕ) (work : List ℕ) (known : ℕ) (r : Growth) (
   pub rest : drop (slotBytes * capacity) work′ ≡ drop (slotBytes * capacity) work
   pub within : (n : ℕ) → r ≡ Known n → (known ≤ n) × (n ≤ capacity)
 
--- Slot i is given the key, and the byte behind it is 0: its situation is left.
-unfoldable pub slotWith : List ℕ → ℕ → List ℕ → List ℕ
-slotWith work i key = sets work (slotBytes * i) (take keyBytes key ++ (0 ∷ []))
-
 -- The situations left stay left, those struck out stay struck out, and the new ones are left. What is noted stays.
 pub record KeepsStruck (work : List ℕ) (known n : ℕ) (work′ : List ℕ) : Type 0 where
   pub kept : (i : ℕ) → i < known → getD work′ (struckAt i) 0 ≡ getD work (struckAt i) 0

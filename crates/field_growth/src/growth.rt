@@ -12,18 +12,18 @@ ghost use Rattle.field_growth.specs.Growing.{CanAsk, MoveIs, NamesAre, G
 ghost use Rattle.field_pairs.specs.Slot.{keyBytes, slotBytes};
 use field_pairs::entries::answers;
 use field_pairs::entries::same_header;
-use field_pairs::entries::trivial;
 use field_pairs::names::is_received;
 use field_pairs::pairs::PAIR_COUNT;
 use field_pairs::pairs::allowed;
 use field_slots::chains::find_chained;
 use field_slots::chains::link;
 use field_slots::find::Found;
-use field_slots::find::KEY_BYTES;
-use field_slots::find::SLOT_BYTES;
-use field_slots::find::left_at;
 use field_slots::notes::note_sole;
+use field_slots::slot::KEY_BYTES;
+use field_slots::slot::SLOT_BYTES;
+use field_slots::slot::left_at;
 use field_successors::results::successor;
+use steps_conditions::condition::Condition;
 use steps_entries::limits::STEP_BYTES;
 use terms_bytes::bytes::copy;
 use terms_bytes::limits::NAME_COUNT;
@@ -356,7 +356,7 @@ pub fn grow_step(
         return Growth::Known(known);
     }
     if second {
-        if trivial(area, at) {
+        if Condition::is_trivial(area, at) {
             return Growth::Known(known);
         }
     }

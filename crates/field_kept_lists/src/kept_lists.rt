@@ -73,7 +73,7 @@ pub fn bring(area: &mut [u8], p: usize, part: &[u8], x: usize) -> usize
 }
 
 // The same for a list that is kept in the area of the other side.
-pub fn bring_over(other: &[u8], p: usize, part: &[u8], x: usize, area: &mut [u8]) -> usize
+pub fn copy_kept(other: &[u8], p: usize, part: &[u8], x: usize, area: &mut [u8]) -> usize
     requires { ⌜ (listArea ≤ length (now other)) × KeptPlace p × (countIn (labelAt (now other) p) ≤ keptSteps) × (length (now part) ≤ longestTerm) × (x ≤ nameCount) × (listArea ≤ length (now area)) ⌝ }
     ensures { λ r. ⌜ Brings (now (other .entry)) p (now (part .entry)) x (now (area .entry)) r (now (area .exit)) ⌝ }
 {

@@ -1,28 +1,22 @@
 -- What is read of an entry is what the listed step has. Assumes nothing.
-use mathlib.Core.Path.{_≡_, refl, sym, ap, ap₂, _∙_}
+use mathlib.Core.Path.{_≡_, refl, sym, ap, _∙_}
 use mathlib.Core.Bool.{Bool, true, false, _&&_}
-use mathlib.Core.List.{List, [], _∷_, _++_, append-assoc}
-use Prim.Native.Nat.{ℕ, zero, suc, _+_, _-_, _<_, _≤_}
-use native.Mathlib.Decide.{decLt}
+use mathlib.Core.List.{List, _∷_, _++_, append-assoc}
+use Prim.Native.Nat.{ℕ, _+_, _-_, _<_, _≤_}
 use native.Mathlib.Omega.{arith}
-use lib.ListN.{length, getD, drop, replicate, length-append, length-drop, List·getD-append, List·getD-eq-default}
+use lib.ListN.{length, getD, drop, replicate, length-append, length-drop}
 use lib.Seq.{drop-drop, drop-append-add, getD-drop, getD-append-add, ext-getD}
 use lib.Dec.{eqb}
 use borrow.Author.Tests.{eq-eqb, ne-eqb}
 use Rattle.terms.specs.Limits.{nameCount, longestTerm}
+use Rattle.steps_conditions.specs.Conditions.{ClassesAt, ClassOfIs, TrivialIs, ImpliesIs}
+use Rattle.steps_conditions.proofs.ClassBytes.{inside, class-byte, class-alone, trivial-own}
 use Rattle.steps_entries.specs.Entries.{Alike}
-use Rattle.steps.specs.Listed.{ListedStep, namesFrom, classIn, resultBytes, bytes}
-use Rattle.field_pairs.specs.Entry.{EntryAt, kindByte, channelByte, objectByte, resultByte, ClassOfIs, TrivialIs, SameHeader, BindsIs, ImpliesIs, AnswersIs}
+use Rattle.steps.specs.Listed.{ListedStep, namesFrom, classIn, implies, resultBytes, bytes}
+use Rattle.field_pairs.specs.Entry.{EntryAt, kindByte, channelByte, objectByte, resultByte, SameHeader, BindsIs, AnswersIs}
 use Rattle.field_pairs.specs.Slot.{partBytes}
-use Rattle.field.specs.Successors.{answers, bindsName, implies, ownClasses, unconditional}
-use Rattle.field.proofs.ClassTests.{in-implies, answers-trivial}
-use Rattle.field.proofs.NamedSide.{all-own}
-
--- what stands behind the end matters not within
-pub inside : (l : List ℕ) (n a b : ℕ) → n < length l → getD l n a ≡ getD l n b
-inside [] n a b h = absurd (omega arith)
-inside (x ∷ l) zero a b h = refl
-inside (x ∷ l) (suc n) a b h = inside l n a b (omega arith)
+use Rattle.field.specs.Successors.{answers, bindsName}
+use Rattle.field.proofs.ClassTests.{answers-trivial}
 
 module _ (area : List ℕ) (at : ℕ) (s : ListedStep) (e : EntryAt area at s) where
   -- behind the classes
@@ -50,15 +44,15 @@ module _ (area : List ℕ) (at : ℕ) (s : ListedStep) (e : EntryAt area at s) w
   unfolding tail
   entry-object = read-tail 2
 
+  -- the classes of its condition
+  pub entry-classes : ClassesAt area at (s .classes)
+  entry-classes = record { rest = tail; there = laid; count = e .count }
+
   pub entry-class : (n : ℕ) → n < nameCount → getD area (at + n) 0 ≡ classIn (s .classes) n
-  unfolding classIn
-  entry-class n l =
-      let h : n < length (s .classes) = omega (arith, e .count) in
-      sym (getD-drop at area n 0) ∙ ap (λ k. getD k n 0) laid ∙ List·getD-append (s .classes) tail 0 n h ∙ inside (s .classes) n 0 n h
+  entry-class = class-byte area at (s .classes) entry-classes
 
   pub entry-alone : (n : ℕ) → nameCount ≤ n → n ≡ classIn (s .classes) n
-  unfolding classIn
-  entry-alone n l = sym (List·getD-eq-default (s .classes) n (omega (arith, e .count)))
+  entry-alone = class-alone area at (s .classes) entry-classes
 
   pub entry-long : at + resultByte ≤ length area
   unfolding tail
@@ -71,68 +65,6 @@ module _ (area : List ℕ) (at : ℕ) (s : ListedStep) (e : EntryAt area at s) w
   entry-result =
       let n : length (s .classes) + 3 ≡ resultByte = ap (λ m. m + 3) (e .count) in
       sym (drop-drop resultByte at area) ∙ ap (drop resultByte) laid ∙ rw (← n) (drop-append-add (s .classes) tail 3)
-
--- The test whether each name is its own class, name by name.
-and-true : (s : Bool) → (s && true) ≡ s
-and-true true = refl
-and-true false = refl
-
-and-false : (s : Bool) → (s && false) ≡ false
-and-false true = refl
-and-false false = refl
-
-and-assoc : (s t u : Bool) → (s && (t && u)) ≡ ((s && t) && u)
-and-assoc true t u = refl
-and-assoc false t u = refl
-
-own-last : (c : List ℕ) (k n : ℕ) → ownClasses c (namesFrom k (suc n)) ≡ (ownClasses c (namesFrom k n) && eqb (classIn c (k + n)) (k + n))
-unfolding ownClasses namesFrom
-own-last c k zero = and-true (eqb (classIn c k) k) ∙ ap (λ j. eqb (classIn c j) j) (omega arith)
-own-last c k (suc n) =
-    ap (λ b. eqb (classIn c k) k && b) (own-last c (suc k) n)
-    ∙ and-assoc (eqb (classIn c k) k) (ownClasses c (namesFrom (suc k) n)) (eqb (classIn c (suc k + n)) (suc k + n))
-    ∙ ap (λ j. ownClasses c (namesFrom k (suc n)) && eqb (classIn c j) j) (omega arith)
-
-abbrev pub OwnBelow : List ℕ → ℕ → ℕ → Bool → Type 0
-OwnBelow area at n t = (s : ListedStep) → EntryAt area at s → t ≡ ownClasses (s .classes) (namesFrom 0 n)
-
-module _ (area : List ℕ) (at n : ℕ) (t : Bool) (l : n < nameCount) (so : OwnBelow area at n t) where
-  more : (s : ListedStep) → EntryAt area at s → ownClasses (s .classes) (namesFrom 0 (n + 1)) ≡ (t && eqb (classIn (s .classes) n) n)
-  more s e =
-      let j : n + 1 ≡ suc n = omega arith in
-      let k : 0 + n ≡ n = omega arith in
-      ap (λ m. ownClasses (s .classes) (namesFrom 0 m)) j ∙ own-last (s .classes) 0 n ∙ rw (k, ← so s e)
-
-  pub own-next : getD area (at + n) 0 ≡ n → OwnBelow area at (n + 1) t
-  own-next q s e =
-      sym (more s e ∙ ap (λ b. t && b) (eq-eqb (classIn (s .classes) n) n (sym (entry-class area at s e n l) ∙ q)) ∙ and-true t)
-
-  pub own-not : (getD area (at + n) 0 ≡ n → ⊥) → OwnBelow area at (n + 1) false
-  own-not q s e =
-      sym (more s e ∙ ap (λ b. t && b) (ne-eqb (classIn (s .classes) n) n (λ d. q (entry-class area at s e n l ∙ d))) ∙ and-false t)
-
-pub own-none : (area : List ℕ) (at : ℕ) → OwnBelow area at 0 true
-unfolding ownClasses namesFrom
-own-none area at s e = refl
-
-pub trivial-is : (area : List ℕ) (at n : ℕ) (t : Bool) → n ≡ nameCount → OwnBelow area at n t → TrivialIs area at t
-unfolding TrivialIs unconditional
-trivial-is area at n t past so s e = so s e ∙ ap (λ m. ownClasses (s .classes) (namesFrom 0 m)) past
-
--- what is too short to have classes stands in no list
-pub not-trivial : (area : List ℕ) (at : ℕ) → length area < at + nameCount → TrivialIs area at false
-unfolding TrivialIs
-not-trivial area at h s e = absurd (omega (arith, entry-long area at s e))
-
--- A step without a condition: each name is its own class.
-pub trivial-own : (area : List ℕ) (at : ℕ) (r : Bool) → TrivialIs area at r → r ≡ true → (s : ListedStep) → EntryAt area at s
-    → (n : ℕ) → classIn (s .classes) n ≡ n
-unfolding TrivialIs unconditional
-trivial-own area at r h q s e n = go (decLt n nameCount)
-  where
-    go : Dec (n < nameCount) → classIn (s .classes) n ≡ n
-    go (yes l) = all-own (s .classes) 0 nameCount (sym (h s e) ∙ q) n (omega arith) (omega arith)
-    go (no l) = sym (entry-alone area at s e n (omega arith))
 
 -- Two entries with the same bytes at their front have the same classes.
 pub classes-agree : (c d : List ℕ) → length c ≡ nameCount → length d ≡ nameCount → ((n : ℕ) → n < nameCount → classIn c n ≡ classIn d n) → c ≡ d
@@ -160,45 +92,8 @@ same-header area at others place n q a s t e f = record {
 pub trivial-header : (area : List ℕ) (at : ℕ) (r : Bool) → TrivialIs area at r → r ≡ true → (others : List ℕ) (place : ℕ) (s t : ListedStep)
     → EntryAt area at s → EntryAt others place t → answers nameCount s t ≡ true → SameHeader s t
 trivial-header area at r h q others place s t e f a =
-    let (k, c, o, same) = answers-trivial nameCount s t (trivial-own area at r h q s e) a in
+    let (k, c, o, same) = answers-trivial nameCount s t (trivial-own area at r h q (s .classes) (entry-classes area at s e)) a in
     record { classes = classes-agree (s .classes) (t .classes) (e .count) (f .count) same; kind = k; channel = c; object = o }
-
--- What merges no names is implied.
-pub implied-trivial : (area : List ℕ) (at : ℕ) (others : List ℕ) (place : ℕ) (r : Bool) → TrivialIs others place r → r ≡ true
-    → ImpliesIs area at others place true
-unfolding ImpliesIs
-implied-trivial area at others place r h q s t e f =
-    sym (in-implies (s .classes) (t .classes) (namesFrom 0 nameCount) (λ n. ap (classIn (s .classes)) (trivial-own others place r h q t f n)))
-
--- The test of implication name by name: those below n agree.
-abbrev pub Implied : List ℕ → ℕ → List ℕ → ℕ → ℕ → Type 0
-Implied area at others place n =
-    (s t : ListedStep) → EntryAt area at s → EntryAt others place t
-    → implies (s .classes) (t .classes) (namesFrom 0 nameCount) ≡ implies (s .classes) (t .classes) (namesFrom n (nameCount - n))
-
-module _ (area : List ℕ) (at : ℕ) (others : List ℕ) (place n : ℕ) (l : n < nameCount) (so : Implied area at others place n)
-    (d m c : ℕ) (other : ClassOfIs others place n d) (merged : ClassOfIs area at d m) (own : ClassOfIs area at n c) where
-  one : (s t : ListedStep) → EntryAt area at s → EntryAt others place t
-      → implies (s .classes) (t .classes) (namesFrom n (nameCount - n)) ≡ (eqb m c && implies (s .classes) (t .classes) (namesFrom (n + 1) (nameCount - (n + 1))))
-  unfolding implies namesFrom ClassOfIs
-  one s t e f =
-      let k : nameCount - n ≡ suc (nameCount - (n + 1)) = omega arith in
-      let j : suc n ≡ n + 1 = omega arith in
-      let x : classIn (s .classes) (classIn (t .classes) n) ≡ m = ap (classIn (s .classes)) (sym (other t f)) ∙ sym (merged s e) in
-      rw (k, j, x, ← own s e)
-
-  pub implied-next : m ≡ c → Implied area at others place (n + 1)
-  implied-next q s t e f = so s t e f ∙ one s t e f ∙ rw (eq-eqb m c q)
-
-  pub implied-not : (m ≡ c → ⊥) → ImpliesIs area at others place false
-  unfolding ImpliesIs
-  implied-not q s t e f = sym (so s t e f ∙ one s t e f ∙ rw (ne-eqb m c q))
-
-pub implied-all : (area : List ℕ) (at : ℕ) (others : List ℕ) (place n : ℕ) → n ≡ nameCount → Implied area at others place n
-    → ImpliesIs area at others place true
-unfolding ImpliesIs implies namesFrom
-implied-all area at others place n q so s t e f =
-    sym (so s t e f ∙ ap (λ k. implies (s .classes) (t .classes) (namesFrom k (nameCount - k))) q)
 
 -- Whether a step binds a name goes by its kind.
 pub binds-input : (area : List ℕ) (at : ℕ) → getD area (at + kindByte) 0 ≡ 1 → BindsIs area at true
@@ -241,12 +136,12 @@ module _ (area : List ℕ) (at : ℕ) (others : List ℕ) (place : ℕ) where
   class-channel : (c : ℕ) → ClassOfIs area at (getD others (place + channelByte) 0) c → (s t : ListedStep) → EntryAt area at s → EntryAt others place t
       → c ≡ classIn (s .classes) (t .channel)
   unfolding ClassOfIs
-  class-channel c h s t e f = h s e ∙ ap (classIn (s .classes)) (entry-channel others place t f)
+  class-channel c h s t e f = h (s .classes) (entry-classes area at s e) ∙ ap (classIn (s .classes)) (entry-channel others place t f)
 
   class-object : (o : ℕ) → ClassOfIs area at (getD others (place + objectByte) 0) o → (s t : ListedStep) → EntryAt area at s → EntryAt others place t
       → o ≡ classIn (s .classes) (t .object)
   unfolding ClassOfIs
-  class-object o h s t e f = h s e ∙ ap (classIn (s .classes)) (entry-object others place t f)
+  class-object o h s t e f = h (s .classes) (entry-classes area at s e) ∙ ap (classIn (s .classes)) (entry-object others place t f)
 
   pub answers-channel : (c : ℕ) → ClassOfIs area at (getD others (place + channelByte) 0) c → (getD area (at + channelByte) 0 ≡ c → ⊥) → AnswersIs area at others place false
   unfolding AnswersIs answers
@@ -267,7 +162,7 @@ module _ (area : List ℕ) (at : ℕ) (others : List ℕ) (place : ℕ) where
       → (r : Bool) → ImpliesIs area at others place r → AnswersIs area at others place r
   unfolding AnswersIs ImpliesIs answers
   answers-implied c o hc ho k n m r i s t e f =
-      i s t e f ∙ sym (rw (
+      i (s .classes) (t .classes) (entry-classes area at s e) (entry-classes others place t f) ∙ sym (rw (
         eq-eqb (s .kind) (t .kind) (sym (entry-kind area at s e) ∙ k ∙ entry-kind others place t f),
         eq-eqb (s .channel) (classIn (s .classes) (t .channel)) (sym (entry-channel area at s e) ∙ n ∙ class-channel c hc s t e f),
         eq-eqb (s .object) (classIn (s .classes) (t .object)) (sym (entry-object area at s e) ∙ m ∙ class-object o ho s t e f),

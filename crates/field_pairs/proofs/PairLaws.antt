@@ -18,15 +18,17 @@ use Rattle.terms.specs.Limits.{nameCount}
 use Rattle.terms.specs.Operations.{holdsApart}
 use Rattle.terms.proofs.ApartLaws.{holds-apart, apart-holds}
 use Rattle.steps.specs.Listed.{ListedStep, classIn}
-use Rattle.field_pairs.specs.Entry.{EntryAt, ClassOfIs, TrivialIs}
+use Rattle.steps_conditions.specs.Conditions.{ClassOfIs, TrivialIs, RespectsIs}
+use Rattle.steps_conditions.proofs.ClassBytes.{inside, trivial-own}
+use Rattle.field_pairs.specs.Entry.{EntryAt}
 use Rattle.field.specs.Situation.{allPairs}
 use Rattle.field_pairs.specs.PairNumbers.{pairAt, numberOf}
 use Rattle.field_pairs.specs.PairFlags.{pairCount, NumberIs, AddsPair, NoneApartIs, HeldIs, MergedPair, MergesIs, PermittedIs, AllowedIs}
 use Rattle.field_pairs.specs.Slot.{flag, flagsOf}
-use Rattle.field.specs.Successors.{permitted, allowed}
+use Rattle.field.specs.Successors.{permitted, unconditional, allowed}
 use Rattle.field.proofs.ClassTests.{apart-permitted}
 use Rattle.field_pairs.proofs.Counting.{Passing}
-use Rattle.field_pairs.proofs.EntryLaws.{inside, entry-alone, trivial-own}
+use Rattle.field_pairs.proofs.EntryLaws.{entry-classes, entry-class, entry-alone}
 use Rattle.field_pairs.proofs.NamePairs.{number-right, pair-ordered, pair-below, pair-once, length-pairs}
 
 pub length-flags : (D : Pairs) → length (flagsOf D) ≡ pairCount
@@ -185,27 +187,26 @@ abbrev pub Spared : List ℕ → List ℕ → ℕ → ℕ → ℕ → Type 0
 Spared flags area at n m =
     (D : Pairs) (s : ListedStep) → flags ≡ flagsOf D → EntryAt area at s → (j : ℕ) → j < m → (j ≡ n → ⊥) → MergedPair D s j n → ⊥
 
-module _ (flags area : List ℕ) (at n class : ℕ) (C : ClassOfIs area at n class) where
-  module _ (m other : ℕ) (O : ClassOfIs area at m other) where
-    pub spared-class : (other ≡ class → ⊥) → Spared flags area at n m → Spared flags area at n (m + 1)
-    unfolding ClassOfIs
-    spared-class d so D s e f = below-more _ m (so D s e f) (λ k p. d (O s f ∙ p .merged ∙ sym (C s f)))
+module _ (flags area : List ℕ) (at n m : ℕ) (l : n < nameCount) (h : m < nameCount) where
+  pub spared-held : (r : Bool) → HeldIs flags m n r → r ≡ false → Spared flags area at n m → Spared flags area at n (m + 1)
+  spared-held r h q so D s e f =
+      below-more _ m (so D s e f) (λ k p.
+      let z : holdsApart D m n ≡ false = sym (h .is D e k) ∙ q in
+      let y = apart-holds D m n (p .apart) in
+      let x : _≡_ {A = ℕ} 0 1 = cc in omega arith)
 
-    pub spared-held : (r : Bool) → HeldIs flags m n r → r ≡ false → Spared flags area at n m → Spared flags area at n (m + 1)
-    spared-held r h q so D s e f =
-        below-more _ m (so D s e f) (λ k p.
-        let z : holdsApart D m n ≡ false = sym (h .is D e k) ∙ q in
-        let y = apart-holds D m n (p .apart) in
-        let x : _≡_ {A = ℕ} 0 1 = cc in omega arith)
+  module _ (t : Bool) (R : RespectsIs area at m n t) where
+    pub spared-respected : t ≡ true → Spared flags area at n m → Spared flags area at n (m + 1)
+    spared-respected q so D s e f =
+        below-more _ m (so D s e f) (λ k p. R .apart q (entry-class area at s f m h ∙ p .merged ∙ sym (entry-class area at s f n l)))
 
-    pub merged-held : other ≡ class → (r : Bool) → HeldIs flags m n r → r ≡ true → MergesIs flags area at n true
-    unfolding ClassOfIs
-    merged-held c r h q = record {
+    pub merged-held : t ≡ false → (r : Bool) → HeldIs flags m n r → r ≡ true → MergesIs flags area at n true
+    merged-held c r held q = record {
       some = λ z D s e f. (
         m,
         record {
-          apart = holds-apart D m n (sym (h .is D e (λ k. let y = h .alone k in let x : _≡_ {A = ℕ} 0 1 = cc in omega arith)) ∙ q);
-          merged = sym (O s f) ∙ c ∙ C s f;
+          apart = holds-apart D m n (sym (held .is D e (λ k. let y = held .alone k in let x : _≡_ {A = ℕ} 0 1 = cc in omega arith)) ∙ q);
+          merged = sym (entry-class area at s f m h) ∙ R .merged c ∙ entry-class area at s f n l;
         },
       );
       none = λ z. let x : _≡_ {A = ℕ} 0 1 = cc in absurd (omega arith);
@@ -226,7 +227,7 @@ Respected flags area at n =
 module _ (flags area : List ℕ) (at : ℕ) where
   pub respected-own : (n class : ℕ) → ClassOfIs area at n class → class ≡ n → Respected flags area at n → Respected flags area at (n + 1)
   unfolding ClassOfIs
-  respected-own n class C q so D s e f = below-more _ n (so D s e f) (λ k. absurd (k (sym (C s f) ∙ q)))
+  respected-own n class C q so D s e f = below-more _ n (so D s e f) (λ k. absurd (k (sym (C (s .classes) (entry-classes area at s f)) ∙ q)))
 
   pub respected-next : (n : ℕ) (r : Bool) → MergesIs flags area at n r → r ≡ false → Respected flags area at n → Respected flags area at (n + 1)
   respected-next n r h q so D s e f = below-more _ n (so D s e f) (λ k. h .none q D s e f)
@@ -238,7 +239,7 @@ module _ (flags area : List ℕ) (at : ℕ) where
   pub permitted-trivial : (r : Bool) → TrivialIs area at r → r ≡ true → PermittedIs flags area at true
   unfolding PermittedIs
   permitted-trivial r h q D s irr e f =
-      let own : (n : ℕ) → classIn (s .classes) n ≡ n = trivial-own area at r h q s f in
+      let own : (n : ℕ) → classIn (s .classes) n ≡ n = trivial-own area at r h q (s .classes) (entry-classes area at s f) in
       sym (apart-permitted D s (λ a b d z. irr a b d (sym (own a) ∙ z ∙ own b)))
 
   pub none-merged : (n : ℕ) → nameCount ≤ n → Respected flags area at n → PermittedIs flags area at true
@@ -286,8 +287,8 @@ permitted-none flags area at r n q = none-merged flags area at nameCount (omega 
 -- Which steps must be answered.
 module _ (differ : Bool) (flags area : List ℕ) (at : ℕ) (r : Bool) where
   pub allowed-trivial : differ ≡ true → TrivialIs area at r → AllowedIs differ flags area at r
-  unfolding AllowedIs TrivialIs allowed
-  allowed-trivial q h D s e irr f = rw q (h s f)
+  unfolding AllowedIs TrivialIs allowed unconditional
+  allowed-trivial q h D s e irr f = rw q (h (s .classes) (entry-classes area at s f))
 
   pub allowed-permitted : differ ≡ false → PermittedIs flags area at r → AllowedIs differ flags area at r
   unfolding AllowedIs PermittedIs allowed

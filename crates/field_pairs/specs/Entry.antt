@@ -6,8 +6,8 @@ use Prim.Native.Nat.{ℕ, _+_, _<_, _≤_}
 use lib.ListN.{length, drop}
 use Rattle.calculus.specs.Term.{ren}
 use Rattle.terms.specs.Limits.{nameCount, longestTerm}
-use Rattle.steps.specs.Listed.{ListedStep, namesFrom, classIn, resultBytes, bytes}
-use Rattle.field.specs.Successors.{answers, bindsName, implies, unconditional}
+use Rattle.steps.specs.Listed.{ListedStep, classIn, resultBytes, bytes}
+use Rattle.field.specs.Successors.{answers, bindsName}
 
 -- The step s stands at `at`: as many classes as names, each class one of the names, and a result that fits.
 pub record EntryAt (area : List ℕ) (at : ℕ) (s : ListedStep) : Type 0 where
@@ -34,13 +34,6 @@ resultByte = kindByte + 3
 abbrev pub Rewritten : ListedStep → Type 0
 Rewritten s = ren (classIn (s .classes)) (s .result) ≡ s .result
 
-unfoldable pub ClassOfIs : List ℕ → ℕ → ℕ → ℕ → Type 0
-ClassOfIs area at n r = (s : ListedStep) → EntryAt area at s → r ≡ classIn (s .classes) n
-
--- Each name is its own class.
-unfoldable pub TrivialIs : List ℕ → ℕ → Bool → Type 0
-TrivialIs area at r = (s : ListedStep) → EntryAt area at s → r ≡ unconditional nameCount s
-
 -- Condition and action of two steps are the same.
 pub record SameHeader (s t : ListedStep) : Type 0 where
   pub classes : s .classes ≡ t .classes
@@ -59,10 +52,6 @@ SameHeaderIs area at others place r =
 
 unfoldable pub BindsIs : List ℕ → ℕ → Bool → Type 0
 BindsIs area at r = (s : ListedStep) → EntryAt area at s → r ≡ bindsName s
-
-unfoldable pub ImpliesIs : List ℕ → ℕ → List ℕ → ℕ → Bool → Type 0
-ImpliesIs area at others place r =
-    (s t : ListedStep) → EntryAt area at s → EntryAt others place t → r ≡ implies (s .classes) (t .classes) (namesFrom 0 nameCount)
 
 unfoldable pub AnswersIs : List ℕ → ℕ → List ℕ → ℕ → Bool → Type 0
 AnswersIs area at others place r =

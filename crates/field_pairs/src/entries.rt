@@ -2,7 +2,8 @@
 ghost use Prim.Native.Nat.{_+_, _≤_};
 ghost use lib.ListN.{length};
 ghost use Rattle.steps.specs.Limits.{stepBytes};
-ghost use Rattle.field_pairs.specs.Entry.{ClassOfIs, TrivialIs, SameClassesIs, SameHeaderIs, BindsIs, ImpliesIs, AnswersIs};
+ghost use Rattle.field_pairs.specs.Entry.{SameClassesIs, SameHeaderIs, BindsIs, AnswersIs};
+use steps_conditions::condition::Condition;
 use steps_entries::listed::alike;
 use terms_bytes::bytes::get;
 use terms_bytes::limits::NAME_COUNT;
@@ -15,36 +16,6 @@ pub const CHANNEL: usize = NAME_COUNT + 1;
 pub const OBJECT: usize = NAME_COUNT + 2;
 
 const ACTION_END: usize = NAME_COUNT + 3;
-
-// The class of the name `n`; a number that is no name is alone in its class.
-pub fn class_of(area: &[u8], at: usize, n: usize) -> usize
-    requires { ⌜ at ≤ length (now area) ⌝ }
-    ensures { λ r. ⌜ ClassOfIs (now (area .entry)) at n r ⌝ }
-{
-    if n < NAME_COUNT {
-        return get(area, at + n) as usize;
-    }
-    n
-}
-
-// Whether the step's condition merges no names: each is its own class.
-pub fn trivial(area: &[u8], at: usize) -> bool
-    requires { ⌜ at ≤ length (now area) ⌝ }
-    ensures { λ r. ⌜ TrivialIs (now (area .entry)) at r ⌝ }
-{
-    if area.len() - at < NAME_COUNT {
-        return false;
-    }
-    let mut own = true;
-    let mut n = 0;
-    while n < NAME_COUNT {
-        if area[at + n] as usize != n {
-            own = false;
-        }
-        n += 1;
-    }
-    own
-}
 
 // Whether the conditions of two steps are the same.
 pub fn same_classes(area: &[u8], at: usize, others: &[u8], place: usize) -> bool
@@ -74,25 +45,6 @@ pub fn binds(area: &[u8], at: usize) -> bool
     kind == 3
 }
 
-// Whether the condition of the one step implies that of the other.
-fn implies(area: &[u8], at: usize, others: &[u8], place: usize) -> bool
-    requires { ⌜ (at ≤ length (now area)) × (place ≤ length (now others)) ⌝ }
-    ensures { λ r. ⌜ ImpliesIs (now (area .entry)) at (now (others .entry)) place r ⌝ }
-{
-    if trivial(others, place) {
-        return true;
-    }
-    let mut n = 0;
-    while n < NAME_COUNT {
-        let merged = class_of(area, at, class_of(others, place, n));
-        if merged != class_of(area, at, n) {
-            return false;
-        }
-        n += 1;
-    }
-    true
-}
-
 // Whether the step at `place` of the other side's list answers the one at `at`: Definition 13.
 pub fn answers(area: &[u8], at: usize, others: &[u8], place: usize) -> bool
     requires { ⌜ (at ≤ length (now area)) × (place ≤ length (now others)) ⌝ }
@@ -108,12 +60,12 @@ pub fn answers(area: &[u8], at: usize, others: &[u8], place: usize) -> bool
         return false;
     }
     let channel = others[place + CHANNEL] as usize;
-    if area[at + CHANNEL] as usize != class_of(area, at, channel) {
+    if area[at + CHANNEL] as usize != Condition::class_of(area, at, channel) {
         return false;
     }
     let object = others[place + OBJECT] as usize;
-    if area[at + OBJECT] as usize != class_of(area, at, object) {
+    if area[at + OBJECT] as usize != Condition::class_of(area, at, object) {
         return false;
     }
-    implies(area, at, others, place)
+    Condition::implies(area, at, others, place)
 }

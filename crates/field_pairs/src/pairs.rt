@@ -4,8 +4,7 @@ ghost use Prim.Native.Nat.{_<_, _≤_};
 ghost use lib.ListN.{length};
 ghost use Rattle.terms.specs.Limits.{nameCount};
 ghost use Rattle.field_pairs.specs.PairFlags.{pairCount, PairOfIs, NumberIs, AddsPair, NoneApartIs, HeldIs, MergesIs, PermittedIs, AllowedIs};
-use crate::entries::class_of;
-use crate::entries::trivial;
+use steps_conditions::condition::Condition;
 use terms_bytes::bytes::get;
 use terms_bytes::limits::NAME_COUNT;
 
@@ -129,10 +128,9 @@ fn merges_apart(apart: &[u8], area: &[u8], at: usize, n: usize) -> bool
     requires { ⌜ (n < nameCount) × (at ≤ length (now area)) ⌝ }
     ensures { λ r. ⌜ MergesIs (now (apart .entry)) (now (area .entry)) at n r ⌝ }
 {
-    let class = class_of(area, at, n);
     let mut m = 0;
     while m < NAME_COUNT {
-        if class_of(area, at, m) == class {
+        if !Condition::respects(area, at, m, n) {
             if held_apart(apart, m, n) {
                 return true;
             }
@@ -147,7 +145,7 @@ pub fn permitted(apart: &[u8], area: &[u8], at: usize) -> bool
     requires { ⌜ at ≤ length (now area) ⌝ }
     ensures { λ r. ⌜ PermittedIs (now (apart .entry)) (now (area .entry)) at r ⌝ }
 {
-    if trivial(area, at) {
+    if Condition::is_trivial(area, at) {
         return true;
     }
     if none_apart(apart) {
@@ -155,7 +153,7 @@ pub fn permitted(apart: &[u8], area: &[u8], at: usize) -> bool
     }
     let mut n = 0;
     while n < NAME_COUNT {
-        if class_of(area, at, n) != n {
+        if Condition::class_of(area, at, n) != n {
             if merges_apart(apart, area, at, n) {
                 return false;
             }
@@ -171,7 +169,7 @@ pub fn allowed(differ: bool, apart: &[u8; PAIR_COUNT], area: &[u8], at: usize) -
     ensures { λ r. ⌜ AllowedIs differ (now (apart .entry)) (now (area .entry)) at r ⌝ }
 {
     if differ {
-        return trivial(area, at);
+        return Condition::is_trivial(area, at);
     }
     permitted(apart, area, at)
 }

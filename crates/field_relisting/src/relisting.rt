@@ -20,12 +20,12 @@ pub fn list_anew(
     bodies: &[u32],
     part: &[u8],
     x: usize,
-    numbers: &mut [u32],
+    tallies: &mut [u32],
     rows: &mut [u8],
     p: usize,
     area: &mut [u8],
 ) -> ListAnswer
-    requires { ⌜ (x ≤ nameCount) × BodiesTallied (now question) (now bodies) × (length (now numbers) ≡ tallySize) × (rowBytes * mostRows ≤ length (now rows)) × (length (now part) ≤ longestTerm) × KeptPlace p × Labelled (now question) (now area) ⌝ }
+    requires { ⌜ (x ≤ nameCount) × BodiesTallied (now question) (now bodies) × (length (now tallies) ≡ tallySize) × (rowBytes * mostRows ≤ length (now rows)) × (length (now part) ≤ longestTerm) × KeptPlace p × Labelled (now question) (now area) ⌝ }
     ensures { λ r. ⌜ SideIs (now (question .entry)) (now (part .entry)) x r (now (area .exit)) × Labelled (now (question .entry)) (now (area .exit)) ⌝ }
 {
     let answer = list_tallied(
@@ -33,7 +33,7 @@ pub fn list_anew(
         bodies,
         part,
         x as u8,
-        numbers,
+        tallies,
         rows,
         &mut area[..LABEL],
     );

@@ -24,7 +24,7 @@ use Rattle.terms.specs.Question.{Question}
 use Rattle.terms.proofs.ScopeLaws.{free-below}
 use Rattle.terms.proofs.WellFormed.{WellFormed, accepted-well-formed}
 use Rattle.steps.specs.Forms.{resultForm}
-use Rattle.steps.proofs.FormLaws.{result-form}
+use Rattle.steps.proofs.FormLaws.{Form, result-form, form-scope}
 use Rattle.steps.specs.Lists.{_∈_}
 use Rattle.steps.proofs.Membership.{∈-all}
 use Rattle.steps.proofs.QuestionDefinitions.{definitions, bodies-in-scope, opens-one}
@@ -151,7 +151,8 @@ module _ (question part : List ℕ) (x : ℕ) (q : Question) (P : Term) (l : Lis
       unfolding settingOf listedAs
       step-scope s k =
           let (m, e) = derived-move Δ S (step-derived s k) in
-          subst (λ t. InScope nameCount (q .arities) 0 (t .result)) (sym e) (move-scope Δ S m (q .arities) (l .scope) closed (bound-below m))
+          subst (λ t. InScope nameCount (q .arities) 0 (t .result)) (sym e)
+          (form-scope result-form nameCount (q .arities) 0 (m .result) (move-scope Δ S m (q .arities) (l .scope) closed (bound-below m)))
 
       step-object : (s : ListedStep) → s ∈ ss → s .object < nameCount
       unfolding settingOf listedAs
@@ -165,8 +166,8 @@ module _ (question part : List ℕ) (x : ℕ) (q : Question) (P : Term) (l : Lis
     step-rewritten s k =
         let (m, e) = derived-move Δ S (step-derived s k) in
         subst Rewritten (sym e)
-        (ap (λ c. ren c (m .result)) (listed-class nameCount (m .condition) (m .action) (m .result) (move-within Δ S m (q .arities) (l .scope)))
-        ∙ move-rewritten Δ S m)
+        (ap (λ c. ren c (resultForm (m .result))) (listed-class nameCount (m .condition) (m .action) (resultForm (m .result)) (move-within Δ S m (q .arities) (l .scope)))
+        ∙ sym (result-form .renamed (cls (m .condition)) (m .result)) ∙ ap resultForm (move-rewritten Δ S m))
 
     module _ (area area′ : List ℕ) (room : length ss * stepBytes ≤ length area) (stored : area′ ≡ sets area 0 (listBytes ss)) where
       begins : area′ ≡ listBytes ss ++ drop (0 + length (listBytes ss)) area

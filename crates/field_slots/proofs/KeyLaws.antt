@@ -14,10 +14,10 @@ use Rattle.terms.specs.Encoding.{encode}
 use Rattle.terms.specs.Limits.{nameCount, longestTerm}
 use Rattle.terms.specs.Operations.{holdsApart}
 use Rattle.terms_renaming.proofs.Filling.{Filling}
-use Rattle.terms_bytes.proofs.Stores.{getD-front, length-span, sets-more, run-whole}
+use Rattle.terms_bytes.proofs.Stores.{getD-front, length-span, sets-join, sets-more, run-whole}
 use Rattle.steps.specs.Listed.{namesFrom}
 use Rattle.field_slots.specs.Chains.{wordAt, WordIs}
-use Rattle.field_slots.specs.Key.{SituationAt, PartIs, FirstPartIs, SecondPartIs, ApartFlagsIs, bitAt, bitsOf, BitIs, OctetIs, Packs, Unpacks, keyAt, SameKeyIs, FoundIs}
+use Rattle.field_slots.specs.Key.{SituationAt, PartIs, FirstPartIs, SecondPartIs, ApartFlagsIs, bitAt, bitsOf, BitIs, OctetIs, Packs, Unpacks, slotWith, keyAt, SameKeyIs, FoundIs}
 use Rattle.field_pairs.specs.PairNumbers.{pairAt}
 use Rattle.field_pairs.specs.PairFlags.{pairCount}
 use Rattle.field.specs.Situation.{Situation}
@@ -285,3 +285,11 @@ found-at area count key i r l q h = (l, h .same q)
 pub other-slot : (area key : List ℕ) (i : ℕ) (r : Bool) → r ≡ false → SameKeyIs area (slotBytes * i) key r → keyAt area i ≡ take keyBytes key → ⊥
 unfolding keyAt
 other-slot area key i r q h = h .other q
+
+-- The key copied into its slot, and the byte behind it.
+pub key-held : (work key : List ℕ) (i : ℕ) → keyBytes ≤ length key → (work′ : List ℕ) → work′ ≡ sets work (slotBytes * i) (take keyBytes (drop 0 key))
+    → set work′ (slotBytes * i + keyBytes) 0 ≡ slotWith work i key
+unfolding slotWith
+key-held work key i long work′ w =
+    ap (λ l. set l (slotBytes * i + keyBytes) 0) w
+    ∙ sets-join work (slotBytes * i) (slotBytes * i + keyBytes) (take keyBytes key) (0 ∷ []) (omega (arith, length-take-le keyBytes key long))

@@ -1,11 +1,11 @@
 -- The loops that update the apart pairs: what each pair adds, and what all of them make. Assumes nothing.
 use mathlib.Core.Path.{_≡_, refl, sym, ap, ap₂, _∙_}
-use mathlib.Core.Bool.{Bool, true, false, cond, _&&_}
+use mathlib.Core.Bool.{Bool, true, false, cond, false≢true, _&&_}
 use mathlib.Core.List.{List, [], _∷_, _++_, map, append-nil}
 use Prim.Native.Nat.{ℕ, suc, _+_, _-_, _<_, _≤_}
 use native.Mathlib.Omega.{arith}
-use lib.ListN.{length, getD, take, drop, set, replicate, length-replicate, getD-replicate}
-use lib.Seq.{sets, drop-length}
+use lib.ListN.{length, getD, take, drop, set, replicate, length-replicate, getD-replicate, drop-of-length-le}
+use lib.Seq.{sets, sets-eq, take-all, drop-length}
 use lib.Dec.{eqb}
 use borrow.Author.Tests.{eq-eqb, ne-eqb}
 use Rattle.calculus.specs.Cond.{Pairs, mapP}
@@ -15,15 +15,17 @@ use Rattle.calculus.specs.OpenBisimulation.{times}
 use Rattle.terms.specs.Limits.{nameCount}
 use Rattle.terms.specs.Operations.{holdsApart}
 use Rattle.steps.specs.Listed.{ListedStep, namesFrom, classIn}
-use Rattle.field_pairs.specs.Entry.{EntryAt, kindByte, objectByte, ClassOfIs, TrivialIs}
+use Rattle.steps_conditions.specs.Conditions.{ClassOfIs, TrivialIs}
+use Rattle.steps_conditions.proofs.ClassBytes.{trivial-own}
+use Rattle.field_pairs.specs.Entry.{EntryAt, kindByte, objectByte}
 use Rattle.field_pairs.specs.NameFlags.{HasNames}
 use Rattle.field_pairs.specs.PairNumbers.{pairAt}
 use Rattle.field_pairs.specs.PairFlags.{pairCount, AddsPair, NoneApartIs}
 use Rattle.field.specs.Situation.{freeFrom, pairsOf, allPairs, situation}
 use Rattle.field_pairs.specs.Slot.{flag, flagsOf}
 use Rattle.field.specs.Successors.{extrudedBy, updatedBy}
-use Rattle.field_slots.specs.Update.{AddsIfFree, AddsRow, AddsExtruded, AddsRewritten, RewritesPairs, UpdatedIs, ifFree, keptFlag, keptFlags, KeptIs}
-use Rattle.field_pairs.proofs.EntryLaws.{entry-kind, entry-object, trivial-own}
+use Rattle.field_slots.specs.Update.{AddsIfFree, AddsRow, AddsExtruded, AddsRewritten, RewritesPairs, UpdatedIs, KeepsPairs, ifFree, keptFlag, keptFlags, KeptIs}
+use Rattle.field_pairs.proofs.EntryLaws.{entry-kind, entry-object, entry-classes}
 use Rattle.field_slots.proofs.KeptPairs.{keep-drop, situation-kept, kept-holds, flags-rewritten, none-rewritten}
 use Rattle.field_pairs.proofs.PairLaws.{length-flags, flag-at, flags-are}
 use Rattle.field_pairs.proofs.NamePairs.{pair-ordered, pair-below, length-pairs}
@@ -126,7 +128,9 @@ module _ (flags : List ℕ) (k : ℕ) (l : k < pairCount) (area : List ℕ) (at 
   pub rewritten-pair : (getD flags k 0 ≡ 0 → ⊥) → (a b : ℕ) → ClassOfIs area at (pairAt nameCount k .0) a → ClassOfIs area at (pairAt nameCount k .1) b
       → (new′ : List ℕ) → AddsPair new a b new′ → AddsRewritten flags k area at new new′
   unfolding AddsRewritten AddsPair ClassOfIs
-  rewritten-pair z a b p q new′ add E D s h e f = rw (pair-on flags k l E h z, ← p s f, ← q s f) (add D e)
+  rewritten-pair z a b p q new′ add E D s h e f =
+      let c = entry-classes area at s f in
+      rw (pair-on flags k l E h z, ← p (s .classes) c, ← q (s .classes) c) (add D e)
 
 -- Those from k on.
 abbrev pub Rewritten : List ℕ → List ℕ → ℕ → List ℕ → List ℕ → ℕ → Type 0
@@ -177,7 +181,7 @@ pub updated-trivial : (flags free area : List ℕ) (at : ℕ) (more : List ℕ) 
     → (r : Bool) → TrivialIs area at r → r ≡ true → UpdatedIs flags free area at more
 unfolding AddsExtruded UpdatedIs updatedBy
 updated-trivial flags free area at more a r t q G D s h e f =
-    a G D s h e f ∙ ap flagsOf (sym (own-pairs (classIn (s .classes)) (trivial-own area at r t q s f) (times (extrudedBy s) (freeFrom G 0 nameCount) ++ D)))
+    a G D s h e f ∙ ap flagsOf (sym (own-pairs (classIn (s .classes)) (trivial-own area at r t q (s .classes) (entry-classes area at s f)) (times (extrudedBy s) (freeFrom G 0 nameCount) ++ D)))
 
 -- Where no pair is apart, there is nothing to rewrite.
 pub updated-none : (flags free area : List ℕ) (at : ℕ) (more : List ℕ) → AddsExtruded flags free area at more
@@ -187,6 +191,31 @@ updated-none flags free area at more a r n q G D s h e f =
     let E : Pairs = times (extrudedBy s) (freeFrom G 0 nameCount) ++ D in
     let m : more ≡ flagsOf E = a G D s h e f in
     flags-are [] more (ap length m ∙ length-flags E) (n q) ∙ none-rewritten area at s f E (λ k l. pair-off more k l E m (n q k l))
+
+-- A step that extrudes no name and merges none.
+pub keeps-pairs-is : (area : List ℕ) (at : ℕ) → (getD area (at + kindByte) 0 ≡ 3 → ⊥) → (r : Bool) → TrivialIs area at r → KeepsPairs area at r
+unfolding KeepsPairs
+keeps-pairs-is area at z r t q flags free = updated-trivial flags free area at flags (extruded-none flags free area at z) r t q
+
+pub keeps-pairs-not : (area : List ℕ) (at : ℕ) → KeepsPairs area at false
+unfolding KeepsPairs
+keeps-pairs-not area at q = absurd (false≢true q)
+
+-- The pairs, copied into a list of as many flags.
+flags-copied : (flags : List ℕ) (D : Pairs) → flags ≡ flagsOf D → sets (replicate pairCount 0) 0 (take pairCount (drop 0 flags)) ≡ flags
+flags-copied flags D e =
+    let n : length flags ≡ pairCount = ap length e ∙ length-flags D in
+    let zeros : List ℕ = replicate pairCount 0 in
+    let l : length zeros ≡ pairCount = length-replicate {A = ℕ} pairCount 0 in
+    ap (sets zeros 0) (take-all pairCount flags (omega (arith, n)))
+    ∙ sets-eq flags zeros 0 (omega (arith, n, l))
+    ∙ ap (λ r. flags ++ r) (drop-of-length-le zeros {i = 0 + length flags} (omega (arith, n, l)))
+    ∙ append-nil flags
+
+pub extruded-copied : (flags free area : List ℕ) (at : ℕ) (copied more : List ℕ) → copied ≡ sets (replicate pairCount 0) 0 (take pairCount (drop 0 flags))
+    → AddsExtruded copied free area at more → AddsExtruded flags free area at more
+unfolding AddsExtruded
+extruded-copied flags free area at copied more m a G D s h e f = a G D s h (m ∙ flags-copied flags D e ∙ e) f
 
 -- The flags of the pairs of which both names are free.
 pub kept-at : (flags free : List ℕ) (i : ℕ) → i < pairCount → getD (keptFlags flags free) i 0 ≡ keptFlag flags free i

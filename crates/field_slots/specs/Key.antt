@@ -1,7 +1,7 @@
 -- A situation as it stands in the work area, and what reading, writing and finding one promise.
 use mathlib.Core.Path.{_≡_}
 use mathlib.Core.Bool.{Bool, true, false}
-use mathlib.Core.List.{List, _++_, map}
+use mathlib.Core.List.{List, [], _∷_, _++_, map}
 use Prim.Native.Nat.{ℕ, _*_, _/_, _%_, _^_, _<_, _≤_}
 use lib.ListN.{length, getD, take, drop}
 use lib.Seq.{sets}
@@ -55,6 +55,10 @@ Packs flags out put out′ = (D : Pairs) → flags ≡ flagsOf D → out′ ≡ 
 
 unfoldable pub Unpacks : List ℕ → ℕ → List ℕ → Type 0
 Unpacks area at flags′ = (D : Pairs) (rest : List ℕ) → drop at area ≡ packed (flagsOf D) ++ rest → flags′ ≡ flagsOf D
+
+-- Slot i is given the key, and the byte behind it is 0: its situation is left.
+unfoldable pub slotWith : List ℕ → ℕ → List ℕ → List ℕ
+slotWith work i key = sets work (slotBytes * i) (take keyBytes key ++ (0 ∷ []))
 
 -- the bytes of slot i that say which situation it holds
 unfoldable pub keyAt : List ℕ → ℕ → List ℕ

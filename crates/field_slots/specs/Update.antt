@@ -1,6 +1,6 @@
 -- What the code that updates the apart pairs promises: document 000, Definition 15, and document 01, "The field and the verdict".
 use mathlib.Core.Path.{_≡_}
-use mathlib.Core.Bool.{cond}
+use mathlib.Core.Bool.{Bool, true, cond}
 use mathlib.Core.List.{List, [], _∷_, _++_, map}
 use Prim.Native.Nat.{ℕ}
 use lib.Dec.{eqb}
@@ -53,6 +53,10 @@ unfoldable pub UpdatedIs : List ℕ → List ℕ → List ℕ → ℕ → List �
 UpdatedIs flags free area at r =
     (G : List ℕ) (D : Pairs) (s : ListedStep) → HasNames free G → flags ≡ flagsOf D → EntryAt area at s
     → r ≡ flagsOf (updatedBy (freeFrom G 0 nameCount) D s)
+
+-- The step leaves every list of pairs as it is.
+unfoldable pub KeepsPairs : List ℕ → ℕ → Bool → Type 0
+KeepsPairs area at r = r ≡ true → (flags free : List ℕ) → UpdatedIs flags free area at flags
 
 -- a flag if the name is free, else 0
 unfoldable pub ifFree : ℕ → ℕ → ℕ

@@ -3,18 +3,17 @@ ghost use mathlib.Core.Path.{_≡_};
 ghost use Prim.Native.Nat.{_+_, _*_, _<_, _≤_};
 ghost use lib.ListN.{length, take};
 ghost use Rattle.field_slots.specs.Chains.{roundsTo, spread, WordIs, MixIs, RoundsIs, putNumber, BucketIs, LinkIs, FindsIn};
+ghost use Rattle.field_slots.specs.Key.{slotWith};
 ghost use Rattle.field_pairs.specs.Slot.{keyBytes, slotBytes};
 use crate::find::Found;
-use crate::find::KEY_BYTES;
-use crate::find::SLOT_BYTES;
 use crate::find::same_key;
-use crate::slots::PART_BYTES;
+use crate::slot::HEAD;
+use crate::slot::KEY_BYTES;
+use crate::slot::LINK;
+use crate::slot::PART_BYTES;
+use crate::slot::SLOT_BYTES;
+use crate::slot::hold;
 use terms_bytes::frame::size_at;
-
-// Where a bucket's head and a slot's link stand in a slot.
-const HEAD: usize = KEY_BYTES + 1;
-
-pub const LINK: usize = HEAD + 2;
 
 // The sixteen bytes in which the second part begins, and those in which the pairs do.
 const SECOND_ROUND: usize = 7;
@@ -103,7 +102,7 @@ pub fn put_number(work: &mut [u8], at: usize, n: usize)
 }
 
 // Puts slot `i`, which has just got its key, at the head of its bucket.
-pub fn link(work: &mut [u8], capacity: usize, i: usize)
+fn link(work: &mut [u8], capacity: usize, i: usize)
     requires { ⌜ (i < capacity) × (capacity ≤ 4096) × (slotBytes * capacity ≤ length (now work)) ⌝ }
     ensures { λ _. ⌜ LinkIs capacity (now (work .entry)) i (now (work .exit)) ⌝ }
 {
@@ -112,6 +111,15 @@ pub fn link(work: &mut [u8], capacity: usize, i: usize)
     let last = size_at(work, head);
     put_number(work, at + LINK, last);
     put_number(work, head, i + 1);
+}
+
+// Writes the key into slot `i` and chains it.
+pub fn put(work: &mut [u8], capacity: usize, i: usize, key: &[u8])
+    requires { ⌜ (i < capacity) × (capacity ≤ 4096) × (slotBytes * capacity ≤ length (now work)) × (keyBytes ≤ length (now key)) ⌝ }
+    ensures { λ _. ⌜ LinkIs capacity (slotWith (now (work .entry)) i (now (key .entry))) i (now (work .exit)) ⌝ }
+{
+    hold(work, i, key);
+    link(work, capacity, i);
 }
 
 // The slot that holds the key, among the first `count`: along the chain of its bucket. A link that leads on or past them ends the search.

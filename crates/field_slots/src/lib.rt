@@ -2,4 +2,5 @@
 pub mod chains;
 pub mod find;
 pub mod notes;
+pub mod slot;
 pub mod slots;

@@ -3,15 +3,11 @@ ghost use Prim.Native.Nat.{_+_, _*_, _<_, _≤_};
 ghost use lib.ListN.{length};
 ghost use Rattle.field_slots.specs.Noted.{ClearsSlot, NotesOne};
 ghost use Rattle.field_pairs.specs.Slot.{slotBytes};
-use crate::chains::LINK;
 use crate::chains::put_number;
-use crate::find::SLOT_BYTES;
+pub use crate::slot::NOTED;
+pub use crate::slot::NOTES;
+use crate::slot::SLOT_BYTES;
 use terms_bytes::frame::size_at;
-
-// How many numbers are noted, two bytes each, and where they begin in a slot.
-pub const NOTED: usize = 5;
-
-pub const NOTES: usize = LINK + 2;
 
 // Nothing is noted in slot `i`.
 pub fn clear_slot(work: &mut [u8], i: usize)

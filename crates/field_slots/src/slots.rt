@@ -8,18 +8,12 @@ ghost use Rattle.field_pairs.specs.PairFlags.{pairCount};
 ghost use Rattle.field_pairs.specs.Slot.{octets, keyBytes};
 ghost use Rattle.field_slots.specs.Update.{keptFlags};
 use crate::chains::word;
+use crate::slot::BITS;
+use crate::slot::OCTETS;
+use crate::slot::PART_BYTES;
 use field_pairs::pairs::PAIR_COUNT;
 use field_pairs::pairs::pair_of;
 use terms_bytes::bytes::get;
-use terms_bytes::limits::LONGEST_TERM;
-
-// A part and its length.
-pub const PART_BYTES: usize = 1 + LONGEST_TERM;
-
-// Where the bits are: behind the two parts.
-pub const BITS: usize = PART_BYTES + PART_BYTES;
-
-pub const OCTETS: usize = PAIR_COUNT / 8;
 
 // The part whose length stands at `at`; nothing where it runs past the end.
 pub fn part_at(area: &[u8], at: usize) -> &[u8]

@@ -17,6 +17,7 @@ use Rattle.terms.specs.Question.{Question, checkOf, pairBytes}
 use Rattle.terms_bytes.proofs.QuestionPlaces.{accepted-apart, accepted-arities}
 use Rattle.terms_bytes.proofs.Stores.{sets-middle}
 use Rattle.terms.proofs.WellFormed.{accepted-well-formed}
+use Rattle.steps.specs.Forms.{resultForm}
 use Rattle.steps_lister.proofs.OperationLaws.{first-stands, second-stands}
 use Rattle.field_successors.specs.Leading.{CompletesKey, StartIs}
 use Rattle.field_pairs.specs.PairFlags.{pairCount, AddsPair}
@@ -99,7 +100,7 @@ module _ (s : List ℕ) (first second apart : ℕ) (x : first ≡ fieldPlace s (
   pub start-is : (part₁ part₂ list arities : List ℕ) → part₁ ≡ fieldAt s first → part₂ ≡ fieldAt s second → list ≡ fieldAt s apart → arities ≡ aritiesOf s
       → (key₁ key₂ key₃ : List ℕ) (differ : Bool) (flags : List ℕ) → PutsPart part₁ (replicate keyBytes 0) 0 key₁ → PutsPart part₂ key₁ 113 key₂
       → StartPairs list differ flags → CompletesKey arities flags key₂ key₃ → StartIs s differ key₃
-  unfolding PutsPart StartPairs CompletesKey StartIs startOf
+  unfolding PutsPart StartPairs CompletesKey StartIs startOf resultForm
   start-is part₁ part₂ list arities e f g h key₁ key₂ key₃ differ flags p₁ p₂ m k q a =
       let w = accepted-well-formed s q a in
       let P : Term = q .first in

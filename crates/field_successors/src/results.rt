@@ -7,6 +7,7 @@ ghost use Rattle.field_successors.specs.Resulting.{CopiesResult, Rewrite
 ghost use Rattle.field_pairs.specs.Slot.{keyBytes};
 ghost use Rattle.terms.specs.Limits.{nameCount};
 ghost use Rattle.steps.specs.Limits.{stepBytes};
+use crate::update::keeps_pairs;
 use crate::update::updated;
 use field_pairs::entries::OBJECT;
 use field_pairs::entries::same_classes;
@@ -14,10 +15,10 @@ use field_pairs::names::free_in_either;
 use field_pairs::names::replacing;
 use field_pairs::pairs::PAIR_COUNT;
 use field_pairs::pairs::none_apart;
-use field_slots::find::KEY_BYTES;
-use field_slots::slots::BITS;
-use field_slots::slots::OCTETS;
-use field_slots::slots::PART_BYTES;
+use field_slots::slot::BITS;
+use field_slots::slot::KEY_BYTES;
+use field_slots::slot::OCTETS;
+use field_slots::slot::PART_BYTES;
 use field_slots::slots::pack;
 use field_slots::slots::part_at;
 use terms_bytes::bytes::copy;
@@ -129,42 +130,55 @@ fn free_of_parts(key: &[u8], arities: &[u8]) -> [u8; NAME_COUNT]
 }
 
 // Puts the pairs behind the two parts of a key, those of which each name is free in at least one part.
-pub fn complete(key: &mut [u8], arities: &[u8], apart: [u8; PAIR_COUNT])
+pub fn complete(key: &mut [u8], arities: &[u8], apart: &[u8; PAIR_COUNT])
     requires { ⌜ length (now key) ≡ keyBytes ⌝ }
-    ensures { λ _. ⌜ CompletesKey (now (arities .entry)) apart (now (key .entry)) (now (key .exit)) ⌝ }
+    ensures { λ _. ⌜ CompletesKey (now (arities .entry)) (now (apart .entry)) (now (key .entry)) (now (key .exit)) ⌝ }
 {
-    if none_apart(&apart) {
+    if none_apart(apart) {
         copy(&[0u8; OCTETS], 0, OCTETS, key, BITS);
         return;
     }
     let free = free_of_parts(key, arities);
-    pack(&apart, &free, key, BITS);
+    pack(apart, &free, key, BITS);
 }
 
-// The key of the situation that the answer at `place` to the step at `at` leads to; `second`: the second side makes the step. Where all names differ
-// (request 2026-02), `name` is put for the object of the step and no pairs are apart; else `name` is none of the names.
+// The step at `at` and the answer at `place` of the other side; `second`: the second side makes the step. Where all names differ (request 2026-02),
+// `name` is put for the object of the step; else it is none of the names.
+pub struct Answering {
+    pub second: bool,
+    pub at: usize,
+    pub place: usize,
+    pub name: usize,
+}
+
+// The key of the situation that the answer leads to. Where all names differ, no pairs are apart.
 pub fn successor(
     arities: &[u8],
     free: &[u8],
-    apart: [u8; PAIR_COUNT],
-    second: bool,
+    apart: &[u8; PAIR_COUNT],
     area: &[u8],
-    at: usize,
     others: &[u8],
-    place: usize,
-    name: usize,
+    answer: Answering,
 ) -> [u8; KEY_BYTES]
-    requires { ⌜ (at + stepBytes ≤ length (now area)) × (place + stepBytes ≤ length (now others)) ⌝ }
-    ensures { λ r. ⌜ SuccessorIs (now (arities .entry)) (now (free .entry)) apart second (now (area .entry)) at (now (others .entry)) place name r ⌝ }
+    requires { ⌜ (answer .at + stepBytes ≤ length (now area)) × (answer .place + stepBytes ≤ length (now others)) ⌝ }
+    ensures { λ r. ⌜ SuccessorIs (now (arities .entry)) (now (free .entry)) (now (apart .entry)) (answer .second) (now (area .entry)) (answer .at) (now (others .entry)) (answer .place) (answer .name) r ⌝ }
 {
+    let second = answer.second;
+    let at = answer.at;
+    let place = answer.place;
+    let name = answer.name;
     let mut key = [0u8; KEY_BYTES];
     if name < NAME_COUNT {
         place_received(arities, second, area, at, others, place, name, &mut key);
-        complete(&mut key, arities, [0u8; PAIR_COUNT]);
+        complete(&mut key, arities, &[0u8; PAIR_COUNT]);
         return key;
     }
     place_results(arities, second, area, at, others, place, &mut key);
+    if keeps_pairs(area, at) {
+        complete(&mut key, arities, apart);
+        return key;
+    }
     let new = updated(apart, free, area, at);
-    complete(&mut key, arities, new);
+    complete(&mut key, arities, &new);
     key
 }

@@ -8,8 +8,8 @@ ghost use Rattle.field_successors.specs.Starting.{PutsPart, MarksList, S
 use crate::results::complete;
 use field_pairs::pairs::PAIR_COUNT;
 use field_pairs::pairs::mark_pair;
-use field_slots::find::KEY_BYTES;
-use field_slots::slots::PART_BYTES;
+use field_slots::slot::KEY_BYTES;
+use field_slots::slot::PART_BYTES;
 use terms_bytes::bytes::copy;
 use terms_bytes::bytes::get;
 use terms_bytes::frame::after_field;
@@ -68,6 +68,6 @@ pub fn start_key(question: &[u8], differ: bool) -> [u8; KEY_BYTES]
     put_part(field_at(question, second), &mut key, PART_BYTES);
     let list = field_at(question, after_field(question, second));
     let apart = start_pairs(list, differ);
-    complete(&mut key, arities(question), apart);
+    complete(&mut key, arities(question), &apart);
     key
 }

@@ -4,15 +4,15 @@ ghost use Prim.Native.Nat.{_<_, _≤_};
 ghost use lib.ListN.{length};
 ghost use Rattle.terms.specs.Limits.{nameCount};
 ghost use Rattle.field_pairs.specs.PairFlags.{pairCount};
-ghost use Rattle.field_slots.specs.Update.{AddsIfFree, AddsRow, AddsExtruded, AddsRewritten, RewritesPairs, UpdatedIs};
+ghost use Rattle.field_slots.specs.Update.{AddsIfFree, AddsRow, AddsExtruded, AddsRewritten, RewritesPairs, UpdatedIs, KeepsPairs};
 use field_pairs::entries::KIND;
 use field_pairs::entries::OBJECT;
-use field_pairs::entries::class_of;
-use field_pairs::entries::trivial;
 use field_pairs::pairs::PAIR_COUNT;
 use field_pairs::pairs::mark_pair;
 use field_pairs::pairs::none_apart;
 use field_pairs::pairs::pair_of;
+use steps_conditions::condition::Condition;
+use terms_bytes::bytes::copy;
 use terms_bytes::bytes::get;
 use terms_bytes::limits::NAME_COUNT;
 
@@ -60,8 +60,8 @@ fn mark_rewritten(flags: &[u8], k: usize, area: &[u8], at: usize, new: &mut [u8]
         return;
     }
     let p = pair_of(k);
-    let a = class_of(area, at, p.first);
-    let b = class_of(area, at, p.second);
+    let a = Condition::class_of(area, at, p.first);
+    let b = Condition::class_of(area, at, p.second);
     mark_pair(new, a, b);
 }
 
@@ -77,14 +77,26 @@ fn rewrite(flags: &[u8], area: &[u8], at: usize, new: &mut [u8])
     }
 }
 
-// The apart pairs after the step at `at`; `free` are the names free before it.
-pub fn updated(apart: [u8; PAIR_COUNT], free: &[u8], area: &[u8], at: usize) -> [u8; PAIR_COUNT]
+// Whether the step at `at` leaves the apart pairs as they are: it extrudes no name and merges none.
+pub fn keeps_pairs(area: &[u8], at: usize) -> bool
     requires { ⌜ at ≤ length (now area) ⌝ }
-    ensures { λ r. ⌜ UpdatedIs apart (now (free .entry)) (now (area .entry)) at r ⌝ }
+    ensures { λ r. ⌜ KeepsPairs (now (area .entry)) at r ⌝ }
 {
-    let mut more = apart;
+    if get(area, at + KIND) == 3 {
+        return false;
+    }
+    Condition::is_trivial(area, at)
+}
+
+// The apart pairs after the step at `at`; `free` are the names free before it.
+pub fn updated(apart: &[u8; PAIR_COUNT], free: &[u8], area: &[u8], at: usize) -> [u8; PAIR_COUNT]
+    requires { ⌜ at ≤ length (now area) ⌝ }
+    ensures { λ r. ⌜ UpdatedIs (now (apart .entry)) (now (free .entry)) (now (area .entry)) at r ⌝ }
+{
+    let mut more = [0u8; PAIR_COUNT];
+    copy(apart, 0, PAIR_COUNT, &mut more, 0);
     mark_extruded(&mut more, free, area, at);
-    if trivial(area, at) {
+    if Condition::is_trivial(area, at) {
         return more;
     }
     if none_apart(&more) {

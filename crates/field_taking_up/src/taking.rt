@@ -10,7 +10,7 @@ ghost use Rattle.field_kept_lists.specs.ListArea.{ListIn, Labelled, SideIs};
 ghost use Rattle.field_pairs.specs.Slot.{keyBytes};
 ghost use Rattle.field_taking_up.specs.TakingUp.{SomeBindsIs, PastNamesIs, ListsSides, TakesUp};
 use field_kept_lists::kept_lists::bring;
-use field_kept_lists::kept_lists::bring_over;
+use field_kept_lists::kept_lists::copy_kept;
 use field_kept_lists::kept_lists::kept_place;
 use field_kept_lists::list_area::LABEL;
 use field_kept_lists::list_area::has_list;
@@ -81,12 +81,12 @@ fn list_side(
     bodies: &[u32],
     part: &[u8],
     x: usize,
-    numbers: &mut [u32],
+    tallies: &mut [u32],
     rows: &mut [u8],
     other: &[u8],
     area: &mut [u8],
 ) -> ListAnswer
-    requires { ⌜ (x ≤ nameCount) × BodiesTallied (now question) (now bodies) × (length (now numbers) ≡ tallySize) × (rowBytes * mostRows ≤ length (now rows)) × Labelled (now question) (now other) × Labelled (now question) (now area) ⌝ }
+    requires { ⌜ (x ≤ nameCount) × BodiesTallied (now question) (now bodies) × (length (now tallies) ≡ tallySize) × (rowBytes * mostRows ≤ length (now rows)) × Labelled (now question) (now other) × Labelled (now question) (now area) ⌝ }
     ensures { λ r. ⌜ SideIs (now (question .entry)) (now (part .entry)) x r (now (area .exit)) × Labelled (now (question .entry)) (now (area .exit)) ⌝ }
 {
     if LONGEST_TERM < part.len() {
@@ -100,11 +100,11 @@ fn list_side(
         return ListAnswer::Count(bring(area, p, part, x));
     }
     if has_list(other, p, part, x) {
-        return ListAnswer::Count(bring_over(other, p, part, x, area));
+        return ListAnswer::Count(copy_kept(other, p, part, x, area));
     }
     let made = renew_kept(question, part, x, other, p, area);
     match made {
-        ListAnswer::Unsettled => list_anew(question, bodies, part, x, numbers, rows, p, area),
+        ListAnswer::Unsettled => list_anew(question, bodies, part, x, tallies, rows, p, area),
         ListAnswer::Count(n) => ListAnswer::Count(n),
     }
 }
@@ -116,13 +116,13 @@ fn list_second(
     first: &[u8],
     second: &[u8],
     x: usize,
-    numbers: &mut [u32],
+    tallies: &mut [u32],
     rows: &mut [u8],
     firsts: &[u8],
     n: usize,
     seconds: &mut [u8],
 ) -> ListAnswer
-    requires { ⌜ (x ≤ nameCount) × BodiesTallied (now question) (now bodies) × (length (now numbers) ≡ tallySize) × (rowBytes * mostRows ≤ length (now rows)) × Labelled (now question) (now firsts) × (length (now first) ≤ longestTerm) × ListIn (now question) (now first) x n (now firsts) × Labelled (now question) (now seconds) ⌝ }
+    requires { ⌜ (x ≤ nameCount) × BodiesTallied (now question) (now bodies) × (length (now tallies) ≡ tallySize) × (rowBytes * mostRows ≤ length (now rows)) × Labelled (now question) (now firsts) × (length (now first) ≤ longestTerm) × ListIn (now question) (now first) x n (now firsts) × Labelled (now question) (now seconds) ⌝ }
     ensures { λ r. ⌜ SideIs (now (question .entry)) (now (second .entry)) x r (now (seconds .exit)) × Labelled (now (question .entry)) (now (seconds .exit)) ⌝ }
 {
     if same_part(first, second) {
@@ -130,7 +130,7 @@ fn list_second(
         put_label(seconds, LABEL, second, x, n);
         return ListAnswer::Count(n);
     }
-    list_side(question, bodies, second, x, numbers, rows, firsts, seconds)
+    list_side(question, bodies, second, x, tallies, rows, firsts, seconds)
 }
 
 // Lists both sides, each in its area, for the new name `x`.
@@ -140,15 +140,15 @@ fn list_sides(
     first: &[u8],
     second: &[u8],
     x: usize,
-    numbers: &mut [u32],
+    tallies: &mut [u32],
     rows: &mut [u8],
     firsts: &mut [u8],
     seconds: &mut [u8],
 ) -> Lists
-    requires { ⌜ (x ≤ nameCount) × BodiesTallied (now question) (now bodies) × (length (now numbers) ≡ tallySize) × (rowBytes * mostRows ≤ length (now rows)) × Labelled (now question) (now firsts) × Labelled (now question) (now seconds) ⌝ }
+    requires { ⌜ (x ≤ nameCount) × BodiesTallied (now question) (now bodies) × (length (now tallies) ≡ tallySize) × (rowBytes * mostRows ≤ length (now rows)) × Labelled (now question) (now firsts) × Labelled (now question) (now seconds) ⌝ }
     ensures { λ r. ⌜ ListsSides (now (question .entry)) (now (first .entry)) (now (second .entry)) x r (now (firsts .exit)) (now (seconds .exit)) × Labelled (now (question .entry)) (now (firsts .exit)) × Labelled (now (question .entry)) (now (seconds .exit)) ⌝ }
 {
-    let n = match list_side(question, bodies, first, x, numbers, rows, seconds, firsts) {
+    let n = match list_side(question, bodies, first, x, tallies, rows, seconds, firsts) {
         ListAnswer::Unsettled => return Lists::Past,
         ListAnswer::Count(n) => n,
     };
@@ -158,7 +158,7 @@ fn list_sides(
         first,
         second,
         x,
-        numbers,
+        tallies,
         rows,
         firsts,
         n,
@@ -180,12 +180,12 @@ pub fn take_up(
     bodies: &[u32],
     work: &[u8],
     at: usize,
-    numbers: &mut [u32],
+    tallies: &mut [u32],
     rows: &mut [u8],
     firsts: &mut [u8],
     seconds: &mut [u8],
 ) -> TakenUp
-    requires { ⌜ (at + keyBytes ≤ length (now work)) × BodiesTallied (now question) (now bodies) × (length (now numbers) ≡ tallySize) × (rowBytes * mostRows ≤ length (now rows)) × Labelled (now question) (now firsts) × Labelled (now question) (now seconds) ⌝ }
+    requires { ⌜ (at + keyBytes ≤ length (now work)) × BodiesTallied (now question) (now bodies) × (length (now tallies) ≡ tallySize) × (rowBytes * mostRows ≤ length (now rows)) × Labelled (now question) (now firsts) × Labelled (now question) (now seconds) ⌝ }
     ensures { λ r. ⌜ TakesUp (now (question .entry)) (now (work .entry)) at r (now (firsts .exit)) (now (seconds .exit)) × Labelled (now (question .entry)) (now (firsts .exit)) × Labelled (now (question .entry)) (now (seconds .exit)) ⌝ }
 {
     let first = first_part(work, at);
@@ -201,7 +201,7 @@ pub fn take_up(
             first,
             second,
             x,
-            numbers,
+            tallies,
             rows,
             firsts,
             seconds,

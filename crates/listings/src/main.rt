@@ -9,6 +9,7 @@ use steps_lister::operation::steps;
 use terms_bytes::bytes::get;
 use terms_bytes::frame::after_field;
 use terms_bytes::frame::field_at;
+use terms_bytes::limits::NAME_COUNT;
 
 const LISTING_BYTES: usize = STEP_BYTES * MOST_STEPS;
 
@@ -16,7 +17,7 @@ const LISTING_BYTES: usize = STEP_BYTES * MOST_STEPS;
 const MOST_LINES: usize = 16;
 
 // Where a step has the length of its result.
-const SIZE: usize = 19;
+const SIZE: usize = NAME_COUNT + 3;
 
 fn print_bytes(area: &[u8], from: usize, n: usize)
     requires { ⌜ (from ≤ 65536) × (n ≤ 65536) ⌝ }

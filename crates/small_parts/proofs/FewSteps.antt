@@ -9,17 +9,18 @@ use native.Mathlib.Decide.{decLe}
 use lib.ListN.{length, getD, length-append, length-map}
 use borrow.Author.Tests.{le-leb}
 use Rattle.calculus.specs.Abstraction.{Act, tauA, inpA, outA, boutA, swap}
-use Rattle.calculus.specs.Term.{Term, nil, tau, inp, out, bout, mat, sum, par, res, call, inst, _•_}
+use Rattle.calculus.specs.Term.{Term, nil, tau, inp, out, bout, mat, sum, par, res, call, ren, inst, _•_}
 use Rattle.calculus.specs.Cond.{Cond, mapP, cls}
 use Rattle.terms.specs.Limits.{nameCount, longestTerm}
 use Rattle.terms.specs.Encoding.{encode}
 use Rattle.terms.specs.Question.{bodyOf}
 use Rattle.steps.specs.Forms.{resultForm}
 use Rattle.steps.specs.Lists.{All}
-use Rattle.steps.specs.Raw.{Candidate, step, blocked, matching, leftSteps, rightSteps, meet, communication, communications, sparesRestricted, outside, restrictedAction, restricted, visibleOf, silentOf, visibleCalls, silentCalls, visible, silent}
+use Rattle.steps.specs.Raw.{Candidate, step, blocked, matching, leftSteps, rightSteps, meet, communication, communications, restrictedAlone, outside, restrictedAction, restricted, visibleOf, silentOf, visibleCalls, silentCalls, visible, silent}
 use Rattle.steps.specs.Limits.{mostSteps}
 use Rattle.steps.specs.Listed.{ListedStep, listedAs, canonStep, resultBytes, bytes}
 use Rattle.steps.specs.Listing.{listed, order, insert, allFit, collect, limited, listing}
+use Rattle.steps.proofs.FormLaws.{Form, result-form}
 use Rattle.steps.proofs.Membership.{all-++, all-imp, all-map}
 use Rattle.field.specs.Setting.{settingOf, stepsIn}
 use Rattle.field.specs.Exploration.{found}
@@ -69,7 +70,7 @@ shorter-action n M (boutA (suc a)) P h = omega (arith, size-ren swap P)
 
 shorter-restricted : (n : ℕ) (c : Candidate) → Shorter n c → Shorter (suc n) (restricted c)
 unfolding restricted
-shorter-restricted n (step M α P) h = go (sparesRestricted M)
+shorter-restricted n (step M α P) h = go (restrictedAlone M)
   where
     go : (b : Bool) → Shorter (suc n) (cond b (restrictedAction (mapP outside M) α P) blocked)
     go true = shorter-action n (mapP outside M) α P h
@@ -230,12 +231,19 @@ insert-all S longest s (t ∷ ts) h k = go (insert-all S longest s ts h (k .1)) 
     go r Ordering·eq = k
     go r Ordering·gt = (k .0, r)
 
+-- a result in its form is no longer
+pub size-form : (P : Term) → size (resultForm P) ≤ size P
+size-form P = omega (arith, result-form .shorter 0 P, size-encode 0 (resultForm P), size-encode 0 P)
+
+formed-short : (ρ : ℕ → ℕ) (n : ℕ) (P : Term) → size P < n → size (resultForm (ren ρ P)) < n
+formed-short ρ n P h = omega (arith, size-form (ren ρ P), size-ren ρ P)
+
 short-canon : (names x n : ℕ) (M : Cond) (α : Act) (P : Term) → size P < n → Short n (canonStep resultForm names x M α P)
 unfolding canonStep listedAs
-short-canon names x n M tauA P h = omega (arith, size-ren (cls M) P)
-short-canon names x n M (inpA a) P h = omega (arith, size-ren (x • cls M) P)
-short-canon names x n M (outA a b) P h = omega (arith, size-ren (cls M) P)
-short-canon names x n M (boutA a) P h = omega (arith, size-ren (x • cls M) P)
+short-canon names x n M tauA P h = formed-short (cls M) n P h
+short-canon names x n M (inpA a) P h = formed-short (x • cls M) n P h
+short-canon names x n M (outA a b) P h = formed-short (cls M) n P h
+short-canon names x n M (boutA a) P h = formed-short (x • cls M) n P h
 
 collect-length : (names longest x : ℕ) (cs : List Candidate) (found : List ListedStep) → length (collect resultForm names longest x cs found) ≤ length cs + length found
 unfolding collect

@@ -28,7 +28,7 @@ use Rattle.field.specs.Exploration.{found, unseen, together, Row, Exploration, 
 use Rattle.verdict.specs.Verdict.{openly, differs, demandsOf, verdictBy, verdictOf, decided}
 use Rattle.verdict.proofs.DecidedField.{of-unsettled}
 use Rattle.small_parts.proofs.Size.{size, size-encode, size-ren, few-names}
-use Rattle.small_parts.proofs.FewSteps.{Short, FewSteps, few-listed}
+use Rattle.small_parts.proofs.FewSteps.{size-form, Short, FewSteps, few-listed}
 use Rattle.verdict.specs.Verdict as verdicts
 
 -- A new name is there while not all names are free.
@@ -342,7 +342,7 @@ complete (suc n) known (s ∷ waiting) h l e =
 
 start-small : (q : Question) → size (q .first) ≤ 5 → size (q .second) ≤ 5 → larger (startOf false q) ≤ 5
 unfolding startOf situation
-start-small q h k = omega arith
+start-small q h k = omega (arith, size-form (q .first), size-form (q .second))
 
 cost-all : (m : ℕ) → m ≤ 5 → cost m ≤ 121
 cost-all zero h = omega arith

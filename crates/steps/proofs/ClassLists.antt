@@ -1,13 +1,18 @@
--- The list of the classes of the names below a number is the condition, where that matches no other names. Assumes nothing.
-use mathlib.Core.List.{map}
-use mathlib.Core.Path.{_≡_, refl, sym, _∙_, ap, fun-ext}
+-- The list of the classes of the names below a number is the condition, where that matches no other names; and tests of such lists.
+-- Assumes nothing.
+use mathlib.Core.Bool.{true}
+use mathlib.Core.List.{List, [], _∷_, map}
+use mathlib.Core.Path.{_≡_, refl, sym, _∙_, ap, subst, fun-ext}
 use native.Mathlib.Decide.{ℕ-discrete, decLt}
 use native.Mathlib.Omega.{arith}
 use Prim.Native.Nat.{ℕ, zero, suc, _+_, _<_, _≤_}
+use lib.Dec.{eqb}
 use lib.ListN.{length, getD, length-map, List·getD-eq-default}
+use borrow.Author.Tests.{eq-eqb, eqb-true}
 use Rattle.calculus.specs.Cond.{Cond, cls}
 use Rattle.calculus.proofs.Conditions.{E1, E4, Occ}
-use Rattle.steps.specs.Listed.{namesFrom, classesOf, classIn}
+use Rattle.terms.proofs.Answers.{both-true, true-both}
+use Rattle.steps.specs.Listed.{namesFrom, classesOf, classIn, implies, ownClasses}
 
 length-names : (n k : ℕ) → length (namesFrom n k) ≡ k
 unfolding namesFrom
@@ -54,3 +59,23 @@ class-at names M w n = go (decLt n names)
 -- to rewrite by the list is to rewrite by the condition
 pub class-list : (names : ℕ) (M : Cond) → Within names M → classIn (classesOf names M) ≡ cls M
 class-list names M w = fun-ext (class-at names M w)
+
+-- Classes that absorb those of another condition imply it.
+pub in-implies : (c d ns : List ℕ) → ((n : ℕ) → classIn c (classIn d n) ≡ classIn c n) → implies c d ns ≡ true
+unfolding implies
+in-implies c d [] h = refl
+in-implies c d (n ∷ ns) h =
+    true-both (eqb (classIn c (classIn d n)) (classIn c n)) (implies c d ns)
+    (eq-eqb (classIn c (classIn d n)) (classIn c n) (h n)) (in-implies c d ns h)
+
+-- Under a trivial condition each name is its own class.
+pub all-own : (c : List ℕ) (k n : ℕ) → ownClasses c (namesFrom k n) ≡ true → (j : ℕ) → k ≤ j → j < k + n → classIn c j ≡ j
+unfolding ownClasses namesFrom
+all-own c k zero e j h l = absurd (omega arith)
+all-own c k (suc n) e j h l =
+    let (a, b) = both-true (eqb (classIn c k) k) (ownClasses c (namesFrom (suc k) n)) e in
+    go (eqb-true (classIn c k) k a) (λ h′. all-own c (suc k) n b j h′ (omega arith)) (ℕ-discrete j k)
+  where
+    go : classIn c k ≡ k → (suc k ≤ j → classIn c j ≡ j) → Dec (j ≡ k) → classIn c j ≡ j
+    go a r (yes q) = subst (λ m. classIn c m ≡ m) (sym q) a
+    go a r (no q) = r (omega arith)

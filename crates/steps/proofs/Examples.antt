@@ -9,7 +9,7 @@ use Rattle.calculus.specs.Free.{fn, lowerL}
 use Rattle.calculus.specs.Term.{Term, nil, tau, inp, out, bout, mat, sum, par, res, call}
 use Rattle.calculus.specs.Tidy.{restrictUsed, tidy}
 use Rattle.terms.specs.Encoding.{encode, nameByte}
-use Rattle.steps.specs.Raw.{matching, leftSteps, rightSteps, meet, communication, communications, spares, sparesRestricted, outside, restrictedAction, restricted, visibleOf, silentOf, visibleCalls, silentCalls, visible, silent}
+use Rattle.steps.specs.Raw.{matching, leftSteps, rightSteps, meet, communication, communications, leavesAlone, restrictedAlone, outside, restrictedAction, restricted, visibleOf, silentOf, visibleCalls, silentCalls, visible, silent}
 use Rattle.steps.specs.Forms.{asItIs}
 use Rattle.steps.specs.Listed.{ListedStep, namesFrom, classesOf, kindOf, channelOf, objectOf, listedAs, canonStep, resultBytes, bytes}
 use Rattle.steps.specs.Listing.{order, insert, allFit, collect, Listing, unsettled, listed, limited, listing}
@@ -48,7 +48,7 @@ rows =
 
 pub exchanges : map (λ r. r .0) rows ≡ map (λ r. r .1) rows
 unfolding listing limited collect insert order allFit bytes resultBytes canonStep listedAs kindOf channelOf objectOf classesOf namesFrom visible
-    silent visibleCalls silentCalls visibleOf silentOf restricted restrictedAction outside sparesRestricted spares communications communication meet
+    silent visibleCalls silentCalls visibleOf silentOf restricted restrictedAction outside restrictedAlone leavesAlone communications communication meet
     leftSteps rightSteps matching encode nameByte cls join
 exchanges = refl
 
@@ -85,7 +85,7 @@ more =
 
 pub turnings : map (λ r. r .0) more ≡ map (λ r. r .1) more
 unfolding listing limited collect insert order allFit bytes resultBytes canonStep listedAs kindOf channelOf objectOf classesOf namesFrom visible
-    silent visibleCalls silentCalls visibleOf silentOf restricted restrictedAction outside sparesRestricted spares communications communication meet
+    silent visibleCalls silentCalls visibleOf silentOf restricted restrictedAction outside restrictedAlone leavesAlone communications communication meet
     leftSteps rightSteps matching encode nameByte cls join
 turnings = refl
 
@@ -112,7 +112,7 @@ unused =
 
 pub tidied-exchanges : map (λ r. r .0) unused ≡ map (λ r. r .1) unused
 unfolding listing limited collect insert order allFit bytes resultBytes canonStep listedAs kindOf channelOf objectOf classesOf namesFrom visible
-    silent visibleCalls silentCalls visibleOf silentOf restricted restrictedAction outside sparesRestricted spares communications communication meet
+    silent visibleCalls silentCalls visibleOf silentOf restricted restrictedAction outside restrictedAlone leavesAlone communications communication meet
     leftSteps rightSteps matching encode nameByte cls join tidy restrictUsed among fn lowerL
 tidied-exchanges = refl
 
@@ -127,6 +127,6 @@ many (listed ss) = length ss
 
 pub wide : many (steps nil (silents 36)) ≡ 37
 unfolding listing limited collect insert order allFit bytes resultBytes canonStep listedAs kindOf channelOf objectOf classesOf namesFrom visible
-    silent visibleCalls silentCalls visibleOf silentOf restricted restrictedAction outside sparesRestricted spares communications communication meet
+    silent visibleCalls silentCalls visibleOf silentOf restricted restrictedAction outside restrictedAlone leavesAlone communications communication meet
     leftSteps rightSteps matching encode nameByte cls join
 wide = refl

@@ -81,6 +81,7 @@ tidied-form = record {
 
 -- the form of the service
 pub result-form : Form resultForm
+unfolding resultForm
 result-form = as-it-is
 
 module _ {form : Term → Term} (f : Form form) where

@@ -16,3 +16,5 @@ pub mod RawSound
 pub mod Restriction
 pub mod Scope
 pub mod Sorted
+pub mod TidiedQuestions
+pub mod TidyLists

@@ -11,10 +11,10 @@ use Rattle.calculus.proofs.Conditions.{_~_}
 use Rattle.calculus.specs.Definitions.{Defs, opened}
 use Rattle.calculus.proofs.PublishedSteps.{cons-~, ++-~}
 use Rattle.calculus.proofs.Working.{renA, cross, Trans, t-tau, t-inp, t-out, t-bout, t-mat, t-sumL, t-sumR, t-parL, t-parR, t-comL, t-comR, t-closeL, t-closeR, t-res, t-open, t-call}
-use Rattle.steps.specs.Raw.{Candidate, step, matching, leftSteps, rightSteps, meet, communication, communications, sparesRestricted, outside, restrictedAction, restricted, visibleOf, silentOf, visibleCalls, silentCalls, visible, silent}
+use Rattle.steps.specs.Raw.{Candidate, step, matching, leftSteps, rightSteps, meet, communication, communications, restrictedAlone, outside, restrictedAction, restricted, visibleOf, silentOf, visibleCalls, silentCalls, visible, silent}
 use Rattle.steps.specs.Lists.{_∈_}
 use Rattle.steps.proofs.Membership.{∈-left, ∈-right, ∈-map}
-use Rattle.steps.proofs.Restriction.{outside-spares, outside-same}
+use Rattle.steps.proofs.Restriction.{outside-alone, outside-same}
 use Rattle.steps.proofs.Calls.{Opens}
 use Rattle.steps.proofs.RawSound.{body-opens}
 
@@ -49,7 +49,7 @@ unfolding communications
 ∈-communications s t (s₁ ∷ ss) ts (inr l) m =
     ∈-right (communication s t) (map (communication s₁) ts) (communications ss ts) (∈-communications s t ss ts l m)
 
-restricted-step : (N : Cond) (α : Act) (P′ : Term) → sparesRestricted N ≡ true
+restricted-step : (N : Cond) (α : Act) (P′ : Term) → restrictedAlone N ≡ true
     → restricted (step N (renA suc α) P′) ≡ step (mapP outside N) α (res (cross α P′))
 unfolding restricted restrictedAction
 restricted-step N tauA P′ e = rw e refl
@@ -57,7 +57,7 @@ restricted-step N (inpA a) P′ e = rw e refl
 restricted-step N (outA a b) P′ e = rw e refl
 restricted-step N (boutA a) P′ e = rw e refl
 
-opened-step : (N : Cond) (a : ℕ) (P′ : Term) → sparesRestricted N ≡ true
+opened-step : (N : Cond) (a : ℕ) (P′ : Term) → restrictedAlone N ≡ true
     → restricted (step N (outA (suc a) 0) P′) ≡ step (mapP outside N) (boutA a) P′
 unfolding restricted restrictedAction
 opened-step N a P′ e = rw e refl
@@ -120,7 +120,7 @@ module _ (Δ : Defs) where
       → Yielded (candidates (isSilent (renA suc α)) n P) M (renA suc α) P′ → Yielded (candidates (isSilent α) n (res P)) M₀ α (res (cross α P′))
   yield-res n P M M₀ α P′ s y =
       let N : Cond = y .condition in
-      let spared = outside-spares N M M₀ (y .same) s in
+      let spared = outside-alone N M M₀ (y .same) s in
       record {
         condition = mapP outside N;
         same = outside-same N M M₀ (y .same) s;
@@ -134,7 +134,7 @@ module _ (Δ : Defs) where
       → Yielded (candidates false n P) M (outA (suc a) 0) P′ → Yielded (candidates false n (res P)) M₀ (boutA a) P′
   yield-open n P M M₀ a P′ s y =
       let N : Cond = y .condition in
-      let spared = outside-spares N M M₀ (y .same) s in
+      let spared = outside-alone N M M₀ (y .same) s in
       record {
         condition = mapP outside N;
         same = outside-same N M M₀ (y .same) s;

@@ -9,7 +9,7 @@ use Rattle.calculus.specs.Cond.{Cond, mapP}
 use Rattle.calculus.proofs.Conditions.{_~_}
 use Rattle.calculus.specs.Definitions.{Defs, opened}
 use Rattle.calculus.proofs.Working.{Trans, t-tau, t-inp, t-out, t-bout, t-mat, t-sumL, t-sumR, t-parL, t-parR, t-comL, t-comR, t-closeL, t-closeR, t-res, t-open, t-call}
-use Rattle.steps.specs.Raw.{Candidate, step, blocked, matching, leftSteps, rightSteps, meet, communication, communications, sparesRestricted, outside, restrictedAction, restricted, visibleOf, silentOf, visibleCalls, silentCalls, visible, silent}
+use Rattle.steps.specs.Raw.{Candidate, step, blocked, matching, leftSteps, rightSteps, meet, communication, communications, restrictedAlone, outside, restrictedAction, restricted, visibleOf, silentOf, visibleCalls, silentCalls, visible, silent}
 use Rattle.steps.specs.Lists.{All}
 use Rattle.steps.proofs.Membership.{all-++, all-imp, all-map}
 use Rattle.steps.proofs.Restriction.{spared-alone, outside-~}
@@ -89,9 +89,9 @@ module _ (Δ : Defs) where
 
   sound-restricted : (P : Term) (c : Candidate) → Sound P c → Sound (res P) (restricted c)
   unfolding restricted
-  sound-restricted P (step M α P′) t = go (sparesRestricted M) refl
+  sound-restricted P (step M α P′) t = go (restrictedAlone M) refl
     where
-      go : (b : Bool) → sparesRestricted M ≡ b → Sound (res P) (cond b (restrictedAction (mapP outside M) α P′) blocked)
+      go : (b : Bool) → restrictedAlone M ≡ b → Sound (res P) (cond b (restrictedAction (mapP outside M) α P′) blocked)
       go true e = sound-restrictedAction P M (mapP outside M) α P′ t (outside-~ M (spared-alone M e))
       go false e = tt
   sound-restricted P blocked t = tt

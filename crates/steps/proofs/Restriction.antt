@@ -7,35 +7,35 @@ use Prim.Native.Nat.{ℕ, zero, suc}
 use Rattle.calculus.specs.Cond.{Cond, mapP, Unif, cls}
 use Rattle.calculus.proofs.Conditions.{_~_, E2, δ, ~-sym, ~-trans, ▷-all, lowered-alone, unsuc-~}
 use Rattle.terms.proofs.Answers.{both-true}
-use Rattle.steps.specs.Raw.{spares, sparesRestricted, outside}
+use Rattle.steps.specs.Raw.{leavesAlone, restrictedAlone, outside}
 
-spares-same : (a b : ℕ) → spares a b ≡ true → δ 0 a ≡ δ 0 b
-unfolding spares
-spares-same zero zero e = refl
-spares-same zero (suc b) e = let z : _≡_ {A = ℕ} 0 1 = cc in absurd (omega arith)
-spares-same (suc a) zero e = let z : _≡_ {A = ℕ} 0 1 = cc in absurd (omega arith)
-spares-same (suc a) (suc b) e = refl
+alone-same : (a b : ℕ) → leavesAlone a b ≡ true → δ 0 a ≡ δ 0 b
+unfolding leavesAlone
+alone-same zero zero e = refl
+alone-same zero (suc b) e = let z : _≡_ {A = ℕ} 0 1 = cc in absurd (omega arith)
+alone-same (suc a) zero e = let z : _≡_ {A = ℕ} 0 1 = cc in absurd (omega arith)
+alone-same (suc a) (suc b) e = refl
 
-same-spares : (a b : ℕ) → δ 0 a ≡ δ 0 b → spares a b ≡ true
-unfolding spares
-same-spares zero zero e = refl
-same-spares zero (suc b) e = absurd (omega arith)
-same-spares (suc a) zero e = absurd (omega arith)
-same-spares (suc a) (suc b) e = refl
+same-alone : (a b : ℕ) → δ 0 a ≡ δ 0 b → leavesAlone a b ≡ true
+unfolding leavesAlone
+same-alone zero zero e = refl
+same-alone zero (suc b) e = absurd (omega arith)
+same-alone (suc a) zero e = absurd (omega arith)
+same-alone (suc a) (suc b) e = refl
 
-pub spared-alone : (M : Cond) → sparesRestricted M ≡ true → Unif (δ 0) M
-unfolding sparesRestricted
+pub spared-alone : (M : Cond) → restrictedAlone M ≡ true → Unif (δ 0) M
+unfolding restrictedAlone
 spared-alone [] e = tt
 spared-alone (p ∷ M) e =
-    let (h, k) = both-true (spares (p .0) (p .1)) (sparesRestricted M) e in
-    (spares-same (p .0) (p .1) h, spared-alone M k)
+    let (h, k) = both-true (leavesAlone (p .0) (p .1)) (restrictedAlone M) e in
+    (alone-same (p .0) (p .1) h, spared-alone M k)
 
-pub alone-spared : (M : Cond) → Unif (δ 0) M → sparesRestricted M ≡ true
-unfolding sparesRestricted
+pub alone-spared : (M : Cond) → Unif (δ 0) M → restrictedAlone M ≡ true
+unfolding restrictedAlone
 alone-spared [] u = refl
-alone-spared (p ∷ M) u = ap₂ _&&_ (same-spares (p .0) (p .1) (u .0)) (alone-spared M (u .1))
+alone-spared (p ∷ M) u = ap₂ _&&_ (same-alone (p .0) (p .1) (u .0)) (alone-spared M (u .1))
 
--- A match that spares the restricted name says the same of the names outside it.
+-- A match that leaves the restricted name alone says the same of the names outside it.
 above {ℓ} : {A : Type ℓ} (f : ℕ → A) (a b : ℕ) → δ 0 a ≡ δ 0 b → f a ≡ f b → f (suc (outside a)) ≡ f (suc (outside b))
 unfolding outside
 above f zero zero d e = refl
@@ -63,9 +63,9 @@ outside-~ M d =
     let N : Cond = mapP suc (mapP outside M) in
     (unif-above (cls M) M d (E2 M), of-unif-above (cls N) M d (E2 N))
 
--- A condition N that is, up to equivalence, one on the names outside the restriction spares the restricted name, and is that one.
-pub outside-spares : (N M M₀ : Cond) → M ~ N → M ~ mapP suc M₀ → sparesRestricted N ≡ true
-outside-spares N M M₀ d s = alone-spared N (▷-all (δ 0) M N (d .0) (lowered-alone M M₀ s))
+-- A condition N that is, up to equivalence, one on the names outside the restriction leaves the restricted name alone, and is that one.
+pub outside-alone : (N M M₀ : Cond) → M ~ N → M ~ mapP suc M₀ → restrictedAlone N ≡ true
+outside-alone N M M₀ d s = alone-spared N (▷-all (δ 0) M N (d .0) (lowered-alone M M₀ s))
 
 pub outside-same : (N M M₀ : Cond) → M ~ N → M ~ mapP suc M₀ → M₀ ~ mapP outside N
 outside-same N M M₀ d s =

@@ -8,7 +8,7 @@ use Rattle.calculus.specs.Abstraction.{Act}
 use Rattle.calculus.specs.Term.{Term}
 use Rattle.calculus.specs.Cond.{Cond}
 use Rattle.steps.specs.Raw.{Candidate, step, blocked}
-use Rattle.steps.specs.Lists.{_∈_, All}
+use Rattle.steps.specs.Lists.{_∈_, Among, All}
 use Rattle.steps.proofs.Membership.{all-imp, all-∈}
 use Rattle.steps.specs.Derived.{Ascending}
 use Rattle.steps.specs.Listed.{ListedStep, canonStep, bytes}
@@ -158,3 +158,33 @@ module _ (form : Term → Term) (names longest x : ℕ) where
   collect-new (step N β Q ∷ cs) found M α P (inr m) = collect-new cs (insert longest (canonStep form names x N β Q) found) M α P m
   collect-new (blocked ∷ cs) found M α P (inl e) = let z : _≡_ {A = ℕ} 0 1 = cc in absurd (omega arith)
   collect-new (blocked ∷ cs) found M α P (inr m) = collect-new cs found M α P m
+
+-- Two ascending lists with the same steps are the same.
+module _ (longest : ℕ) where
+  behind-first : (s : ListedStep) (ss : List ListedStep) → Sorted longest (s ∷ ss) → (u : ListedStep) → u ∈ ss → Precedes longest s u
+  behind-first s ss a u m = all-∈ (Precedes longest s) ss (a .0) u m
+
+  rest-among : (s t : ListedStep) (ss ts : List ListedStep) → s ≡ t → Sorted longest (s ∷ ss) → Among (s ∷ ss) (t ∷ ts) → Among ss ts
+  rest-among s t ss ts e a h u m = go (h u (inr m))
+    where
+      go : (u ≡ t) ⊎ (u ∈ ts) → u ∈ ts
+      go (inl d) =
+          absurd (before-irreflexive (bytes longest s) (subst (λ v. Precedes longest s v) (d ∙ sym e) (behind-first s ss a u m)))
+      go (inr n) = n
+
+  pub sorted-same : (ss ts : List ListedStep) → Sorted longest ss → Sorted longest ts → Among ss ts → Among ts ss → ss ≡ ts
+  sorted-same [] [] a b h k = refl
+  sorted-same [] (t ∷ ts) a b h k = absurd (k t (inl refl))
+  sorted-same (s ∷ ss) [] a b h k = absurd (h s (inl refl))
+  sorted-same (s ∷ ss) (t ∷ ts) a b h k =
+      let e : s ≡ t = first (h s (inl refl)) (k t (inl refl)) in
+      let r : ss ≡ ts =
+      sorted-same ss ts (a .1) (b .1) (rest-among s t ss ts e a h) (rest-among t s ts ss (sym e) b k) in
+      λ i. e i ∷ r i
+    where
+      first : (s ≡ t) ⊎ (s ∈ ts) → (t ≡ s) ⊎ (t ∈ ss) → s ≡ t
+      first (inl e) n = e
+      first (inr m) (inl e) = sym e
+      first (inr m) (inr n) =
+          absurd (before-irreflexive (bytes longest s)
+          (before-trans (bytes longest s) (bytes longest t) (bytes longest s) (behind-first s ss a t n) (behind-first t ts b s m)))

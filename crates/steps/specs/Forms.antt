@@ -4,6 +4,6 @@ use Rattle.calculus.specs.Term.{Term}
 abbrev pub asItIs : Term → Term
 asItIs P = P
 
--- The form of the service; proofs/FormLaws says what every form has.
-abbrev pub resultForm : Term → Term
+-- The form of the service; proofs/FormLaws says what every form has, and proofs go by that.
+unfoldable pub resultForm : Term → Term
 resultForm P = asItIs P

@@ -1,6 +1,8 @@
 -- A step as it is listed (document 01, "Steps"), and rule Canon for a raw step.
+use mathlib.Core.Bool.{Bool, true, _&&_}
 use mathlib.Core.List.{List, [], _∷_, _++_, map}
 use Prim.Native.Nat.{ℕ, zero, suc, _-_}
+use lib.Dec.{eqb}
 use lib.ListN.{length, getD, replicate}
 use Rattle.calculus.specs.Abstraction.{Act, tauA, inpA, outA, boutA}
 use Rattle.calculus.specs.Term.{Term, ren, _•_}
@@ -29,6 +31,16 @@ classesOf names M = map (cls M) (namesFrom 0 names)
 -- the class of a name, read from such a list; other names are alone in theirs
 unfoldable pub classIn : List ℕ → ℕ → ℕ
 classIn classes n = getD classes n n
+
+-- the condition with the classes c implies that with the classes d, over the names ns
+unfoldable pub implies : List ℕ → List ℕ → List ℕ → Bool
+implies c d [] = true
+implies c d (n ∷ ns) = eqb (classIn c (classIn d n)) (classIn c n) && implies c d ns
+
+-- the condition with the classes c is trivial, over the names ns: each is its own class
+unfoldable pub ownClasses : List ℕ → List ℕ → Bool
+ownClasses c [] = true
+ownClasses c (n ∷ ns) = eqb (classIn c n) n && ownClasses c ns
 
 -- the action's bytes
 unfoldable pub kindOf : Action → ℕ

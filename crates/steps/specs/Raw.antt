@@ -58,16 +58,16 @@ communications [] ts = []
 communications (s ∷ ss) ts = map (communication s) ts ++ communications ss ts
 
 -- The restricted name is index 0. A trivial match of it with itself vanishes before the restriction is tested (document 01, "Steps").
-unfoldable pub spares : ℕ → ℕ → Bool
-spares zero zero = true
-spares zero (suc b) = false
-spares (suc a) zero = false
-spares (suc a) (suc b) = true
+unfoldable pub leavesAlone : ℕ → ℕ → Bool
+leavesAlone zero zero = true
+leavesAlone zero (suc b) = false
+leavesAlone (suc a) zero = false
+leavesAlone (suc a) (suc b) = true
 
 -- the condition merges the restricted name with no other
-unfoldable pub sparesRestricted : Cond → Bool
-sparesRestricted [] = true
-sparesRestricted (p ∷ M) = spares (p .0) (p .1) && sparesRestricted M
+unfoldable pub restrictedAlone : Cond → Bool
+restrictedAlone [] = true
+restrictedAlone (p ∷ M) = leavesAlone (p .0) (p .1) && restrictedAlone M
 
 -- [Res], and [Open] where the object alone is the restricted name; else an action that names it is blocked. The binder of a bound action
 -- and the restriction change places.
@@ -82,7 +82,7 @@ restrictedAction M (boutA zero) P = blocked
 restrictedAction M (boutA (suc a)) P = step M (boutA a) (res (ren swap P))
 
 unfoldable pub restricted : Candidate → Candidate
-restricted (step M α P) = cond (sparesRestricted M) (restrictedAction (mapP outside M) α P) blocked
+restricted (step M α P) = cond (restrictedAlone M) (restrictedAction (mapP outside M) α P) blocked
 restricted blocked = blocked
 
 -- Table 4.1, given the candidates of the calls

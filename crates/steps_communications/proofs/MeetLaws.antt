@@ -21,7 +21,7 @@ use Rattle.steps_conditions.specs.declared.action.Action.the-variants.{Input, O
 use Rattle.steps_tallies.proofs.Numbering.{not-met}
 use Rattle.steps_splicing.specs.Contexts.{Frame, raised, restrictions}
 use Rattle.steps_communications.specs.Meeting.{firstMerged, lastMerged, isBetween, meetsBetween, mayMeet}
-use Rattle.steps_rows.specs.Rows.{rowBytes, kindAt, channelAt, actionKind, rowAction, Does, Outlined}
+use Rattle.steps_rows.specs.Rows.{rowBytes, kindAt, channelAt, actionKind, rowAction, RowActs, Outlined}
 use Rattle.steps_splicing.specs.PlacedResults.{Trivial}
 use Rattle.steps_splicing.proofs.ContextLaws.{raised-blocked}
 use Rattle.steps_equal_branches.proofs.RaisedMeetings.{raised-same, raised-free, raised-apart, slot-of-free, bound-slot, slot-one}
@@ -68,7 +68,7 @@ module _ (d : ℕ) (c : Candidate) (kind : ℕ) (M : Cond) (few : kind ≤ 3 →
   output-of (boutA a) e b (inl h) = let z : _≡_ {A = ℕ} 0 1 = cc in absurd (omega arith)
   output-of (boutA a) e b (inr h) = record { name = a; below = b; slot = cc; condition = M; plain = few; action = boutA a; result = A; on = refl; is = e }
 
-visible-of : (d : ℕ) (c : Candidate) (kind channel object : ℕ) → Does d kind channel object c → Visible d c kind (eqb (actionKind kind) 1) channel
+visible-of : (d : ℕ) (c : Candidate) (kind channel object : ℕ) → RowActs d kind channel object c → Visible d c kind (eqb (actionKind kind) 1) channel
 unfolding rowAction
 visible-of d c kind channel object D = go (eqb (actionKind kind) 1) (eqb (actionKind kind) 2 && ltb object (nameCount + d)) (D .acts)
   where
@@ -189,7 +189,7 @@ module _ (K : List Frame) (d : ℕ) (level : restrictions K ≡ d) (s t : Candid
       stopped : t ≡ blocked → raised K (communication s t) ≡ blocked
       stopped e = ap (λ c. raised K (communication s c)) e ∙ ap (raised K) (not-met s) ∙ raised-blocked K
 
-      both : ((3 < k₁) × (s ≡ blocked)) ⊎ Does d k₁ c₁ o₁ s → ((3 < k₂) × (t ≡ blocked)) ⊎ Does d k₂ c₂ o₂ t → raised K (communication s t) ≡ blocked
+      both : ((3 < k₁) × (s ≡ blocked)) ⊎ RowActs d k₁ c₁ o₁ s → ((3 < k₂) × (t ≡ blocked)) ⊎ RowActs d k₂ c₂ o₂ t → raised K (communication s t) ≡ blocked
       both (inl (_, f)) _ = ap (λ c. raised K (communication c t)) f ∙ raised-blocked K
       both (inr D) (inl (_, f)) = stopped f
       both (inr D) (inr E) = apart (eqb (actionKind k₁) 1) (eqb (actionKind k₂) 1) (visible-of d s k₁ c₁ o₁ D) (visible-of d t k₂ c₂ o₂ E) fit

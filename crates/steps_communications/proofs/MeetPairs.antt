@@ -29,7 +29,7 @@ use Rattle.steps_rows.specs.Rows.{actionKind, rowAction, Outlined}
 use Rattle.steps_splicing.specs.PlacedResults.{Trivial}
 use Rattle.steps_entries.specs.StepActions.{stepAction}
 use Rattle.steps_placing.specs.Placing.{PutPlacedIs, PutClassedIs}
-use Rattle.steps_communications.specs.declared.meet.Side.{Side}
+use Rattle.steps_communications.specs.declared.meet.Partner.{Partner}
 use Rattle.steps_placing.proofs.DecidingLaws.{decided-step, met-like, like-trivial}
 use Rattle.steps_communications.proofs.MeetLaws.{trivial-match, opposite, pair-same, merged-inside, pair-merged}
 use Rattle.steps_communications.proofs.MetLaws.{From, raised-from, unopened-of}
@@ -51,7 +51,7 @@ record Com (d : ℕ) (α : Act) (A : Term) (β : Act) (B : Term) (object : ℕ) 
   meets : (M₁ M₂ N : Cond) (γ : Act) (C : Term) → communication (step M₁ α A) (step M₂ β B) ≡ step N γ C
       → (γ ≡ tauA) × (C ≡ par (ren (receiving y (λ n. n) α) A) (ren (receiving y (λ n. n) β) B))
 
-module _ (a b : Side) (d : ℕ) (α : Act) (A : Term) (β : Act) (B : Term) (ea : actionOf d α ≡ rowAction d (a .kind) (a .channel) (a .object))
+module _ (a b : Partner) (d : ℕ) (α : Act) (A : Term) (β : Act) (B : Term) (ea : actionOf d α ≡ rowAction d (a .kind) (a .channel) (a .object))
     (eb : actionOf d β ≡ rowAction d (b .kind) (b .channel) (b .object)) where
   com-left : a .kind ≡ 1 → b .kind ≡ 2 → b .object < nameCount + d → ActionBelow (d + nameCount) β → Com d α A β B (b .object)
   unfolding ActionBelow Unextruded receiving communication meet
@@ -87,7 +87,7 @@ module _ (a b : Side) (d : ℕ) (α : Act) (A : Term) (β : Act) (B : Term) (ea 
       (λ e h n s w. absurd (omega (arith, n k))) α ea below)
       (λ c e h n s t. absurd (omega arith)) (λ c h n s. absurd (h l)) β eb
 
-module _ (question part : List ℕ) (at depth number : ℕ) (a b : Side) (j x : ℕ) (area : List ℕ) (count r : ℕ) (area′ : List ℕ) where
+module _ (question part : List ℕ) (at depth number : ℕ) (a b : Partner) (j x : ℕ) (area : List ℕ) (count r : ℕ) (area′ : List ℕ) where
   pub pair-taken : TakeIs question part true (number + j) x area count r area′ → PairIs question part at depth number a b j x area count r area′
   unfolding TakeIs candidatesOf candidates
   pair-taken T = record {
@@ -155,7 +155,7 @@ module _ (question part : List ℕ) (at depth number : ℕ) (a b : Side) (j x : 
     }
 
     -- As [Com] of two components in their places, whatever their condition is.
-    met-of : (from : Side) → from ≡ senderOf a b → sendsFree depth from ≡ true → (merges : Bool) (class : List ℕ)
+    met-of : (from : Partner) → from ≡ senderOf a b → sendsFree depth from ≡ true → (merges : Bool) (class : List ℕ)
         → TakeMetIs question part at depth (a .number) (b .number) (from .object) merges class area count r area′
         → ((K : List Frame) → restrictions K ≡ depth → (s t : Candidate) → Unblocked depth (decided depth s) (a .kind) (a .channel) (a .object)
         → Outlined depth (decided depth t) (b .kind) (b .channel) (b .object) → mayMeet (a .kind) (a .channel) (b .kind) (b .channel) ≡ true
@@ -164,8 +164,8 @@ module _ (question part : List ℕ) (at depth number : ℕ) (a b : Side) (j x : 
     unfolding Unblocked senderOf sendsFree
     met-of from is free₀ merges class T₀ whole = record {
       is = λ q P lists K L R first p s t hv es hw et left right m h f.
-          let free = subst (λ (d : Side). eqb (d .kind) 2 && ltb (d .object) (nameCount + depth) ≡ true) is free₀ in
-          let T = subst (λ (d : Side). TakeMetIs question part at depth (a .number) (b .number) (d .object) merges class area count r area′) is T₀ in
+          let free = subst (λ (d : Partner). eqb (d .kind) 2 && ltb (d .object) (nameCount + depth) ≡ true) is free₀ in
+          let T = subst (λ (d : Partner). TakeMetIs question part at depth (a .number) (b .number) (d .object) merges class area count r area′) is T₀ in
           let (o, w) = left in
           let (M, W, ws, classed, inside) = whole K (p .level) s t left right m in
           let F = raised-from K (communication s t) M tauA W ws in
@@ -193,7 +193,7 @@ module _ (question part : List ℕ) (at depth number : ℕ) (a b : Side) (j x : 
             let (y, o) = both-true (eqb (a .kind) 2) (ltb (a .object) (nameCount + depth)) z in
             com-right a b depth α A β B g v (eqb-true (a .kind) 2 y) (eqb-true (b .kind) 1 t) (ltb-true (a .object) (nameCount + depth) o) n₁
 
-    pub pair-met : a .channel ≡ b .channel → (from : Side) → from ≡ senderOf a b → sendsFree depth from ≡ true → (class : List ℕ) → OwnNames 0 class
+    pub pair-met : a .channel ≡ b .channel → (from : Partner) → from ≡ senderOf a b → sendsFree depth from ≡ true → (class : List ℕ) → OwnNames 0 class
         → TakeMetIs question part at depth (a .number) (b .number) (from .object) false class area count r area′
         → PairIs question part at depth number a b j x area count r area′
     unfolding OwnNames Trivial Unblocked
@@ -202,7 +202,7 @@ module _ (question part : List ℕ) (at depth number : ℕ) (a b : Side) (j x : 
         let S = on-one e K level s t left right m in
         (S .condition, S .whole, S .is, record { classes = λ n h. own n (omega arith) ∙ sym (S .asks n); trivial = λ z. S .asks }, omega (arith, e, left .1)))
 
-    pub pair-merging : (a .channel ≡ b .channel → ⊥) → (from : Side) → from ≡ senderOf a b → sendsFree depth from ≡ true
+    pub pair-merging : (a .channel ≡ b .channel → ⊥) → (from : Partner) → from ≡ senderOf a b → sendsFree depth from ≡ true
         → (class : List ℕ) → ((n : ℕ) → n < nameCount → getD class n 0 ≡ join (a .channel) (b .channel) n)
         → TakeMetIs question part at depth (a .number) (b .number) (from .object) true class area count r area′
         → PairIs question part at depth number a b j x area count r area′

@@ -19,7 +19,7 @@ use Rattle.terms.specs.Question.{Question}
 use Rattle.terms.specs.Question.{bodyOf}
 use Rattle.steps_conditions.specs.Names.{HasNew}
 use Rattle.steps_passing.specs.Passing.{MiddleIs}
-use Rattle.steps.specs.Raw.{Candidate, step, blocked, leftSteps, rightSteps, sparesRestricted, outside, restrictedAction, restricted, visible}
+use Rattle.steps.specs.Raw.{Candidate, step, blocked, leftSteps, rightSteps, restrictedAlone, outside, restrictedAction, restricted, visible}
 use Rattle.steps_plans.specs.Plans.{receiving}
 use Rattle.steps_conditions.specs.Slots.{slotOf}
 use Rattle.steps_tallies.specs.Tally.{TallyIs}
@@ -48,7 +48,7 @@ unfolding raised leftSteps rightSteps restricted restrictedAction
 stays-output [] M γ A M′ α A′ s e = let f : γ ≡ α = cc in subst Sends f s
 stays-output (leftOf Q ∷ K) M γ A M′ α A′ s e = stays-output K M γ (par A (weak γ Q)) M′ α A′ s e
 stays-output (rightOf P ∷ K) M γ A M′ α A′ s e = stays-output K M γ (par (weak γ P) A) M′ α A′ s e
-stays-output (beneath ∷ K) M γ A M′ α A′ s e = go (stays-output K) (sparesRestricted M) γ s e
+stays-output (beneath ∷ K) M γ A M′ α A′ s e = go (stays-output K) (restrictedAlone M) γ s e
   where
     go : StaysOutput K → (t : Bool) (γ : Act) → Sends γ → raised K (cond t (restrictedAction (mapP outside M) γ A) blocked) ≡ step M′ α A′ → Sends α
     go f false γ s e = raised-never K M′ α A′ e

@@ -16,7 +16,7 @@ use Rattle.steps_splicing.specs.Contexts.{Frame, raised, Placed}
 use Rattle.steps_placing.specs.Deciding.{decided}
 use Rattle.steps_splicing.specs.ListedParts.{Lists}
 use Rattle.steps_rows.specs.Rows.{kindAt, channelAt, actionKind, Outlined, Row, Rows}
-use Rattle.steps_communications.specs.declared.meet.Side.{Side}
+use Rattle.steps_communications.specs.declared.meet.Partner.{Partner}
 
 -- No number of a candidate comes near it: 2 to the power of 40.
 abbrev pub mostNumbers : ℕ
@@ -54,15 +54,15 @@ unfoldable pub Unblocked : (d : ℕ) (c : Candidate) (kind channel object : ℕ)
 Unblocked d c kind channel object = Outlined d c kind channel object × (channel < nameCount + d)
 
 -- The row that sends: the right one, where the left one receives.
-unfoldable pub senderOf : Side → Side → Side
+unfoldable pub senderOf : Partner → Partner → Partner
 senderOf a b = cond (eqb (a .kind) 1) b a
 
 -- It sends a name that is free under so many restrictions.
-unfoldable pub sendsFree : ℕ → Side → Bool
+unfoldable pub sendsFree : ℕ → Partner → Bool
 sendsFree depth a = eqb (a .kind) 2 && ltb (a .object) (nameCount + depth)
 
 -- One communication, that of s and t, by the rows a and b; j is its number among the silent candidates of the parallel at `at`.
-pub record PairIs (question part : List ℕ) (at depth number : ℕ) (a b : Side) (j x : ℕ) (area : List ℕ) (count r : ℕ) (area′ : List ℕ) : Type 0 where
+pub record PairIs (question part : List ℕ) (at depth number : ℕ) (a b : Partner) (j x : ℕ) (area : List ℕ) (count r : ℕ) (area′ : List ℕ) : Type 0 where
   pub is : (q : Question) (P : Term) → Lists question part x q P
       → (K : List Frame) (L R : Term) (first : ℕ)
       → Placed (q .arities) (bodyOf (q .bodies)) P K (par L R) at depth first number

@@ -45,7 +45,7 @@ pub struct Node {
 }
 
 // The row of a candidate of one side of a parallel, and the candidate's number among the visible ones of that side.
-pub struct Side {
+pub struct Partner {
     pub kind: u8,
     pub channel: u8,
     pub object: u8,
@@ -54,8 +54,8 @@ pub struct Side {
 
 // The rows of two candidates, and the number of their communication among the silent candidates of the parallel.
 struct Pair {
-    left: Side,
-    right: Side,
+    left: Partner,
+    right: Partner,
     number: usize,
 }
 
@@ -175,7 +175,7 @@ fn next_met(rows: &[u8], kind: u8, channel: u8, from: usize, last: usize) -> usi
 }
 
 // The row that sends: the right one, where the left one receives.
-fn sender(a: Side, b: Side) -> Side
+fn sender(a: Partner, b: Partner) -> Partner
     ensures { λ r. ⌜ r ≡ senderOf a b ⌝ }
 {
     if a.kind == INPUT {
@@ -185,7 +185,7 @@ fn sender(a: Side, b: Side) -> Side
 }
 
 // Whether it sends a name that is free under so many restrictions. Then nothing is extruded in the communication: [Com].
-fn sends_free(a: Side, depth: usize) -> bool
+fn sends_free(a: Partner, depth: usize) -> bool
     requires { ⌜ depth ≤ longestTerm ⌝ }
     ensures { λ r. ⌜ r ≡ sendsFree depth a ⌝ }
 {
@@ -401,7 +401,7 @@ fn meet_row(
         return left.count;
     }
     let object = rows[ROW_BYTES * row + 2];
-    let a = Side {
+    let a = Partner {
         kind,
         channel,
         object,
@@ -414,7 +414,7 @@ fn meet_row(
         let channel2 = rows[ROW_BYTES * w + 1];
         let object2 = rows[ROW_BYTES * w + 2];
         let right = w - middle;
-        let b = Side {
+        let b = Partner {
             kind: kind2,
             channel: channel2,
             object: object2,

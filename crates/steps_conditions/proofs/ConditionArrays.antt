@@ -1,6 +1,6 @@
 -- Condition arrays: what the stores and the tests of the code make of the conditions that the arrays have. Assumes nothing.
 use mathlib.Core.Path.{_≡_, refl, sym, _∙_, ap}
-use mathlib.Core.Bool.{Bool, true, false, not}
+use mathlib.Core.Bool.{Bool, true, false}
 use mathlib.Core.List.{List, [], _∷_, _++_}
 use mathlib.Core.Logic.{_⊎_, inl, inr, _≢_, ⊎-elim}
 use Prim.Native.Nat.{ℕ, zero, suc, _+_, _<_, _≤_, min, max}
@@ -8,13 +8,12 @@ use native.Mathlib.Nat.{eq-or-lt-of-le}
 use native.Mathlib.Numerals.{add-one}
 use native.Mathlib.Omega.{arith}
 use lib.ListN.{getD}
-use borrow.Author.Tests.{eq-eqb, ne-eqb}
 use Rattle.calculus.specs.Cond.{Cond, Unif, join, cls}
-use Rattle.calculus.proofs.Conditions.{E2, E3, cls-le, cls-~, ▷-cls, join-cases, Unif-++, Unif-left, Unif-right}
+use Rattle.calculus.proofs.Conditions.{E2, E3, cls-~, join-cases, Unif-++, Unif-left, Unif-right}
 use Rattle.terms.specs.Limits.{nameCount}
-use Rattle.steps.specs.Raw.{sparesRestricted}
+use Rattle.steps.specs.Raw.{restrictedAlone}
 use Rattle.steps_conditions.specs.Slots.{slotCount, HasSlotClasses, HasClasses, Below}
-use Rattle.steps_conditions.specs.Conditions.{MergedIs, BothIs, ImpliesIs, RespectsIs, SparesIs}
+use Rattle.steps_conditions.specs.Conditions.{MergedIs, BothIs, AloneIs}
 use Rattle.steps_conditions.proofs.SlotLaws.{spared-slot, slot-spared}
 
 -- to merge two classes in every entry is one match more
@@ -95,38 +94,15 @@ pub joined-all : (c o r : List ℕ) → Joined c o r slotCount → BothIs c o r
 unfolding Joined BothIs HasSlotClasses
 joined-all c o r h M N H K b s hs = h M H s hs ∙ ap (λ f. f s) (entries-~ o N K M b)
 
--- the test that `implies` makes at each slot
-pub record KeepsClasses (c o : List ℕ) (r : Bool) : Type 0 where
-  pub everywhere : r ≡ true → (n : ℕ) → n < slotCount → getD c n 0 ≡ getD c (getD o n 0) 0
-  pub somewhere : r ≡ false → (n : ℕ) × (n < slotCount) × (getD c n 0 ≡ getD c (getD o n 0) 0 → ⊥)
-
-pub implied-classes : (c o : List ℕ) (r : Bool) → KeepsClasses c o r → ImpliesIs c o r
-unfolding ImpliesIs HasSlotClasses
-implied-classes c o r k M N H K b = (
-  λ q. by-classes (cls M) (cls N) N b (λ n h. sym (H n h) ∙ k .everywhere q n h ∙ class n h) (E2 N),
-  λ q i. let (n, h, z) = k .somewhere q in z (H n h ∙ sym (▷-cls M N i n) ∙ sym (class n h)),
-)
-  where
-    class : (n : ℕ) → n < slotCount → getD c (getD o n 0) 0 ≡ cls M (cls N n)
-    class n h = ap (λ s. getD c s 0) (K n h) ∙ H (cls N n) (omega (arith, cls-le N n))
-
-pub respected : (c : List ℕ) (a b : ℕ) → a < slotCount → b < slotCount → (getD c a 0 ≡ getD c b 0 → ⊥) → RespectsIs c a b true
-unfolding RespectsIs HasSlotClasses
-respected c a b ha hb h M H = sym (ap not (ne-eqb (cls M a) (cls M b) (λ e. h (H a ha ∙ e ∙ sym (H b hb)))))
-
-pub not-respected : (c : List ℕ) (a b : ℕ) → a < slotCount → b < slotCount → getD c a 0 ≡ getD c b 0 → RespectsIs c a b false
-unfolding RespectsIs HasSlotClasses
-not-respected c a b ha hb h M H = sym (ap not (eq-eqb (cls M a) (cls M b) (sym (H a ha) ∙ h ∙ H b hb)))
-
 -- the restricted name is spared exactly if its slot, the largest in use, is its own class
-pub level-spared : (c : List ℕ) (level : ℕ) → nameCount + level < slotCount → getD c (nameCount + level) 0 ≡ nameCount + level → SparesIs c level true
-unfolding SparesIs HasClasses
+pub level-spared : (c : List ℕ) (level : ℕ) → nameCount + level < slotCount → getD c (nameCount + level) 0 ≡ nameCount + level → AloneIs c level true
+unfolding AloneIs HasClasses
 level-spared c level h e M H b = sym (slot-spared nameCount level M b (sym (H (nameCount + level) h) ∙ e))
 
-pub level-merged : (c : List ℕ) (level : ℕ) → nameCount + level < slotCount → (getD c (nameCount + level) 0 ≡ nameCount + level → ⊥) → SparesIs c level false
-unfolding SparesIs HasClasses
-level-merged c level h e M H b = go (sparesRestricted M) refl
+pub level-merged : (c : List ℕ) (level : ℕ) → nameCount + level < slotCount → (getD c (nameCount + level) 0 ≡ nameCount + level → ⊥) → AloneIs c level false
+unfolding AloneIs HasClasses
+level-merged c level h e M H b = go (restrictedAlone M) refl
   where
-    go : (t : Bool) → sparesRestricted M ≡ t → false ≡ t
+    go : (t : Bool) → restrictedAlone M ≡ t → false ≡ t
     go true q = absurd (e (H (nameCount + level) h ∙ spared-slot nameCount level M b q))
     go false q = refl

@@ -9,9 +9,9 @@ use Rattle.calculus.specs.Cond.{Cond, mapP}
 use Rattle.calculus.specs.Term.{Term}
 use Rattle.calculus.proofs.Renaming.{map-++}
 use Rattle.terms.specs.Limits.{nameCount}
-use Rattle.steps.specs.Raw.{Candidate, step, blocked, matching, meet, communication, sparesRestricted, outside, restrictedAction, restricted}
+use Rattle.steps.specs.Raw.{Candidate, step, blocked, matching, meet, communication, restrictedAlone, outside, restrictedAction, restricted}
 use Rattle.steps_conditions.specs.Slots.{slotOf, slotCount, HasSlotClasses, HasClasses, Below}
-use Rattle.steps_conditions.specs.Conditions.{MergedIs, BothIs, SparesIs}
+use Rattle.steps_conditions.specs.Conditions.{MergedIs, BothIs, AloneIs}
 use Rattle.steps_conditions.specs.Labels.{actionOf, ActionBelow, BlockedIs, HeaderIs, Labels, MatchingIs, RestrictedIs, OutsideIs, receivedBy, meetingOf, MetIs, CommunicationIs}
 use Rattle.steps_conditions.specs.declared.action.Action.{Action}
 use Rattle.steps_conditions.specs.declared.action.Action.the-variants.{Silent, Input, Output, NewOutput}
@@ -85,7 +85,7 @@ module _ (s : Label) (level : ℕ) where
   not-at n h e = omega (arith, slot-outside nameCount level n (omega arith))
 
   -- the condition outside
-  module _ (M : Cond) (α : Act) (h : HeaderIs (1 + level) M α s) (sp : sparesRestricted M ≡ true) where
+  module _ (M : Cond) (α : Act) (h : HeaderIs (1 + level) M α s) (sp : restrictedAlone M ≡ true) where
     outside-classes : HasClasses (s .condition .class) level (mapP outside M)
     outside-classes = classes-outside (s .condition .class) level M sp (h .classes)
 
@@ -93,7 +93,7 @@ module _ (s : Label) (level : ℕ) where
     outside-below = below-outside (level + nameCount) (1 + level + nameCount) M (omega arith) (omega arith) (h .below)
 
   module _ (av : Avoids slot (s .action)) where
-    keeps : (M : Cond) (α : Act) (P : Term) → HeaderIs (1 + level) M α s → sparesRestricted M ≡ true
+    keeps : (M : Cond) (α : Act) (P : Term) → HeaderIs (1 + level) M α s → restrictedAlone M ≡ true
         → Labels level (restrictedAction (mapP outside M) α P) s
     unfolding Labels restrictedAction actionOf ActionBelow
     keeps M tauA P h sp = record {
@@ -130,7 +130,7 @@ module _ (s : Label) (level : ℕ) where
     }
 
   module _ (r : Label) (e : r .status ≡ Blocked) (on : On slot (s .action)) where
-    blocks : (M : Cond) (α : Act) (P : Term) → HeaderIs (1 + level) M α s → sparesRestricted M ≡ true
+    blocks : (M : Cond) (α : Act) (P : Term) → HeaderIs (1 + level) M α s → restrictedAlone M ≡ true
         → Labels level (restrictedAction (mapP outside M) α P) r
     unfolding Labels restrictedAction actionOf ActionBelow
     blocks M tauA P h sp = absurd (subst (On slot) (h .action) on)
@@ -144,7 +144,7 @@ module _ (s : Label) (level : ℕ) where
 
   module _ (r : Label) (f : r .status ≡ Found) (k : r .condition .class ≡ s .condition .class) (a b : ℕ)
       (o : s .action ≡ Output a b) (w : r .action ≡ NewOutput a) (na : a ≡ slot → ⊥) (eb : b ≡ slot) where
-    opens : (M : Cond) (α : Act) (P : Term) → HeaderIs (1 + level) M α s → sparesRestricted M ≡ true
+    opens : (M : Cond) (α : Act) (P : Term) → HeaderIs (1 + level) M α s → restrictedAlone M ≡ true
         → Labels level (restrictedAction (mapP outside M) α P) r
     unfolding Labels restrictedAction actionOf ActionBelow
     opens M tauA P h sp = let g = h .action in let z : _≡_ {A = ℕ} 0 1 = cc in absurd (omega arith)
@@ -171,9 +171,9 @@ module _ (s : Label) (level : ℕ) where
     opens M (boutA zero) P h sp = let g = h .action in let z : _≡_ {A = ℕ} 0 1 = cc in absurd (omega arith)
     opens M (boutA (suc x)) P h sp = let g = h .action in let z : _≡_ {A = ℕ} 0 1 = cc in absurd (omega arith)
 
-  module _ (t : Bool) (S : SparesIs (s .condition .class) level t) where
-    spared : (M : Cond) (α : Act) → HeaderIs (1 + level) M α s → sparesRestricted M ≡ t
-    unfolding SparesIs
+  module _ (t : Bool) (S : AloneIs (s .condition .class) level t) where
+    spared : (M : Cond) (α : Act) → HeaderIs (1 + level) M α s → restrictedAlone M ≡ t
+    unfolding AloneIs
     spared M α h = sym (S M (h .classes) (h .below))
 
     -- the condition merges the restricted name with another
@@ -182,7 +182,7 @@ module _ (s : Label) (level : ℕ) where
     outside-merged r e B = record { is = λ M α P h. rw (spared M α h, e) B }
 
     by-action : (r : Label) → t ≡ true
-        → ((M : Cond) (α : Act) (P : Term) → HeaderIs (1 + level) M α s → sparesRestricted M ≡ true → Labels level (restrictedAction (mapP outside M) α P) r)
+        → ((M : Cond) (α : Act) (P : Term) → HeaderIs (1 + level) M α s → restrictedAlone M ≡ true → Labels level (restrictedAction (mapP outside M) α P) r)
         → (M : Cond) (α : Act) (P : Term) → HeaderIs (1 + level) M α s → Labels level (restricted (step M α P)) r
     unfolding restricted
     by-action r e k M α P h = let q = spared M α h ∙ e in rw q (k M α P h q)

@@ -1,3 +1,4 @@
+pub mod ClassBytes
 mod ConditionArrays
 mod LabelRules
 pub mod NameSlots

@@ -18,7 +18,7 @@ use Rattle.terms_bytes.specs.NameTable.{tableNames}
 use Rattle.terms_bytes.proofs.NameTables.{byte-bound, byte-free}
 use Rattle.terms.proofs.ScopeLaws.{free-below}
 use Rattle.steps_conditions.specs.Names.{HasNames, LevelsIs, UnchangedIs}
-use Rattle.steps.specs.Raw.{spares, sparesRestricted, outside}
+use Rattle.steps.specs.Raw.{leavesAlone, restrictedAlone, outside}
 use Rattle.steps_conditions.specs.Slots.{slotOf, HasClasses, Below}
 use Rattle.steps_conditions.proofs.NameSlots.{slot-bound, slot-free, slot-inner}
 use Rattle.steps.proofs.Restriction.{spared-alone, outside-~}
@@ -51,7 +51,7 @@ below-more m n (p ∷ M) h b =
     let l = b .1 in
     (omega arith, omega arith, below-more m n M h (b .2))
 
--- The slot of the restricted name is alone exactly if the condition spares the name.
+-- The slot of the restricted name is alone exactly if the condition leaves the name alone.
 module _ (names d : ℕ) where
   abbrev under : ℕ → ℕ
   under = slotOf names (1 + d)
@@ -66,16 +66,16 @@ module _ (names d : ℕ) where
   unif-slots (p ∷ M) b u =
       (same-test (p .0) (b .0) ∙ u .0 ∙ sym (same-test (p .1) (b .1)), unif-slots M (b .2) (u .1))
 
-  pub spared-slot : (M : Cond) → Below (1 + d + names) M → sparesRestricted M ≡ true → cls (mapP under M) (names + d) ≡ names + d
+  pub spared-slot : (M : Cond) → Below (1 + d + names) M → restrictedAlone M ≡ true → cls (mapP under M) (names + d) ≡ names + d
   spared-slot M b s =
       let K : Cond = mapP under M in
       let u : Unif (δ (names + d)) K = Unif-mapP (δ (names + d)) under M (unif-slots M b (spared-alone M s)) in
       sym (δ-eq (names + d) (cls K (names + d)) (E3 (δ (names + d)) K u (names + d) ∙ δ-self (names + d)))
 
-  -- f leaves the slot alone, goes down, and makes a match true: the match spares the restricted name
+  -- f leaves the slot alone, goes down, and makes a match true: the match leaves the restricted name alone
   one-spared : (f : ℕ → ℕ) → ((s : ℕ) → f s ≤ s) → f (names + d) ≡ names + d → (a b : ℕ) → a < 1 + d + names → b < 1 + d + names
-      → f (under a) ≡ f (under b) → spares a b ≡ true
-  unfolding spares
+      → f (under a) ≡ f (under b) → leavesAlone a b ≡ true
+  unfolding leavesAlone
   one-spared f down alone zero zero ha hb e = refl
   one-spared f down alone zero (suc b) ha hb e =
       absurd (omega (arith, ap f (slot-restricted names d), slot-outside names d b (omega arith), down (under (suc b))))
@@ -84,17 +84,17 @@ module _ (names d : ℕ) where
   one-spared f down alone (suc a) (suc b) ha hb e = refl
 
   all-spared : (f : ℕ → ℕ) → ((s : ℕ) → f s ≤ s) → f (names + d) ≡ names + d → (M : Cond) → Below (1 + d + names) M
-      → Unif f (mapP under M) → sparesRestricted M ≡ true
-  unfolding Below sparesRestricted
+      → Unif f (mapP under M) → restrictedAlone M ≡ true
+  unfolding Below restrictedAlone
   all-spared f down alone [] b u = refl
   all-spared f down alone (p ∷ M) b u =
       λ i. one-spared f down alone (p .0) (p .1) (b .0) (b .1) (u .0) i && all-spared f down alone M (b .2) (u .1) i
 
-  pub slot-spared : (M : Cond) → Below (1 + d + names) M → cls (mapP under M) (names + d) ≡ names + d → sparesRestricted M ≡ true
+  pub slot-spared : (M : Cond) → Below (1 + d + names) M → cls (mapP under M) (names + d) ≡ names + d → restrictedAlone M ≡ true
   slot-spared M b e = all-spared (cls (mapP under M)) (cls-le (mapP under M)) e M b (E2 (mapP under M))
 
--- A condition that spares the restricted name has the same classes outside the restriction.
-pub classes-outside : (c : List ℕ) (d : ℕ) (M : Cond) → sparesRestricted M ≡ true → HasClasses c (1 + d) M → HasClasses c d (mapP outside M)
+-- A condition that leaves the restricted name alone has the same classes outside the restriction.
+pub classes-outside : (c : List ℕ) (d : ℕ) (M : Cond) → restrictedAlone M ≡ true → HasClasses c (1 + d) M → HasClasses c d (mapP outside M)
 unfolding HasClasses
 classes-outside c d M s H k h =
     let N : Cond = mapP outside M in

@@ -29,7 +29,9 @@ impl Label {
     {
         Label {
             status: Status::Blocked,
-            condition: Condition { class: [0u8; 256] },
+            condition: Condition {
+                class: [0u8; Condition::SLOTS],
+            },
             action: Action::Silent,
         }
     }

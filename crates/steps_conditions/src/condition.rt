@@ -1,26 +1,31 @@
-// A condition, an equivalence on names, as an array: the class of each slot (specs/Slots), written by its smallest slot.
+// A condition, an equivalence on names, as an array: the class of each slot (specs/Slots), written by its smallest slot. Of a listed step's condition
+// the classes of the names stand in the list, as bytes; the tests read them there.
 ghost use mathlib.Core.List.{[]};
-ghost use Prim.Native.Nat.{_+_, _<_};
+ghost use Prim.Native.Nat.{_+_, _<_, _≤_};
+ghost use lib.ListN.{length};
 ghost use Rattle.terms.specs.Limits.{nameCount};
 ghost use Rattle.steps_conditions.specs.Slots.{slotCount, HasSlotClasses};
-ghost use Rattle.steps_conditions.specs.Conditions.{MergedIs, BothIs, ImpliesIs, RespectsIs, SparesIs};
+ghost use Rattle.steps_conditions.specs.Conditions.{MergedIs, BothIs, AloneIs, ClassOfIs, TrivialIs, ImpliesIs, RespectsIs};
 use terms_bytes::bytes::get;
 use terms_bytes::limits::NAME_COUNT;
 use terms_renaming::tables::merged_name;
 
 pub struct Condition {
-    pub class: [u8; 256],
+    pub class: [u8; Condition::SLOTS],
 }
 
 impl Condition {
     // A byte numbers the slots.
     pub const SLOTS: usize = 256;
 
+    // Those of the names; behind them stand those of the restrictions.
+    pub const NAMES: usize = NAME_COUNT;
+
     // The condition that is always true.
     pub fn empty() -> Self
         ensures { λ r. ⌜ HasSlotClasses (r .class) [] ⌝ }
     {
-        let mut class = [0u8; 256];
+        let mut class = [0u8; Condition::SLOTS];
         let mut i = 0;
         while i < Condition::SLOTS {
             class[i] = i as u8;
@@ -66,44 +71,74 @@ impl Condition {
         c
     }
 
-    // Whether every match of `other` holds here.
-    pub fn implies(self, other: Condition) -> bool
-        ensures { λ r. ⌜ ImpliesIs (self .class) (other .class) r ⌝ }
-    {
-        let c = self.class;
-        let o = other.class;
-        let mut i = 0;
-        while i < Condition::SLOTS {
-            if get(&c, i) != get(&c, get(&o, i) as usize) {
-                return false;
-            }
-            i += 1;
-        }
-        true
-    }
-
-    // Whether the condition respects the apart pair of `a` and `b`: it does not merge the two.
-    pub fn respects(self, a: u8, b: u8) -> bool
-        ensures { λ r. ⌜ RespectsIs (self .class) a b r ⌝ }
-    {
-        let class = self.class;
-        if class[a as usize] == class[b as usize] {
-            return false;
-        }
-        true
-    }
-
     // Whether the name that the restriction at `level`, the innermost, restricts is merged with no other. It has the largest slot in use, and
     // each class is written by its smallest slot, so one look decides.
-    pub fn spares(self, level: usize) -> bool
+    pub fn is_alone(self, level: usize) -> bool
         requires { ⌜ nameCount + level < slotCount ⌝ }
-        ensures { λ r. ⌜ SparesIs (self .class) level r ⌝ }
+        ensures { λ r. ⌜ AloneIs (self .class) level r ⌝ }
     {
         let class = self.class;
-        let slot = NAME_COUNT + level;
+        let slot = Condition::NAMES + level;
         if class[slot] as usize == slot {
             return true;
         }
         false
+    }
+
+    // Of the classes at `at`: the class of the name `n`; a number that is no name is alone in its class.
+    pub fn class_of(classes: &[u8], at: usize, n: usize) -> usize
+        requires { ⌜ at ≤ length (now classes) ⌝ }
+        ensures { λ r. ⌜ ClassOfIs (now (classes .entry)) at n r ⌝ }
+    {
+        if n < Condition::NAMES {
+            return get(classes, at + n) as usize;
+        }
+        n
+    }
+
+    // Whether the condition with the classes at `at` merges no names: each is its own class.
+    pub fn is_trivial(classes: &[u8], at: usize) -> bool
+        requires { ⌜ at ≤ length (now classes) ⌝ }
+        ensures { λ r. ⌜ TrivialIs (now (classes .entry)) at r ⌝ }
+    {
+        if classes.len() - at < Condition::NAMES {
+            return false;
+        }
+        let mut own = true;
+        let mut n = 0;
+        while n < Condition::NAMES {
+            if classes[at + n] as usize != n {
+                own = false;
+            }
+            n += 1;
+        }
+        own
+    }
+
+    // Whether the condition with the classes at `at` implies that with the other classes, at `place`.
+    pub fn implies(classes: &[u8], at: usize, others: &[u8], place: usize) -> bool
+        requires { ⌜ (at ≤ length (now classes)) × (place ≤ length (now others)) ⌝ }
+        ensures { λ r. ⌜ ImpliesIs (now (classes .entry)) at (now (others .entry)) place r ⌝ }
+    {
+        if Condition::is_trivial(others, place) {
+            return true;
+        }
+        let mut n = 0;
+        while n < Condition::NAMES {
+            let merged = Condition::class_of(classes, at, Condition::class_of(others, place, n));
+            if merged != Condition::class_of(classes, at, n) {
+                return false;
+            }
+            n += 1;
+        }
+        true
+    }
+
+    // Whether the condition with the classes at `at` respects the apart pair of the slots `a` and `b`: it does not merge the two.
+    pub fn respects(classes: &[u8], at: usize, a: usize, b: usize) -> bool
+        requires { ⌜ (at ≤ length (now classes)) × (a < slotCount) × (b < slotCount) ⌝ }
+        ensures { λ r. ⌜ RespectsIs (now (classes .entry)) at a b r ⌝ }
+    {
+        get(classes, at + a) != get(classes, at + b)
     }
 }

@@ -7,7 +7,7 @@ ghost use Rattle.steps_conditions.specs.Labels.{MatchingIs, RestrictedIs
 use crate::action::Action;
 use crate::action::Label;
 use crate::action::Status;
-use terms_bytes::limits::NAME_COUNT;
+use crate::condition::Condition;
 
 // [Match]: the match of two slots is added to the condition.
 pub fn matching(label: Label, a: u8, b: u8) -> Label
@@ -35,10 +35,10 @@ fn outside(label: Label, level: usize) -> Label
     ensures { λ r. ⌜ OutsideIs label level r ⌝ }
 {
     let condition = label.condition;
-    if !condition.spares(level) {
+    if !condition.is_alone(level) {
         return Label::blocked();
     }
-    let name = (NAME_COUNT + level) as u8;
+    let name = (Condition::NAMES + level) as u8;
     let action = label.action;
     match action {
         Action::Silent => label,

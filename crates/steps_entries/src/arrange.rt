@@ -46,7 +46,7 @@ fn relabel(list: &mut [u8], from: usize, end: usize, old: u8, new: u8)
 }
 
 // Brings the i-th entry in order to the place i, those before it being in theirs. The entry that stood there goes where that one was.
-fn settle(list: &mut [u8], i: usize, count: usize)
+fn put_in_place(list: &mut [u8], i: usize, count: usize)
     requires { ⌜ (i < count) × (count ≤ mostSteps) × (listRoom ≤ length (now list)) ⌝ }
     ensures { λ _. ⌜ SettleIs (now (list .entry)) i count (now (list .exit)) ⌝ }
 {
@@ -65,7 +65,7 @@ pub fn arrange(list: &mut [u8], count: usize)
 {
     let mut i = 0;
     while i < count {
-        settle(list, i, count);
+        put_in_place(list, i, count);
         i += 1;
     }
 }

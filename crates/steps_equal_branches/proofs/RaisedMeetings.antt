@@ -9,7 +9,7 @@ use lib.Dec.{ltb}
 use Rattle.calculus.specs.Abstraction.{tauA}
 use Rattle.calculus.specs.Cond.{Cond, mapP}
 use Rattle.calculus.specs.Term.{Term, par, res}
-use Rattle.steps.specs.Raw.{step, blocked, leftSteps, rightSteps, restricted, spares, sparesRestricted, outside, restrictedAction}
+use Rattle.steps.specs.Raw.{step, blocked, leftSteps, rightSteps, restricted, leavesAlone, restrictedAlone, outside, restrictedAction}
 use Rattle.steps_conditions.specs.Slots.{slotOf}
 use Rattle.steps_conditions.proofs.NameSlots.{slot-bound, slot-free}
 use Rattle.steps_splicing.specs.Contexts.{Frame, leftOf, rightOf, beneath, raised, restrictions, levelIn}
@@ -18,7 +18,7 @@ use Rattle.steps_splicing.proofs.ContextLaws.{raised-blocked}
 -- A match of a name with itself.
 pub raised-same : (K : List Frame) (a : ℕ) (A : Term)
     → (b : ℕ) × (B : Term) × (raised K (step ((a, a) ∷ []) tauA A) ≡ step ((b, b) ∷ []) tauA B)
-unfolding raised leftSteps rightSteps restricted spares sparesRestricted outside restrictedAction
+unfolding raised leftSteps rightSteps restricted leavesAlone restrictedAlone outside restrictedAction
 raised-same [] a A = (a, A, refl)
 raised-same (leftOf Q ∷ K) a A = raised-same K a (par A Q)
 raised-same (rightOf P ∷ K) a A = raised-same K a (par P A)
@@ -28,7 +28,7 @@ raised-same (beneath ∷ K) (suc a) A = raised-same K a (res A)
 -- A match of two free names.
 pub raised-free : (K : List Frame) (m n a b : ℕ) (A : Term) → m ≡ restrictions K + a → n ≡ restrictions K + b
     → (B : Term) × (raised K (step ((m, n) ∷ []) tauA A) ≡ step ((a, b) ∷ []) tauA B)
-unfolding raised leftSteps rightSteps restricted spares sparesRestricted outside restrictedAction levelIn
+unfolding raised leftSteps rightSteps restricted leavesAlone restrictedAlone outside restrictedAction levelIn
 raised-free [] m n a b A e f =
     let k : m ≡ a = omega arith in
     let l : n ≡ b = omega arith in
@@ -42,7 +42,7 @@ raised-free (beneath ∷ K) (suc m) (suc n) a b A e f = raised-free K m n a b (r
 -- A match of a restricted name with another, whatever else is asked.
 pub raised-apart : (K : List Frame) (a b : ℕ) (M : Cond) (A : Term) → (a ≡ b → ⊥) → (restrictions K ≤ a → restrictions K ≤ b → ⊥)
     → raised K (step ((a, b) ∷ M) tauA A) ≡ blocked
-unfolding raised leftSteps rightSteps restricted spares sparesRestricted outside restrictedAction levelIn
+unfolding raised leftSteps rightSteps restricted leavesAlone restrictedAlone outside restrictedAction levelIn
 raised-apart [] a b M A n h = absurd (h (omega arith) (omega arith))
 raised-apart (leftOf Q ∷ K) a b M A n h = raised-apart K a b M (par A Q) n h
 raised-apart (rightOf P ∷ K) a b M A n h = raised-apart K a b M (par P A) n h
@@ -50,7 +50,7 @@ raised-apart (beneath ∷ K) zero zero M A n h = absurd (n refl)
 raised-apart (beneath ∷ K) zero (suc b) M A n h = raised-blocked K
 raised-apart (beneath ∷ K) (suc a) zero M A n h = raised-blocked K
 raised-apart (beneath ∷ K) (suc a) (suc b) M A n h =
-    go (sparesRestricted M) (raised-apart K a b (mapP outside M) (res A) (λ e. n (ap suc e)) (λ k l. h (omega arith) (omega arith)))
+    go (restrictedAlone M) (raised-apart K a b (mapP outside M) (res A) (λ e. n (ap suc e)) (λ k l. h (omega arith) (omega arith)))
   where
     go : (t : Bool) → raised K (step ((a, b) ∷ mapP outside M) tauA (res A)) ≡ blocked
         → raised K (cond t (step ((a, b) ∷ mapP outside M) tauA (res A)) blocked) ≡ blocked

@@ -12,7 +12,7 @@ use lib.Seq.{ext-getD}
 use Rattle.calculus.specs.Term.{Term, nil, tau, inp, out, bout, mat, sum, par, res, call, ren}
 use Rattle.terms.specs.Encoding.{nameByte, encode, InScope}
 use Rattle.terms.specs.Limits.{nameCount}
-use Rattle.terms_bytes.specs.Shape.{fixedBytes, ownNames, binders, subterms, frontBytes, fixedAt, namesAt, bindersAt, partsAt, ShapeIs}
+use Rattle.terms_bytes.specs.Shape.{fixedBytes, ownNames, binders, subterms, frontBytes, fixedAt, namesAt, bindersAt, subtermsAt, ShapeIs}
 use Rattle.terms_bytes.specs.declared.shape.Shape.{Shape}
 use Rattle.terms_bytes.proofs.NameTables.{liftBy}
 use Rattle.terms_bytes.proofs.Shapes.{encodeAll, encode-parts, at-most-two, fixed-ren, names-ren, subterms-ren, front-of, AllInScope, names-scope, subterms-scope, shape-names, shape-binds, shape-parts, span-fixed, span-names, length-front}
@@ -129,7 +129,7 @@ module _ (s : List ℕ) (p at : ℕ) (arities args : List ℕ) (inner depth : �
       fixed = is .fixed ∙ ap fixedAt (sym first-byte);
       names = is .names ∙ go (eqb (getD s at 0) 9) refl ∙ ap (λ (t : ℕ). namesAt arities t (getD s (p + 1) 0)) (sym first-byte);
       binds = is .binds ∙ ap bindersAt (sym first-byte);
-      parts = is .parts ∙ ap partsAt (sym first-byte);
+      subterms = is .subterms ∙ ap subtermsAt (sym first-byte);
       some = is .some;
       few = is .few;
       one = is .one;
@@ -193,10 +193,10 @@ module _ (s : List ℕ) (p at : ℕ) (arities args : List ℕ) (inner depth : �
       binds-are-too : h .binds ≡ binders B
       binds-are-too = shape-binds s p arities h too D B (front-of free arities D B (x .scope-too)) (x .more) (x .stands-too)
 
-      parts-are : h .parts ≡ length (subterms P)
+      parts-are : h .subterms ≡ length (subterms P)
       parts-are = shape-parts s at arities h is D P (front-of free arities D P (x .scope)) (x .rest) (x .stands)
 
-      parts-are-too : h .parts ≡ length (subterms B)
+      parts-are-too : h .subterms ≡ length (subterms B)
       parts-are-too = shape-parts s p arities h too D B (front-of free arities D B (x .scope-too)) (x .more) (x .stands-too)
 
       -- the whole terms, by their subterms
@@ -241,7 +241,7 @@ module _ (s : List ℕ) (p at : ℕ) (arities args : List ℕ) (inner depth : �
       abbrev Says : ℕ → Type 0
       Says r = (r ≡ length (encode D P)) × (ren σ P ≡ ren σ B)
 
-      none-beneath : h .parts ≡ 0 → Says (h .fixed + h .names)
+      none-beneath : h .subterms ≡ 0 → Says (h .fixed + h .names)
       unfolding encodeAll
       none-beneath z = go (subterms P) refl (subterms B) refl
         where
@@ -252,7 +252,7 @@ module _ (s : List ℕ) (p at : ℕ) (arities args : List ℕ) (inner depth : �
 
       module _ (e : ℕ) (some : 0 < e)
           (S : SameIs s (p + (h .fixed + h .names)) (at + (h .fixed + h .names)) arities args (inner + h .binds) (depth + h .binds) e) where
-        one-beneath : h .parts ≡ 1 → Says (h .fixed + h .names + e)
+        one-beneath : h .subterms ≡ 1 → Says (h .fixed + h .names + e)
         unfolding encodeAll
         one-beneath z = go (subterms P) refl (subterms B) refl
           where
@@ -265,7 +265,7 @@ module _ (s : List ℕ) (p at : ℕ) (arities args : List ℕ) (inner depth : �
             go (Q ∷ []) q [] q′ = absurd (omega (arith, parts-are-too, ap length q′))
             go (Q ∷ []) q (C ∷ C₂ ∷ Cs) q′ = absurd (omega (arith, parts-are-too, ap length q′))
 
-        two-beneath : (h .parts ≡ 0 → ⊥) → (h .parts ≡ 1 → ⊥) → (f : ℕ) → 0 < f
+        two-beneath : (h .subterms ≡ 0 → ⊥) → (h .subterms ≡ 1 → ⊥) → (f : ℕ) → 0 < f
             → SameIs s (p + (h .fixed + h .names + e)) (at + (h .fixed + h .names + e)) arities args (inner + h .binds) (depth + h .binds) f
             → Says (h .fixed + h .names + e + f)
         unfolding encodeAll
@@ -289,7 +289,7 @@ module _ (s : List ℕ) (p at : ℕ) (arities args : List ℕ) (inner depth : �
             go (Q ∷ R ∷ []) q (C ∷ E ∷ E₂ ∷ Es) q′ = absurd (omega (arith, at-most-two B, ap length q′))
 
     -- What the walk answers, by the number of the subterms.
-    pub same-none : h .parts ≡ 0 → Same (h .fixed + h .names)
+    pub same-none : h .subterms ≡ 0 → Same (h .fixed + h .names)
     same-none z = record {
       inside = let i = F .inside in omega arith;
       first = λ _. first-byte;
@@ -298,14 +298,14 @@ module _ (s : List ℕ) (p at : ℕ) (arities args : List ℕ) (inner depth : �
 
     module _ (e : ℕ) (some : 0 < e)
         (S : SameIs s (p + (h .fixed + h .names)) (at + (h .fixed + h .names)) arities args (inner + h .binds) (depth + h .binds) e) where
-      pub same-one : h .parts ≡ 1 → Same (h .fixed + h .names + e)
+      pub same-one : h .subterms ≡ 1 → Same (h .fixed + h .names + e)
       same-one z = record {
         inside = let i = F .inside in let j = S .inside in omega arith;
         first = λ _. first-byte;
         is = λ _ free D σ P B x. one-beneath free D σ P B x e some S z;
       }
 
-      pub same-two : (h .parts ≡ 0 → ⊥) → (h .parts ≡ 1 → ⊥) → (f : ℕ) → 0 < f
+      pub same-two : (h .subterms ≡ 0 → ⊥) → (h .subterms ≡ 1 → ⊥) → (f : ℕ) → 0 < f
           → SameIs s (p + (h .fixed + h .names + e)) (at + (h .fixed + h .names + e)) arities args (inner + h .binds) (depth + h .binds) f
           → Same (h .fixed + h .names + e + f)
       same-two z o f more T = record {

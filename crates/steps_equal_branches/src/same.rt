@@ -83,12 +83,12 @@ fn same_term(
     let h = shape_at(src, at, arities);
     let fixed = h.fixed;
     let names = h.names;
-    let parts = h.parts;
+    let subterms = h.subterms;
     if !same_front(src, p, at, fixed, names, args, inner, depth) {
         return 0;
     }
     let n = fixed + names;
-    if parts == 0 {
+    if subterms == 0 {
         return n;
     }
     let i = inner + h.binds;
@@ -98,7 +98,7 @@ fn same_term(
         return 0;
     }
     let m = n + e;
-    if parts == 1 {
+    if subterms == 1 {
         return m;
     }
     let f = same_term(src, p + m, at + m, arities, args, i, d);
@@ -167,7 +167,7 @@ fn chain_holds(
         let q = p + 3 * j;
         let u = slot(get(src, q + 1), args, inner, depth);
         let v = slot(get(src, q + 2), args, inner, depth);
-        if class[u as usize] != class[v as usize] {
+        if Condition::respects(&class, 0, u as usize, v as usize) {
             return false;
         }
         j += 1;

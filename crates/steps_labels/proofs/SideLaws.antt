@@ -7,7 +7,7 @@ use native.Mathlib.Omega.{arith}
 use lib.Dec.{leb}
 use lib.ListN.{length, getD}
 use borrow.Author.Tests.{leb-true, leb-false}
-use Rattle.steps_labels.specs.LabelWalk.{Leads, singleSide, SideIs}
+use Rattle.steps_labels.specs.LabelWalk.{Leads, singleOrigin, OriginIs}
 use Rattle.steps_passing.specs.Passing.{MiddleIs}
 use Rattle.steps_tallies.specs.Tally.{endAt}
 use Rattle.steps_tallies.specs.Tallying.{numberAt}
@@ -31,7 +31,7 @@ module _ (s t : List ℕ) (at number : ℕ) (silently : Bool) where
   lead-start question args inner depth calls r T N = N
 
   module _ (b n : ℕ) (on : at ≤ b) (L : Leads s t at number silently b n) where
-    pub side-one : (b < length s → 5 < getD s b 0 → getD s b 0 < 8 → ⊥) → SideIs s t at number silently (singleSide b n)
+    pub side-one : (b < length s → 5 < getD s b 0 → getD s b 0 < 8 → ⊥) → OriginIs s t at number silently (singleOrigin b n)
     side-one one = record { on = on; one = λ z. one; is = λ z. L; inside = λ z. absurd (omega arith); met = λ z. absurd (omega arith) }
 
     module _ (l : 5 < getD s b 0) (g : getD s b 0 < 8) where
@@ -49,7 +49,7 @@ module _ (s t : List ℕ) (at number : ℕ) (silently : Bool) where
             (nth-right question s b n silently args inner depth calls l g t T m M past r (rw J at h) (rw J at N))
 
         pub side-met : numberAt t m silently ≤ j → b < length s → b < m → (k : ℕ) → k ≡ j - numberAt t m silently
-            → SideIs s t at number silently (record { at = b; number = k; middle = m })
+            → OriginIs s t at number silently (record { at = b; number = k; middle = m })
         unfolding Leads
         side-met h inside behind k K = record {
           on = on;

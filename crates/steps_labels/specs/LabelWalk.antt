@@ -20,7 +20,7 @@ use Rattle.steps_tallies.specs.Tally.{TallyIs}
 use Rattle.steps_conditions.specs.declared.action.Action.{Action}
 use Rattle.steps_conditions.specs.declared.action.Action.the-variants.{Silent, Input, Output, NewOutput}
 use Rattle.steps_conditions.specs.declared.action.Label.{Label}
-use Rattle.steps_labels.specs.declared.label.Side.{Side}
+use Rattle.steps_labels.specs.declared.label.Origin.{Origin}
 
 -- The slot of a name byte beneath `inner` restrictions of these bytes, `depth` in all: a free name, one of those restrictions, or a parameter,
 -- which stands for the slot of the call's name. Parameters are counted from the innermost.
@@ -86,11 +86,11 @@ Leads s t at number silently b n =
     → NthIs question s at number silently args inner depth calls r
 
 -- the answer that the code builds for one term
-abbrev pub singleSide : ℕ → ℕ → Side
-singleSide at number = record { at = at; number = number; middle = 0 }
+abbrev pub singleOrigin : ℕ → ℕ → Origin
+singleOrigin at number = record { at = at; number = number; middle = 0 }
 
 -- Where the candidate of this number is found beneath choices and parallels: at one term, or among the communications of a parallel.
-pub record SideIs (s t : List ℕ) (at number : ℕ) (silently : Bool) (r : Side) : Type 0 where
+pub record OriginIs (s t : List ℕ) (at number : ℕ) (silently : Bool) (r : Origin) : Type 0 where
   pub on : at ≤ r .at
   pub one : r .middle ≡ 0 → r .at < length s → 5 < getD s (r .at) 0 → getD s (r .at) 0 < 8 → ⊥
   pub is : r .middle ≡ 0 → Leads s t at number silently (r .at) (r .number)

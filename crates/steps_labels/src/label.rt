@@ -4,7 +4,7 @@ ghost use mathlib.Core.Path.{_≡_};
 ghost use Prim.Native.Nat.{_+_, _≤_, _<_};
 ghost use lib.ListN.{length, getD};
 ghost use Rattle.terms.specs.Limits.{nameCount, greatestArity, longestTerm};
-ghost use Rattle.steps_labels.specs.LabelWalk.{slotAt, ArgumentsIs, prefixAction, PrefixLabelIs, RestrictionsIs, LeavesIs, pastOf, OutsideOfIs, Within, NthIs, MeetingIs, singleSide, SideIs};
+ghost use Rattle.steps_labels.specs.LabelWalk.{slotAt, ArgumentsIs, prefixAction, PrefixLabelIs, RestrictionsIs, LeavesIs, pastOf, OutsideOfIs, Within, NthIs, MeetingIs, singleOrigin, OriginIs};
 ghost use Rattle.steps_conditions.specs.Slots.{slotCount};
 ghost use Rattle.steps_tallies.specs.Tally.{EndsInside, TallyIs, BodiesTallied};
 use steps_conditions::action::Action;
@@ -163,17 +163,17 @@ fn outside_of(
 
 // Where a candidate is found beneath choices and parallels, and its number there: at a term of another form, or, where `middle` is not 0, among the
 // communications of the parallel whose right side stands at `middle`.
-pub struct Side {
+pub struct Origin {
     pub at: usize,
     pub number: usize,
     pub middle: usize,
 }
 
 // At the one term at `at`.
-fn single(at: usize, number: usize) -> Side
-    ensures { λ r. ⌜ r ≡ singleSide at number ⌝ }
+fn single(at: usize, number: usize) -> Origin
+    ensures { λ r. ⌜ r ≡ singleOrigin at number ⌝ }
 {
-    Side {
+    Origin {
         at,
         number,
         middle: 0,
@@ -182,9 +182,9 @@ fn single(at: usize, number: usize) -> Side
 
 // From the term at `at` down to where its candidate number `i` is found: no label is held on the way. The left side's candidates come first,
 // then the right side's, and then the communications.
-fn side_of(src: &[u8], tally: &[u32], at: usize, i: usize, silent: bool) -> Side
+fn origin_of(src: &[u8], tally: &[u32], at: usize, i: usize, silent: bool) -> Origin
     requires { ⌜ (length (now src) ≤ longestTerm) × EndsInside (now src) (now tally) ⌝ }
-    ensures { λ r. ⌜ SideIs (now (src .entry)) (now (tally .entry)) at i silent r ⌝ }
+    ensures { λ r. ⌜ OriginIs (now (src .entry)) (now (tally .entry)) at i silent r ⌝ }
 {
     let mut b = at;
     let mut n = i;
@@ -204,7 +204,7 @@ fn side_of(src: &[u8], tally: &[u32], at: usize, i: usize, silent: bool) -> Side
             let middle = middle_of(src, tally, b);
             let right = number_at(tally, middle, silent);
             if right <= n {
-                return Side {
+                return Origin {
                     at: b,
                     number: n - right,
                     middle,
@@ -307,7 +307,7 @@ pub fn nth(
     let inner = scope.inner;
     let depth = scope.depth;
     let calls = scope.calls;
-    let p = side_of(src, tally, scope.at, i, silent);
+    let p = origin_of(src, tally, scope.at, i, silent);
     let b = p.at;
     let n = p.number;
     let middle = p.middle;

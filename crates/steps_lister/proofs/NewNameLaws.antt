@@ -26,7 +26,7 @@ use Rattle.terms.specs.Question.{Question}
 use Rattle.terms.proofs.RenamingKeeps.{length-ren}
 use Rattle.terms.proofs.WellFormed.{accepted-well-formed}
 use Rattle.steps.specs.Forms.{resultForm}
-use Rattle.steps.proofs.FormLaws.{result-form}
+use Rattle.steps.proofs.FormLaws.{Form, result-form}
 use Rattle.steps.specs.Lists.{_∈_, Among, All}
 use Rattle.steps.specs.Raw.{Candidate, step, blocked}
 use Rattle.steps.proofs.Calls.{Opens}
@@ -38,12 +38,12 @@ use Rattle.steps.specs.Listed.{ListedStep, listedAs, canonStep, kindOf, channel
 use Rattle.steps.specs.Listing.{listed, limited, listing, stepsOf}
 use Rattle.steps_splicing.specs.ListedParts.{Lists}
 use Rattle.steps_lister.specs.Renewed.{bindsNew, renewed}
-use Rattle.steps.proofs.ByteOrder.{before-irreflexive, before-trans}
+use Rattle.steps.proofs.ByteOrder.{before-trans}
 use Rattle.steps.proofs.ClassLists.{unmatched}
 use Rattle.steps.proofs.Limited.{limited-given, limited-fits, limited-within, limited-many}
 use Rattle.steps.proofs.ListedBytes.{WellListed, bytes-determine}
 use Rattle.steps.proofs.ListingLaws.{raw, found, raw-sound, found-all, found-sorted, well-listed}
-use Rattle.steps.proofs.Sorted.{Precedes, Sorted, OfCandidate, collect-all, collect-new}
+use Rattle.steps.proofs.Sorted.{Precedes, Sorted, OfCandidate, collect-all, collect-new, sorted-same}
 
 -- A list in which each step's bytes come before those of the next ascends.
 pub neighbours-sorted : (longest : ℕ) (d : ListedStep) (ss : List ListedStep)
@@ -56,36 +56,6 @@ neighbours-sorted longest d (s ∷ t ∷ ss) h =
       (b, all-imp (Precedes longest t) (Precedes longest s) ss (λ u k. before-trans (bytes longest s) (bytes longest t) (bytes longest u) b k) (rest .0)),
       rest,
     )
-
--- Two ascending lists with the same steps are the same.
-module _ (longest : ℕ) where
-  behind-first : (s : ListedStep) (ss : List ListedStep) → Sorted longest (s ∷ ss) → (u : ListedStep) → u ∈ ss → Precedes longest s u
-  behind-first s ss a u m = all-∈ (Precedes longest s) ss (a .0) u m
-
-  rest-among : (s t : ListedStep) (ss ts : List ListedStep) → s ≡ t → Sorted longest (s ∷ ss) → Among (s ∷ ss) (t ∷ ts) → Among ss ts
-  rest-among s t ss ts e a h u m = go (h u (inr m))
-    where
-      go : (u ≡ t) ⊎ (u ∈ ts) → u ∈ ts
-      go (inl d) =
-          absurd (before-irreflexive (bytes longest s) (subst (λ v. Precedes longest s v) (d ∙ sym e) (behind-first s ss a u m)))
-      go (inr n) = n
-
-  sorted-same : (ss ts : List ListedStep) → Sorted longest ss → Sorted longest ts → Among ss ts → Among ts ss → ss ≡ ts
-  sorted-same [] [] a b h k = refl
-  sorted-same [] (t ∷ ts) a b h k = absurd (k t (inl refl))
-  sorted-same (s ∷ ss) [] a b h k = absurd (h s (inl refl))
-  sorted-same (s ∷ ss) (t ∷ ts) a b h k =
-      let e : s ≡ t = first (h s (inl refl)) (k t (inl refl)) in
-      let r : ss ≡ ts =
-      sorted-same ss ts (a .1) (b .1) (rest-among s t ss ts e a h) (rest-among t s ts ss (sym e) b k) in
-      λ i. e i ∷ r i
-    where
-      first : (s ≡ t) ⊎ (s ∈ ts) → (t ≡ s) ⊎ (t ∈ ss) → s ≡ t
-      first (inl e) n = e
-      first (inr m) (inl e) = sym e
-      first (inr m) (inr n) =
-          absurd (before-irreflexive (bytes longest s)
-          (before-trans (bytes longest s) (bytes longest t) (bytes longest s) (behind-first s ss a t n) (behind-first t ts b s m)))
 
 -- A candidate's step for x is that for y, renewed: of the names of the candidate none is y.
 module _ (Δ : Defs) (names y x : ℕ) (P : Term) (fresh : ¬ Free y P) where
@@ -106,14 +76,16 @@ module _ (Δ : Defs) (names y x : ℕ) (P : Term) (fresh : ¬ Free y P) where
       go zero f = put-self y x y refl
       go (suc m) f = put-other y x (cls M m) (h m f)
 
+  formed-anew : (M : Cond) (A : Term) → ((m : ℕ) → Free (suc m) A → cls M m ≡ y → ⊥)
+      → ren (put y x) (resultForm (ren (y • cls M) A)) ≡ resultForm (ren (x • cls M) A)
+  formed-anew M A h = sym (result-form .renamed (put y x) (ren (y • cls M) A)) ∙ ap resultForm (filled-anew M A h)
+
   canon-renewed : (M : Cond) (α : Act) (A : Term) → Trans Δ P M α A → renewed y x (canonStep resultForm names y M α A) ≡ canonStep resultForm names x M α A
   unfolding canonStep renewed bindsNew listedAs kindOf channelOf objectOf
   canon-renewed M tauA A t = refl
-  canon-renewed M (inpA a) A t =
-      ap (listedAs names M (input (cls M a) x)) (filled-anew M A (λ m f. other-class t m (resid-free Δ t m f)))
+  canon-renewed M (inpA a) A t = ap (listedAs names M (input (cls M a) x)) (formed-anew M A (λ m f. other-class t m (resid-free Δ t m f)))
   canon-renewed M (outA a b) A t = refl
-  canon-renewed M (boutA a) A t =
-      ap (listedAs names M (newOutput (cls M a) x)) (filled-anew M A (λ m f. other-class t m (resid-free Δ t m f)))
+  canon-renewed M (boutA a) A t = ap (listedAs names M (newOutput (cls M a) x)) (formed-anew M A (λ m f. other-class t m (resid-free Δ t m f)))
 
 -- a renewed result is as long as it was
 pub renewed-length : (y x : ℕ) (s : ListedStep) → length (resultBytes (renewed y x s)) ≡ length (resultBytes s)

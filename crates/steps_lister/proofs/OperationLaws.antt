@@ -21,7 +21,7 @@ use Rattle.terms_renaming.specs.FreeFlags.{IsFreeOf}
 use Rattle.terms.specs.Limits.{nameCount, longestTerm}
 use Rattle.terms.specs.Operations.{checkAnswer}
 use Rattle.terms.specs.Question.{Question, checkOf, questionOf, fieldsOf}
-use Rattle.terms_bytes.specs.Writing.{Accepted, Plain}
+use Rattle.terms_bytes.specs.Writing.{IsAccepted, Plain}
 use Rattle.terms.proofs.Answers.{bind-result, bind-to, bind-refused, need-passed, need-failed}
 use Rattle.terms.proofs.FramingLaws.{Framable}
 use Rattle.terms_bytes.proofs.Places.{allFields, definitions-of, field-is}
@@ -114,8 +114,8 @@ side-is s side = (
 )
 
 -- The answers of checks 3 to 12.
-pub question-accepted : (s : List ℕ) → checkAnswer s ≡ result 0 → Accepted s
-unfolding checkAnswer Accepted
+pub question-accepted : (s : List ℕ) → checkAnswer s ≡ result 0 → IsAccepted s
+unfolding checkAnswer IsAccepted
 question-accepted s e = let (q, a, _) = bind-result (questionOf s) _ 0 e in (q, a)
 
 question-refused : (s : List ℕ) (k : ℕ) → checkAnswer s ≡ refused k → questionOf s ≡ refused k

@@ -18,9 +18,9 @@ use Rattle.steps_splicing.specs.ListedParts.{Lists}
 use Rattle.steps_tallies.specs.Tally.{tallySize, BodiesTallied}
 
 -- What listing a part needs: room for the list, for the part's tally and for its rows, and the bodies tallied.
-abbrev pub CanList : (question bodies part numbers rows area : List ℕ) → Type 0
-CanList question bodies part numbers rows area =
-    (listRoom ≤ length area) × (length part ≤ longestTerm) × BodiesTallied question bodies × (length numbers ≡ tallySize) × (rowBytes * mostRows ≤ length rows)
+abbrev pub CanList : (question bodies part tallies rows area : List ℕ) → Type 0
+CanList question bodies part tallies rows area =
+    (listRoom ≤ length area) × (length part ≤ longestTerm) × BodiesTallied question bodies × (length tallies ≡ tallySize) × (rowBytes * mostRows ≤ length rows)
 
 -- The answer, and the steps at the beginning of the area. After "unsettled" it is not determined, and the operation restores its own.
 unfoldable pub AnswersListing : Listing → ListAnswer → List ℕ → Type 0

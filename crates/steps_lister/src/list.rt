@@ -31,14 +31,14 @@ pub fn list_tallied(
     bodies: &[u32],
     part: &[u8],
     x: u8,
-    numbers: &mut [u32],
+    tallies: &mut [u32],
     rows: &mut [u8],
     area: &mut [u8],
 ) -> ListAnswer
-    requires { ⌜ CanList (now question) (now bodies) (now part) (now numbers) (now rows) (now area) ⌝ }
+    requires { ⌜ CanList (now question) (now bodies) (now part) (now tallies) (now rows) (now area) ⌝ }
     ensures { λ r. ⌜ ListPartIs (now (question .entry)) (now (part .entry)) x r (now (area .exit)) ⌝ }
 {
-    tally(question, bodies, part, numbers);
+    tally(question, bodies, part, tallies);
     let whole = Node {
         at: 0,
         depth: 0,
@@ -46,7 +46,7 @@ pub fn list_tallied(
         x,
     };
     let none = Walked { rows: 0, count: 0 };
-    let walked = walk(question, bodies, part, numbers, whole, rows, none, area);
+    let walked = walk(question, bodies, part, tallies, whole, rows, none, area);
     let n = walked.count;
     if MOST_STEPS < n {
         return ListAnswer::Unsettled;
@@ -61,7 +61,7 @@ pub fn list_part(question: &[u8], part: &[u8], x: u8, area: &mut [u8]) -> ListAn
     ensures { λ r. ⌜ ListPartIs (now (question .entry)) (now (part .entry)) x r (now (area .exit)) ⌝ }
 {
     let bodies = body_tallies(question);
-    let mut numbers = [0u32; SCRATCH_NUMBERS];
+    let mut tallies = [0u32; SCRATCH_NUMBERS];
     let mut rows = [0u8; SCRATCH_ROWS];
-    list_tallied(question, &bodies, part, x, &mut numbers, &mut rows, area)
+    list_tallied(question, &bodies, part, x, &mut tallies, &mut rows, area)
 }

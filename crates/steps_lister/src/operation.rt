@@ -5,7 +5,7 @@ ghost use Prim.Native.Nat.{_*_, _≤_};
 ghost use lib.Dec.{eqb};
 ghost use lib.ListN.{length};
 ghost use Rattle.terms.specs.Limits.{longestTerm};
-ghost use Rattle.terms_bytes.specs.Writing.{Accepted, Plain};
+ghost use Rattle.terms_bytes.specs.Writing.{IsAccepted, Plain};
 ghost use Rattle.terms_converting.specs.Questions.{AcceptedFrom};
 ghost use Rattle.steps_lister.specs.Answering.{DoesList, SideIs, ListsInto};
 ghost use Rattle.steps.specs.Limits.{stepBytes, mostSteps};
@@ -111,7 +111,7 @@ fn steps_counted(question: &[u8], side: u64, name: u64, area: &mut [u8]) -> Step
 
 // The list of an accepted question, in either edition.
 fn steps_either(question: &[u8], side: u64, name: u64, area: &mut [u8]) -> StepsAnswer
-    requires { ⌜ Accepted (now question) ⌝ }
+    requires { ⌜ IsAccepted (now question) ⌝ }
     ensures { λ r. ⌜ DoesList (listOf (now (question .entry)) side name (length (now (area .entry)))) (now (area .entry)) r (now (area .exit)) ⌝ }
 {
     if is_counted(question) {

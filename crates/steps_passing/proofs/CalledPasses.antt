@@ -21,7 +21,7 @@ use Rattle.steps_tallies.specs.Bodies.{BodyIs}
 use Rattle.terms.specs.Question.{bodyOf}
 use Rattle.steps_conditions.specs.Names.{turn, HasNames, CalledIs}
 use Rattle.steps_tallies.specs.Candidates.{candidates}
-use Rattle.steps_passing.specs.Passing.{Does, PassIs, nothingSent, returnedAt}
+use Rattle.steps_passing.specs.Passing.{Acts, PassIs, nothingSent, returnedAt}
 use Rattle.steps.specs.Raw.{Candidate, step, blocked}
 use Rattle.steps_conditions.specs.Slots.{slotOf}
 use Rattle.steps_passing.specs.declared.pass.Passed.{Passed}
@@ -94,9 +94,9 @@ module _ (free D : ℕ) (s : List ℕ) (from : ℕ) (xs rest : List ℕ) (few : 
       )
 
   -- What an action of the body does outside.
-  does-called : (σ : ℕ → ℕ) (n : ℕ) → n ≡ length xs → (α : Act) (k o : ℕ) → Does 0 n (params σ xs) α k o
-      → Does free D σ α k (turn 128 tableNames D (getD s (from + (o - tableNames)) 0))
-  unfolding Does
+  does-called : (σ : ℕ → ℕ) (n : ℕ) → n ≡ length xs → (α : Act) (k o : ℕ) → Acts 0 n (params σ xs) α k o
+      → Acts free D σ α k (turn 128 tableNames D (getD s (from + (o - tableNames)) 0))
+  unfolding Acts
   does-called σ n same tauA k o d = d
   does-called σ n same (inpA a) k o d = d
   does-called σ n same (boutA a) k o d = d
@@ -139,7 +139,7 @@ module _ (question s : List ℕ) (at D calls : ℕ) (t : Bool) (i : ℕ) (g : 8 
   pass-closed z = record {
     slot = omega arith;
     does = λ q free σ P rest ok few scope st M α A e. at-call
-        (λ (P : Term). getD (candidates t (bodyOf (q .bodies)) calls (ren σ P)) i blocked ≡ step M α A → Does free D σ α 0 0)
+        (λ (P : Term). getD (candidates t (bodyOf (q .bodies)) calls (ren σ P)) i blocked ≡ step M α A → Acts free D σ α 0 0)
         q free P rest ok scope st
         (λ xs m a l names st e.
         let c : candidates t (bodyOf (q .bodies)) calls (call k (map σ xs)) ≡ [] =
@@ -157,7 +157,7 @@ module _ (question s : List ℕ) (at D calls : ℕ) (t : Bool) (i : ℕ) (g : 8 
       slot = turn-small 128 tableNames D (getD s (at + 2 + (r .object - tableNames)) 0) (omega arith) (omega arith);
       does = λ q free σ P rest ok few scope st M α A w. at-call
           (λ (P : Term). getD (candidates t (bodyOf (q .bodies)) calls (ren σ P)) i blocked ≡ step M α A
-          → Does free D σ α (r .kind) (turn 128 tableNames D (getD s (at + 2 + (r .object - tableNames)) 0)))
+          → Acts free D σ α (r .kind) (turn 128 tableNames D (getD s (at + 2 + (r .object - tableNames)) 0)))
           q free P rest ok scope st
           (λ xs m a l names st w.
           let body = bodyOf (q .bodies) in

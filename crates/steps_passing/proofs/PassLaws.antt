@@ -21,7 +21,7 @@ use Rattle.terms_bytes.proofs.Stores.{getD-front}
 use Rattle.terms.specs.Question.{bodyOf}
 use Rattle.steps_conditions.specs.Names.{turn}
 use Rattle.steps_tallies.specs.Candidates.{candidates}
-use Rattle.steps_passing.specs.Passing.{Sent, Does, PassIs, PrefixIs, nothingSent, opensAt, leavingAt, counted}
+use Rattle.steps_passing.specs.Passing.{Sent, Acts, PassIs, PrefixIs, nothingSent, opensAt, leavingAt, counted}
 use Rattle.steps.specs.Raw.{Candidate, step, blocked, visible, silent, visibleOf, silentOf}
 use Rattle.steps_conditions.specs.Slots.{slotOf}
 use Rattle.steps_passing.specs.declared.pass.Passed.{Passed}
@@ -102,7 +102,7 @@ one-at-most (call k xs) = omega arith
 
 module _ (question s : List ℕ) (at D calls : ℕ) (t : Bool) (i : ℕ) (low : getD s at 0 < 5) (r : Passed) (R : PrefixIs s at D r) where
   pub pass-prefix : PassIs question s at D calls t i r
-  unfolding prefixStep Does InScope encode
+  unfolding prefixStep Acts InScope encode
   pass-prefix = record {
     slot = R .slot;
     does = λ q free σ P rest ok few scope st M α A e.
@@ -113,15 +113,15 @@ module _ (question s : List ℕ) (at D calls : ℕ) (t : Bool) (i : ℕ) (low : 
   }
     where
       acts : (q : Question) (free : ℕ) (σ : ℕ → ℕ) (P : Term) (rest : List ℕ) → free ≤ nameCount → InScope free (q .arities) D P → drop at s ≡ encode D P ++ rest
-          → r .kind ≡ tag P - 1 → (M : Cond) (α : Act) (A : Term) → getD (prefixStep (ren σ P)) 0 blocked ≡ step M α A → Does free D σ α (r .kind) (r .object)
+          → r .kind ≡ tag P - 1 → (M : Cond) (α : Act) (A : Term) → getD (prefixStep (ren σ P)) 0 blocked ≡ step M α A → Acts free D σ α (r .kind) (r .object)
       acts q free σ nil rest few scope st ek M α A g = never M α A g
-      acts q free σ (tau P) rest few scope st ek M α A g = let x : tauA ≡ α = cc in subst (λ (γ : Act). Does free D σ γ (r .kind) (r .object)) x (omega arith)
-      acts q free σ (inp a P) rest few scope st ek M α A g = let x : inpA (σ a) ≡ α = cc in subst (λ (γ : Act). Does free D σ γ (r .kind) (r .object)) x (omega arith)
+      acts q free σ (tau P) rest few scope st ek M α A g = let x : tauA ≡ α = cc in subst (λ (γ : Act). Acts free D σ γ (r .kind) (r .object)) x (omega arith)
+      acts q free σ (inp a P) rest few scope st ek M α A g = let x : inpA (σ a) ≡ α = cc in subst (λ (γ : Act). Acts free D σ γ (r .kind) (r .object)) x (omega arith)
       acts q free σ (out a b P) rest few scope st ek M α A g =
           let x : outA (σ a) (σ b) ≡ α = cc in
           let y : getD s (at + 2) 0 ≡ nameByte D b = getD-front s at (encode D (out a b P)) rest 2 st (omega arith) in
           let w = scope .1 in
-          subst (λ (γ : Act). Does free D σ γ (r .kind) (r .object)) x (
+          subst (λ (γ : Act). Acts free D σ γ (r .kind) (r .object)) x (
             omega arith,
             record {
               name = b;
@@ -130,7 +130,7 @@ module _ (question s : List ℕ) (at D calls : ℕ) (t : Bool) (i : ℕ) (low : 
               is = refl;
             },
           )
-      acts q free σ (bout a P) rest few scope st ek M α A g = let x : boutA (σ a) ≡ α = cc in subst (λ (γ : Act). Does free D σ γ (r .kind) (r .object)) x (omega arith)
+      acts q free σ (bout a P) rest few scope st ek M α A g = let x : boutA (σ a) ≡ α = cc in subst (λ (γ : Act). Acts free D σ γ (r .kind) (r .object)) x (omega arith)
       acts q free σ (mat a b P) rest few scope st ek M α A g = never M α A g
       acts q free σ (sum P Q) rest few scope st ek M α A g = never M α A g
       acts q free σ (par P Q) rest few scope st ek M α A g = never M α A g
@@ -145,7 +145,7 @@ pass-mat question s at D calls t i r g R = record {
   slot = R .slot;
   does = λ q free σ P rest ok few scope st M α A e. only-mat
       (λ (P : Term). InScope free (q .arities) D P → drop at s ≡ encode D P ++ rest
-      → getD (candidates t (bodyOf (q .bodies)) calls (ren σ P)) i blocked ≡ step M α A → Does free D σ α (r .kind) (r .object))
+      → getD (candidates t (bodyOf (q .bodies)) calls (ren σ P)) i blocked ≡ step M α A → Acts free D σ α (r .kind) (r .object))
       (λ a b Q scope st e.
       let body = bodyOf (q .bodies) in
       let c = candidates-mat body t calls (σ a) (σ b) (ren σ Q) in
@@ -166,8 +166,8 @@ kept D k o n = go (eqb k 2) refl (eqb o (tableNames + D)) refl
     go false x y z = rw x
 
 pub does-outside : (free D : ℕ) (σ : ℕ → ℕ) (β : Act) (B : Term) (α : Act) (A : Term) (k o : ℕ) → free ≤ tableNames → Restricts β B α A
-    → Does free (1 + D) (lift σ) β k o → Does free D σ α (cond (opensAt D k o) 3 k) o
-unfolding Does opensAt
+    → Acts free (1 + D) (lift σ) β k o → Acts free D σ α (cond (opensAt D k o) 3 k) o
+unfolding Acts opensAt
 does-outside free D σ tauA B α A k o few (x, y) d = rw x (kept D k o (λ z. absurd (omega arith)) ∙ d)
 does-outside free D σ (inpA (suc a)) B α A k o few (x, y) d = rw x (kept D k o (λ z. absurd (omega arith)) ∙ d)
 does-outside free D σ (boutA (suc a)) B α A k o few (x, y) d = rw x (kept D k o (λ z. absurd (omega arith)) ∙ d)
@@ -197,7 +197,7 @@ pass-res question s at D calls t i r g R = record {
   does = λ q free σ P rest ok few scope st M α A e. only-res
       (λ (P : Term). InScope free (q .arities) D P → drop at s ≡ encode D P ++ rest
       → getD (candidates t (bodyOf (q .bodies)) calls (ren σ P)) i blocked ≡ step M α A
-      → Does free D σ α (cond (opensAt D (r .kind) (r .object)) 3 (r .kind)) (r .object))
+      → Acts free D σ α (cond (opensAt D (r .kind) (r .object)) 3 (r .kind)) (r .object))
       (λ Q scope st e.
       let d : D + 1 ≡ 1 + D = omega arith in
       let R′ : PassIs question s (at + 1) (1 + D) calls t i r = rw d at R in

@@ -18,7 +18,7 @@ use Rattle.terms.specs.Question.{Question, checkOf}
 use Rattle.terms.proofs.ReadEncoded.{encode-some}
 use Rattle.terms.specs.Question.{bodyOf}
 use Rattle.steps_tallies.specs.Candidates.{candidates}
-use Rattle.steps_passing.specs.Passing.{Does, PassIs, MiddleIs}
+use Rattle.steps_passing.specs.Passing.{Acts, PassIs, MiddleIs}
 use Rattle.steps.specs.Raw.{Candidate, step, blocked, leftSteps, rightSteps}
 use Rattle.steps_tallies.specs.Tally.{EndsInside, TallyIs}
 use Rattle.steps_tallies.specs.Tallying.{numberAt}
@@ -148,7 +148,7 @@ module _ (question s : List ℕ) (at D calls : ℕ) (t : Bool) (i : ℕ) (tally 
   abbrev Shows : (M : Cond) (α : Act) (A : Term) → Question → ℕ → (ℕ → ℕ) → List ℕ → Passed → Term → Type 0
   Shows M α A q free σ rest r P =
       InScope free (q .arities) D P → drop at s ≡ encode D P ++ rest
-      → getD (candidates t (bodyOf (q .bodies)) calls (ren σ P)) i blocked ≡ step M α A → Does free D σ α (r .kind) (r .object)
+      → getD (candidates t (bodyOf (q .bodies)) calls (ren σ P)) i blocked ≡ step M α A → Acts free D σ α (r .kind) (r .object)
 
   pub pass-left : i < numberAt tally (at + 1) t → (r : Passed) → PassIs question s (at + 1) D calls t i r → PassIs question s at D calls t i r
   unfolding encode InScope
@@ -159,7 +159,7 @@ module _ (question s : List ℕ) (at D calls : ℕ) (t : Bool) (i : ℕ) (tally 
         let side : (f g : Candidate → Candidate) → Keeps f → (P Q : Term) (cs more : List Candidate)
         → Sides f g cs (candidates t (bodyOf (q .bodies)) calls (ren σ P)) (candidates t (bodyOf (q .bodies)) calls (ren σ Q)) more
         → InScope free (q .arities) D P → InScope free (q .arities) D Q → drop (at + 1) s ≡ encode D P ++ (encode D Q ++ rest)
-        → getD cs i blocked ≡ step M α A → Does free D σ α (r .kind) (r .object) =
+        → getD cs i blocked ≡ step M α A → Acts free D σ α (r .kind) (r .object) =
         λ f g keep P Q cs more S sp sq st e.
         let n = number-is question s calls tally T t q (at + 1) free D σ P (encode D Q ++ rest) ok sp st in
         let d = keep (getD (candidates t (bodyOf (q .bodies)) calls (ren σ P)) i blocked) M α A (sym (S .first i (omega arith)) ∙ e) in
@@ -180,7 +180,7 @@ module _ (question s : List ℕ) (at D calls : ℕ) (t : Bool) (i : ℕ) (tally 
           let side : (f g : Candidate → Candidate) → Keeps g → (P Q : Term) (cs more : List Candidate)
           → Sides f g cs (candidates t (bodyOf (q .bodies)) calls (ren σ P)) (candidates t (bodyOf (q .bodies)) calls (ren σ Q)) more
           → InScope free (q .arities) D P → InScope free (q .arities) D Q → drop (at + 1) s ≡ encode D P ++ (encode D Q ++ rest)
-          → getD cs i blocked ≡ step M α A → Does free D σ α (r .kind) (r .object) =
+          → getD cs i blocked ≡ step M α A → Acts free D σ α (r .kind) (r .object) =
           λ f g keep P Q cs more S sp sq st e.
           let n = number-is question s calls tally T t q (at + 1) free D σ P (encode D Q ++ rest) ok sp st in
           let k = right-number question s calls tally T at m N q free D σ P Q rest ok sp sq st t in

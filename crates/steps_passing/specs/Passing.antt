@@ -30,11 +30,11 @@ pub record Sent (free D : ℕ) (σ : ℕ → ℕ) (b object : ℕ) : Type 0 wher
   pub is : b ≡ σ name
 
 -- The kinds of document 01: 0 silent, 1 input, 2 free output, 3 new-name output.
-unfoldable pub Does : ℕ → ℕ → (ℕ → ℕ) → Act → ℕ → ℕ → Type 0
-Does free D σ tauA kind object = kind ≡ 0
-Does free D σ (inpA a) kind object = kind ≡ 1
-Does free D σ (outA a b) kind object = (kind ≡ 2) × Sent free D σ b object
-Does free D σ (boutA a) kind object = kind ≡ 3
+unfoldable pub Acts : ℕ → ℕ → (ℕ → ℕ) → Act → ℕ → ℕ → Type 0
+Acts free D σ tauA kind object = kind ≡ 0
+Acts free D σ (inpA a) kind object = kind ≡ 1
+Acts free D σ (outA a b) kind object = (kind ≡ 2) × Sent free D σ b object
+Acts free D σ (boutA a) kind object = kind ≡ 3
 
 -- What the action of the candidate number i does, if there is such a candidate.
 pub record PassIs (question s : List ℕ) (at D calls : ℕ) (silently : Bool) (i : ℕ) (r : Passed) : Type 0 where
@@ -46,7 +46,7 @@ pub record PassIs (question s : List ℕ) (at D calls : ℕ) (silently : Bool) (
       → drop at s ≡ encode D P ++ rest
       → (M : Cond) (α : Act) (A : Term)
       → getD (candidates silently (bodyOf (q .bodies)) calls (ren σ P)) i blocked ≡ step M α A
-      → Does free D σ α (r .kind) (r .object)
+      → Acts free D σ α (r .kind) (r .object)
 
 -- Of inaction or a prefix, by its first byte; a free output sends the name in its third.
 pub record PrefixIs (s : List ℕ) (at D : ℕ) (r : Passed) : Type 0 where

@@ -43,7 +43,7 @@ module _ (class : List ℕ) (M : Cond) (many : nameCount ≤ length class) (clas
   pub entry-canonical : (x : ℕ) (α : Act) (A : Term)
       → entryBytes class (coded (actionOfStep M x α)) (resultBytes (canonStep resultForm nameCount x M α A)) ≡ bytes longestTerm (canonStep resultForm nameCount x M α A)
   unfolding canonStep resultBytes listedAs
-  entry-canonical x tauA A = entry-listed silent (ren (cls M) A)
-  entry-canonical x (inpA a) A = entry-listed (input (cls M a) x) (ren (x • cls M) A)
-  entry-canonical x (outA a b) A = entry-listed (output (cls M a) (cls M b)) (ren (cls M) A)
-  entry-canonical x (boutA a) A = entry-listed (newOutput (cls M a) x) (ren (x • cls M) A)
+  entry-canonical x tauA A = entry-listed silent (resultForm (ren (cls M) A))
+  entry-canonical x (inpA a) A = entry-listed (input (cls M a) x) (resultForm (ren (x • cls M) A))
+  entry-canonical x (outA a b) A = entry-listed (output (cls M a) (cls M b)) (resultForm (ren (cls M) A))
+  entry-canonical x (boutA a) A = entry-listed (newOutput (cls M a) x) (resultForm (ren (x • cls M) A))

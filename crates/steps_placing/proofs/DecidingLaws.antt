@@ -15,7 +15,7 @@ use Rattle.calculus.proofs.Canonical.{canonical-~, canonical-cls, canonical-sam
 use Rattle.calculus.proofs.Conditions.{_~_, E2, ▷-all, ~-sym, mapP-~, Unif-++, Unif-left, Unif-right}
 use Rattle.steps.specs.Forms.{resultForm}
 use Rattle.steps.specs.Lists.{_∈_, Among}
-use Rattle.steps.specs.Raw.{Candidate, step, blocked, matching, leftSteps, rightSteps, meet, communication, spares, sparesRestricted, outside, restrictedAction, restricted}
+use Rattle.steps.specs.Raw.{Candidate, step, blocked, matching, leftSteps, rightSteps, meet, communication, leavesAlone, restrictedAlone, outside, restrictedAction, restricted}
 use Rattle.steps.proofs.Membership.{∈-left, ∈-right, ∈-either, ∈-map}
 use Rattle.steps_tallies.proofs.Numbering.{not-met}
 use Rattle.steps_tallies.proofs.Premises.{never}
@@ -141,18 +141,18 @@ failing-zero d b =
       (λ i. not (ne-eqb (suc b) 0 (λ e. omega arith) i) && (ltb (suc b) (1 + d) || z i)) ∙ or-true (ltb (suc b) (1 + d)),
     )
 
--- A condition that spares the restricted name fails outside if it does here; another one fails.
+-- A condition that leaves the restricted name alone fails outside if it does here; another one fails.
 module _ (d : ℕ) where
-  spared : (M : Cond) → sparesRestricted M ≡ true → fails d (mapP outside M) ≡ fails (1 + d) M
-  unfolding sparesRestricted spares fails outside
+  spared : (M : Cond) → restrictedAlone M ≡ true → fails d (mapP outside M) ≡ fails (1 + d) M
+  unfolding restrictedAlone leavesAlone fails outside
   spared [] e = refl
   spared ((zero, zero) ∷ M) e = λ i. (failing-not d 0 0 refl ∙ sym (failing-not (1 + d) 0 0 refl)) i || spared M e i
   spared ((zero, suc b) ∷ M) e = let z : _≡_ {A = ℕ} 0 1 = cc in absurd (omega arith)
   spared ((suc a, zero) ∷ M) e = let z : _≡_ {A = ℕ} 0 1 = cc in absurd (omega arith)
   spared ((suc a, suc b) ∷ M) e = λ i. sym (failing-suc d a b) i || spared M e i
 
-  unspared : (M : Cond) → sparesRestricted M ≡ false → fails (1 + d) M ≡ true
-  unfolding sparesRestricted spares fails
+  unspared : (M : Cond) → restrictedAlone M ≡ false → fails (1 + d) M ≡ true
+  unfolding restrictedAlone leavesAlone fails
   unspared [] e = let z : _≡_ {A = ℕ} 0 1 = cc in absurd (omega arith)
   unspared ((zero, zero) ∷ M) e = ap (λ (f : Bool). failing (1 + d) 0 0 || f) (unspared M e) ∙ or-true (failing (1 + d) 0 0)
   unspared ((zero, suc b) ∷ M) e = ap (λ (f : Bool). f || fails (1 + d) M) (failing-zero d b .0)
@@ -160,10 +160,10 @@ module _ (d : ℕ) where
   unspared ((suc a, suc b) ∷ M) e =
       ap (λ (f : Bool). failing (1 + d) (suc a) (suc b) || f) (unspared M e) ∙ or-true (failing (1 + d) (suc a) (suc b))
 
-  spares-not-failing : (M : Cond) → fails (1 + d) M ≡ false → sparesRestricted M ≡ true
-  spares-not-failing M f = go (sparesRestricted M) refl
+  alone-not-failing : (M : Cond) → fails (1 + d) M ≡ false → restrictedAlone M ≡ true
+  alone-not-failing M f = go (restrictedAlone M) refl
     where
-      go : (s : Bool) → sparesRestricted M ≡ s → s ≡ true
+      go : (s : Bool) → restrictedAlone M ≡ s → s ≡ true
       go true s = refl
       go false s = let z : true ≡ false = sym (unspared M s) ∙ f in let y : _≡_ {A = ℕ} 0 1 = cc in absurd (omega arith)
 
@@ -216,17 +216,17 @@ decided-action d M (boutA (suc a)) A = refl
 pub decided-restricted : (d : ℕ) (c : Candidate) → decided d (restricted c) ≡ decided d (restricted (decided (1 + d) c))
 unfolding decided restricted
 decided-restricted d (step M α A) = by-fails (1 + d) (λ (c : Candidate). decided d (restricted (step M α A)) ≡ decided d (restricted c)) M α A
-    (λ f. blocks f (sparesRestricted M) refl)
+    (λ f. blocks f (restrictedAlone M) refl)
     (λ f.
     let g : fails (1 + d) (canonical M) ≡ false = fails-~ (1 + d) (canonical M) M (canonical-~ M) ∙ f in
     let O = mapP-~ outside M (canonical M) (~-sym (canonical M) M (canonical-~ M)) in
-    ap (λ (s : Bool). decided d (cond s (restrictedAction (mapP outside M) α A) blocked)) (spares-not-failing d M f)
+    ap (λ (s : Bool). decided d (cond s (restrictedAction (mapP outside M) α A) blocked)) (alone-not-failing d M f)
     ∙ decided-action d (mapP outside M) α A
     ∙ (λ i. cond (fails-~ d (mapP outside M) (mapP outside (canonical M)) O i) blocked (restrictedAction (canonical-same (mapP outside M) (mapP outside (canonical M)) O i) α A))
     ∙ sym (decided-action d (mapP outside (canonical M)) α A)
-    ∙ ap (λ (s : Bool). decided d (cond s (restrictedAction (mapP outside (canonical M)) α A) blocked)) (sym (spares-not-failing d (canonical M) g)))
+    ∙ ap (λ (s : Bool). decided d (cond s (restrictedAction (mapP outside (canonical M)) α A) blocked)) (sym (alone-not-failing d (canonical M) g)))
   where
-    blocks : fails (1 + d) M ≡ true → (s : Bool) → sparesRestricted M ≡ s → decided d (cond s (restrictedAction (mapP outside M) α A) blocked) ≡ blocked
+    blocks : fails (1 + d) M ≡ true → (s : Bool) → restrictedAlone M ≡ s → decided d (cond s (restrictedAction (mapP outside M) α A) blocked) ≡ blocked
     blocks f true s =
         decided-action d (mapP outside M) α A
         ∙ ap (λ (f : Bool). cond f blocked (restrictedAction (canonical (mapP outside M)) α A)) (spared d M s ∙ f)
@@ -362,10 +362,10 @@ module _ (K : List Frame) (d : ℕ) (level : restrictions K ≡ d) (s t : Candid
 -- Steps with the same classes are listed alike.
 pub like-listed : (names x : ℕ) (M N : Cond) → cls M ≡ cls N → (α : Act) (A : Term) → canonStep resultForm names x M α A ≡ canonStep resultForm names x N α A
 unfolding canonStep listedAs classesOf kindOf channelOf objectOf
-like-listed names x M N e tauA A = λ i. record { classes = map (e i) (namesFrom 0 names); kind = 0; channel = 0; object = 0; result = ren (e i) A }
-like-listed names x M N e (inpA a) A = λ i. record { classes = map (e i) (namesFrom 0 names); kind = 1; channel = e i a; object = x; result = ren (x • e i) A }
-like-listed names x M N e (outA a b) A = λ i. record { classes = map (e i) (namesFrom 0 names); kind = 2; channel = e i a; object = e i b; result = ren (e i) A }
-like-listed names x M N e (boutA a) A = λ i. record { classes = map (e i) (namesFrom 0 names); kind = 3; channel = e i a; object = x; result = ren (x • e i) A }
+like-listed names x M N e tauA A = λ i. record { classes = map (e i) (namesFrom 0 names); kind = 0; channel = 0; object = 0; result = resultForm (ren (e i) A) }
+like-listed names x M N e (inpA a) A = λ i. record { classes = map (e i) (namesFrom 0 names); kind = 1; channel = e i a; object = x; result = resultForm (ren (x • e i) A) }
+like-listed names x M N e (outA a b) A = λ i. record { classes = map (e i) (namesFrom 0 names); kind = 2; channel = e i a; object = e i b; result = resultForm (ren (e i) A) }
+like-listed names x M N e (boutA a) A = λ i. record { classes = map (e i) (namesFrom 0 names); kind = 3; channel = e i a; object = x; result = resultForm (ren (x • e i) A) }
 
 -- Candidates that add no step.
 pub again-one : (d : ℕ) (c : Candidate) (cs : List Candidate) → c ∈ cs → Again d c cs

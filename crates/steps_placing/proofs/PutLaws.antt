@@ -125,12 +125,12 @@ classed-merged question part false quiet i class action x area count r area′ o
 pub merged-put : (question class result : List ℕ) (n : ℕ) (area : List ℕ) (count r : ℕ) (area′ arities : List ℕ) → AritiesIs question arities
     → (merged : List ℕ) → MergedIs result n arities class merged
     → PutResultIs class (record { kind = 0; channel = 0; object = 0 }) merged n area count r area′ → PutMergedIs question class result n area count r area′
-unfolding stepAction canonStep listedAs resultBytes AritiesIs
+unfolding stepAction receiving AritiesIs
 merged-put question class result n area count r area′ arities ar merged R p = record {
   is = λ q out x M A ok size classes scope v.
       let same : length (encode 0 (ren (cls M) A)) ≡ length (encode 0 A) = length-ren 0 0 (cls M) A in
       p .is out x M tauA A size
-      (record {
+      (rw (receiving-canonical x M tauA A) (record {
         fits = λ h.
             let f = v .fits (omega (arith, same)) in (
               omega (arith, f .0, same),
@@ -140,7 +140,7 @@ merged-put question class result n area count r area′ arities ar merged R p = 
                   ∙ ap (λ (k : ℕ). encode 0 (ren (cls M) A) ++ drop k out) (sym same) ∙ sym (sets-start out (encode 0 (ren (cls M) A)) (omega arith)),
             );
         over = λ h. v .over (omega (arith, same));
-      })
+      }))
       classes refl;
 }
 

@@ -23,7 +23,7 @@ use Rattle.terms_bytes.specs.Shape.{height}
 use Rattle.terms_bytes.proofs.Heights.{height-ren}
 use Rattle.steps_conditions.specs.Names.{HasNames, HasNew}
 use Rattle.steps_tallies.specs.Candidates.{candidates}
-use Rattle.steps_passing.specs.Passing.{counted, Does, opensAt}
+use Rattle.steps_passing.specs.Passing.{counted, Acts, opensAt}
 use Rattle.steps.specs.Raw.{Candidate, step, blocked}
 use Rattle.steps_plans.specs.Plans.{receiving, chosen, Asks, Writes, TermIs, WriteIs, beneath, entering}
 use Rattle.steps_conditions.specs.Slots.{slotOf}
@@ -183,9 +183,9 @@ swapped x ρ (suc (suc n)) = refl
 -- [Open] and [Res]: what is asked for beneath a restriction. Its candidate has the action β and the result B.
 module _ (names : List ℕ) (task : Task) (walks : task .still ≡ false) (D k o : ℕ) where
   -- the restricted name is sent exactly if the code finds so
-  open-sends : opensAt D k o ≡ true → (free : ℕ) → free ≤ tableNames → (σ : ℕ → ℕ) (β : Act) → Does free (1 + D) (lift σ) β k o → (B : Term) (α : Act) (A : Term) → Restricts β B α A
+  open-sends : opensAt D k o ≡ true → (free : ℕ) → free ≤ tableNames → (σ : ℕ → ℕ) (β : Act) → Acts free (1 + D) (lift σ) β k o → (B : Term) (α : Act) (A : Term) → Restricts β B α A
       → ((a : ℕ) × (β ≡ outA (suc a) zero) × (α ≡ boutA a) × (A ≡ B))
-  unfolding Does opensAt
+  unfolding Acts opensAt
   open-sends t free few σ β d B α A r =
       let (x, y) = both-true (eqb k 2) (eqb o (tableNames + D)) t in
       go β d (eqb-true k 2 x) (eqb-true o (tableNames + D) y) r
@@ -194,7 +194,7 @@ module _ (names : List ℕ) (task : Task) (walks : task .still ≡ false) (D k o
       inner-unsent zero l e f z = absurd (omega arith)
       inner-unsent (suc n) l e f z = below-level D n (omega arith) (sym (e ∙ slot-inner tableNames D n) ∙ f)
 
-      go : (β : Act) → Does free (1 + D) (lift σ) β k o → k ≡ 2 → o ≡ tableNames + D → Restricts β B α A → ((a : ℕ) × (β ≡ outA (suc a) zero) × (α ≡ boutA a) × (A ≡ B))
+      go : (β : Act) → Acts free (1 + D) (lift σ) β k o → k ≡ 2 → o ≡ tableNames + D → Restricts β B α A → ((a : ℕ) × (β ≡ outA (suc a) zero) × (α ≡ boutA a) × (A ≡ B))
       go tauA d x y r = absurd (omega arith)
       go (inpA a) d x y r = absurd (omega arith)
       go (boutA a) d x y r = absurd (omega arith)
@@ -204,7 +204,7 @@ module _ (names : List ℕ) (task : Task) (walks : task .still ≡ false) (D k o
 
   pub ask-open : tableNames + D < length names → opensAt D k o ≡ true → (body : ℕ → Term) (free : ℕ) (σ : ℕ → ℕ) (Q : Term) (bs : List ℕ) (top : ℕ) → free ≤ nameCount → (K : Asks names task body free D σ (res Q) bs top)
       → (β : Act) (B : Term) → Step (getD (candidates (task .silently) body (task .calls) (ren (lift σ) Q)) (task .number) blocked) β B
-      → Restricts β B (K .action) (K .result) → Does free (1 + D) (lift σ) β k o → Asks (entering D (task .new) names) task body free (1 + D) (lift σ) Q bs top
+      → Restricts β B (K .action) (K .result) → Acts free (1 + D) (lift σ) β k o → Asks (entering D (task .new) names) task body free (1 + D) (lift σ) Q bs top
   unfolding receiving HasNew
   ask-open room t body free σ Q bs top few K β B S r d =
       let (a, eβ, eα, eA) = open-sends t free (omega arith) σ β d B (K .action) (K .result) r in
@@ -230,8 +230,8 @@ module _ (names : List ℕ) (task : Task) (walks : task .still ≡ false) (D k o
       same (suc n) = refl
 
   -- the restricted name is not sent
-  not-sent : opensAt D k o ≡ false → (free : ℕ) (σ : ℕ → ℕ) (a : ℕ) → Does free (1 + D) (lift σ) (outA (suc a) zero) k o → ⊥
-  unfolding Does opensAt
+  not-sent : opensAt D k o ≡ false → (free : ℕ) (σ : ℕ → ℕ) (a : ℕ) → Acts free (1 + D) (lift σ) (outA (suc a) zero) k o → ⊥
+  unfolding Acts opensAt
   not-sent t free σ a d = sent-zero (d .1 .name) (d .1 .slot) (d .1 .is)
     where
       sent-zero : (n : ℕ) → o ≡ slotOf tableNames (1 + D) n → 0 ≡ lift σ n → ⊥
@@ -242,9 +242,9 @@ module _ (names : List ℕ) (task : Task) (walks : task .still ≡ false) (D k o
       sent-zero (suc n) e z = omega arith
 
   -- The bytes behind byte 08.
-  res-bytes : opensAt D k o ≡ false → (free : ℕ) (σ : ℕ → ℕ) (β : Act) → Does free (1 + D) (lift σ) β k o → (B : Term) (α : Act) (A : Term) → Restricts β B α A
+  res-bytes : opensAt D k o ≡ false → (free : ℕ) (σ : ℕ → ℕ) (β : Act) → Acts free (1 + D) (lift σ) β k o → (B : Term) (α : Act) (A : Term) → Restricts β B α A
       → (L x : ℕ) (ρ : ℕ → ℕ) → encode L (ren (receiving x ρ α) A) ≡ 8 ∷ encode (1 + L) (ren (receiving (suc x) (lift ρ) β) B)
-  unfolding Does receiving encode opensAt
+  unfolding Acts receiving encode opensAt
   res-bytes t free σ tauA d B α A (eα, eA) L x ρ = rw (eα, eA)
   res-bytes t free σ (inpA (suc a)) d B α A (eα, eA) L x ρ =
       rw (eα, eA) (ap (λ (T : Term). 8 ∷ encode (1 + L) T) (ren-triangle (lift (x • ρ)) swap (suc x • lift ρ) B (swapped x ρ)))
@@ -257,7 +257,7 @@ module _ (names : List ℕ) (task : Task) (walks : task .still ≡ false) (D k o
   res-bytes t free σ (boutA zero) d B α A r L x ρ = absurd r
 
   pub res-part : opensAt D k o ≡ false → (body : ℕ → Term) (free : ℕ) (σ : ℕ → ℕ) (Q : Term) (bs : List ℕ) (top : ℕ) → (K : Asks names task body free D σ (res Q) bs top)
-      → (β : Act) (B : Term) → Restricts β B (K .action) (K .result) → Does free (1 + D) (lift σ) β k o
+      → (β : Act) (B : Term) → Restricts β B (K .action) (K .result) → Acts free (1 + D) (lift σ) β k o
       → bs ≡ (8 ∷ []) ++ encode (task .levels + 1) (ren (receiving (suc (K .x)) (lift (K .ρ)) β) B)
   res-part t body free σ Q bs top K β B r d =
       let L = task .levels in
@@ -266,7 +266,7 @@ module _ (names : List ℕ) (task : Task) (walks : task .still ≡ false) (D k o
       ∙ ap (λ (n : ℕ). 8 ∷ encode n (ren (receiving (suc (K .x)) (lift (K .ρ)) β) B)) (sym e)
 
   -- the restriction is one binder more
-  res-height : opensAt D k o ≡ false → (free : ℕ) (σ : ℕ → ℕ) (β : Act) → Does free (1 + D) (lift σ) β k o → (B : Term) (α : Act) (A : Term) → Restricts β B α A
+  res-height : opensAt D k o ≡ false → (free : ℕ) (σ : ℕ → ℕ) (β : Act) → Acts free (1 + D) (lift σ) β k o → (B : Term) (α : Act) (A : Term) → Restricts β B α A
       → height A ≡ 1 + height B
   unfolding height
   res-height t free σ tauA d B α A (eα, eA) = ap height eA
@@ -279,7 +279,7 @@ module _ (names : List ℕ) (task : Task) (walks : task .still ≡ false) (D k o
   res-height t free σ (boutA zero) d B α A r = absurd r
 
   pub ask-res : tableNames + D < length names → opensAt D k o ≡ false → (body : ℕ → Term) (free : ℕ) (σ : ℕ → ℕ) (Q : Term) (bs : List ℕ) (top : ℕ) → free ≤ nameCount
-      → (K : Asks names task body free D σ (res Q) bs top) → (β : Act) (B : Term) → Restricts β B (K .action) (K .result) → Does free (1 + D) (lift σ) β k o
+      → (K : Asks names task body free D σ (res Q) bs top) → (β : Act) (B : Term) → Restricts β B (K .action) (K .result) → Acts free (1 + D) (lift σ) β k o
       → Step (getD (candidates (task .silently) body (task .calls) (ren (lift σ) Q)) (task .number) blocked) β B
       → Asks (entering D (tableNames + task .levels) names) (beneath task) body free (1 + D) (lift σ) Q (encode (task .levels + 1) (ren (receiving (suc (K .x)) (lift (K .ρ)) β) B)) top
   ask-res room t body free σ Q bs top few K β B r d S =

@@ -21,7 +21,7 @@ use Rattle.terms_bytes.specs.Shape.{height}
 use Rattle.terms_bytes.proofs.Heights.{height-ren}
 use Rattle.steps_conditions.specs.Names.{HasNames, HasNew}
 use Rattle.steps_tallies.specs.Candidates.{candidates}
-use Rattle.steps_passing.specs.Passing.{Sent, Does, PassIs, MiddleIs}
+use Rattle.steps_passing.specs.Passing.{Sent, Acts, PassIs, MiddleIs}
 use Rattle.steps.specs.Raw.{Candidate, step, blocked}
 use Rattle.steps_plans.specs.Plans.{receiving, chosen, Asks, resting, numbered, visibly, sending, closing, SplitIs, meetingPlan, Parts, PlanIs}
 use Rattle.steps_conditions.specs.Slots.{slotOf}
@@ -164,8 +164,8 @@ record Sends (free D : ℕ) (σ : ℕ → ℕ) (β : Act) (o : ℕ) : Type 0 whe
   is : β ≡ outA channel object
   sent : Sent free D σ object o
 
-sends : (free D : ℕ) (σ : ℕ → ℕ) (β : Act) (k o : ℕ) → Does free D σ β k o → k ≡ 2 → Sends free D σ β o
-unfolding Does
+sends : (free D : ℕ) (σ : ℕ → ℕ) (β : Act) (k o : ℕ) → Acts free D σ β k o → k ≡ 2 → Sends free D σ β o
+unfolding Acts
 sends free D σ tauA k o d e = absurd (omega arith)
 sends free D σ (inpA a) k o d e = absurd (omega arith)
 sends free D σ (outA a b) k o d e = record { channel = a; object = b; is = refl; sent = d .1 }
@@ -192,9 +192,9 @@ left-receives b y (boutA a) P Q A m = absurd m
 abbrev Bound : Act → Type 0
 Bound β = (x : ℕ) (ρ : ℕ → ℕ) → receiving x ρ β ≡ x • ρ
 
-both-bound : (free D : ℕ) (σ : ℕ → ℕ) (β : Act) (P : Term) (γ : Act) (Q A : Term) (k o l u : ℕ) → Meets β P γ Q A → Does free D σ β k o → Does free D σ γ l u
+both-bound : (free D : ℕ) (σ : ℕ → ℕ) (β : Act) (P : Term) (γ : Act) (Q A : Term) (k o l u : ℕ) → Meets β P γ Q A → Acts free D σ β k o → Acts free D σ γ l u
     → (k ≡ 2 → ⊥) → (l ≡ 2 → ⊥) → (A ≡ res (par P Q)) × Bound β × Bound γ
-unfolding Does receiving
+unfolding Acts receiving
 both-bound free D σ tauA P γ Q A k o l u m d e x y = absurd m
 both-bound free D σ (inpA a) P tauA Q A k o l u m d e x y = absurd m
 both-bound free D σ (inpA a) P (inpA b) Q A k o l u m d e x y = absurd m
@@ -224,8 +224,8 @@ lift-is ρ = fun-ext go
 -- A communication.
 record Met (free D : ℕ) (σ : ℕ → ℕ) (c d : Candidate) (α : Act) (A : Term) (x z : Passed) : Type 0 where
   meeting : Meeting c d α A
-  leftDoes : Does free D σ (meeting .leftAction) (x .kind) (x .object)
-  rightDoes : Does free D σ (meeting .rightAction) (z .kind) (z .object)
+  leftDoes : Acts free D σ (meeting .leftAction) (x .kind) (x .object)
+  rightDoes : Acts free D σ (meeting .rightAction) (z .kind) (z .object)
 
 module _ (question s : List ℕ) (at D : ℕ) (names : List ℕ) (task : Task) (walks : task .still ≡ false) (tally : List ℕ) (T : TallyIs question s (task .calls) tally)
     (m₀ : ℕ) (N : MiddleIs s tally at m₀) (some : at < length s)

@@ -25,7 +25,7 @@ use Rattle.steps_tallies.specs.Bodies.{AritiesIs, BodyIs, OpeningIs}
 use Rattle.terms.specs.Question.{bodyOf}
 use Rattle.steps_passing.specs.Branching.{Reaches, BranchIs}
 use Rattle.steps_tallies.specs.Candidates.{candidates}
-use Rattle.steps_passing.specs.Passing.{Does, PassIs, opensAt}
+use Rattle.steps_passing.specs.Passing.{Acts, PassIs, opensAt}
 use Rattle.steps.specs.Raw.{Candidate, step, blocked}
 use Rattle.steps_conditions.specs.Names.{Kept, CalledIs, UnchangedIs, TableIs}
 use Rattle.steps_plans.specs.Plans.{receiving, Asks, Written, Writes, StoreIs, TermIs, WriteIs, numbered, beneath, inside, entering, opening, Parts, PlanIs}
@@ -314,7 +314,7 @@ module _ (question s : List ℕ) (at D : ℕ) (names : List ℕ) (task : Task) (
     under : (q : Question) (free : ℕ) (σ : ℕ → ℕ) (Q : Term) (rest bs : List ℕ) (top : ℕ) → checkOf question ≡ result q → free ≤ nameCount
         → InScope free (q .arities) (1 + D) Q → drop (at + 1) s ≡ encode (1 + D) Q ++ rest → (K : Asks names task (bodyOf (q .bodies)) free D σ (res Q) bs top)
         → ((v : Under (getD (candidates (task .silently) (bodyOf (q .bodies)) (task .calls) (ren (lift σ) Q)) (task .number) blocked) (K .action) (K .result))
-        × Does free (1 + D) (lift σ) (v .action) (p .kind) (p .object))
+        × Acts free (1 + D) (lift σ) (v .action) (p .kind) (p .object))
     under q free σ Q rest bs top ok few scope st K =
         let body = bodyOf (q .bodies) in
         let d : D + 1 ≡ 1 + D = omega arith in

@@ -12,8 +12,8 @@ use Rattle.calculus.specs.Term.{Term, nil, tau, inp, out, bout, mat, sum, par, 
 use Rattle.terms.specs.Question.{bodyOf}
 use Rattle.steps.specs.Lists.{All}
 use Rattle.steps_tallies.specs.Candidates.{candidates}
-use Rattle.steps_passing.specs.Passing.{Does, PassIs, nothingSent}
-use Rattle.steps.specs.Raw.{Candidate, step, blocked, matching, leftSteps, rightSteps, communication, communications, sparesRestricted, outside, restrictedAction, restricted, visibleOf, silentOf, visibleCalls, silentCalls, silent}
+use Rattle.steps_passing.specs.Passing.{Acts, PassIs, nothingSent}
+use Rattle.steps.specs.Raw.{Candidate, step, blocked, matching, leftSteps, rightSteps, communication, communications, restrictedAlone, outside, restrictedAction, restricted, visibleOf, silentOf, visibleCalls, silentCalls, silent}
 use Rattle.steps.proofs.Membership.{all-++, all-map}
 use Rattle.steps_tallies.proofs.Premises.{meeting-of}
 
@@ -38,7 +38,7 @@ silent-right P blocked q = tt
 
 silent-restricted : (c : Candidate) → Silent c → Silent (restricted c)
 unfolding restricted restrictedAction
-silent-restricted (step M α A) q = subst (λ (α : Act). Silent (cond (sparesRestricted M) (restrictedAction (mapP outside M) α A) blocked)) (sym q) (go (sparesRestricted M))
+silent-restricted (step M α A) q = subst (λ (α : Act). Silent (cond (restrictedAlone M) (restrictedAction (mapP outside M) α A) blocked)) (sym q) (go (restrictedAlone M))
   where
     go : (b : Bool) → Silent (cond b (step (mapP outside M) tauA (res A)) blocked)
     go true = refl
@@ -90,9 +90,9 @@ nth-silent [] a i = tt
 nth-silent (c ∷ cs) a zero = a .0
 nth-silent (c ∷ cs) a (suc i) = nth-silent cs (a .1) i
 
-nothing : (free D : ℕ) (σ : ℕ → ℕ) (α : Act) → α ≡ tauA → Does free D σ α 0 0
-unfolding Does
-nothing free D σ α z = subst (λ (α : Act). Does free D σ α 0 0) (sym z) refl
+nothing : (free D : ℕ) (σ : ℕ → ℕ) (α : Act) → α ≡ tauA → Acts free D σ α 0 0
+unfolding Acts
+nothing free D σ α z = subst (λ (α : Act). Acts free D σ α 0 0) (sym z) refl
 
 pub silent-action : (body : ℕ → Term) (calls : ℕ) (P : Term) (i : ℕ) (M : Cond) (α : Act) (A : Term) → getD (silent body calls P) i blocked ≡ step M α A → α ≡ tauA
 unfolding silent

@@ -16,7 +16,7 @@ use Rattle.steps_tallies.specs.Bodies.{BodyIs, OpeningIs}
 use Rattle.terms.specs.Question.{bodyOf}
 use Rattle.steps_tallies.specs.Candidates.{candidates}
 use Rattle.steps_passing.specs.Passing.{MiddleIs}
-use Rattle.steps.specs.Raw.{Candidate, step, blocked, sparesRestricted, restrictedAction, restricted, silent, silentOf, silentCalls}
+use Rattle.steps.specs.Raw.{Candidate, step, blocked, restrictedAlone, restrictedAction, restricted, silent, silentOf, silentCalls}
 use Rattle.steps_tallies.specs.Tally.{silentAt, TallyIs}
 use Rattle.steps_tallies.specs.declared.bodies.Opening.{Opening}
 use Rattle.steps_passing.proofs.CalledPasses.{params, at-call}
@@ -26,7 +26,7 @@ use Rattle.steps_tallies.proofs.FrontLaws.{stands, behind}
 use Rattle.steps_tallies.proofs.Numbering.{nth-restricted}
 use Rattle.steps_passing.proofs.TwoSides.{at-left}
 use Rattle.steps_passing.proofs.TwoSides as two
-use Rattle.steps_rows.specs.Rows.{Unconditional, QuietIs}
+use Rattle.steps_rows.specs.Rows.{Unconditional, UnconditionalIs}
 
 -- Candidates that are steps without a condition: none, one, those of two terms, and those beneath a restriction.
 no-condition : (cs : List Candidate) → length cs ≡ 0 → Unconditional cs
@@ -53,7 +53,7 @@ both-unconditional ps qs f g j h = go (ltb j (length ps)) refl
         (A, ap (λ (k : ℕ). getD (ps ++ qs) k blocked) (sym k) ∙ getD-append-add ps qs (j - length ps) blocked ∙ e)
 
 restricted-unconditional : (cs : List Candidate) → Unconditional cs → Unconditional (map restricted cs)
-unfolding Unconditional restricted restrictedAction sparesRestricted
+unfolding Unconditional restricted restrictedAction restrictedAlone
 restricted-unconditional cs f j h =
     let (A, e) = f j (omega (arith, length-map cs restricted)) in
     (res A, nth-restricted cs j ∙ ap restricted e)
@@ -66,23 +66,23 @@ module _ (question s : List ℕ) (at calls : ℕ) where
   Stands q free D σ rest P = InScope free (q .arities) D P → drop at s ≡ encode D P ++ rest → Shows q σ P
 
   -- nothing is said
-  pub quiet-not : (r : Bool) → r ≡ false → QuietIs question s at calls r
-  quiet-not r f = record { is = λ q free D σ P rest t. let z : _≡_ {A = ℕ} 0 1 = cc in absurd (omega arith) }
+  pub unconditional-not : (r : Bool) → r ≡ false → UnconditionalIs question s at calls r
+  unconditional-not r f = record { is = λ q free D σ P rest t. let z : _≡_ {A = ℕ} 0 1 = cc in absurd (omega arith) }
 
   module _ (r : Bool) where
     -- no term stands past the end
-    pub quiet-none : length s ≤ at → QuietIs question s at calls r
-    quiet-none h = record { is = λ q free D σ P rest t ok scope st. let z = stands s at D P rest st in absurd (omega arith) }
+    pub unconditional-none : length s ≤ at → UnconditionalIs question s at calls r
+    unconditional-none h = record { is = λ q free D σ P rest t ok scope st. let z = stands s at D P rest st in absurd (omega arith) }
 
     -- the term has no silent candidate
-    pub quiet-idle : (numbers : List ℕ) → TallyIs question s calls numbers → silentAt numbers at ≡ 0 → QuietIs question s at calls r
-    quiet-idle numbers T z = record {
+    pub unconditional-idle : (numbers : List ℕ) → TallyIs question s calls numbers → silentAt numbers at ≡ 0 → UnconditionalIs question s at calls r
+    unconditional-idle numbers T z = record {
       is = λ q free D σ P rest t ok scope st. no-condition (silent (bodyOf (q .bodies)) calls (ren σ P)) (sym (T .is q at free D σ P rest ok scope st .1) ∙ z);
     }
 
-    pub quiet-prefix : getD s at 0 < 5 → QuietIs question s at calls r
+    pub unconditional-prefix : getD s at 0 < 5 → UnconditionalIs question s at calls r
     unfolding silent silentOf
-    quiet-prefix g = record {
+    unconditional-prefix g = record {
       is = λ q free D σ P rest t ok scope st.
           let k = tag-at s at D P rest st in
           only-prefix (Shows q σ) (no-condition [] refl) (λ P. one-unconditional (ren σ P)) (λ a P. no-condition [] refl) (λ a b P. no-condition [] refl) (λ a P. no-condition [] refl)
@@ -90,9 +90,9 @@ module _ (question s : List ℕ) (at calls : ℕ) where
     }
 
     -- [Res]
-    pub quiet-res : getD s at 0 ≡ 8 → QuietIs question s (at + 1) calls r → QuietIs question s at calls r
+    pub unconditional-res : getD s at 0 ≡ 8 → UnconditionalIs question s (at + 1) calls r → UnconditionalIs question s at calls r
     unfolding silent silentOf InScope encode
-    quiet-res g X = record {
+    unconditional-res g X = record {
       is = λ q free D σ P rest t ok scope st. only-res (Stands q free D σ rest)
           (λ P scope st. restricted-unconditional (silent (bodyOf (q .bodies)) calls (ren (lift σ) P))
           (X .is q free (1 + D) (lift σ) P rest t ok scope (behind s at 1 (8 ∷ []) (encode (1 + D) P ++ rest) st refl)))
@@ -100,10 +100,10 @@ module _ (question s : List ℕ) (at calls : ℕ) where
     }
 
     -- [Sum]
-    pub quiet-sum : getD s at 0 ≡ 6 → (numbers : List ℕ) → TallyIs question s calls numbers → (middle : ℕ) → MiddleIs s numbers at middle
-        → (r₁ : Bool) → r₁ ≡ true → QuietIs question s (at + 1) calls r₁ → QuietIs question s middle calls r → QuietIs question s at calls r
+    pub unconditional-sum : getD s at 0 ≡ 6 → (numbers : List ℕ) → TallyIs question s calls numbers → (middle : ℕ) → MiddleIs s numbers at middle
+        → (r₁ : Bool) → r₁ ≡ true → UnconditionalIs question s (at + 1) calls r₁ → UnconditionalIs question s middle calls r → UnconditionalIs question s at calls r
     unfolding silent silentOf InScope encode
-    quiet-sum g numbers T middle N r₁ t₁ X Y = record {
+    unconditional-sum g numbers T middle N r₁ t₁ X Y = record {
       is = λ q free D σ P rest t ok scope st. only-sum (Stands q free D σ rest)
           (λ P Q scope st.
           let u = at-left D s at P Q rest 6 st in
@@ -116,17 +116,17 @@ module _ (question s : List ℕ) (at calls : ℕ) where
     -- [Con]
     module _ (g : 8 < getD s at 0) (o : Opening) (O : OpeningIs question s at calls o) where
       -- no call is left to open, or the question is not accepted
-      pub quiet-closed : o .allowed ≡ false → QuietIs question s at calls r
+      pub unconditional-closed : o .allowed ≡ false → UnconditionalIs question s at calls r
       unfolding silent silentOf silentCalls
-      quiet-closed z = record {
+      unconditional-closed z = record {
         is = λ q free D σ P rest t ok scope st.
             at-call question s at D calls true 0 g (o .definition) (o .arity) (O .definition) (O .arity) (Shows q σ) q free P rest ok scope st
             (λ xs e a k names st. subst (λ (c : ℕ). Unconditional (silent (bodyOf (q .bodies)) c (call (o .definition) (map σ xs)))) (sym (O .not z q ok k)) (no-condition [] refl));
       }
 
-      pub quiet-called : 0 < calls → (bytes : List ℕ) → BodyIs question (o .definition) bytes → QuietIs question bytes 0 (calls - 1) r → QuietIs question s at calls r
+      pub unconditional-called : 0 < calls → (bytes : List ℕ) → BodyIs question (o .definition) bytes → UnconditionalIs question bytes 0 (calls - 1) r → UnconditionalIs question s at calls r
       unfolding candidates
-      quiet-called z bytes B X = record {
+      unconditional-called z bytes B X = record {
         is = λ q free D σ P rest t ok scope st.
             let body = bodyOf (q .bodies) in
             let k = o .definition in

@@ -14,7 +14,7 @@ use Rattle.calculus.specs.Cond.{Cond, mapP, canonical, matchesBelow, above}
 use Rattle.calculus.specs.Term.{Term, par, res, ren}
 use Rattle.terms.specs.Limits.{nameCount}
 use Rattle.steps_conditions.specs.Labels.{actionOf, ActionBelow}
-use Rattle.steps.specs.Raw.{Candidate, step, blocked, matching, leftSteps, rightSteps, sparesRestricted, outside, restrictedAction, restricted, visible, visibleOf}
+use Rattle.steps.specs.Raw.{Candidate, step, blocked, matching, leftSteps, rightSteps, restrictedAlone, outside, restrictedAction, restricted, visible, visibleOf}
 use Rattle.steps.specs.Lists.{_∈_, Among}
 use Rattle.steps_conditions.specs.Slots.{slotOf}
 use Rattle.steps_conditions.specs.declared.action.Action.{Action}
@@ -24,7 +24,7 @@ use Rattle.steps_conditions.proofs.NameSlots.{slot-inner}
 use Rattle.steps_tallies.proofs.Numbering.{nth-matching, nth-leftSteps, nth-rightSteps, nth-restricted}
 use Rattle.steps_conditions.proofs.SlotLaws.{slot-restricted, slot-outside}
 use Rattle.steps_placing.specs.Deciding.{fails, decided, Again}
-use Rattle.steps_rows.specs.Rows.{rowBytes, kindAt, channelAt, objectAt, actionKind, rowAction, Does, Outlined, Row, RowsBehind, Rows, Matched, RowsKept}
+use Rattle.steps_rows.specs.Rows.{rowBytes, kindAt, channelAt, objectAt, actionKind, rowAction, RowActs, Outlined, Row, RowsBehind, Rows, Matched, RowsKept}
 use Rattle.steps_placing.proofs.DecidingLaws.{by-fails, decided-matching, decided-left, decided-right, decided-restricted, decided-trivial, again-more, again-by, again-trivial}
 
 -- The action of a row.
@@ -128,7 +128,7 @@ pub plain-step : (d kind channel object : ℕ) (c : Candidate) → kind ≤ 3 �
 unfolding actionKind
 plain-step d kind channel object c few O h = go (O .acts h)
   where
-    go : ((3 < kind) × (c ≡ blocked)) ⊎ Does d kind channel object c → Acts d kind channel object d [] c
+    go : ((3 < kind) × (c ≡ blocked)) ⊎ RowActs d kind channel object c → Acts d kind channel object d [] c
     go (inl (m, e)) = absurd (omega arith)
     go (inr D) =
         let t : actionOf d (D .action) ≡ rowAction d kind channel object = rw (le-ltb 4 kind (omega arith)) at (D .acts) in
@@ -140,9 +140,9 @@ blocked-both false c e = refl
 
 module _ (d kind channel object : ℕ) where
   -- its condition may name the restricted name, and then it is blocked
-  does-restricted : (c : Candidate) → channel < nameCount + d → (D : Does (1 + d) kind channel object c) (b : Bool) → sparesRestricted (D .condition) ≡ b
-      → ((3 < kind) × (restricted c ≡ blocked)) ⊎ Does d kind channel object (restricted c)
-  unfolding restricted sparesRestricted
+  does-restricted : (c : Candidate) → channel < nameCount + d → (D : RowActs (1 + d) kind channel object c) (b : Bool) → restrictedAlone (D .condition) ≡ b
+      → ((3 < kind) × (restricted c ≡ blocked)) ⊎ RowActs d kind channel object (restricted c)
+  unfolding restricted restrictedAlone
   does-restricted c h D true b =
       let (α, A, e, act, below) = passes d (actionKind kind) channel object h (mapP outside (D .condition)) (D .action) (D .result) (D .acts) (D .below) in
       inr (record {
@@ -163,7 +163,7 @@ module _ (d kind channel object : ℕ) where
       more : (t : Bool) → ltb 3 kind ≡ t → 3 < kind
       more true t = ltb-true 3 kind t
       more false t =
-          let e : true ≡ false = sym (ap sparesRestricted (D .plain (ltb-false 3 kind t))) ∙ b in
+          let e : true ≡ false = sym (ap restrictedAlone (D .plain (ltb-false 3 kind t))) ∙ b in
           let z : _≡_ {A = ℕ} 0 1 = cc in absurd (omega arith)
 
   pub outlined-restricted : (c : Candidate) → Outlined (1 + d) c kind channel object → Outlined d (restricted c) kind channel object
@@ -171,13 +171,13 @@ module _ (d kind channel object : ℕ) where
   outlined-restricted c O = record {
     known = O .known;
     inner = λ h. go h (ltb channel (nameCount + (1 + d))) refl;
-    acts = λ h. ⊎-elim (λ p. inl (p .0, ap restricted (p .1))) (λ D. does-restricted c h D (sparesRestricted (D .condition)) refl) (O .acts (omega arith));
+    acts = λ h. ⊎-elim (λ p. inl (p .0, ap restricted (p .1))) (λ D. does-restricted c h D (restrictedAlone (D .condition)) refl) (O .acts (omega arith));
   }
     where
-      stopped : nameCount + d ≤ channel → channel < nameCount + (1 + d) → Does (1 + d) kind channel object c → restricted c ≡ blocked
+      stopped : nameCount + d ≤ channel → channel < nameCount + (1 + d) → RowActs (1 + d) kind channel object c → restricted c ≡ blocked
       stopped h l D =
           ap restricted (D .is)
-          ∙ blocked-both (sparesRestricted (D .condition)) (restrictedAction (mapP outside (D .condition)) (D .action) (D .result))
+          ∙ blocked-both (restrictedAlone (D .condition)) (restrictedAction (mapP outside (D .condition)) (D .action) (D .result))
           (stops d (actionKind kind) channel object (omega arith) (mapP outside (D .condition)) (D .action) (D .result) (D .acts) (D .below))
 
       go : nameCount + d ≤ channel → (t : Bool) → ltb channel (nameCount + (1 + d)) ≡ t → restricted c ≡ blocked
@@ -219,7 +219,7 @@ module _ (d kind channel object : ℕ) where
   }
 
   -- without a match nothing is decided
-  plain-fails : {c : Candidate} (D : Does d kind channel object c) → fails d (D .condition) ≡ true → 3 < kind
+  plain-fails : {c : Candidate} (D : RowActs d kind channel object c) → fails d (D .condition) ≡ true → 3 < kind
   unfolding fails
   plain-fails D f = go (ltb 3 kind) refl
     where
@@ -229,7 +229,7 @@ module _ (d kind channel object : ℕ) where
           let e : true ≡ false = sym f ∙ ap (fails d) (D .plain (ltb-false 3 kind t)) in
           let z : _≡_ {A = ℕ} 0 1 = cc in absurd (omega arith)
 
-  plain-form : {c : Candidate} (D : Does d kind channel object c) → kind ≤ 3 → canonical (D .condition) ≡ []
+  plain-form : {c : Candidate} (D : RowActs d kind channel object c) → kind ≤ 3 → canonical (D .condition) ≡ []
   unfolding canonical matchesBelow above
   plain-form D few = ap canonical (D .plain few)
 
@@ -240,8 +240,8 @@ module _ (d kind channel object : ℕ) where
     known = O .known;
     inner = λ h. ap (decided d) (O .inner h);
     acts = λ h. ⊎-elim (λ p. inl (p .0, ap (decided d) (p .1))) (λ D.
-        subst (λ (c : Candidate). ((3 < kind) × (c ≡ blocked)) ⊎ Does d kind channel object c) (sym (ap (decided d) (D .is)))
-        (by-fails d (λ (c : Candidate). ((3 < kind) × (c ≡ blocked)) ⊎ Does d kind channel object c) (D .condition) (D .action) (D .result)
+        subst (λ (c : Candidate). ((3 < kind) × (c ≡ blocked)) ⊎ RowActs d kind channel object c) (sym (ap (decided d) (D .is)))
+        (by-fails d (λ (c : Candidate). ((3 < kind) × (c ≡ blocked)) ⊎ RowActs d kind channel object c) (D .condition) (D .action) (D .result)
         (λ f. inl (plain-fails D f, refl))
         (λ f. inr (record { condition = canonical (D .condition); action = D .action; result = D .result; is = refl; plain = plain-form D; acts = D .acts; below = D .below }))))
         (O .acts h);

@@ -56,7 +56,7 @@ rowAction d kind channel object =
     cond (eqb kind 1) (Input channel) (cond (eqb kind 2 && ltb object (nameCount + d)) (Output channel object) (NewOutput channel))
 
 -- A candidate under d restrictions is a step with the action of its row, which has a condition only beneath a match.
-pub record Does (d kind channel object : ℕ) (c : Candidate) : Type 0 where
+pub record RowActs (d kind channel object : ℕ) (c : Candidate) : Type 0 where
   pub condition : Cond
   pub action : Act
   pub result : Term
@@ -69,7 +69,7 @@ pub record Does (d kind channel object : ℕ) (c : Candidate) : Type 0 where
 pub record Outlined (d : ℕ) (c : Candidate) (kind channel object : ℕ) : Type 0 where
   pub known : 0 < kind
   pub inner : nameCount + d ≤ channel → c ≡ blocked
-  pub acts : channel < nameCount + d → ((3 < kind) × (c ≡ blocked)) ⊎ Does d kind channel object c
+  pub acts : channel < nameCount + d → ((3 < kind) × (c ≡ blocked)) ⊎ RowActs d kind channel object c
 
 -- What the row says holds once the matches that can be are decided.
 unfoldable pub Row : ℕ → Candidate → List ℕ → ℕ → Type 0
@@ -148,7 +148,7 @@ Unconditional cs = (j : ℕ) → j < length cs → (A : Term) × (getD cs j bloc
 
 -- Whether the term at `at` has neither a match nor a parallel above its silent prefixes, in a called body either: then its silent candidates have no
 -- condition.
-pub record QuietIs (question s : List ℕ) (at calls : ℕ) (r : Bool) : Type 0 where
+pub record UnconditionalIs (question s : List ℕ) (at calls : ℕ) (r : Bool) : Type 0 where
   pub is : (q : Question) (free D : ℕ) (σ : ℕ → ℕ) (P : Term) (rest : List ℕ)
       → r ≡ true
       → checkOf question ≡ result q

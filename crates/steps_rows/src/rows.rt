@@ -8,7 +8,7 @@ ghost use Rattle.terms.specs.Limits.{nameCount, longestTerm};
 ghost use Rattle.steps_labels.specs.LabelWalk.{Within};
 ghost use Rattle.steps_conditions.specs.Slots.{slotCount};
 ghost use Rattle.steps_tallies.specs.Tally.{EndsInside, TallyIs, EndsTallied, BodiesTallied};
-ghost use Rattle.steps_rows.specs.Rows.{HasRows, PutRowIs, prefixKind, PrefixRowIs, PutRepeatedIs, rootOf, ScanIs, QuietIs};
+ghost use Rattle.steps_rows.specs.Rows.{HasRows, PutRowIs, prefixKind, PrefixRowIs, PutRepeatedIs, rootOf, ScanIs, UnconditionalIs};
 ghost use Rattle.steps_equal_branches.specs.BranchRows.{isTrivial, isFailing, behindPiece, RepeatedIs};
 use steps_equal_branches::same::same_branch;
 use steps_labels::label::Scope;
@@ -427,9 +427,9 @@ pub fn scan(
 }
 
 // The call at `at`: the body, while calls are left to open.
-fn quiet_call(question: &[u8], bodies: &[u32], src: &[u8], at: usize, calls: usize) -> bool
+fn unconditional_call(question: &[u8], bodies: &[u32], src: &[u8], at: usize, calls: usize) -> bool
     requires { ⌜ (at < length (now src)) × (8 < getD (now src) at 0) × (calls ≤ 1) × BodiesTallied (now question) (now bodies) ⌝ }
-    ensures { λ r. ⌜ QuietIs (now (question .entry)) (now (src .entry)) at calls r ⌝ }
+    ensures { λ r. ⌜ UnconditionalIs (now (question .entry)) (now (src .entry)) at calls r ⌝ }
 {
     let o = call_at(question, bodies, src, at, calls);
     if !o.allowed {
@@ -437,11 +437,11 @@ fn quiet_call(question: &[u8], bodies: &[u32], src: &[u8], at: usize, calls: usi
     }
     let body = body_at(question, o.place);
     let within = body_tally(bodies, o.definition);
-    quiet(question, bodies, body, within, 0, calls - 1)
+    unconditional(question, bodies, body, within, 0, calls - 1)
 }
 
 // Whether the silent candidates of the term at `at` have no condition: neither a match nor a parallel stands above a silent prefix.
-pub fn quiet(
+pub fn unconditional(
     question: &[u8],
     bodies: &[u32],
     src: &[u8],
@@ -450,7 +450,7 @@ pub fn quiet(
     calls: usize,
 ) -> bool
     requires { ⌜ (length (now src) ≤ longestTerm) × (calls ≤ 1) × TallyIs (now question) (now src) calls (now tally) × BodiesTallied (now question) (now bodies) ⌝ }
-    ensures { λ r. ⌜ QuietIs (now (question .entry)) (now (src .entry)) at calls r ⌝ }
+    ensures { λ r. ⌜ UnconditionalIs (now (question .entry)) (now (src .entry)) at calls r ⌝ }
 {
     if src.len() <= at {
         return true;
@@ -463,17 +463,17 @@ pub fn quiet(
         return true;
     }
     if t == RESTRICTION {
-        return quiet(question, bodies, src, tally, at + 1, calls);
+        return unconditional(question, bodies, src, tally, at + 1, calls);
     }
     if RESTRICTION < t {
-        return quiet_call(question, bodies, src, at, calls);
+        return unconditional_call(question, bodies, src, at, calls);
     }
     if t != CHOICE {
         return false;
     }
     let middle = middle_of(src, tally, at);
-    if !quiet(question, bodies, src, tally, at + 1, calls) {
+    if !unconditional(question, bodies, src, tally, at + 1, calls) {
         return false;
     }
-    quiet(question, bodies, src, tally, middle, calls)
+    unconditional(question, bodies, src, tally, middle, calls)
 }

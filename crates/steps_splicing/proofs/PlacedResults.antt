@@ -23,7 +23,7 @@ use Rattle.steps_plans.proofs.ResultLaws.{written-of}
 use Rattle.steps_conditions.specs.Names.{OwnNames}
 use Rattle.steps_tallies.specs.Candidates.{candidates}
 use Rattle.steps.specs.Forms.{resultForm}
-use Rattle.steps.specs.Raw.{step, blocked, leftSteps, rightSteps, sparesRestricted, outside, restrictedAction, restricted}
+use Rattle.steps.specs.Raw.{step, blocked, leftSteps, rightSteps, restrictedAlone, outside, restrictedAction, restricted}
 use Rattle.steps_plans.specs.Plans.{receiving, chosen, Written, WriteIs}
 use Rattle.steps_tallies.specs.Tally.{endAt, TallyIs}
 use Rattle.steps_conditions.proofs.NameSlots.{names-own, new-own}
@@ -55,7 +55,7 @@ unfolding raised leftSteps rightSteps restricted restrictedAction
 stays-new [] M a A M′ α A′ e = let f : boutA a ≡ α = cc in subst NewName f _
 stays-new (leftOf Q ∷ K) M a A M′ α A′ e = stays-new K M a (par A (weak (boutA a) Q)) M′ α A′ e
 stays-new (rightOf P ∷ K) M a A M′ α A′ e = stays-new K M a (par (weak (boutA a) P) A) M′ α A′ e
-stays-new (beneath ∷ K) M a A M′ α A′ e = go (stays-new K) (sparesRestricted M) a e
+stays-new (beneath ∷ K) M a A M′ α A′ e = go (stays-new K) (restrictedAlone M) a e
   where
     go : StaysNew K → (t : Bool) (a : ℕ) → raised K (cond t (restrictedAction (mapP outside M) (boutA a) A) blocked) ≡ step M′ α A′ → NewName α
     go f true zero e = raised-never K M′ α A′ e
@@ -98,7 +98,7 @@ Filled K M′ α′ A′ x =
 
 filled-beneath : (K : List Frame) (M′ : Cond) (α′ : Act) (A′ : Term) (x : ℕ) → Filled K M′ α′ A′ x → Filled (beneath ∷ K) M′ α′ A′ x
 unfolding raised restricted restrictedAction fill levelIn receiving Unopened
-filled-beneath K M′ α′ A′ x f M α A e u = go (sparesRestricted M) α e u
+filled-beneath K M′ α′ A′ x f M α A e u = go (restrictedAlone M) α e u
   where
     N : Cond
     N = mapP outside M

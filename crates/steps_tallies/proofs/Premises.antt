@@ -7,7 +7,7 @@ use native.Mathlib.Omega.{arith}
 use Rattle.calculus.specs.Abstraction.{Act, tauA, inpA, outA, boutA, weak, swap}
 use Rattle.calculus.specs.Cond.{Cond, mapP}
 use Rattle.calculus.specs.Term.{Term, par, res, ren, inst}
-use Rattle.steps.specs.Raw.{Candidate, step, blocked, matching, leftSteps, rightSteps, meet, communication, sparesRestricted, outside, restrictedAction, restricted}
+use Rattle.steps.specs.Raw.{Candidate, step, blocked, matching, leftSteps, rightSteps, meet, communication, restrictedAlone, outside, restrictedAction, restricted}
 
 pub never : {T : Type 0} (M : Cond) (α : Act) (A : Term) → blocked ≡ step M α A → T
 never M α A e = let z : _≡_ {A = ℕ} 0 1 = cc in absurd (omega arith)
@@ -78,7 +78,7 @@ restricts-of N (boutA (suc a)) B M α A e = (cc, cc)
 
 pub under-of : (c : Candidate) (M : Cond) (α : Act) (A : Term) → restricted c ≡ step M α A → Under c α A
 unfolding restricted
-under-of (step N β B) M α A e = go (sparesRestricted N) e
+under-of (step N β B) M α A e = go (restrictedAlone N) e
   where
     go : (t : Bool) → cond t (restrictedAction (mapP outside N) β B) blocked ≡ step M α A → Under (step N β B) α A
     go true e = record { action = β; result = B; premise = record { condition = N; is = refl }; restricts = restricts-of (mapP outside N) β B M α A e }

@@ -1,4 +1,5 @@
 pub mod RawBounds
+pub mod RawRoom
+pub mod TidiedQuestions
 pub mod TidiedResults
-pub mod TidyLists
 pub mod Unrestricted

@@ -17,14 +17,14 @@ use Rattle.terms_bytes.specs.Shape.{height}
 use Rattle.terms_bytes.proofs.Heights.{height-ren}
 use Rattle.terms_tidying.proofs.TidyCounts.{restrictions, restrictions-ren}
 use Rattle.steps.specs.Lists.{All}
-use Rattle.steps.specs.Raw.{Candidate, step, blocked, matching, leftSteps, rightSteps, meet, communication, communications, sparesRestricted, outside, restrictedAction, restricted, visibleOf, silentOf, visibleCalls, silentCalls, visible, silent}
+use Rattle.steps.specs.Raw.{Candidate, step, blocked, matching, leftSteps, rightSteps, meet, communication, communications, restrictedAlone, outside, restrictedAction, restricted, visibleOf, silentOf, visibleCalls, silentCalls, visible, silent}
 use Rattle.steps.proofs.Membership.{all-++, all-imp, all-map}
 
 -- The bytes of a term, whatever stands around it.
 abbrev pub size : Term → ℕ
 size P = length (encode 0 P)
 
-size-at : (d : ℕ) (P : Term) → length (encode d P) ≡ size P
+pub size-at : (d : ℕ) (P : Term) → length (encode d P) ≡ size P
 size-at d P = sym (ap (λ Q. length (encode d Q)) (ren-id P)) ∙ length-ren 0 d (λ n. n) P
 
 size-ren : (ρ : ℕ → ℕ) (P : Term) → size (ren ρ P) ≡ size P
@@ -59,7 +59,7 @@ abbrev pub Within : ℕ → ℕ → Candidate → Type 0
 Within s h (step M α A) = (size A ≤ s) × (height A ≤ h)
 Within s h blocked = Unit {0}
 
-within-more : (s t h k : ℕ) → s ≤ t → h ≤ k → (c : Candidate) → Within s h c → Within t k c
+pub within-more : (s t h k : ℕ) → s ≤ t → h ≤ k → (c : Candidate) → Within s h c → Within t k c
 within-more s t h k l m (step M α A) (a, b) = (omega arith, omega arith)
 within-more s t h k l m blocked w = tt
 
@@ -92,7 +92,7 @@ within-action s h M (boutA (suc c)) A a b = (omega (arith, size-res (ren swap A)
 
 within-restricted : (s h : ℕ) (c : Candidate) → Within s h c → Within (1 + s) (1 + h) (restricted c)
 unfolding restricted
-within-restricted s h (step M α A) (a, b) = go (sparesRestricted M)
+within-restricted s h (step M α A) (a, b) = go (restrictedAlone M)
   where
     go : (t : Bool) → Within (1 + s) (1 + h) (cond t (restrictedAction (mapP outside M) α A) blocked)
     go true = within-action s h (mapP outside M) α A a b

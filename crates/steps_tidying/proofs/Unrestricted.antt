@@ -8,6 +8,7 @@ use Rattle.calculus.specs.Cond.{Cond, cls}
 use Rattle.calculus.specs.Definitions.{at, opened}
 use Rattle.calculus.specs.Term.{Term, nil, tau, inp, out, bout, mat, sum, par, res, call, lift, ren, inst, _•_}
 use Rattle.calculus.specs.Tidy.{tidy}
+use Rattle.terms_tidying.specs.Restrictions.{Unrestricted}
 use Rattle.steps.specs.Forms.{asItIs}
 use Rattle.steps.specs.Listed.{listedAs, canonStep}
 use Rattle.steps.specs.Listing.{collect, insert}
@@ -15,18 +16,6 @@ use Rattle.steps.specs.Listed.{ListedStep}
 use Rattle.steps.specs.Lists.{All}
 use Rattle.steps.specs.Raw.{Candidate, step, blocked, matching, leftSteps, rightSteps, meet, communication, communications, visibleOf, silentOf, visibleCalls, silentCalls, visible, silent}
 use Rattle.steps.proofs.Membership.{all-++, all-map}
-
-abbrev pub Unrestricted : Term → Type 0
-Unrestricted nil = Unit
-Unrestricted (tau P) = Unrestricted P
-Unrestricted (inp a P) = Unrestricted P
-Unrestricted (out a b P) = Unrestricted P
-Unrestricted (bout a P) = ⊥
-Unrestricted (mat a b P) = Unrestricted P
-Unrestricted (sum P Q) = Unrestricted P × Unrestricted Q
-Unrestricted (par P Q) = Unrestricted P × Unrestricted Q
-Unrestricted (res P) = ⊥
-Unrestricted (call k xs) = Unit
 
 pub unrestricted-tidied : (P : Term) → Unrestricted P → tidy P ≡ P
 unfolding tidy

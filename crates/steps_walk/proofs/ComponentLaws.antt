@@ -18,7 +18,7 @@ use Rattle.steps_conditions.specs.Labels.{actionOf}
 use Rattle.terms.specs.Question.{bodyOf}
 use Rattle.steps_conditions.specs.Names.{OwnNames}
 use Rattle.steps_tallies.specs.Candidates.{candidates}
-use Rattle.steps.specs.Raw.{Candidate, step, blocked, leftSteps, rightSteps, sparesRestricted, restrictedAction, restricted, visible, silent}
+use Rattle.steps.specs.Raw.{Candidate, step, blocked, leftSteps, rightSteps, restrictedAlone, restrictedAction, restricted, visible, silent}
 use Rattle.steps_tallies.specs.Tally.{silentAt, TallyIs}
 use Rattle.steps.proofs.Membership.{take-map}
 use Rattle.steps_tallies.proofs.Numbering.{nth-by}
@@ -28,7 +28,7 @@ use Rattle.steps_placing.specs.Deciding.{decided, Again}
 use Rattle.steps.specs.Limits.{mostSteps}
 use Rattle.steps_splicing.specs.ListedParts.{Lists}
 use Rattle.steps_placing.specs.Taking.{candidatesOf, TakeIs}
-use Rattle.steps_rows.specs.Rows.{kindAt, channelAt, objectAt, rowAction, Outlined, Row, RowsBehind, Rows, Unconditional, QuietIs}
+use Rattle.steps_rows.specs.Rows.{kindAt, channelAt, objectAt, rowAction, Outlined, Row, RowsBehind, Rows, Unconditional, UnconditionalIs}
 use Rattle.steps_walk.specs.Walking.{rowOpens, rowObject, TakeRowIs, TakeRowsIs, TakeSilentIs}
 use Rattle.steps_splicing.specs.PlacedResults.{Unopened, Trivial}
 use Rattle.steps_entries.specs.StepActions.{stepAction}
@@ -53,7 +53,7 @@ outlined-raised (beneath ∷ K) c k a o h =
 
 -- A silent step without a condition stays one.
 raised-silent : (K : List Frame) (A : Term) → (B : Term) × (raised K (step [] tauA A) ≡ step [] tauA B)
-unfolding raised leftSteps rightSteps restricted sparesRestricted restrictedAction
+unfolding raised leftSteps rightSteps restricted restrictedAlone restrictedAction
 raised-silent [] A = (A, refl)
 raised-silent (leftOf Q ∷ K) A = raised-silent K _
 raised-silent (rightOf P ∷ K) A = raised-silent K _
@@ -300,14 +300,14 @@ module _ (question part : List ℕ) (at depth number j x : ℕ) (area : List ℕ
       → Placed (q .arities) (bodyOf (q .bodies)) P K C at depth first number → j < length (silent (bodyOf (q .bodies)) 1 C)
       → PutIs (raised K (getD (silent (bodyOf (q .bodies)) 1 C) j blocked)) x area n m area′
 
-  pub silent-placed : QuietIs question part at 1 true
+  pub silent-placed : UnconditionalIs question part at 1 true
       → PutPlacedIs question part at depth true j (record { kind = 0; channel = 0; object = 0 }) x area n m area′ → OneSilent
   unfolding Unconditional candidates stepAction Unopened
-  silent-placed quiet put q P l K C first p h =
+  silent-placed unconditional put q P l K C first p h =
       let cs : List Candidate = silent (bodyOf (q .bodies)) 1 C in
       let plain : Unconditional cs =
       subst (λ (Q : Term). Unconditional (silent (bodyOf (q .bodies)) 1 Q)) (ren-id C)
-      (quiet .is q nameCount depth (λ n. n) C _ refl (l .accepted) (p .scope) (placed-bytes l p)) in
+      (unconditional .is q nameCount depth (λ n. n) C _ refl (l .accepted) (p .scope) (placed-bytes l p)) in
       let (A, e) = plain j h in
       let (B, d) = raised-silent K A in
       subst (λ c. PutIs c x area n m area′) (sym (ap (raised K) e ∙ d))

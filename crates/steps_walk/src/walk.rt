@@ -4,7 +4,7 @@ ghost use mathlib.Core.Path.{_≡_};
 ghost use mathlib.Core.Bool.{true};
 ghost use Prim.Native.Nat.{ℕ, _+_, _*_, _≤_, _<_};
 ghost use lib.ListN.{length, getD};
-ghost use Rattle.steps_rows.specs.Rows.{rowBytes, mostRows, QuietIs};
+ghost use Rattle.steps_rows.specs.Rows.{rowBytes, mostRows, UnconditionalIs};
 ghost use Rattle.steps_splicing.specs.Ready.{Inside};
 ghost use Rattle.steps_placing.specs.Putting.{CanPut};
 ghost use Rattle.steps_walk.specs.Walking.{mostNumber, rowOpens, rowObject, TakeRowIs, TakeRowsIs, TakeSilentIs, WalkIs};
@@ -25,8 +25,8 @@ use steps_rows::rows::MOST_ROWS;
 use steps_rows::rows::REPEATED;
 use steps_rows::rows::ROW_BYTES;
 use steps_rows::rows::RowBranch;
-use steps_rows::rows::quiet;
 use steps_rows::rows::scan;
+use steps_rows::rows::unconditional;
 use steps_splicing::splice::Position;
 use steps_splicing::splice::Selection;
 use steps_splicing::splice::own_names;
@@ -180,7 +180,7 @@ fn take_rows(
 }
 
 // Puts the silent candidates of a component into the list, where they have no condition.
-fn take_quiet(
+fn take_unconditional(
     question: &[u8],
     bodies: &[u32],
     part: &[u8],
@@ -189,7 +189,7 @@ fn take_quiet(
     area: &mut [u8],
     count: usize,
 ) -> usize
-    requires { ⌜ CanPut (now question) (now bodies) (now part) (now tally) (now area) count × Inside (now part) (node .at) (node .depth) × QuietIs (now question) (now part) (node .at) 1 true ⌝ }
+    requires { ⌜ CanPut (now question) (now bodies) (now part) (now tally) (now area) count × Inside (now part) (node .at) (node .depth) × UnconditionalIs (now question) (now part) (node .at) 1 true ⌝ }
     ensures { λ r. ⌜ TakeSilentIs (now (question .entry)) (now (part .entry)) (node .at) (node .depth) (node .number) (node .x) (now (area .entry)) count r (now (area .exit)) ⌝ }
 {
     let at = node.at;
@@ -272,8 +272,8 @@ fn take_silent(
     requires { ⌜ CanPut (now question) (now bodies) (now part) (now tally) (now area) count × Inside (now part) (node .at) (node .depth) × (node .number ≤ node .at * mostNumber) ⌝ }
     ensures { λ r. ⌜ TakeSilentIs (now (question .entry)) (now (part .entry)) (node .at) (node .depth) (node .number) (node .x) (now (area .entry)) count r (now (area .exit)) ⌝ }
 {
-    if quiet(question, bodies, part, tally, node.at, 1) {
-        return take_quiet(question, bodies, part, tally, node, area, count);
+    if unconditional(question, bodies, part, tally, node.at, 1) {
+        return take_unconditional(question, bodies, part, tally, node, area, count);
     }
     take_numbered(question, bodies, part, tally, node, area, count)
 }

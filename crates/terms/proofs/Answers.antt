@@ -5,7 +5,7 @@ use mathlib.Core.List.{List, [], _∷_}
 use Prim.Native.Nat.{ℕ}
 use native.Mathlib.Omega.{arith}
 use Rattle.terms.specs.Answer.{Answer, refused, result, _>>=_, _>>_, need}
-use Rattle.terms.specs.Question.{all}
+use Rattle.terms.specs.Question.{every}
 unfoldable pub use Rattle.terms.specs.WellFormed.{Every}
 
 module _ {A : Type 0} where
@@ -80,14 +80,14 @@ true-both x y p q = rw (p, q)
 
 -- A test that holds of every element of a list, as a type.
 module _ {A : Type 0} where
-  pub all-every : (p : A → Bool) (T : A → Type 0) → ((x : A) → p x ≡ true → T x) → (xs : List A) → all p xs ≡ true → Every T xs
-  unfolding all Every
+  pub all-every : (p : A → Bool) (T : A → Type 0) → ((x : A) → p x ≡ true → T x) → (xs : List A) → every p xs ≡ true → Every T xs
+  unfolding every Every
   all-every p T h [] e = tt
   all-every p T h (x ∷ xs) e =
-      let b = both-true (p x) (all p xs) e in
+      let b = both-true (p x) (every p xs) e in
       (h x (b .0), all-every p T h xs (b .1))
 
-  pub every-all : (p : A → Bool) (T : A → Type 0) → ((x : A) → T x → p x ≡ true) → (xs : List A) → Every T xs → all p xs ≡ true
-  unfolding all Every
+  pub every-all : (p : A → Bool) (T : A → Type 0) → ((x : A) → T x → p x ≡ true) → (xs : List A) → Every T xs → every p xs ≡ true
+  unfolding every Every
   every-all p T h [] e = refl
-  every-all p T h (x ∷ xs) e = true-both (p x) (all p xs) (h x (e .0)) (every-all p T h xs (e .1))
+  every-all p T h (x ∷ xs) e = true-both (p x) (every p xs) (h x (e .0)) (every-all p T h xs (e .1))

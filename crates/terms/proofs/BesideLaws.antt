@@ -16,7 +16,7 @@ use Rattle.terms.specs.Encoding.{encode, InScope}
 use Rattle.terms.specs.Reading.{numbered}
 use Rattle.terms.specs.Grammar.{parallelOutermost}
 use Rattle.terms.specs.Operations.{besideQuestion, fitsBeside, placedBeside, writtenWithin, besideOf}
-use Rattle.terms.specs.Question.{Question, all, fits, readPart, editionOf, questionOf, bodyFieldsIn, writeIn, fitsIn}
+use Rattle.terms.specs.Question.{Question, every, fits, readPart, editionOf, questionOf, bodyFieldsIn, writeIn, fitsIn}
 use Rattle.terms.proofs.Answers.{result-injective, bind-result, need-result, both-true, true-both}
 use Rattle.terms.proofs.EditionOne.{encode-shorter}
 use Rattle.terms.proofs.OwnEdition.{edition-written, own-well-formed, own-fits, written-accepted}
@@ -63,8 +63,8 @@ fits-beside : (e : Edition) (q : Question) (R : Term) → fitsIn e q ≡ true �
     fits (encodeIn e 0 (par (q .second) R)) ≡ true → fitsIn e (besideQuestion R q) ≡ true
 unfolding fitsIn besideQuestion
 fits-beside e q R f a b =
-    let x = both-true (all fits (bodyFieldsIn e (q .arities) (q .bodies)) && fits (encodeIn e 0 (q .first))) (fits (encodeIn e 0 (q .second))) f in
-    let y = both-true (all fits (bodyFieldsIn e (q .arities) (q .bodies))) (fits (encodeIn e 0 (q .first))) (x .0) in
+    let x = both-true (every fits (bodyFieldsIn e (q .arities) (q .bodies)) && fits (encodeIn e 0 (q .first))) (fits (encodeIn e 0 (q .second))) f in
+    let y = both-true (every fits (bodyFieldsIn e (q .arities) (q .bodies))) (fits (encodeIn e 0 (q .first))) (x .0) in
     true-both _ _ (true-both _ _ (y .0) a) b
 
 -- What a beside that no check turns back was given, and what it makes.

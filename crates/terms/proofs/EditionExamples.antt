@@ -9,7 +9,7 @@ use Rattle.terms.specs.Framing.{cut, field, fields, framed, sized, allSi
 use Rattle.terms.specs.Grammar.{sequential, parallelOutermost, guarded}
 use Rattle.terms.specs.Limits.{nameCount}
 use Rattle.terms.specs.Operations.{besideQuestion, fitsBeside, placedBeside, writtenWithin, besideOf, convertOf, lengthWritten}
-use Rattle.terms.specs.Question.{all, fits, version, differentNamesWith, readPairsWith, readApartWith, pairBytes, readBodies, readPartWith, checkTermsWith, checkFieldsWith, checkWith, editionOf, questionOf, questionWith, bodyFieldsIn, fieldsIn, writeIn, fitsIn}
+use Rattle.terms.specs.Question.{every, fits, version, differentNamesWith, readPairsWith, readApartWith, pairBytes, readBodies, readPartWith, checkTermsWith, checkFieldsWith, checkWith, editionOf, questionOf, questionWith, bodyFieldsIn, fieldsIn, writeIn, fitsIn}
 use Rattle.terms.specs.Reading.{byte, readName, readNames, tagOf, numbered, readCount, readTerm, readWhole}
 
 -- K of arity 1, body 03 80 80 09 00 80; K⟨a⟩ and āa.K⟨a⟩
@@ -63,7 +63,7 @@ rows =
     []
 
 rows-hold : map (λ r. answerOf (r .0)) rows ≡ map (λ r. r .1) rows
-unfolding questionWith editionOf checkWith checkFieldsWith checkTermsWith version versionByte _>>=_ _>>_ need framed cut field fields all fits readBodies
+unfolding questionWith editionOf checkWith checkFieldsWith checkTermsWith version versionByte _>>=_ _>>_ need framed cut field fields every fits readBodies
     readPartWith readWhole readTerm readName readNames byte tagOf numbered readCount sequential parallelOutermost guarded readApartWith differentNamesWith
     readPairsWith joined sized allSized
 rows-hold = refl
@@ -83,7 +83,7 @@ conversions =
 
 conversions-hold : map (λ r. r .0) conversions ≡ map (λ r. r .1) conversions
 unfolding convertOf writtenWithin fitsIn writeIn fieldsIn bodyFieldsIn encodeIn countBytes nameByte pairBytes checkWith checkFieldsWith checkTermsWith
-    version versionByte _>>=_ _>>_ need framed cut field fields all fits readBodies readPartWith readWhole readTerm readName readNames byte tagOf
+    version versionByte _>>=_ _>>_ need framed cut field fields every fits readBodies readPartWith readWhole readTerm readName readNames byte tagOf
     numbered readCount sequential parallelOutermost guarded readApartWith differentNamesWith readPairsWith joined sized allSized
 conversions-hold = refl
 
@@ -96,7 +96,7 @@ besides : map (lengthWritten) (
     ∷ besideOf sideOf100 (9 ∷ 0 ∷ 0 ∷ []) 4096 ∷ [])
     ≡ result 137 ∷ refused 6 ∷ refused 16 ∷ []
 unfolding besideOf placedBeside besideQuestion fitsBeside lengthWritten writtenWithin writeIn fieldsIn bodyFieldsIn encodeIn countBytes nameByte
-    pairBytes questionWith editionOf checkWith checkFieldsWith checkTermsWith version versionByte _>>=_ _>>_ need framed cut field fields all fits readBodies
+    pairBytes questionWith editionOf checkWith checkFieldsWith checkTermsWith version versionByte _>>=_ _>>_ need framed cut field fields every fits readBodies
     readPartWith readWhole readTerm readName readNames byte tagOf numbered readCount sequential parallelOutermost guarded readApartWith differentNamesWith
     readPairsWith joined sized allSized
 besides = refl

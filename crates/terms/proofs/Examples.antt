@@ -11,7 +11,7 @@ use Rattle.terms.specs.Framing.{cut, field, fields, framed, sized, allSi
 use Rattle.terms.specs.Grammar.{sequential, parallelOutermost, guarded}
 use Rattle.terms.specs.Limits.{nameCount, longestApart}
 use Rattle.terms.specs.Operations.{checkAnswer, holdsApart, mergedQuestion, merged, besideQuestion, fitsBeside, placedBeside, writtenWithin, mergeOf, besideOf}
-use Rattle.terms.specs.Question.{all, version, fits, readBodies, readPartWith, differentNamesWith, readPairsWith, readApartWith, checkTermsWith, checkFieldsWith, checkWith, checkOf, editionOf, questionWith, bodyFieldsIn, pairBytes, fieldsIn, writeIn, fitsIn}
+use Rattle.terms.specs.Question.{every, version, fits, readBodies, readPartWith, differentNamesWith, readPairsWith, readApartWith, checkTermsWith, checkFieldsWith, checkWith, checkOf, editionOf, questionWith, bodyFieldsIn, pairBytes, fieldsIn, writeIn, fitsIn}
 use Rattle.terms.specs.Reading.{byte, readName, readNames, tagOf, numbered, readCount, readTerm, readWhole}
 
 abbrev thirdExchange : List ℕ
@@ -19,7 +19,7 @@ thirdExchange = 1 ∷ 0 ∷ 0 ∷ 8 ∷ 6 ∷ 1 ∷ 0 ∷ 5 ∷ 0 ∷ 1 ∷ 1 �
 
 third-accepted : checkOf thirdExchange
     ≡ result (record { arities = []; bodies = []; first = sum (tau nil) (mat 0 1 (tau nil)); second = tau nil; apart = [] })
-unfolding checkOf checkWith versionByte numbered readCount checkFieldsWith checkTermsWith _>>=_ _>>_ need version framed cut field fields all fits
+unfolding checkOf checkWith versionByte numbered readCount checkFieldsWith checkTermsWith _>>=_ _>>_ need version framed cut field fields every fits
     readBodies readPartWith readWhole readTerm readName byte tagOf sequential parallelOutermost readApartWith differentNamesWith readPairsWith
 third-accepted = refl
 
@@ -91,7 +91,7 @@ rows =
 
 checks : map (λ r. checkAnswer (r .0)) rows ≡ map (λ r. r .1) rows
 unfolding checkAnswer questionWith editionOf checkWith versionByte numbered readCount checkFieldsWith checkTermsWith _>>=_ _>>_ need version framed cut field
-    fields all fits readBodies readPartWith readWhole readTerm readName readNames byte tagOf sequential parallelOutermost guarded readApartWith
+    fields every fits readBodies readPartWith readWhole readTerm readName readNames byte tagOf sequential parallelOutermost guarded readApartWith
     differentNamesWith readPairsWith joined sized allSized
 checks = refl
 
@@ -107,7 +107,7 @@ merges : map (λ (r : ℕ × ℕ × ℕ). mergeOf (parts (3 ∷ 3 ∷ 1 ∷ 2 �
     ∷ result (parts (3 ∷ 3 ∷ 1 ∷ 2 ∷ 3 ∷ 5 ∷ 3 ∷ 128 ∷ 0 ∷ []) (1 ∷ 0 ∷ []) (2 ∷ 3 ∷ []))
     ∷ []
 unfolding mergeOf merged mergedQuestion holdsApart writtenWithin writeIn fieldsIn bodyFieldsIn pairBytes encodeIn countBytes nameByte join
-    questionWith editionOf checkWith versionByte numbered readCount checkFieldsWith checkTermsWith _>>=_ _>>_ need version framed cut field fields all fits
+    questionWith editionOf checkWith versionByte numbered readCount checkFieldsWith checkTermsWith _>>=_ _>>_ need version framed cut field fields every fits
     readBodies readPartWith readWhole readTerm readName readNames byte tagOf sequential parallelOutermost guarded readApartWith differentNamesWith readPairsWith
     joined sized allSized
 merges = refl
@@ -125,7 +125,7 @@ besides : map (λ (r : List ℕ × ℕ). besideOf (parts (8 ∷ 0 ∷ []) (1 ∷
     ∷ refused 6
     ∷ []
 unfolding besideOf placedBeside besideQuestion fitsBeside writtenWithin writeIn fieldsIn bodyFieldsIn pairBytes encodeIn countBytes nameByte
-    questionWith editionOf checkWith versionByte numbered readCount checkFieldsWith checkTermsWith _>>=_ _>>_ need version framed cut field fields all fits
+    questionWith editionOf checkWith versionByte numbered readCount checkFieldsWith checkTermsWith _>>=_ _>>_ need version framed cut field fields every fits
     readBodies readPartWith readWhole readTerm readName readNames byte tagOf sequential parallelOutermost guarded readApartWith differentNamesWith readPairsWith
     joined sized allSized
 besides = refl

@@ -6,8 +6,8 @@ use Prim.Native.Nat.{ℕ, zero, suc, _+_, _*_, _/_, _%_, _≤_, _<_}
 use native.Mathlib.Omega.{arith}
 use lib.ListN.{length, getD, take, drop, take-append-drop, length-take, length-append}
 use lib.Seq.{take-append-seam, drop-append-seam}
-use lib.Dec.{leb, eqb}
-use borrow.Author.Tests.{leb-true, le-leb, eqb-true}
+use lib.Dec.{ltb, leb, eqb}
+use borrow.Author.Tests.{ltb-true, lt-ltb, leb-true, le-leb, eqb-true}
 use Rattle.terms.specs.Answer.{Answer, refused, result, _>>=_, _>>_, need}
 use Rattle.terms.specs.Framing.{cut, field, fields, Fields, framed, sized, allSized, joined}
 use Rattle.terms.proofs.Answers.{result-injective, refused-not-result, bind-result, bind-to, need-result, need-passed, Every}
@@ -39,33 +39,30 @@ cut-out n bs r e = go (leb n (length bs)) refl
         (rw (← q) (sym (take-append-drop n bs)), rw (← q) (rw length-take (omega arith)))
     go false p = refused-not-result (rw p at e)
 
--- A field whose length has room in one byte: there is one way to write that length.
-abbrev pub Short : List ℕ → Type 0
-Short f = length f < 256
-
-pub field-out : (bs : List ℕ) (r : List ℕ × List ℕ) → Short (r .0) → field bs ≡ result r → bs ≡ sized (r .0) ++ r .1
+pub field-out : (bs : List ℕ) (r : List ℕ × List ℕ) → field bs ≡ result r → bs ≡ sized (r .0) ++ r .1
 unfolding field sized
-field-out bs r h e =
+field-out bs r e =
     let t = bind-result (cut 2 bs) _ r e in
     let c = cut-out 2 bs (t .0) (t .1) in
     let w = two-bytes (t .0 .0) (c .1) in
-    let v = cut-out _ (t .0 .1) r (t .2) in
+    let l = need-result 4 (ltb (getD (t .0 .0) 1 0) 256) _ r (t .2) in
+    let low : w .1 < 256 = ltb-true (w .1) 256 (sym (ap (λ m. ltb (getD m 1 0) 256) (w .2)) ∙ l .0) in
+    let v = cut-out _ (t .0 .1) r (l .1) in
     let len : length (r .0) ≡ 256 * w .0 + w .1 = rw (w .2) at (v .1) in
     let p : bs ≡ w .0 ∷ w .1 ∷ (r .0 ++ r .1) = c .0 ∙ ap₂ (λ l m. l ++ m) (w .2) (v .0) in
     let x : length (r .0) / 256 ≡ w .0 = omega arith in
     let y : length (r .0) % 256 ≡ w .1 = omega arith in
     rw (x, y) p
 
-pub fields-out : (n : ℕ) (bs : List ℕ) (r : List (List ℕ) × List ℕ) → Every Short (r .0) → fields n bs ≡ result r → bs ≡ allSized (r .0) ++ r .1
-unfolding fields allSized Every
-fields-out zero bs r h e = rw (← result-injective e) refl
-fields-out (suc n) bs r h e =
+pub fields-out : (n : ℕ) (bs : List ℕ) (r : List (List ℕ) × List ℕ) → fields n bs ≡ result r → bs ≡ allSized (r .0) ++ r .1
+unfolding fields allSized
+fields-out zero bs r e = rw (← result-injective e) refl
+fields-out (suc n) bs r e =
     let t = bind-result (field bs) _ r e in
     let u = bind-result (fields n (t .0 .1)) _ r (t .2) in
     let i = result-injective {a = (t .0 .0 ∷ u .0 .0, u .0 .1)} (u .2) in
-    let k : Every Short (t .0 .0 ∷ u .0 .0) = subst (λ (z : List (List ℕ) × List ℕ). Every Short (z .0)) (sym i) h in
-    let f = field-out bs (t .0) (k .0) (t .1) in
-    let g = fields-out n (t .0 .1) (u .0) (k .1) (u .1) in
+    let f = field-out bs (t .0) (t .1) in
+    let g = fields-out n (t .0 .1) (u .0) (u .1) in
     rw (← i) (f ∙ ap (λ l. sized (t .0 .0) ++ l) g ∙ sym (append-assoc (sized (t .0 .0)) (allSized (u .0 .0)) (u .0 .1)))
 
 -- There are as many fields as were asked for, whatever the bytes.
@@ -86,7 +83,8 @@ pub field-in : (xs ys : List ℕ) → length xs < 65536 → field (sized xs ++ y
 unfolding field sized
 field-in xs ys h =
     let e : 256 * (length xs / 256) + length xs % 256 ≡ length xs = omega arith in
-    bind-to _ (cut-in (length xs / 256 ∷ length xs % 256 ∷ []) (xs ++ ys)) ∙ rw e (cut-in xs ys)
+    bind-to _ (cut-in (length xs / 256 ∷ length xs % 256 ∷ []) (xs ++ ys))
+    ∙ need-passed 4 (ltb (length xs % 256) 256) _ (lt-ltb (length xs % 256) 256 (omega arith)) ∙ rw e (cut-in xs ys)
 
 pub fields-in : (fs : List (List ℕ)) (ys : List ℕ) → Every (λ f. length f < 65536) fs → fields (length fs) (allSized fs ++ ys) ≡ result (fs, ys)
 unfolding fields allSized Every
@@ -114,25 +112,18 @@ last-kept arities bodies bs f e =
     let r = result-injective {a = record { arities = arities; bodies = bodies; first = t .0 .0; second = u .0 .0; apart = v .0 .0 }} (z .1) in
     rw (← r) (refl, refl)
 
--- the three fields are short
-pub record ShortLast (f : Fields) : Type 0 where
-  pub first : Short (f .first)
-  pub second : Short (f .second)
-  pub apart : Short (f .apart)
-
-last-out : (arities : List ℕ) (bodies : List (List ℕ)) (bs : List ℕ) (f : Fields) → ShortLast f → lastFields arities bodies bs ≡ result f →
+last-out : (arities : List ℕ) (bodies : List (List ℕ)) (bs : List ℕ) (f : Fields) → lastFields arities bodies bs ≡ result f →
     bs ≡ sized (f .first) ++ (sized (f .second) ++ sized (f .apart))
 unfolding lastFields
-last-out arities bodies bs f h e =
+last-out arities bodies bs f e =
     let t = bind-result (field bs) _ f e in
     let u = bind-result (field (t .0 .1)) _ f (t .2) in
     let v = bind-result (field (u .0 .1)) _ f (u .2) in
     let z = need-result 4 (eqb (length (v .0 .1)) 0) _ f (v .2) in
     let r = result-injective {a = record { arities = arities; bodies = bodies; first = t .0 .0; second = u .0 .0; apart = v .0 .0 }} (z .1) in
-    let k = subst ShortLast (sym r) h in
-    let p = field-out bs (t .0) (k .first) (t .1) in
-    let q = field-out (t .0 .1) (u .0) (k .second) (u .1) in
-    let d = field-out (u .0 .1) (v .0) (k .apart) (v .1) in
+    let p = field-out bs (t .0) (t .1) in
+    let q = field-out (t .0 .1) (u .0) (u .1) in
+    let d = field-out (u .0 .1) (v .0) (v .1) in
     let e₃ : u .0 .1 ≡ sized (v .0 .0) = d ∙ ap (λ m. sized (v .0 .0) ++ m) (empty (v .0 .1) (eqb-true _ _ (z .0))) ∙ append-nil _ in
     rw (← r) (p ∙ ap (λ m. sized (t .0 .0) ++ m) (q ∙ ap (λ m. sized (u .0 .0) ++ m) e₃))
 
@@ -146,9 +137,9 @@ module _ (bs size rest arities rest₁ : List ℕ) (bodies : List (List ℕ)) (r
   unfolding behindVersion
   reassembled p q r l s u a b = rw (a, b, p, q, r, l, s, u)
 
-pub framed-out : (bs : List ℕ) (f : Fields) → Every Short (f .bodies) → ShortLast f → framed bs ≡ result f → bs ≡ behindVersion f
+pub framed-out : (bs : List ℕ) (f : Fields) → framed bs ≡ result f → bs ≡ behindVersion f
 unfolding framed lastFields
-framed-out bs f short last e =
+framed-out bs f e =
     let t = bind-result (cut 1 bs) _ f e in
     let c = cut-out 1 bs (t .0) (t .1) in
     let n = one-byte (t .0 .0) (c .1) in
@@ -157,9 +148,9 @@ framed-out bs f short last e =
     let b = cut-out (getD (t .0 .0) 0 0) (t .0 .1) (u .0) (u .1) in
     let v = bind-result (fields (getD (t .0 .0) 0 0) (u .0 .1)) (λ x. lastFields (u .0 .0) (x .0) (x .1)) f (u .2) in
     let l = last-kept (u .0 .0) (v .0 .0) (v .0 .1) f (v .2) in
-    let g = fields-out (getD (t .0 .0) 0 0) (u .0 .1) (v .0) (subst (Every Short) (l .1) short) (v .1) in
+    let g = fields-out (getD (t .0 .0) 0 0) (u .0 .1) (v .0) (v .1) in
     reassembled bs (t .0 .0) (t .0 .1) (u .0 .0) (u .0 .1) (v .0 .0) (v .0 .1) (n .0) f
-    (c .0) (n .1) (b .0) (sym (b .1 ∙ k)) g (last-out (u .0 .0) (v .0 .0) (v .0 .1) f last (v .2)) (l .0) (l .1)
+    (c .0) (n .1) (b .0) (sym (b .1 ∙ k)) g (last-out (u .0 .0) (v .0 .0) (v .0 .1) f (v .2)) (l .0) (l .1)
 
 -- As many bodies as arities.
 pub framed-counts : (bs : List ℕ) (f : Fields) → framed bs ≡ result f → length (f .bodies) ≡ length (f .arities)

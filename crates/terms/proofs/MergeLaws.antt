@@ -16,7 +16,7 @@ use Rattle.terms.specs.Limits.{nameCount}
 use Rattle.terms.specs.Answer.{Answer, refused, result, _>>=_, _>>_, need}
 use Rattle.terms.specs.Edition.{Edition}
 use Rattle.terms.specs.Operations.{holdsApart, mergedQuestion, merged, mergeOf}
-use Rattle.terms.specs.Question.{Question, all, fits, editionOf, questionOf, pairBytes, bodyFieldsIn, writeIn, fitsIn}
+use Rattle.terms.specs.Question.{Question, every, fits, editionOf, questionOf, pairBytes, bodyFieldsIn, writeIn, fitsIn}
 use Rattle.terms.proofs.Answers.{Every, result-injective, bind-result, need-result, both-true}
 use Rattle.terms.proofs.RenamingKeeps.{scope-ren, outermost-ren, length-ren, length-ren-in}
 use Rattle.terms.proofs.OwnEdition.{edition-written, own-well-formed, own-fits, written-accepted}
@@ -111,7 +111,7 @@ fits-by bs cs e = rw e
 fits-merged : (e : Edition) (a b : ℕ) (q : Question) → fitsIn e (mergedQuestion a b q) ≡ fitsIn e q
 unfolding fitsIn mergedQuestion
 fits-merged e a b q =
-    ap₂ (λ x y. all fits (bodyFieldsIn e (q .arities) (q .bodies)) && x && y)
+    ap₂ (λ x y. every fits (bodyFieldsIn e (q .arities) (q .bodies)) && x && y)
     (fits-by _ _ (length-ren-in e 0 0 (join a b) (q .first))) (fits-by _ _ (length-ren-in e 0 0 (join a b) (q .second)))
 
 -- What a merge that no check turns back was given, and what it makes.

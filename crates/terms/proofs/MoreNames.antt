@@ -19,7 +19,7 @@ use Rattle.terms.specs.Grammar.{sequential, parallelOutermost, guarded}
 use Rattle.terms.specs.Limits.{longestQuestion, mostDefinitions, greatestArity, longestApartOf}
 use Rattle.terms.specs.Question.{
   Question,
-  all,
+  every,
   version,
   fits,
   readBodies,
@@ -100,14 +100,14 @@ module _ (names extra : ℕ) where
         let B = bind-result (readBodies e (numbered (f .arities)) (f .arities) (f .bodies)) _ q h in
         let P = bind-result (readPartWith names e (numbered (f .arities)) (f .first)) _ q (B .2) in
         let Q = bind-result (readPartWith names e (numbered (f .arities)) (f .second)) _ q (P .2) in
-        let c₁₀ = need-result 10 (all sequential (B .0) && parallelOutermost (P .0) && parallelOutermost (Q .0)) _ q (Q .2) in
-        let c₁₁ = need-result 11 (all guarded (B .0)) _ q (c₁₀ .1) in
+        let c₁₀ = need-result 10 (every sequential (B .0) && parallelOutermost (P .0) && parallelOutermost (Q .0)) _ q (Q .2) in
+        let c₁₁ = need-result 11 (every guarded (B .0)) _ q (c₁₀ .1) in
         let D = bind-result (readApartWith names (f .apart)) _ q (c₁₁ .1) in
         bind-to _ (B .1)
         ∙ bind-to _ (part-more (numbered (f .arities)) (f .first) (P .0) (P .1))
         ∙ bind-to _ (part-more (numbered (f .arities)) (f .second) (Q .0) (Q .1))
-        ∙ need-passed 10 (all sequential (B .0) && parallelOutermost (P .0) && parallelOutermost (Q .0)) _ (c₁₀ .0)
-        ∙ need-passed 11 (all guarded (B .0)) _ (c₁₁ .0)
+        ∙ need-passed 10 (every sequential (B .0) && parallelOutermost (P .0) && parallelOutermost (Q .0)) _ (c₁₀ .0)
+        ∙ need-passed 11 (every guarded (B .0)) _ (c₁₁ .0)
         ∙ bind-to _ (apart-more (f .apart) (D .0) (D .1))
         ∙ D .2
 
@@ -117,13 +117,13 @@ module _ (names extra : ℕ) where
         let v = bind-result (version e question) _ q h in
         let l = need-result 4 (leb (length question) longestQuestion) _ q (v .2) in
         let f = bind-result (framed (v .0)) (checkFieldsWith names e) q (l .1) in
-        let c₅ = need-result 5 (leb (length (f .0 .arities)) mostDefinitions && all (λ a. leb a greatestArity) (f .0 .arities)) _ q (f .2) in
-        let c₆ = need-result 6 (all fits (f .0 .bodies) && fits (f .0 .first) && fits (f .0 .second)) _ q (c₅ .1) in
+        let c₅ = need-result 5 (leb (length (f .0 .arities)) mostDefinitions && every (λ a. leb a greatestArity) (f .0 .arities)) _ q (f .2) in
+        let c₆ = need-result 6 (every fits (f .0 .bodies) && fits (f .0 .first) && fits (f .0 .second)) _ q (c₅ .1) in
         bind-to _ (v .1)
         ∙ need-passed 4 (leb (length question) longestQuestion) _ (l .0)
         ∙ bind-to (checkFieldsWith (names + extra) e) (f .1)
-        ∙ need-passed 5 (leb (length (f .0 .arities)) mostDefinitions && all (λ a. leb a greatestArity) (f .0 .arities)) _ (c₅ .0)
-        ∙ need-passed 6 (all fits (f .0 .bodies) && fits (f .0 .first) && fits (f .0 .second)) _ (c₆ .0)
+        ∙ need-passed 5 (leb (length (f .0 .arities)) mostDefinitions && every (λ a. leb a greatestArity) (f .0 .arities)) _ (c₅ .0)
+        ∙ need-passed 6 (every fits (f .0 .bodies) && fits (f .0 .first) && fits (f .0 .second)) _ (c₆ .0)
         ∙ terms-more (f .0) q (c₆ .1)
 
   -- in its own edition

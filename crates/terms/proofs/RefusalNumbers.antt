@@ -138,7 +138,7 @@ cut-numbered n bs = numbered-cond (leb n (length bs)) _ _ (done _) (turned _ 4 (
 
 field-numbered : (bs : List ℕ) → Numbered (field bs)
 unfolding field
-field-numbered bs = numbered-bind (cut 2 bs) _ (cut-numbered 2 bs) (λ p. cut-numbered _ (p .1))
+field-numbered bs = numbered-bind (cut 2 bs) _ (cut-numbered 2 bs) (λ p. numbered-need 4 _ _ (omega arith) (cut-numbered _ (p .1)))
 
 fields-numbered : (n : ℕ) (bs : List ℕ) → Numbered (fields n bs)
 unfolding fields

@@ -17,7 +17,7 @@ use Rattle.terms.specs.Edition.{Edition, one, two, versionByte, encodeIn
 use Rattle.terms.specs.Reading.{numbered, readWhole}
 use Rattle.terms.specs.Grammar.{sequential, parallelOutermost, guarded}
 use Rattle.terms.specs.Framing.{Fields, framed, sized, allSized, joined}
-use Rattle.terms.specs.Question.{Question, all, version, fits, readBodies, readPart, readPartWith, differentNames, differentNamesWith, readPairs, readPairsWith, readApart, readApartWith, checkTermsWith, checkFields, checkFieldsWith, checkIn, checkWith, checkOf, bodyFieldsIn, pairBytes, fieldsIn, writeIn, fitsIn, fieldsOf, write}
+use Rattle.terms.specs.Question.{Question, every, version, fits, readBodies, readPart, readPartWith, differentNames, differentNamesWith, readPairs, readPairsWith, readApart, readApartWith, checkTermsWith, checkFields, checkFieldsWith, checkIn, checkWith, checkOf, bodyFieldsIn, pairBytes, fieldsIn, writeIn, fitsIn, fieldsOf, write}
 use Rattle.terms.proofs.Answers.{result-injective, refused-not-result, bind-result, bind-to, then-result, bind-id, bind-assoc, need-result, need-passed, both-true, true-both, all-every, every-all}
 use Rattle.terms.proofs.EditionOne.{encode-first, encode-shorter, fields-first, write-first}
 use Rattle.terms.proofs.ReadEncoded.{encode-some-in, read-whole}
@@ -26,7 +26,7 @@ use Rattle.terms.specs.WellFormed.{Every}
 pub use Rattle.terms.specs.WellFormed.{BodyAllowed, PartAllowedWith, PartAllowed, PairAllowedWith, PairAllowed, WellFormedWith, WellFormed}
 unfoldable pub use Rattle.terms.specs.WellFormed.{BodiesAllowed}
 use Rattle.terms.proofs.EncodeRead.{whole-read}
-use Rattle.terms.proofs.FramingLaws.{Short, ShortLast, behindVersion, framed-out, framed-in, framed-counts, Framable}
+use Rattle.terms.proofs.FramingLaws.{behindVersion, framed-out, framed-in, framed-counts, Framable}
 
 -- An accepted body or part.
 pub fits-size : (bs : List ℕ) → fits bs ≡ true → (1 ≤ length bs) × (length bs ≤ longestTerm)
@@ -56,22 +56,22 @@ module _ (e : Edition) where
       let s : length (encodeIn e a P) ≤ longestTerm = rw (← r .0) (fits-size bs f .1) in
       (r .0, record { scope = scope-from arities 0 a P (r .1); size = omega (arith, encode-shorter e a P); noParallel = g; callsGuarded = k })
 
-  bodies-allowed : (arities sizes : List ℕ) (bs : List (List ℕ)) (Ps : List Term) → length bs ≡ length sizes → all fits bs ≡ true →
-      readBodies e (numbered arities) sizes bs ≡ result Ps → all sequential Ps ≡ true → all guarded Ps ≡ true →
+  bodies-allowed : (arities sizes : List ℕ) (bs : List (List ℕ)) (Ps : List Term) → length bs ≡ length sizes → every fits bs ≡ true →
+      readBodies e (numbered arities) sizes bs ≡ result Ps → every sequential Ps ≡ true → every guarded Ps ≡ true →
       (bs ≡ bodyFieldsIn e sizes Ps) × BodiesAllowed arities sizes Ps
-  unfolding readBodies all bodyFieldsIn BodiesAllowed
+  unfolding readBodies every bodyFieldsIn BodiesAllowed
   bodies-allowed arities (a ∷ sizes) (b ∷ bs) Ps l f =
       λ h.
       let t = bind-result (readWhole e (numbered arities) 0 a b) _ Ps h in
       let u = bind-result (readBodies e (numbered arities) sizes bs) _ Ps (t .2) in
       let q : _≡_ {A = List Term} (t .0 ∷ u .0) Ps = result-injective (u .2) in
-      let f′ = both-true (fits b) (all fits bs) f in
+      let f′ = both-true (fits b) (every fits bs) f in
       subst
-      (λ (Qs : List Term). all sequential Qs ≡ true → all guarded Qs ≡ true → (b ∷ bs ≡ bodyFieldsIn e (a ∷ sizes) Qs) × BodiesAllowed arities (a ∷ sizes) Qs)
+      (λ (Qs : List Term). every sequential Qs ≡ true → every guarded Qs ≡ true → (b ∷ bs ≡ bodyFieldsIn e (a ∷ sizes) Qs) × BodiesAllowed arities (a ∷ sizes) Qs)
       q
       (λ g k.
-      let g′ = both-true (sequential (t .0)) (all sequential (u .0)) g in
-      let k′ = both-true (guarded (t .0)) (all guarded (u .0)) k in
+      let g′ = both-true (sequential (t .0)) (every sequential (u .0)) g in
+      let k′ = both-true (guarded (t .0)) (every guarded (u .0)) k in
       let P = body-allowed arities b a (t .0) (f′ .0) (t .1) (g′ .0) (k′ .0) in
       let Qs = bodies-allowed arities sizes bs (u .0) (omega arith) (f′ .1) (u .1) (g′ .1) (k′ .1) in
       (ap₂ (λ x y. x ∷ y) (P .0) (Qs .0), (P .1, Qs .1)))
@@ -121,22 +121,22 @@ module _ (names : ℕ) (e : Edition) where
     madeOf = record { arities = f .arities; bodies = bodies; first = first; second = second; apart = apart }
 
     made-allowed : length (f .bodies) ≡ length (f .arities) →
-        (leb (length (f .arities)) mostDefinitions && all (λ a. leb a greatestArity) (f .arities)) ≡ true →
-        (all fits (f .bodies) && fits (f .first) && fits (f .second)) ≡ true →
+        (leb (length (f .arities)) mostDefinitions && every (λ a. leb a greatestArity) (f .arities)) ≡ true →
+        (every fits (f .bodies) && fits (f .first) && fits (f .second)) ≡ true →
         readBodies e (numbered (f .arities)) (f .arities) (f .bodies) ≡ result bodies →
         readPartWith names e (numbered (f .arities)) (f .first) ≡ result first →
         readPartWith names e (numbered (f .arities)) (f .second) ≡ result second →
-        (all sequential bodies && parallelOutermost first && parallelOutermost second) ≡ true →
-        all guarded bodies ≡ true →
+        (every sequential bodies && parallelOutermost first && parallelOutermost second) ≡ true →
+        every guarded bodies ≡ true →
         readApartWith names (f .apart) ≡ result apart →
         WellFormedWith names madeOf × (f ≡ fieldsIn e madeOf)
     unfolding fieldsIn readApartWith
     made-allowed l c₅ c₆ c₇ c₈ c₉ c₁₀ c₁₁ c₁₂ =
-        let s = both-true (leb (length (f .arities)) mostDefinitions) (all (λ a. leb a greatestArity) (f .arities)) c₅ in
-        let x = both-true (all fits (f .bodies) && fits (f .first)) (fits (f .second)) c₆ in
-        let y = both-true (all fits (f .bodies)) (fits (f .first)) (x .0) in
-        let u = both-true (all sequential bodies && parallelOutermost first) (parallelOutermost second) c₁₀ in
-        let v = both-true (all sequential bodies) (parallelOutermost first) (u .0) in
+        let s = both-true (leb (length (f .arities)) mostDefinitions) (every (λ a. leb a greatestArity) (f .arities)) c₅ in
+        let x = both-true (every fits (f .bodies) && fits (f .first)) (fits (f .second)) c₆ in
+        let y = both-true (every fits (f .bodies)) (fits (f .first)) (x .0) in
+        let u = both-true (every sequential bodies && parallelOutermost first) (parallelOutermost second) c₁₀ in
+        let v = both-true (every sequential bodies) (parallelOutermost first) (u .0) in
         let B = bodies-allowed e (f .arities) (f .arities) (f .bodies) bodies l (y .0) c₇ (v .0) c₁₁ in
         let P = part-allowed-with e names (f .arities) (f .first) first (y .1) c₈ (v .1) in
         let Q = part-allowed-with e names (f .arities) (f .second) second (x .1) c₉ (u .1) in
@@ -158,20 +158,20 @@ module _ (names : ℕ) (e : Edition) where
       WellFormedWith names q × (f ≡ fieldsIn e q) × (fitsIn e q ≡ true)
   unfolding checkFieldsWith checkTermsWith fitsIn fieldsIn
   fields-allowed f q l h =
-      let c₅ = need-result 5 (leb (length (f .arities)) mostDefinitions && all (λ a. leb a greatestArity) (f .arities)) _ q h in
-      let c₆ = need-result 6 (all fits (f .bodies) && fits (f .first) && fits (f .second)) _ q (c₅ .1) in
+      let c₅ = need-result 5 (leb (length (f .arities)) mostDefinitions && every (λ a. leb a greatestArity) (f .arities)) _ q h in
+      let c₆ = need-result 6 (every fits (f .bodies) && fits (f .first) && fits (f .second)) _ q (c₅ .1) in
       let B = bind-result (readBodies e (numbered (f .arities)) (f .arities) (f .bodies)) _ q (c₆ .1) in
       let P = bind-result (readPartWith names e (numbered (f .arities)) (f .first)) _ q (B .2) in
       let Q = bind-result (readPartWith names e (numbered (f .arities)) (f .second)) _ q (P .2) in
-      let c₁₀ = need-result 10 (all sequential (B .0) && parallelOutermost (P .0) && parallelOutermost (Q .0)) _ q (Q .2) in
-      let c₁₁ = need-result 11 (all guarded (B .0)) _ q (c₁₀ .1) in
+      let c₁₀ = need-result 10 (every sequential (B .0) && parallelOutermost (P .0) && parallelOutermost (Q .0)) _ q (Q .2) in
+      let c₁₁ = need-result 11 (every guarded (B .0)) _ q (c₁₀ .1) in
       let D = bind-result (readApartWith names (f .apart)) _ q (c₁₁ .1) in
       let r = result-injective {a = madeOf f (B .0) (P .0) (Q .0) (D .0)} (D .2) in
       let m = subst
       (λ (x : Question). WellFormedWith names x × (f ≡ fieldsIn e x))
       r
       (made-allowed f (B .0) (P .0) (Q .0) (D .0) l (c₅ .0) (c₆ .0) (B .1) (P .1) (Q .1) (c₁₀ .0) (c₁₁ .0) (D .1)) in
-      (m .0, m .1, subst (λ (g : Fields). (all fits (g .bodies) && fits (g .first) && fits (g .second)) ≡ true) (m .1) (c₆ .0))
+      (m .0, m .1, subst (λ (g : Fields). (every fits (g .bodies) && fits (g .first) && fits (g .second)) ≡ true) (m .1) (c₆ .0))
 
   version-byte : (bs rest : List ℕ) → version e bs ≡ result rest → bs ≡ versionByte e ∷ rest
   unfolding version
@@ -205,28 +205,20 @@ module _ (names : ℕ) (e : Edition) where
 pub accepted-in : (e : Edition) (bs : List ℕ) (q : Question) → checkIn e bs ≡ result q → WellFormed q × (fitsIn e q ≡ true)
 accepted-in = accepted-with nameCount
 
--- What fits is short.
-all-fit-short : (fs : List (List ℕ)) → all fits fs ≡ true → Every Short fs
-unfolding all Every
-all-fit-short [] h = tt
-all-fit-short (f ∷ fs) h =
-    let b = both-true (fits f) (all fits fs) h in
-    let s = fits-size f (b .0) in
-    (omega arith, all-fit-short fs (b .1))
-
-all-fit-lengths : (fs : List (List ℕ)) → all fits fs ≡ true → Every (λ b. length b < 65536) fs
-unfolding all Every
+-- What fits has room for its length.
+all-fit-lengths : (fs : List (List ℕ)) → every fits fs ≡ true → Every (λ b. length b < 65536) fs
+unfolding every Every
 all-fit-lengths [] h = tt
 all-fit-lengths (f ∷ fs) h =
-    let b = both-true (fits f) (all fits fs) h in
+    let b = both-true (fits f) (every fits fs) h in
     let s = fits-size f (b .0) in
     (omega arith, all-fit-lengths fs (b .1))
 
-all-fit-size : (fs : List (List ℕ)) → all fits fs ≡ true → length (allSized fs) ≤ (longestTerm + 2) * length fs
-unfolding all allSized sized
+all-fit-size : (fs : List (List ℕ)) → every fits fs ≡ true → length (allSized fs) ≤ (longestTerm + 2) * length fs
+unfolding every allSized sized
 all-fit-size [] h = omega arith
 all-fit-size (f ∷ fs) h =
-    let b = both-true (fits f) (all fits fs) h in
+    let b = both-true (fits f) (every fits fs) h in
     let s = fits-size f (b .0) in
     omega (arith, all-fit-size fs (b .1), length-append f (allSized fs))
 
@@ -237,34 +229,24 @@ allowed-count e arities [] [] h = refl
 
 -- Each term of a question that fits the edition does.
 pub record TermsFit (e : Edition) (q : Question) : Type 0 where
-  pub bodies : all fits (bodyFieldsIn e (q .arities) (q .bodies)) ≡ true
+  pub bodies : every fits (bodyFieldsIn e (q .arities) (q .bodies)) ≡ true
   pub first : fits (encodeIn e 0 (q .first)) ≡ true
   pub second : fits (encodeIn e 0 (q .second)) ≡ true
 
 pub terms-fit : (e : Edition) (q : Question) → fitsIn e q ≡ true → TermsFit e q
 unfolding fitsIn
 terms-fit e q h =
-    let x = both-true (all fits (bodyFieldsIn e (q .arities) (q .bodies)) && fits (encodeIn e 0 (q .first))) (fits (encodeIn e 0 (q .second))) h in
-    let y = both-true (all fits (bodyFieldsIn e (q .arities) (q .bodies))) (fits (encodeIn e 0 (q .first))) (x .0) in
+    let x = both-true (every fits (bodyFieldsIn e (q .arities) (q .bodies)) && fits (encodeIn e 0 (q .first))) (fits (encodeIn e 0 (q .second))) h in
+    let y = both-true (every fits (bodyFieldsIn e (q .arities) (q .bodies))) (fits (encodeIn e 0 (q .first))) (x .0) in
     record { bodies = y .0; first = y .1; second = x .1 }
 
 -- What is accepted is what is written of its question: the bytes determine the question, and the question the bytes.
-fields-short : (e : Edition) (q : Question) → WellFormed q → TermsFit e q → ShortLast (fieldsIn e q)
-unfolding fieldsIn
-fields-short e q w t =
-    let a = fits-size (encodeIn e 0 (q .first)) (t .first) in
-    let b = fits-size (encodeIn e 0 (q .second)) (t .second) in
-    let c = w .apartSize in
-    record { first = omega arith; second = omega arith; apart = omega arith }
-
 pub written-in : (e : Edition) (bs : List ℕ) (q : Question) → checkIn e bs ≡ result q → writeIn e q ≡ bs
 unfolding writeIn joined behindVersion fieldsIn
 written-in e bs q h =
     let s = accepted-stages nameCount e bs q h in
-    let (w, f, i) = accepted-fields nameCount e bs q s in
-    let t = terms-fit e q i in
-    let b : Every Short (s .fields .bodies) = subst (λ (f : Fields). Every Short (f .bodies)) (sym f) (all-fit-short (bodyFieldsIn e (q .arities) (q .bodies)) (t .bodies)) in
-    let o = framed-out (s .behind) (s .fields) b (subst ShortLast (sym f) (fields-short e q w t)) (s .framing) in
+    let f = accepted-fields nameCount e bs q s .1 in
+    let o = framed-out (s .behind) (s .fields) (s .framing) in
     ap (λ f. versionByte e ∷ behindVersion f) (sym f) ∙ sym (s .firstByte ∙ ap (λ m. versionByte e ∷ m) o)
 
 -- Every well-formed question that fits the edition is accepted in it.
@@ -281,14 +263,14 @@ withApart e xs q =
     }
 
 module _ (arities : List ℕ) where
-  bodies-sequential : (sizes : List ℕ) (Ps : List Term) → BodiesAllowed arities sizes Ps → all sequential Ps ≡ true
-  unfolding BodiesAllowed all
-  bodies-sequential (a ∷ sizes) (P ∷ Ps) h = true-both (sequential P) (all sequential Ps) (h .0 .noParallel) (bodies-sequential sizes Ps (h .1))
+  bodies-sequential : (sizes : List ℕ) (Ps : List Term) → BodiesAllowed arities sizes Ps → every sequential Ps ≡ true
+  unfolding BodiesAllowed every
+  bodies-sequential (a ∷ sizes) (P ∷ Ps) h = true-both (sequential P) (every sequential Ps) (h .0 .noParallel) (bodies-sequential sizes Ps (h .1))
   bodies-sequential [] [] h = refl
 
-  bodies-guarded : (sizes : List ℕ) (Ps : List Term) → BodiesAllowed arities sizes Ps → all guarded Ps ≡ true
-  unfolding BodiesAllowed all
-  bodies-guarded (a ∷ sizes) (P ∷ Ps) h = true-both (guarded P) (all guarded Ps) (h .0 .callsGuarded) (bodies-guarded sizes Ps (h .1))
+  bodies-guarded : (sizes : List ℕ) (Ps : List Term) → BodiesAllowed arities sizes Ps → every guarded Ps ≡ true
+  unfolding BodiesAllowed every
+  bodies-guarded (a ∷ sizes) (P ∷ Ps) h = true-both (guarded P) (every guarded Ps) (h .0 .callsGuarded) (bodies-guarded sizes Ps (h .1))
   bodies-guarded [] [] h = refl
 
 module _ (e : Edition) (arities : List ℕ) where
@@ -351,7 +333,7 @@ module _ (e : Edition) (q : Question) (w : WellFormed q) (fit : fitsIn e q ≡ t
       let Q = w .second in
       let seq = bodies-sequential (q .arities) (q .arities) (q .bodies) (w .bodies) in
       need-passed 5 _ _
-      (true-both (leb (length (q .arities)) mostDefinitions) (all (λ a. leb a greatestArity) (q .arities)) (le-leb _ _ (w .definitions))
+      (true-both (leb (length (q .arities)) mostDefinitions) (every (λ a. leb a greatestArity) (q .arities)) (le-leb _ _ (w .definitions))
       (every-all (λ a. leb a greatestArity) (λ a. a ≤ greatestArity) (λ a. le-leb a greatestArity) (q .arities) (w .parameters)))
       ∙ need-passed 6 _ _ (rw (t .bodies, t .first, t .second))
       ∙ bind-to _ (bodies-read e (q .arities) (q .arities) (q .bodies) (w .bodies))
@@ -394,10 +376,10 @@ size-fits d P h =
     true-both (leb 1 (length (encodeIn one d P))) (leb (length (encodeIn one d P)) longestTerm)
     (le-leb 1 (length (encodeIn one d P)) (encode-some-in one d P)) (le-leb (length (encodeIn one d P)) longestTerm (rw encode-first h))
 
-bodies-fit : (arities sizes : List ℕ) (Ps : List Term) → BodiesAllowed arities sizes Ps → all fits (bodyFieldsIn one sizes Ps) ≡ true
-unfolding BodiesAllowed bodyFieldsIn all
+bodies-fit : (arities sizes : List ℕ) (Ps : List Term) → BodiesAllowed arities sizes Ps → every fits (bodyFieldsIn one sizes Ps) ≡ true
+unfolding BodiesAllowed bodyFieldsIn every
 bodies-fit arities (a ∷ sizes) (P ∷ Ps) h =
-    true-both (fits (encodeIn one a P)) (all fits (bodyFieldsIn one sizes Ps)) (size-fits a P (h .0 .size)) (bodies-fit arities sizes Ps (h .1))
+    true-both (fits (encodeIn one a P)) (every fits (bodyFieldsIn one sizes Ps)) (size-fits a P (h .0 .size)) (bodies-fit arities sizes Ps (h .1))
 bodies-fit arities [] [] h = refl
 
 pub fits-first : (q : Question) → WellFormed q → fitsIn one q ≡ true

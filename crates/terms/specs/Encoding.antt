@@ -24,7 +24,7 @@ encode d (par P Q) = 7 ∷ (encode d P ++ encode d Q)
 encode d (res P) = 8 ∷ encode (1 + d) P
 encode d (call k ns) = 9 ∷ k ∷ map (nameByte d) ns
 
--- Each name is one of d binders or one of the free names, of which there are `free` (16 in a part, 0 in a body).
+-- Each name is one of d binders or one of the free names, of which there are `free` (`nameCount` in a part, 0 in a body).
 unfoldable pub NamesInScope : ℕ → ℕ → List ℕ → Type 0
 NamesInScope free d [] = Unit {0}
 NamesInScope free d (n ∷ ns) = (n < d + free) × NamesInScope free d ns

@@ -3,7 +3,7 @@ use mathlib.Core.Bool.{cond}
 use mathlib.Core.List.{List, [], _∷_, _++_}
 use Prim.Native.Nat.{ℕ, zero, suc, _+_, _*_, _/_, _%_}
 use lib.ListN.{length, getD, take, drop}
-use lib.Dec.{leb, eqb}
+use lib.Dec.{ltb, leb, eqb}
 use Rattle.terms.specs.Answer.{Answer, refused, result, _>>=_, _>>_, need}
 use Rattle.terms.specs.Edition.{Edition, versionByte}
 
@@ -11,10 +11,12 @@ use Rattle.terms.specs.Edition.{Edition, versionByte}
 unfoldable pub cut : ℕ → List ℕ → Answer (List ℕ × List ℕ)
 cut n bs = cond (leb n (length bs)) (result (take n bs, drop n bs)) (refused 4)
 
--- A body, part or apart list: its length as two bytes, the greater half first, then its bytes.
+-- A body, part or apart list: its length as two bytes, the greater half first, then its bytes. A length has one way to be written: the lower half
+-- is a byte (a number above 255 is none).
 unfoldable pub field : List ℕ → Answer (List ℕ × List ℕ)
 field bs = do
   (size, bs) ← cut 2 bs
+  need 4 (ltb (getD size 1 0) 256)
   cut (256 * getD size 0 0 + getD size 1 0) bs
 
 unfoldable pub fields : ℕ → List ℕ → Answer (List (List ℕ) × List ℕ)

@@ -25,9 +25,9 @@ pub record Question : Type 0 where
   pub apart : Pairs
 
 module _ {A : Type 0} where
-  unfoldable pub all : (A → Bool) → List A → Bool
-  all p [] = true
-  all p (x ∷ xs) = p x && all p xs
+  unfoldable pub every : (A → Bool) → List A → Bool
+  every p [] = true
+  every p (x ∷ xs) = p x && every p xs
 
 -- Check 3, of a question that must be of this edition: the version byte; the bytes behind it.
 unfoldable pub version : Edition → List ℕ → Answer (List ℕ)
@@ -74,16 +74,16 @@ module _ (names : ℕ) where
     bodies ← readBodies e (numbered (f .arities)) (f .arities) (f .bodies)
     first ← readPartWith e (numbered (f .arities)) (f .first)
     second ← readPartWith e (numbered (f .arities)) (f .second)
-    need 10 (all sequential bodies && parallelOutermost first && parallelOutermost second)
-    need 11 (all guarded bodies)
+    need 10 (every sequential bodies && parallelOutermost first && parallelOutermost second)
+    need 11 (every guarded bodies)
     apart ← readApartWith (f .apart)
     result (record { arities = f .arities; bodies = bodies; first = first; second = second; apart = apart })
 
   -- Checks 5 to 12. Check 6 goes by the bytes of the file.
   unfoldable pub checkFieldsWith : Edition → Fields → Answer Question
   checkFieldsWith e f = do
-    need 5 (leb (length (f .arities)) mostDefinitions && all (λ a. leb a greatestArity) (f .arities))
-    need 6 (all fits (f .bodies) && fits (f .first) && fits (f .second))
+    need 5 (leb (length (f .arities)) mostDefinitions && every (λ a. leb a greatestArity) (f .arities))
+    need 6 (every fits (f .bodies) && fits (f .first) && fits (f .second))
     checkTermsWith e f
 
   -- Checks 3 to 12, in their order, of a question that must be of this edition.
@@ -156,7 +156,7 @@ writeIn e q = joined e (fieldsIn e q)
 
 -- No body or part is above 112 bytes in this edition.
 unfoldable pub fitsIn : Edition → Question → Bool
-fitsIn e q = all fits (bodyFieldsIn e (q .arities) (q .bodies)) && fits (encodeIn e 0 (q .first)) && fits (encodeIn e 0 (q .second))
+fitsIn e q = every fits (bodyFieldsIn e (q .arities) (q .bodies)) && fits (encodeIn e 0 (q .first)) && fits (encodeIn e 0 (q .second))
 
 -- In edition one, by `encode`.
 unfoldable pub bodyFields : List ℕ → List Term → List (List ℕ)

@@ -14,7 +14,7 @@ unfoldable pub byte : List ℕ → Answer (ℕ × List ℕ)
 byte [] = refused 7
 byte (b ∷ bs) = result (b, bs)
 
--- Check 9: a name under d binders is a free name, of which there are `free` (16 in a part, 0 in a body), or a binder within reach.
+-- Check 9: a name under d binders is a free name, of which there are `free` (`nameCount` in a part, 0 in a body), or a binder within reach.
 unfoldable pub readName : ℕ → ℕ → List ℕ → Answer (ℕ × List ℕ)
 readName free d bs = do
   (b, bs) ← byte bs

@@ -57,6 +57,15 @@ module _ (e : Edition) (f : Fields) (framable : Framable f) where
   at-apart =
       behind-of (joined e f) secondPlace (f .second) (sized (f .apart)) (framable .second) at-second ∙ sym (append-nil (sized (f .apart)))
 
+  pub first-field : fieldAt (joined e f) firstPlace ≡ f .first
+  first-field = field-of (joined e f) firstPlace (f .first) _ (framable .first) at-first
+
+  pub second-field : fieldAt (joined e f) secondPlace ≡ f .second
+  second-field = field-of (joined e f) secondPlace (f .second) _ (framable .second) at-second
+
+  pub apart-field : fieldAt (joined e f) apartPlace ≡ f .apart
+  apart-field = field-of (joined e f) apartPlace (f .apart) [] (framable .apart) at-apart
+
   pub first-bytes : drop (firstPlace + 2) (joined e f) ≡ f .first ++ (sized (f .second) ++ sized (f .apart))
   first-bytes = bytes-behind-size (joined e f) firstPlace (f .first) (sized (f .second) ++ sized (f .apart)) (framable .first) at-first
 
@@ -140,13 +149,11 @@ module _ (e : Edition) (s : List ℕ) (q : Question) (h : checkIn e s ≡ result
       → fieldAt s apart ≡ pairBytes (q .apart)
   unfolding fieldsIn
   apart-in first second apart x y z =
-      let fr = framable-of in
-      let f = fieldsIn e q in
       let y′ : second ≡ afterField s (fieldPlace s (definitionsOf s)) = y ∙ ap (afterField s) x in
       let z′ : apart ≡ afterField s (afterField s (fieldPlace s (definitionsOf s))) = z ∙ ap (afterField s) y′ in
       rw z′
       (subst (λ (s : List ℕ). fieldAt s (afterField s (afterField s (fieldPlace s (definitionsOf s)))) ≡ pairBytes (q .apart)) joined-in
-      (field-of (joined e f) (apartPlace e f fr) (f .apart) [] (fr .apart) (at-apart e f fr)))
+      (apart-field e (fieldsIn e q) framable-of))
 
   pub arities-in : aritiesOf s ≡ q .arities
   unfolding fieldsIn

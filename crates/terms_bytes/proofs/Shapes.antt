@@ -11,7 +11,7 @@ use lib.Dec.{leb, eqb}
 use borrow.Author.Tests.{leb-true}
 use Rattle.calculus.specs.Term.{Term, nil, tau, inp, out, bout, mat, sum, par, res, call, ren}
 use Rattle.terms.specs.Encoding.{nameByte, encode, NamesInScope, InScope}
-use Rattle.terms_bytes.specs.Shape.{fixedBytes, ownNames, binders, subterms, frontBytes, fixedAt, namesBehind, namesAt, bindersAt, partsAt, ShapeIs}
+use Rattle.terms_bytes.specs.Shape.{fixedBytes, ownNames, binders, subterms, frontBytes, fixedAt, namesBehind, namesAt, bindersAt, subtermsAt, ShapeIs}
 use Rattle.terms_bytes.specs.declared.shape.Shape.{Shape}
 use Rattle.terms_bytes.proofs.Stores.{span, getD-front}
 use Rattle.terms_bytes.proofs.NameTables.{liftBy}
@@ -61,8 +61,8 @@ binders-else (suc (suc (suc (suc (suc (suc (suc zero))))))) a b c = refl
 binders-else (suc (suc (suc (suc (suc (suc (suc (suc zero)))))))) a b c = absurd (c refl)
 binders-else (suc (suc (suc (suc (suc (suc (suc (suc (suc t))))))))) a b c = refl
 
-pub parts-one : (t : ℕ) → (t ≡ 0 → ⊥) → (t ≡ 6 → ⊥) → (t ≡ 7 → ⊥) → t < 9 → 1 ≡ partsAt t
-unfolding partsAt
+pub parts-one : (t : ℕ) → (t ≡ 0 → ⊥) → (t ≡ 6 → ⊥) → (t ≡ 7 → ⊥) → t < 9 → 1 ≡ subtermsAt t
+unfolding subtermsAt
 parts-one zero a b c h = absurd (a refl)
 parts-one (suc zero) a b c h = refl
 parts-one (suc (suc zero)) a b c h = refl
@@ -176,20 +176,20 @@ pub record Front (arities : List ℕ) (P : Term) : Type 0 where
   pub fixed : length (fixedBytes P) ≡ fixedAt (getD (fixedBytes P) 0 0)
   pub names : length (ownNames P) ≡ namesAt arities (getD (fixedBytes P) 0 0) (getD (fixedBytes P) 1 0)
   pub binds : bindersAt (getD (fixedBytes P) 0 0) ≡ binders P
-  pub parts : partsAt (getD (fixedBytes P) 0 0) ≡ length (subterms P)
+  pub subterms : subtermsAt (getD (fixedBytes P) 0 0) ≡ length (subterms P)
 
 pub front-of : (free : ℕ) (arities : List ℕ) (d : ℕ) (P : Term) → InScope free arities d P → Front arities P
-unfolding InScope fixedBytes ownNames binders subterms fixedAt namesAt bindersAt partsAt
-front-of free arities d nil h = record { fixed = refl; names = refl; binds = refl; parts = refl }
-front-of free arities d (tau P) h = record { fixed = refl; names = refl; binds = refl; parts = refl }
-front-of free arities d (inp a P) h = record { fixed = refl; names = refl; binds = refl; parts = refl }
-front-of free arities d (out a b P) h = record { fixed = refl; names = refl; binds = refl; parts = refl }
-front-of free arities d (bout a P) h = record { fixed = refl; names = refl; binds = refl; parts = refl }
-front-of free arities d (mat a b P) h = record { fixed = refl; names = refl; binds = refl; parts = refl }
-front-of free arities d (sum P Q) h = record { fixed = refl; names = refl; binds = refl; parts = refl }
-front-of free arities d (par P Q) h = record { fixed = refl; names = refl; binds = refl; parts = refl }
-front-of free arities d (res P) h = record { fixed = refl; names = refl; binds = refl; parts = refl }
-front-of free arities d (call k ns) h = record { fixed = refl; names = h .1; binds = refl; parts = refl }
+unfolding InScope fixedBytes ownNames binders subterms fixedAt namesAt bindersAt subtermsAt
+front-of free arities d nil h = record { fixed = refl; names = refl; binds = refl; subterms = refl }
+front-of free arities d (tau P) h = record { fixed = refl; names = refl; binds = refl; subterms = refl }
+front-of free arities d (inp a P) h = record { fixed = refl; names = refl; binds = refl; subterms = refl }
+front-of free arities d (out a b P) h = record { fixed = refl; names = refl; binds = refl; subterms = refl }
+front-of free arities d (bout a P) h = record { fixed = refl; names = refl; binds = refl; subterms = refl }
+front-of free arities d (mat a b P) h = record { fixed = refl; names = refl; binds = refl; subterms = refl }
+front-of free arities d (sum P Q) h = record { fixed = refl; names = refl; binds = refl; subterms = refl }
+front-of free arities d (par P Q) h = record { fixed = refl; names = refl; binds = refl; subterms = refl }
+front-of free arities d (res P) h = record { fixed = refl; names = refl; binds = refl; subterms = refl }
+front-of free arities d (call k ns) h = record { fixed = refl; names = h .1; binds = refl; subterms = refl }
 
 -- What is in scope: the own names, and each subterm beneath the binders.
 abbrev pub AllInScope : ℕ → List ℕ → ℕ → List Term → Type 0
@@ -261,8 +261,8 @@ module _ (s : List ℕ) (at : ℕ) (arities : List ℕ) (h : Shape) (is : ShapeI
   pub shape-binds : h .binds ≡ binders P
   shape-binds = is .binds ∙ ap bindersAt tag ∙ front .binds
 
-  pub shape-parts : h .parts ≡ length (subterms P)
-  shape-parts = is .parts ∙ ap partsAt tag ∙ front .parts
+  pub shape-parts : h .subterms ≡ length (subterms P)
+  shape-parts = is .subterms ∙ ap subtermsAt tag ∙ front .subterms
 
   pub span-fixed : span s at (h .fixed) ≡ fixedBytes P
   span-fixed = rw (shape-fixed, fixed-then, take-append-seam)

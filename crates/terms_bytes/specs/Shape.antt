@@ -89,15 +89,15 @@ namesAt arities t k = cond (eqb t 9) (getD arities k 0) (namesBehind t)
 unfoldable pub bindersAt : ℕ → ℕ
 bindersAt t = getD (0 ∷ 0 ∷ 1 ∷ 0 ∷ 1 ∷ 0 ∷ 0 ∷ 0 ∷ 1 ∷ []) t 0
 
-unfoldable pub partsAt : ℕ → ℕ
-partsAt t = getD (0 ∷ 1 ∷ 1 ∷ 1 ∷ 1 ∷ 1 ∷ 2 ∷ 2 ∷ 1 ∷ []) t 0
+unfoldable pub subtermsAt : ℕ → ℕ
+subtermsAt t = getD (0 ∷ 1 ∷ 1 ∷ 1 ∷ 1 ∷ 1 ∷ 2 ∷ 2 ∷ 1 ∷ []) t 0
 
 -- The shape of what begins at `at`, and bounds that hold of any.
 pub record ShapeIs (s : List ℕ) (at : ℕ) (arities : List ℕ) (h : Shape) : Type 0 where
   pub fixed : h .fixed ≡ fixedAt (getD s at 0)
   pub names : h .names ≡ namesAt arities (getD s at 0) (getD s (at + 1) 0)
   pub binds : h .binds ≡ bindersAt (getD s at 0)
-  pub parts : h .parts ≡ partsAt (getD s at 0)
+  pub subterms : h .subterms ≡ subtermsAt (getD s at 0)
   pub some : 0 < h .fixed
   pub few : h .fixed + h .names < 512
   pub one : h .binds ≤ 1

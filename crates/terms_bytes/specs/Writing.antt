@@ -26,8 +26,8 @@ pub record Does (m : Answer (List ℕ)) (area : List ℕ) (r : Written) (area′
   pub left : area′ ≡ areaAfter m area
 
 -- The question passes checks 3 to 12, in its own edition; it is plain if that is edition one.
-unfoldable pub Accepted : List ℕ → Type 0
-Accepted question = (q : Question) × (questionOf question ≡ result q)
+unfoldable pub IsAccepted : List ℕ → Type 0
+IsAccepted question = (q : Question) × (questionOf question ≡ result q)
 
 unfoldable pub Plain : List ℕ → Type 0
 Plain question = (q : Question) × (checkOf question ≡ result q)

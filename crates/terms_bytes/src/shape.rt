@@ -2,7 +2,7 @@
 ghost use mathlib.Core.Path.{_≡_};
 ghost use Prim.Native.Nat.{_<_};
 ghost use lib.ListN.{length};
-ghost use Rattle.terms_bytes.specs.Shape.{namesBehind, bindersAt, partsAt, ShapeIs};
+ghost use Rattle.terms_bytes.specs.Shape.{namesBehind, bindersAt, subtermsAt, ShapeIs};
 use crate::bytes::get;
 use crate::tags::CALL;
 use crate::tags::CHOICE;
@@ -22,7 +22,7 @@ pub struct Shape {
     // the binders before the subterms
     pub binds: usize,
     // the subterms
-    pub parts: usize,
+    pub subterms: usize,
 }
 
 // How many names stand behind the first byte, unless it is a call's. Tests take less than a table, which would be made anew at each call.
@@ -59,8 +59,8 @@ fn binders_of(t: u8) -> usize
     0
 }
 
-fn parts_of(t: u8) -> usize
-    ensures { λ r. ⌜ r ≡ partsAt t ⌝ }
+fn subterm_count(t: u8) -> usize
+    ensures { λ r. ⌜ r ≡ subtermsAt t ⌝ }
 {
     if t == INACTION {
         return 0;
@@ -90,13 +90,13 @@ pub fn shape_at(src: &[u8], at: usize, arities: &[u8]) -> Shape
             fixed: 2,
             names: n,
             binds: 0,
-            parts: 0,
+            subterms: 0,
         };
     }
     Shape {
         fixed: 1,
         names: names_of(t),
         binds: binders_of(t),
-        parts: parts_of(t),
+        subterms: subterm_count(t),
     }
 }

@@ -11,10 +11,10 @@ use Rattle.calculus.specs.Cond.{Pairs}
 use Rattle.calculus.specs.Term.{Term}
 use Rattle.terms.specs.Edition.{Edition}
 use Rattle.terms.specs.Answer.{Answer, refused, result, _>>=_, _>>_, need}
-use Rattle.terms_checks.specs.Checking.{zeroFor, fieldsFrom, met, controlOfAll, bodiesScanned}
+use Rattle.terms_checks.specs.Checking.{zeroFor, fieldsFrom, jointOf, controlOfAll, bodiesScanned}
 use Rattle.terms_bytes.specs.FieldPlaces.{afterField, fieldAt}
 use Rattle.terms.specs.Limits.{nameCount, longestTerm, longestApart}
-use Rattle.terms.specs.Question.{all, fits, differentNames, differentNamesWith, readBodies, readPairs, readPairsWith, readApart, readApartWith}
+use Rattle.terms.specs.Question.{every, fits, differentNames, differentNamesWith, readBodies, readPairs, readPairsWith, readApart, readApartWith}
 use Rattle.terms.specs.Reading.{numbered, readWhole}
 use Rattle.terms_checks.specs.Scanning.{controlOf, passing, scannedWhole, wholeAnswer}
 use Rattle.terms_checks.specs.declared.scan.Control.{Control}
@@ -24,38 +24,38 @@ use Rattle.terms_checks.proofs.ScanLaws.{drop-here}
 
 -- A test over a list, from a position on.
 module _ (p : ℕ → Bool) (s : List ℕ) (i : ℕ) where
-  pub all-fails : i < length s → p (getD s i 0) ≡ false → all p (drop i s) ≡ false
-  unfolding all
+  pub all-fails : i < length s → p (getD s i 0) ≡ false → every p (drop i s) ≡ false
+  unfolding every
   all-fails h e = rw (drop-here s i h, e)
 
-  pub all-passes : i < length s → p (getD s i 0) ≡ true → all p (drop i s) ≡ all p (drop (i + 1) s)
-  unfolding all
+  pub all-passes : i < length s → p (getD s i 0) ≡ true → every p (drop i s) ≡ every p (drop (i + 1) s)
+  unfolding every
   all-passes h e = rw (drop-here s i h, e)
 
-  pub all-done : length s ≤ i → all p (drop i s) ≡ true
-  unfolding all
+  pub all-done : length s ≤ i → every p (drop i s) ≡ true
+  unfolding every
   all-done h = rw (drop-of-length-le s h)
 
 -- Check 6 over fields that follow one another.
 module _ (s : List ℕ) (at m : ℕ) where
-  pub sizes-fail : 0 < m → fits (fieldAt s at) ≡ false → all fits (fieldsFrom s at m) ≡ false
-  unfolding all fieldsFrom
+  pub sizes-fail : 0 < m → fits (fieldAt s at) ≡ false → every fits (fieldsFrom s at m) ≡ false
+  unfolding every fieldsFrom
   sizes-fail = go m
     where
-      go : (m : ℕ) → 0 < m → fits (fieldAt s at) ≡ false → all fits (fieldsFrom s at m) ≡ false
+      go : (m : ℕ) → 0 < m → fits (fieldAt s at) ≡ false → every fits (fieldsFrom s at m) ≡ false
       go zero h e = absurd (omega arith)
       go (suc m) h e = rw e
 
-  pub sizes-pass : 0 < m → fits (fieldAt s at) ≡ true → all fits (fieldsFrom s at m) ≡ all fits (fieldsFrom s (afterField s at) (m - 1))
-  unfolding all fieldsFrom
+  pub sizes-pass : 0 < m → fits (fieldAt s at) ≡ true → every fits (fieldsFrom s at m) ≡ every fits (fieldsFrom s (afterField s at) (m - 1))
+  unfolding every fieldsFrom
   sizes-pass = go m
     where
-      go : (m : ℕ) → 0 < m → fits (fieldAt s at) ≡ true → all fits (fieldsFrom s at m) ≡ all fits (fieldsFrom s (afterField s at) (m - 1))
+      go : (m : ℕ) → 0 < m → fits (fieldAt s at) ≡ true → every fits (fieldsFrom s at m) ≡ every fits (fieldsFrom s (afterField s at) (m - 1))
       go zero h e = absurd (omega arith)
       go (suc m) h e = let q : suc m - 1 ≡ m = omega arith in rw (e, q)
 
-  pub sizes-done : m ≡ 0 → all fits (fieldsFrom s at m) ≡ true
-  unfolding all fieldsFrom
+  pub sizes-done : m ≡ 0 → every fits (fieldsFrom s at m) ≡ true
+  unfolding every fieldsFrom
   sizes-done e = rw e
 
 module _ (bs : List ℕ) where
@@ -127,13 +127,13 @@ apart-long s h = rw (lt-leb (length s) longestApart h)
 
 -- Checks 7 to 9 of the bodies, one after another.
 bodies-step : (ed : Edition) (arities : List ℕ) (a : ℕ) (sizes b : List ℕ) (bs : List (List ℕ)) → bodiesScanned ed arities (a ∷ sizes) (b ∷ bs)
-    ≡ (scannedWhole ed 0 arities a b >>= λ p. (bodiesScanned ed arities sizes bs >>= λ q. result (met p q)))
+    ≡ (scannedWhole ed 0 arities a b >>= λ p. (bodiesScanned ed arities sizes bs >>= λ q. result (jointOf p q)))
 unfolding bodiesScanned scannedWhole readBodies controlOfAll _>>=_
 bodies-step ed arities a sizes b bs = go (readWhole ed (numbered arities) 0 a b) (readBodies ed (numbered arities) sizes bs)
   where
     go : (m : Answer Term) (n : Answer (List Term)) →
         ((m >>= λ P. (n >>= λ Ps. result (P ∷ Ps))) >>= λ Ps. result (controlOfAll Ps))
-        ≡ ((m >>= λ P. result (controlOf P)) >>= λ p. ((n >>= λ Ps. result (controlOfAll Ps)) >>= λ q. result (met p q)))
+        ≡ ((m >>= λ P. result (controlOf P)) >>= λ p. ((n >>= λ Ps. result (controlOfAll Ps)) >>= λ q. result (jointOf p q)))
     go (refused k) n = refl
     go (result P) (refused k) = refl
     go (result P) (result Ps) = refl
@@ -150,7 +150,7 @@ module _ (ed : Edition) (s list : List ℕ) (i at : ℕ) where
     abbrev later : Answer Control
     later = bodiesScanned ed list (drop (i + 1) list) (fieldsFrom s (afterField s at) (length (drop (i + 1) list)))
 
-    one-more : bodiesLeft ≡ (scannedWhole ed 0 list (getD list i 0) (fieldAt s at) >>= λ p. (later >>= λ q. result (met p q)))
+    one-more : bodiesLeft ≡ (scannedWhole ed 0 list (getD list i 0) (fieldAt s at) >>= λ p. (later >>= λ q. result (jointOf p q)))
     unfolding fieldsFrom
     one-more = rw (drop-here list i h) (bodies-step ed list (getD list i 0) (drop (i + 1) list) (fieldAt s at) _)
 
@@ -163,6 +163,6 @@ module _ (ed : Edition) (s list : List ℕ) (i at : ℕ) where
       unfolding wholeAnswer
       bodies-later-fault k w = one-more ∙ bind-to _ one ∙ bind-refused _ w
 
-      pub bodies-all : (l l′ : ℕ) (q c : Control) → later ≡ wholeAnswer (End l q) → c ≡ met p q → bodiesLeft ≡ wholeAnswer (End l′ c)
+      pub bodies-all : (l l′ : ℕ) (q c : Control) → later ≡ wholeAnswer (End l q) → c ≡ jointOf p q → bodiesLeft ≡ wholeAnswer (End l′ c)
       unfolding wholeAnswer
       bodies-all l l′ q c w m = one-more ∙ bind-to _ one ∙ bind-to _ w ∙ rw m

@@ -7,7 +7,7 @@ use lib.ListN.{length, drop}
 use Rattle.terms_checks.specs.Checking.{fieldsFrom, firstPlace, secondPlace, apartPlace, fieldsAt, bodiesScanned, partsScanned}
 use Rattle.terms_bytes.specs.FieldPlaces.{aritiesOf, afterField, fieldAt, fieldPlace}
 use Rattle.terms.specs.Edition.{Edition}
-use Rattle.terms.specs.Question.{all, fits}
+use Rattle.terms.specs.Question.{every, fits}
 use Rattle.terms_checks.specs.Scanning.{wholeAnswer}
 use Rattle.terms_checks.specs.declared.scan.Scan.{Scan}
 
@@ -29,7 +29,7 @@ module _ (s list : List ℕ) (is : list ≡ aritiesOf s) where
   unfolding fieldsAt
   arities-at = sym is
 
-  pub fits-at : (at : ℕ) → at ≡ fieldPlace s 0 → all fits (fieldsAt s .bodies) ≡ all fits (fieldsFrom s at (length list))
+  pub fits-at : (at : ℕ) → at ≡ fieldPlace s 0 → every fits (fieldsAt s .bodies) ≡ every fits (fieldsFrom s at (length list))
   unfolding fieldsAt
   fits-at at p = rw (is, p)
 

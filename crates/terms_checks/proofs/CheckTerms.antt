@@ -10,11 +10,11 @@ use Rattle.calculus.specs.Cond.{Pairs}
 use Rattle.calculus.specs.Term.{Term}
 use Rattle.terms.specs.Edition.{Edition}
 use Rattle.terms.specs.Answer.{Answer, refused, result, _>>=_, _>>_, need}
-use Rattle.terms_checks.specs.Checking.{checkedAnswer, zeroFor, allFit, met, controlOfAll, bodiesScanned, partsScanned, ofBoth, termsScanned}
+use Rattle.terms_checks.specs.Checking.{checkedAnswer, zeroFor, allFit, jointOf, controlOfAll, bodiesScanned, partsScanned, ofBoth, termsScanned}
 use Rattle.terms.specs.Framing.{Fields}
 use Rattle.terms.specs.Grammar.{sequential, parallelOutermost, guarded}
 use Rattle.terms.specs.Limits.{nameCount, mostDefinitions, greatestArity}
-use Rattle.terms.specs.Question.{Question, all, fits, readBodies, readPart, readPartWith, readApart, checkTerms, checkTermsWith, checkFields, checkFieldsWith}
+use Rattle.terms.specs.Question.{Question, every, fits, readBodies, readPart, readPartWith, readApart, checkTerms, checkTermsWith, checkFields, checkFieldsWith}
 use Rattle.terms.specs.Reading.{numbered, readWhole}
 use Rattle.terms_checks.specs.Scanning.{controlOf, passing, scannedWhole, wholeAnswer}
 use Rattle.terms_checks.specs.declared.check.Checked.the-variants.{Accepted, Refused}
@@ -25,12 +25,12 @@ use Rattle.terms.proofs.Answers.{bind-to, bind-refused}
 -- Both parts.
 module _ (ed : Edition) (arities first second : List ℕ) where
   parts-step : partsScanned ed arities first second
-      ≡ (scannedWhole ed nameCount arities 0 first >>= λ p. (scannedWhole ed nameCount arities 0 second >>= λ q. result (met p q)))
+      ≡ (scannedWhole ed nameCount arities 0 first >>= λ p. (scannedWhole ed nameCount arities 0 second >>= λ q. result (jointOf p q)))
   unfolding partsScanned scannedWhole readPartWith _>>=_
   parts-step = go (readWhole ed (numbered arities) nameCount 0 first) (readWhole ed (numbered arities) nameCount 0 second)
     where
-      go : (m n : Answer Term) → (m >>= λ P. (n >>= λ Q. result (met (controlOf P) (controlOf Q))))
-          ≡ ((m >>= λ P. result (controlOf P)) >>= λ p. ((n >>= λ Q. result (controlOf Q)) >>= λ q. result (met p q)))
+      go : (m n : Answer Term) → (m >>= λ P. (n >>= λ Q. result (jointOf (controlOf P) (controlOf Q))))
+          ≡ ((m >>= λ P. result (controlOf P)) >>= λ p. ((n >>= λ Q. result (controlOf Q)) >>= λ q. result (jointOf p q)))
       go (refused k) n = refl
       go (result P) (refused k) = refl
       go (result P) (result Q) = refl
@@ -45,7 +45,7 @@ module _ (ed : Edition) (arities first second : List ℕ) where
     unfolding wholeAnswer
     second-fault k e = parts-step ∙ bind-to _ one ∙ bind-refused _ e
 
-    pub parts-both : (l₁ l₂ : ℕ) (q c : Control) → scannedWhole ed nameCount arities 0 second ≡ wholeAnswer (End l₁ q) → c ≡ met p q →
+    pub parts-both : (l₁ l₂ : ℕ) (q c : Control) → scannedWhole ed nameCount arities 0 second ≡ wholeAnswer (End l₁ q) → c ≡ jointOf p q →
         partsScanned ed arities first second ≡ wholeAnswer (End l₂ c)
     unfolding wholeAnswer
     parts-both l₁ l₂ q c e m = parts-step ∙ bind-to _ one ∙ bind-to _ e ∙ rw m
@@ -67,13 +67,13 @@ module _ (ed : Edition) (f : Fields) where
     terms-right l₁ l₂ q e = bind-to _ bodies ∙ bind-to _ e
 
 -- The tests over all bodies.
-all-sequential : (Ps : List Term) → controlOfAll Ps .sequential ≡ all sequential Ps
-unfolding controlOfAll met controlOf passing all
+all-sequential : (Ps : List Term) → controlOfAll Ps .sequential ≡ every sequential Ps
+unfolding controlOfAll jointOf controlOf passing every
 all-sequential [] = refl
 all-sequential (P ∷ Ps) = ap (λ b. sequential P && b) (all-sequential Ps)
 
-all-guarded : (Ps : List Term) → controlOfAll Ps .guarded ≡ all guarded Ps
-unfolding controlOfAll met controlOf passing all
+all-guarded : (Ps : List Term) → controlOfAll Ps .guarded ≡ every guarded Ps
+unfolding controlOfAll jointOf controlOf passing every
 all-guarded [] = refl
 all-guarded (P ∷ Ps) = ap (λ b. guarded P && b) (all-guarded Ps)
 
@@ -98,24 +98,24 @@ module _ (ed : Edition) (f : Fields) where
   tests-same true true (result D) B P Q = refl
 
   pub terms-first : zeroFor (checkTerms ed f) ≡ (termsScanned ed f >>= behindTerms (f .apart))
-  unfolding checkTermsWith termsScanned bodiesScanned partsScanned behindTerms ofBoth met controlOf zeroFor _>>=_
+  unfolding checkTermsWith termsScanned bodiesScanned partsScanned behindTerms ofBoth jointOf controlOf zeroFor _>>=_
   terms-first = go (readBodies ed (numbered (f .arities)) (f .arities) (f .bodies)) (readPart ed (numbered (f .arities)) (f .first)) (readPart ed (numbered (f .arities)) (f .second))
     where
       go : (m : Answer (List Term)) (n o : Answer Term) →
           zeroFor
           (m >>= λ B. (n >>= λ P. (o >>= λ Q.
-          (need 10 (all sequential B && parallelOutermost P && parallelOutermost Q)
-          >> (need 11 (all guarded B) >> (readApart (f .apart) >>= made B P Q))))))
+          (need 10 (every sequential B && parallelOutermost P && parallelOutermost Q)
+          >> (need 11 (every guarded B) >> (readApart (f .apart) >>= made B P Q))))))
           ≡ (((m >>= λ Ps. result (controlOfAll Ps))
-          >>= λ b. ((n >>= λ P. (o >>= λ Q. result (met (controlOf P) (controlOf Q)))) >>= λ p. result (ofBoth b p)))
+          >>= λ b. ((n >>= λ P. (o >>= λ Q. result (jointOf (controlOf P) (controlOf Q)))) >>= λ p. result (ofBoth b p)))
           >>= behindTerms (f .apart))
       go (refused k) n o = refl
       go (result B) (refused k) o = refl
       go (result B) (result P) (refused k) = refl
       go (result B) (result P) (result Q) =
-          tests-same (all sequential B && parallelOutermost P && parallelOutermost Q) (all guarded B) (readApart (f .apart)) B P Q
+          tests-same (every sequential B && parallelOutermost P && parallelOutermost Q) (every guarded B) (readApart (f .apart)) B P Q
           ∙ ap₂ (λ t u. need 10 t >> (need 11 u >> zeroFor (readApart (f .apart))))
-          (and-assoc (all sequential B) (parallelOutermost P) (parallelOutermost Q)
+          (and-assoc (every sequential B) (parallelOutermost P) (parallelOutermost Q)
           ∙ ap (λ b. b && (parallelOutermost P && parallelOutermost Q)) (sym (all-sequential B)))
           (sym (all-guarded B))
 
@@ -158,11 +158,11 @@ module _ (ed : Edition) (f : Fields) where
   many-refused h = rw (lt-leb (length (f .arities)) mostDefinitions h)
 
   module _ (few : length (f .arities) ≤ mostDefinitions) where
-    pub arity-refused : all (λ a. leb a greatestArity) (f .arities) ≡ false → zeroFor (checkFields ed f) ≡ checkedAnswer (Refused 5)
+    pub arity-refused : every (λ a. leb a greatestArity) (f .arities) ≡ false → zeroFor (checkFields ed f) ≡ checkedAnswer (Refused 5)
     unfolding checkFieldsWith checkedAnswer zeroFor need _>>_ _>>=_
     arity-refused e = rw (le-leb (length (f .arities)) mostDefinitions few, e)
 
-    module _ (small : all (λ a. leb a greatestArity) (f .arities) ≡ true) where
+    module _ (small : every (λ a. leb a greatestArity) (f .arities) ≡ true) where
       pub size-refused : allFit f ≡ false → zeroFor (checkFields ed f) ≡ checkedAnswer (Refused 6)
       unfolding allFit checkFieldsWith checkedAnswer zeroFor need _>>_ _>>=_
       size-refused e = rw (le-leb (length (f .arities)) mostDefinitions few, small, e)
@@ -173,11 +173,11 @@ module _ (ed : Edition) (f : Fields) where
 
 -- Check 6, part by part.
 module _ (f : Fields) where
-  pub body-long : all fits (f .bodies) ≡ false → false ≡ allFit f
+  pub body-long : every fits (f .bodies) ≡ false → false ≡ allFit f
   unfolding allFit
   body-long e = rw e
 
-  module _ (bodies : all fits (f .bodies) ≡ true) where
+  module _ (bodies : every fits (f .bodies) ≡ true) where
     pub first-long : fits (f .first) ≡ false → false ≡ allFit f
     unfolding allFit
     first-long e = rw (bodies, e)

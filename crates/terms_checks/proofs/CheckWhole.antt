@@ -43,16 +43,16 @@ module _ (ed : Edition) (s : List ℕ) (some : 0 < length s) (first : getD s 0 0
   unfolding zeroFor checkWith checkedAnswer need _>>_ _>>=_
   length-refused h = rw (behind-version, lt-leb (length s) longestQuestion h)
 
-  module _ (short : length s ≤ longestQuestion) where
+  module _ (short : length s ≤ longestQuestion) (bytes : (i : ℕ) → getD s i 0 < 256) where
     pub framing-refused : eqb (afterField s (apartPlace s)) (length s) ≡ false → zeroFor (checkIn ed s) ≡ checkedAnswer (Refused 4)
     unfolding zeroFor checkWith checkedAnswer need _>>_ _>>=_
     framing-refused e =
-        rw (behind-version, le-leb (length s) longestQuestion short, framed-not s some (eqb-false (afterField s (apartPlace s)) (length s) e))
+        rw (behind-version, le-leb (length s) longestQuestion short, framed-not s bytes some (eqb-false (afterField s (apartPlace s)) (length s) e))
 
     pub framing-passed : eqb (afterField s (apartPlace s)) (length s) ≡ true → zeroFor (checkIn ed s) ≡ zeroFor (checkFields ed (fieldsAt s))
     unfolding checkWith zeroFor need _>>_ _>>=_
     framing-passed e =
-        rw (behind-version, le-leb (length s) longestQuestion short, framed-there s (eqb-true (afterField s (apartPlace s)) (length s) e))
+        rw (behind-version, le-leb (length s) longestQuestion short, framed-there s bytes (eqb-true (afterField s (apartPlace s)) (length s) e))
 
 -- The edition that the first byte says.
 pub says-two : (s : List ℕ) → getD s 0 0 ≡ 2 → editionOf s ≡ two

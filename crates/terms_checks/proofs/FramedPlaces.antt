@@ -1,4 +1,5 @@
--- Check 4 at places: the fields are framed exactly if the place behind the apart list is the end of the question, and then they are those at their places.
+-- Check 4 at places: the fields of a list of bytes are framed exactly if the place behind the apart list is the end of the question, and then they
+-- are those at their places.
 use mathlib.Core.Path.{_≡_, refl, sym, ap, ap₂, _∙_}
 use mathlib.Core.Bool.{Bool, true, false}
 use mathlib.Core.List.{List, [], _∷_, _++_}
@@ -8,13 +9,13 @@ use native.Mathlib.Numerals.{add-one}
 use native.Mathlib.Omega.{arith}
 use lib.ListN.{length, getD, take, drop, length-take, length-drop}
 use lib.Seq.{drop-drop, take-suc}
-use lib.Dec.{leb, eqb}
-use borrow.Author.Tests.{leb-true, leb-false, le-leb, lt-leb, eq-eqb, ne-eqb}
+use lib.Dec.{ltb, leb, eqb}
+use borrow.Author.Tests.{lt-ltb, leb-true, leb-false, le-leb, lt-leb, ne-eqb}
 use Rattle.terms.specs.Answer.{Answer, refused, result, _>>=_, _>>_, need}
 use Rattle.terms_checks.specs.Checking.{fieldsFrom, firstPlace, secondPlace, apartPlace, fieldsAt}
 use Rattle.terms_bytes.specs.FieldPlaces.{definitionsOf, aritiesOf, sizeAt, afterField, fieldAt, fieldPlace}
 use Rattle.terms.specs.Framing.{cut, field, fields, Fields, framed}
-use Rattle.terms.proofs.Answers.{bind-to, bind-refused}
+use Rattle.terms.proofs.Answers.{bind-to, bind-refused, need-passed}
 use Rattle.terms_bytes.proofs.Places.{after-held, after-past, field-held, held-of-after, past-of-after}
 use Rattle.terms_checks.proofs.ScanLaws.{drop-here}
 
@@ -33,7 +34,7 @@ module _ (s : List ℕ) (n first second apart : ℕ) (count : n ≡ definitionsO
     unfolding apartPlace
     apart-place three = three ∙ ap (afterField s) second-place
 
-module _ (s : List ℕ) where
+module _ (s : List ℕ) (bytes : (i : ℕ) → getD s i 0 < 256) where
   -- A cut behind a position.
   cut-there : (n at : ℕ) → at + n ≤ length s → cut n (drop at s) ≡ result (take n (drop at s), drop (at + n) s)
   unfolding cut
@@ -46,6 +47,9 @@ module _ (s : List ℕ) where
   size-bytes : (at : ℕ) → at + 2 ≤ length s → take 2 (drop at s) ≡ getD s at 0 ∷ getD s (at + 1) 0 ∷ []
   size-bytes at h = rw (drop-here s at (omega arith), drop-here s (at + 1) (omega arith))
 
+  low-passed : (at : ℕ) → ltb (getD s (at + 1) 0) 256 ≡ true
+  low-passed at = lt-ltb (getD s (at + 1) 0) 256 (bytes (at + 1))
+
   -- A field that begins at a position.
   module _ (at : ℕ) where
     sized-there : at + (sizeAt s at + 2) ≤ length s → cut (sizeAt s at) (drop (at + 2) s) ≡ result (fieldAt s at, drop (afterField s at) s)
@@ -55,7 +59,9 @@ module _ (s : List ℕ) where
 
     field-there : at + (sizeAt s at + 2) ≤ length s → field (drop at s) ≡ result (fieldAt s at, drop (afterField s at) s)
     unfolding field sizeAt
-    field-there h = bind-to _ (cut-there 2 at (omega arith)) ∙ rw (size-bytes at (omega arith)) (sized-there h)
+    field-there h =
+        bind-to _ (cut-there 2 at (omega arith))
+        ∙ rw (size-bytes at (omega arith)) (need-passed 4 (ltb (getD s (at + 1) 0) 256) _ (low-passed at) ∙ sized-there h)
 
     field-missing : length s < at + (sizeAt s at + 2) → field (drop at s) ≡ refused 4
     unfolding field sizeAt
@@ -64,7 +70,8 @@ module _ (s : List ℕ) where
         go : (t : Bool) → leb (at + 2) (length s) ≡ t → field (drop at s) ≡ refused 4
         go true e =
             let l = leb-true (at + 2) (length s) e in
-            bind-to _ (cut-there 2 at l) ∙ rw (size-bytes at l) (cut-missing _ (at + 2) (omega arith))
+            bind-to _ (cut-there 2 at l)
+            ∙ rw (size-bytes at l) (need-passed 4 (ltb (getD s (at + 1) 0) 256) _ (low-passed at) ∙ cut-missing _ (at + 2) (omega arith))
         go false e = let l = leb-false (at + 2) (length s) e in bind-refused _ (cut-missing 2 at (omega arith))
 
   -- Fields one after another.

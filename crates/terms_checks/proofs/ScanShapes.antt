@@ -13,7 +13,7 @@ use Rattle.terms.specs.Edition.{Edition}
 use Rattle.terms.specs.Answer.{Answer, refused, result, _>>=_, _>>_, need}
 use Rattle.terms.specs.Reading.{byte, readName, readNames, tagOf, numbered, readCount, readTerm}
 use Rattle.terms_checks.specs.Scanning.{behindNames, behindCall, behindFront, controlOf, passing, combined, scanned}
-use Rattle.terms_bytes.specs.Shape.{namesAt, bindersAt, partsAt}
+use Rattle.terms_bytes.specs.Shape.{namesAt, bindersAt, subtermsAt}
 use Rattle.terms_checks.specs.declared.scan.Control.{Control}
 use Rattle.terms_checks.proofs.ControlLaws.{control-nil, control-tau, control-inp, control-out, control-bout, control-mat, control-sum, control-par, control-res, control-call}
 
@@ -21,9 +21,9 @@ use Rattle.terms_checks.proofs.ControlLaws.{control-nil, control-tau, c
 module _ (ed : Edition) (free : ℕ) (arities : List ℕ) where
   unfoldable pub subtermsScanned : ℕ → ℕ → ℕ → List ℕ → Answer (Control × List ℕ)
   subtermsScanned n t d bs =
-      cond (eqb (partsAt t) 0) (result (combined t passing passing, bs))
+      cond (eqb (subtermsAt t) 0) (result (combined t passing passing, bs))
       (scanned ed free arities n d bs >>= λ x.
-      cond (eqb (partsAt t) 1) (result (combined t (x .0) passing, x .1))
+      cond (eqb (subtermsAt t) 1) (result (combined t (x .0) passing, x .1))
       (scanned ed free arities n d (x .1) >>= λ y. result (combined t (x .0) (y .0), y .1)))
 
 -- One lemma for each shape, over the answers of reading its pieces: what is kept of the term is found from what is kept of its subterms.
@@ -105,7 +105,7 @@ module _ (free d k : ℕ) where
 module _ (ed : Edition) (free : ℕ) (arities : List ℕ) (n d : ℕ) where
   pub scanned-by-shape : (t : ℕ) (bs : List ℕ) → scanned ed free arities (suc n) d (t ∷ bs)
       ≡ (behindFront ed free arities d (t ∷ bs) >>= subtermsScanned ed free arities n t (bindersAt t + d))
-  unfolding called scanned readTerm byte tagOf behindNames readNames behindFront behindCall namesAt bindersAt partsAt subtermsScanned need _>>_ _>>=_
+  unfolding called scanned readTerm byte tagOf behindNames readNames behindFront behindCall namesAt bindersAt subtermsAt subtermsScanned need _>>_ _>>=_
   scanned-by-shape zero bs = ap (λ c. result (c, bs)) control-nil
   scanned-by-shape (suc zero) bs = rw zero-add (one-term tau (λ p. combined 1 p passing) control-tau (readTerm ed (numbered arities) free n d bs))
   scanned-by-shape (suc (suc zero)) bs =

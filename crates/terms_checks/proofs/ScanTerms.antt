@@ -12,7 +12,7 @@ use Rattle.terms.specs.Edition.{Edition}
 use Rattle.terms.specs.Answer.{Answer, refused, result, _>>=_, _>>_, need}
 use Rattle.terms.specs.Reading.{byte, numbered, readTerm, readWhole}
 use Rattle.terms_checks.specs.Scanning.{behindFront, frontAnswer, NextWithin, FrontIs, controlOf, passing, combined, scanned, scanAnswer, EndWithin, ScanIs, scannedWhole, wholeAnswer}
-use Rattle.terms_bytes.specs.Shape.{bindersAt, partsAt}
+use Rattle.terms_bytes.specs.Shape.{bindersAt, subtermsAt}
 use Rattle.terms_checks.specs.declared.scan.Control.{Control}
 use Rattle.terms_checks.specs.declared.scan.Front.the-variants.{Next, Wrong}
 use Rattle.terms_checks.specs.declared.scan.Scan.{Scan}
@@ -73,21 +73,21 @@ module _ (ed : Edition) (free : ℕ) (arities : List ℕ) (d : ℕ) (s : List �
     enough : (n l : ℕ) → length s ≤ at + n → e ≤ l → length s ≤ l + (n - 1)
     enough n l h g = let i = inside in omega arith
 
-    pub scan-leaf : (c : Control) → partsAt firstByte ≡ 0 → c ≡ combined firstByte passing passing → ScanIs ed free arities d s at (End e c)
+    pub scan-leaf : (c : Control) → subtermsAt firstByte ≡ 0 → c ≡ combined firstByte passing passing → ScanIs ed free arities d s at (End e c)
     unfolding scanAnswer EndWithin subtermsScanned
     scan-leaf c z q = record { is = λ n h. behind n h ∙ rw (z, q); within = inside }
 
-    module _ (d′ : ℕ) (deeper : d′ ≡ d + bindersAt firstByte) (some : partsAt firstByte ≡ 0 → ⊥) where
+    module _ (d′ : ℕ) (deeper : d′ ≡ d + bindersAt firstByte) (some : subtermsAt firstByte ≡ 0 → ⊥) where
       depth-is : bindersAt firstByte + d ≡ d′
       depth-is = omega arith
 
       -- The first subterm's answer goes on.
       at-first : (n : ℕ) → length s ≤ at + n → scanned ed free arities n d (drop at s)
           ≡ (scanned ed free arities (n - 1) d′ (drop e s) >>= λ x.
-          cond (eqb (partsAt firstByte) 1) (result (combined firstByte (x .0) passing, x .1))
+          cond (eqb (subtermsAt firstByte) 1) (result (combined firstByte (x .0) passing, x .1))
           (scanned ed free arities (n - 1) d′ (x .1) >>= λ y. result (combined firstByte (x .0) (y .0), y .1)))
       unfolding subtermsScanned
-      at-first n h = behind n h ∙ rw (depth-is, ne-eqb (partsAt firstByte) 0 some)
+      at-first n h = behind n h ∙ rw (depth-is, ne-eqb (subtermsAt firstByte) 0 some)
 
       pub scan-first-wrong : (k : ℕ) → ScanIs ed free arities d′ s e (Fault k) → ScanIs ed free arities d s at (Fault k)
       unfolding scanAnswer EndWithin
@@ -98,7 +98,7 @@ module _ (ed : Edition) (free : ℕ) (arities : List ℕ) (d : ℕ) (s : List �
         unfolding EndWithin
         first-inside = first .within
 
-        pub scan-one : (c : Control) → partsAt firstByte ≡ 1 → c ≡ combined firstByte p passing → ScanIs ed free arities d s at (End l c)
+        pub scan-one : (c : Control) → subtermsAt firstByte ≡ 1 → c ≡ combined firstByte p passing → ScanIs ed free arities d s at (End l c)
         unfolding scanAnswer EndWithin
         scan-one c o q =
             let i = inside in
@@ -108,12 +108,12 @@ module _ (ed : Edition) (free : ℕ) (arities : List ℕ) (d : ℕ) (s : List �
               within = (omega arith, j .1);
             }
 
-        module _ (more : partsAt firstByte ≡ 1 → ⊥) where
+        module _ (more : subtermsAt firstByte ≡ 1 → ⊥) where
           at-second : (n : ℕ) → length s ≤ at + n → scanned ed free arities n d (drop at s)
               ≡ (scanned ed free arities (n - 1) d′ (drop l s) >>= λ y. result (combined firstByte p (y .0), y .1))
           unfolding scanAnswer
           at-second n h =
-              at-first n h ∙ bind-to _ (first .is (n - 1) (enough n e h (omega arith))) ∙ rw (ne-eqb (partsAt firstByte) 1 more)
+              at-first n h ∙ bind-to _ (first .is (n - 1) (enough n e h (omega arith))) ∙ rw (ne-eqb (subtermsAt firstByte) 1 more)
 
           pub scan-second-wrong : (k : ℕ) → ScanIs ed free arities d′ s l (Fault k) → ScanIs ed free arities d s at (Fault k)
           unfolding scanAnswer EndWithin

@@ -8,7 +8,7 @@ use Rattle.terms.specs.Answer.{Answer, refused, result, _>>=_, _>>_, need}
 use Rattle.terms_bytes.specs.FieldPlaces.{definitionsOf, aritiesOf, afterField, fieldAt, fieldPlace}
 use Rattle.terms.specs.Edition.{Edition}
 use Rattle.terms.specs.Framing.{Fields}
-use Rattle.terms.specs.Question.{all, fits, readBodies, readPart}
+use Rattle.terms.specs.Question.{every, fits, readBodies, readPart}
 use Rattle.terms.specs.Reading.{numbered}
 use Rattle.terms_checks.specs.Scanning.{controlOf, passing}
 use Rattle.terms_checks.specs.declared.check.Checked.{Checked}
@@ -55,11 +55,11 @@ fieldsAt question =
 
 -- Check 6 of all bodies and of both parts.
 unfoldable pub allFit : Fields → Bool
-allFit f = all fits (f .bodies) && fits (f .first) && fits (f .second)
+allFit f = every fits (f .bodies) && fits (f .first) && fits (f .second)
 
 -- The tests of checks 10 and 11 over all bodies.
-unfoldable pub met : Control → Control → Control
-met p q =
+unfoldable pub jointOf : Control → Control → Control
+jointOf p q =
     record {
       sequential = p .sequential && q .sequential;
       outermost = p .outermost && q .outermost;
@@ -68,7 +68,7 @@ met p q =
 
 unfoldable pub controlOfAll : List Term → Control
 controlOfAll [] = passing
-controlOfAll (P ∷ Ps) = met (controlOf P) (controlOfAll Ps)
+controlOfAll (P ∷ Ps) = jointOf (controlOf P) (controlOfAll Ps)
 
 unfoldable pub bodiesScanned : Edition → List ℕ → List ℕ → List (List ℕ) → Answer Control
 bodiesScanned e arities sizes bodies = do
@@ -80,7 +80,7 @@ unfoldable pub partsScanned : Edition → List ℕ → List ℕ → List ℕ →
 partsScanned e arities first second = do
   P ← readPart e (numbered arities) first
   Q ← readPart e (numbered arities) second
-  result (met (controlOf P) (controlOf Q))
+  result (jointOf (controlOf P) (controlOf Q))
 
 unfoldable pub ofBoth : Control → Control → Control
 ofBoth bodies parts = record { sequential = bodies .sequential; outermost = parts .outermost; guarded = bodies .guarded }

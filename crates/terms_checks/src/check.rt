@@ -3,13 +3,13 @@ ghost use mathlib.Core.Path.{_≡_};
 ghost use lib.ListN.{length, drop};
 ghost use lib.Dec.{leb, eqb};
 ghost use Rattle.terms.specs.Answer.{need};
-ghost use Rattle.terms_checks.specs.Checking.{checkedAnswer, zeroFor, fieldsFrom, apartPlace, fieldsAt, allFit, met, bodiesScanned, partsScanned, termsScanned};
+ghost use Rattle.terms_checks.specs.Checking.{checkedAnswer, zeroFor, fieldsFrom, apartPlace, fieldsAt, allFit, jointOf, bodiesScanned, partsScanned, termsScanned};
 ghost use Rattle.terms_bytes.specs.Counted.{editionFrom};
 ghost use Rattle.terms_bytes.specs.FieldPlaces.{afterField, fieldAt};
 ghost use Rattle.terms.specs.Edition.{versionByte};
 ghost use Rattle.terms.specs.Limits.{greatestArity};
 ghost use Rattle.terms.specs.Operations.{checkAnswer};
-ghost use Rattle.terms.specs.Question.{all, fits, differentNames, readApart, checkTerms, checkFields, checkIn, editionOf};
+ghost use Rattle.terms.specs.Question.{every, fits, differentNames, readApart, checkTerms, checkFields, checkIn, editionOf};
 ghost use Rattle.terms_checks.specs.Scanning.{wholeAnswer};
 use crate::scan::Control;
 use crate::scan::Scan;
@@ -37,7 +37,7 @@ pub enum Checked {
 
 // Check 5 of the arities.
 fn arities_fit(list: &[u8]) -> bool
-    ensures { λ r. ⌜ r ≡ all (λ a. leb a greatestArity) (now (list .entry)) ⌝ }
+    ensures { λ r. ⌜ r ≡ every (λ a. leb a greatestArity) (now (list .entry)) ⌝ }
 {
     let mut i = 0;
     while i < list.len() {
@@ -65,7 +65,7 @@ fn term_fits(bytes: &[u8]) -> bool
 
 // Check 6 of `count` bodies, the first of which begins at `from`.
 fn bodies_fit(question: &[u8], from: usize, count: usize) -> bool
-    ensures { λ r. ⌜ r ≡ all fits (fieldsFrom (now (question .entry)) from count) ⌝ }
+    ensures { λ r. ⌜ r ≡ every fits (fieldsFrom (now (question .entry)) from count) ⌝ }
 {
     let mut at = from;
     let mut left = count;
@@ -80,8 +80,8 @@ fn bodies_fit(question: &[u8], from: usize, count: usize) -> bool
 }
 
 // The tests of checks 10 and 11 that two terms both pass.
-fn meet(p: Control, q: Control) -> Control
-    ensures { λ r. ⌜ r ≡ met p q ⌝ }
+fn joint(p: Control, q: Control) -> Control
+    ensures { λ r. ⌜ r ≡ jointOf p q ⌝ }
 {
     Control {
         sequential: both(p.sequential, q.sequential),
@@ -105,7 +105,7 @@ fn scan_bodies(question: &[u8], list: &[u8], i: usize, at: usize, counted: bool)
             let more = scan_bodies(question, list, i + 1, after_field(question, at), counted);
             match more {
                 Scan::Fault(k) => Scan::Fault(k),
-                Scan::End(e, q) => Scan::End(e, meet(p, q)),
+                Scan::End(e, q) => Scan::End(e, joint(p, q)),
             }
         }
     }
@@ -159,7 +159,7 @@ fn scan_parts(question: &[u8], list: &[u8], first: usize, counted: bool) -> Scan
             let two = scan_whole(field_at(question, second), 0, NAME_COUNT, list, counted);
             match two {
                 Scan::Fault(k) => Scan::Fault(k),
-                Scan::End(e, q) => Scan::End(e, meet(p, q)),
+                Scan::End(e, q) => Scan::End(e, joint(p, q)),
             }
         }
     }

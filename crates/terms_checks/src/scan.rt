@@ -196,17 +196,17 @@ fn scan_term(
         Front::Wrong(k) => Scan::Fault(k),
         Front::Next(n) => {
             let h = shape_at(src, at, arities);
-            let parts = h.parts;
+            let subterms = h.subterms;
             let deeper = depth + h.binds;
             let t = get(src, at);
-            if parts == 0 {
+            if subterms == 0 {
                 return Scan::End(n, combine(t, passed(), passed()));
             }
             let one = scan_term(src, n, deeper, free, arities, counted);
             match one {
                 Scan::Fault(k) => Scan::Fault(k),
                 Scan::End(e, p) => {
-                    if parts == 1 {
+                    if subterms == 1 {
                         return Scan::End(e, combine(t, p, passed()));
                     }
                     let two = scan_term(src, e, deeper, free, arities, counted);

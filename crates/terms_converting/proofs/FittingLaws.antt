@@ -1,7 +1,7 @@
 -- Checks 17 and 15 of a converted question, and operations that are turned back or write.
-use mathlib.Core.Path.{_≡_, refl, sym, ap, subst, _∙_}
+use mathlib.Core.Path.{_≡_, refl, sym, ap, ap₂, subst, _∙_}
 use mathlib.Core.Bool.{Bool, true, false, _&&_}
-use mathlib.Core.List.{List, [], _∷_, _++_}
+use mathlib.Core.List.{List, [], _∷_, _++_, append-assoc}
 use Prim.Native.Nat.{ℕ, _+_, _*_, _<_, _≤_}
 use native.Mathlib.Omega.{arith}
 use lib.ListN.{length, take, drop, length-append}
@@ -11,24 +11,23 @@ use borrow.Author.Tests.{le-leb, lt-leb}
 use Rattle.calculus.specs.Term.{Term}
 use Rattle.terms.specs.Answer.{Answer, refused, result, _>>=_, _>>_, need}
 use Rattle.terms.specs.Edition.{Edition, one, two, other, encodeIn, versionByte}
-use Rattle.terms.specs.Framing.{Fields, framed, sized, allSized, joined}
+use Rattle.terms.specs.Framing.{Fields, sized, allSized, joined}
 use Rattle.terms.specs.Limits.{longestTerm, longestQuestion, longestApart}
 use Rattle.terms.specs.Operations.{writtenWithin, convertOf, lengthWritten, areaAfter}
-use Rattle.terms.specs.Question.{Question, all, fits, checkIn, bodyFieldsIn, pairBytes, fieldsIn, writeIn, fitsIn}
-use Rattle.terms.proofs.Answers.{result-injective, bind-result, bind-to, bind-refused, need-passed, need-failed, Every, both-true}
-use Rattle.terms.proofs.FramingLaws.{Framable, behindVersion, framed-in}
+use Rattle.terms.specs.Question.{Question, every, fits, checkIn, bodyFieldsIn, pairBytes, fieldsIn, writeIn, fitsIn}
+use Rattle.terms.proofs.Answers.{bind-result, bind-to, bind-refused, need-passed, need-failed, Every, both-true}
+use Rattle.terms.proofs.FramingLaws.{Framable}
 use Rattle.terms.proofs.WellFormed.{BodiesAllowed, WellFormed, TermsFit, fits-size, terms-fit, accepted-in}
 use Rattle.terms_bytes.specs.Counted.{editionFrom}
-use Rattle.terms_bytes.specs.FieldPlaces.{afterField}
+use Rattle.terms_bytes.specs.FieldPlaces.{aritiesOf, afterField, fieldPlace}
 use Rattle.terms_bytes.specs.Writing.{writtenAnswer, Does, Writes}
 use Rattle.terms_bytes.specs.declared.answer.Written.{Written}
 use Rattle.terms_bytes.specs.declared.answer.Written.the-variants.{Length, Refused}
-use Rattle.terms_bytes.proofs.Places.{after-of}
-use Rattle.terms_bytes.proofs.QuestionPlaces.{apartPlace, at-apart, joined-length}
+use Rattle.terms_bytes.proofs.Places.{field-of, behind-of, allFields, all-sized-append, arities-of, at-place}
+use Rattle.terms_bytes.proofs.QuestionPlaces.{first-field, second-field, apart-field}
 use Rattle.terms_bytes.proofs.Stores.{span, sets-start}
-use Rattle.terms_checks.specs.Checking.{zeroFor, firstPlace, secondPlace, fieldsAt, allFit}
+use Rattle.terms_checks.specs.Checking.{zeroFor, fieldsFrom, firstPlace, secondPlace, fieldsAt, allFit}
 use Rattle.terms_checks.specs.Checking.{apartPlace as apartPlaceAt}
-use Rattle.terms_checks.proofs.FramedPlaces.{framed-there}
 use Rattle.terms_converting.specs.Questions.{AcceptedFrom, MayConvert, WritesFitting}
 use Rattle.terms_converting.proofs.QuestionLaws.{other-length, count-fields}
 
@@ -51,12 +50,12 @@ module _ (e : Edition) (q : Question) (w : WellFormed q) (fit : fitsIn (other e)
   part-short : (d : ℕ) (P : Term) → fits (encodeIn (other e) d P) ≡ true → length (encodeIn e d P) ≤ 168
   part-short d P h = let s = fits-size (encodeIn (other e) d P) h in omega (arith, from-other e d P, s)
 
-  bodies-short : (sizes : List ℕ) (Ps : List Term) → all fits (bodyFieldsIn (other e) sizes Ps) ≡ true
+  bodies-short : (sizes : List ℕ) (Ps : List Term) → every fits (bodyFieldsIn (other e) sizes Ps) ≡ true
       → Every (λ b. length b < 65536) (bodyFieldsIn e sizes Ps) × (length (allSized (bodyFieldsIn e sizes Ps)) ≤ 170 * length sizes)
       × (length (bodyFieldsIn e sizes Ps) ≤ length sizes)
-  unfolding all bodyFieldsIn Every allSized sized
+  unfolding every bodyFieldsIn Every allSized sized
   bodies-short (a ∷ sizes) (P ∷ Ps) h =
-      let b = both-true (fits (encodeIn (other e) a P)) (all fits (bodyFieldsIn (other e) sizes Ps)) h in
+      let b = both-true (fits (encodeIn (other e) a P)) (every fits (bodyFieldsIn (other e) sizes Ps)) h in
       let s = part-short a P (b .0) in
       let r = bodies-short sizes Ps (b .1) in
       let r₁ = r .1 in
@@ -100,13 +99,23 @@ module _ (e : Edition) (q : Question) (w : WellFormed q) (fit : fitsIn (other e)
       )
 
 -- The fields that the code finds in a question's bytes are its fields.
+bodies-found : (s : List ℕ) (fs : List (List ℕ)) (at : ℕ) (rest : List ℕ) → Every (λ b. length b < 65536) fs → drop at s ≡ allSized fs ++ rest
+    → fieldsFrom s at (length fs) ≡ fs
+unfolding fieldsFrom allSized Every
+bodies-found s [] at rest h e = refl
+bodies-found s (f ∷ fs) at rest h e =
+    let here : drop at s ≡ sized f ++ (allSized fs ++ rest) = e ∙ append-assoc (sized f) (allSized fs) rest in
+    let behind = behind-of s at f (allSized fs ++ rest) (h .0) here in
+    ap₂ (λ x xs. x ∷ xs) (field-of s at f (allSized fs ++ rest) (h .0) here) (bodies-found s fs (afterField s at) rest (h .1) behind)
+
 pub fields-found : (e : Edition) (f : Fields) → Framable f → fieldsAt (joined e f) ≡ f
-unfolding joined behindVersion apartPlaceAt secondPlace firstPlace
+unfolding fieldsAt allFields apartPlaceAt secondPlace firstPlace
 fields-found e f fr =
     let s = joined e f in
-    let whole : afterField s (apartPlace e f fr) ≡ length s =
-    after-of s (apartPlace e f fr) (f .apart) [] (fr .apart) (at-apart e f fr) ∙ sym (joined-length e f fr) in
-    result-injective (sym (framed-there s whole) ∙ framed-in f fr)
+    let last : List (List ℕ) = f .first ∷ f .second ∷ f .apart ∷ [] in
+    let bodies = bodies-found s (f .bodies) (fieldPlace s 0) (allSized last) (fr .bodies) (at-place e f fr 0 (omega arith) ∙ all-sized-append (f .bodies) last) in
+    let n : length (aritiesOf s) ≡ length (f .bodies) = ap length (arities-of e f fr) ∙ sym (fr .counts) in
+    rw (n, bodies, arities-of e f fr, first-field e f fr, second-field e f fr, apart-field e f fr)
 
 same-fit : (e : Edition) (q : Question) → allFit (fieldsIn e q) ≡ fitsIn e q
 unfolding allFit fitsIn fieldsIn

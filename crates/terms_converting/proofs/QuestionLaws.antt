@@ -13,7 +13,7 @@ use Rattle.terms.specs.Edition.{Edition, one, two, other, countBytes, encodeIn,
 use Rattle.terms.specs.Encoding.{nameByte, encode, InScope}
 use Rattle.terms.specs.Framing.{Fields, sized, allSized, joined}
 use Rattle.terms.specs.Limits.{nameCount, longestTerm, longestQuestion, mostDefinitions, longestApart}
-use Rattle.terms.specs.Question.{Question, all, fits, checkIn, bodyFieldsIn, pairBytes, fieldsIn, writeIn, fitsIn}
+use Rattle.terms.specs.Question.{Question, every, fits, checkIn, bodyFieldsIn, pairBytes, fieldsIn, writeIn, fitsIn}
 use Rattle.terms.proofs.Answers.{result-injective, Every, both-true}
 use Rattle.terms.specs.Operations.{areaAfter}
 use Rattle.terms.proofs.EditionOne.{encode-first, encode-shorter}
@@ -71,17 +71,17 @@ pub record TermAt (e : Edition) (arities : List ℕ) (k : ℕ) (xs ys : List (Li
   pub to : getD ys k [] ≡ encodeIn (other e) depth term
   pub size : length (encodeIn e depth term) ≤ longestTerm
 
-term-at : (e : Edition) (arities sizes : List ℕ) (Ps : List Term) (P Q : Term) → BodiesAllowed arities sizes Ps → all fits (bodyFieldsIn e sizes Ps) ≡ true
+term-at : (e : Edition) (arities sizes : List ℕ) (Ps : List Term) (P Q : Term) → BodiesAllowed arities sizes Ps → every fits (bodyFieldsIn e sizes Ps) ≡ true
     → InScope nameCount arities 0 P → length (encodeIn e 0 P) ≤ longestTerm → InScope nameCount arities 0 Q → length (encodeIn e 0 Q) ≤ longestTerm
     → (rest rest′ : List (List ℕ)) (k : ℕ) → k < length sizes + 2
     → TermAt e arities k (bodyFieldsIn e sizes Ps ++ (encodeIn e 0 P ∷ encodeIn e 0 Q ∷ rest))
     (bodyFieldsIn (other e) sizes Ps ++ (encodeIn (other e) 0 P ∷ encodeIn (other e) 0 Q ∷ rest′))
-unfolding BodiesAllowed bodyFieldsIn all
+unfolding BodiesAllowed bodyFieldsIn every
 term-at e arities (a ∷ sizes) (B ∷ Ps) P Q w f p l r m rest rest′ zero h =
-    let b = both-true (fits (encodeIn e a B)) (all fits (bodyFieldsIn e sizes Ps)) f in
+    let b = both-true (fits (encodeIn e a B)) (every fits (bodyFieldsIn e sizes Ps)) f in
     record { free = 0; depth = a; term = B; scope = w .0 .scope; from = refl; to = refl; size = fits-size (encodeIn e a B) (b .0) .1 }
 term-at e arities (a ∷ sizes) (B ∷ Ps) P Q w f p l r m rest rest′ (suc k) h =
-    let b = both-true (fits (encodeIn e a B)) (all fits (bodyFieldsIn e sizes Ps)) f in
+    let b = both-true (fits (encodeIn e a B)) (every fits (bodyFieldsIn e sizes Ps)) f in
     let t = term-at e arities sizes Ps P Q (w .1) (b .1) p l r m rest rest′ k (omega arith) in
     record { free = t .free; depth = t .depth; term = t .term; scope = t .scope; from = t .from; to = t .to; size = t .size }
 term-at e arities [] [] P Q w f p l r m rest rest′ zero h =

@@ -42,7 +42,7 @@ none-full s at arities out put h is short free d P rest scope e room =
     omega (arith, length-front s at arities h is d P (front-of free arities d P scope) rest e, length-parts d P)
 
 pub front-nothing : (s : List ℕ) (at : ℕ) (arities : List ℕ) (inner : ℕ) (table out : List ℕ) (put : ℕ) → NoTerm s at arities out put
-    → RenamedFrontIs s at arities inner table out put (record { len = 0; binds = 0; parts = 0 }) out
+    → RenamedFrontIs s at arities inner table out put (record { len = 0; binds = 0; subterms = 0 }) out
 front-nothing s at arities inner table out put never = record {
   inside = omega arith;
   room = omega arith;
@@ -57,7 +57,7 @@ pub front-renamed : (s : List ℕ) (at : ℕ) (arities : List ℕ) (inner : ℕ)
     → put + (h .fixed + h .names) ≤ length out
     → out₁ ≡ sets out put (span s at (h .fixed))
     → out₂ ≡ sets out₁ (put + h .fixed) (map (renamedByte inner table) (span s (at + h .fixed) (h .names)))
-    → RenamedFrontIs s at arities inner table out put (record { len = h .fixed + h .names; binds = h .binds; parts = h .parts }) out₂
+    → RenamedFrontIs s at arities inner table out put (record { len = h .fixed + h .names; binds = h .binds; subterms = h .subterms }) out₂
 front-renamed s at arities inner table out put h out₁ out₂ is fs fo w₁ w₂ = record {
   inside = omega arith;
   room = omega arith;
@@ -130,11 +130,11 @@ ren-two d ρ P Q R e = encode-ren d ρ P ∙ rw (e, append-nil)
 -- The walk of a term whose front is renamed: h is what the front's renaming answered.
 module _ (s : List ℕ) (at : ℕ) (arities : List ℕ) (inner : ℕ) (table out : List ℕ) (put : ℕ) (h : RenamedFront) (out₁ : List ℕ)
     (F : RenamedFrontIs s at arities inner table out put h out₁) where
-  pub renamed-none : h .parts ≡ 0 → RenamedBeneath s at arities inner table out put (at + h .len) out₁
+  pub renamed-none : h .subterms ≡ 0 → RenamedBeneath s at arities inner table out put (at + h .len) out₁
   unfolding RenamedBeneath
   renamed-none z free d d′ ρ P rest few rep scope st deep room = go (subterms P) refl
     where
-      x : (h .len ≡ length (frontBytes d P)) × (h .binds ≡ binders P) × (h .parts ≡ length (subterms P)) × (out₁ ≡ sets out put (frontBytes d′ (ren ρ P)))
+      x : (h .len ≡ length (frontBytes d P)) × (h .binds ≡ binders P) × (h .subterms ≡ length (subterms P)) × (out₁ ≡ sets out put (frontBytes d′ (ren ρ P)))
       x = F .is free d d′ ρ P rest few rep scope st room
 
       go : (Ps : List Term) → subterms P ≡ Ps → (at + h .len ≡ at + length (encode d P)) × (out₁ ≡ sets out put (encode d′ (ren ρ P)))
@@ -142,11 +142,11 @@ module _ (s : List ℕ) (at : ℕ) (arities : List ℕ) (inner : ℕ) (table out
       go (Q ∷ Qs) e = let n : length (subterms P) ≡ suc (length Qs) = ap length e in absurd (omega (arith, x .2))
 
   module _ (e : ℕ) (out₂ : List ℕ) (R : RenamedBeneath s (at + h .len) arities (inner + h .binds) table out₁ (put + h .len) e out₂) where
-    pub renamed-one : h .parts ≡ 1 → RenamedBeneath s at arities inner table out put e out₂
+    pub renamed-one : h .subterms ≡ 1 → RenamedBeneath s at arities inner table out put e out₂
     unfolding RenamedBeneath
     renamed-one z free d d′ ρ P rest few rep scope st deep room = go (subterms P) refl
       where
-        x : (h .len ≡ length (frontBytes d P)) × (h .binds ≡ binders P) × (h .parts ≡ length (subterms P)) × (out₁ ≡ sets out put (frontBytes d′ (ren ρ P)))
+        x : (h .len ≡ length (frontBytes d P)) × (h .binds ≡ binders P) × (h .subterms ≡ length (subterms P)) × (out₁ ≡ sets out put (frontBytes d′ (ren ρ P)))
         x = F .is free d d′ ρ P rest few rep scope st room
 
         go : (Ps : List Term) → subterms P ≡ Ps → (e ≡ at + length (encode d P)) × (out₂ ≡ sets out put (encode d′ (ren ρ P)))
@@ -166,12 +166,12 @@ module _ (s : List ℕ) (at : ℕ) (arities : List ℕ) (inner : ℕ) (table out
             (omega (arith, y .0), y .1 ∙ ap (sets out put) (sym (ren-one d′ ρ P Q q)))
         go (Q ∷ Q₂ ∷ Qs) q = let n : length (subterms P) ≡ suc (suc (length Qs)) = ap length q in absurd (omega (arith, x .2))
 
-    pub renamed-two : (h .parts ≡ 0 → ⊥) → (h .parts ≡ 1 → ⊥) → (r : ℕ) (out₃ : List ℕ)
+    pub renamed-two : (h .subterms ≡ 0 → ⊥) → (h .subterms ≡ 1 → ⊥) → (r : ℕ) (out₃ : List ℕ)
         → RenamedBeneath s e arities (inner + h .binds) table out₂ (put + (e - at)) r out₃ → RenamedBeneath s at arities inner table out put r out₃
     unfolding RenamedBeneath
     renamed-two z o r out₃ S free d d′ ρ P rest few rep scope st deep room = go (subterms P) refl
       where
-        x : (h .len ≡ length (frontBytes d P)) × (h .binds ≡ binders P) × (h .parts ≡ length (subterms P)) × (out₁ ≡ sets out put (frontBytes d′ (ren ρ P)))
+        x : (h .len ≡ length (frontBytes d P)) × (h .binds ≡ binders P) × (h .subterms ≡ length (subterms P)) × (out₁ ≡ sets out put (frontBytes d′ (ren ρ P)))
         x = F .is free d d′ ρ P rest few rep scope st room
 
         go : (Ps : List Term) → subterms P ≡ Ps → (r ≡ at + length (encode d P)) × (out₃ ≡ sets out put (encode d′ (ren ρ P)))
@@ -218,16 +218,16 @@ renamed-whole s at arities table out put e out′ R free D D′ ρ P rest few re
     (omega (arith, y .0), y .1)
 
 -- Numbers of the walk's second subterm: it starts at e, within L, and what it writes at put + (e - at) fits.
-pub second-put : (at n e L put M parts : ℕ) → at + n ≤ max at L → put + n ≤ max put M → min 1 parts ≤ n → (parts ≡ 0 → ⊥)
+pub second-put : (at n e L put M subterms : ℕ) → at + n ≤ max at L → put + n ≤ max put M → min 1 subterms ≤ n → (subterms ≡ 0 → ⊥)
     → at + n ≤ e → e ≤ max (at + n) L → L * 1 < 2 ^ 63 → M * 1 < 2 ^ 63 → put + (e - at) < 2 ^ 64
-second-put at n e L put M parts i r s z o u l m =
+second-put at n e L put M subterms i r s z o u l m =
     let p : 0 < n = omega (arith, s, z) in
     let q : at + n ≤ L = omega (arith, p, i) in
     let v : put + n ≤ M = omega (arith, p, r) in
     omega (arith, p, q, v)
 
-pub second-falls : (at n e L parts : ℕ) → at + n ≤ max at L → min 1 parts ≤ n → (parts ≡ 0 → ⊥) → at + n ≤ e → L - e < L - at
-second-falls at n e L parts i s z o =
+pub second-falls : (at n e L subterms : ℕ) → at + n ≤ max at L → min 1 subterms ≤ n → (subterms ≡ 0 → ⊥) → at + n ≤ e → L - e < L - at
+second-falls at n e L subterms i s z o =
     let p : 0 < n = omega (arith, s, z) in
     let q : at + n ≤ L = omega (arith, p, i) in
     omega arith

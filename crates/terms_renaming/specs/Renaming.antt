@@ -28,7 +28,7 @@ RenameIs s at arities table out put r out′ =
 pub record RenamedFrontIs (s : List ℕ) (at : ℕ) (arities : List ℕ) (inner : ℕ) (table out : List ℕ) (put : ℕ) (r : RenamedFront) (out′ : List ℕ) : Type 0 where
   pub inside : at + r .len ≤ max at (length s)
   pub room : put + r .len ≤ max put (length out)
-  pub step : min 1 (r .parts) ≤ r .len
+  pub step : min 1 (r .subterms) ≤ r .len
   pub binds : r .binds ≤ r .len
   pub is : (free d d′ : ℕ) (ρ : ℕ → ℕ) (P : Term) (rest : List ℕ)
       → free ≤ tableNames
@@ -36,7 +36,7 @@ pub record RenamedFrontIs (s : List ℕ) (at : ℕ) (arities : List ℕ) (inner 
       → InScope free arities d P
       → drop at s ≡ encode d P ++ rest
       → put + length (encode d P) ≤ length out
-      → (r .len ≡ length (frontBytes d P)) × (r .binds ≡ binders P) × (r .parts ≡ length (subterms P))
+      → (r .len ≡ length (frontBytes d P)) × (r .binds ≡ binders P) × (r .subterms ≡ length (subterms P))
       × (out′ ≡ sets out put (frontBytes d′ (ren ρ P)))
 
 -- A subterm, beneath `inner` binders of the term; the answer is where it ends.

@@ -66,7 +66,7 @@ pub fn rename_bytes(
 pub struct RenamedFront {
     pub len: usize,
     pub binds: usize,
-    pub parts: usize,
+    pub subterms: usize,
 }
 
 // Copies the front of the term at `at` to `put`, its names renamed.
@@ -85,7 +85,7 @@ fn rename_front(
         return RenamedFront {
             len: 0,
             binds: 0,
-            parts: 0,
+            subterms: 0,
         };
     }
     let h = shape_at(src, at, arities);
@@ -96,14 +96,14 @@ fn rename_front(
         return RenamedFront {
             len: 0,
             binds: 0,
-            parts: 0,
+            subterms: 0,
         };
     }
     if !room(out.len(), put, n) {
         return RenamedFront {
             len: 0,
             binds: 0,
-            parts: 0,
+            subterms: 0,
         };
     }
     copy(src, at, fixed, out, put);
@@ -111,7 +111,7 @@ fn rename_front(
     RenamedFront {
         len: n,
         binds: h.binds,
-        parts: h.parts,
+        subterms: h.subterms,
     }
 }
 
@@ -130,13 +130,13 @@ fn rename_beneath(
 {
     let h = rename_front(src, at, arities, inner, table, out, put);
     let n = h.len;
-    let parts = h.parts;
-    if parts == 0 {
+    let subterms = h.subterms;
+    if subterms == 0 {
         return at + n;
     }
     let deeper = inner + h.binds;
     let e = rename_beneath(src, at + n, arities, deeper, table, out, put + n);
-    if parts == 1 {
+    if subterms == 1 {
         return e;
     }
     rename_beneath(src, e, arities, deeper, table, out, put + (e - at))

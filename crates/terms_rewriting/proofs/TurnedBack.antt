@@ -5,12 +5,12 @@ use Prim.Native.Nat.{ℕ}
 use Rattle.terms.specs.Answer.{Answer, refused, result, _>>=_}
 use Rattle.terms.specs.Operations.{checkAnswer, merged, mergeOf, placedBeside, besideOf, writtenWithin}
 use Rattle.terms.specs.Question.{editionOf, questionOf}
-use Rattle.terms_bytes.specs.Writing.{Accepted}
+use Rattle.terms_bytes.specs.Writing.{IsAccepted}
 use Rattle.terms_converting.proofs.FittingLaws.{made-refused}
 use Rattle.terms.proofs.Answers.{bind-result, bind-refused}
 
-pub check-accepted : (s : List ℕ) → checkAnswer s ≡ result 0 → Accepted s
-unfolding checkAnswer Accepted
+pub check-accepted : (s : List ℕ) → checkAnswer s ≡ result 0 → IsAccepted s
+unfolding checkAnswer IsAccepted
 check-accepted s e = let t = bind-result (questionOf s) _ 0 e in (t .0, t .1)
 
 turned-back : (s : List ℕ) (k : ℕ) → checkAnswer s ≡ refused k → questionOf s ≡ refused k

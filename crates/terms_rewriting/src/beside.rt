@@ -10,7 +10,7 @@ ghost use lib.Dec.{leb};
 ghost use Rattle.terms.specs.Framing.{sized};
 ghost use Rattle.terms.specs.Limits.{longestTerm};
 ghost use Rattle.terms.specs.Operations.{besideOf};
-ghost use Rattle.terms_bytes.specs.Writing.{Accepted, Does, MayBeBeside, MayPlaceBeside, WritesBeside};
+ghost use Rattle.terms_bytes.specs.Writing.{IsAccepted, Does, MayBeBeside, MayPlaceBeside, WritesBeside};
 use terms_bytes::answer::Written;
 use terms_bytes::bytes::copy;
 use terms_bytes::frame::after_field;
@@ -98,7 +98,7 @@ fn beside_allowed(question: &[u8], third: &[u8], area: &mut [u8]) -> Written
 
 // Checks 6 to 10 of the third part beside an accepted question.
 fn beside_accepted(question: &[u8], third: &[u8], area: &mut [u8]) -> Written
-    requires { ⌜ Accepted (now question) ⌝ }
+    requires { ⌜ IsAccepted (now question) ⌝ }
     ensures { λ r. ⌜ Does (besideOf (now (question .entry)) (now (third .entry)) (length (now (area .entry)))) (now (area .entry)) r (now (area .exit)) ⌝ }
 {
     let first = field_place(question, definitions(question));

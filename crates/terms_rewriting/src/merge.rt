@@ -6,7 +6,7 @@ ghost use lib.Dec.{eqb};
 ghost use Rattle.calculus.specs.Cond.{Pairs};
 ghost use Rattle.terms.specs.Operations.{holdsApart, mergeOf};
 ghost use Rattle.terms.specs.Question.{pairBytes};
-ghost use Rattle.terms_bytes.specs.Writing.{Accepted, Does, MayMerge, WritesMerged};
+ghost use Rattle.terms_bytes.specs.Writing.{IsAccepted, Does, MayMerge, WritesMerged};
 ghost use Rattle.terms_rewriting.specs.Counted.{MayMergeCounted, WritesMergedCounted};
 use terms_bytes::answer::Written;
 use terms_bytes::bytes::copy;
@@ -96,7 +96,7 @@ fn write_merged_counted(question: &[u8], a: u8, b: u8, area: &mut [u8]) -> usize
 
 // Checks 14 and 15 of an accepted question, then the merged question.
 fn merge_accepted(question: &[u8], a: u64, b: u64, area: &mut [u8]) -> Written
-    requires { ⌜ Accepted (now question) ⌝ }
+    requires { ⌜ IsAccepted (now question) ⌝ }
     ensures { λ r. ⌜ Does (mergeOf (now (question .entry)) a b (length (now (area .entry)))) (now (area .entry)) r (now (area .exit)) ⌝ }
 {
     if NAME_COUNT as u64 <= a {

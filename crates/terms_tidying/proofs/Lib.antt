@@ -1,3 +1,4 @@
+pub mod RestrictionWalk
 pub mod TidyCounts
 mod TidyWalk
 mod UnusedWalk

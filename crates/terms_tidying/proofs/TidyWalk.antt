@@ -174,7 +174,7 @@ kept-parts d (call c ns) k = encode-parts d (call c ns)
 -- The front.
 pub front-none : (s : List ℕ) (at : ℕ) (arities area : List ℕ) (put : ℕ)
     → ((free d : ℕ) (P : Term) (rest : List ℕ) → InScope free arities d P → drop at s ≡ encode d P ++ rest → put + length (encode d P) ≤ length area → ⊥)
-    → CopiedFrontIs s at arities area put (record { len = 0; parts = 0 }) area
+    → CopiedFrontIs s at arities area put (record { len = 0; subterms = 0 }) area
 front-none s at arities area put never = record {
   inside = omega arith;
   room = omega arith;
@@ -193,7 +193,7 @@ none-full s at arities area put h is short free d P rest scope e room =
 
 pub front-copied : (s : List ℕ) (at : ℕ) (arities area : List ℕ) (put : ℕ) (h : Shape) (out₁ : List ℕ) → ShapeIs s at arities h
     → at + (h .fixed + h .names) ≤ length s → put + (h .fixed + h .names) ≤ length area → out₁ ≡ sets area put (span s at (h .fixed + h .names))
-    → CopiedFrontIs s at arities area put (record { len = h .fixed + h .names; parts = h .parts }) out₁
+    → CopiedFrontIs s at arities area put (record { len = h .fixed + h .names; subterms = h .subterms }) out₁
 front-copied s at arities area put h out₁ is fs fo w = record {
   inside = omega arith;
   room = omega arith;
@@ -213,7 +213,7 @@ module _ (s : List ℕ) (at : ℕ) (arities area : List ℕ) (put : ℕ) (h : Co
     (keeps : StaysOn s at arities) where
   module _ (free d : ℕ) (P : Term) (rest : List ℕ) (few : free ≤ tableNames) (scope : InScope free arities d P) (st : drop at s ≡ encode d P ++ rest)
       (room : put + length (encode d P) ≤ length area) where
-    x : (h .len ≡ length (frontBytes d P)) × (h .parts ≡ length (subterms P)) × (out₁ ≡ sets area put (frontBytes d P))
+    x : (h .len ≡ length (frontBytes d P)) × (h .subterms ≡ length (subterms P)) × (out₁ ≡ sets area put (frontBytes d P))
     x = F .is free d P rest scope st room
 
     part : (Ps : List Term) → subterms P ≡ Ps → drop (at + h .len) s ≡ encodeAll (binders P + d) Ps ++ rest
@@ -226,7 +226,7 @@ module _ (s : List ℕ) (at : ℕ) (arities area : List ℕ) (put : ℕ) (h : Co
     bytes : (Ps : List Term) → subterms P ≡ Ps → encode d (tidy P) ≡ frontBytes d P ++ encodeAll (binders P + d) (map tidy Ps)
     bytes Ps q = kept-parts d P (keeps free d P rest few scope st) ∙ rw q
 
-  pub tidied-none : h .parts ≡ 0 → Tidied s at arities area put (record { read = at + h .len; written = put + h .len }) out₁
+  pub tidied-none : h .subterms ≡ 0 → Tidied s at arities area put (record { read = at + h .len; written = put + h .len }) out₁
   unfolding Tidied encodeAll
   tidied-none z free d P rest few scope st deep long room = go (subterms P) refl
     where
@@ -266,7 +266,7 @@ module _ (s : List ℕ) (at : ℕ) (arities area : List ℕ) (put : ℕ) (h : Co
               ∙ sets-join area put (put + h .len) (frontBytes d P) (encode (binders P + d) (tidy Q)) (ap (λ (k : ℕ). put + k) (y .0)),
         )
 
-    pub tidied-one : h .parts ≡ 1 → Tidied s at arities area put e out₂
+    pub tidied-one : h .subterms ≡ 1 → Tidied s at arities area put e out₂
     unfolding Tidied encodeAll
     tidied-one z free d P rest few scope st deep long room = go (subterms P) refl
       where
@@ -288,7 +288,7 @@ module _ (s : List ℕ) (at : ℕ) (arities area : List ℕ) (put : ℕ) (h : Co
             let n : length (subterms P) ≡ suc (suc (length Qs)) = ap length q in
             absurd (omega (arith, F .is free d P rest scope st room .1))
 
-    pub tidied-two : (h .parts ≡ 0 → ⊥) → (h .parts ≡ 1 → ⊥) → (r : Ends) (out₃ : List ℕ)
+    pub tidied-two : (h .subterms ≡ 0 → ⊥) → (h .subterms ≡ 1 → ⊥) → (r : Ends) (out₃ : List ℕ)
         → Tidied s (e .read) arities out₂ (e .written) r out₃ → Tidied s at arities area put r out₃
     unfolding Tidied encodeAll
     tidied-two z o r out₃ S free d P rest few scope st deep long room = go (subterms P) refl
@@ -379,9 +379,9 @@ module _ (s : List ℕ) (at : ℕ) (arities area : List ℕ) (put : ℕ) (table 
 pub beneath-place : (at L t : ℕ) → at < L → 2 * (L - at) ≡ t → 2 * (L - (at + 1)) + 1 < t
 beneath-place at L t l m = omega arith
 
-pub first-place : (at n L put M parts t : ℕ) → at ≤ L → put ≤ M → at + n ≤ max at L → put + n ≤ max put M → min 1 parts ≤ n → (parts ≡ 0 → ⊥)
+pub first-place : (at n L put M subterms t : ℕ) → at ≤ L → put ≤ M → at + n ≤ max at L → put + n ≤ max put M → min 1 subterms ≤ n → (subterms ≡ 0 → ⊥)
     → 2 * (L - at) ≡ t → (2 * (L - (at + n)) < t) × (at + n ≤ L) × (put + n ≤ M)
-first-place at n L put M parts t i p front room step some m =
+first-place at n L put M subterms t i p front room step some m =
     let a : at + n ≤ L = omega arith in
     let b : put + n ≤ M = omega arith in
     let c : 1 ≤ n = omega arith in
@@ -390,10 +390,10 @@ first-place at n L put M parts t i p front room step some m =
 behind-first : (p e w L q M t : ℕ) → 2 * (L - p) < t → p ≤ L → q ≤ M → p ≤ e → e ≤ max p L → w ≤ max q M → (2 * (L - e) < t) × (e ≤ L) × (w ≤ M)
 behind-first p e w L q M t f a b on within written = (omega arith, omega arith, omega arith)
 
-pub second-place : (at n e L put w M parts t : ℕ) → at ≤ L → put ≤ M → at + n ≤ max at L → put + n ≤ max put M → min 1 parts ≤ n → (parts ≡ 0 → ⊥)
+pub second-place : (at n e L put w M subterms t : ℕ) → at ≤ L → put ≤ M → at + n ≤ max at L → put + n ≤ max put M → min 1 subterms ≤ n → (subterms ≡ 0 → ⊥)
     → at + n ≤ e → e ≤ max (at + n) L → w ≤ max (put + n) M → 2 * (L - at) ≡ t → (2 * (L - e) < t) × (e ≤ L) × (w ≤ M)
-second-place at n e L put w M parts t i p front room step some on within written m =
-    let r = first-place at n L put M parts t i p front room step some m in
+second-place at n e L put w M subterms t i p front room step some on within written m =
+    let r = first-place at n L put M subterms t i p front room step some m in
     behind-first (at + n) e w L (put + n) M t (r .0) (r .1) (r .2) on within written
 
 pub taken : (n : ℕ) (l : List ℕ) → n ≤ length l → n ≡ length (take n l)

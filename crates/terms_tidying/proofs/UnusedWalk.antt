@@ -37,11 +37,11 @@ among-lower [] i = refl
 among-lower (zero ∷ xs) i = rw (ne-eqb (1 + i) zero (λ q. omega arith)) (among-lower xs i)
 among-lower (suc n ∷ xs) i = rw (eqb-suc i n, among-lower xs i)
 
-or-false : (a : Bool) → a || false ≡ a
+pub or-false : (a : Bool) → a || false ≡ a
 or-false true = refl
 or-false false = refl
 
-or-assoc : (a b c : Bool) → (a || b) || c ≡ a || (b || c)
+pub or-assoc : (a b c : Bool) → (a || b) || c ≡ a || (b || c)
 or-assoc true b c = refl
 or-assoc false b c = refl
 
@@ -122,7 +122,7 @@ module _ (s : List ℕ) (at n : ℕ) (fit : at + n ≤ length s) (i b : ℕ) whe
 -- The front.
 pub use-front-none : (s : List ℕ) (at : ℕ) (arities : List ℕ) (inner : ℕ)
     → ((free d : ℕ) (P : Term) (rest : List ℕ) → InScope free arities d P → drop at s ≡ encode d P ++ rest → ⊥)
-    → UseFrontIs s at arities inner (record { len = 0; binds = 0; parts = 0; used = true })
+    → UseFrontIs s at arities inner (record { len = 0; binds = 0; subterms = 0; used = true })
 use-front-none s at arities inner never = record {
   inside = omega arith;
   step = omega arith;
@@ -132,7 +132,7 @@ use-front-none s at arities inner never = record {
 
 pub use-front-read : (s : List ℕ) (at : ℕ) (arities : List ℕ) (inner : ℕ) (h : Shape) (used : Bool) → ShapeIs s at arities h
     → at + (h .fixed + h .names) ≤ length s → used ≡ among (span s (at + h .fixed) (h .names)) (128 + inner)
-    → UseFrontIs s at arities inner (record { len = h .fixed + h .names; binds = h .binds; parts = h .parts; used = used })
+    → UseFrontIs s at arities inner (record { len = h .fixed + h .names; binds = h .binds; subterms = h .subterms; used = used })
 use-front-read s at arities inner h used is fit found = record {
   inside = omega arith;
   step = omega (arith, is .some);
@@ -168,7 +168,7 @@ module _ (s : List ℕ) (at : ℕ) (arities : List ℕ) (inner : ℕ) (h : UseFr
   module _ (unused : h .used ≡ false) where
     module _ (free d : ℕ) (P : Term) (rest : List ℕ) (few : free ≤ tableNames) (scope : InScope free arities d P) (st : drop at s ≡ encode d P ++ rest)
         (l : inner < d) where
-      x : (h .len ≡ length (frontBytes d P)) × (h .binds ≡ binders P) × (h .parts ≡ length (subterms P)) × (h .used ≡ among (ownNames P) inner)
+      x : (h .len ≡ length (frontBytes d P)) × (h .binds ≡ binders P) × (h .subterms ≡ length (subterms P)) × (h .used ≡ among (ownNames P) inner)
       x = F .is free d P rest few scope st l
 
       -- whether the name is free goes by the subterms alone
@@ -182,7 +182,7 @@ module _ (s : List ℕ) (at : ℕ) (arities : List ℕ) (inner : ℕ) (h : UseFr
       size : (Ps : List Term) → subterms P ≡ Ps → length (encode d P) ≡ h .len + length (encodeAll (binders P + d) Ps)
       size Ps q = length-parts d P ∙ rw (x .0, q)
 
-    pub unused-none : h .parts ≡ 0 → UnusedTo s at arities inner (at + h .len)
+    pub unused-none : h .subterms ≡ 0 → UnusedTo s at arities inner (at + h .len)
     unfolding UnusedTo usedBy encodeAll
     unused-none z free d P rest few scope e l = go (subterms P) refl
       where
@@ -207,7 +207,7 @@ module _ (s : List ℕ) (at : ℕ) (arities : List ℕ) (inner : ℕ) (h : UseFr
           (part free d P rest few scope st l (Q ∷ Qs) q ∙ append-assoc (encode (binders P + d) Q) (encodeAll (binders P + d) Qs) rest)
           (omega arith)
 
-      pub unused-one : h .parts ≡ 1 → UnusedTo s at arities inner e
+      pub unused-one : h .subterms ≡ 1 → UnusedTo s at arities inner e
       unfolding UnusedTo usedBy encodeAll
       unused-one z free d P rest few scope st l = go (subterms P) refl
         where
@@ -222,7 +222,7 @@ module _ (s : List ℕ) (at : ℕ) (arities : List ℕ) (inner : ℕ) (h : UseFr
               let n : length (subterms P) ≡ suc (suc (length Qs)) = ap length q in
               absurd (omega (arith, F .is free d P rest few scope st l .2))
 
-      pub unused-first : (h .parts ≡ 0 → ⊥) → e ≤ at → UnusedTo s at arities inner 0
+      pub unused-first : (h .subterms ≡ 0 → ⊥) → e ≤ at → UnusedTo s at arities inner 0
       unfolding UnusedTo usedBy
       unused-first z le free d P rest few scope st l = go (subterms P) refl
         where
@@ -237,7 +237,7 @@ module _ (s : List ℕ) (at : ℕ) (arities : List ℕ) (inner : ℕ) (h : UseFr
                   let k : e ≡ at + h .len + length (encode (binders P + d) Q) = first-is free d P rest few scope st l Q Qs q ∙ rw t in
                   absurd (omega (arith, F .step, z, F .is free d P rest few scope st l .2, ap length q, encode-some (binders P + d) Q))
 
-      pub unused-two : (h .parts ≡ 0 → ⊥) → (h .parts ≡ 1 → ⊥) → at < e → (r : ℕ) → UnusedTo s e arities (inner + h .binds) r → UnusedTo s at arities inner r
+      pub unused-two : (h .subterms ≡ 0 → ⊥) → (h .subterms ≡ 1 → ⊥) → at < e → (r : ℕ) → UnusedTo s e arities (inner + h .binds) r → UnusedTo s at arities inner r
       unfolding UnusedTo usedBy encodeAll
       unused-two z o lt r S free d P rest few scope st l = go (subterms P) refl
         where
@@ -284,7 +284,7 @@ module _ (s : List ℕ) (at : ℕ) (arities : List ℕ) where
   abbrev Says : (free d : ℕ) (rest : List ℕ) (r : Bool) → Term → Type 0
   Says free d rest r P = InScope free arities d P → drop at s ≡ encode d P ++ rest → r ≡ bindsNothing P
 
-  first-byte : (d : ℕ) (P : Term) (rest : List ℕ) → drop at s ≡ encode d P ++ rest → getD s at 0 ≡ getD (encode d P) 0 0
+  pub first-byte : (d : ℕ) (P : Term) (rest : List ℕ) → drop at s ≡ encode d P ++ rest → getD s at 0 ≡ getD (encode d P) 0 0
   first-byte d P rest st = ap (λ (k : ℕ). getD s k 0) (omega arith) ∙ getD-front s at (encode d P) rest 0 st (encode-some d P)
 
   -- by the ten forms

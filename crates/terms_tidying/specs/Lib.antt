@@ -1,2 +1,3 @@
+pub mod Restrictions
 pub mod Tidying
 pub mod Unused

@@ -23,12 +23,12 @@ longestRaw = 336
 pub record CopiedFrontIs (s : List ℕ) (at : ℕ) (arities out : List ℕ) (put : ℕ) (h : CopiedFront) (out′ : List ℕ) : Type 0 where
   pub inside : at + h .len ≤ max at (length s)
   pub room : put + h .len ≤ max put (length out)
-  pub step : min 1 (h .parts) ≤ h .len
+  pub step : min 1 (h .subterms) ≤ h .len
   pub is : (free d : ℕ) (P : Term) (rest : List ℕ)
       → InScope free arities d P
       → drop at s ≡ encode d P ++ rest
       → put + length (encode d P) ≤ length out
-      → (h .len ≡ length (frontBytes d P)) × (h .parts ≡ length (subterms P)) × (out′ ≡ sets out put (frontBytes d P))
+      → (h .len ≡ length (frontBytes d P)) × (h .subterms ≡ length (subterms P)) × (out′ ≡ sets out put (frontBytes d P))
 
 -- Of terms alone: where the bytes from `at` begin with those of P, exactly the bytes of the tidied P are stored from `put` on. Every index of a
 -- binder has a byte: d + height ≤ 128.

@@ -15,14 +15,14 @@ use Rattle.terms_tidying.specs.declared.unused.UseFront.{UseFront}
 -- The front of a term, and whether the binder number `inner` outward is one of the names in it.
 pub record UseFrontIs (s : List ℕ) (at : ℕ) (arities : List ℕ) (inner : ℕ) (h : UseFront) : Type 0 where
   pub inside : at + h .len ≤ max at (length s)
-  pub step : min 1 (h .parts) ≤ h .len
+  pub step : min 1 (h .subterms) ≤ h .len
   pub binds : h .binds ≤ min 1 (h .len)
   pub is : (free d : ℕ) (P : Term) (rest : List ℕ)
       → free ≤ tableNames
       → InScope free arities d P
       → drop at s ≡ encode d P ++ rest
       → inner < d
-      → (h .len ≡ length (frontBytes d P)) × (h .binds ≡ binders P) × (h .parts ≡ length (subterms P)) × (h .used ≡ among (ownNames P) inner)
+      → (h .len ≡ length (frontBytes d P)) × (h .binds ≡ binders P) × (h .subterms ≡ length (subterms P)) × (h .used ≡ among (ownNames P) inner)
 
 -- Where a term ends in which that name is not free, and else 0.
 unfoldable pub UnusedTo : List ℕ → ℕ → List ℕ → ℕ → ℕ → Type 0

@@ -164,7 +164,7 @@ const OUTSIDE: [u8; TABLE_NAMES + 129] = [
 
 pub struct CopiedFront {
     pub len: usize,
-    pub parts: usize,
+    pub subterms: usize,
 }
 
 // Where the term ends that was read, and where the bytes end that were written.
@@ -178,22 +178,31 @@ fn copy_front(src: &[u8], at: usize, arities: &[u8], out: &mut [u8], put: usize)
     ensures { λ r. ⌜ CopiedFrontIs (now (src .entry)) at (now (arities .entry)) (now (out .entry)) put r (now (out .exit)) ⌝ }
 {
     if src.len() <= at {
-        return CopiedFront { len: 0, parts: 0 };
+        return CopiedFront {
+            len: 0,
+            subterms: 0,
+        };
     }
     let h = shape_at(src, at, arities);
     let fixed = h.fixed;
     let names = h.names;
     let n = fixed + names;
     if !room(src.len(), at, n) {
-        return CopiedFront { len: 0, parts: 0 };
+        return CopiedFront {
+            len: 0,
+            subterms: 0,
+        };
     }
     if !room(out.len(), put, n) {
-        return CopiedFront { len: 0, parts: 0 };
+        return CopiedFront {
+            len: 0,
+            subterms: 0,
+        };
     }
     copy(src, at, n, out, put);
     CopiedFront {
         len: n,
-        parts: h.parts,
+        subterms: h.subterms,
     }
 }
 
@@ -233,15 +242,15 @@ pub fn tidy(src: &[u8], at: usize, arities: &[u8], out: &mut [u8], put: usize) -
     }
     let h = copy_front(src, at, arities, out, put);
     let n = h.len;
-    let parts = h.parts;
-    if parts == 0 {
+    let subterms = h.subterms;
+    if subterms == 0 {
         return Ends {
             read: at + n,
             written: put + n,
         };
     }
     let first = tidy(src, at + n, arities, out, put + n);
-    if parts == 1 {
+    if subterms == 1 {
         return first;
     }
     let read = first.read;

@@ -27,7 +27,7 @@ fn has_byte(src: &[u8], at: usize, n: usize, b: usize) -> bool
 pub struct UseFront {
     pub len: usize,
     pub binds: usize,
-    pub parts: usize,
+    pub subterms: usize,
     pub used: bool,
 }
 
@@ -40,7 +40,7 @@ fn use_front(src: &[u8], at: usize, arities: &[u8], inner: usize) -> UseFront
         return UseFront {
             len: 0,
             binds: 0,
-            parts: 0,
+            subterms: 0,
             used: true,
         };
     }
@@ -52,7 +52,7 @@ fn use_front(src: &[u8], at: usize, arities: &[u8], inner: usize) -> UseFront
         return UseFront {
             len: 0,
             binds: 0,
-            parts: 0,
+            subterms: 0,
             used: true,
         };
     }
@@ -60,7 +60,7 @@ fn use_front(src: &[u8], at: usize, arities: &[u8], inner: usize) -> UseFront
     UseFront {
         len: n,
         binds: h.binds,
-        parts: h.parts,
+        subterms: h.subterms,
         used,
     }
 }
@@ -72,16 +72,16 @@ pub fn unused_to(src: &[u8], at: usize, arities: &[u8], inner: usize) -> usize
 {
     let h = use_front(src, at, arities, inner);
     let n = h.len;
-    let parts = h.parts;
+    let subterms = h.subterms;
     if h.used {
         return 0;
     }
-    if parts == 0 {
+    if subterms == 0 {
         return at + n;
     }
     let deeper = inner + h.binds;
     let e = unused_to(src, at + n, arities, deeper);
-    if parts == 1 {
+    if subterms == 1 {
         return e;
     }
     if e <= at {

@@ -21,6 +21,7 @@ pub mod Rounds
 pub mod SettledKept
 pub mod SmallOutcomes
 pub mod Soundness
+pub mod TidiedVerdict
 pub mod VerdictIsDefinition13
 pub mod VerdictsAreDefinitions7To10
 pub mod WorkedExchanges

@@ -27,7 +27,7 @@ use Rattle.field.specs.Situation.{Situation}
 use Rattle.field.specs.Successors.{answers, allowed, received, led}
 use Rattle.field.proofs.Members.{map-∈}
 use Rattle.field.proofs.Moves.{put-same}
-use Rattle.field.proofs.NamedSide.{avoids, step-listed, own-step, listed-answer, answer-listed, answers-own, listed-does}
+use Rattle.field.proofs.NamedSide.{avoids, step-listed, own-step, listed-answer, answer-listed, answers-own, listed-performs}
 use Rattle.verdict.specs.Received.{lots, demandOf, namedMoves}
 use Rattle.verdict.proofs.NamedDemands.{of-demands, in-demands, of-demand, in-demand}
 use Rattle.verdict.proofs.Rounds.{Met}
@@ -204,6 +204,6 @@ module _ (Δ : Defs) (S : Setting) (formed : Form (S .form)) (arities : List ℕ
   unfolding allowed
   bisimilar-meets k L intro b w i =
       let d = of-demands (S .names) make F D k ps qs w i in
-      let m = listed-does Δ S arities x P Q scope scope′ new new′ ps qs lists lists′ (d .step) (d .among) (d .allowed-is) in
+      let m = listed-performs Δ S arities x P Q scope scope′ new new′ ps qs lists lists′ (d .step) (d .among) (d .allowed-is) in
       subst (Met L) (sym (d .is ∙ ap (λ r. demandOf (S .names) make F D qs r (d .lot)) (m .is)))
       (meets-at k L intro b (m .action) (m .result) (m .does) (m .binds) (d .lot) (subst (λ r. d .lot ∈ lots k (received true (S .names) F r)) (m .is) (d .offered)))

@@ -13,16 +13,17 @@ use Rattle.terms.specs.Encoding.{nameByte, encode}
 use Rattle.terms.specs.Framing.{cut, field, fields, framed, joined, sized, allSized}
 use Rattle.terms.specs.Grammar.{sequential, parallelOutermost, guarded}
 use Rattle.terms.specs.Operations.{holdsApart}
-use Rattle.terms.specs.Question.{all, fits, readBodies, readPartWith, readApartWith, differentNamesWith, readPairsWith, version, checkTermsWith, checkFieldsWith, checkWith, editionOf, questionWith, bodyFields, pairBytes, fieldsOf, write}
+use Rattle.terms.specs.Question.{every, fits, readBodies, readPartWith, readApartWith, differentNamesWith, readPairsWith, version, checkTermsWith, checkFieldsWith, checkWith, editionOf, questionWith, bodyFields, pairBytes, fieldsOf, write}
 use Rattle.terms.specs.Edition.{versionByte}
 use Rattle.terms.specs.Reading.{byte, readName, readNames, tagOf, readTerm, readWhole, numbered, readCount}
 use Rattle.terms.specs.Question.{bodyOf}
-use Rattle.steps.specs.Raw.{matching, leftSteps, rightSteps, meet, communication, communications, spares, sparesRestricted, outside, restrictedAction, restricted, visibleOf, silentOf, visibleCalls, silentCalls, visible, silent}
-use Rattle.steps.specs.Listed.{namesFrom, classesOf, classIn, kindOf, channelOf, objectOf, listedAs, canonStep, resultBytes, bytes}
+use Rattle.steps.specs.Forms.{resultForm}
+use Rattle.steps.specs.Raw.{matching, leftSteps, rightSteps, meet, communication, communications, leavesAlone, restrictedAlone, outside, restrictedAction, restricted, visibleOf, silentOf, visibleCalls, silentCalls, visible, silent}
+use Rattle.steps.specs.Listed.{namesFrom, classesOf, classIn, implies, ownClasses, kindOf, channelOf, objectOf, listedAs, canonStep, resultBytes, bytes}
 use Rattle.steps.specs.Listing.{order, insert, allFit, collect, limited, listing}
 use Rattle.field.specs.Setting.{settingOf, stepsIn}
 use Rattle.field.specs.Situation.{freeFrom, freeIn, pairsOf, situation, startOf, missing, newName, sameBytes, sameSituation}
-use Rattle.field.specs.Successors.{select, permitted, implies, answers, extrudedBy, updatedBy, ownClasses, unconditional, allowed, received, led, joinAll, answersTo, movesOf, moves, bindsName, someBinds, ledTo, withSteps, successors}
+use Rattle.field.specs.Successors.{select, permitted, answers, extrudedBy, updatedBy, unconditional, allowed, received, led, joinAll, answersTo, movesOf, moves, bindsName, someBinds, ledTo, withSteps, successors}
 use Rattle.field.specs.Exploration.{found, unseen, together, withRow, explore, fieldOf}
 use Rattle.verdict.specs.Received.{lots, demandOf, namedMoves, sidesDemand, namedDemands}
 use Rattle.verdict.specs.Verdict.{Manner, openly, named, differs, demandsOf, Verdict, same, different, allFound, answered, allAnswered, strike, rounds, decided, verdictBy}
@@ -98,14 +99,14 @@ computed : (judged openly (exchanges ++ turnings) ≡ expected (exchanges ++ tur
     × (judged (named late) (named-exchanges (different 11)) ≡ expected (named-exchanges (different 11)))
     × (judged (named early) (named-exchanges (same 11)) ≡ expected (named-exchanges (same 11)))
 unfolding judged expected exchanges turnings named-exchanges ask askWith judgeBy withinCapacity _>>=_ _>>_ need checkFieldsWith checkTermsWith version
-    framed cut field fields all fits readBodies readPartWith readWhole readTerm readName readNames byte tagOf sequential parallelOutermost guarded
+    framed cut field fields every fits readBodies readPartWith readWhole readTerm readName readNames byte tagOf sequential parallelOutermost guarded
     readApartWith differentNamesWith readPairsWith joined sized allSized write fieldsOf bodyFields pairBytes encode nameByte verdictBy differs demandsOf
     namedDemands sidesDemand namedMoves demandOf lots startOf decided rounds strike allAnswered answered allFound found unseen together withRow
     explore fieldOf successors withSteps ledTo someBinds bindsName moves movesOf answersTo joinAll led received allowed unconditional ownClasses put
     updatedBy extrudedBy answers implies permitted select freeFrom freeIn pairsOf situation missing newName sameBytes sameSituation settingOf stepsIn
-    holdsApart among keep fn lowerL bodyOf listing limited collect insert order allFit bytes resultBytes canonStep listedAs kindOf channelOf objectOf
-    classesOf classIn namesFrom visible silent visibleCalls silentCalls visibleOf silentOf restricted restrictedAction outside sparesRestricted
-    spares communications communication meet leftSteps rightSteps matching cls join questionWith editionOf checkWith versionByte numbered readCount
+    holdsApart among keep fn lowerL bodyOf listing limited collect insert order allFit bytes resultBytes resultForm canonStep listedAs kindOf channelOf objectOf
+    classesOf classIn namesFrom visible silent visibleCalls silentCalls visibleOf silentOf restricted restrictedAction outside restrictedAlone
+    leavesAlone communications communication meet leftSteps rightSteps matching cls join questionWith editionOf checkWith versionByte numbered readCount
 computed = (refl, refl, refl)
 
 pub worked-exchanges : judged openly (exchanges ++ turnings) ≡ expected (exchanges ++ turnings)

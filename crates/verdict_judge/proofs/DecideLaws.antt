@@ -45,7 +45,7 @@ use Rattle.verdict_judge.specs.declared.judge.Judged.{Judged}
 use Rattle.verdict_judge.specs.declared.judge.Judged.the-variants.{Unsettled, Same, Different}
 use Rattle.verdict_strikeout.proofs.AnyOrder.{StrikesTo, NoneToStrike, survivors-left, same-found}
 use Rattle.verdict_judge.proofs.ByNumber.{distinct-number}
-use Rattle.verdict_strikeout.proofs.EqualParts.{equal-met}
+use Rattle.verdict_strikeout.proofs.EqualParts.{equal-answered}
 use Rattle.verdict_strikeout.proofs.FieldKept.{field-kept}
 use Rattle.verdict.proofs.FieldRows.{FieldRows, explored-rows, rows-field}
 use Rattle.verdict_survival.proofs.LeftLaws.{left-found}
@@ -153,7 +153,7 @@ module _ (manner : Manner) (question : List ℕ) (q : Question) (accepted : chec
       record {
         wants = r .wants;
         leading = d;
-        some = equal-met question q accepted manner s (those .proper s m) (r .wants) d e;
+        some = equal-answered question q accepted manner s (those .proper s m) (r .wants) d e;
       }
 
   -- by the numbers below k: a struck one would lead to equal parts that are struck out and have a smaller number

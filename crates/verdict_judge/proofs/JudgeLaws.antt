@@ -5,7 +5,7 @@ use native.Mathlib.Omega.{arith}
 use Prim.Native.Nat.{ℕ, _*_, _<_}
 use lib.ListN.{length, drop, replicate}
 use Rattle.terms.specs.Answer.{Answer, refused, result, _>>=_}
-use Rattle.terms_bytes.specs.Writing.{Accepted as EitherAccepted}
+use Rattle.terms_bytes.specs.Writing.{IsAccepted}
 use Rattle.terms_checks.specs.Checking.{checkedAnswer}
 use Rattle.terms.specs.Operations.{checkAnswer}
 use Rattle.terms.specs.Question.{Question, checkOf, questionOf}
@@ -69,6 +69,6 @@ module _ (manner : Manner) (question : List ℕ) (capacity : ℕ) (work : List �
           let v : judgeBy manner question capacity (length work) ≡ result (verdictBy manner q capacity) = checks-passed ∙ bind-to (λ q. result (verdictBy manner q capacity)) d in
           record { answer = a .is q d ∙ sym v; left = a .left ∙ sym (ap (λ x. workAfter x capacity work) v) }
 
-pub accepted-either : (question : List ℕ) (c : Checked) → checkAnswer question ≡ checkedAnswer c → c ≡ Accepted → EitherAccepted question
-unfolding checkAnswer checkedAnswer EitherAccepted
+pub accepted-either : (question : List ℕ) (c : Checked) → checkAnswer question ≡ checkedAnswer c → c ≡ Accepted → IsAccepted question
+unfolding checkAnswer checkedAnswer IsAccepted
 accepted-either question c e h = let (q, d, z) = bind-result (questionOf question) (λ q. result 0) 0 (e ∙ ap checkedAnswer h) in (q, d)

@@ -8,7 +8,7 @@ ghost use Rattle.verdict.specs.Judge.{slotBytes, greatestCapacity};
 ghost use Rattle.late_early.specs.LateEarly.{late, early};
 ghost use Rattle.verdict.specs.Verdict.{openly, named};
 ghost use Rattle.verdict_survival.specs.Manners.{mannerOf};
-ghost use Rattle.terms_bytes.specs.Writing.{Accepted};
+ghost use Rattle.terms_bytes.specs.Writing.{IsAccepted};
 ghost use Rattle.terms_converting.specs.Questions.{AcceptedFrom};
 ghost use Rattle.verdict_judge.specs.Judging.{DecidesIs, AcceptedIs, OwnIs, JudgedIs};
 use field_exploration::explore::Explored;
@@ -27,6 +27,7 @@ use verdict_capacity::capacity::capacity_check;
 use verdict_start::passes::start_survives;
 use verdict_survival::manner::Manner;
 use verdict_survival::manner::names_differ;
+use verdict_survival::survive::Search;
 
 // The number of the check that turns back, or the verdict and the size of the field.
 pub enum Judged {
@@ -54,7 +55,7 @@ fn decide(question: &[u8], capacity: usize, work: &mut [u8], manner: Manner) -> 
     ensures { λ r. ⌜ DecidesIs (mannerOf manner) (now (question .entry)) capacity (now (work .entry)) r (now (work .exit)) ⌝ }
 {
     let bodies = body_tallies(question);
-    let mut numbers = [0u32; SCRATCH_NUMBERS];
+    let mut tallies = [0u32; SCRATCH_NUMBERS];
     let mut rows = [0u8; SCRATCH_ROWS];
     let mut firsts = [0u8; LIST_AREA];
     let mut seconds = [0u8; LIST_AREA];
@@ -62,7 +63,7 @@ fn decide(question: &[u8], capacity: usize, work: &mut [u8], manner: Manner) -> 
     let explored = explore(
         question,
         &bodies,
-        &mut numbers,
+        &mut tallies,
         &mut rows,
         &mut firsts,
         &mut seconds,
@@ -73,17 +74,20 @@ fn decide(question: &[u8], capacity: usize, work: &mut [u8], manner: Manner) -> 
     match explored {
         Explored::Incomplete => Judged::Unsettled,
         Explored::Field(n) => {
+            let search = Search {
+                manner,
+                capacity,
+                count: n,
+            };
             if start_survives(
                 question,
                 &bodies,
-                &mut numbers,
+                &mut tallies,
                 &mut rows,
                 &mut firsts,
                 &mut seconds,
                 work,
-                capacity,
-                n,
-                manner,
+                search,
             ) {
                 return Judged::Same(n);
             }
@@ -114,7 +118,7 @@ fn judge_counted(question: &[u8], capacity: usize, work: &mut [u8], manner: Mann
 
 // The verdict on an accepted question of either edition.
 fn judge_either(question: &[u8], capacity: usize, work: &mut [u8], manner: Manner) -> Judged
-    requires { ⌜ (1 ≤ capacity) × (capacity ≤ greatestCapacity) × (slotBytes * capacity ≤ length (now work)) × Accepted (now question) ⌝ }
+    requires { ⌜ (1 ≤ capacity) × (capacity ≤ greatestCapacity) × (slotBytes * capacity ≤ length (now work)) × IsAccepted (now question) ⌝ }
     ensures { λ r. ⌜ OwnIs (mannerOf manner) (now (question .entry)) capacity (now (work .entry)) r (now (work .exit)) ⌝ }
 {
     if is_counted(question) {

@@ -1,61 +1,54 @@
 // Passes of strike-out over the whole field: whether the start survives. Document 01, "The field and the verdict".
-ghost use mathlib.Core.Path.{_≡_};
-ghost use Prim.Native.Nat.{_+_, _-_, _*_, _<_, _≤_};
+ghost use Prim.Native.Nat.{_*_, _≤_};
 ghost use lib.ListN.{length};
-ghost use Rattle.field_kept_lists.specs.ListArea.{Labelled};
 ghost use Rattle.field_pairs.specs.Slot.{slotBytes};
-ghost use Rattle.steps_tallies.specs.Tally.{tallySize, BodiesTallied};
-ghost use Rattle.steps_rows.specs.Rows.{rowBytes, mostRows};
-ghost use Rattle.verdict.specs.Judge.{greatestCapacity};
 ghost use Rattle.verdict_survival.specs.Manners.{mannerOf};
-ghost use Rattle.verdict_survival.specs.Striking.{AllSole, FirstStruckIs, StartSurvivesIs};
+ghost use Rattle.verdict_survival.specs.Striking.{Slots, Listing, AllSole, FirstStruckIs, StartSurvivesIs};
 use field_slots::find::Found;
 use field_slots::find::left_at;
 use verdict_strikeout::strike::LARGEST_BLOCKS;
-use verdict_strikeout::strike::settle;
+use verdict_strikeout::strike::Pass;
 use verdict_strikeout::strike::strike_blocks;
-use verdict_survival::manner::Manner;
+use verdict_strikeout::strike::strike_until_stable;
 use verdict_survival::relied::clear_notes;
+use verdict_survival::survive::Search;
+
+// Passes over the whole field, of which the first goes up or down.
+pub struct Passes {
+    pub search: Search,
+    pub rising: bool,
+}
 
 // Passes that examine situations, until one strikes out none or the start is struck out; whether the start is left. Situations fail because of ones
 // that were found later or earlier, so that the passes go up and down by turns. The two areas have the lists that their labels say.
 fn survives_passes(
     question: &[u8],
     bodies: &[u32],
-    numbers: &mut [u32],
+    tallies: &mut [u32],
     rows: &mut [u8],
     firsts: &mut [u8],
     seconds: &mut [u8],
     work: &mut [u8],
-    capacity: usize,
-    count: usize,
-    rising: bool,
-    manner: Manner,
+    passes: Passes,
 ) -> bool
-    requires { ⌜ (1 ≤ count) × (count ≤ capacity) × (slotBytes * capacity ≤ length (now work)) × BodiesTallied (now question) (now bodies) × (length (now numbers) ≡ tallySize) × (rowBytes * mostRows ≤ length (now rows)) × Labelled (now question) (now firsts) × Labelled (now question) (now seconds) × (capacity ≤ greatestCapacity) ⌝ }
-    ensures { λ r. ⌜ StartSurvivesIs (mannerOf manner) (now (question .entry)) capacity (now (work .entry)) count r (now (work .exit)) ⌝ }
+    requires { ⌜ Slots (now work) (passes .search) × Listing (now question) (now bodies) (now tallies) (now rows) (now firsts) (now seconds) ⌝ }
+    ensures { λ r. ⌜ StartSurvivesIs (mannerOf (passes .search .manner)) (now (question .entry)) (passes .search .capacity) (now (work .entry)) (passes .search .count) r (now (work .exit)) ⌝ }
 {
+    let search = passes.search;
+    let count = search.count;
     clear_notes(work, count);
-    let mut up = rising;
+    let mut up = passes.rising;
     let mut again = true;
     while again {
-        again = strike_blocks(
-            question,
-            bodies,
-            work,
-            capacity,
-            count,
-            0,
-            count,
-            LARGEST_BLOCKS,
-            numbers,
-            rows,
-            firsts,
-            seconds,
-            up,
-            true,
-            manner,
-        );
+        let pass = Pass {
+            search,
+            examine: true,
+            rising: up,
+            level: LARGEST_BLOCKS,
+            from: 0,
+            size: count,
+        };
+        again = strike_blocks(question, bodies, work, tallies, rows, firsts, seconds, pass);
         up = !up;
         if !left_at(work, 0) {
             return false;
@@ -69,51 +62,41 @@ fn survives_passes(
 fn survives_struck(
     question: &[u8],
     bodies: &[u32],
-    numbers: &mut [u32],
+    tallies: &mut [u32],
     rows: &mut [u8],
     firsts: &mut [u8],
     seconds: &mut [u8],
     work: &mut [u8],
-    capacity: usize,
-    count: usize,
-    rising: bool,
-    manner: Manner,
+    passes: Passes,
 ) -> bool
-    requires { ⌜ (1 ≤ count) × (count ≤ capacity) × (slotBytes * capacity ≤ length (now work)) × BodiesTallied (now question) (now bodies) × (length (now numbers) ≡ tallySize) × (rowBytes * mostRows ≤ length (now rows)) × Labelled (now question) (now firsts) × Labelled (now question) (now seconds) × (capacity ≤ greatestCapacity) × AllSole (mannerOf manner) (now question) capacity (now work) count ⌝ }
-    ensures { λ r. ⌜ StartSurvivesIs (mannerOf manner) (now (question .entry)) capacity (now (work .entry)) count r (now (work .exit)) ⌝ }
+    requires { ⌜ Slots (now work) (passes .search) × Listing (now question) (now bodies) (now tallies) (now rows) (now firsts) (now seconds) × AllSole (mannerOf (passes .search .manner)) (now question) (passes .search .capacity) (now work) (passes .search .count) ⌝ }
+    ensures { λ r. ⌜ StartSurvivesIs (mannerOf (passes .search .manner)) (now (question .entry)) (passes .search .capacity) (now (work .entry)) (passes .search .count) r (now (work .exit)) ⌝ }
 {
-    settle(
-        question,
-        bodies,
-        work,
-        capacity,
-        count,
-        0,
-        count,
-        LARGEST_BLOCKS + 1,
-        numbers,
-        rows,
-        firsts,
-        seconds,
+    let search = passes.search;
+    let rising = passes.rising;
+    let count = search.count;
+    let level = LARGEST_BLOCKS + 1;
+    let pass = Pass {
+        search,
+        examine: false,
         rising,
-        false,
-        manner,
-    );
+        level,
+        from: 0,
+        size: count,
+    };
+    strike_until_stable(question, bodies, work, tallies, rows, firsts, seconds, pass);
     if !left_at(work, 0) {
         return false;
     }
     survives_passes(
         question,
         bodies,
-        numbers,
+        tallies,
         rows,
         firsts,
         seconds,
         work,
-        capacity,
-        count,
-        rising,
-        manner,
+        passes,
     )
 }
 
@@ -137,36 +120,36 @@ fn first_struck(work: &[u8], count: usize) -> Found
 pub fn start_survives(
     question: &[u8],
     bodies: &[u32],
-    numbers: &mut [u32],
+    tallies: &mut [u32],
     rows: &mut [u8],
     firsts: &mut [u8],
     seconds: &mut [u8],
     work: &mut [u8],
-    capacity: usize,
-    count: usize,
-    manner: Manner,
+    search: Search,
 ) -> bool
-    requires { ⌜ (1 ≤ count) × (count ≤ capacity) × (slotBytes * capacity ≤ length (now work)) × BodiesTallied (now question) (now bodies) × (length (now numbers) ≡ tallySize) × (rowBytes * mostRows ≤ length (now rows)) × Labelled (now question) (now firsts) × Labelled (now question) (now seconds) × (capacity ≤ greatestCapacity) × AllSole (mannerOf manner) (now question) capacity (now work) count ⌝ }
-    ensures { λ r. ⌜ StartSurvivesIs (mannerOf manner) (now (question .entry)) capacity (now (work .entry)) count r (now (work .exit)) ⌝ }
+    requires { ⌜ Slots (now work) search × Listing (now question) (now bodies) (now tallies) (now rows) (now firsts) (now seconds) × AllSole (mannerOf (search .manner)) (now question) (search .capacity) (now work) (search .count) ⌝ }
+    ensures { λ r. ⌜ StartSurvivesIs (mannerOf (search .manner)) (now (question .entry)) (search .capacity) (now (work .entry)) (search .count) r (now (work .exit)) ⌝ }
 {
     if !left_at(work, 0) {
         return false;
     }
+    let count = search.count;
     let first = first_struck(work, count);
     match first {
         Found::Nothing => true,
-        Found::At(i) => survives_struck(
-            question,
-            bodies,
-            numbers,
-            rows,
-            firsts,
-            seconds,
-            work,
-            capacity,
-            count,
-            2 * i < count,
-            manner,
-        ),
+        Found::At(i) => {
+            let rising = 2 * i < count;
+            let passes = Passes { search, rising };
+            survives_struck(
+                question,
+                bodies,
+                tallies,
+                rows,
+                firsts,
+                seconds,
+                work,
+                passes,
+            )
+        }
     }
 }

@@ -13,7 +13,7 @@ use Rattle.verdict_survival.proofs.Demands.{same-test}
 use Rattle.verdict.proofs.Rounds.{true-not-false, of-selves, same-row, survivors, survivor-row, survivor-in, EachSome, each-imp, GoodRows, each-answered, closed-survives, member-found, answered-each, selves-good, survivors-answer, found-survives}
 
 module _ (d : Row → List (List (List Situation))) (rs : List Row) where
-  -- From all rows, one with a demand that those left do not meet is struck out at a time.
+  -- From all rows, one with a demand that those left do not answer is struck out at a time.
   pub data StrikesTo : List Situation → Type 0 where
     all-left : StrikesTo (selves rs)
     one-struck : {left after : List Situation} → StrikesTo left → (r : Row) → r ∈ rs → allAnswered left (d r) ≡ false
@@ -30,7 +30,7 @@ module _ (d : Row → List (List (List Situation))) (rs : List Row) where
 
 module _ (Good : Situation → Type 0) (decides : (s t : Situation) → Good s → Good t → sameSituation s t ≡ true → s ≡ t)
     (d : Row → List (List (List Situation))) (rs : List Row) (good : GoodRows d Good rs) (distinct : Distinct (selves rs)) where
-  -- a row with a demand that those left do not meet is no survivor, if the survivors are among those left
+  -- a row with a demand that those left do not answer is no survivor, if the survivors are among those left
   pub unanswered-struck : (left : List Situation) → ((s : Situation) → s ∈ selves (survivors d rs) → s ∈ left)
       → (r : Row) → r ∈ rs → allAnswered left (d r) ≡ false → ¬ (r .self ∈ selves (survivors d rs))
   unanswered-struck left h r m e k =
@@ -39,7 +39,7 @@ module _ (Good : Situation → Type 0) (decides : (s t : Situation) → Good s �
       true-not-false
       (each-answered left (d r) (each-imp h (survivors-answer d Good decides rs good r (subst (λ r. r ∈ survivors d rs) (sym p) i)))) e
 
-  -- those left are survivors, if all their demands are met
+  -- those left are survivors, if all their demands are answered
   pub answered-survive : (left : List Situation) → ((s : Situation) → s ∈ left → s ∈ selves rs) → NoneToStrike d rs left
       → (s : Situation) → s ∈ left → s ∈ selves (survivors d rs)
   answered-survive left h a s m = closed-survives d (λ s. s ∈ left) rs (record { answers = closed }) s (h s m) m

@@ -33,13 +33,13 @@ use Rattle.field_pairs.specs.Slot.{struckAt}
 use Rattle.field.proofs.Link.{firstMoves, secondMoves, ListOf, ListOfSome, of-first, of-second, ListedFor}
 use Rattle.field.proofs.Members.{map-∈, ∈-either, getD-∈, ∈-number}
 use Rattle.field.proofs.MoveLaws.{move-rewritten}
-use Rattle.field.proofs.NamedSide.{listed-does, answers-own}
+use Rattle.field.proofs.NamedSide.{listed-performs, answers-own}
 use Rattle.field.proofs.NewNames.{new-away}
 use Rattle.field.proofs.Proper.{encode-same}
 use Rattle.verdict_survival.specs.Striking.{leftOf, SomeAnswer, EqualParts, demandsAt, LeadsTo, Searching, EqualPartsIs}
 use Rattle.verdict_survival.proofs.LeftLaws.{left-found}
 use Rattle.verdict_survival.proofs.DemandedMoves.{Δ, linked, lists, demand-followed}
-use Rattle.verdict_survival.proofs.Demands.{all-meet, each-single}
+use Rattle.verdict_survival.proofs.Demands.{all-answer, each-single}
 use Rattle.verdict.specs.Received.{namedMoves, namedDemands}
 use Rattle.verdict.proofs.NamedDemands.{of-demands, in-demand, firstDemands, secondDemands, demands-are}
 use Rattle.verdict.specs.Verdict.{Manner, openly, named, differs, demandsOf, allAnswered}
@@ -88,7 +88,7 @@ module _ (Δ : Defs) (S : Setting) (arities : List ℕ) (x : ℕ) (P : Term) (sc
   side-equal m i =
       let d = of-demands (S .names) make F D k ps ps m i in
       let r : ListedStep = d .step in
-      let o = listed-does Δ S arities x P P scope scope new new ps ps lists lists r (d .among) (d .allowed-is) in
+      let o = listed-performs Δ S arities x P P scope scope new new ps ps lists lists r (d .among) (d .allowed-is) in
       let own : answers (S .names) r r ≡ true = subst (λ r. answers (S .names) r r ≡ true) (sym (o .is))
       (answers-own Δ S arities x P P scope scope new new ps ps lists lists (o .action) (o .result) (o .result)) in (
         map (led true make F D r r) (d .lot),
@@ -119,15 +119,15 @@ module _ (Δ : Defs) (S : Setting) (arities : List ℕ) (s : Situation) (proper 
           side-equal Δ S arities (fresh Δ S s) (s .second) (proper .second) (away .right) (l .seconds) (l .second-steps) (secondMoves Δ S) (λ A. refl) F (s .apart) k m
           (subst (λ qs. m ∈ namedMoves (S .names) (secondMoves Δ S) F (s .apart) k (l .seconds) qs) one-list j)
 
--- Each demand on equal parts is met by an answer that leads to equal parts only.
-pub equal-met : (question : List ℕ) (q : Question) → (accepted : checkOf question ≡ result q) → (manner : Manner) (s : Situation)
+-- Each demand on equal parts is answered by an answer that leads to equal parts only.
+pub equal-answered : (question : List ℕ) (q : Question) → (accepted : checkOf question ≡ result q) → (manner : Manner) (s : Situation)
     → (proper : Proper nameCount (q .arities) s) → (ms : List (List Situation)) → successors (settingOf (differs manner) (q .bodies)) s ≡ leads ms → EqualParts s
     → (m : List (List Situation)) → m ∈ demandsAt manner q s ms → SomeAnswer EqualParts m
 unfolding demandsOf differs settingOf
-equal-met question q accepted openly s proper ms lead e =
+equal-answered question q accepted openly s proper ms lead e =
     let S : Setting = settingOf false (q .bodies) in
     each-single EqualParts ms (λ w k. some-equal (Δ question q accepted) S s w e (linked question q accepted openly s proper .open-given refl ms lead .each w k))
-equal-met question q accepted (named k) s proper ms lead e =
+equal-answered question q accepted (named k) s proper ms lead e =
     named-equal (Δ question q accepted) (settingOf true (q .bodies)) (q .arities) s proper ms (lists question q accepted k s proper ms lead) k e
 
 module _ (manner : Manner) (question : List ℕ) (capacity count : ℕ) (work : List ℕ) (f : Searching manner question capacity work count) (i : ℕ) (d : Situation) (below : i < count) where
@@ -142,7 +142,7 @@ module _ (manner : Manner) (question : List ℕ) (capacity count : ℕ) (work : 
 
   pub equal-survives : EqualParts here → (ms : List (List Situation)) → LeadsTo (f .field) i d ms
       → allAnswered (leftOf work known) (demandsAt manner (f .field .read) here ms) ≡ true
-  equal-survives e ms l = all-meet (leftOf work known) (demandsAt manner (f .field .read) here ms) each
+  equal-survives e ms l = all-answer (leftOf work known) (demandsAt manner (f .field .read) here ms) each
     where
       held : (t : Situation) → EqualParts t → (a : ℕ) × (a < length known) × ((d : Situation) → t ≡ getD known a d) → found (leftOf work known) t ≡ true
       held t p (a, b, x) =

@@ -19,13 +19,13 @@ use Rattle.field_pairs.specs.Slot.{slotBytes, struckAt, keyBytes, headByte, not
 use Rattle.field_slots.proofs.ChainLaws.{key-flag, keeps-key, chained-kept}
 use Rattle.field_slots.proofs.NotedLaws.{note-flag}
 use Rattle.field_growth.proofs.SlotWriting.{situation-kept}
-use Rattle.verdict_survival.specs.Notes.{NotedIn, Has, NoteIs, ClearsNotes, RestsIs, SoleStruckIs}
+use Rattle.verdict_survival.specs.Notes.{NotedIn, Has, NoteIs, ClearsNotes, ReliesOnLeftIs, SoleStruckIs}
 use Rattle.verdict_survival.specs.Striking.{living, leftOf, Standing, SomeAnswer, ReliesOn, demandsAt, FieldIn, Searching, SurvivesIs, Relies, ExaminedIs, AllNoted, AllSole, NotesHold}
 use Rattle.verdict_survival.specs.declared.survive.Answered.{Answered}
 use Rattle.verdict_survival.proofs.LeftLaws.{left-found}
 use Rattle.verdict_survival.proofs.Marks.{marks-kept}
 use Rattle.verdict_survival.proofs.DemandedMoves.{move-demanded}
-use Rattle.verdict_survival.proofs.Demands.{all-meet, one-fails}
+use Rattle.verdict_survival.proofs.Demands.{all-answer, one-fails}
 use Rattle.verdict.specs.Verdict.{Manner, allAnswered}
 
 -- Keys and chains are as they were.
@@ -126,26 +126,26 @@ module _ (manner : Manner) (question : List ℕ) (capacity count : ℕ) where
   noted-none v u c i h g = absurd (omega (arith, c .none i h))
 
   -- A situation survives while all that is noted for it is left.
-  pub rests-survives : (v : List ℕ) (i : ℕ) (r : Bool) → i < count → AllNoted manner question capacity v count → RestsIs v count i r → r ≡ true
+  pub relying-survives : (v : List ℕ) (i : ℕ) (r : Bool) → i < count → AllNoted manner question capacity v count → ReliesOnLeftIs v count i r → r ≡ true
       → SurvivesIs manner question capacity v count i true
-  unfolding AllNoted RestsIs SurvivesIs Relies ReliesOn NotedIn
-  rests-survives v i r h n rests t f d ms e =
-      sym (all-meet (leftOf v (f .field .known)) (demandsAt manner (f .field .read) (getD (f .field .known) i d) ms) each)
+  unfolding AllNoted ReliesOnLeftIs SurvivesIs Relies ReliesOn NotedIn
+  relying-survives v i r h n relies t f d ms e =
+      sym (all-answer (leftOf v (f .field .known)) (demandsAt manner (f .field .read) (getD (f .field .known) i d) ms) each)
     where
       some : 0 < noteAt v i 0
-      some = rests t 0 (omega arith) .0
+      some = relies t 0 (omega arith) .0
 
       left : (u : Situation) → (j : ℕ) × (j < length (f .field .known)) × NotedIn v i j × ((d : Situation) → getD (f .field .known) j d ≡ u)
           → found (leftOf v (f .field .known)) u ≡ true
       left u (j, l, (k, b, q), x) =
           let z : noteAt v i k - 1 ≡ j = omega (arith, q) in
-          left-found v (f .field .known) (f .field .standing) j u d l (x d) ∙ eq-eqb (getD v (struckAt j) 0) 0 (subst (λ j. getD v (struckAt j) 0 ≡ 0) z (rests t k b .2))
+          left-found v (f .field .known) (f .field .standing) j u d l (x d) ∙ eq-eqb (getD v (struckAt j) 0) 0 (subst (λ j. getD v (struckAt j) 0 ≡ 0) z (relies t k b .2))
 
       each : (m : List (List Situation)) → m ∈ demandsAt manner (f .field .read) (getD (f .field .known) i d) ms
           → SomeAnswer (λ u. found (leftOf v (f .field .known)) u ≡ true) m
       each m g = let (l, j, a) = n i h some (f .field) d ms e m g in (l, j, λ u k. left u (a u k))
 
-  -- A situation does not survive if one that is noted for it, the only answer to a move, is struck out: the demand of that move is not met.
+  -- A situation does not survive if one that is noted for it, the only answer to a move, is struck out: the demand of that move is not answered.
   pub sole-fails : (v : List ℕ) (i : ℕ) (r : Bool) → i < count → AllSole manner question capacity v count → SoleStruckIs v count i r → r ≡ true
       → SurvivesIs manner question capacity v count i false
   unfolding AllSole SoleStruckIs SurvivesIs SoleIn

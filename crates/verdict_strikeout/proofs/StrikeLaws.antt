@@ -27,8 +27,8 @@ use Rattle.field_slots.proofs.NotedLaws.{spare-none, spare-then}
 use Rattle.field.proofs.Run.{selves}
 use Rattle.field.proofs.Unseen.{∈-found}
 use Rattle.field.proofs.Members.{getD-∈}
-use Rattle.verdict_survival.specs.Notes.{NoteIs, RestsIs, SoleStruckIs}
-use Rattle.verdict_survival.specs.Striking.{demandsAt, marks, living, zeros, leftOf, EqualParts, Searching, MeetsIs, SurvivesIs, ExaminedIs, AllNoted, NotesHold}
+use Rattle.verdict_survival.specs.Notes.{NoteIs, ReliesOnLeftIs, SoleStruckIs}
+use Rattle.verdict_survival.specs.Striking.{demandsAt, marks, living, zeros, leftOf, EqualParts, Searching, AllAnsweredIs, SurvivesIs, ExaminedIs, AllNoted, NotesHold}
 use Rattle.verdict_survival.specs.Striking.{EqualPartsIs, Strikes, none-struck, one-struck, notes-changed, StrikesSole, StrikesOne, AllSurvive, Run}
 use Rattle.verdict_survival.specs.Striking.{PassIs, FirstStruckIs, StartSurvivesIs, blockSlots, turned}
 use Rattle.verdict.specs.Verdict.{Manner, differs, demandsOf, allAnswered}
@@ -37,19 +37,19 @@ use Rattle.verdict_strikeout.proofs.AnyOrder.{StrikesTo}
 use Rattle.verdict_strikeout.proofs.AnyOrder as order
 use Rattle.verdict_strikeout.proofs.BlockLaws.{Blocks, block-of, in-block}
 use Rattle.verdict_strikeout.proofs.EqualParts.{equal-survives, equal-bytes}
-use Rattle.verdict_strikeout.proofs.FieldKept.{SameField, same-none, same-then, struck-same, spare-same, field-kept, notes-struck, noted-one, rests-survives, sole-fails, spare-mark, spare-left, survives-kept}
+use Rattle.verdict_strikeout.proofs.FieldKept.{SameField, same-none, same-then, struck-same, spare-same, field-kept, notes-struck, noted-one, relying-survives, sole-fails, spare-mark, spare-left, survives-kept}
 use Rattle.verdict_survival.proofs.Living.{struck-either, struck-within, all-living}
 use Rattle.verdict_survival.proofs.Marks.{length-marks, marks-at, marks-kept, marks-set, zeros-fewer}
 use Rattle.verdict.proofs.Rounds.{true-not-false, self-in}
 use Rattle.verdict_strikeout.proofs.Unanswered.{strikes-flagged}
 use Rattle.verdict_survival.proofs.DemandedMoves.{move-demanded, demand-followed, demand-answered}
-use Rattle.verdict_survival.proofs.Demands.{all-meet, one-fails}
+use Rattle.verdict_survival.proofs.Demands.{all-answer, one-fails}
 
 -- What holds of every field holds of one that is being searched.
-met-survives : (manner : Manner) (question : List ℕ) (capacity : ℕ) (work : List ℕ) (count i : ℕ) (r : Bool) → MeetsIs manner question capacity work count i r
+answered-survives : (manner : Manner) (question : List ℕ) (capacity : ℕ) (work : List ℕ) (count i : ℕ) (r : Bool) → AllAnsweredIs manner question capacity work count i r
     → SurvivesIs manner question capacity work count i r
-unfolding MeetsIs SurvivesIs
-met-survives manner question capacity work count i r h f = h (f .field)
+unfolding AllAnsweredIs SurvivesIs
+answered-survives manner question capacity work count i r h f = h (f .field)
 
 -- first_struck
 pub first-gone : (work : List ℕ) (count i : ℕ) (r : Bool) → i < count → LeftAtIs work i r → r ≡ false → ((j : ℕ) → j < i → getD work (struckAt j) 0 ≡ 0)
@@ -196,10 +196,10 @@ module _ (manner : Manner) (question : List ℕ) (capacity count : ℕ) where
       unfolding NotesHold
       relied = subst (λ b. NotesHold b manner question capacity work count) on n
 
-      pub resting-kept : (r : Bool) → i < count → RestsIs work count i r → r ≡ true → StrikesOne examine manner question capacity work count i false work
-      resting-kept r h s e = record {
+      pub relying-kept : (r : Bool) → i < count → ReliesOnLeftIs work count i r → r ≡ true → StrikesOne examine manner question capacity work count i false work
+      relying-kept r h s e = record {
         struck = λ q. true-not-false q refl;
-        kept = λ q. (spare-none count work, λ x z. rests-survives manner question capacity count work i r h relied s e);
+        kept = λ q. (spare-none count work, λ x z. relying-survives manner question capacity count work i r h relied s e);
         noted = n;
       }
 
@@ -219,7 +219,7 @@ module _ (manner : Manner) (question : List ℕ) (capacity count : ℕ) where
       unfolding NotesHold
       survivor-noted r v h s e t = record {
         struck = λ q. true-not-false q refl;
-        kept = λ q. (spare-more work v h (t .spare), λ x z. subst (SurvivesIs manner question capacity work count i) e (met-survives manner question capacity work count i (r .all) (s .is)));
+        kept = λ q. (spare-more work v h (t .spare), λ x z. subst (SurvivesIs manner question capacity work count i) e (answered-survives manner question capacity work count i (r .all) (s .is)));
         noted = subst (λ b. NotesHold b manner question capacity v count) (sym on) (noted-one manner question capacity count work v i r s e t relied);
       }
         where
@@ -229,7 +229,7 @@ module _ (manner : Manner) (question : List ℕ) (capacity count : ℕ) where
     pub one-strikes : (r : Answered) → getD work (struckAt i) 0 ≡ 0 → ExaminedIs manner question capacity work count i r → r .all ≡ false
         → StrikesOne examine manner question capacity work count i true (set work (struckAt i) 1)
     one-strikes r z s e = record {
-      struck = λ q. (z, subst (SurvivesIs manner question capacity work count i) e (met-survives manner question capacity work count i (r .all) (s .is)), refl);
+      struck = λ q. (z, subst (SurvivesIs manner question capacity work count i) e (answered-survives manner question capacity work count i (r .all) (s .is)), refl);
       kept = λ q. true-not-false refl q;
       noted = notes-struck manner question capacity count examine work i n;
     }
@@ -397,7 +397,7 @@ module _ (manner : Manner) (question : List ℕ) (capacity count : ℕ) where
               let g = f .field in
               let here : Situation = getD (g .known) i d in
               let there : here ∈ g .known = getD-∈ (g .known) i d (omega (arith, g .number)) in
-              all-meet (g .known) (demandsAt manner (g .read) here ms) (λ m a.
+              all-answer (g .known) (demandsAt manner (g .read) here ms) (λ m a.
               let (o, b) = demand-answered question (g .read) (g .accepted) manner here (g .proper here there) ms l u m a in (
                 o,
                 b,

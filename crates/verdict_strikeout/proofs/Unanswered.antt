@@ -33,7 +33,7 @@ living-alike (f ∷ fs) [] ss n h = absurd (omega arith)
 living-alike (f ∷ fs) (g ∷ gs) [] n h = refl
 living-alike (f ∷ fs) (g ∷ gs) (s ∷ ss) n h = rw (h 0 (omega arith), living-alike fs gs ss (omega arith) (λ i l. h (suc i) (omega arith)))
 
--- The rows with a flag each; `why` is what exploration promises. A demand is not met where nothing that a move leads to is left.
+-- The rows with a flag each; `why` is what exploration promises. A demand is not answered where nothing that a move leads to is left.
 module _ (d : Row → List (List (List Situation))) (rs : List Row)
     (unmet : (left : List Situation) (r : Row) → r ∈ rs → (w : List Situation) → w ∈ r .wants → ((t : Situation) → t ∈ w → found left t ≡ false) → allAnswered left (d r) ≡ false)
     (fs : List ℕ) (number : length fs ≡ length rs)

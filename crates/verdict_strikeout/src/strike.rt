@@ -4,26 +4,41 @@ ghost use Prim.Native.Nat.{_+_, _-_, _*_, _<_, _≤_, min};
 ghost use lib.ListN.{length};
 ghost use Rattle.field_kept_lists.specs.ListArea.{Labelled};
 ghost use Rattle.field_pairs.specs.Slot.{slotBytes};
-ghost use Rattle.steps_tallies.specs.Tally.{tallySize, BodiesTallied};
-ghost use Rattle.steps_rows.specs.Rows.{rowBytes, mostRows};
 ghost use Rattle.verdict.specs.Judge.{greatestCapacity};
 ghost use Rattle.verdict_survival.specs.Manners.{mannerOf};
-ghost use Rattle.verdict_survival.specs.Striking.{NotesHold, EqualPartsIs, StrikesSole, StrikesOne, Run, PassIs, blockSlots, turned};
+ghost use Rattle.verdict_survival.specs.Striking.{Slots, Listing, NotesHold, EqualPartsIs, StrikesSole, StrikesOne, Run, PassIs, blockSlots, turned};
 use field_kept_lists::list_area::same_part;
 use field_slots::find::KEY_BYTES;
 use field_slots::find::SLOT_BYTES;
 use field_slots::find::left_at;
 use field_slots::slots::first_part;
 use field_slots::slots::second_part;
-use verdict_survival::manner::Manner;
 use verdict_survival::relied::Relied;
 use verdict_survival::relied::note;
-use verdict_survival::relied::rests;
+use verdict_survival::relied::relies_on_left;
 use verdict_survival::relied::sole_struck;
+use verdict_survival::survive::Candidate;
+use verdict_survival::survive::Search;
 use verdict_survival::survive::survives;
 
 // The level of the largest blocks.
 pub const LARGEST_BLOCKS: usize = 2;
+
+// A situation that is taken up: it is examined, or only notes are looked at.
+pub struct Visit {
+    pub candidate: Candidate,
+    pub examine: bool,
+}
+
+// A pass over the `size` situations from `from` on, by blocks of a level, up or down; each is examined, or only notes are looked at.
+pub struct Pass {
+    pub search: Search,
+    pub examine: bool,
+    pub rising: bool,
+    pub level: usize,
+    pub from: usize,
+    pub size: usize,
+}
 
 // Whether the two parts of situation `i` are equal. Every step then is answered by itself, which leads to equal parts again: such situations survive.
 fn equal_parts(work: &[u8], i: usize) -> bool
@@ -48,32 +63,33 @@ fn strike_sole(work: &mut [u8], count: usize, i: usize) -> bool
     true
 }
 
-// Strikes out situation `i` if it is left and does not survive; whether it did. Unless it is to be examined, only notes are looked at. It is not
+// Strikes out a situation if it is left and does not survive; whether it did. Unless it is to be examined, only notes are looked at. It is not
 // examined while all that it relied on when it last survived is left, nor if its parts are equal.
 fn strike_one(
     question: &[u8],
     bodies: &[u32],
     work: &mut [u8],
-    capacity: usize,
-    count: usize,
-    i: usize,
-    numbers: &mut [u32],
+    tallies: &mut [u32],
     rows: &mut [u8],
     firsts: &mut [u8],
     seconds: &mut [u8],
-    examine: bool,
-    manner: Manner,
+    visit: Visit,
 ) -> bool
-    requires { ⌜ (i < count) × (count ≤ capacity) × (slotBytes * capacity ≤ length (now work)) × BodiesTallied (now question) (now bodies) × (length (now numbers) ≡ tallySize) × (rowBytes * mostRows ≤ length (now rows)) × Labelled (now question) (now firsts) × Labelled (now question) (now seconds) × (capacity ≤ greatestCapacity) × NotesHold examine (mannerOf manner) (now question) capacity (now work) count ⌝ }
-    ensures { λ r. ⌜ StrikesOne examine (mannerOf manner) (now (question .entry)) capacity (now (work .entry)) count i r (now (work .exit)) × Labelled (now (question .entry)) (now (firsts .exit)) × Labelled (now (question .entry)) (now (seconds .exit)) ⌝ }
+    requires { ⌜ (visit .candidate .i < visit .candidate .search .count) × Slots (now work) (visit .candidate .search) × Listing (now question) (now bodies) (now tallies) (now rows) (now firsts) (now seconds) × NotesHold (visit .examine) (mannerOf (visit .candidate .search .manner)) (now question) (visit .candidate .search .capacity) (now work) (visit .candidate .search .count) ⌝ }
+    ensures { λ r. ⌜ StrikesOne (visit .examine) (mannerOf (visit .candidate .search .manner)) (now (question .entry)) (visit .candidate .search .capacity) (now (work .entry)) (visit .candidate .search .count) (visit .candidate .i) r (now (work .exit)) × Labelled (now (question .entry)) (now (firsts .exit)) × Labelled (now (question .entry)) (now (seconds .exit)) ⌝ }
 {
+    let candidate = visit.candidate;
+    let i = candidate.i;
+    let search = candidate.search;
+    let count = search.count;
+    let examine = visit.examine;
     if !left_at(work, i) {
         return false;
     }
     if !examine {
         return strike_sole(work, count, i);
     }
-    if rests(work, count, i) {
+    if relies_on_left(work, count, i) {
         return false;
     }
     if equal_parts(work, i) {
@@ -83,14 +99,11 @@ fn strike_one(
         question,
         bodies,
         work,
-        capacity,
-        count,
-        i,
-        numbers,
+        tallies,
         rows,
         firsts,
         seconds,
-        manner,
+        candidate,
     );
     let all = answered.all;
     let relied = answered.relied;
@@ -137,27 +150,26 @@ fn block_size(end: usize, from: usize, width: usize) -> usize
     width
 }
 
-// One pass over the `size` situations from `from` on, block by block, from the last to the first or the other way round; whether it struck any out.
+// One pass, block by block, from the last to the first or the other way round; whether it struck any out.
 pub fn strike_blocks(
     question: &[u8],
     bodies: &[u32],
     work: &mut [u8],
-    capacity: usize,
-    count: usize,
-    from: usize,
-    size: usize,
-    level: usize,
-    numbers: &mut [u32],
+    tallies: &mut [u32],
     rows: &mut [u8],
     firsts: &mut [u8],
     seconds: &mut [u8],
-    rising: bool,
-    examine: bool,
-    manner: Manner,
+    pass: Pass,
 ) -> bool
-    requires { ⌜ (from + size ≤ count) × (count ≤ capacity) × (slotBytes * capacity ≤ length (now work)) × BodiesTallied (now question) (now bodies) × (length (now numbers) ≡ tallySize) × (rowBytes * mostRows ≤ length (now rows)) × Labelled (now question) (now firsts) × Labelled (now question) (now seconds) × (capacity ≤ greatestCapacity) × NotesHold examine (mannerOf manner) (now question) capacity (now work) count ⌝ }
-    ensures { λ r. ⌜ PassIs examine (mannerOf manner) (now (question .entry)) capacity (now (work .entry)) count (Run from size) r (now (work .exit)) × Labelled (now (question .entry)) (now (firsts .exit)) × Labelled (now (question .entry)) (now (seconds .exit)) ⌝ }
+    requires { ⌜ (pass .from + pass .size ≤ pass .search .count) × Slots (now work) (pass .search) × Listing (now question) (now bodies) (now tallies) (now rows) (now firsts) (now seconds) × NotesHold (pass .examine) (mannerOf (pass .search .manner)) (now question) (pass .search .capacity) (now work) (pass .search .count) ⌝ }
+    ensures { λ r. ⌜ PassIs (pass .examine) (mannerOf (pass .search .manner)) (now (question .entry)) (pass .search .capacity) (now (work .entry)) (pass .search .count) (Run (pass .from) (pass .size)) r (now (work .exit)) × Labelled (now (question .entry)) (now (firsts .exit)) × Labelled (now (question .entry)) (now (seconds .exit)) ⌝ }
 {
+    let search = pass.search;
+    let examine = pass.examine;
+    let rising = pass.rising;
+    let level = pass.level;
+    let from = pass.from;
+    let size = pass.size;
     let block = width(level);
     let blocks = (size + block - 1) / block;
     let mut struck = false;
@@ -165,22 +177,24 @@ pub fn strike_blocks(
     while 0 < i {
         i -= 1;
         let at = from + block * turn(rising, blocks, i);
-        if settle(
+        let part = block_size(from + size, at, block);
+        let inner = Pass {
+            search,
+            examine,
+            rising,
+            level,
+            from: at,
+            size: part,
+        };
+        if strike_until_stable(
             question,
             bodies,
             work,
-            capacity,
-            count,
-            at,
-            block_size(from + size, at, block),
-            level,
-            numbers,
+            tallies,
             rows,
             firsts,
             seconds,
-            rising,
-            examine,
-            manner,
+            inner,
         ) {
             struck = true;
         }
@@ -189,63 +203,61 @@ pub fn strike_blocks(
 }
 
 // Passes over one block by turns of direction until one strikes out none of it; whether any was struck out. Situations that fail because of each
-// other lie near each other mostly, so that the rest of the field is not gone over for each: a block is settled before the next, and within it the
-// smaller ones are.
-pub fn settle(
+// other lie near each other mostly, so that the rest of the field is not gone over for each: a block is stable before the next is taken up, and
+// within it the smaller ones are.
+pub fn strike_until_stable(
     question: &[u8],
     bodies: &[u32],
     work: &mut [u8],
-    capacity: usize,
-    count: usize,
-    from: usize,
-    size: usize,
-    level: usize,
-    numbers: &mut [u32],
+    tallies: &mut [u32],
     rows: &mut [u8],
     firsts: &mut [u8],
     seconds: &mut [u8],
-    rising: bool,
-    examine: bool,
-    manner: Manner,
+    pass: Pass,
 ) -> bool
-    requires { ⌜ (from + size ≤ count) × (count ≤ capacity) × (slotBytes * capacity ≤ length (now work)) × BodiesTallied (now question) (now bodies) × (length (now numbers) ≡ tallySize) × (rowBytes * mostRows ≤ length (now rows)) × Labelled (now question) (now firsts) × Labelled (now question) (now seconds) × (capacity ≤ greatestCapacity) × NotesHold examine (mannerOf manner) (now question) capacity (now work) count × (level ≡ 0 → size ≡ 1) ⌝ }
-    ensures { λ r. ⌜ PassIs examine (mannerOf manner) (now (question .entry)) capacity (now (work .entry)) count (Run from size) r (now (work .exit)) × Labelled (now (question .entry)) (now (firsts .exit)) × Labelled (now (question .entry)) (now (seconds .exit)) ⌝ }
+    requires { ⌜ (pass .from + pass .size ≤ pass .search .count) × Slots (now work) (pass .search) × Listing (now question) (now bodies) (now tallies) (now rows) (now firsts) (now seconds) × NotesHold (pass .examine) (mannerOf (pass .search .manner)) (now question) (pass .search .capacity) (now work) (pass .search .count) × (pass .level ≡ 0 → pass .size ≡ 1) ⌝ }
+    ensures { λ r. ⌜ PassIs (pass .examine) (mannerOf (pass .search .manner)) (now (question .entry)) (pass .search .capacity) (now (work .entry)) (pass .search .count) (Run (pass .from) (pass .size)) r (now (work .exit)) × Labelled (now (question .entry)) (now (firsts .exit)) × Labelled (now (question .entry)) (now (seconds .exit)) ⌝ }
 {
+    let search = pass.search;
+    let examine = pass.examine;
+    let level = pass.level;
+    let from = pass.from;
     if level == 0 {
+        let candidate = Candidate { search, i: from };
+        let visit = Visit { candidate, examine };
         return strike_one(
             question,
             bodies,
             work,
-            capacity,
-            count,
-            from,
-            numbers,
+            tallies,
             rows,
             firsts,
             seconds,
-            examine,
-            manner,
+            visit,
         );
     }
+    let size = pass.size;
+    let below = level - 1;
     let mut struck = false;
-    let mut up = rising;
+    let mut up = pass.rising;
     loop {
+        let inner = Pass {
+            search,
+            examine,
+            rising: up,
+            level: below,
+            from,
+            size,
+        };
         if !strike_blocks(
             question,
             bodies,
             work,
-            capacity,
-            count,
-            from,
-            size,
-            level - 1,
-            numbers,
+            tallies,
             rows,
             firsts,
             seconds,
-            up,
-            examine,
-            manner,
+            inner,
         ) {
             return struck;
         }

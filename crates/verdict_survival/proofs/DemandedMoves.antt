@@ -41,7 +41,7 @@ use Rattle.verdict.proofs.RelatedVerdicts.{question-defines}
 use Rattle.verdict.proofs.Rounds.{true-not-false, single}
 use Rattle.verdict_survival.specs.Striking.{demandsAt}
 
--- The demand m is met only by situations of the move w.
+-- The demand m is answered only by situations of the move w.
 abbrev pub Within : List (List Situation) → List Situation → Type 0
 Within m w = (l : List Situation) → l ∈ m → (t : Situation) × (t ∈ l) × (t ∈ w)
 

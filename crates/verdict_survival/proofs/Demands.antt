@@ -1,4 +1,4 @@
--- Demands that those left meet, and demands that they do not. Assumes nothing.
+-- Demands that those left answer, and demands that they do not. Assumes nothing.
 use mathlib.Core.Bool.{Bool, true, false, _&&_, or-true}
 use mathlib.Core.List.{List, [], _∷_, _++_, map}
 use mathlib.Core.Logic.{inl, inr}
@@ -33,15 +33,15 @@ module _ (left : List Situation) where
       go true e = e
       go false e = refl
 
-  pub answer-meets : (m : List (List Situation)) (l : List Situation) → l ∈ m → allFound left l ≡ true → answered left m ≡ true
+  pub one-answers : (m : List (List Situation)) (l : List Situation) → l ∈ m → allFound left l ≡ true → answered left m ≡ true
   unfolding answered
-  answer-meets (k ∷ m) l (inl e) h = rw (subst (λ l. allFound left l ≡ true) e h)
-  answer-meets (k ∷ m) l (inr i) h = rw (answer-meets m l i h, or-true)
+  one-answers (k ∷ m) l (inl e) h = rw (subst (λ l. allFound left l ≡ true) e h)
+  one-answers (k ∷ m) l (inr i) h = rw (one-answers m l i h, or-true)
 
-  pub none-meets : (m : List (List Situation)) → ((l : List Situation) → l ∈ m → allFound left l ≡ false) → answered left m ≡ false
+  pub none-answers : (m : List (List Situation)) → ((l : List Situation) → l ∈ m → allFound left l ≡ false) → answered left m ≡ false
   unfolding answered
-  none-meets [] h = refl
-  none-meets (l ∷ m) h = rw (h l (inl refl)) (none-meets m (λ k i. h k (inr i)))
+  none-answers [] h = refl
+  none-answers (l ∷ m) h = rw (h l (inl refl)) (none-answers m (λ k i. h k (inr i)))
 
   pub each-answered : (ms : List (List (List Situation))) → ((m : List (List Situation)) → m ∈ ms → answered left m ≡ true) → allAnswered left ms ≡ true
   unfolding allAnswered
@@ -70,14 +70,14 @@ module _ (left : List Situation) where
   same-answered ms ns to from = same-test (allAnswered left ms) (allAnswered left ns) (fewer-answered ms ns from) (fewer-answered ns ms to)
 
   -- each demand has an answer that leads to situations that are left
-  pub all-meet : (ms : List (List (List Situation))) → ((m : List (List Situation)) → m ∈ ms → SomeAnswer (λ t. found left t ≡ true) m)
+  pub all-answer : (ms : List (List (List Situation))) → ((m : List (List Situation)) → m ∈ ms → SomeAnswer (λ t. found left t ≡ true) m)
       → allAnswered left ms ≡ true
-  all-meet ms h = each-answered ms (λ m i. let (l, j, a) = h m i in answer-meets m l j (all-left l a))
+  all-answer ms h = each-answered ms (λ m i. let (l, j, a) = h m i in one-answers m l j (all-left l a))
 
   -- each answer to one demand leads to a situation that is not left
   pub one-fails : (ms : List (List (List Situation))) (m : List (List Situation)) → m ∈ ms
       → ((l : List Situation) → l ∈ m → (t : Situation) × (t ∈ l) × (found left t ≡ false)) → allAnswered left ms ≡ false
-  one-fails ms m i h = one-unanswered ms m i (none-meets m (λ l j. let (t, k, e) = h l j in one-gone l t k e))
+  one-fails ms m i h = one-unanswered ms m i (none-answers m (λ l j. let (t, k, e) = h l j in one-gone l t k e))
 
   pub all-both : (ms ns : List (List (List Situation))) → allAnswered left (ms ++ ns) ≡ (allAnswered left ms && allAnswered left ns)
   unfolding allAnswered

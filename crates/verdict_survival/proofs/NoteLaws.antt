@@ -14,7 +14,7 @@ use Rattle.field_slots.specs.Noted.{notedCount, notePlace, noteAt, SpareOnly, O
 use Rattle.field_pairs.specs.Slot.{slotBytes, struckAt, LeftAtIs}
 use Rattle.field_slots.proofs.ChainLaws.{size-put}
 use Rattle.field_slots.proofs.NotedLaws.{spare-none, spare-put, note-other}
-use Rattle.verdict_survival.specs.Notes.{Has, Numbers, WithIs, NoteIs, ClearsNotes, RestsIs, SoleStruckIs}
+use Rattle.verdict_survival.specs.Notes.{Has, Numbers, WithIs, NoteIs, ClearsNotes, ReliesOnLeftIs, SoleStruckIs}
 use Rattle.verdict_survival.specs.declared.relied.Relied.{Relied}
 use Rattle.verdict_survival.proofs.Marks.{left-zero}
 use Rattle.verdict.proofs.Rounds.{true-not-false}
@@ -106,21 +106,21 @@ clearing-next count work₀ work i work′ h room e c =
 pub cleared : (count : ℕ) (work work′ : List ℕ) (i : ℕ) → count ≤ i → Clearing count work work′ i → ClearsNotes count work work′
 cleared count work work′ i h c = record { spare = c .0; none = λ k l. c .1 k (omega arith) }
 
--- rests
-abbrev pub RestsOn : List ℕ → ℕ → ℕ → ℕ → Type 0
-RestsOn work count i k = (0 < noteAt work i k) × (noteAt work i k ≤ count) × (getD work (struckAt (noteAt work i k - 1)) 0 ≡ 0)
+-- relies_on_left
+abbrev pub NoteLeft : List ℕ → ℕ → ℕ → ℕ → Type 0
+NoteLeft work count i k = (0 < noteAt work i k) × (noteAt work i k ≤ count) × (getD work (struckAt (noteAt work i k - 1)) 0 ≡ 0)
 
 module _ (work : List ℕ) (count i : ℕ) where
-  pub not-resting : RestsIs work count i false
-  unfolding RestsIs
-  not-resting e = true-not-false e refl
+  pub not-relying : ReliesOnLeftIs work count i false
+  unfolding ReliesOnLeftIs
+  not-relying e = true-not-false e refl
 
-  pub rests-on : (k n : ℕ) (b : Bool) → n ≡ noteAt work i k → (n ≡ 0 → ⊥) → n ≤ count → LeftAtIs work (n - 1) b → b ≡ true → RestsOn work count i k
-  rests-on k n b e f h l t = rw (← e) (omega (arith, f), h, left-zero work (n - 1) b l t)
+  pub note-left : (k n : ℕ) (b : Bool) → n ≡ noteAt work i k → (n ≡ 0 → ⊥) → n ≤ count → LeftAtIs work (n - 1) b → b ≡ true → NoteLeft work count i k
+  note-left k n b e f h l t = rw (← e) (omega (arith, f), h, left-zero work (n - 1) b l t)
 
-  pub rests-all : (k : ℕ) → notedCount ≤ k → ((l : ℕ) → l < k → RestsOn work count i l) → RestsIs work count i true
-  unfolding RestsIs
-  rests-all k h so e l g = so l (omega arith)
+  pub notes-left : (k : ℕ) → notedCount ≤ k → ((l : ℕ) → l < k → NoteLeft work count i l) → ReliesOnLeftIs work count i true
+  unfolding ReliesOnLeftIs
+  notes-left k h so e l g = so l (omega arith)
 
 -- sole_struck
 module _ (work : List ℕ) (count i : ℕ) where

@@ -27,7 +27,7 @@ use Rattle.verdict.specs.Received.{lots, demandOf}
 use Rattle.verdict.specs.Verdict.{openly, named, differs}
 use Rattle.verdict.proofs.NamedDemands.{of-demands, in-demands}
 use Rattle.verdict.proofs.Rounds.{single}
-use Rattle.verdict_survival.specs.Striking.{counted, lotOf, someOf, asked, demanded, runDemands, sideDemands, Side, NameRun, ReliesOn, Meets, SideAnsweredIs, SideMetIs}
+use Rattle.verdict_survival.specs.Striking.{counted, lotOf, someOf, asked, demanded, runDemands, sideDemands, Side, NameRun, ReliesOn, AnsweredIs, RunAnsweredIs, SideAnsweredIs}
 use Rattle.verdict_survival.specs.Manners.{mannerOf}
 use Rattle.verdict_survival.specs.Notes.{Numbers}
 use Rattle.verdict_survival.specs.declared.manner.Manner.{Manner}
@@ -186,7 +186,7 @@ module _ (second : Bool) (G : List ℕ) (D : Pairs) (ts : List ListedStep) where
         below : (z : ℕ) → z ∈ (y ∷ []) → z < nameCount
         below z (inl e) = subst (λ z. z < nameCount) (sym e) b
 
--- side_met, side_early
+-- side_answered, side_early
 module _ (arities : List ℕ) (capacity : ℕ) (work : List ℕ) (count : ℕ) (free apart : List ℕ) (second : Bool) (area : List ℕ) (n : ℕ) (others : List ℕ) (m : ℕ) (before : Relied) where
   small-objects : {differ : Bool} (p : Side differ arities capacity work count free apart second area n others m) (s : ListedStep) → s ∈ p .steps → s .object < nameCount
   small-objects p s i =
@@ -194,27 +194,27 @@ module _ (arities : List ℕ) (capacity : ℕ) (work : List ℕ) (count : ℕ) (
       subst (λ s. s .object < nameCount) (sym (k .2 s)) (p .mine .objects (k .0) s (omega (arith, k .1, p .mine .number)))
 
   module _ (manner : Manner) (r : Answered) where
-    pub met-openly : manner ≡ Open → SideAnsweredIs nameCount (nameCount + 1) arities capacity work count free apart second area n others m before r
-        → SideMetIs (mannerOf manner) arities capacity work count free apart second area n others m before r
+    pub answered-openly : manner ≡ Open → RunAnsweredIs nameCount (nameCount + 1) arities capacity work count free apart second area n others m before r
+        → SideAnsweredIs (mannerOf manner) arities capacity work count free apart second area n others m before r
     unfolding mannerOf differs ReliesOn
-    met-openly e a = subst (λ k. SideMetIs (mannerOf k) arities capacity work count free apart second area n others m before r) (sym e)
+    answered-openly e a = subst (λ k. SideAnsweredIs (mannerOf k) arities capacity work count free apart second area n others m before r) (sym e)
         (same-demands work (λ p. p .known) (λ p. runDemands false nameCount (nameCount + 1) second (freeFrom (p .names) 0 nameCount) (p .pairs) (p .steps) (p .replies))
         (λ p. sideDemands openly second (freeFrom (p .names) 0 nameCount) (p .pairs) (p .steps) (p .replies))
         (λ p w i. subst (λ ds. w ∈ ds) (sym (open-demands second (p .names) (p .pairs) (p .replies) (p .steps))) i)
         (λ p w i. subst (λ ds. w ∈ ds) (open-demands second (p .names) (p .pairs) (p .replies) (p .steps)) i) before r a)
 
-    pub met-late : manner ≡ Late → SideAnsweredIs 0 nameCount arities capacity work count free apart second area n others m before r
-        → SideMetIs (mannerOf manner) arities capacity work count free apart second area n others m before r
+    pub answered-late : manner ≡ Late → RunAnsweredIs 0 nameCount arities capacity work count free apart second area n others m before r
+        → SideAnsweredIs (mannerOf manner) arities capacity work count free apart second area n others m before r
     unfolding mannerOf differs
-    met-late e a = subst (λ k. SideMetIs (mannerOf k) arities capacity work count free apart second area n others m before r) (sym e)
+    answered-late e a = subst (λ k. SideAnsweredIs (mannerOf k) arities capacity work count free apart second area n others m before r) (sym e)
         (same-demands work (λ p. p .known) (λ p. runDemands true 0 nameCount second (freeFrom (p .names) 0 nameCount) (p .pairs) (p .steps) (p .replies))
         (λ p. sideDemands (named late) second (freeFrom (p .names) 0 nameCount) (p .pairs) (p .steps) (p .replies))
         (λ p. of-late second (p .names) (p .pairs) (p .replies) (p .steps) (small-objects p))
         (λ p. to-late second (p .names) (p .pairs) (p .replies) (p .steps) (small-objects p)) before r a)
 
-    pub met-early : manner ≡ Early → SideMetIs (mannerOf Early) arities capacity work count free apart second area n others m before r
-        → SideMetIs (mannerOf manner) arities capacity work count free apart second area n others m before r
-    met-early e a = subst (λ k. SideMetIs (mannerOf k) arities capacity work count free apart second area n others m before r) (sym e) a
+    pub answered-early : manner ≡ Early → SideAnsweredIs (mannerOf Early) arities capacity work count free apart second area n others m before r
+        → SideAnsweredIs (mannerOf manner) arities capacity work count free apart second area n others m before r
+    answered-early e a = subst (λ k. SideAnsweredIs (mannerOf k) arities capacity work count free apart second area n others m before r) (sym e) a
 
   abbrev Named : Type 0
   Named = Side true arities capacity work count free apart second area n others m
@@ -229,23 +229,23 @@ module _ (arities : List ℕ) (capacity : ℕ) (work : List ℕ) (count : ℕ) (
   early-none = swept-none {C = Named} work (λ p. p .known) forName before
 
   module _ (r : Relied) (name : ℕ) (b : name < nameCount) (a : Answered)
-      (h : SideAnsweredIs name (name + 1) arities capacity work count free apart second area n others m r a) where
-    this : Meets Named work (λ p. p .known) (forName name) r a
-    this = subst (λ d. Meets (Side d arities capacity work count free apart second area n others m) work (λ p. p .known)
+      (h : RunAnsweredIs name (name + 1) arities capacity work count free apart second area n others m r a) where
+    this : AnsweredIs Named work (λ p. p .known) (forName name) r a
+    this = subst (λ d. AnsweredIs (Side d arities capacity work count free apart second area n others m) work (λ p. p .known)
         (λ p. runDemands d name (name + 1) second (freeFrom (p .names) 0 nameCount) (p .pairs) (p .steps) (p .replies)) r a) (lt-ltb name nameCount b) h
 
     pub early-more : a .all ≡ true → EarlySwept r name → EarlySwept (a .relied) (name + 1)
     early-more = swept-more {C = Named} work (λ p. p .known) forName before r name a this
 
     pub early-fails : a .all ≡ false → EarlySwept r name
-        → SideMetIs (mannerOf Early) arities capacity work count free apart second area n others m before (record { all = false; relied = a .relied })
+        → SideAnsweredIs (mannerOf Early) arities capacity work count free apart second area n others m before (record { all = false; relied = a .relied })
     unfolding mannerOf differs
     early-fails = swept-fails {C = Named} work (λ p. p .known) forName
         (λ p. sideDemands (named early) second (freeFrom (p .names) 0 nameCount) (p .pairs) (p .steps) (p .replies)) before r name
         (λ p. of-early second (p .names) (p .pairs) (p .replies) (p .steps) (small-objects p) name b) a this
 
   pub early-all : (r : Relied) (name : ℕ) → nameCount ≤ name → EarlySwept r name
-      → SideMetIs (mannerOf Early) arities capacity work count free apart second area n others m before (record { all = true; relied = r })
+      → SideAnsweredIs (mannerOf Early) arities capacity work count free apart second area n others m before (record { all = true; relied = r })
   unfolding mannerOf differs
   early-all r name h = swept-all {C = Named} work (λ p. p .known) forName
       (λ p. sideDemands (named early) second (freeFrom (p .names) 0 nameCount) (p .pairs) (p .steps) (p .replies)) before r name

@@ -1,4 +1,4 @@
--- Two nested loops over the steps of one side and the other side's, for a run of names: which demands are met. Assumes nothing.
+-- Two nested loops over the steps of one side and the other side's, for a run of names: which demands are answered. Assumes nothing.
 use mathlib.Core.Bool.{Bool, true, false, cond, _&&_}
 use mathlib.Core.List.{List, [], _∷_, map}
 use mathlib.Core.Logic.{inl}
@@ -22,10 +22,10 @@ use Rattle.field_successors.specs.Leading.{leading}
 use Rattle.verdict.specs.Verdict.{allFound, answered, allAnswered}
 use Rattle.verdict.proofs.Rounds.{true-not-false}
 use Rattle.verdict_survival.specs.Notes.{Has, Few, Numbers}
-use Rattle.verdict_survival.specs.Striking.{leftOf, lotOf, someOf, asked, demanded, runDemands, AskedIs, Side, NameRun, StepAndReply, LotLeftIs, NumberIn, SomeAnswer, ReliesOn, Meets, SideAnsweredIs}
+use Rattle.verdict_survival.specs.Striking.{leftOf, lotOf, someOf, asked, demanded, runDemands, AskedIs, Side, NameRun, StepAndReply, LotLeftIs, NumberIn, SomeAnswer, ReliesOn, AnsweredIs, RunAnsweredIs}
 use Rattle.verdict_survival.specs.declared.relied.Relied.{Relied}
 use Rattle.verdict_survival.specs.declared.survive.Answered.{Answered}
-use Rattle.verdict_survival.proofs.Demands.{answer-meets, none-meets}
+use Rattle.verdict_survival.proofs.Demands.{one-answers, none-answers}
 use Rattle.verdict_survival.proofs.Sweeping.{within-itself, Swept, swept-none, swept-skips, swept-more, swept-fails, swept-all}
 
 abbrev noStep : ListedStep
@@ -110,7 +110,7 @@ module _ (from to : ℕ) (arities : List ℕ) (capacity : ℕ) (work : List ℕ)
     -- none of the replies
     none-left : (j : ℕ) → m ≤ j → ((l : ℕ) → l < j → ReplyFails k l) → answered (leftOf work (p .known)) (wanted p k) ≡ false
     unfolding demanded
-    none-left j g so = none-meets (leftOf work (p .known)) (wanted p k) (λ w i.
+    none-left j g so = none-answers (leftOf work (p .known)) (wanted p k) (λ w i.
         let (t, x, e) = map-∈ (λ t. map (leading second (names p) (p .pairs) (step p k) t) (lotOf from to (names p) (step p k))) w
         (select (answers nameCount (step p k)) (p .replies)) i in
         let (v, y) = select-∈ (answers nameCount (step p k)) t (p .replies) x in
@@ -145,11 +145,11 @@ module _ (from to : ℕ) (arities : List ℕ) (capacity : ℕ) (work : List ℕ)
       answers-too p e =
           both-true (answers nameCount (step p k) (reply p l)) (allFound (leftOf work (p .known)) (reached p k l)) (sym (lot .is (both p k h (may p) run l g)) ∙ e)
 
-      step-met : x .all ≡ true → Meets These work known (ofStep k) r x
+      step-answered : x .all ≡ true → AnsweredIs These work known (ofStep k) r x
       unfolding ReliesOn allAnswered both
-      step-met e = record {
+      step-answered e = record {
         is = λ p. e ∙ sym (ap (allAnswered (leftOf work (p .known))) (of-step p)
-            ∙ rw (answer-meets (leftOf work (p .known)) (wanted p k) (reached p k l) (reply-in p k h (may p) l g (answers-too p e .0)) (answers-too p e .1)) refl);
+            ∙ rw (one-answers (leftOf work (p .known)) (wanted p k) (reached p k l) (reply-in p k h (may p) l g (answers-too p e .0)) (answers-too p e .1)) refl);
         numbers = lot .numbers;
         more = lot .more;
         relies = λ q f p w i. relies p q f w (subst (λ ds. w ∈ ds) (of-step p) i);
@@ -165,7 +165,7 @@ module _ (from to : ℕ) (arities : List ℕ) (capacity : ℕ) (work : List ℕ)
           )
 
       pub reply-answers : (before r₀ : Relied) → r ≡ r₀ → x .all ≡ true → SideSwept before r₀ k → SideSwept before (x .relied) (k + 1)
-      reply-answers before r₀ same e s = swept-more work known ofStep before r k x (step-met e) e (subst (λ r. SideSwept before r k) (sym same) s)
+      reply-answers before r₀ same e s = swept-more work known ofStep before r k x (step-answered e) e (subst (λ r. SideSwept before r k) (sym same) s)
 
       pub reply-fails : x .all ≡ false → (j : ℕ) → k + 1 ≡ j + 1 → ReplyFails j l
       unfolding both
@@ -173,7 +173,7 @@ module _ (from to : ℕ) (arities : List ℕ) (capacity : ℕ) (work : List ℕ)
           ap (λ t. t && allFound (leftOf work (p .known)) (reached p k l)) (sym t) ∙ sym (lot .is (both p k h (may p) run l g)) ∙ e)
 
     pub step-fails : (before r r₀ : Relied) (j : ℕ) → r ≡ r₀ → m ≤ j → ((l : ℕ) → l < j → ReplyFails k l) → SideSwept before r₀ k
-        → SideAnsweredIs from to arities capacity work count free apart second area n others m before (record { all = false; relied = r })
+        → RunAnsweredIs from to arities capacity work count free apart second area n others m before (record { all = false; relied = r })
     unfolding allAnswered runDemands
     step-fails before r r₀ j same g so s₀ =
         swept-fails work known ofStep allDemands before r k one (record { all = false; relied = r }) (record {
@@ -195,7 +195,7 @@ module _ (from to : ℕ) (arities : List ℕ) (capacity : ℕ) (work : List ℕ)
                 (∈-select (asked differ from to (names p) (p .pairs)) (step p k) (p .steps) (step-there p k h (may p)) (may p)))
 
   pub side-all : (before r : Relied) (i : ℕ) → n ≤ i → SideSwept before r i
-      → SideAnsweredIs from to arities capacity work count free apart second area n others m before (record { all = true; relied = r })
+      → RunAnsweredIs from to arities capacity work count free apart second area n others m before (record { all = true; relied = r })
   unfolding runDemands
   side-all before r i h = swept-all work known ofStep allDemands before r i from-step
     where

@@ -25,7 +25,7 @@ use Rattle.field_taking_up.specs.declared.taking.Lists.the-variants.{Past, List
 use Rattle.field_taking_up.specs.declared.taking.TakenUp.{TakenUp}
 use Rattle.field.proofs.Members.{getD-∈}
 use Rattle.verdict_survival.specs.Notes.{Has, Few, Numbers}
-use Rattle.verdict_survival.specs.Striking.{leftOf, sideDemands, Side, ReliesOn, SideMetIs, demandsAt, FieldIn, LeadsTo, MeetsIs, Relies, ExaminedIs}
+use Rattle.verdict_survival.specs.Striking.{leftOf, sideDemands, Side, ReliesOn, SideAnsweredIs, demandsAt, FieldIn, LeadsTo, AllAnsweredIs, Relies, ExaminedIs}
 use Rattle.verdict_survival.specs.declared.relied.Relied.{Relied}
 use Rattle.verdict_survival.specs.declared.survive.Answered.{Answered}
 use Rattle.verdict.specs.Received.{namedDemands, sidesDemand}
@@ -133,7 +133,7 @@ module _ (manner : Manner) (question : List ℕ) (capacity : ℕ) (work : List �
 
   pub past-limit : r .lists ≡ Past → (relied : Relied) → Numbers relied
       → ExaminedIs manner question capacity work count i (record { all = false; relied = relied })
-  unfolding MeetsIs ListsAre differs
+  unfolding AllAnsweredIs ListsAre differs
   past-limit e relied n = record { is = survives; numbers = n; relies = λ q. true-not-false q refl }
     where
       survives : (f : FieldIn manner question capacity work count) (d : Situation) (ms : List (List Situation)) → LeadsTo f i d ms
@@ -143,13 +143,13 @@ module _ (manner : Manner) (question : List ℕ) (capacity : ℕ) (work : List �
           let z : _≡_ {A = ℕ} 0 1 = cc in absurd (omega arith)
 
   module _ (n m : ℕ) (e : r .lists ≡ Listed n m) (arities : List ℕ) (a : AritiesIs question arities) (before : Relied) (first : Answered)
-      (h : SideMetIs manner arities capacity work count (r .free) (r .apart) false firsts n seconds m before first) where
+      (h : SideAnsweredIs manner arities capacity work count (r .free) (r .apart) false firsts n seconds m before first) where
     sides : (f : FieldIn manner question capacity work count) (d : Situation) → SidesListed (f .read) (getD (f .known) i d) n m firsts seconds
     unfolding ListsAre
     sides f d = subst (λ k. ListsAre (f .read) (getD (f .known) i d) k firsts seconds) e (taken f d .lists)
 
     pub first-fails : first .all ≡ false → ExaminedIs manner question capacity work count i (record { all = false; relied = first .relied })
-    unfolding MeetsIs first-side sides moves differs
+    unfolding AllAnsweredIs first-side sides moves differs
     first-fails q = record { is = survives; numbers = h .numbers; relies = λ q. true-not-false q refl }
       where
         survives : (f : FieldIn manner question capacity work count) (d : Situation) (ms : List (List Situation)) → LeadsTo f i d ms
@@ -160,9 +160,9 @@ module _ (manner : Manner) (question : List ℕ) (capacity : ℕ) (work : List �
             sym (both-sides f d arities a n m l ms g (leftOf work (f .known))
             ∙ ap (λ b. b && allAnswered (leftOf work (f .known)) (demandsOfSide f d arities a n m l ms g true (l .qs) (l .ps))) (sym x ∙ q))
 
-    pub second-decides : (second : Answered) → first .all ≡ true → SideMetIs manner arities capacity work count (r .free) (r .apart) true seconds m firsts n (first .relied) second
+    pub second-decides : (second : Answered) → first .all ≡ true → SideAnsweredIs manner arities capacity work count (r .free) (r .apart) true seconds m firsts n (first .relied) second
         → ExaminedIs manner question capacity work count i second
-    unfolding MeetsIs Relies ReliesOn first-side sides second-side differs
+    unfolding AllAnsweredIs Relies ReliesOn first-side sides second-side differs
     second-decides second q k = record { is = survives; numbers = k .numbers; relies = relies }
       where
         survives : (f : FieldIn manner question capacity work count) (d : Situation) (ms : List (List Situation)) → LeadsTo f i d ms

@@ -47,11 +47,11 @@ pub record ClearsNotes (count : ℕ) (work work′ : List ℕ) : Type 0 where
   pub none : (i : ℕ) → i < count → noteAt work′ i 0 ≡ 0
 
 -- All that is noted in slot i is left.
-unfoldable pub RestsIs : List ℕ → ℕ → ℕ → Bool → Type 0
-RestsIs work count i r =
+unfoldable pub ReliesOnLeftIs : List ℕ → ℕ → ℕ → Bool → Type 0
+ReliesOnLeftIs work count i r =
     r ≡ true → (k : ℕ) → k < notedCount → (0 < noteAt work i k) × (noteAt work i k ≤ count) × (getD work (struckAt (noteAt work i k - 1)) 0 ≡ 0)
 
--- A test that is met says that a situation that is noted in slot i is struck out.
+-- A test that holds says that a situation that is noted in slot i is struck out.
 unfoldable pub SoleStruckIs : List ℕ → ℕ → ℕ → Bool → Type 0
 SoleStruckIs work count i r =
     r ≡ true → (k : ℕ) × (j : ℕ) × (k < notedCount) × (noteAt work i k ≡ j + 1) × (j < count) × (getD work (struckAt j) 0 ≡ 0 → ⊥)

@@ -13,7 +13,11 @@ use Rattle.terms.specs.Encoding.{encode, InScope}
 use Rattle.terms.specs.Limits.{nameCount}
 use Rattle.terms.specs.Question.{Question, checkOf}
 use Rattle.steps.specs.Lists.{_∈_}
+use Rattle.steps.specs.Limits.{stepBytes}
 use Rattle.steps.specs.Listed.{ListedStep, namesFrom}
+use Rattle.steps_tallies.specs.Tally.{tallySize, BodiesTallied}
+use Rattle.steps_rows.specs.Rows.{rowBytes, mostRows}
+use Rattle.field_kept_lists.specs.ListArea.{Labelled}
 use Rattle.field_slots.specs.Chains.{Chained}
 use Rattle.field_pairs.specs.Entry.{EntryAt, Rewritten}
 use Rattle.field_growth.specs.Holding.{unanswered}
@@ -29,11 +33,28 @@ use Rattle.field.specs.Successors.{select, answers, allowed, received, moves, l
 use Rattle.field_renewal.specs.ListedEntries.{ListAt}
 use Rattle.field_slots.specs.declared.find.Found.{Found}
 use Rattle.field_slots.specs.declared.find.Found.the-variants.{At, Nothing}
+use Rattle.verdict.specs.Judge.{greatestCapacity}
 use Rattle.verdict.specs.Received.{namedMoves}
 use Rattle.verdict.specs.Verdict.{Manner, openly, named, differs, demandsOf, allFound, allAnswered}
 use Rattle.verdict_survival.specs.Notes.{NotedIn, Has, Few, Numbers, Within, SoleStruckIs}
 use Rattle.verdict_survival.specs.declared.relied.Relied.{Relied}
 use Rattle.verdict_survival.specs.declared.survive.Answered.{Answered}
+use Rattle.verdict_survival.specs.declared.survive.Search.{Search}
+use Rattle.verdict_survival.specs.declared.survive.SideLists.{SideLists}
+use Rattle.verdict_survival.specs.declared.survive.SideRun.{SideRun}
+
+-- The first slots have the situations of a search, and all slots are in the work area.
+abbrev pub Slots : List ℕ → Search → Type 0
+Slots work s = (1 ≤ s .count) × (s .count ≤ s .capacity) × (s .capacity ≤ greatestCapacity) × (slotBytes * s .capacity ≤ length work)
+
+-- What listing wants: tallies of the bodies, room for the tables, and areas with the lists that their labels say.
+abbrev pub Listing : List ℕ → List ℕ → List ℕ → List ℕ → List ℕ → List ℕ → Type 0
+Listing question bodies tally rows firsts seconds =
+    BodiesTallied question bodies × (length tally ≡ tallySize) × (rowBytes * mostRows ≤ length rows) × Labelled question firsts × Labelled question seconds
+
+-- The lists of one side and of the other are in their areas.
+abbrev pub SideIn : List ℕ → List ℕ → List ℕ → SideLists → Type 0
+SideIn work area others s = Slots work (s .search) × (stepBytes * s .steps ≤ length area) × (stepBytes * s .replies ≤ length others)
 
 -- the bytes that say so of as many slots, from slot i on
 unfoldable pub marksFrom : List ℕ → ℕ → ℕ → List ℕ
@@ -136,6 +157,9 @@ pub record Side (differ : Bool) (arities : List ℕ) (capacity : ℕ) (work : Li
 abbrev pub NameRun : Bool → ℕ → ℕ → Type 0
 NameRun differ from to = (y : ℕ) → from ≤ y → y < to → ltb y nameCount ≡ differ
 
+abbrev pub OfNames : SideRun → Type 0
+OfNames r = (r .from ≤ nameCount) × (r .to ≤ nameCount + 1) × NameRun (ltb (r .from) nameCount) (r .from) (r .to)
+
 -- An allowed step of one side and a step of the other.
 pub record StepAndReply (arities : List ℕ) (capacity : ℕ) (work : List ℕ) (count : ℕ) (free apart : List ℕ) (second : Bool) (area : List ℕ) (at : ℕ) (others : List ℕ) (place from to : ℕ) : Type 0 where
   pub differ : Bool
@@ -171,7 +195,7 @@ pub record LotLeftIs (arities : List ℕ) (capacity : ℕ) (work : List ℕ) (co
       → (let F = freeFrom (c .side .names) 0 nameCount in
       (y : ℕ) → y ∈ lotOf from to F (c .step) → NumberIn (Has (r .relied)) (c .side .known) (leading second F (c .side .pairs) (c .step) (c .reply) y))
 
--- an answer all of whose situations have X meets the demand
+-- an answer all of whose situations have X answers the demand
 abbrev pub SomeAnswer : (Situation → Type 0) → List (List Situation) → Type 0
 SomeAnswer X m = (l : List Situation) × (l ∈ m) × ((t : Situation) → t ∈ l → X t)
 
@@ -179,22 +203,22 @@ SomeAnswer X m = (l : List Situation) × (l ∈ m) × ((t : Situation) → t ∈
 unfoldable pub ReliesOn : (ℕ → Type 0) → List Situation → List (List (List Situation)) → Type 0
 ReliesOn H known ms = (m : List (List Situation)) → m ∈ ms → SomeAnswer (NumberIn H known) m
 
--- Whether those left meet each demand, and what that relies on, beside what was relied on before.
-pub record Meets (C : Type 0) (work : List ℕ) (known : C → List Situation) (demands : C → List (List (List Situation))) (before : Relied) (r : Answered) : Type 0 where
+-- Whether those left answer each demand, and what that relies on, beside what was relied on before.
+pub record AnsweredIs (C : Type 0) (work : List ℕ) (known : C → List Situation) (demands : C → List (List (List Situation))) (before : Relied) (r : Answered) : Type 0 where
   pub is : (c : C) → r .all ≡ allAnswered (leftOf work (known c)) (demands c)
   pub numbers : Numbers (r .relied)
   pub more : Within before (r .relied)
   pub relies : r .all ≡ true → Few (r .relied) → (c : C) → ReliesOn (Has (r .relied)) (known c) (demands c)
 
 -- the demands of a run of names, and those of one side
-abbrev pub SideAnsweredIs : ℕ → ℕ → List ℕ → ℕ → List ℕ → ℕ → List ℕ → List ℕ → Bool → List ℕ → ℕ → List ℕ → ℕ → Relied → Answered → Type 0
-SideAnsweredIs from to arities capacity work count free apart second area n others m before r =
-    Meets (Side (ltb from nameCount) arities capacity work count free apart second area n others m) work (λ p. p .known)
+abbrev pub RunAnsweredIs : ℕ → ℕ → List ℕ → ℕ → List ℕ → ℕ → List ℕ → List ℕ → Bool → List ℕ → ℕ → List ℕ → ℕ → Relied → Answered → Type 0
+RunAnsweredIs from to arities capacity work count free apart second area n others m before r =
+    AnsweredIs (Side (ltb from nameCount) arities capacity work count free apart second area n others m) work (λ p. p .known)
     (λ p. runDemands (ltb from nameCount) from to second (freeFrom (p .names) 0 nameCount) (p .pairs) (p .steps) (p .replies)) before r
 
-abbrev pub SideMetIs : Manner → List ℕ → ℕ → List ℕ → ℕ → List ℕ → List ℕ → Bool → List ℕ → ℕ → List ℕ → ℕ → Relied → Answered → Type 0
-SideMetIs manner arities capacity work count free apart second area n others m before r =
-    Meets (Side (differs manner) arities capacity work count free apart second area n others m) work (λ p. p .known)
+abbrev pub SideAnsweredIs : Manner → List ℕ → ℕ → List ℕ → ℕ → List ℕ → List ℕ → Bool → List ℕ → ℕ → List ℕ → ℕ → Relied → Answered → Type 0
+SideAnsweredIs manner arities capacity work count free apart second area n others m before r =
+    AnsweredIs (Side (differs manner) arities capacity work count free apart second area n others m) work (λ p. p .known)
     (λ p. sideDemands manner second (freeFrom (p .names) 0 nameCount) (p .pairs) (p .steps) (p .replies)) before r
 
 -- Both parts are the same term.
@@ -234,9 +258,9 @@ pub record Searching (manner : Manner) (question : List ℕ) (capacity : ℕ) (w
       → getD work (struckAt i) 0 ≡ 0 → ⊥
   pub equal : (i : ℕ) (d : Situation) → i < count → EqualParts (getD (field .known) i d) → getD work (struckAt i) 0 ≡ 0
 
--- Whether those left meet each demand on situation i of the field in the work area.
-unfoldable pub MeetsIs : Manner → List ℕ → ℕ → List ℕ → ℕ → ℕ → Bool → Type 0
-MeetsIs manner question capacity work count i r =
+-- Whether those left answer each demand on situation i of the field in the work area.
+unfoldable pub AllAnsweredIs : Manner → List ℕ → ℕ → List ℕ → ℕ → ℕ → Bool → Type 0
+AllAnsweredIs manner question capacity work count i r =
     (f : FieldIn manner question capacity work count) (d : Situation) (ms : List (List Situation)) → LeadsTo f i d ms
     → r ≡ allAnswered (leftOf work (f .known)) (demandsAt manner (f .read) (getD (f .known) i d) ms)
 
@@ -253,11 +277,11 @@ Relies manner question capacity work count i H =
     → ReliesOn H (f .known) (demandsAt manner (f .read) (getD (f .known) i d) ms)
 
 pub record ExaminedIs (manner : Manner) (question : List ℕ) (capacity : ℕ) (work : List ℕ) (count i : ℕ) (r : Answered) : Type 0 where
-  pub is : MeetsIs manner question capacity work count i (r .all)
+  pub is : AllAnsweredIs manner question capacity work count i (r .all)
   pub numbers : Numbers (r .relied)
   pub relies : r .all ≡ true → Few (r .relied) → Relies manner question capacity work count i (Has (r .relied))
 
--- What is noted is enough for each slot to rest on.
+-- What is noted is enough for each situation to rely on.
 unfoldable pub AllNoted : Manner → List ℕ → ℕ → List ℕ → ℕ → Type 0
 AllNoted manner question capacity work count = (i : ℕ) → i < count → 0 < noteAt work i 0 → Relies manner question capacity work count i (NotedIn work i)
 
@@ -272,14 +296,14 @@ unfoldable pub NotesHold : Bool → Manner → List ℕ → ℕ → List ℕ →
 NotesHold true = AllNoted
 NotesHold false = AllSole
 
--- Situations are struck out one at a time, each while it is left and a demand on it is not met. No other byte is changed but those for notes.
+-- Situations are struck out one at a time, each while it is left and a demand on it is not answered. No other byte is changed but those for notes.
 pub data Strikes (manner : Manner) (question : List ℕ) (capacity count : ℕ) (work : List ℕ) : List ℕ → Type 0 where
   none-struck : Strikes manner question capacity count work work
   one-struck : {v : List ℕ} → Strikes manner question capacity count work v → (i : ℕ) → i < count → getD v (struckAt i) 0 ≡ 0 → SurvivesIs manner question capacity v count i false
       → Strikes manner question capacity count work (set v (struckAt i) 1)
   notes-changed : {v u : List ℕ} → Strikes manner question capacity count work v → SpareOnly count v u → Strikes manner question capacity count work u
 
--- A test that is met says that the bytes of the two parts in slot i are the same.
+-- A test that holds says that the bytes of the two parts in slot i are the same.
 unfoldable pub EqualPartsIs : List ℕ → ℕ → Bool → Type 0
 EqualPartsIs work i r = r ≡ true → (s : Situation) → SituationAt work (slotBytes * i) s → encode 0 (s .first) ≡ encode 0 (s .second)
 
@@ -307,7 +331,7 @@ turned rising count i = cond rising (count - 1 - i) i
 abbrev pub Run : ℕ → ℕ → ℕ → Type 0
 Run from size = λ j. (from ≤ j) × (j < from + size)
 
--- How many slots a block of each level has. A pass settles a block, by passes over the blocks of the level below, before it goes on.
+-- How many slots a block of each level has. A pass makes a block stable, by passes over the blocks of the level below, before it goes on.
 unfoldable pub blockSlots : ℕ → ℕ
 blockSlots level = cond (eqb level 0) 1 (cond (eqb level 1) 16 256)
 

@@ -4,7 +4,7 @@
 ghost use Prim.Native.Nat.{_+_, _*_, _<_, _≤_};
 ghost use lib.ListN.{length};
 ghost use Rattle.field_pairs.specs.Slot.{slotBytes};
-ghost use Rattle.verdict_survival.specs.Notes.{Numbers, WithIs, NoteIs, RestsIs, SoleStruckIs, ClearsNotes};
+ghost use Rattle.verdict_survival.specs.Notes.{Numbers, WithIs, NoteIs, ReliesOnLeftIs, SoleStruckIs, ClearsNotes};
 use field_slots::chains::put_number;
 use field_slots::find::SLOT_BYTES;
 use field_slots::find::left_at;
@@ -68,9 +68,9 @@ pub fn note(work: &mut [u8], i: usize, relied: Relied)
 }
 
 // Whether something is noted in slot `i`, and all of it is left.
-pub fn rests(work: &[u8], count: usize, i: usize) -> bool
+pub fn relies_on_left(work: &[u8], count: usize, i: usize) -> bool
     requires { ⌜ (i < count) × (slotBytes * count ≤ length (now work)) ⌝ }
-    ensures { λ r. ⌜ RestsIs (now (work .entry)) count i r ⌝ }
+    ensures { λ r. ⌜ ReliesOnLeftIs (now (work .entry)) count i r ⌝ }
 {
     let mut k = 0;
     while k < NOTED {

@@ -1,17 +1,12 @@
-// Whether a situation survives: those left meet each demand on it. Document 01, "The field and the verdict", and request 2026-02.
-ghost use mathlib.Core.Path.{_≡_};
-ghost use Prim.Native.Nat.{_+_, _-_, _*_, _<_, _≤_};
-ghost use lib.Dec.{ltb};
+// Whether a situation survives: those left answer each demand on it. Document 01, "The field and the verdict", and request 2026-02.
+ghost use Prim.Native.Nat.{_+_, _*_, _<_, _≤_};
 ghost use lib.ListN.{length};
 ghost use Rattle.field_kept_lists.specs.ListArea.{Labelled};
 ghost use Rattle.field_pairs.specs.Slot.{keyBytes, slotBytes};
 ghost use Rattle.terms.specs.Limits.{nameCount};
-ghost use Rattle.steps_tallies.specs.Tally.{tallySize, BodiesTallied};
 ghost use Rattle.steps.specs.Limits.{stepBytes};
-ghost use Rattle.steps_rows.specs.Rows.{rowBytes, mostRows};
-ghost use Rattle.verdict.specs.Judge.{greatestCapacity};
 ghost use Rattle.verdict_survival.specs.Notes.{Numbers};
-ghost use Rattle.verdict_survival.specs.Striking.{LeftIs, CountsIs, AskedIs, NameRun, LotLeftIs, SideAnsweredIs, SideMetIs, ExaminedIs};
+ghost use Rattle.verdict_survival.specs.Striking.{LeftIs, CountsIs, Slots, Listing, SideIn, OfNames, AskedIs, LotLeftIs, RunAnsweredIs, SideAnsweredIs, ExaminedIs};
 ghost use Rattle.verdict_survival.specs.Manners.{mannerOf};
 ghost use Rattle.verdict_survival.specs.declared.manner.Manner.the-variants.{Early};
 use crate::manner::Manner;
@@ -33,10 +28,45 @@ use steps_entries::limits::STEP_BYTES;
 use steps_tallies::bodies::arities_of;
 use terms_bytes::limits::NAME_COUNT;
 
-// Whether all demands are met, and what that relies on.
+// Whether all demands are answered, and what that relies on.
 pub struct Answered {
     pub all: bool,
     pub relied: Relied,
+}
+
+// A search: how it judges, how many slots there are, and how many of them have situations.
+pub struct Search {
+    pub manner: Manner,
+    pub capacity: usize,
+    pub count: usize,
+}
+
+// Situation `i` of a search, which may have to be struck out.
+pub struct Candidate {
+    pub search: Search,
+    pub i: usize,
+}
+
+// One side of a situation: whether it is the second, how many steps its list has, and how many the other side's, its replies.
+pub struct SideLists {
+    pub search: Search,
+    pub second: bool,
+    pub steps: usize,
+    pub replies: usize,
+}
+
+// One side for a run of names, `from` to `to` without it.
+pub struct SideRun {
+    pub side: SideLists,
+    pub from: usize,
+    pub to: usize,
+}
+
+// The step at `at` of that side, and the reply at `place`.
+pub struct StepReply {
+    pub run: SideRun,
+    pub at: usize,
+    pub place: usize,
 }
 
 // The slot of the situation with this key, of the first `count`, if it is left.
@@ -92,33 +122,37 @@ fn is_asked(
     false
 }
 
-// Whether the step at `place` of the other side's list answers the one at `at`, and leads to a situation that is left for every name of the run that
-// counts. What was relied on before is relied on still, and those situations if they are left.
+// Whether the reply answers the step, and leads to a situation that is left for every name of the run that counts. What was relied on before is relied
+// on still, and those situations if they are left.
 fn lot_left(
     arities: &[u8],
     work: &[u8],
-    capacity: usize,
-    count: usize,
     free: &[u8],
     apart: [u8; PAIR_COUNT],
-    second: bool,
     area: &[u8],
-    at: usize,
     others: &[u8],
-    place: usize,
-    from: usize,
-    to: usize,
+    pair: StepReply,
     before: Relied,
 ) -> Answered
-    requires { ⌜ (1 ≤ capacity) × (count ≤ capacity) × (slotBytes * capacity ≤ length (now work)) × (at + stepBytes ≤ length (now area)) × (place + stepBytes ≤ length (now others)) × (capacity ≤ greatestCapacity) × (from ≤ nameCount) × (to ≤ nameCount + 1) × Numbers before ⌝ }
-    ensures { λ r. ⌜ LotLeftIs (now (arities .entry)) capacity (now (work .entry)) count (now (free .entry)) apart second (now (area .entry)) at (now (others .entry)) place from to before r ⌝ }
+    requires { ⌜ Slots (now work) (pair .run .side .search) × (pair .at + stepBytes ≤ length (now area)) × (pair .place + stepBytes ≤ length (now others)) × OfNames (pair .run) × Numbers before ⌝ }
+    ensures { λ r. ⌜ LotLeftIs (now (arities .entry)) (pair .run .side .search .capacity) (now (work .entry)) (pair .run .side .search .count) (now (free .entry)) apart (pair .run .side .second) (now (area .entry)) (pair .at) (now (others .entry)) (pair .place) (pair .run .from) (pair .run .to) before r ⌝ }
 {
+    let at = pair.at;
+    let place = pair.place;
     if !answers(area, at, others, place) {
         return Answered {
             all: false,
             relied: before,
         };
     }
+    let run = pair.run;
+    let from = run.from;
+    let to = run.to;
+    let side = run.side;
+    let second = side.second;
+    let search = side.search;
+    let capacity = search.capacity;
+    let count = search.count;
     let mut relied = before;
     let mut name = from;
     'names: while name < to {
@@ -146,25 +180,24 @@ fn lot_left(
 
 // Whether each step of one side that is asked for the run of names has an answer that leads to situations that are left; what was relied on before
 // is relied on still.
-fn side_answered(
+fn run_answered(
     arities: &[u8],
     work: &[u8],
-    capacity: usize,
-    count: usize,
     free: &[u8],
     apart: [u8; PAIR_COUNT],
-    second: bool,
     area: &[u8],
-    n: usize,
     others: &[u8],
-    m: usize,
-    from: usize,
-    to: usize,
+    run: SideRun,
     before: Relied,
 ) -> Answered
-    requires { ⌜ (1 ≤ capacity) × (count ≤ capacity) × (slotBytes * capacity ≤ length (now work)) × (stepBytes * n ≤ length (now area)) × (stepBytes * m ≤ length (now others)) × (capacity ≤ greatestCapacity) × (from ≤ nameCount) × (to ≤ nameCount + 1) × NameRun (ltb from nameCount) from to × Numbers before ⌝ }
-    ensures { λ r. ⌜ SideAnsweredIs from to (now (arities .entry)) capacity (now (work .entry)) count (now (free .entry)) apart second (now (area .entry)) n (now (others .entry)) m before r ⌝ }
+    requires { ⌜ SideIn (now work) (now area) (now others) (run .side) × OfNames run × Numbers before ⌝ }
+    ensures { λ r. ⌜ RunAnsweredIs (run .from) (run .to) (now (arities .entry)) (run .side .search .capacity) (now (work .entry)) (run .side .search .count) (now (free .entry)) apart (run .side .second) (now (area .entry)) (run .side .steps) (now (others .entry)) (run .side .replies) before r ⌝ }
 {
+    let from = run.from;
+    let to = run.to;
+    let side = run.side;
+    let n = side.steps;
+    let m = side.replies;
     let mut relied = before;
     let mut i = 0;
     'steps: while i < n {
@@ -175,22 +208,9 @@ fn side_answered(
         }
         let mut j = 0;
         while j < m {
-            let lot = lot_left(
-                arities,
-                work,
-                capacity,
-                count,
-                free,
-                apart,
-                second,
-                area,
-                at,
-                others,
-                STEP_BYTES * j,
-                from,
-                to,
-                relied,
-            );
+            let place = STEP_BYTES * j;
+            let pair = StepReply { run, at, place };
+            let lot = lot_left(arities, work, free, apart, area, others, pair, relied);
             let all = lot.all;
             if all {
                 relied = lot.relied;
@@ -203,43 +223,30 @@ fn side_answered(
     Answered { all: true, relied }
 }
 
-// The same early: each name has answers of its own.
+// Whether those left answer each demand of one side early: each name has answers of its own.
 fn side_early(
     arities: &[u8],
     work: &[u8],
-    capacity: usize,
-    count: usize,
     free: &[u8],
     apart: [u8; PAIR_COUNT],
-    second: bool,
     area: &[u8],
-    n: usize,
     others: &[u8],
-    m: usize,
+    side: SideLists,
     before: Relied,
 ) -> Answered
-    requires { ⌜ (1 ≤ capacity) × (count ≤ capacity) × (slotBytes * capacity ≤ length (now work)) × (stepBytes * n ≤ length (now area)) × (stepBytes * m ≤ length (now others)) × (capacity ≤ greatestCapacity) × Numbers before ⌝ }
-    ensures { λ r. ⌜ SideMetIs (mannerOf Early) (now (arities .entry)) capacity (now (work .entry)) count (now (free .entry)) apart second (now (area .entry)) n (now (others .entry)) m before r ⌝ }
+    requires { ⌜ SideIn (now work) (now area) (now others) side × Numbers before ⌝ }
+    ensures { λ r. ⌜ SideAnsweredIs (mannerOf Early) (now (arities .entry)) (side .search .capacity) (now (work .entry)) (side .search .count) (now (free .entry)) apart (side .second) (now (area .entry)) (side .steps) (now (others .entry)) (side .replies) before r ⌝ }
 {
     let mut relied = before;
     let mut name = 0;
     while name < NAME_COUNT {
-        let answered = side_answered(
-            arities,
-            work,
-            capacity,
-            count,
-            free,
-            apart,
-            second,
-            area,
-            n,
-            others,
-            m,
-            name,
-            name + 1,
-            relied,
-        );
+        let to = name + 1;
+        let run = SideRun {
+            side,
+            from: name,
+            to,
+        };
+        let answered = run_answered(arities, work, free, apart, area, others, run, relied);
         let all = answered.all;
         relied = answered.relied;
         if !all {
@@ -250,98 +257,66 @@ fn side_early(
     Answered { all: true, relied }
 }
 
-// Whether those left meet each demand of one side: openly a run that is behind the names, late one of all names, for which one answer must do.
-fn side_met(
-    manner: Manner,
+// Whether those left answer each demand of one side: openly a run that is behind the names, late one of all names, for which one answer must do.
+fn side_answered(
     arities: &[u8],
     work: &[u8],
-    capacity: usize,
-    count: usize,
     free: &[u8],
     apart: [u8; PAIR_COUNT],
-    second: bool,
     area: &[u8],
-    n: usize,
     others: &[u8],
-    m: usize,
+    side: SideLists,
     before: Relied,
 ) -> Answered
-    requires { ⌜ (1 ≤ capacity) × (count ≤ capacity) × (slotBytes * capacity ≤ length (now work)) × (stepBytes * n ≤ length (now area)) × (stepBytes * m ≤ length (now others)) × (capacity ≤ greatestCapacity) × Numbers before ⌝ }
-    ensures { λ r. ⌜ SideMetIs (mannerOf manner) (now (arities .entry)) capacity (now (work .entry)) count (now (free .entry)) apart second (now (area .entry)) n (now (others .entry)) m before r ⌝ }
+    requires { ⌜ SideIn (now work) (now area) (now others) side × Numbers before ⌝ }
+    ensures { λ r. ⌜ SideAnsweredIs (mannerOf (side .search .manner)) (now (arities .entry)) (side .search .capacity) (now (work .entry)) (side .search .count) (now (free .entry)) apart (side .second) (now (area .entry)) (side .steps) (now (others .entry)) (side .replies) before r ⌝ }
 {
+    let search = side.search;
+    let manner = search.manner;
     match manner {
-        Manner::Open => side_answered(
-            arities,
-            work,
-            capacity,
-            count,
-            free,
-            apart,
-            second,
-            area,
-            n,
-            others,
-            m,
-            NAME_COUNT,
-            NAME_COUNT + 1,
-            before,
-        ),
-        Manner::Late => side_answered(
-            arities,
-            work,
-            capacity,
-            count,
-            free,
-            apart,
-            second,
-            area,
-            n,
-            others,
-            m,
-            0,
-            NAME_COUNT,
-            before,
-        ),
-        Manner::Early => side_early(
-            arities,
-            work,
-            capacity,
-            count,
-            free,
-            apart,
-            second,
-            area,
-            n,
-            others,
-            m,
-            before,
-        ),
+        Manner::Open => {
+            let to = NAME_COUNT + 1;
+            let run = SideRun {
+                side,
+                from: NAME_COUNT,
+                to,
+            };
+            run_answered(arities, work, free, apart, area, others, run, before)
+        }
+        Manner::Late => {
+            let run = SideRun {
+                side,
+                from: 0,
+                to: NAME_COUNT,
+            };
+            run_answered(arities, work, free, apart, area, others, run, before)
+        }
+        Manner::Early => side_early(arities, work, free, apart, area, others, side, before),
     }
 }
 
-// Whether those left meet each demand on situation `i`; the two areas have the lists of the one before, `numbers` and `rows` for the lister.
+// Whether those left answer each demand on a situation; the two areas have the lists of the one before, `tallies` and `rows` are for the lister.
 pub fn survives(
     question: &[u8],
     bodies: &[u32],
     work: &[u8],
-    capacity: usize,
-    count: usize,
-    i: usize,
-    numbers: &mut [u32],
+    tallies: &mut [u32],
     rows: &mut [u8],
     firsts: &mut [u8],
     seconds: &mut [u8],
-    manner: Manner,
+    candidate: Candidate,
 ) -> Answered
-    requires { ⌜ (i < count) × (count ≤ capacity) × (slotBytes * capacity ≤ length (now work)) × BodiesTallied (now question) (now bodies) × (length (now numbers) ≡ tallySize) × (rowBytes * mostRows ≤ length (now rows)) × Labelled (now question) (now firsts) × Labelled (now question) (now seconds) × (capacity ≤ greatestCapacity) ⌝ }
-    ensures { λ r. ⌜ ExaminedIs (mannerOf manner) (now (question .entry)) capacity (now (work .entry)) count i r × Labelled (now (question .entry)) (now (firsts .exit)) × Labelled (now (question .entry)) (now (seconds .exit)) ⌝ }
+    requires { ⌜ (candidate .i < candidate .search .count) × Slots (now work) (candidate .search) × Listing (now question) (now bodies) (now tallies) (now rows) (now firsts) (now seconds) ⌝ }
+    ensures { λ r. ⌜ ExaminedIs (mannerOf (candidate .search .manner)) (now (question .entry)) (candidate .search .capacity) (now (work .entry)) (candidate .search .count) (candidate .i) r × Labelled (now (question .entry)) (now (firsts .exit)) × Labelled (now (question .entry)) (now (seconds .exit)) ⌝ }
 {
+    let search = candidate.search;
+    let i = candidate.i;
     let taken = take_up(
         question,
         bodies,
         work,
         SLOT_BYTES * i,
-        numbers,
+        tallies,
         rows,
         firsts,
         seconds,
@@ -358,19 +333,20 @@ pub fn survives(
         },
         Lists::Listed(n, m) => {
             let arities = arities_of(question);
-            let first = side_met(
-                manner,
+            let first_side = SideLists {
+                search,
+                second: false,
+                steps: n,
+                replies: m,
+            };
+            let first = side_answered(
                 arities,
                 work,
-                capacity,
-                count,
                 &free,
                 apart,
-                false,
                 firsts,
-                n,
                 seconds,
-                m,
+                first_side,
                 none,
             );
             let all = first.all;
@@ -378,19 +354,20 @@ pub fn survives(
             if !all {
                 return Answered { all: false, relied };
             }
-            side_met(
-                manner,
+            let second_side = SideLists {
+                search,
+                second: true,
+                steps: m,
+                replies: n,
+            };
+            side_answered(
                 arities,
                 work,
-                capacity,
-                count,
                 &free,
                 apart,
-                true,
                 seconds,
-                m,
                 firsts,
-                n,
+                second_side,
                 relied,
             )
         }

@@ -80,14 +80,16 @@ use answer::Coded;
 pub const QUESTION_BYTES: usize = 4096;
 /// The greatest number of steps that are listed.
 pub const STEPS: usize = 256;
-/// The bytes of a listed step.
-pub const STEP_BYTES: usize = 132;
+/// The bytes of a listed step: a class for each name, the action's three, the result behind its
+/// length.
+pub const STEP_BYTES: usize = Name::COUNT + 4 + 112;
 /// The greatest capacity.
 pub const CAPACITY: u64 = 4096;
 /// The bytes of work area for each situation of the capacity.
 pub const SITUATION_BYTES: usize = 256;
-/// The greatest length of an apart list. The result area of [`apart`] must have as many bytes.
-pub const APART_BYTES: usize = 240;
+/// The greatest length of an apart list: every pair once. The result area of [`apart`] must have as
+/// many bytes.
+pub const APART_BYTES: usize = Name::COUNT * (Name::COUNT - 1);
 
 /// Checks a question.
 ///

@@ -44,13 +44,24 @@ impl Names {
     }
 }
 
+/// Each name as a class of its own.
+const fn own_classes() -> [u8; NAMES] {
+    let mut classes = [0; NAMES];
+    let mut name = 0;
+    while name < NAMES {
+        classes[name] = name as u8;
+        name += 1;
+    }
+    classes
+}
+
 /// A condition: an equivalence on names, each class written by its smallest name.
 #[derive(Clone, Copy, PartialEq, Eq, Hash, PartialOrd, Ord, Debug)]
 pub struct Condition([u8; NAMES]);
 
 impl Condition {
     /// The trivially true condition: every name is a class of its own.
-    pub const EMPTY: Condition = Condition([0, 1, 2, 3, 4, 5, 6, 7, 8, 9, 10, 11, 12, 13, 14, 15]);
+    pub const EMPTY: Condition = Condition(own_classes());
 
     /// Whether this is the trivially true condition, as it is for most steps.
     pub fn is_empty(&self) -> bool {

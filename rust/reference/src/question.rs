@@ -1,14 +1,15 @@
 //! Questions: their frame, the checks 3 to 12 with 16, and printing them back in either edition.
 
 use crate::answer::Check;
+use crate::condition::NAMES;
 use crate::term::{Edition, Name, Shape, Term};
 
 /// The greatest length of a question.
 pub const QUESTION_BYTES: usize = 4096;
 /// The greatest length of a body, part or result.
 pub const PART_BYTES: usize = 112;
-/// The greatest length of an apart list.
-pub const APART_BYTES: usize = 240;
+/// The greatest length of an apart list: every pair once.
+pub const APART_BYTES: usize = NAMES * (NAMES - 1);
 /// The greatest number of definitions.
 pub const DEFINITIONS: usize = 16;
 /// The greatest arity.

@@ -12,13 +12,13 @@ use Rattle.field_exploration.proofs.explore.explore.Statement.{statemen
 use Rattle.field_exploration.proofs.explore.explore.Tie as tie
 
 abbrev Inv-loop : tie.InvT-loop
-Inv-loop question bodies numbers₀ rows₀ firsts₀ seconds₀ work₀ capacity differ known₀ taken₀ numbers rows firsts seconds work known taken =
-    (taken ≤ known) × (1 ≤ known) × (known ≤ capacity) × (length work ≡ length work₀) × (length numbers ≡ tallySize) × (rowBytes * mostRows ≤ length rows)
+Inv-loop question bodies tallies₀ rows₀ firsts₀ seconds₀ work₀ capacity differ known₀ taken₀ tallies rows firsts seconds work known taken =
+    (taken ≤ known) × (1 ≤ known) × (known ≤ capacity) × (length work ≡ length work₀) × (length tallies ≡ tallySize) × (rowBytes * mostRows ≤ length rows)
     × Labelled question firsts × Labelled question seconds × Explorers differ question capacity work₀ work known taken
-    × (length numbers ≡ length numbers₀) × (length rows ≡ length rows₀) × (length firsts ≡ length firsts₀) × (length seconds ≡ length seconds₀)
+    × (length tallies ≡ length tallies₀) × (length rows ≡ length rows₀) × (length firsts ≡ length firsts₀) × (length seconds ≡ length seconds₀)
 
 abbrev μ-loop : tie.MeasureT-loop
-μ-loop question bodies numbers₀ rows₀ firsts₀ seconds₀ work₀ capacity differ known₀ taken₀ numbers rows firsts seconds work known taken = capacity - taken
+μ-loop question bodies tallies₀ rows₀ firsts₀ seconds₀ work₀ capacity differ known₀ taken₀ tallies rows firsts seconds work known taken = capacity - taken
 
 start-key-requires : tie.Need-start-key-requires Inv-loop μ-loop
 start-key-requires c κs = search needs

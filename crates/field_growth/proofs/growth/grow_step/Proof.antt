@@ -36,8 +36,8 @@ returns-2 c =
     step-struck _ _ _ _ _ _ _ _ _ _ _ _ _ (rw (not-false (c3 .allowed .result) (c .before .before .if1 .left)) at (c3 .allowed .ensures)) _
     (c .before .first-answer .ensures) (c10 .pre .0) (c .if2 .taken) (omega arith) (omega arith)
 
-trivial-requires : tie.Need-trivial-requires
-trivial-requires c κs = search needs
+is-trivial-requires : tie.Need-is-trivial-requires
+is-trivial-requires c κs = search needs
 
 returns-3 : tie.Need-returns-3
 returns-3 c =
@@ -47,7 +47,7 @@ returns-3 c =
     let c6 = c5 .before in
     let c13 = c6 .before .before .before .before .before .before .before in
     step-mirrored _ _ _ _ _ _ _ _ _ _ _ _ _ (rw (not-false (c6 .allowed .result) (c5 .if1 .left)) at (c6 .allowed .ensures)) _
-    (c4 .first-answer .ensures) (c13 .pre .0) (c3 .if2 .left) (omega arith) (c .before .before .if3 .taken) _ (c .before .trivial .ensures)
+    (c4 .first-answer .ensures) (c13 .pre .0) (c3 .if2 .left) (omega arith) (c .before .before .if3 .taken) _ (c .before .is-trivial .ensures)
     (c .if4 .taken)
 
 grow-names-requires : tie.Need-grow-names-requires
@@ -96,7 +96,7 @@ grow-step-spec =
     slice-write-work
     same-length
     returns-2
-    trivial-requires
+    is-trivial-requires
     returns-3
     grow-names-requires
     same-length-2

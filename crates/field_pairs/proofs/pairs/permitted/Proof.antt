@@ -14,11 +14,11 @@ Inv-loop apart area at n₀ n = (n ≤ nameCount) × Respected apart area at n
 abbrev μ-loop : tie.MeasureT-loop
 μ-loop apart area at n₀ n = nameCount - n
 
-trivial-requires : tie.Need-trivial-requires Inv-loop μ-loop
-trivial-requires c κs = search needs
+is-trivial-requires : tie.Need-is-trivial-requires Inv-loop μ-loop
+is-trivial-requires c κs = search needs
 
 returns : tie.Need-returns Inv-loop μ-loop
-returns c = permitted-trivial _ _ _ _ (c .before .trivial .ensures) (c .if1 .taken)
+returns c = permitted-trivial _ _ _ _ (c .before .is-trivial .ensures) (c .if1 .taken)
 
 none-apart-requires : tie.Need-none-apart-requires Inv-loop μ-loop
 none-apart-requires c κs = search needs
@@ -62,7 +62,7 @@ permitted-spec =
     (tie.spec
     Inv-loop
     μ-loop
-    trivial-requires
+    is-trivial-requires
     returns
     none-apart-requires
     returns-2

@@ -5,9 +5,6 @@ use borrow.Author.Needs.{needs}
 use Rattle.field_successors.proofs.results.complete.Statement.{statement}
 use Rattle.field_successors.proofs.results.complete.Tie as tie
 
-slice-aggregate-none-apart : tie.Need-slice-aggregate-none-apart
-slice-aggregate-none-apart c = search needs
-
 none-apart-requires : tie.Need-none-apart-requires
 none-apart-requires c κs = search needs
 
@@ -32,9 +29,6 @@ free-of-parts-requires c κs = search needs
 slice-aggregate-pack : tie.Need-slice-aggregate-pack
 slice-aggregate-pack c = search needs
 
-slice-aggregate-pack-2 : tie.Need-slice-aggregate-pack-2
-slice-aggregate-pack-2 c = search needs
-
 pack-requires : tie.Need-pack-requires
 pack-requires c κs = search needs
 
@@ -50,7 +44,6 @@ pub complete-spec : {M : Type 1} → statement M
 complete-spec =
     tie.close
     (tie.spec
-    slice-aggregate-none-apart
     none-apart-requires
     slice-aggregate-copy
     copy-requires
@@ -58,7 +51,6 @@ complete-spec =
     returns
     free-of-parts-requires
     slice-aggregate-pack
-    slice-aggregate-pack-2
     pack-requires
     same-length-2
     returns-2)

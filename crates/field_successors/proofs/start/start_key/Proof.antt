@@ -53,22 +53,22 @@ complete-requires c κs = search needs
 
 returns : tie.Need-returns
 returns c =
-    let c4 = c .before .before .before .before in
-    let c5 = c4 .before in
+    let c3 = c .before .before .before in
+    let c5 = c3 .before .before in
     let c6 = c5 .before in
-    let c8 = c6 .before .before in
-    let c10 = c8 .before .before in
-    let c12 = c10 .before .before in
-    let c14 = c12 .before .before in
-    let c15 = c14 .before in
+    let c7 = c6 .before in
+    let c9 = c7 .before .before in
+    let c11 = c9 .before .before in
+    let c13 = c11 .before .before in
+    let c15 = c13 .before .before in
     let c16 = c15 .before in
     let c17 = c16 .before in
-    let c19 = c17 .before .before in
-    let s = c19 .args .question .now in
-    start-is s _ _ _ (c16 .field-place .ensures ∙ ap (fieldPlace s) (c17 .definitions .ensures .0)) (c15 .after-field .ensures)
-    (c6 .after-field2 .ensures) _ _ _ _ (c14 .field-at .ensures) (c10 .field-at2 .ensures) (c5 .field-at3 .ensures)
-    (c .before .before .arities .ensures) _ _ _ _ _ (c12 .put-part .ensures) (c8 .put-part2 .ensures) (c4 .start-pairs .ensures)
-    (c .before .complete .ensures)
+    let c18 = c17 .before in
+    let c20 = c18 .before .before in
+    let s = c20 .args .question .now in
+    start-is s _ _ _ (c17 .field-place .ensures ∙ ap (fieldPlace s) (c18 .definitions .ensures .0)) (c16 .after-field .ensures)
+    (c7 .after-field2 .ensures) _ _ _ _ (c15 .field-at .ensures) (c11 .field-at2 .ensures) (c6 .field-at3 .ensures) (c3 .arities .ensures) _ _ _ _ _
+    (c13 .put-part .ensures) (c9 .put-part2 .ensures) (c5 .start-pairs .ensures) (c .before .complete .ensures)
 
 pub start-key-spec : {M : Type 1} → statement M
 start-key-spec =

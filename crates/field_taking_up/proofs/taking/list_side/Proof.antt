@@ -64,8 +64,8 @@ has-list-requires-3 c κs =
     let c15 = c7 .before .before .before .before .before .before .before .before in
     (omega (arith, c15 .pre .4 .room, c3 .kept-place .ensures .is, c3 .kept-place .ensures .among), c7 .if1 .left)
 
-bring-over-requires : tie.Need-bring-over-requires
-bring-over-requires c κs =
+copy-kept-requires : tie.Need-copy-kept-requires
+copy-kept-requires c κs =
     let c6 = c .before .before .before .before .before .before in
     let c10 = c6 .before .before .before .before in
     let c18 = c10 .before .before .before .before .before .before .before .before in (
@@ -86,7 +86,7 @@ returns-4 c =
     let c5 = c4 .before in
     let c13 = c5 .before .before .before .before .before .before .before .before in
     let c21 = c13 .before .before .before .before .before .before .before .before in
-    side-is _ _ _ _ _ (c13 .if1 .left) (c .before .before .bring-over .ensures _ (c21 .pre .4) (c5 .has-list3 .ensures (c4 .if4 .taken))
+    side-is _ _ _ _ _ (c13 .if1 .left) (c .before .before .copy-kept .ensures _ (c21 .pre .4) (c5 .has-list3 .ensures (c4 .if4 .taken))
     (c21 .pre .5))
 
 renew-kept-requires : tie.Need-renew-kept-requires
@@ -146,7 +146,7 @@ list-side-spec =
     same-length-2
     returns-3
     has-list-requires-3
-    bring-over-requires
+    copy-kept-requires
     same-length-3
     returns-4
     renew-kept-requires

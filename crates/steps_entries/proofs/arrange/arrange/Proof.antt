@@ -17,8 +17,8 @@ abbrev μ-loop : tie.MeasureT-loop
 loop-holds : tie.Need-loop-holds Inv-loop μ-loop
 loop-holds c = (search needs, search needs, arrange-start (c .before .args .list .now) (c .before .args .count))
 
-settle-requires : tie.Need-settle-requires Inv-loop μ-loop
-settle-requires c κs = search needs
+put-in-place-requires : tie.Need-put-in-place-requires Inv-loop μ-loop
+put-in-place-requires c κs = search needs
 
 add-i : tie.Need-add-i Inv-loop μ-loop
 add-i c = search needs
@@ -33,7 +33,7 @@ loop-again c = (
   arrange-step (c .before .before .before .before .before .before .before .args .list .now)
       (c .before .before .before .before .before .before .before .args .count) (c .before .before .before .before .before .loop .i)
       (c .before .before .before .before .before .loop .list) _ (c .before .before .before .before .before .loop .inv .2)
-      (c .before .before .settle .ensures),
+      (c .before .before .put-in-place .ensures),
 )
 
 same-length : tie.Need-same-length Inv-loop μ-loop
@@ -51,7 +51,7 @@ arrange-spec =
     Inv-loop
     μ-loop
     loop-holds
-    settle-requires
+    put-in-place-requires
     add-i
     loop-less
     loop-again

@@ -1,5 +1,6 @@
 -- `steps::same::chain_holds` meets its contract. Assumes nothing.
 use mathlib.Core.Path.{_≡_, subst}
+use native.Mathlib.Nat.{zero-add}
 use native.Mathlib.Omega.{arith}
 use Prim.Native.Nat.{ℕ, _-_, _≤_}
 use Rattle.steps_equal_branches.specs.Same.{chain, HoldsIs}
@@ -42,17 +43,17 @@ get-requires-2 c κs = search needs
 slot-requires-2 : tie.Need-slot-requires-2 Inv-loop μ-loop
 slot-requires-2 c κs = search needs
 
-cast-if1 : tie.Need-cast-if1 Inv-loop μ-loop
-cast-if1 c = search needs
+slice-aggregate-respects : tie.Need-slice-aggregate-respects Inv-loop μ-loop
+slice-aggregate-respects c = search needs
 
-array-read-if1 : tie.Need-array-read-if1 Inv-loop μ-loop
-array-read-if1 c = search needs
+cast-respects : tie.Need-cast-respects Inv-loop μ-loop
+cast-respects c = search needs
 
-cast-if1-2 : tie.Need-cast-if1-2 Inv-loop μ-loop
-cast-if1-2 c = search needs
+cast-respects-2 : tie.Need-cast-respects-2 Inv-loop μ-loop
+cast-respects-2 c = search needs
 
-array-read-if1-2 : tie.Need-array-read-if1-2 Inv-loop μ-loop
-array-read-if1-2 c = search needs
+respects-requires : tie.Need-respects-requires Inv-loop μ-loop
+respects-requires c κs = search needs
 
 returns : tie.Need-returns Inv-loop μ-loop
 returns c = λ e. let z : _≡_ {A = ℕ} 0 1 = cc in absurd (omega arith)
@@ -65,13 +66,16 @@ loop-less c = search needs
 
 loop-again : tie.Need-loop-again Inv-loop μ-loop
 loop-again c =
-    let v = c .before .before .before .before .before .before .before .before .before .before .args in (
+    let c1 = c .before in
+    let c2 = c1 .before .before in
+    let c5 = c2 .before .before .before in
+    let v = c5 .before .before .before .before .before .before .args in (
       search needs,
-      holds-more (v .src .now) (v .args .now) (v .inner) (v .depth) (v .p) (c .before .before .before .before .before .before .loop .j)
-          (c .before .before .before .before .get .result) (c .before .before .before .slot .result) (c .before .before .get2 .result)
-          (c .before .slot2 .result) (c .before .before .before .before .get .ensures) (c .before .before .before .slot .ensures)
-          (c .before .before .get2 .ensures) (c .before .slot2 .ensures) (v .c .class) (search needs) (search needs) (c .if1 .left)
-          (c .before .before .before .before .before .before .loop .inv .1),
+      holds-more (v .src .now) (v .args .now) (v .inner) (v .depth) (v .p) (c5 .before .before .loop .j)
+          (c5 .get .result) (c2 .before .before .slot .result) (c2 .before .get2 .result) (c2 .slot2 .result)
+          (c5 .get .ensures) (c2 .before .before .slot .ensures) (c2 .before .get2 .ensures) (c2 .slot2 .ensures)
+          (v .c .class) (search needs) (search needs) (simp zero-add at (c1 .respects .ensures .merged (c .if1 .left)))
+          (c5 .before .before .loop .inv .1),
     )
 
 returns-2 : tie.Need-returns-2 Inv-loop μ-loop
@@ -97,10 +101,10 @@ chain-holds-spec =
     add-get-2
     get-requires-2
     slot-requires-2
-    cast-if1
-    array-read-if1
-    cast-if1-2
-    array-read-if1-2
+    slice-aggregate-respects
+    cast-respects
+    cast-respects-2
+    respects-requires
     returns
     add-j
     loop-less

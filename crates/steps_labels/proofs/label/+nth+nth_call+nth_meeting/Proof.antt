@@ -30,7 +30,7 @@ use Rattle.steps_labels.proofs.label.nth_prefix.Reads as nth-prefix-rea
 use Rattle.steps_labels.proofs.label.outside_of.Reads as outside-of-reads
 use Rattle.steps_labels.proofs.label.past.Reads as past-reads
 use Rattle.steps_labels.proofs.label.restrictions_at.Reads as restrictions-at-reads
-use Rattle.steps_labels.proofs.label.side_of.Reads as side-of-reads
+use Rattle.steps_labels.proofs.label.origin_of.Reads as origin-of-reads
 use Rattle.steps_conditions.proofs.rules.communication.Reads as communication-reads
 use Rattle.steps_tallies.proofs.tally.body_tally.Reads as body-tally-reads
 use Rattle.steps_tallies.proofs.tally.visible_at.Reads as visible-at-reads
@@ -69,8 +69,8 @@ nth-meeting-below t =
 
 abbrev nth-claims : ℕ → nth-lts.Claims
 nth-claims t = (
-  side-of-reads.Asked,
-  side-of-reads.Learnt,
+  origin-of-reads.Asked,
+  origin-of-reads.Learnt,
   nth-meeting-below t,
   nth-meeting.Post,
   blocked-reads.Asked,
@@ -95,16 +95,16 @@ nth-call-claims t = (call-at-reads.Asked, call-at-reads.Learnt, blocked-reads.As
 abbrev nth-meeting-claims : ℕ → nth-meeting-lts.Claims
 nth-meeting-claims t = (visible-at-reads.Asked, visible-at-reads.Learnt, blocked-reads.Asked, blocked-reads.Learnt, nth-below t, nth.Post, communication-reads.Asked, communication-reads.Learnt)
 
-nth-side-of-requires : (t : ℕ) → nth-lts.Need-side-of-requires (nth-claims t) (nth-at t) nth.Post
-nth-side-of-requires t c κs = (c .before .before .before .before .before .pre .1 .0 .short, c .before .before .before .before .before .pre .1 .1 .on)
+nth-origin-of-requires : (t : ℕ) → nth-lts.Need-origin-of-requires (nth-claims t) (nth-at t) nth.Post
+nth-origin-of-requires t c κs = (c .before .before .before .before .before .pre .1 .0 .short, c .before .before .before .before .before .pre .1 .1 .on)
 
 nth-nth-meeting-requires : (t : ℕ) → nth-lts.Need-nth-meeting-requires (nth-claims t) (nth-at t) nth.Post
 nth-nth-meeting-requires t c κs =
     let c1 = c .before in
     let c7 = c1 .before .before .before .before .before .before in
     let a = c7 .args in
-    let p = c1 .side-of .result in
-    let S = c1 .side-of .ensures in
+    let p = c1 .origin-of .result in
+    let S = c1 .origin-of .ensures in
     let i = S .inside (c .if1 .taken) in (
       weight-down (a .scope .calls * 113) (length (a .src .now)) (a .scope .at) (p .at) t 1 (c7 .pre .0) (S .on) (omega arith),
       (
@@ -121,7 +121,7 @@ nth-returns : (t : ℕ) → nth-lts.Need-returns (nth-claims t) (nth-at t) nth.P
 nth-returns t c =
     let c8 = c .before .before .before .before .before .before .before .before in
     let a = c8 .args in
-    c .before .before .side-of .ensures .met (c .before .if1 .taken) (a .question .now) (a .args .now) (a .scope .inner) (a .scope .depth)
+    c .before .before .origin-of .ensures .met (c .before .if1 .taken) (a .question .now) (a .args .now) (a .scope .inner) (a .scope .depth)
     (a .scope .calls) _ (c8 .pre .1 .1) (c .nth-meeting .ensures)
 
 nth-blocked-requires : (t : ℕ) → nth-lts.Need-blocked-requires (nth-claims t) (nth-at t) nth.Post
@@ -133,8 +133,8 @@ nth-returns-2 t c =
     let c3 = c .before .before .before in
     let c9 = c3 .before .before .before .before .before .before in
     let a = c9 .args in
-    let p = c3 .side-of .result in
-    let S = c3 .side-of .ensures in
+    let p = c3 .origin-of .result in
+    let S = c3 .origin-of .ensures in
     S .is (omega (arith, c .before .before .if1 .left)) (a .question .now) (a .args .now) (a .scope .inner) (a .scope .depth) (a .scope .calls) _
     (c9 .pre .1 .1) (nth-none (a .question .now) (a .src .now) (p .at) (p .number) (a .silent) (a .args .now) (a .scope .inner) (a .scope .depth)
     (a .scope .calls) _ (c .before .if2 .taken))
@@ -155,8 +155,8 @@ nth-returns-3 t c =
     let c5 = c4 .before in
     let c11 = c5 .before .before .before .before .before .before in
     let a = c11 .args in
-    let p = c5 .side-of .result in
-    let S = c5 .side-of .ensures in
+    let p = c5 .origin-of .result in
+    let S = c5 .origin-of .ensures in
     S .is (omega (arith, c4 .if1 .left)) (a .question .now) (a .args .now) (a .scope .inner) (a .scope .depth) (a .scope .calls) _ (c11 .pre .1 .1)
     (nth-prefix (a .question .now) (a .src .now) (p .at) (p .number) (a .silent) (a .args .now) (a .scope .inner) (a .scope .depth) (a .scope .calls)
     (c .before .if3 .taken) _ (c .nth-prefix .ensures))
@@ -167,8 +167,8 @@ nth-nth-call-requires t c κs =
     let c5 = c3 .before .before in
     let c11 = c5 .before .before .before .before .before .before in
     let a = c11 .args in
-    let p = c5 .side-of .result in
-    let S = c5 .side-of .ensures in (
+    let p = c5 .origin-of .result in
+    let S = c5 .origin-of .ensures in (
       weight-down (a .scope .calls * 113) (length (a .src .now)) (a .scope .at) (p .at) t 2 (c11 .pre .0) (S .on) (omega arith),
       (
         c3 .if2 .left,
@@ -185,8 +185,8 @@ nth-returns-4 t c =
     let c6 = c5 .before in
     let c12 = c6 .before .before .before .before .before .before in
     let a = c12 .args in
-    let p = c6 .side-of .result in
-    let S = c6 .side-of .ensures in
+    let p = c6 .origin-of .result in
+    let S = c6 .origin-of .ensures in
     S .is (omega (arith, c5 .if1 .left)) (a .question .now) (a .args .now) (a .scope .inner) (a .scope .depth) (a .scope .calls) _ (c12 .pre .1 .1)
     (c .nth-call .ensures)
 
@@ -203,7 +203,7 @@ nth-add-next t c =
     let c7 = c5 .before .before in
     let c13 = c7 .before .before .before .before .before .before in
     let w = c13 .pre .1 .0 .short in
-    let b = c7 .side-of .result .at in
+    let b = c7 .origin-of .result .at in
     omega (
       arith,
       c1 .restrictions-at .ensures .inside,
@@ -220,7 +220,7 @@ nth-add-innermost t c =
     let c13 = c7 .before .before .before .before .before .before in
     let w = c13 .pre .1 .0 .room in
     let o = c13 .pre .1 .0 .outer in
-    omega (arith, c .before .restrictions-at .ensures .inside, c5 .if2 .left, c7 .side-of .ensures .on)
+    omega (arith, c .before .restrictions-at .ensures .inside, c5 .if2 .left, c7 .origin-of .ensures .on)
 
 nth-add-deeper : (t : ℕ) → nth-lts.Need-add-deeper (nth-claims t) (nth-at t) nth.Post
 nth-add-deeper t c =
@@ -228,7 +228,7 @@ nth-add-deeper t c =
     let c7 = c5 .before .before in
     let c13 = c7 .before .before .before .before .before .before in
     let w = c13 .pre .1 .0 .room in
-    omega (arith, c .before .restrictions-at .ensures .inside, c5 .if2 .left, c7 .side-of .ensures .on)
+    omega (arith, c .before .restrictions-at .ensures .inside, c5 .if2 .left, c7 .origin-of .ensures .on)
 
 nth-nth-requires : (t : ℕ) → nth-lts.Need-nth-requires (nth-claims t) (nth-at t) nth.Post
 nth-nth-requires t c κs =
@@ -239,8 +239,8 @@ nth-nth-requires t c κs =
     let c7 = c6 .before in
     let c13 = c7 .before .before .before .before .before .before in
     let a = c13 .args in
-    let p = c7 .side-of .result in
-    let S = c7 .side-of .ensures in
+    let p = c7 .origin-of .result in
+    let S = c7 .origin-of .ensures in
     let k = c1 .restrictions-at .result in
     let n = c .past .result in
     let R = c1 .restrictions-at .ensures in
@@ -278,7 +278,7 @@ nth-outside-of-requires t c κs =
         arith,
         c .before .before .restrictions-at .ensures .inside,
         c6 .if2 .left,
-        c8 .side-of .ensures .on,
+        c8 .origin-of .ensures .on,
       ),
     )
 
@@ -293,8 +293,8 @@ nth-returns-5 t c =
     let c9 = c8 .before in
     let c15 = c9 .before .before .before .before .before .before in
     let a = c15 .args in
-    let p = c9 .side-of .result in
-    let S = c9 .side-of .ensures in
+    let p = c9 .origin-of .result in
+    let S = c9 .origin-of .ensures in
     let k = c3 .restrictions-at .result in
     let R = c3 .restrictions-at .ensures in
     S .is (omega (arith, c8 .if1 .left)) (a .question .now) (a .args .now) (a .scope .inner) (a .scope .depth) (a .scope .calls) _ (c15 .pre .1 .1)
@@ -465,7 +465,7 @@ pub +nth+nth-call+nth-meeting-spec : {M : Type 1} → statement M
     close μ-nth μ-nth-call μ-nth-meeting (λ t. nth-lts.spec (nth-claims t)
     (nth-at t)
     nth.Post
-    (nth-side-of-requires t)
+    (nth-origin-of-requires t)
     (nth-nth-meeting-requires t)
     (nth-returns t)
     (nth-blocked-requires t)

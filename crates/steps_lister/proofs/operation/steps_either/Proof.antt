@@ -3,7 +3,7 @@ use mathlib.Core.Path.{_≡_, refl, sym, ap, subst, _∙_}
 use native.Mathlib.Omega.{arith}
 use borrow.Author.Needs.{needs}
 use Rattle.terms_bytes.specs.Counted.{editionFrom}
-use Rattle.terms_bytes.specs.Writing.{Accepted, Plain}
+use Rattle.terms_bytes.specs.Writing.{IsAccepted, Plain}
 use Rattle.terms_converting.specs.Questions.{AcceptedFrom}
 use Rattle.terms_converting.proofs.PlainForm.{own-counted, own-plain}
 use Rattle.steps_lister.proofs.operation.steps_either.Statement.{statement}
@@ -13,7 +13,7 @@ is-counted-requires : tie.Need-is-counted-requires
 is-counted-requires c κs = search needs
 
 steps-counted-requires : tie.Need-steps-counted-requires
-unfolding Accepted AcceptedFrom editionFrom
+unfolding IsAccepted AcceptedFrom editionFrom
 steps-counted-requires c κs =
     let c2 = c .before .before in
     let c5 = c2 .before .before .before in
@@ -27,7 +27,7 @@ returns : tie.Need-returns
 returns c = c .before .before .steps-counted .ensures
 
 steps-accepted-requires : tie.Need-steps-accepted-requires
-unfolding Accepted Plain
+unfolding IsAccepted Plain
 steps-accepted-requires c κs =
     let c2 = c .before .before in
     let c5 = c2 .before .before .before in

@@ -1,28 +1,28 @@
 -- `steps::walk::take_silent` meets its contract. Assumes nothing.
 use mathlib.Core.Path.{subst}
-use Rattle.steps_rows.specs.Rows.{QuietIs}
+use Rattle.steps_rows.specs.Rows.{UnconditionalIs}
 use borrow.Author.Needs.{needs}
 use Rattle.steps_walk.proofs.walk.take_silent.Statement.{statement}
 use Rattle.steps_walk.proofs.walk.take_silent.Tie as tie
 
-quiet-requires : tie.Need-quiet-requires
-quiet-requires c κs = search needs
+unconditional-requires : tie.Need-unconditional-requires
+unconditional-requires c κs = search needs
 
-take-quiet-requires : tie.Need-take-quiet-requires
-take-quiet-requires c κs =
+take-unconditional-requires : tie.Need-take-unconditional-requires
+take-unconditional-requires c κs =
     let c8 = c .before .before .before .before .before .before .before .before in
     let v = c8 .args in (
       c8 .pre .0,
       c8 .pre .1,
-      subst (λ b. QuietIs (v .question .now) (v .part .now) (v .node .at) 1 b) (c .before .if1 .taken)
-          (c .before .before .quiet .ensures),
+      subst (λ b. UnconditionalIs (v .question .now) (v .part .now) (v .node .at) 1 b) (c .before .if1 .taken)
+          (c .before .before .unconditional .ensures),
     )
 
 same-length : tie.Need-same-length
 same-length c = search needs
 
 returns : tie.Need-returns
-returns c = c .before .before .take-quiet .ensures
+returns c = c .before .before .take-unconditional .ensures
 
 take-numbered-requires : tie.Need-take-numbered-requires
 take-numbered-requires c κs = search needs
@@ -37,8 +37,8 @@ pub take-silent-spec : {M : Type 1} → statement M
 take-silent-spec =
     tie.close
     (tie.spec
-    quiet-requires
-    take-quiet-requires
+    unconditional-requires
+    take-unconditional-requires
     same-length
     returns
     take-numbered-requires

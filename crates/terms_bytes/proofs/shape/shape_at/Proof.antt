@@ -7,7 +7,7 @@ use lib.ListN.{getD}
 use denote.Ref.{now}
 use borrow.Author.Tests.{ne-eqb}
 use borrow.Author.Needs.{needs}
-use Rattle.terms_bytes.specs.Shape.{fixedAt, namesAt, bindersAt, partsAt}
+use Rattle.terms_bytes.specs.Shape.{fixedAt, namesAt, bindersAt, subtermsAt}
 use Rattle.terms_bytes.proofs.Shapes.{all-at}
 use Rattle.terms_bytes.proofs.shape.shape_at.Statement.{statement}
 use Rattle.terms_bytes.proofs.shape.shape_at.Tie as tie
@@ -31,14 +31,14 @@ cast-n : tie.Need-cast-n
 cast-n c = search needs
 
 returns : tie.Need-returns
-unfolding fixedAt namesAt bindersAt partsAt
+unfolding fixedAt namesAt bindersAt subtermsAt
 returns c =
     let e = sym (c .before .before .before .get .ensures) ∙ c .before .before .if1 .taken in record {
       fixed = rw e;
       names = rw e (c .get3 .ensures ∙
           ap (λ (k : ℕ). getD (now (c .before .before .before .before .before .before .args .arities)) k 0) (c .before .get2 .ensures));
       binds = rw e;
-      parts
+      subterms
           = rw e;
       some = search needs;
       few = omega (arith, c .get3 .ok);
@@ -51,11 +51,11 @@ names-of-requires c κs = search needs
 binders-of-requires : tie.Need-binders-of-requires
 binders-of-requires c κs = search needs
 
-parts-of-requires : tie.Need-parts-of-requires
-parts-of-requires c κs = search needs
+subterm-count-requires : tie.Need-subterm-count-requires
+subterm-count-requires c κs = search needs
 
 returns-2 : tie.Need-returns-2
-unfolding fixedAt namesAt bindersAt partsAt
+unfolding fixedAt namesAt bindersAt subtermsAt
 returns-2 c =
     let e = c .before .before .before .before .get .ensures in
     let f = ne-eqb _ 9 (c .before .before .before .if1 .left) in
@@ -63,7 +63,7 @@ returns-2 c =
       fixed = rw (← e, f);
       names = rw (← e, f) (c .before .before .names-of .ensures);
       binds = rw (← e) (c .before .binders-of .ensures);
-      parts = rw (← e) (c .parts-of .ensures);
+      subterms = rw (← e) (c .subterm-count .ensures);
       some = search needs;
       few = omega (
         arith,
@@ -92,5 +92,5 @@ shape-at-spec =
     returns
     names-of-requires
     binders-of-requires
-    parts-of-requires
+    subterm-count-requires
     returns-2)

@@ -12,7 +12,7 @@ use Rattle.terms_checks.proofs.check.scan_bodies.Reads as scan-bodies
 use Rattle.terms_checks.proofs.check.scan_bodies.Kinds as scan-bodies-kinds
 use Rattle.terms_checks.proofs.check.+scan_bodies.Lts-scan_bodies as scan-bodies-lts
 use Rattle.terms_bytes.proofs.bytes.get.Reads as get-reads
-use Rattle.terms_checks.proofs.check.meet.Reads as meet-reads
+use Rattle.terms_checks.proofs.check.joint.Reads as joint-reads
 use Rattle.terms_bytes.proofs.frame.after_field.Reads as after-field-reads
 use Rattle.terms_bytes.proofs.frame.field_at.Reads as field-at-reads
 use Rattle.terms_checks.proofs.scan.passed.Reads as passed-reads
@@ -45,8 +45,8 @@ scan-bodies-claims t = (
   after-field-reads.Learnt,
   scan-bodies-below t,
   scan-bodies.Post,
-  meet-reads.Asked,
-  meet-reads.Learnt,
+  joint-reads.Asked,
+  joint-reads.Learnt,
 )
 
 scan-bodies-passed-requires : (t : ℕ) → scan-bodies-lts.Need-passed-requires (scan-bodies-claims t) (scan-bodies-at t) scan-bodies.Post
@@ -91,8 +91,8 @@ scan-bodies-enum-known-more t c = search needs
 scan-bodies-enum-known-more-2 : (t : ℕ) → scan-bodies-lts.Need-enum-known-more-2 (scan-bodies-claims t) (scan-bodies-at t) scan-bodies.Post
 scan-bodies-enum-known-more-2 t c = search needs
 
-scan-bodies-meet-requires : (t : ℕ) → scan-bodies-lts.Need-meet-requires (scan-bodies-claims t) (scan-bodies-at t) scan-bodies.Post
-scan-bodies-meet-requires t c κs = search needs
+scan-bodies-joint-requires : (t : ℕ) → scan-bodies-lts.Need-joint-requires (scan-bodies-claims t) (scan-bodies-at t) scan-bodies.Post
+scan-bodies-joint-requires t c κs = search needs
 
 scan-bodies-returns-2 : (t : ℕ) → scan-bodies-lts.Need-returns-2 (scan-bodies-claims t) (scan-bodies-at t) scan-bodies.Post
 scan-bodies-returns-2 t c =
@@ -139,8 +139,8 @@ scan-bodies-returns-4 t c =
     let a = c15 .args in
     bodies-all (editionFrom (a .counted)) (a .question .now) (a .list .now) (a .i) (a .at) (c12 .if1 .left) (c7 .one2 .given .0 .0) (c7 .one2 .given .0 .1 .0) (rw
     (c11 .get .ensures, c10 .field-at .ensures, c7 .one2 .given .1) at (c9 .scan-whole .ensures)) (c2 .more2 .given .0 .0) (c2 .more2 .given .0 .0)
-    (c2 .more2 .given .0 .1 .0) (c .meet .result) (rw (c5 .after-field .ensures, c2 .more2 .given .1) at (c4 .scan-bodies .ensures))
-    (c .meet .ensures)
+    (c2 .more2 .given .0 .1 .0) (c .joint .result) (rw (c5 .after-field .ensures, c2 .more2 .given .1) at (c4 .scan-bodies .ensures))
+    (c .joint .ensures)
 
 pub +scan-bodies-spec : {M : Type 1} → statement M
 +scan-bodies-spec = close μ-scan-bodies λ t. scan-bodies-lts.spec (scan-bodies-claims t)
@@ -159,7 +159,7 @@ pub +scan-bodies-spec : {M : Type 1} → statement M
     (scan-bodies-scan-bodies-requires t)
     (scan-bodies-enum-known-more t)
     (scan-bodies-enum-known-more-2 t)
-    (scan-bodies-meet-requires t)
+    (scan-bodies-joint-requires t)
     (scan-bodies-returns-2 t)
     (scan-bodies-returns-3 t)
     (scan-bodies-returns-4 t)

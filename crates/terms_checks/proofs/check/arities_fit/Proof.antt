@@ -7,13 +7,13 @@ use lib.Dec.{leb}
 use borrow.Author.Needs.{needs}
 use borrow.Author.Tests.{le-leb, lt-leb}
 use Rattle.terms.specs.Limits.{greatestArity}
-use Rattle.terms.specs.Question.{all}
+use Rattle.terms.specs.Question.{every}
 use Rattle.terms_checks.proofs.CheckLaws.{all-fails, all-passes, all-done}
 use Rattle.terms_checks.proofs.check.arities_fit.Statement.{statement}
 use Rattle.terms_checks.proofs.check.arities_fit.Tie as tie
 
 abbrev Inv-loop : tie.InvT-loop
-Inv-loop list i₀ i = (i ≤ length list) × (all (λ a. leb a greatestArity) list ≡ all (λ a. leb a greatestArity) (drop i list))
+Inv-loop list i₀ i = (i ≤ length list) × (every (λ a. leb a greatestArity) list ≡ every (λ a. leb a greatestArity) (drop i list))
 
 abbrev μ-loop : tie.MeasureT-loop
 μ-loop list i₀ i = length list - i

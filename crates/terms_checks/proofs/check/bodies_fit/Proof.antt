@@ -3,14 +3,14 @@ use mathlib.Core.Path.{_≡_, refl, sym, ap, _∙_}
 use native.Mathlib.Omega.{arith}
 use borrow.Author.Needs.{needs}
 use borrow.Author.Tests.{not-true, not-false}
-use Rattle.terms.specs.Question.{all, fits}
+use Rattle.terms.specs.Question.{every, fits}
 use Rattle.terms_checks.specs.Checking.{fieldsFrom}
 use Rattle.terms_checks.proofs.CheckLaws.{sizes-fail, sizes-pass, sizes-done}
 use Rattle.terms_checks.proofs.check.bodies_fit.Statement.{statement}
 use Rattle.terms_checks.proofs.check.bodies_fit.Tie as tie
 
 abbrev Inv-loop : tie.InvT-loop
-Inv-loop question from count at₀ left₀ at left = all fits (fieldsFrom question from count) ≡ all fits (fieldsFrom question at left)
+Inv-loop question from count at₀ left₀ at left = every fits (fieldsFrom question from count) ≡ every fits (fieldsFrom question at left)
 
 abbrev μ-loop : tie.MeasureT-loop
 μ-loop question from count at₀ left₀ at left = left

@@ -6,7 +6,7 @@ use lib.Dec.{leb}
 use borrow.Author.Tests.{not-true, not-false}
 use Rattle.terms_bytes.specs.Counted.{editionFrom}
 use Rattle.terms.specs.Limits.{greatestArity}
-use Rattle.terms.specs.Question.{all}
+use Rattle.terms.specs.Question.{every}
 use Rattle.terms_checks.specs.Checking.{fieldsAt}
 use Rattle.terms_checks.proofs.CheckPlaces.{arities-at}
 use Rattle.terms_checks.proofs.CheckTerms.{many-refused, arity-refused, size-refused, fields-right}
@@ -44,7 +44,7 @@ returns-2 c =
     let c5 = c3 .before .before in
     let a = c5 .args in
     arity-refused (editionFrom (a .counted)) (fieldsAt (a .question .now)) (rw (ap length (arities-at (a .question .now) (c3 .arities .result .now)
-    (c3 .arities .ensures))) (c .before .before .if1 .left)) (ap (all (λ x. leb x greatestArity)) (arities-at (a .question .now)
+    (c3 .arities .ensures))) (c .before .before .if1 .left)) (ap (every (λ x. leb x greatestArity)) (arities-at (a .question .now)
     (c3 .arities .result .now) (c3 .arities .ensures)) ∙ sym (c .before .arities-fit .ensures) ∙ not-true _ (c .if2 .taken))
 
 -- src/check.rt:253:9
@@ -60,7 +60,7 @@ returns-3 c =
     let c7 = c5 .before .before in
     let a = c7 .args in
     size-refused (editionFrom (a .counted)) (fieldsAt (a .question .now)) (rw (ap length (arities-at (a .question .now) (c5 .arities .result .now)
-    (c5 .arities .ensures))) (c4 .if1 .left)) (ap (all (λ x. leb x greatestArity)) (arities-at (a .question .now) (c5 .arities .result .now)
+    (c5 .arities .ensures))) (c4 .if1 .left)) (ap (every (λ x. leb x greatestArity)) (arities-at (a .question .now) (c5 .arities .result .now)
     (c5 .arities .ensures)) ∙ sym (c3 .arities-fit .ensures) ∙ not-false _ (c .before .before .if2 .left)) (sym (c .before .terms-fit .ensures) ∙
     not-true _ (c .if3 .taken))
 
@@ -78,7 +78,7 @@ returns-4 c =
     let c8 = c6 .before .before in
     let a = c8 .args in
     fields-right (editionFrom (a .counted)) (fieldsAt (a .question .now)) (rw (ap length (arities-at (a .question .now) (c6 .arities .result .now)
-    (c6 .arities .ensures))) (c5 .if1 .left)) (ap (all (λ x. leb x greatestArity)) (arities-at (a .question .now) (c6 .arities .result .now)
+    (c6 .arities .ensures))) (c5 .if1 .left)) (ap (every (λ x. leb x greatestArity)) (arities-at (a .question .now) (c6 .arities .result .now)
     (c6 .arities .ensures)) ∙ sym (c4 .arities-fit .ensures) ∙ not-false _ (c3 .if2 .left)) (sym (c .before .before .terms-fit .ensures) ∙ not-false _
     (c .before .if3 .left)) ∙ c .check-terms .ensures
 

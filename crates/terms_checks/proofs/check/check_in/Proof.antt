@@ -40,10 +40,10 @@ returns-4 c =
     let c3 = c .before .before .before in
     let c4 = c3 .before in
     let c5 = c4 .before in
-    let c8 = c5 .before .before .before in
-    let a = c8 .args in
+    let c7 = c5 .before .before in
+    let a = c7 .before .args in
     framing-refused (editionFrom (a .counted)) (a .question .now) (omega arith) (sym (c5 .get .ensures) ∙ c3 .if2 .left ∙ c4 .version-byte .ensures)
-    (c .before .before .if3 .left) (sym (c .before .framed-whole .ensures) ∙ not-true _ (c .if4 .taken))
+    (c .before .before .if3 .left) (λ i. c7 .shared-slice-known .given i .fits) (sym (c .before .framed-whole .ensures) ∙ not-true _ (c .if4 .taken))
 
 check-fields-requires : tie.Need-check-fields-requires
 check-fields-requires c κs = search needs
@@ -54,10 +54,10 @@ returns-5 c =
     let c4 = c3 .before in
     let c5 = c4 .before in
     let c6 = c5 .before in
-    let c9 = c6 .before .before .before in
-    let a = c9 .args in
+    let c8 = c6 .before .before in
+    let a = c8 .before .args in
     framing-passed (editionFrom (a .counted)) (a .question .now) (omega arith) (sym (c6 .get .ensures) ∙ c4 .if2 .left ∙ c5 .version-byte .ensures)
-    (c3 .if3 .left) (sym (c .before .before .framed-whole .ensures) ∙ not-false _ (c .before .if4 .left)) ∙ c .check-fields .ensures
+    (c3 .if3 .left) (λ i. c8 .shared-slice-known .given i .fits) (sym (c .before .before .framed-whole .ensures) ∙ not-false _ (c .before .if4 .left)) ∙ c .check-fields .ensures
 
 pub check-in-spec : {M : Type 1} → statement M
 check-in-spec = tie.close (tie.spec returns get-requires version-byte-requires returns-2 returns-3 framed-whole-requires returns-4 check-fields-requires returns-5)

@@ -33,8 +33,8 @@ enum-known-two c = search needs
 enum-known-two-2 : tie.Need-enum-known-two-2
 enum-known-two-2 c = search needs
 
-meet-requires : tie.Need-meet-requires
-meet-requires c κs = search needs
+joint-requires : tie.Need-joint-requires
+joint-requires c κs = search needs
 
 returns : tie.Need-returns
 returns c =
@@ -74,11 +74,11 @@ returns-3 c =
     let a = c14 .args in
     parts-both (editionFrom (a .counted)) (a .list .now) (fieldAt (a .question .now) (a .first)) (fieldAt (a .question .now) (afterField (a .question .now) (a .first)))
     (c8 .one2 .given .0 .0) (c8 .one2 .given .0 .1 .0) (rw (c11 .field-at .ensures, c8 .one2 .given .1) at (c10 .scan-whole .ensures))
-    (c2 .two2 .given .0 .0) (c2 .two2 .given .0 .0) (c2 .two2 .given .0 .1 .0) (c .meet .result) (rw (
+    (c2 .two2 .given .0 .0) (c2 .two2 .given .0 .0) (c2 .two2 .given .0 .1 .0) (c .joint .result) (rw (
       c5 .field-at2 .ensures,
       c6 .after-field .ensures,
       c2 .two2 .given .1,
-    ) at (c4 .scan-whole2 .ensures)) (c .meet .ensures)
+    ) at (c4 .scan-whole2 .ensures)) (c .joint .ensures)
 
 pub scan-parts-spec : {M : Type 1} → statement M
 scan-parts-spec =
@@ -93,7 +93,7 @@ scan-parts-spec =
     scan-whole-requires-2
     enum-known-two
     enum-known-two-2
-    meet-requires
+    joint-requires
     returns
     returns-2
     returns-3)

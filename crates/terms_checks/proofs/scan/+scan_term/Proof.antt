@@ -85,7 +85,7 @@ scan-term-returns t c =
     let c13 = c10 .before .before .before in
     let a = c13 .args in
     scan-leaf (editionFrom (a .counted)) (a .free) (a .arities .now) (a .depth) (a .src .now) (a .at) (c8 .f2 .given .0 .0) (rw (c8 .f2 .given .1) at (c10 .scan-front .ensures))
-    (c .combine .result) (sym (c6 .shape-at .ensures .parts) ∙ c3 .if1 .taken) (rw (
+    (c .combine .result) (sym (c6 .shape-at .ensures .subterms) ∙ c3 .if1 .taken) (rw (
       c4 .get .ensures,
       c .before .before .passed .ensures,
       c .before .passed2 .ensures,
@@ -128,8 +128,8 @@ scan-term-returns-2 t c =
     let a = v in
     scan-one (editionFrom (a .counted)) (a .free) (a .arities .now) (a .depth) (a .src .now) (a .at) (c12 .f2 .given .0 .0) (rw (c12 .f2 .given .1) at
     (c14 .scan-front .ensures)) (v .depth + c10 .shape-at .result .binds) (ap (λ x. v .depth + x) (c10 .shape-at .ensures .binds)) (λ z. c7 .if1 .left
-    (c10 .shape-at .ensures .parts ∙ z)) (c4 .one2 .given .0 .0) (c4 .one2 .given .0 .1 .0) (rw (c4 .one2 .given .1) at (c6 .scan-term .ensures))
-    (c .combine2 .result) (sym (c10 .shape-at .ensures .parts) ∙ c .before .before .if2 .taken) (rw (c8 .get .ensures, c .before .passed3 .ensures) at
+    (c10 .shape-at .ensures .subterms ∙ z)) (c4 .one2 .given .0 .0) (c4 .one2 .given .0 .1 .0) (rw (c4 .one2 .given .1) at (c6 .scan-term .ensures))
+    (c .combine2 .result) (sym (c10 .shape-at .ensures .subterms) ∙ c .before .before .if2 .taken) (rw (c8 .get .ensures, c .before .passed3 .ensures) at
     (c .combine2 .ensures))
 
 scan-term-scan-term-requires-2 : (t : ℕ) → scan-term-lts.Need-scan-term-requires-2 (scan-term-claims t) (scan-term-at t) scan-term.Post
@@ -177,7 +177,7 @@ scan-term-returns-4 t c =
     let a = v in
     scan-first-wrong (editionFrom (a .counted)) (a .free) (a .arities .now) (a .depth) (a .src .now) (a .at) (c9 .f2 .given .0 .0) (rw (c9 .f2 .given .1) at
     (c11 .scan-front .ensures)) (v .depth + c7 .shape-at .result .binds) (ap (λ x. v .depth + x) (c7 .shape-at .ensures .binds)) (λ z. c4 .if1 .left
-    (c7 .shape-at .ensures .parts ∙ z)) (c1 .one .given .0 .0) (rw (c1 .one .given .1) at (c3 .scan-term .ensures))
+    (c7 .shape-at .ensures .subterms ∙ z)) (c1 .one .given .0 .0) (rw (c1 .one .given .1) at (c3 .scan-term .ensures))
 
 scan-term-returns-5 : (t : ℕ) → scan-term-lts.Need-returns-5 (scan-term-claims t) (scan-term-at t) scan-term.Post
 scan-term-returns-5 t c =
@@ -195,8 +195,8 @@ scan-term-returns-5 t c =
     let a = v in
     scan-second-wrong (editionFrom (a .counted)) (a .free) (a .arities .now) (a .depth) (a .src .now) (a .at) (c14 .f2 .given .0 .0) (rw (c14 .f2 .given .1) at
     (c16 .scan-front .ensures)) (v .depth + c12 .shape-at .result .binds) (ap (λ x. v .depth + x) (c12 .shape-at .ensures .binds)) (λ z. c9 .if1 .left
-    (c12 .shape-at .ensures .parts ∙ z)) (c6 .one2 .given .0 .0) (c6 .one2 .given .0 .1 .0) (rw (c6 .one2 .given .1) at (c8 .scan-term .ensures)) (λ
-    z. c4 .if2 .left (c12 .shape-at .ensures .parts ∙ z)) (c1 .two .given .0 .0) (rw (c1 .two .given .1) at (c3 .scan-term2 .ensures))
+    (c12 .shape-at .ensures .subterms ∙ z)) (c6 .one2 .given .0 .0) (c6 .one2 .given .0 .1 .0) (rw (c6 .one2 .given .1) at (c8 .scan-term .ensures)) (λ
+    z. c4 .if2 .left (c12 .shape-at .ensures .subterms ∙ z)) (c1 .two .given .0 .0) (rw (c1 .two .given .1) at (c3 .scan-term2 .ensures))
 
 scan-term-returns-6 : (t : ℕ) → scan-term-lts.Need-returns-6 (scan-term-claims t) (scan-term-at t) scan-term.Post
 scan-term-returns-6 t c =
@@ -215,8 +215,8 @@ scan-term-returns-6 t c =
     let a = v in
     scan-two (editionFrom (a .counted)) (a .free) (a .arities .now) (a .depth) (a .src .now) (a .at) (c15 .f2 .given .0 .0) (rw (c15 .f2 .given .1) at
     (c17 .scan-front .ensures)) (v .depth + c13 .shape-at .result .binds) (ap (λ x. v .depth + x) (c13 .shape-at .ensures .binds)) (λ z.
-    c10 .if1 .left (c13 .shape-at .ensures .parts ∙ z)) (c7 .one2 .given .0 .0) (c7 .one2 .given .0 .1 .0) (rw (c7 .one2 .given .1) at
-    (c9 .scan-term .ensures)) (λ z. c5 .if2 .left (c13 .shape-at .ensures .parts ∙ z)) (c2 .two2 .given .0 .0) (c2 .two2 .given .0 .1 .0)
+    c10 .if1 .left (c13 .shape-at .ensures .subterms ∙ z)) (c7 .one2 .given .0 .0) (c7 .one2 .given .0 .1 .0) (rw (c7 .one2 .given .1) at
+    (c9 .scan-term .ensures)) (λ z. c5 .if2 .left (c13 .shape-at .ensures .subterms ∙ z)) (c2 .two2 .given .0 .0) (c2 .two2 .given .0 .1 .0)
     (c .combine3 .result) (rw (c2 .two2 .given .1) at (c4 .scan-term2 .ensures)) (rw (c11 .get .ensures) at (c .combine3 .ensures))
 
 pub +scan-term-spec : {M : Type 1} → statement M

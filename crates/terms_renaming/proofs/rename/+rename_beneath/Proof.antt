@@ -120,7 +120,7 @@ rename-beneath-add-rename-beneath-3 t c =
     let F = c10 .rename-front .ensures in
     let R = c4 .rename-beneath .ensures in
     record {
-      fits = second-put (a .at) (h .len) (c4 .rename-beneath .result) (length (a .src .now)) (a .put) (length (a .out .now)) (h .parts)
+      fits = second-put (a .at) (h .len) (c4 .rename-beneath .result) (length (a .src .now)) (a .put) (length (a .out .now)) (h .subterms)
           (F .inside) (F .room) (F .step) (c7 .if1 .left) (R .on) (R .inside) (c16 .good .0 .1) (c16 .good .1 .1 .1 .1 .1 .0 .1);
     }
 
@@ -141,7 +141,7 @@ rename-beneath-rename-beneath-requires-2 t c κs =
     let F = c10 .rename-front .ensures in
     let R = c4 .rename-beneath .ensures in (
       subst (λ (k : ℕ). length (a .src .now) - c4 .rename-beneath .result < k) (c16 .pre .0) (second-falls (a .at) (h .len)
-          (c4 .rename-beneath .result) (length (a .src .now)) (h .parts) (F .inside) (F .step) (c7 .if1 .left) (R .on)),
+          (c4 .rename-beneath .result) (length (a .src .now)) (h .subterms) (F .inside) (F .step) (c7 .if1 .left) (R .on)),
       omega (
         arith,
         R .on,

@@ -9,7 +9,7 @@ use Rattle.terms.specs.Edition.{Edition}
 use Rattle.terms.specs.Limits.{nameCount}
 use Rattle.terms.specs.Question.{editionOf, questionWith}
 use Rattle.terms_bytes.specs.FieldPlaces.{fieldPlace}
-use Rattle.terms_bytes.specs.Writing.{Accepted}
+use Rattle.terms_bytes.specs.Writing.{IsAccepted}
 use Rattle.terms_bytes.proofs.QuestionPlaces.{arities-in, sizes-in}
 use Rattle.terms_checks.specs.Scanning.{scannedWhole, wholeAnswer}
 use Rattle.terms_converting.proofs.FittingLaws.{does-refused}
@@ -55,7 +55,7 @@ sides-fit-requires c κs = search needs
 
 -- src/beside.rt:110:9
 returns : tie.Need-returns
-unfolding Accepted questionWith wholeAnswer
+unfolding IsAccepted questionWith wholeAnswer
 returns c =
     let c2 = c .before .before in
     let c3 = c2 .before in
@@ -97,7 +97,7 @@ enum-known-scanned-2 c = search needs
 
 -- src/beside.rt:124:17
 returns-2 : tie.Need-returns-2
-unfolding Accepted questionWith wholeAnswer
+unfolding IsAccepted questionWith wholeAnswer
 returns-2 c =
     let c4 = c .before .before .before .before in
     let c5 = c4 .before in
@@ -129,7 +129,7 @@ returns-2 c =
 
 -- src/beside.rt:126:13
 beside-allowed-requires : tie.Need-beside-allowed-requires
-unfolding Accepted questionWith wholeAnswer
+unfolding IsAccepted questionWith wholeAnswer
 beside-allowed-requires c κs =
     let c3 = c .before .before .before in
     let c5 = c3 .before .before in
@@ -162,7 +162,7 @@ beside-allowed-requires c κs =
 
 -- src/beside.rt:99:1
 returns-3 : tie.Need-returns-3
-unfolding Accepted questionWith wholeAnswer
+unfolding IsAccepted questionWith wholeAnswer
 returns-3 c =
     let c3 = c .before .before .before in
     let c4 = c3 .before in

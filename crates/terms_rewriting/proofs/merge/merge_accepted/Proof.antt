@@ -9,7 +9,7 @@ use Rattle.terms.specs.Edition.{Edition}
 use Rattle.terms.specs.Operations.{mergedQuestion}
 use Rattle.terms.specs.Question.{editionOf, questionWith}
 use Rattle.terms_bytes.specs.FieldPlaces.{fieldPlace}
-use Rattle.terms_bytes.specs.Writing.{Accepted, Plain, Writes, WritesMerged}
+use Rattle.terms_bytes.specs.Writing.{IsAccepted, Plain, Writes, WritesMerged}
 use Rattle.terms_bytes.proofs.CountedLaws.{is-two, is-one}
 use Rattle.terms_bytes.proofs.QuestionPlaces.{apart-in}
 use Rattle.terms_converting.proofs.FittingLaws.{does-refused, does-write}
@@ -21,7 +21,7 @@ use Rattle.terms_rewriting.proofs.merge.merge_accepted.Statement.{state
 use Rattle.terms_rewriting.proofs.merge.merge_accepted.Tie as tie
 
 returns : tie.Need-returns
-unfolding Accepted
+unfolding IsAccepted
 returns c =
     let c3 = c .before .before .before in
     let v = c3 .args in
@@ -34,7 +34,7 @@ returns c =
     does-refused _ _ 14 (merge-turned s q e a b room (name-too-large s q e a b room (inl (c .if1 .taken))))
 
 returns-2 : tie.Need-returns-2
-unfolding Accepted
+unfolding IsAccepted
 returns-2 c =
     let c4 = c .before .before .before .before in
     let v = c4 .args in
@@ -71,7 +71,7 @@ holds-apart-requires : tie.Need-holds-apart-requires
 holds-apart-requires c κs = search needs
 
 returns-3 : tie.Need-returns-3
-unfolding Accepted questionWith
+unfolding IsAccepted questionWith
 returns-3 c =
     let v = c .before .before .before .before .before .before .before .before .before .before .before .args in let s = v .question .now in let q =
     c .before .before .before .before .before .before .before .before .before .before .before .pre .0 in let e =
@@ -85,7 +85,7 @@ returns-3 c =
     does-refused _ _ 14 (merge-turned s q e a b room (h ∙ ap not (c .if3 .taken)))
 
 returns-4 : tie.Need-returns-4
-unfolding Accepted questionWith
+unfolding IsAccepted questionWith
 returns-4 c =
     let v = c .before .before .before .before .before .before .before .before .before .before .before .before .args in let s = v .question .now in let
     q = c .before .before .before .before .before .before .before .before .before .before .before .before .pre .0 in let e =
@@ -109,7 +109,7 @@ cast-write-merged-counted-2 : tie.Need-cast-write-merged-counted-2
 cast-write-merged-counted-2 c = search needs
 
 write-merged-counted-requires : tie.Need-write-merged-counted-requires
-unfolding Accepted questionWith
+unfolding IsAccepted questionWith
 write-merged-counted-requires c κs =
     let v = c .before .before .before .before .before .before .before .before .before .before .before .before .before .before .before .args in let s =
     v .question .now in let q =
@@ -140,7 +140,7 @@ same-length : tie.Need-same-length
 same-length c = search needs
 
 returns-5 : tie.Need-returns-5
-unfolding Accepted WritesMergedCounted questionWith
+unfolding IsAccepted WritesMergedCounted questionWith
 returns-5 c =
     let v =
     c .before .before .before .before .before .before .before .before .before .before .before .before .before .before .before .before .before .before .args
@@ -174,7 +174,7 @@ cast-write-merged-2 : tie.Need-cast-write-merged-2
 cast-write-merged-2 c = search needs
 
 write-merged-requires : tie.Need-write-merged-requires
-unfolding Accepted Plain questionWith
+unfolding IsAccepted Plain questionWith
 write-merged-requires c κs =
     let v = c .before .before .before .before .before .before .before .before .before .before .before .before .before .before .before .args in let s =
     v .question .now in let q =
@@ -197,7 +197,7 @@ same-length-2 : tie.Need-same-length-2
 same-length-2 c = search needs
 
 returns-6 : tie.Need-returns-6
-unfolding Accepted WritesMerged questionWith
+unfolding IsAccepted WritesMerged questionWith
 returns-6 c =
     let v =
     c .before .before .before .before .before .before .before .before .before .before .before .before .before .before .before .before .before .before .args

@@ -160,7 +160,7 @@ tidy-tidy-requires t c κs =
     let a = c11 .args in
     let h = c4 .copy-front .result in
     let F = c4 .copy-front .ensures in
-    let r = first-place (a .at) (h .len) (length (a .src .now)) (a .put) (length (a .out .now)) (h .parts) t (c11 .pre .1 .0) (c11 .pre .1 .1)
+    let r = first-place (a .at) (h .len) (length (a .src .now)) (a .put) (length (a .out .now)) (h .subterms) t (c11 .pre .1 .0) (c11 .pre .1 .1)
     (F .inside) (F .room) (F .step) (c .before .if2 .left) (c11 .pre .0) in
     (r .0, (r .1, rw (c4 .copy-front .kept .1 .1 .1 .0) (r .2)))
 
@@ -210,7 +210,7 @@ tidy-tidy-requires-2 t c κs =
     let R = c4 .tidy .ensures in
     let k = c9 .copy-front .kept .1 .1 .1 .0 in
     let r = second-place (a .at) (h .len) (c4 .tidy .result .read) (length (a .src .now)) (a .put) (c4 .tidy .result .written) (length (a .out .now))
-    (h .parts) t (c16 .pre .1 .0) (c16 .pre .1 .1) (F .inside) (F .room) (F .step) (c6 .if2 .left) (R .on) (R .inside) (rw (← k) (R .room))
+    (h .subterms) t (c16 .pre .1 .0) (c16 .pre .1 .1) (F .inside) (F .room) (F .step) (c6 .if2 .left) (R .on) (R .inside) (rw (← k) (R .room))
     (c16 .pre .0) in
     (r .0, (r .1, omega (arith, r .2, k, c4 .tidy .kept .1 .1 .1 .0)))
 

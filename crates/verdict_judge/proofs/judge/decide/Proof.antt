@@ -65,24 +65,14 @@ slice-aggregate-start-survives-5 c = search needs
 
 start-survives-requires : tie.Need-start-survives-requires
 start-survives-requires c κs =
-    let g =
-    c .before .before .before .before .before .before .before .before .before .before .before .before .before .before .before .before .before .before .before .before .before .before .before .before .before .before .pre
-    in let w =
-    c .before .before .before .before .before .before .before .before .before .before .before .before .before .before .before .explore .ensures .0 .within
-    _ (c .before .before .before .before .before .before .before .explored .given .1) in (
-      w .0,
-      w .1,
-      omega (arith, g .2),
-      c .before .before .before .before .before .before .before .before .before .before .before .before .before .before .before .before .before .before .before .before .before .before .before .body-tallies .ensures,
-      search needs,
-      search needs,
-      c .before .before .before .before .before .before .before .before .before .before .before .before .before .before .before .explore .ensures .1,
-      c .before .before .before .before .before .before .before .before .before .before .before .before .before .before .before .explore .ensures .2,
-      g .1,
-      sole-all _ _ _ _ _ _ _
-          (c .before .before .before .before .before .before .before .before .before .before .before .before .before .before .before .before .before .before .before .before .before .before .names-differ .ensures)
-          (c .before .before .before .before .before .before .before .before .before .before .before .before .before .before .before .explore .ensures .0) _
-          (c .before .before .before .before .before .before .before .explored .given .1) (omega (arith, g .2)),
+    let c7 = c .before .before .before .before .before .before .before in
+    let c15 = c7 .before .before .before .before .before .before .before .before in
+    let c22 = c15 .before .before .before .before .before .before .before in
+    let g = c22 .before .before .before .before .pre in
+    let w = c15 .explore .ensures .0 .within _ (c7 .explored .given .1) in (
+      (w .0, w .1, g .1, omega (arith, g .2)),
+      (c22 .before .body-tallies .ensures, search needs, search needs, c15 .explore .ensures .1, c15 .explore .ensures .2),
+      sole-all _ _ _ _ _ _ _ (c22 .names-differ .ensures) (c15 .explore .ensures .0) _ (c7 .explored .given .1) (omega (arith, g .2)),
     )
 
 same-length : tie.Need-same-length

@@ -3,7 +3,7 @@ use mathlib.Core.Path.{_≡_, refl, sym, ap, subst, _∙_}
 use native.Mathlib.Omega.{arith}
 use borrow.Author.Needs.{needs}
 use Rattle.terms_bytes.specs.Counted.{editionFrom}
-use Rattle.terms_bytes.specs.Writing.{Accepted}
+use Rattle.terms_bytes.specs.Writing.{IsAccepted}
 use Rattle.terms_converting.specs.Questions.{AcceptedFrom}
 use Rattle.terms_converting.proofs.PlainForm.{own-counted, own-plain}
 use Rattle.verdict_judge.proofs.JudgeLaws.{own-of-plain}
@@ -14,7 +14,7 @@ is-counted-requires : tie.Need-is-counted-requires
 is-counted-requires c κs = search needs
 
 judge-counted-requires : tie.Need-judge-counted-requires
-unfolding Accepted AcceptedFrom editionFrom
+unfolding IsAccepted AcceptedFrom editionFrom
 judge-counted-requires c κs =
     let c2 = c .before .before in
     let c5 = c2 .before .before .before in
@@ -44,7 +44,7 @@ same-length-2 : tie.Need-same-length-2
 same-length-2 c = search needs
 
 returns-2 : tie.Need-returns-2
-unfolding Accepted
+unfolding IsAccepted
 returns-2 c =
     let c4 = c .before .before .before .before in
     let c5 = c4 .before in

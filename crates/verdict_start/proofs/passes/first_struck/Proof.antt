@@ -1,4 +1,4 @@
--- `verdict::strike::first_struck` meets its contract. Assumes nothing.
+-- `verdict_start::passes::first_struck` meets its contract. Assumes nothing.
 use native.Mathlib.Omega.{arith}
 use borrow.Author.Count.{below-more}
 use borrow.Author.Needs.{needs}

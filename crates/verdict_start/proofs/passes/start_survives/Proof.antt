@@ -1,4 +1,4 @@
--- `verdict::strike::start_survives` meets its contract. Assumes nothing.
+-- `verdict_start::passes::start_survives` meets its contract. Assumes nothing.
 use native.Mathlib.Omega.{arith}
 use borrow.Author.Tests.{not-true}
 use Rattle.verdict_strikeout.proofs.StrikeLaws.{start-gone, none-struck-stays}
@@ -24,12 +24,12 @@ enum-told c = search needs
 enum-known-first : tie.Need-enum-known-first
 enum-known-first c = search needs
 
-mul-survives-struck : tie.Need-mul-survives-struck
-mul-survives-struck c =
-    let c6 = c .before .before .before .before .before .before in
-    let c8 = c6 .before .before in
-    let c20 = c8 .before .before .before .before .before .before .before .before .before .before .before .before in
-    omega (arith, c8 .first-struck .ensures .some (c6 .first .given .0 .0) (c6 .first .given .1) .0, c20 .pre .1, c20 .pre .8)
+mul-rising : tie.Need-mul-rising
+mul-rising c =
+    let c1 = c .before in
+    let c3 = c1 .before .before in
+    let c15 = c3 .before .before .before .before .before .before .before .before .before .before .before .before in
+    omega (arith, c3 .first-struck .ensures .some (c1 .first .given .0 .0) (c1 .first .given .1) .0, c15 .pre .0 .1, c15 .pre .0 .2)
 
 survives-struck-requires : tie.Need-survives-struck-requires
 survives-struck-requires c κs = search needs
@@ -68,7 +68,7 @@ start-survives-spec =
     first-struck-requires
     enum-told
     enum-known-first
-    mul-survives-struck
+    mul-rising
     survives-struck-requires
     same-length-2
     returns-2

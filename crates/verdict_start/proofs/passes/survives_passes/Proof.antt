@@ -1,4 +1,4 @@
--- `verdict::strike::survives_passes` meets its contract. Assumes nothing.
+-- `verdict_start::passes::survives_passes` meets its contract. Assumes nothing.
 use native.Mathlib.Omega.{arith}
 use Rattle.verdict_survival.specs.Manners.{mannerOf}
 use borrow.Author.Needs.{needs}
@@ -20,19 +20,19 @@ use Rattle.verdict_start.proofs.passes.survives_passes.Statement.{state
 use Rattle.verdict_start.proofs.passes.survives_passes.Tie as tie
 
 abbrev Inv-loop : tie.InvT-loop
-Inv-loop question bodies numbers₀ rows₀ firsts₀ seconds₀ work₀ capacity count rising manner up₀ again₀ numbers rows firsts seconds work up again =
-    (length work ≡ length work₀) × (length numbers ≡ tallySize) × (rowBytes * mostRows ≤ length rows) × Labelled question firsts × Labelled question seconds
-    × Strikes (mannerOf manner) question capacity count work₀ work × (again ≡ false → (getD work (struckAt 0) 0 ≡ 0) × AllSurvive (mannerOf manner) question capacity work count)
-    × (length numbers ≡ length numbers₀) × (length rows ≡ length rows₀) × (length firsts ≡ length firsts₀) × (length seconds ≡ length seconds₀)
-    × NotesHold true (mannerOf manner) question capacity work count
+Inv-loop question bodies tallies₀ rows₀ firsts₀ seconds₀ work₀ search count up₀ again₀ tallies rows firsts seconds work up again =
+    (length work ≡ length work₀) × (length tallies ≡ tallySize) × (rowBytes * mostRows ≤ length rows) × Labelled question firsts × Labelled question seconds
+    × Strikes (mannerOf (search .manner)) question (search .capacity) count work₀ work × (again ≡ false → (getD work (struckAt 0) 0 ≡ 0) × AllSurvive (mannerOf (search .manner)) question (search .capacity) work count)
+    × (length tallies ≡ length tallies₀) × (length rows ≡ length rows₀) × (length firsts ≡ length firsts₀) × (length seconds ≡ length seconds₀)
+    × NotesHold true (mannerOf (search .manner)) question (search .capacity) work count
 
 abbrev μ-loop : tie.MeasureT-loop
-μ-loop question bodies numbers₀ rows₀ firsts₀ seconds₀ work₀ capacity count rising manner up₀ again₀ numbers rows firsts seconds work up again = zeros (marks work count) + cond again 1 0
+μ-loop question bodies tallies₀ rows₀ firsts₀ seconds₀ work₀ search count up₀ again₀ tallies rows firsts seconds work up again = zeros (marks work count) + cond again 1 0
 
 clear-notes-requires : tie.Need-clear-notes-requires Inv-loop μ-loop
 clear-notes-requires c κs =
-    let c8 = c .before .before .before .before .before .before .before .before in
-    omega (arith, c8 .pre .1, c8 .pre .2)
+    let c9 = c .before .before .before .before .before .before .before .before .before in
+    omega (arith, c9 .pre .0 .1, c9 .pre .0 .3)
 
 loop-holds : tie.Need-loop-holds Inv-loop μ-loop
 unfolding NotesHold
@@ -40,10 +40,11 @@ loop-holds c = (
   refl,
   search needs,
   search needs,
-  c .before .before .before .before .before .before .before .before .before .before .before .pre .6,
-  c .before .before .before .before .before .before .before .before .before .before .before .pre .7,
+  c .before .before .before .before .before .before .before .before .before .before .before .before .pre .1 .3,
+  c .before .before .before .before .before .before .before .before .before .before .before .before .pre .1 .4,
   none-struck,
-  λ q. true-not-false refl q,
+  λ q. true-not-false
+      refl q,
   refl,
   refl,
   refl,
@@ -55,16 +56,10 @@ strike-blocks-requires : tie.Need-strike-blocks-requires Inv-loop μ-loop
 strike-blocks-requires c κs =
     let c6 = c .before .before .before .before .before .before in
     let c9 = c6 .before .before .before in
-    let c18 = c9 .before .before .before .before .before .before .before .before .before in (
+    let c19 = c9 .before .before .before .before .before .before .before .before .before .before in (
       omega arith,
-      c18 .pre .1,
-      omega (arith, c18 .pre .2, c6 .loop .inv .0, c9 .clear-notes .kept),
-      c18 .pre .3,
-      c6 .loop .inv .1,
-      c6 .loop .inv .2,
-      c6 .loop .inv .3,
-      c6 .loop .inv .4,
-      c18 .pre .8,
+      (c19 .pre .0 .0, c19 .pre .0 .1, c19 .pre .0 .2, omega (arith, c19 .pre .0 .3, c6 .loop .inv .0, c9 .clear-notes .kept)),
+      (c19 .pre .1 .0, c6 .loop .inv .1, c6 .loop .inv .2, c6 .loop .inv .3, c6 .loop .inv .4),
       c6 .loop .inv .11,
     )
 
@@ -73,8 +68,8 @@ left-at-requires c κs =
     let c11 = c .before .before .before .before .before .before .before .before .before .before .before in
     let c18 = c11 .before .before .before .before .before .before .before in
     let c21 = c18 .before .before .before in
-    let c30 = c21 .before .before .before .before .before .before .before .before .before in
-    omega (arith, c30 .pre .0, c30 .pre .1, c30 .pre .2, c18 .loop .inv .0, c21 .clear-notes .kept, c11 .strike-blocks .kept)
+    let c31 = c21 .before .before .before .before .before .before .before .before .before .before in
+    omega (arith, c31 .pre .0 .0, c31 .pre .0 .1, c31 .pre .0 .3, c18 .loop .inv .0, c21 .clear-notes .kept, c11 .strike-blocks .kept)
 
 same-length : tie.Need-same-length Inv-loop μ-loop
 same-length c =
@@ -121,8 +116,8 @@ loop-less c =
     let c19 = c13 .before .before .before .before .before .before in
     let c20 = c19 .before in
     let c23 = c20 .before .before .before in
-    let c32 = c23 .before .before .before .before .before .before .before .before .before in
-    pass-less _ _ _ _ _ _ _ _ (omega (arith, c32 .pre .1, c32 .pre .2, c20 .loop .inv .0, c23 .clear-notes .kept)) (c19 .loop-test .taken)
+    let c33 = c23 .before .before .before .before .before .before .before .before .before .before in
+    pass-less _ _ _ _ _ _ _ _ (omega (arith, c33 .pre .0 .1, c33 .pre .0 .3, c20 .loop .inv .0, c23 .clear-notes .kept)) (c19 .loop-test .taken)
     (c13 .strike-blocks .ensures .0)
 
 loop-again : tie.Need-loop-again Inv-loop μ-loop

@@ -1,4 +1,4 @@
--- `verdict::strike::survives_struck` meets its contract. Assumes nothing.
+-- `verdict_start::passes::survives_struck` meets its contract. Assumes nothing.
 use native.Mathlib.Omega.{arith}
 use borrow.Author.Tests.{not-true}
 use Rattle.verdict_survival.specs.Striking.{NotesHold, none-struck}
@@ -7,32 +7,20 @@ use borrow.Author.Needs.{needs}
 use Rattle.verdict_start.proofs.passes.survives_struck.Statement.{statement}
 use Rattle.verdict_start.proofs.passes.survives_struck.Tie as tie
 
-add-settle : tie.Need-add-settle
-add-settle c = search needs
+add-level : tie.Need-add-level
+add-level c = search needs
 
-settle-requires : tie.Need-settle-requires
+strike-until-stable-requires : tie.Need-strike-until-stable-requires
 unfolding NotesHold
-settle-requires c κs =
-    let c12 = c .before .before .before .before .before .before .before .before .before .before .before .before in (
-      omega arith,
-      c12 .pre .1,
-      c12 .pre .2,
-      c12 .pre .3,
-      c12 .pre .4,
-      c12 .pre .5,
-      c12 .pre .6,
-      c12 .pre .7,
-      c12 .pre .8,
-      c12 .pre .9,
-      λ e. absurd
-          (omega (arith, e)),
-    )
+strike-until-stable-requires c κs =
+    let c13 = c .before .before .before .before .before .before .before .before .before .before .before .before .before in
+    (omega arith, c13 .pre .0, c13 .pre .1, c13 .pre .2, λ e. absurd (omega (arith, e)))
 
 left-at-requires : tie.Need-left-at-requires
 left-at-requires c κs =
     let c11 = c .before .before .before .before .before .before .before .before .before .before .before in
-    let c24 = c11 .before .before .before .before .before .before .before .before .before .before .before .before .before in
-    omega (arith, c24 .pre .0, c24 .pre .1, c24 .pre .2, c11 .settle .kept)
+    let c25 = c11 .before .before .before .before .before .before .before .before .before .before .before .before .before .before in
+    omega (arith, c25 .pre .0 .0, c25 .pre .0 .1, c25 .pre .0 .3, c11 .strike-until-stable .kept)
 
 same-length : tie.Need-same-length
 same-length c = search needs
@@ -52,22 +40,24 @@ same-length-5 c = search needs
 returns : tie.Need-returns
 returns c =
     let c13 = c .before .before .before .before .before .before .before .before .before .before .before .before .before in
-    start-goes _ _ _ _ _ _ _ _ _ none-struck (c13 .settle .ensures .0) (c .before .left-at .ensures) (not-true _ (c .if1 .taken))
+    start-goes _ _ _ _ _ _ _ _ _ none-struck (c13 .strike-until-stable .ensures .0) (c .before .left-at .ensures) (not-true _ (c .if1 .taken))
 
 survives-passes-requires : tie.Need-survives-passes-requires
 survives-passes-requires c κs =
     let c18 = c .before .before .before .before .before .before .before .before .before .before .before .before .before .before .before .before .before .before in
-    let c31 = c18 .before .before .before .before .before .before .before .before .before .before .before .before .before in (
-      c31 .pre .0,
-      c31 .pre .1,
-      omega (arith, c31 .pre .2, c18 .settle .kept),
-      c31 .pre .3,
-      omega (arith, c31 .pre .4, c18 .settle .kept),
-      omega
-          (arith, c31 .pre .5, c18 .settle .kept),
-      c18 .settle .ensures .1,
-      c18 .settle .ensures .2,
-      c31 .pre .8,
+    let c32 = c18 .before .before .before .before .before .before .before .before .before .before .before .before .before .before in (
+      (c32 .pre .0 .0, c32 .pre .0 .1, c32 .pre .0 .2, omega (arith, c32 .pre .0 .3, c18 .strike-until-stable .kept)),
+      (
+        c32 .pre .1 .0,
+        omega (
+          arith,
+          c32 .pre .1 .1,
+          c18 .strike-until-stable .kept,
+        ),
+        omega (arith, c32 .pre .1 .2, c18 .strike-until-stable .kept),
+        c18 .strike-until-stable .ensures .1,
+        c18 .strike-until-stable .ensures .2,
+      ),
     )
 
 same-length-6 : tie.Need-same-length-6
@@ -89,14 +79,14 @@ returns-2 : tie.Need-returns-2
 returns-2 c =
     let c10 = c .before .before .before .before .before .before .before .before .before .before in
     let c29 = c10 .before .before .before .before .before .before .before .before .before .before .before .before .before .before .before .before .before .before .before in
-    then-survives _ _ _ _ _ _ _ _ (c29 .settle .ensures .0 .strikes) (c10 .survives-passes .ensures)
+    then-survives _ _ _ _ _ _ _ _ (c29 .strike-until-stable .ensures .0 .strikes) (c10 .survives-passes .ensures)
 
 pub survives-struck-spec : {M : Type 1} → statement M
 survives-struck-spec =
     tie.close
     (tie.spec
-    add-settle
-    settle-requires
+    add-level
+    strike-until-stable-requires
     left-at-requires
     same-length
     same-length-2

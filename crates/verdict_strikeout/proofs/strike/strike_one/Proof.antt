@@ -1,8 +1,8 @@
--- `verdict::strike::strike_one` meets its contract. Assumes nothing.
+-- `verdict_strikeout::strike::strike_one` meets its contract. Assumes nothing.
 use native.Mathlib.Omega.{arith}
 use borrow.Author.Tests.{not-true, not-false}
 use Rattle.verdict_survival.proofs.Marks.{left-zero}
-use Rattle.verdict_strikeout.proofs.StrikeLaws.{gone-kept, sole-strikes, resting-kept, equal-stays, survivor-noted, one-strikes}
+use Rattle.verdict_strikeout.proofs.StrikeLaws.{gone-kept, sole-strikes, relying-kept, equal-stays, survivor-noted, one-strikes}
 use borrow.Author.Needs.{needs}
 use Rattle.verdict_strikeout.proofs.strike.strike_one.Statement.{statement}
 use Rattle.verdict_strikeout.proofs.strike.strike_one.Tie as tie
@@ -15,13 +15,13 @@ same-length c = search needs
 
 returns : tie.Need-returns
 returns c =
-    let c10 = c .before .before .before .before .before .before .before .before .before .before in
-    (gone-kept _ _ _ _ _ _ (c10 .pre .9) _ (c .before .left-at .ensures) (not-true _ (c .if1 .taken)), c10 .pre .6, c10 .pre .7)
+    let c12 = c .before .before .before .before .before .before .before .before .before .before .before .before in
+    (gone-kept _ _ _ _ _ _ (c12 .pre .3) _ (c .before .left-at .ensures) (not-true _ (c .if1 .taken)), c12 .pre .2 .3, c12 .pre .2 .4)
 
 strike-sole-requires : tie.Need-strike-sole-requires
 strike-sole-requires c κs =
-    let c12 = c .before .before .before .before .before .before .before .before .before .before .before .before in
-    (c12 .pre .0, omega (arith, c12 .pre .1, c12 .pre .2), omega (arith, c12 .pre .1, c12 .pre .8))
+    let c14 = c .before .before .before .before .before .before .before .before .before .before .before .before .before .before in
+    (c14 .pre .0, omega (arith, c14 .pre .1 .1, c14 .pre .1 .3), omega (arith, c14 .pre .1 .1, c14 .pre .1 .2))
 
 same-length-2 : tie.Need-same-length-2
 same-length-2 c = search needs
@@ -31,15 +31,15 @@ returns-2 c =
     let c4 = c .before .before .before .before in
     let c5 = c4 .before in
     let c6 = c5 .before in
-    let c15 = c6 .before .before .before .before .before .before .before .before .before in (
-      sole-strikes _ _ _ _ _ _ (c15 .pre .9) _ _ (c15 .pre .0) (not-true _ (c4 .if2 .taken)) (left-zero _ _ _ (c6 .left-at .ensures) (not-false _
+    let c17 = c6 .before .before .before .before .before .before .before .before .before .before .before in (
+      sole-strikes _ _ _ _ _ _ (c17 .pre .3) _ _ (c17 .pre .0) (not-true _ (c4 .if2 .taken)) (left-zero _ _ _ (c6 .left-at .ensures) (not-false _
           (c5 .if1 .left))) (c .before .before .strike-sole .ensures),
-      c15 .pre .6,
-      c15 .pre .7,
+      c17 .pre .2 .3,
+      c17 .pre .2 .4,
     )
 
-rests-requires : tie.Need-rests-requires
-rests-requires c κs = search needs
+relies-on-left-requires : tie.Need-relies-on-left-requires
+relies-on-left-requires c κs = search needs
 
 same-length-3 : tie.Need-same-length-3
 same-length-3 c = search needs
@@ -47,16 +47,16 @@ same-length-3 c = search needs
 returns-3 : tie.Need-returns-3
 returns-3 c =
     let c3 = c .before .before .before in
-    let c14 = c3 .before .before .before .before .before .before .before .before .before .before .before in (
-      resting-kept _ _ _ _ _ _ (c14 .pre .9) (not-false _ (c3 .if2 .left)) _ (c14 .pre .0) (c .before .rests .ensures) (c .if3 .taken),
-      c14 .pre .6,
-      c14 .pre .7,
+    let c16 = c3 .before .before .before .before .before .before .before .before .before .before .before .before .before in (
+      relying-kept _ _ _ _ _ _ (c16 .pre .3) (not-false _ (c3 .if2 .left)) _ (c16 .pre .0) (c .before .relies-on-left .ensures) (c .if3 .taken),
+      c16 .pre .2 .3,
+      c16 .pre .2 .4,
     )
 
 equal-parts-requires : tie.Need-equal-parts-requires
 equal-parts-requires c κs =
-    let c15 = c .before .before .before .before .before .before .before .before .before .before .before .before .before .before .before in
-    omega (arith, c15 .pre .0, c15 .pre .1, c15 .pre .2)
+    let c17 = c .before .before .before .before .before .before .before .before .before .before .before .before .before .before .before .before .before in
+    omega (arith, c17 .pre .0, c17 .pre .1 .1, c17 .pre .1 .3)
 
 same-length-4 : tie.Need-same-length-4
 same-length-4 c = search needs
@@ -64,22 +64,22 @@ same-length-4 c = search needs
 returns-4 : tie.Need-returns-4
 returns-4 c =
     let c6 = c .before .before .before .before .before .before in
-    let c17 = c6 .before .before .before .before .before .before .before .before .before .before .before in (
-      equal-stays _ _ _ _ _ _ (c17 .pre .9) (not-false _ (c6 .if2 .left)) _ (c17 .pre .0) (c .before .equal-parts .ensures) (c .if4 .taken),
-      c17 .pre .6,
-      c17 .pre .7,
+    let c19 = c6 .before .before .before .before .before .before .before .before .before .before .before .before .before in (
+      equal-stays _ _ _ _ _ _ (c19 .pre .3) (not-false _ (c6 .if2 .left)) _ (c19 .pre .0) (c .before .equal-parts .ensures) (c .if4 .taken),
+      c19 .pre .2 .3,
+      c19 .pre .2 .4,
     )
 
 survives-requires : tie.Need-survives-requires
 survives-requires c κs =
-    let c22 = c .before .before .before .before .before .before .before .before .before .before .before .before .before .before .before .before .before .before .before .before .before .before in
-    (c22 .pre .0, c22 .pre .1, c22 .pre .2, c22 .pre .3, c22 .pre .4, c22 .pre .5, c22 .pre .6, c22 .pre .7, c22 .pre .8)
+    let c24 = c .before .before .before .before .before .before .before .before .before .before .before .before .before .before .before .before .before .before .before .before .before .before .before .before in
+    (c24 .pre .0, c24 .pre .1, c24 .pre .2)
 
 note-requires : tie.Need-note-requires
 note-requires c κs =
     let c11 = c .before .before .before .before .before .before .before .before .before .before .before in
-    let c34 = c11 .before .before .before .before .before .before .before .before .before .before .before .before .before .before .before .before .before .before .before .before .before .before .before in
-    (omega (arith, c34 .pre .0, c34 .pre .1, c34 .pre .2), c11 .survives .ensures .0 .numbers)
+    let c36 = c11 .before .before .before .before .before .before .before .before .before .before .before .before .before .before .before .before .before .before .before .before .before .before .before .before .before in
+    (omega (arith, c36 .pre .0, c36 .pre .1 .1, c36 .pre .1 .3), c11 .survives .ensures .0 .numbers)
 
 same-length-5 : tie.Need-same-length-5
 same-length-5 c = search needs
@@ -101,8 +101,8 @@ returns-5 c =
     let c4 = c .before .before .before .before in
     let c14 = c4 .before .before .before .before .before .before .before .before .before .before in
     let c26 = c14 .before .before .before .before .before .before .before .before .before .before .before .before in
-    let c37 = c26 .before .before .before .before .before .before .before .before .before .before .before in (
-      survivor-noted _ _ _ _ _ _ (c37 .pre .9) (not-false _ (c26 .if2 .left)) _ _ (c37 .pre .0) (c14 .survives .ensures .0) (c4 .if5 .taken)
+    let c39 = c26 .before .before .before .before .before .before .before .before .before .before .before .before .before in (
+      survivor-noted _ _ _ _ _ _ (c39 .pre .3) (not-false _ (c26 .if2 .left)) _ _ (c39 .pre .0) (c14 .survives .ensures .0) (c4 .if5 .taken)
           (c .before .before .note .ensures),
       c14 .survives .ensures .1,
       c14 .survives .ensures .2,
@@ -110,18 +110,18 @@ returns-5 c =
 
 mul-work : tie.Need-mul-work
 mul-work c =
-    let c33 = c .before .before .before .before .before .before .before .before .before .before .before .before .before .before .before .before .before .before .before .before .before .before .before .before .before .before .before .before .before .before .before .before .before in
-    omega (arith, c33 .pre .0, c33 .pre .1, c33 .pre .2, c33 .pre .8)
+    let c35 = c .before .before .before .before .before .before .before .before .before .before .before .before .before .before .before .before .before .before .before .before .before .before .before .before .before .before .before .before .before .before .before .before .before .before .before in
+    omega (arith, c35 .pre .0, c35 .pre .1 .1, c35 .pre .1 .3, c35 .pre .1 .2)
 
 add-work : tie.Need-add-work
 add-work c =
-    let c33 = c .before .before .before .before .before .before .before .before .before .before .before .before .before .before .before .before .before .before .before .before .before .before .before .before .before .before .before .before .before .before .before .before .before in
-    omega (arith, c33 .pre .0, c33 .pre .1, c33 .pre .2, c33 .pre .8)
+    let c35 = c .before .before .before .before .before .before .before .before .before .before .before .before .before .before .before .before .before .before .before .before .before .before .before .before .before .before .before .before .before .before .before .before .before .before .before in
+    omega (arith, c35 .pre .0, c35 .pre .1 .1, c35 .pre .1 .3, c35 .pre .1 .2)
 
 slice-write-work : tie.Need-slice-write-work
 slice-write-work c =
-    let c33 = c .before .before .before .before .before .before .before .before .before .before .before .before .before .before .before .before .before .before .before .before .before .before .before .before .before .before .before .before .before .before .before .before .before in
-    omega (arith, c33 .pre .0, c33 .pre .1, c33 .pre .2)
+    let c35 = c .before .before .before .before .before .before .before .before .before .before .before .before .before .before .before .before .before .before .before .before .before .before .before .before .before .before .before .before .before .before .before .before .before .before .before in
+    omega (arith, c35 .pre .0, c35 .pre .1 .1, c35 .pre .1 .3)
 
 same-length-10 : tie.Need-same-length-10
 same-length-10 c = search needs
@@ -143,8 +143,8 @@ returns-6 c =
     let c10 = c .before .before .before .before .before .before .before .before .before .before in
     let c23 = c10 .before .before .before .before .before .before .before .before .before .before .before .before .before in
     let c24 = c23 .before in
-    let c33 = c24 .before .before .before .before .before .before .before .before .before in (
-      one-strikes _ _ _ _ _ _ (c33 .pre .9) _ (left-zero _ _ _ (c24 .left-at .ensures) (not-false _ (c23 .if1 .left))) (c10 .survives .ensures .0)
+    let c35 = c24 .before .before .before .before .before .before .before .before .before .before .before in (
+      one-strikes _ _ _ _ _ _ (c35 .pre .3) _ (left-zero _ _ _ (c24 .left-at .ensures) (not-false _ (c23 .if1 .left))) (c10 .survives .ensures .0)
           (c .if5 .left),
       c10 .survives .ensures .1,
       c10 .survives .ensures .2,
@@ -160,7 +160,7 @@ strike-one-spec =
     strike-sole-requires
     same-length-2
     returns-2
-    rests-requires
+    relies-on-left-requires
     same-length-3
     returns-3
     equal-parts-requires

@@ -8,11 +8,11 @@ use Rattle.verdict_survival.proofs.survive.lot_left.Statement.{statemen
 use Rattle.verdict_survival.proofs.survive.lot_left.Tie as tie
 
 abbrev Inv-names : tie.InvT-names
-Inv-names arities work capacity count free apart second area at others place from to before relied₀ name₀ relied name =
+Inv-names arities work free apart area others before at place from to second capacity count relied₀ name₀ relied name =
     (from ≤ name) × LotSwept arities capacity work count free apart second area at others place from to before relied name
 
 abbrev μ-names : tie.MeasureT-names
-μ-names arities work capacity count free apart second area at others place from to before relied₀ name₀ relied name =
+μ-names arities work free apart area others before at place from to second capacity count relied₀ name₀ relied name =
     to - name
 
 answers-requires : tie.Need-answers-requires Inv-names μ-names
@@ -21,10 +21,12 @@ answers-requires c κs = search needs
 returns : tie.Need-returns Inv-names μ-names
 returns c =
     let c7 = c .before .before .before .before .before .before .before in
-    lot-none _ _ _ _ _ _ _ _ _ _ _ _ _ _ (c .before .answers .ensures) _ (not-true _ (c .if1 .taken)) (c7 .pre .8)
+    lot-none _ _ _ _ _ _ _ _ _ _ _ _ _ _ (c .before .answers .ensures) _ (not-true _ (c .if1 .taken)) (c7 .pre .4)
 
 names-holds : tie.Need-names-holds Inv-names μ-names
-names-holds c = (omega arith, lot-start _ _ _ _ _ _ _ _ _ _ _ _ _ _ (c .before .before .before .before .before .before .before .pre .8))
+names-holds c =
+    let c10 = c .before .before .before .before .before .before .before .before .before .before in
+    (omega arith, lot-start _ _ _ _ _ _ _ _ _ _ _ _ _ _ (c10 .pre .4))
 
 add-name : tie.Need-add-name Inv-names μ-names
 add-name c = search needs
@@ -56,8 +58,8 @@ relied-with-requires : tie.Need-relied-with-requires Inv-names μ-names
 relied-with-requires c κs =
     let c3 = c .before .before .before in
     let c9 = c3 .before .before .before .before .before .before in
-    let c17 = c9 .before .before .before .before .before .before .before .before in
-    (c9 .names .inv .1 .numbers, omega (arith, c3 .find-left .ensures .within _ (c .before .found .given .1), c17 .pre .1, c17 .pre .5))
+    let c20 = c9 .before .before .before .before .before .before .before .before .before .before .before in
+    (c9 .names .inv .1 .numbers, omega (arith, c3 .find-left .ensures .within _ (c .before .found .given .1), c20 .pre .0 .1, c20 .pre .0 .2))
 
 names-less-2 : tie.Need-names-less-2 Inv-names μ-names
 names-less-2 c = search needs
@@ -82,18 +84,18 @@ returns-2 c =
     let c5 = c4 .before in
     let c6 = c5 .before in
     let c8 = c6 .before .before in
-    let c9 = c8 .before in
-    let c10 = c9 .before in
-    let c16 = c10 .before .before .before .before .before .before in
+    let c12 = c8 .before .before .before .before in
+    let c13 = c12 .before in
+    let c19 = c13 .before .before .before .before .before .before in
     lot-fails _ _ _ _ _ _ _ _ _ _ _ _ _ _ _ _ (c6 .counts .ensures) _ _ (c4 .successor .ensures) (c .before .before .find-left .ensures)
-    (c8 .names .inv .0) (omega arith) (not-false _ (c5 .if2 .left)) _ (c10 .answers .ensures) (not-false _ (c9 .if1 .left)) (c .enum-told .given .1)
-    (c16 .pre .8)
+    (c8 .names .inv .0) (omega arith) (not-false _ (c5 .if2 .left)) _ (c13 .answers .ensures) (not-false _ (c12 .if1 .left)) (c .enum-told .given .1)
+    (c19 .pre .4)
 
 returns-3 : tie.Need-returns-3 Inv-names μ-names
 returns-3 c =
-    let c3 = c .before .before .before in
-    lot-all _ _ _ _ _ _ _ _ _ _ _ _ _ _ (c3 .answers .ensures) _ _ _ (not-false _ (c .before .before .if1 .left)) (omega arith)
-    (c .before .names .inv .1)
+    let c5 = c .before .before .before .before .before in
+    let c6 = c5 .before in
+    lot-all _ _ _ _ _ _ _ _ _ _ _ _ _ _ (c6 .answers .ensures) _ _ _ (not-false _ (c5 .if1 .left)) (omega arith) (c .before .names .inv .1)
 
 pub lot-left-spec : {M : Type 1} → statement M
 lot-left-spec =

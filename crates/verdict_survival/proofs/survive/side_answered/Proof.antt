@@ -1,146 +1,55 @@
 -- `verdict_survival::survive::side_answered` meets its contract. Assumes nothing.
-use borrow.Author.Count.{below-more}
-use borrow.Author.Tests.{not-true, not-false}
-use mathlib.Core.Path.{_≡_, refl, sym, subst}
-use Prim.Native.Nat.{ℕ, _+_, _-_, _<_, _≤_}
-use Rattle.verdict_survival.specs.Notes.{Numbers}
-use Rattle.verdict_survival.proofs.SideLaws.{ReplyFails, SideSwept, side-none, side-skips, reply-answers, reply-fails, step-fails, side-all}
+use Rattle.verdict_survival.proofs.RunLaws.{open-run, late-run, answered-openly, answered-late, answered-early}
 use native.Mathlib.Omega.{arith}
 use borrow.Author.Needs.{needs}
 use Rattle.verdict_survival.proofs.survive.side_answered.Statement.{statement}
 use Rattle.verdict_survival.proofs.survive.side_answered.Tie as tie
 
-abbrev Inv-loop : tie.InvT-loop
-Inv-loop arities work capacity count free second area n others m from to apart relied₀ i at j₀ relied j =
-    (j ≤ m) × (relied ≡ relied₀) × ((l : ℕ) → l < j → (k : ℕ) → i ≡ k + 1 → ReplyFails from to arities capacity work count free apart second area n others m k l)
+enum-told : tie.Need-enum-told
+enum-told c = search needs
 
-abbrev μ-loop : tie.MeasureT-loop
-μ-loop arities work capacity count free second area n others m from to apart relied₀ i at j₀ relied j =
-    m - j
+add-to : tie.Need-add-to
+add-to c = search needs
 
-abbrev Inv-steps : tie.InvT-steps
-Inv-steps arities work capacity count free second area n others m from to apart relied₀ i₀ relied i =
-    (i ≤ n) × SideSwept from to arities capacity work count free apart second area n others m relied₀ relied i
-
-abbrev μ-steps : tie.MeasureT-steps
-μ-steps arities work capacity count free second area n others m from to apart relied₀ i₀ relied i =
-    n - i
-
-steps-holds : tie.Need-steps-holds Inv-loop μ-loop Inv-steps μ-steps
-steps-holds c = (
-  search needs,
-  side-none (c .before .before .before .before .before .args .from) (c .before .before .before .before .before .args .to) _ _ _ _ _ _
-      _ _ _ _ _ _ (c .before .before .before .before .before .pre .9),
-)
-
-mul-at : tie.Need-mul-at Inv-loop μ-loop Inv-steps μ-steps
-mul-at c = search needs
-
-add-i : tie.Need-add-i Inv-loop μ-loop Inv-steps μ-steps
-add-i c = search needs
-
-is-asked-requires : tie.Need-is-asked-requires Inv-loop μ-loop Inv-steps μ-steps
-is-asked-requires c κs =
+run-answered-requires : tie.Need-run-answered-requires
+run-answered-requires c κs =
     let c8 = c .before .before .before .before .before .before .before .before in
-    (c8 .pre .6, c8 .pre .7, omega (arith, c8 .pre .3))
+    (c8 .pre .0, (omega arith, omega arith, open-run), c8 .pre .1)
 
-steps-less : tie.Need-steps-less Inv-loop μ-loop Inv-steps μ-steps
-steps-less c = search needs
+enum-told-2 : tie.Need-enum-told-2
+enum-told-2 c = search needs
 
-steps-again : tie.Need-steps-again Inv-loop μ-loop Inv-steps μ-steps
-steps-again c = (
-  search needs,
-  side-skips _ _ _ _ _ _ _ _ _ _ _ _ _ _ _ _ _ (omega arith) (c .before .is-asked .ensures) (not-true _ (c .if1 .taken))
-      (c .before .before .before .before .steps .inv .1),
-)
+run-answered-requires-2 : tie.Need-run-answered-requires-2
+run-answered-requires-2 c κs =
+    let c8 = c .before .before .before .before .before .before .before .before in
+    (c8 .pre .0, (omega arith, omega arith, late-run), c8 .pre .1)
 
-loop-holds : tie.Need-loop-holds Inv-loop μ-loop Inv-steps μ-steps
-loop-holds c = (search needs, refl, λ l h. absurd (omega arith))
+enum-told-3 : tie.Need-enum-told-3
+enum-told-3 c = search needs
 
-mul-lot-left : tie.Need-mul-lot-left Inv-loop μ-loop Inv-steps μ-steps
-mul-lot-left c = search needs
+side-early-requires : tie.Need-side-early-requires
+side-early-requires c κs = search needs
 
-lot-left-requires : tie.Need-lot-left-requires Inv-loop μ-loop Inv-steps μ-steps
-lot-left-requires c κs =
-    let c6 = c .before .before .before .before .before .before in
-    let c12 = c6 .before .before .before .before .before .before in (
-      c12 .pre .0,
-      c12 .pre .1,
-      c12 .pre .2,
-      omega (arith, c12 .pre .3),
-      omega (arith, c12 .pre .4),
-      c12 .pre .5,
-      c12 .pre .6,
-      c12 .pre .7,
-      subst
-          Numbers (sym (c .before .loop .inv .1)) (c6 .steps .inv .1 .numbers),
-    )
+returns : tie.Need-returns
+returns c = answered-openly _ _ _ _ _ _ _ _ _ _ _ _ _ _ (c .before .enum-told .given .1) (c .run-answered .ensures)
 
-steps-less-2 : tie.Need-steps-less-2 Inv-loop μ-loop Inv-steps μ-steps
-steps-less-2 c = search needs
+returns-2 : tie.Need-returns-2
+returns-2 c = answered-late _ _ _ _ _ _ _ _ _ _ _ _ _ _ (c .before .enum-told2 .given .1) (c .run-answered2 .ensures)
 
-steps-again-2 : tie.Need-steps-again-2 Inv-loop μ-loop Inv-steps μ-steps
-steps-again-2 c = (
-  search needs,
-  reply-answers _ _ _ _ _ _ _ _ _ _ _ _ _ _ _ (omega arith) (c .before .before .before .before .before .before .is-asked .ensures)
-      (not-false _ (c .before .before .before .before .before .if1 .left))
-      (c .before .before .before .before .before .before .before .before .before .before .before .before .before .before .before .pre .8) _ (omega
-      arith) _ _ (c .before .before .lot-left .ensures) _ _ (c .before .before .before .before .loop .inv .1) (c .before .if2 .taken)
-      (c .before .before .before .before .before .before .before .before .before .steps .inv .1),
-)
-
-add-j : tie.Need-add-j Inv-loop μ-loop Inv-steps μ-steps
-add-j c = search needs
-
-loop-less : tie.Need-loop-less Inv-loop μ-loop Inv-steps μ-steps
-loop-less c = search needs
-
-loop-again : tie.Need-loop-again Inv-loop μ-loop Inv-steps μ-steps
-loop-again c = (
-  search needs,
-  c .before .before .before .loop .inv .1,
-  below-more _ _ (c .before .before .before .loop .inv .2) (reply-fails _ _ _ _ _ _ _ _ _ _
-      _ _ _ (c .before .before .before .before .before .before .before .before .steps .i) _ (omega arith)
-      (c .before .before .before .before .before .is-asked .ensures) (not-false _ (c .before .before .before .before .if1 .left))
-      (c .before .before .before .before .before .before .before .before .before .before .before .before .before .before .pre .8)
-      (c .before .before .before .loop .j) (omega arith) _ _ (c .before .lot-left .ensures) (c .if2 .left)),
-)
-
-returns : tie.Need-returns Inv-loop μ-loop Inv-steps μ-steps
-returns c =
-    let c1 = c .before in
-    let c3 = c1 .before .before in
-    let c6 = c3 .before .before .before in
-    step-fails _ _ _ _ _ _ _ _ _ _ _ _ _ (c6 .steps .i) _ (omega arith) (c3 .is-asked .ensures) (not-false _ (c .before .before .if1 .left)) _ _ _ _
-    (c1 .loop .inv .1) (omega arith) (λ l h. c1 .loop .inv .2 l h (c6 .steps .i) refl) (c6 .steps .inv .1)
-
-returns-2 : tie.Need-returns-2 Inv-loop μ-loop Inv-steps μ-steps
-returns-2 c =
-    let c1 = c .before in
-    let c7 = c1 .before .before .before .before .before .before in
-    side-all (c7 .args .from) (c7 .args .to) _ _ _ _ _ _ _ _ _ _ _ _ _ (c1 .steps .i) (omega arith) (c1 .steps .inv .1)
+returns-3 : tie.Need-returns-3
+returns-3 c = answered-early _ _ _ _ _ _ _ _ _ _ _ _ _ _ (c .before .enum-told3 .given .1) (c .side-early .ensures)
 
 pub side-answered-spec : {M : Type 1} → statement M
 side-answered-spec =
     tie.close
     (tie.spec
-    Inv-loop
-    μ-loop
-    Inv-steps
-    μ-steps
-    steps-holds
-    mul-at
-    add-i
-    is-asked-requires
-    steps-less
-    steps-again
-    loop-holds
-    mul-lot-left
-    lot-left-requires
-    steps-less-2
-    steps-again-2
-    add-j
-    loop-less
-    loop-again
+    enum-told
+    add-to
+    run-answered-requires
+    enum-told-2
+    run-answered-requires-2
+    enum-told-3
+    side-early-requires
     returns
-    returns-2)
+    returns-2
+    returns-3)

@@ -9,29 +9,28 @@ use Rattle.verdict_survival.proofs.survive.side_early.Statement.{statem
 use Rattle.verdict_survival.proofs.survive.side_early.Tie as tie
 
 abbrev Inv-loop : tie.InvT-loop
-Inv-loop arities work capacity count free apart second area n others m relied₀ name₀ relied name =
-    (name ≤ nameCount) × EarlySwept arities capacity work count free apart second area n others m relied₀ relied name
+Inv-loop arities work free apart area others side relied₀ name₀ relied name =
+    (name ≤ nameCount) × EarlySwept arities (side .search .capacity) work (side .search .count) free apart (side .second) area (side .steps) others (side .replies) relied₀ relied name
 
 abbrev μ-loop : tie.MeasureT-loop
-μ-loop arities work capacity count free apart second area n others m relied₀ name₀ relied name =
+μ-loop arities work free apart area others side relied₀ name₀ relied name =
     nameCount - name
 
 loop-holds : tie.Need-loop-holds Inv-loop μ-loop
-loop-holds c = (omega arith, early-none _ _ _ _ _ _ _ _ _ _ _ _ (c .before .before .before .before .before .pre .6))
+loop-holds c = (omega arith, early-none _ _ _ _ _ _ _ _ _ _ _ _ (c .before .before .before .before .before .pre .1))
 
-add-side-answered : tie.Need-add-side-answered Inv-loop μ-loop
-add-side-answered c = search needs
+add-to : tie.Need-add-to Inv-loop μ-loop
+add-to c = search needs
 
-side-answered-requires : tie.Need-side-answered-requires Inv-loop μ-loop
-side-answered-requires c κs =
+run-answered-requires : tie.Need-run-answered-requires Inv-loop μ-loop
+run-answered-requires c κs =
     let c7 = c .before .before .before .before .before .before .before in
-    (c7 .pre .0, c7 .pre .1, c7 .pre .2, c7 .pre .3, c7 .pre .4, c7 .pre .5, omega arith, omega arith, early-run _, c .before .loop .inv .1 .numbers)
+    (c7 .pre .0, (omega arith, omega arith, early-run _), c .before .loop .inv .1 .numbers)
 
 returns : tie.Need-returns Inv-loop μ-loop
 returns c =
     let c4 = c .before .before .before .before in
-    early-fails _ _ _ _ _ _ _ _ _ _ _ _ _ _ (omega arith) _ (c .before .before .side-answered .ensures) (not-true _ (c .if1 .taken))
-    (c4 .loop .inv .1)
+    early-fails _ _ _ _ _ _ _ _ _ _ _ _ _ _ (omega arith) _ (c .before .before .run-answered .ensures) (not-true _ (c .if1 .taken)) (c4 .loop .inv .1)
 
 add-name : tie.Need-add-name Inv-loop μ-loop
 add-name c = search needs
@@ -43,7 +42,7 @@ loop-again : tie.Need-loop-again Inv-loop μ-loop
 loop-again c =
     let c4 = c .before .before .before .before in (
       omega arith,
-      early-more _ _ _ _ _ _ _ _ _ _ _ _ _ _ (omega arith) _ (c .before .before .side-answered .ensures) (not-false _ (c .if1 .left))
+      early-more _ _ _ _ _ _ _ _ _ _ _ _ _ _ (omega arith) _ (c .before .before .run-answered .ensures) (not-false _ (c .if1 .left))
           (c4 .loop .inv .1),
     )
 
@@ -57,8 +56,8 @@ side-early-spec =
     Inv-loop
     μ-loop
     loop-holds
-    add-side-answered
-    side-answered-requires
+    add-to
+    run-answered-requires
     returns
     add-name
     loop-less

@@ -11,13 +11,13 @@ mul-take-up c = search needs
 
 take-up-requires : tie.Need-take-up-requires
 take-up-requires c κs =
-    let c11 = c .before .before .before .before .before .before .before .before .before .before .before in
-    (omega (arith, c11 .pre .0, c11 .pre .1, c11 .pre .2), c11 .pre .3, c11 .pre .4, c11 .pre .5, c11 .pre .6, c11 .pre .7)
+    let c12 = c .before .before .before .before .before .before .before .before .before .before .before .before in
+    (omega (arith, c12 .pre .0, c12 .pre .1 .1, c12 .pre .1 .3), c12 .pre .2 .0, c12 .pre .2 .1, c12 .pre .2 .2, c12 .pre .2 .3, c12 .pre .2 .4)
 
 relied-none-requires : tie.Need-relied-none-requires
 relied-none-requires c κs =
-    let c22 = c .before .before .before .before .before .before .before .before .before .before .before .before .before .before .before .before .before .before .before .before .before .before in
-    omega (arith, c22 .pre .0, c22 .pre .1, c22 .pre .8)
+    let c23 = c .before .before .before .before .before .before .before .before .before .before .before .before .before .before .before .before .before .before .before .before .before .before .before in
+    omega (arith, c23 .pre .0, c23 .pre .1 .1, c23 .pre .1 .2)
 
 enum-told : tie.Need-enum-told
 enum-told c = search needs
@@ -28,26 +28,17 @@ enum-known-lists c = search needs
 arities-of-requires : tie.Need-arities-of-requires
 arities-of-requires c κs = search needs
 
-slice-aggregate-side-met : tie.Need-slice-aggregate-side-met
-slice-aggregate-side-met c = search needs
+slice-aggregate-side-answered : tie.Need-slice-aggregate-side-answered
+slice-aggregate-side-answered c = search needs
 
-side-met-requires : tie.Need-side-met-requires
-side-met-requires c κs =
+side-answered-requires : tie.Need-side-answered-requires
+side-answered-requires c κs =
     let c5 = c .before .before .before .before .before in
     let c7 = c5 .before .before in
     let c18 = c7 .before .before .before .before .before .before .before .before .before .before .before in
-    let c30 = c18 .before .before .before .before .before .before .before .before .before .before .before .before in
+    let c31 = c18 .before .before .before .before .before .before .before .before .before .before .before .before .before in
     let few = c18 .take-up .ensures .0 .few _ _ (c5 .lists .given .1) in (
-      omega (arith, c30 .pre .0, c30 .pre .1),
-      c30 .pre .1,
-      c30 .pre .2,
-      omega (arith, few .0, c18 .take-up .ensures .1 .room),
-      omega (
-        arith,
-        few .1,
-        c18 .take-up .ensures .2 .room,
-      ),
-      c30 .pre .8,
+      (c31 .pre .1, omega (arith, few .0, c18 .take-up .ensures .1 .room), omega (arith, few .1, c18 .take-up .ensures .2 .room)),
       c7 .relied-none .ensures,
     )
 
@@ -76,37 +67,28 @@ returns c =
     let c6 = c .before .before .before .before .before .before in
     let c8 = c6 .before .before in
     let c21 = c8 .before .before .before .before .before .before .before .before .before .before .before .before .before in
-    let c33 = c21 .before .before .before .before .before .before .before .before .before .before .before .before in (
-      first-fails _ _ _ _ _ _ (c33 .pre .0) _ _ _ (c21 .take-up .ensures .0) _ _ (c8 .lists .given .1) _ (c6 .arities-of .ensures) _ _
-          (c .before .before .side-met .ensures) (not-true _ (c .if1 .taken)),
+    let c34 = c21 .before .before .before .before .before .before .before .before .before .before .before .before .before in (
+      first-fails _ _ _ _ _ _ (c34 .pre .0) _ _ _ (c21 .take-up .ensures .0) _ _ (c8 .lists .given .1) _ (c6 .arities-of .ensures) _ _
+          (c .before .before .side-answered .ensures) (not-true _ (c .if1 .taken)),
       c21 .take-up .ensures .1,
       c21 .take-up .ensures .2,
     )
 
-slice-aggregate-side-met-2 : tie.Need-slice-aggregate-side-met-2
-slice-aggregate-side-met-2 c =
+slice-aggregate-side-answered-2 : tie.Need-slice-aggregate-side-answered-2
+slice-aggregate-side-answered-2 c =
     let c22 = c .before .before .before .before .before .before .before .before .before .before .before .before .before .before .before .before .before .before .before .before .before .before in
     let o = c22 .take-up .ok in
     search (needs, o)
 
-side-met-requires-2 : tie.Need-side-met-requires-2
-side-met-requires-2 c κs =
+side-answered-requires-2 : tie.Need-side-answered-requires-2
+side-answered-requires-2 c κs =
     let c5 = c .before .before .before .before .before in
     let c11 = c5 .before .before .before .before .before .before in
     let c24 = c11 .before .before .before .before .before .before .before .before .before .before .before .before .before in
-    let c36 = c24 .before .before .before .before .before .before .before .before .before .before .before .before in
+    let c37 = c24 .before .before .before .before .before .before .before .before .before .before .before .before .before in
     let few = c24 .take-up .ensures .0 .few _ _ (c11 .lists .given .1) in (
-      omega (arith, c36 .pre .0, c36 .pre .1),
-      c36 .pre .1,
-      c36 .pre .2,
-      omega (arith, few .1, c24 .take-up .ensures .2 .room),
-      omega (
-        arith,
-        few .0,
-        c24 .take-up .ensures .1 .room,
-      ),
-      c36 .pre .8,
-      c5 .side-met .ensures .numbers,
+      (c37 .pre .1, omega (arith, few .1, c24 .take-up .ensures .2 .room), omega (arith, few .0, c24 .take-up .ensures .1 .room)),
+      c5 .side-answered .ensures .numbers,
     )
 
 same-length-5 : tie.Need-same-length-5
@@ -132,8 +114,8 @@ same-length-8 c =
 returns-2 : tie.Need-returns-2
 returns-2 c =
     let c13 = c .before .before .before .before .before .before .before .before .before .before .before .before .before in
-    let c25 = c13 .before .before .before .before .before .before .before .before .before .before .before .before in (
-      past-limit _ _ _ _ _ _ (c25 .pre .0) _ _ _ (c13 .take-up .ensures .0) (c .enum-told .given .1) _ (c .before .before .relied-none .ensures),
+    let c26 = c13 .before .before .before .before .before .before .before .before .before .before .before .before .before in (
+      past-limit _ _ _ _ _ _ (c26 .pre .0) _ _ _ (c13 .take-up .ensures .0) (c .enum-told .given .1) _ (c .before .before .relied-none .ensures),
       c13 .take-up .ensures .1,
       c13 .take-up .ensures .2,
     )
@@ -165,9 +147,9 @@ returns-3 c =
     let c10 = c6 .before .before .before .before in
     let c12 = c10 .before .before in
     let c25 = c12 .before .before .before .before .before .before .before .before .before .before .before .before .before in
-    let c37 = c25 .before .before .before .before .before .before .before .before .before .before .before .before in (
-      second-decides _ _ _ _ _ _ (c37 .pre .0) _ _ _ (c25 .take-up .ensures .0) _ _ (c12 .lists .given .1) _ (c10 .arities-of .ensures) _ _
-          (c6 .side-met .ensures) _ (not-false _ (c4 .if1 .left)) (c .side-met2 .ensures),
+    let c38 = c25 .before .before .before .before .before .before .before .before .before .before .before .before .before in (
+      second-decides _ _ _ _ _ _ (c38 .pre .0) _ _ _ (c25 .take-up .ensures .0) _ _ (c12 .lists .given .1) _ (c10 .arities-of .ensures) _ _
+          (c6 .side-answered .ensures) _ (not-false _ (c4 .if1 .left)) (c .side-answered2 .ensures),
       c25 .take-up .ensures .1,
       c25 .take-up .ensures .2,
     )
@@ -182,15 +164,15 @@ survives-spec =
     enum-told
     enum-known-lists
     arities-of-requires
-    slice-aggregate-side-met
-    side-met-requires
+    slice-aggregate-side-answered
+    side-answered-requires
     same-length
     same-length-2
     same-length-3
     same-length-4
     returns
-    slice-aggregate-side-met-2
-    side-met-requires-2
+    slice-aggregate-side-answered-2
+    side-answered-requires-2
     same-length-5
     same-length-6
     same-length-7

@@ -1,63 +1,46 @@
 -- `candidates::condition::Condition::implies` meets its contract. Assumes nothing.
-use mathlib.Core.Path.{_≡_, sym, ap, _∙_}
-use Prim.Native.Nat.{ℕ, _-_, _≤_, _<_}
 use native.Mathlib.Omega.{arith}
-use lib.ListN.{getD}
 use borrow.Author.Needs.{needs}
-use mathlib.Core.Bool.{true, false, true≢false, false≢true}
-use borrow.Author.Count.{below-more}
-use Rattle.steps_conditions.specs.Slots.{slotCount}
-use Rattle.steps_conditions.proofs.ConditionArrays.{implied-classes}
+use mathlib.Core.Path.{refl}
+use Prim.Native.Nat.{_-_, _≤_}
+use Rattle.terms.specs.Limits.{nameCount}
+use Rattle.steps_conditions.proofs.ClassBytes.{Implied, implied-trivial, implied-next, implied-not, implied-all}
 use Rattle.steps_conditions.proofs.condition.Condition.implies.Statement.{statement}
 use Rattle.steps_conditions.proofs.condition.Condition.implies.Tie as tie
 
 abbrev Inv-loop : tie.InvT-loop
-Inv-loop c o i₀ i = (i ≤ slotCount) × ((n : ℕ) → n < i → getD c n 0 ≡ getD c (getD o n 0) 0)
+Inv-loop area at others place n₀ n = (n ≤ nameCount) × Implied area at others place n
 
 abbrev μ-loop : tie.MeasureT-loop
-μ-loop c o i₀ i = slotCount - i
+μ-loop area at others place n₀ n = nameCount - n
 
-loop-holds : tie.Need-loop-holds Inv-loop μ-loop
-loop-holds c = search needs
-
-slice-aggregate-get : tie.Need-slice-aggregate-get Inv-loop μ-loop
-slice-aggregate-get c = search needs
-
-get-requires : tie.Need-get-requires Inv-loop μ-loop
-get-requires c κs = search needs
-
-slice-aggregate-get-2 : tie.Need-slice-aggregate-get-2 Inv-loop μ-loop
-slice-aggregate-get-2 c = search needs
-
-slice-aggregate-get-3 : tie.Need-slice-aggregate-get-3 Inv-loop μ-loop
-slice-aggregate-get-3 c = search needs
-
-get-requires-2 : tie.Need-get-requires-2 Inv-loop μ-loop
-get-requires-2 c κs = search needs
-
-cast-get : tie.Need-cast-get Inv-loop μ-loop
-cast-get c = search needs
-
-get-requires-3 : tie.Need-get-requires-3 Inv-loop μ-loop
-get-requires-3 c κs = search needs
+is-trivial-requires : tie.Need-is-trivial-requires Inv-loop μ-loop
+is-trivial-requires c κs = search needs
 
 returns : tie.Need-returns Inv-loop μ-loop
-returns c = let a = c .before .before .before .before .before .before .before .before .before .before .before .args in
-    implied-classes (a .self .class) (a .other .class) false (record {
-      everywhere = λ q. absurd (false≢true q);
-      somewhere = λ q. (
-        c .before .before .before .before .before .before .before .before .loop .i,
-        search needs,
-        λ z. c .if1 .taken
-            (c .before .before .before .before .before .get .ensures ∙ z ∙ sym
-            (c .before .get3 .ensures ∙ ap
-            (λ (k : ℕ). getD (c .before .before .before .before .before .before .before .before .before .before .before .args .self .class) k 0)
-            (c .before .before .get2 .ensures))),
-      );
-    })
+returns c = implied-trivial _ _ _ _ _ (c .before .is-trivial .ensures) (c .if1 .taken)
 
-add-i : tie.Need-add-i Inv-loop μ-loop
-add-i c = search needs
+loop-holds : tie.Need-loop-holds Inv-loop μ-loop
+loop-holds c = (search needs, λ c d e f. refl)
+
+class-of-requires : tie.Need-class-of-requires Inv-loop μ-loop
+class-of-requires c κs = search needs
+
+class-of-requires-2 : tie.Need-class-of-requires-2 Inv-loop μ-loop
+class-of-requires-2 c κs = search needs
+
+class-of-requires-3 : tie.Need-class-of-requires-3 Inv-loop μ-loop
+class-of-requires-3 c κs = search needs
+
+returns-2 : tie.Need-returns-2 Inv-loop μ-loop
+returns-2 c =
+    let c3 = c .before .before .before in
+    let c5 = c3 .before .before in
+    implied-not _ _ _ _ _ (omega arith) (c5 .loop .inv .1) _ _ _ (c3 .class-of .ensures) (c .before .before .class-of2 .ensures)
+    (c .before .class-of3 .ensures) (c .if2 .taken)
+
+add-n : tie.Need-add-n Inv-loop μ-loop
+add-n c = search needs
 
 loop-less : tie.Need-loop-less Inv-loop μ-loop
 loop-less c = search needs
@@ -65,16 +48,12 @@ loop-less c = search needs
 loop-again : tie.Need-loop-again Inv-loop μ-loop
 loop-again c = (
   search needs,
-  below-more _ (c .before .before .before .before .before .before .before .before .loop .i)
-      (c .before .before .before .before .before .before .before .before .loop .inv .1) (sym (c .before .before .before .before .before .get .ensures) ∙
-      c .if1 .left ∙ c .before .get3 .ensures ∙ ap (λ (k : ℕ). getD
-      (c .before .before .before .before .before .before .before .before .before .before .before .args .self .class) k 0)
-      (c .before .before .get2 .ensures)),
+  implied-next _ _ _ _ _ (omega arith) (c .before .before .before .before .before .loop .inv .1) _ _ _
+      (c .before .before .before .class-of .ensures) (c .before .before .class-of2 .ensures) (c .before .class-of3 .ensures) (c .if2 .left),
 )
 
-returns-2 : tie.Need-returns-2 Inv-loop μ-loop
-returns-2 c = let a = c .before .before .before .before .args in
-    implied-classes (a .self .class) (a .other .class) true (record { everywhere = λ q n h. c .before .loop .inv .1 n (omega arith); somewhere = λ q. absurd (true≢false q) })
+returns-3 : tie.Need-returns-3 Inv-loop μ-loop
+returns-3 c = implied-all _ _ _ _ _ (omega arith) (c .before .loop .inv .1)
 
 pub implies-spec : {M : Type 1} → statement M
 implies-spec =
@@ -82,16 +61,14 @@ implies-spec =
     (tie.spec
     Inv-loop
     μ-loop
-    loop-holds
-    slice-aggregate-get
-    get-requires
-    slice-aggregate-get-2
-    slice-aggregate-get-3
-    get-requires-2
-    cast-get
-    get-requires-3
+    is-trivial-requires
     returns
-    add-i
+    loop-holds
+    class-of-requires
+    class-of-requires-2
+    class-of-requires-3
+    returns-2
+    add-n
     loop-less
     loop-again
-    returns-2)
+    returns-3)

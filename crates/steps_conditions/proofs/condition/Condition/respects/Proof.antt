@@ -1,20 +1,23 @@
 -- `candidates::condition::Condition::respects` meets its contract. Assumes nothing.
-use Rattle.steps_conditions.proofs.ConditionArrays.{respected, not-respected}
 use borrow.Author.Needs.{needs}
+use Rattle.steps_conditions.proofs.ClassBytes.{respects-is}
 use Rattle.steps_conditions.proofs.condition.Condition.respects.Statement.{statement}
 use Rattle.steps_conditions.proofs.condition.Condition.respects.Tie as tie
 
-array-read-if1 : tie.Need-array-read-if1
-array-read-if1 c = search needs
+add-get : tie.Need-add-get
+add-get c = search needs
 
-array-read-if1-2 : tie.Need-array-read-if1-2
-array-read-if1-2 c = search needs
+get-requires : tie.Need-get-requires
+get-requires c κs = search needs
+
+add-get-2 : tie.Need-add-get-2
+add-get-2 c = search needs
+
+get-requires-2 : tie.Need-get-requires-2
+get-requires-2 c κs = search needs
 
 returns : tie.Need-returns
-returns c = let a = c .before .before .args in not-respected (a .self .class) (a .a) (a .b) (search needs) (search needs) (c .if1 .taken)
-
-returns-2 : tie.Need-returns-2
-returns-2 c = let a = c .before .before .args in respected (a .self .class) (a .a) (a .b) (search needs) (search needs) (c .if1 .left)
+returns c = respects-is _ _ _ _ _ _ (c .before .get .ensures) (c .get2 .ensures)
 
 pub respects-spec : {M : Type 1} → statement M
-respects-spec = tie.close (tie.spec array-read-if1 array-read-if1-2 returns returns-2)
+respects-spec = tie.close (tie.spec add-get get-requires add-get-2 get-requires-2 returns)

@@ -1,0 +1,2 @@
+// A question whose bodies are tidied (request 2026-04).
+pub mod question;
