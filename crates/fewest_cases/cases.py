@@ -20,6 +20,10 @@ def calling(edition, called):
     return [edition, 1, 2] + field(bytes.fromhex("05 80 81 01 00")) + field(bytes.fromhex(called)) + field([0]) + field([])
 
 
+# K of arity 1, K(x) = x̄x.(νy)K(x); both parts K(a): every choice is settled, for the restrictions go (request 2026-04)
+RESTRICTING = [1, 1, 1] + field(bytes.fromhex("03 80 80 08 09 00 81")) + 2 * field([9, 0, 0]) + field([])
+
+
 def case(names, asked, capacity=256, short=0):
     names = list(bytes.fromhex(names))
     return field([capacity // 256, capacity % 256, short, len(names), *names, *asked])
@@ -50,6 +54,7 @@ CASES = [
     ("unsettled 0", case("01 02", question(GROWS, GROWS), capacity=3)),
     ("length 0", case("01 02", question(GROWS, GROWS), capacity=4)),
     ("length 0", case("01", question(GROWS, GROWS), capacity=3)),
+    ("length 0", case("00 01", RESTRICTING)),
     # K(a, b) and 0, in both editions
     ("length 2 0 1", case("00 01 02", calling(1, "09 00 00 01"))),
     ("length 2 0 1", case("00 01 02", calling(2, "09 00 02 00 01"))),

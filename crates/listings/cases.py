@@ -31,8 +31,8 @@ def choice(terms):
     return bs + terms[-1]
 
 
-def small(n):
-    """n distinct terms without names, the shortest first."""
+def restricted(n):
+    """n distinct terms without names, the shortest first; most have unused restrictions."""
     terms = [[0]]
     for t in terms:
         if len(terms) >= n:
@@ -40,10 +40,26 @@ def small(n):
         terms += [[1, *t], [8, *t]]
 
 
+# definitions without a step, from number 2 on
+IDLE = [(0, [0])] * 14
+
+
+def small(n, version=1):
+    """n distinct terms without names and restrictions, the shortest first."""
+    calls = [[9, k] if version == 1 else [9, k, 0] for k in range(2, 16)]
+    return [[0], [1, 0], *calls, [1, 1, 0]][:n]
+
+
 OUTPUT, INPUT = 3, 2
-# K and L over one channel: outputs and inputs with distinct continuations
-K = (1, choice([[OUTPUT, 128, 128, *t] for t in small(15)]))
-L = (1, choice([[INPUT, 128, *t] for t in small(17)]))
+
+
+def meeting(outputs, inputs):
+    """Two definitions over one channel: outputs and inputs with these continuations."""
+    return [(1, choice([[OUTPUT, 128, 128, *t] for t in outputs])), (1, choice([[INPUT, 128, *t] for t in inputs]))]
+
+
+DISTINCT = [*meeting(small(15), small(17)), *IDLE]
+DISTINCT2 = [*meeting(small(15, 2), small(17, 2)), *IDLE]
 MEET = [8, 7, 9, 0, 128, 9, 1, 128]
 # many of each, all with the same continuation
 MANY_OUT = (1, choice([[OUTPUT, 128, 128, 0]] * 22))
@@ -86,8 +102,8 @@ CASES = [
     # 616 communications and 50 visible steps before a restriction leave one step
     (1, 1, question([8, 7, 9, 0, 128, 9, 1, 128], definitions=[MANY_OUT, MANY_IN])),
     # exactly 256 and 257 distinct steps
-    (1, 15, question([7, *MEET, 3, 0, 0, 0], definitions=[K, L])),
-    (1, 15, question([7, 7, *MEET, 3, 0, 0, 0, 3, 1, 1, 0], definitions=[K, L])),
+    (1, 15, question([7, *MEET, 3, 0, 0, 0], definitions=DISTINCT)),
+    (1, 15, question([7, 7, *MEET, 3, 0, 0, 0, 3, 1, 1, 0], definitions=DISTINCT)),
     # a result of 112 and of 113 bytes
     (1, 0, question([7, 9, 0, 0], definitions=[(0, taus(111))])),
     (1, 0, question([7, 9, 0, 0], definitions=[(0, taus(112))])),
@@ -95,13 +111,37 @@ CASES = [
     (1, 0, question([8, 7, 9, 0, 128, 1, 0], definitions=[(1, [3, 128, 128, *taus(109)])])),
     # edition two lists as edition one does, results in the edition-one form: a called body, 256 steps, a result of 112 and of 113 bytes, 16
     (1, 3, question([8, 9, 0, 2, 0, 128], definitions=[(2, [8, 3, 130, 129, 3, 128, 129, 0])], version=2)),
-    (1, 15, question([7, 8, 7, 9, 0, 1, 128, 9, 1, 1, 128, 3, 0, 0, 0], definitions=[K, L], version=2)),
+    (1, 15, question([7, 8, 7, 9, 0, 1, 128, 9, 1, 1, 128, 3, 0, 0, 0], definitions=DISTINCT2, version=2)),
     (1, 0, question([7, 9, 0, 0, 9, 1, 0], definitions=[(0, taus(109)), (0, [0])], version=2)),
     (1, 0, question([7, 9, 0, 0, 9, 1, 0], definitions=[(0, taus(110)), (0, [0])], version=2)),
     (1, 0, question([7, 9, 0, 0, 9, 1, 0], definitions=[(0, taus(111)), (0, [0])], version=2)),
     (1, 3, question([9, 0, 1, 0], definitions=[(2, [0])], version=2)),
     # 37 parallel components
     (1, 0, question([7] * 36 + [1, 0] * 37)),
+    # request 2026-04: unused restrictions go: beneath an input, behind a used one, the inner and the outer of two
+    (1, 1, question([2, 0, 8, 3, 129, 129, 0])),
+    (1, 1, question([2, 0, 8, 3, 129, 128, 8, 0])),
+    (1, 1, question([1, 8, 8, 3, 129, 0, 0])),
+    (1, 1, question([1, 8, 8, 3, 128, 0, 0])),
+    # what Close adds and nothing uses; what a communication was the last to use; of a component that does not move
+    (1, 1, question([7, 4, 0, 0, 2, 0, 0])),
+    (1, 1, question([8, 7, 2, 128, 0, 3, 128, 0, 0])),
+    (1, 1, question([7, 1, 0, 8, 1, 8, 0])),
+    # the names of a call count, also those that its body ignores
+    (1, 1, question([1, 8, 8, 9, 0, 128, 0], definitions=[(2, [0])])),
+    # beneath every kind of term, in a called body
+    (1, 1, question([9, 0, 0], definitions=[(1, [1, 8, 6, 8, 2, 130, 8, 3, 131, 129, 8, 0, 8, 5, 129, 130, 8, 4, 130, 8, 9, 0, 129])])),
+    # steps that differ in unused restrictions alone are one: two; 257 of them are 22
+    (1, 1, question([6, 1, 0, 1, 8, 0])),
+    (1, 15, question([7, 7, *MEET, 3, 0, 0, 0, 3, 1, 1, 0], definitions=meeting(restricted(15), restricted(17)))),
+    # results of 121 bytes before and 21 after, of 219 and 3, of 114 and 112, and of 114 and 113
+    (1, 1, question([7, 9, 0, *[3, 0, 0] * 6, 0], definitions=[(0, [1, *[8] * 100, 0])])),
+    (1, 1, question([8, 7, 9, 0, 128, 9, 1, 128], definitions=[(1, [4, 128, *[8] * 107, 0]), (1, [2, 128, *[8] * 107, 0])])),
+    (1, 1, question([7, 9, 0, *taus(100)], definitions=[(0, [1, 8, 8, *taus(11)])])),
+    (1, 1, question([7, 9, 0, *taus(101)], definitions=[(0, [1, 8, *taus(11)])])),
+    # a side is listed as it stands, and check 13 goes by its names
+    (2, 1, question([0], [8, 8, 1, 3, 0, 0, 0])),
+    (1, 1, question([8, 1, 8, 3, 1, 1, 0])),
 ]
 
 with open("stdin", "wb") as f:

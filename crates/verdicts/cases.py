@@ -20,11 +20,11 @@ def question(first="00", second="00", definitions=(), apart="", version=1):
 
 
 LOOP = [(1, "03 80 80 09 00 80")]
-GROWING = [(1, "03 80 80 08 09 00 81")]
+RESTRICTING = [(1, "03 80 80 08 09 00 81")]
 
 # the same in edition two
 LOOP2 = [(1, "03 80 80 09 00 01 80")]
-GROWING2 = [(1, "03 80 80 08 09 00 01 81")]
+RESTRICTING2 = [(1, "03 80 80 08 09 00 01 81")]
 
 # Appendix B.1: names a to i are 00 to 08; definition 0 is K1, with K2 written out in its body, and 1 is K2. The output of b in P1 is of a
 # new name: b is no parameter of K1.
@@ -39,13 +39,19 @@ P4 = "07 04 02 02 04 09 01 81 80 03 00 01 03 02 03 00"
 P5 = "07 04 00 02 04 00 07 04 00 02 02 00 02 00 03 02 80 00"
 P6 = "07 04 00 02 02 00 07 04 00 02 02 00 07 04 00 02 04 00 04 00 02 02 00"
 
+# request 2026-04: a body that leaves a hundred restrictions, beside six outputs; a step of it has 121 bytes before they go. And a body with
+# which a result has 113 bytes, none of them to spare.
+LOOSE = [(0, "01" + "08" * 100 + "00")]
+SIX = "07 09 00" + "03 00 00" * 6 + "00"
+LONG = [(0, "01" * 99 + "00")]
+
 CASES = [
     # K⟨a⟩ and āa.K⟨a⟩, also at capacities 2 and 1
     ("same 2", 256, question("09 00 00", "03 00 00 09 00 00", LOOP)),
     ("same 2", 2, question("09 00 00", "03 00 00 09 00 00", LOOP)),
     ("unsettled 0", 1, question("09 00 00", "03 00 00 09 00 00", LOOP)),
-    # parts that grow
-    ("unsettled 0", 256, question("09 00 00", "09 00 00", GROWING)),
+    # the last K, whose restrictions go (request 2026-04)
+    ("same 1", 256, question("09 00 00", "09 00 00", RESTRICTING)),
     # capacities, where the work area is one for 256 situations; a part of 112 and of 113 bytes; the names 0F and 10; arities 8 and 9
     ("refused 1", 0, question()),
     ("same 1", 1, question()),
@@ -63,18 +69,18 @@ CASES = [
     ("same 23", 256, question(P1, P2, K)),
     ("same 136", 256, question(P3, P4, K)),
     ("different 7", 256, question(P2, P4, K)),
-    ("same 129", 256, question(P5, P5, K)),
-    ("different 212", 256, question(P5, P6, K)),
+    ("same 105", 256, question(P5, P5, K)),
+    ("different 128", 256, question(P5, P6, K)),
     # request 2026-07: parallel bracketed anew about an extrusion, exchanged, beside inaction
-    ("same 12", 256, question("07 07 02 00 00 03 01 02 00 08 03 00 80 00", "07 02 00 00 07 03 01 02 00 08 03 00 80 00")),
+    ("same 10", 256, question("07 07 02 00 00 03 01 02 00 08 03 00 80 00", "07 02 00 00 07 03 01 02 00 08 03 00 80 00")),
     ("same 7", 256, question("07 02 00 03 80 01 00 04 00 00", "07 04 00 00 02 00 03 80 01 00")),
     ("same 3", 256, question("07 02 00 03 80 01 00 00", "02 00 03 80 01 00")),
-    # choice exchanged beneath an input, bracketed anew, with inaction, doubled; beyond the limits; and a parallel doubled, which is no law
+    # choice exchanged beneath an input, bracketed anew, with inaction, doubled; beyond the capacity; and a parallel doubled, which is no law
     ("same 3", 256, question("02 00 06 01 00 03 80 80 00", "02 00 06 03 80 80 00 01 00")),
     ("same 2", 256, question("06 06 01 00 05 00 01 01 00 03 00 01 00", "06 01 00 06 05 00 01 01 00 03 00 01 00", apart="00 01")),
     ("same 2", 256, question("06 04 00 00 00", "04 00 00")),
     ("same 2", 256, question("06 09 00 00 09 00 00", "09 00 00", LOOP)),
-    ("unsettled 0", 256, question("06 09 00 00 09 00 00", "09 00 00", GROWING)),
+    ("unsettled 0", 1, question("06 09 00 00 09 00 00", "09 00 00", LOOP)),
     ("different 3", 256, question("07 01 00 01 00", "01 00")),
     # request 2026-13: [a=b]τ.0 and 0 with a, b apart, alone; behind τ and c̄d; beneath [a=b]; in a choice with c(x).0, either branch; beside c̄d.0,
     # either side; beneath (νa) and behind c̄(a), the pair dropped; behind c(x); and behind b̄c and τ, in a choice with b̄(y).0, beneath (νa)
@@ -93,7 +99,7 @@ CASES = [
     # request 2026-05: the first exchanges in edition two; a number that is not the arity; a part of 112 bytes, which edition one has in 111
     ("same 2", 256, question("09 00 01 00", "03 00 00 09 00 01 00", LOOP2, version=2)),
     ("unsettled 0", 1, question("09 00 01 00", "03 00 00 09 00 01 00", LOOP2, version=2)),
-    ("unsettled 0", 256, question("09 00 01 00", "09 00 01 00", GROWING2, version=2)),
+    ("same 1", 256, question("09 00 01 00", "09 00 01 00", RESTRICTING2, version=2)),
     ("same 2", 256, question("06 01 00 05 00 01 01 00", "01 00", version=2)),
     ("refused 16", 256, question("09 00 00", "03 00 00 09 00 01 00", LOOP2, version=2)),
     ("refused 3", 256, question(version=3)),
@@ -101,6 +107,23 @@ CASES = [
     # not promised: behind c(a), whose pair is lost; and τ.(0 | 0), which is no question
     ("different 2", 256, question("02 02 05 80 01 01 00", "02 02 00")),
     ("refused 10", 256, question("01 07 00 00", "01 00")),
+    # request 2026-04: τ.0 + τ.(νx)0 and τ.0; (νx)τ.0 and τ.0; (νx)0 and 0; K = τ.(νx)K and L = τ.L; the last K twice in a choice
+    ("same 2", 256, question("06 01 00 01 08 00", "01 00")),
+    ("same 2", 256, question("08 01 00", "01 00")),
+    ("same 1", 256, question("08 00", "00")),
+    ("same 1", 256, question("09 00", "09 01", [(0, "01 08 09 00"), (0, "01 09 01")])),
+    ("same 2", 256, question("06 09 00 00 09 00 00", "09 00 00", RESTRICTING)),
+    # K(x) = 0: τ.(νx)K⟨x⟩ keeps its restriction, for the names of a call count, and τ.0; the start with a restriction comes back to itself
+    ("same 2", 256, question("01 08 09 00 80", "01 00", [(1, "00")])),
+    ("same 1", 1, question("08 09 00", "09 00", [(0, "01 09 00")])),
+    # (νx)(x̄a.0 | x(y).āa.0): the communication is the last to use x; and ā(x).0 | a(y).τ.0, in which Close leaves nothing to bind
+    ("same 3", 256, question("08 07 03 80 00 00 02 80 03 00 00 00", "01 03 00 00 00")),
+    ("same 6", 256, question("07 04 00 00 02 00 01 00", "07 02 00 01 00 04 00 00")),
+    # a result of 121 bytes that has 21 once tidied, and of 113 that has 113
+    ("same 14", 256, question(SIX, SIX, LOOSE)),
+    ("same 14", 14, question(SIX, SIX, LOOSE)),
+    ("unsettled 0", 13, question(SIX, SIX, LOOSE)),
+    ("unsettled 0", 256, question("07 09 00" + "01" * 12 + "00", "00", LONG)),
 ]
 
 # request 2026-02: open, late, early
@@ -124,9 +147,12 @@ NAMED = [
     (("different 3", "different 8", "different 8"), question("02 00 02 00 05 80 81 01 00", "02 00 02 00 00")),
     # [a=b]τ.τ.0 + τ.0 and τ.0
     (("different 3", "same 2", "same 2"), question("06 05 00 01 01 01 00 01 00", "01 00")),
-    # K⟨a⟩ and āa.K⟨a⟩; parts that grow; a list that check 12 turns back; edition two
+    # K⟨a⟩ and āa.K⟨a⟩; the last K and a result of 121 bytes, whose restrictions go; a result of 113 bytes; a list that check 12 turns back;
+    # edition two
     (("same 2", "same 2", "same 2"), question("09 00 00", "03 00 00 09 00 00", LOOP)),
-    (("unsettled 0", "unsettled 0", "unsettled 0"), question("09 00 00", "09 00 00", GROWING)),
+    (("same 1", "same 1", "same 1"), question("09 00 00", "09 00 00", RESTRICTING)),
+    (("same 14", "same 14", "same 14"), question(SIX, SIX, LOOSE)),
+    (("unsettled 0", "unsettled 0", "unsettled 0"), question("07 09 00" + "01" * 12 + "00", "00", LONG)),
     (("refused 12", "refused 12", "refused 12"), question(apart="00 00")),
     (("same 2", "same 2", "same 2"), question("09 00 01 00", "03 00 00 09 00 01 00", LOOP2, version=2)),
 ]

@@ -20,9 +20,10 @@ use Rattle.steps.specs.Lists.{_∈_, All}
 use Rattle.steps.proofs.Membership.{∈-all, all-∈, all-imp}
 use Rattle.steps.proofs.QuestionDefinitions.{definitions}
 use Rattle.field_slots.specs.Chains.{LinkIs}
+use Rattle.field_slots.specs.Key.{slotWith}
 use Rattle.field.specs.Exploration.{together, Row, incomplete, explored, fieldOf}
 use Rattle.field_growth.specs.Holding.{unanswered}
-use Rattle.field_growth.specs.Growing.{Fitting, grown, Knows, GrowsTo, Puts, slotWith, Gone, Flagged, moved, Strikes, Leads, GrowsSides}
+use Rattle.field_growth.specs.Growing.{Fitting, grown, Knows, GrowsTo, Puts, Gone, Flagged, moved, Strikes, Leads, GrowsSides}
 use Rattle.field_exploration.specs.Following.{Follows, GrowIs}
 use Rattle.field.specs.Situation.{Proper}
 use Rattle.field_exploration.specs.Exploring.{StruckFirst, SoleNoted, Explores, ExploreIs}

@@ -1,19 +1,20 @@
 // Exploration of the field: document 01, "The field and the verdict".
+ghost use mathlib.Core.Bool.{false};
 ghost use mathlib.Core.Path.{_≡_};
-ghost use Prim.Native.Nat.{_+_, _*_, _<_, _≤_};
+ghost use Prim.Native.Nat.{_*_, _≤_};
 ghost use lib.ListN.{length};
 ghost use Rattle.steps_tallies.specs.Tally.{tallySize, BodiesTallied};
-ghost use Rattle.steps.specs.Limits.{stepBytes, mostSteps};
 ghost use Rattle.steps_rows.specs.Rows.{rowBytes, mostRows};
-ghost use Rattle.field_growth.specs.Growing.{GrowsSide, GrowsSides};
+ghost use Rattle.field_growth.specs.Growing.{Underway, HasSteps, GrowsSide, GrowsSides};
 ghost use Rattle.field_exploration.specs.Following.{GrowIs};
 ghost use Rattle.field_exploration.specs.Exploring.{ExploreIs};
 ghost use Rattle.field_kept_lists.specs.ListArea.{Labelled};
 ghost use Rattle.field_pairs.specs.Slot.{slotBytes};
 use field_growth::growth::Growth;
+use field_growth::growth::Step;
 use field_growth::growth::grow_step;
-use field_growth::growth::put;
 use field_pairs::pairs::PAIR_COUNT;
+use field_slots::chains::put;
 use field_slots::notes::clear_slot;
 use field_slots::slot::SLOT_BYTES;
 use field_successors::start::start_key;
@@ -28,43 +29,44 @@ pub enum Explored {
     Field(usize),
 }
 
-// What every step of one side, which has `steps` of them, leads to that must be answered; `differ`: all names differ.
-fn grow_side(
-    arities: &[u8],
-    free: &[u8],
-    apart: [u8; PAIR_COUNT],
+// The second or the first side of the situation in slot `taken`: how many steps it has, and how many the other side; `differ`: all names differ.
+struct Side {
     differ: bool,
     second: bool,
     taken: usize,
-    area: &[u8],
     steps: usize,
-    others: &[u8],
     count: usize,
-    work: &mut [u8],
     capacity: usize,
+}
+
+// What every step of one side leads to that must be answered.
+fn grow_side(
+    arities: &[u8],
+    free: &[u8],
+    apart: &[u8; PAIR_COUNT],
+    area: &[u8],
+    others: &[u8],
+    side: Side,
+    work: &mut [u8],
     known: usize,
 ) -> Growth
-    requires { ⌜ (taken < known) × (known ≤ capacity) × (capacity ≤ 4096) × (slotBytes * capacity ≤ length (now work)) × (steps ≤ mostSteps) × (mostSteps * stepBytes ≤ length (now area)) × (count ≤ mostSteps) × (mostSteps * stepBytes ≤ length (now others)) ⌝ }
-    ensures { λ r. ⌜ GrowsSide (now (arities .entry)) (now (free .entry)) apart differ second taken (now (area .entry)) steps (now (others .entry)) count capacity (now (work .entry)) known r (now (work .exit)) ⌝ }
+    requires { ⌜ Underway (side .taken) known (side .capacity) (length (now work)) × HasSteps (side .steps) (length (now area)) × HasSteps (side .count) (length (now others)) ⌝ }
+    ensures { λ r. ⌜ GrowsSide (now (arities .entry)) (now (free .entry)) (now (apart .entry)) (side .differ) (side .second) (side .taken) (now (area .entry)) (side .steps) (now (others .entry)) (side .count) (side .capacity) (now (work .entry)) known r (now (work .exit)) ⌝ }
 {
+    let steps = side.steps;
     let mut so_far = known;
     let mut i = 0;
     while i < steps {
-        let growth = grow_step(
-            arities,
-            free,
-            apart,
-            differ,
-            second,
-            taken,
-            area,
-            STEP_BYTES * i,
-            others,
-            count,
-            work,
-            capacity,
-            so_far,
-        );
+        let at = STEP_BYTES * i;
+        let step = Step {
+            differ: side.differ,
+            second: side.second,
+            taken: side.taken,
+            at,
+            count: side.count,
+            capacity: side.capacity,
+        };
+        let growth = grow_step(arities, free, apart, area, others, step, work, so_far);
         let Growth::Known(n) = growth else {
             return Growth::Full;
         };
@@ -74,76 +76,60 @@ fn grow_side(
     Growth::Known(so_far)
 }
 
-// What the steps of both sides lead to: `n` of the first and `m` of the second.
+// What the steps of both sides lead to; `side` is the first one.
 fn grow_sides(
     arities: &[u8],
     free: &[u8],
-    apart: [u8; PAIR_COUNT],
-    differ: bool,
-    taken: usize,
+    apart: &[u8; PAIR_COUNT],
     firsts: &[u8],
-    n: usize,
     seconds: &[u8],
-    m: usize,
+    side: Side,
     work: &mut [u8],
-    capacity: usize,
     known: usize,
 ) -> Growth
-    requires { ⌜ (taken < known) × (known ≤ capacity) × (capacity ≤ 4096) × (slotBytes * capacity ≤ length (now work)) × (n ≤ mostSteps) × (mostSteps * stepBytes ≤ length (now firsts)) × (m ≤ mostSteps) × (mostSteps * stepBytes ≤ length (now seconds)) ⌝ }
-    ensures { λ r. ⌜ GrowsSides (now (arities .entry)) (now (free .entry)) apart differ taken (now (firsts .entry)) n (now (seconds .entry)) m capacity (now (work .entry)) known r (now (work .exit)) ⌝ }
+    requires { ⌜ Underway (side .taken) known (side .capacity) (length (now work)) × HasSteps (side .steps) (length (now firsts)) × HasSteps (side .count) (length (now seconds)) × (side .second ≡ false) ⌝ }
+    ensures { λ r. ⌜ GrowsSides (now (arities .entry)) (now (free .entry)) (now (apart .entry)) (side .differ) (side .taken) (now (firsts .entry)) (side .steps) (now (seconds .entry)) (side .count) (side .capacity) (now (work .entry)) known r (now (work .exit)) ⌝ }
 {
-    let growth = grow_side(
-        arities,
-        free,
-        apart,
-        differ,
-        false,
-        taken,
-        firsts,
-        n,
-        seconds,
-        m,
-        work,
-        capacity,
-        known,
-    );
+    let growth = grow_side(arities, free, apart, firsts, seconds, side, work, known);
     match growth {
         Growth::Full => Growth::Full,
-        Growth::Known(so_far) => grow_side(
-            arities,
-            free,
-            apart,
-            differ,
-            true,
-            taken,
-            seconds,
-            m,
-            firsts,
-            n,
-            work,
-            capacity,
-            so_far,
-        ),
+        Growth::Known(so_far) => {
+            let other = Side {
+                differ: side.differ,
+                second: true,
+                taken: side.taken,
+                steps: side.count,
+                count: side.steps,
+                capacity: side.capacity,
+            };
+            grow_side(arities, free, apart, seconds, firsts, other, work, so_far)
+        }
     }
 }
 
-// Takes up the situation in slot `taken`; the two areas have the lists of the one before, `numbers` and `rows` for the lister.
+// How far exploration has come: the situation in slot `taken` is taken up, and `known` of them stand in slots.
+struct Progress {
+    differ: bool,
+    taken: usize,
+    known: usize,
+    capacity: usize,
+}
+
+// Takes up one situation; the two areas have the lists of the one before, `tallies` and `rows` are for the lister.
 fn grow(
     question: &[u8],
     bodies: &[u32],
-    taken: usize,
     tallies: &mut [u32],
     rows: &mut [u8],
     firsts: &mut [u8],
     seconds: &mut [u8],
     work: &mut [u8],
-    capacity: usize,
-    known: usize,
-    differ: bool,
+    progress: Progress,
 ) -> Growth
-    requires { ⌜ (taken < known) × (known ≤ capacity) × (capacity ≤ 4096) × (slotBytes * capacity ≤ length (now work)) × BodiesTallied (now question) (now bodies) × (length (now tallies) ≡ tallySize) × (rowBytes * mostRows ≤ length (now rows)) × Labelled (now question) (now firsts) × Labelled (now question) (now seconds) ⌝ }
-    ensures { λ r. ⌜ GrowIs differ (now (question .entry)) taken capacity (now (work .entry)) known r (now (work .exit)) × Labelled (now (question .entry)) (now (firsts .exit)) × Labelled (now (question .entry)) (now (seconds .exit)) ⌝ }
+    requires { ⌜ Underway (progress .taken) (progress .known) (progress .capacity) (length (now work)) × BodiesTallied (now question) (now bodies) × (length (now tallies) ≡ tallySize) × (rowBytes * mostRows ≤ length (now rows)) × Labelled (now question) (now firsts) × Labelled (now question) (now seconds) ⌝ }
+    ensures { λ r. ⌜ GrowIs (progress .differ) (now (question .entry)) (progress .taken) (progress .capacity) (now (work .entry)) (progress .known) r (now (work .exit)) × Labelled (now (question .entry)) (now (firsts .exit)) × Labelled (now (question .entry)) (now (seconds .exit)) ⌝ }
 {
+    let taken = progress.taken;
     let up = take_up(
         question,
         bodies,
@@ -159,25 +145,37 @@ fn grow(
     let lists = up.lists;
     match lists {
         Lists::Past => Growth::Full,
-        Lists::Listed(n, m) => grow_sides(
-            arities_of(question),
-            &free,
-            apart,
-            differ,
-            taken,
-            firsts,
-            n,
-            seconds,
-            m,
-            work,
-            capacity,
-            known,
-        ),
+        Lists::Listed(n, m) => {
+            let side = Side {
+                differ: progress.differ,
+                second: false,
+                taken,
+                steps: n,
+                count: m,
+                capacity: progress.capacity,
+            };
+            grow_sides(
+                arities_of(question),
+                &free,
+                &apart,
+                firsts,
+                seconds,
+                side,
+                work,
+                progress.known,
+            )
+        }
     }
 }
 
+// How many situations the field may have; `differ`: all names differ (request 2026-02).
+pub struct Extent {
+    pub differ: bool,
+    pub capacity: usize,
+}
+
 // Takes up the situations from the start on until none waits. The tables of the lister and the areas of the two lists are lent; each area has the
-// list that its label says, if any. `differ`: all names differ (request 2026-02).
+// list that its label says, if any.
 pub fn explore(
     question: &[u8],
     bodies: &[u32],
@@ -186,30 +184,34 @@ pub fn explore(
     firsts: &mut [u8],
     seconds: &mut [u8],
     work: &mut [u8],
-    capacity: usize,
-    differ: bool,
+    extent: Extent,
 ) -> Explored
-    requires { ⌜ (1 ≤ capacity) × (capacity ≤ 4096) × (slotBytes * capacity ≤ length (now work)) × BodiesTallied (now question) (now bodies) × (length (now tallies) ≡ tallySize) × (rowBytes * mostRows ≤ length (now rows)) × Labelled (now question) (now firsts) × Labelled (now question) (now seconds) ⌝ }
-    ensures { λ r. ⌜ ExploreIs differ (now (question .entry)) capacity (now (work .entry)) r (now (work .exit)) × Labelled (now (question .entry)) (now (firsts .exit)) × Labelled (now (question .entry)) (now (seconds .exit)) ⌝ }
+    requires { ⌜ (1 ≤ extent .capacity) × (extent .capacity ≤ 4096) × (slotBytes * extent .capacity ≤ length (now work)) × BodiesTallied (now question) (now bodies) × (length (now tallies) ≡ tallySize) × (rowBytes * mostRows ≤ length (now rows)) × Labelled (now question) (now firsts) × Labelled (now question) (now seconds) ⌝ }
+    ensures { λ r. ⌜ ExploreIs (extent .differ) (now (question .entry)) (extent .capacity) (now (work .entry)) r (now (work .exit)) × Labelled (now (question .entry)) (now (firsts .exit)) × Labelled (now (question .entry)) (now (seconds .exit)) ⌝ }
 {
+    let differ = extent.differ;
+    let capacity = extent.capacity;
     let key = start_key(question, differ);
     put(work, capacity, 0, &key);
     let mut known = 1;
     let mut taken = 0;
     while taken < known {
         clear_slot(work, taken);
+        let progress = Progress {
+            differ,
+            taken,
+            known,
+            capacity,
+        };
         let growth = grow(
             question,
             bodies,
-            taken,
             tallies,
             rows,
             firsts,
             seconds,
             work,
-            capacity,
-            known,
-            differ,
+            progress,
         );
         let Growth::Known(n) = growth else {
             return Explored::Incomplete;

@@ -21,11 +21,12 @@ use Rattle.steps.specs.Limits.{stepBytes}
 use Rattle.steps.specs.Listed.{ListedStep, namesFrom}
 use Rattle.field_slots.specs.Chains.{LinkIs, FindsIn}
 use Rattle.steps_conditions.specs.Conditions.{TrivialIs}
+use Rattle.field_slots.specs.Key.{slotWith}
 use Rattle.field_pairs.specs.Entry.{EntryAt, SameHeaderIs, AnswersIs}
 use Rattle.field.specs.Exploration.{found, together}
 use Rattle.field_growth.specs.Holding.{unanswered}
 use Rattle.field_successors.specs.Fits.{Fits}
-use Rattle.field_growth.specs.Growing.{Fitting, grownBy, grown, Knows, GrowsTo, AllFound, Puts, Grows, slotWith, KeepsStruck, several, LedTo}
+use Rattle.field_growth.specs.Growing.{Fitting, grownBy, grown, Knows, GrowsTo, AllFound, Puts, Grows, KeepsStruck, several, LedTo}
 use Rattle.field_growth.specs.Growing.{joined, LeadsWhere, AddIs, Gone, AddedIs, Flagged, answered, MirroredBy, lookedWith, answeredWith, Mirrored, GrowsAnswer, AnswerIs}
 use Rattle.field_growth.specs.Growing.{GrowsAnswers, AnswersAre, FirstAnswerIs, moved, Strikes, LeadsAfter, GrowsMove, GrowsNames, GrowsStep, GrowsSide, GrowsSides}
 use Rattle.field.specs.Situation.{Proper}

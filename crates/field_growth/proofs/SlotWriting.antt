@@ -6,14 +6,14 @@ use native.Mathlib.Omega.{arith}
 use borrow.Author.Count.{below-more}
 use lib.ListN.{length, getD, take, drop, set, length-append, take-append-drop, List·getD-append}
 use lib.Seq.{sets, sets-eq, length-sets, length-take-le, drop-at, take-at, getD-at, drop-set-lt, take-set-le, take-add}
-use Rattle.terms_bytes.proofs.Stores.{getD-front, sets-join}
+use Rattle.terms_bytes.proofs.Stores.{getD-front}
 use Rattle.steps.proofs.Membership.{all-++}
 use Rattle.steps_entries.proofs.Moves.{getD-before}
 use Rattle.field_slots.specs.Chains.{Chained, LinkIs}
 use Rattle.field_successors.specs.Fits.{Fits}
-use Rattle.field_growth.specs.Growing.{Fitting, Knows, slotWith, KeepsStruck}
+use Rattle.field_growth.specs.Growing.{Fitting, Knows, KeepsStruck}
 use Rattle.field_growth.specs.Holding.{SlotsHold}
-use Rattle.field_slots.specs.Key.{SituationAt, keyAt}
+use Rattle.field_slots.specs.Key.{SituationAt, slotWith, keyAt}
 use Rattle.field_slots.specs.Noted.{notedCount, notePlace, noteAt, SpareOnly}
 use Rattle.field.specs.Situation.{Situation}
 use Rattle.field_pairs.specs.Slot.{keyOf, keyBytes, slotBytes, struckAt}
@@ -167,16 +167,3 @@ module _ (work key : List ℕ) (i : ℕ) (room : slotBytes * i + slotBytes ≤ l
       slots = slots-kept now work′ (keeps-key capacity now work′ (L .keeps)) (ks ++ (s ∷ [])) slots-now;
       chained = L .chained chained-now;
     }
-
--- The key copied, and the byte behind it.
-put-slot : (work key : List ℕ) (i : ℕ) → keyBytes ≤ length key → (work′ : List ℕ) → work′ ≡ sets work (slotBytes * i) (take keyBytes (drop 0 key))
-    → set work′ (slotBytes * i + keyBytes) 0 ≡ slotWith work i key
-unfolding slotWith
-put-slot work key i long work′ w =
-    ap (λ l. set l (slotBytes * i + keyBytes) 0) w
-    ∙ sets-join work (slotBytes * i) (slotBytes * i + keyBytes) (take keyBytes key) (0 ∷ []) (omega (arith, length-take-le keyBytes key long))
-
-pub put-linked : (capacity : ℕ) (work key : List ℕ) (i : ℕ) → keyBytes ≤ length key → (copied work′ : List ℕ)
-    → copied ≡ sets work (slotBytes * i) (take keyBytes (drop 0 key)) → LinkIs capacity (set copied (slotBytes * i + keyBytes) 0) i work′
-    → LinkIs capacity (slotWith work i key) i work′
-put-linked capacity work key i long copied work′ w L = rw (put-slot work key i long copied w) at L

@@ -32,6 +32,7 @@ use Rattle.field_growth.specs.declared.growth.Added.{Added}
 use Rattle.field_growth.specs.declared.growth.Asked.{Asked}
 use Rattle.field_growth.specs.declared.growth.Growth.{Growth}
 use Rattle.field_growth.specs.declared.growth.Growth.the-variants.{Full, Known}
+use Rattle.field_growth.specs.declared.growth.Step.{Step}
 use Rattle.field.specs.Situation.{Proper}
 use Rattle.field_successors.specs.Fits.{Fits}
 
@@ -273,21 +274,37 @@ pub record GrowsNames (arities free apart : List ℕ) (second : Bool) (taken : �
       → (let ms = answeredWith second G D (select (among (lookedWith true G s)) names) s ts in
       All (Proper nameCount arities) (together ms) → LeadsAfter arities capacity taken before ms work known r work′)
 
+-- The situation in slot `taken` is one of the known ones, and these have their slots in a work area of so many bytes.
+pub record Underway (taken known capacity work : ℕ) : Type 0 where
+  pub waits : taken < known
+  pub few : known ≤ capacity
+  pub most : capacity ≤ 4096
+  pub room : slotBytes * capacity ≤ work
+
+-- So many steps may stand in an area of so many bytes.
+pub record HasSteps (count area : ℕ) : Type 0 where
+  pub most : count ≤ mostSteps
+  pub room : mostSteps * stepBytes ≤ area
+
 -- What the code asks for: everything has its place.
 pub record CanAsk (asked : Asked) (area others work known : ℕ) : Type 0 where
-  pub waits : asked .taken < known
-  pub few : known ≤ asked .capacity
-  pub most : asked .capacity ≤ 4096
-  pub room : slotBytes * asked .capacity ≤ work
+  pub slots : Underway (asked .taken) known (asked .capacity) work
   pub step : asked .at + stepBytes ≤ area
   pub first : asked .first ≤ asked .count
-  pub count : asked .count ≤ mostSteps
-  pub list : mostSteps * stepBytes ≤ others
+  pub list : HasSteps (asked .count) others
 
--- the move, and the names, of the step that is asked
-abbrev pub MoveIs : List ℕ → List ℕ → List ℕ → Asked → List ℕ → List ℕ → ℕ → List ℕ → ℕ → Growth → List ℕ → Type 0
-MoveIs arities free apart asked area others name work known r work′ =
-    GrowsMove arities free apart (asked .second) (asked .taken) area (asked .at) others (asked .first) (asked .count) name (asked .capacity) work known r work′
+-- an answer, all answers, the move and the names of the step that is asked
+abbrev pub AnswerTo : List ℕ → List ℕ → List ℕ → Asked → List ℕ → List ℕ → List ℕ → ℕ → Added → List ℕ → Type 0
+AnswerTo arities free apart asked area others work known r work′ =
+    AnswerIs arities free apart (asked .second) area (asked .at) others (stepBytes * asked .first) (asked .name) (asked .capacity) work known r work′
+
+abbrev pub AnswersTo : List ℕ → List ℕ → List ℕ → Asked → List ℕ → List ℕ → List ℕ → ℕ → Added → List ℕ → Type 0
+AnswersTo arities free apart asked area others work known r work′ =
+    AnswersAre arities free apart (asked .second) area (asked .at) others (asked .first) (asked .count) (asked .name) (asked .capacity) work known r work′
+
+abbrev pub MoveIs : List ℕ → List ℕ → List ℕ → Asked → List ℕ → List ℕ → List ℕ → ℕ → Growth → List ℕ → Type 0
+MoveIs arities free apart asked area others work known r work′ =
+    GrowsMove arities free apart (asked .second) (asked .taken) area (asked .at) others (asked .first) (asked .count) (asked .name) (asked .capacity) work known r work′
 
 abbrev pub NamesAre : List ℕ → List ℕ → List ℕ → Asked → List ℕ → List ℕ → List ℕ → List ℕ → ℕ → Growth → List ℕ → Type 0
 NamesAre arities free apart asked area others names work known r work′ =
@@ -303,6 +320,10 @@ pub record GrowsStep (arities free apart : List ℕ) (differ second : Bool) (tak
       → Mirrored differ second G D (s ∷ []) ts before
       → All (Proper nameCount arities) (together (moved differ second G D (s ∷ []) ts))
       → LeadsAfter arities capacity taken before (moved differ second G D (s ∷ []) ts) work known r work′
+
+abbrev pub StepIs : List ℕ → List ℕ → List ℕ → Step → List ℕ → List ℕ → List ℕ → ℕ → Growth → List ℕ → Type 0
+StepIs arities free apart step area others work known r work′ =
+    GrowsStep arities free apart (step .differ) (step .second) (step .taken) area (step .at) others (step .count) (step .capacity) work known r work′
 
 -- Every step of one side.
 pub record GrowsSide (arities free apart : List ℕ) (differ second : Bool) (taken : ℕ) (area : List ℕ) (steps : ℕ) (others : List ℕ) (count capacity : ℕ)

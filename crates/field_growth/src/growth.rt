@@ -1,14 +1,13 @@
-// Moved from explore.
+// The situations that a step and its answers lead to are put among those known: document 01, "The field and the verdict".
 ghost use mathlib.Core.List.{[], _∷_};
 ghost use mathlib.Core.Path.{_≡_};
 ghost use Prim.Native.Nat.{_+_, _*_, _<_, _≤_};
 ghost use lib.ListN.{length};
 ghost use Rattle.terms.specs.Limits.{nameCount};
-ghost use Rattle.steps.specs.Limits.{stepBytes, mostSteps};
+ghost use Rattle.steps.specs.Limits.{stepBytes};
 ghost use Rattle.steps.specs.Listed.{namesFrom};
-ghost use Rattle.field_slots.specs.Chains.{LinkIs};
-ghost use Rattle.field_growth.specs.Growing.{slotWith, joined, AddedIs, AnswerIs, AnswersAre, FirstAnswerIs};
-ghost use Rattle.field_growth.specs.Growing.{CanAsk, MoveIs, NamesAre, GrowsStep};
+ghost use Rattle.field_growth.specs.Growing.{joined, AddedIs, AnswerTo, AnswersTo, FirstAnswerIs};
+ghost use Rattle.field_growth.specs.Growing.{Underway, HasSteps, CanAsk, MoveIs, NamesAre, StepIs};
 ghost use Rattle.field_pairs.specs.Slot.{keyBytes, slotBytes};
 use field_pairs::entries::answers;
 use field_pairs::entries::same_header;
@@ -16,19 +15,16 @@ use field_pairs::names::is_received;
 use field_pairs::pairs::PAIR_COUNT;
 use field_pairs::pairs::allowed;
 use field_slots::chains::find_chained;
-use field_slots::chains::link;
+use field_slots::chains::put;
 use field_slots::find::Found;
 use field_slots::notes::note_sole;
-use field_slots::slot::KEY_BYTES;
-use field_slots::slot::SLOT_BYTES;
 use field_slots::slot::left_at;
+use field_slots::slot::strike;
+use field_successors::results::Answering;
 use field_successors::results::successor;
 use steps_conditions::condition::Condition;
 use steps_entries::limits::STEP_BYTES;
-use terms_bytes::bytes::copy;
 use terms_bytes::limits::NAME_COUNT;
-
-// The slot that both lots of situations have.
 
 // The number of situations known, or a limit is passed: they outgrow the capacity, or one of them is past a limit.
 pub enum Growth {
@@ -57,17 +53,6 @@ fn join(a: usize, b: usize) -> usize
         return a;
     }
     SEVERAL
-}
-
-// Writes the key into slot `i` and chains it; the byte behind the key says that the situation is left.
-pub fn put(work: &mut [u8], capacity: usize, i: usize, key: &[u8])
-    requires { ⌜ (i < capacity) × (capacity ≤ 4096) × (slotBytes * capacity ≤ length (now work)) × (keyBytes ≤ length (now key)) ⌝ }
-    ensures { λ _. ⌜ LinkIs capacity (slotWith (now (work .entry)) i (now (key .entry))) i (now (work .exit)) ⌝ }
-{
-    let at = SLOT_BYTES * i;
-    copy(key, 0, KEY_BYTES, work, at);
-    work[at + KEY_BYTES] = 0;
-    link(work, capacity, i);
 }
 
 // Puts the situation with this key behind the known ones if it is new.
@@ -103,25 +88,36 @@ fn add(work: &mut [u8], capacity: usize, known: usize, key: &[u8]) -> Added
     }
 }
 
-// What the step at `place` of the other side leads to, if it answers the one at `at`. A step of the second side and an answer with the same header
-// lead where the first side's step led, with the two exchanged: that situation is not looked for, and counts as left.
+// A step that must be answered, of the second or the first side of the situation in slot `taken`: where it stands, how many steps the other side has,
+// and from which of them on answers are looked for. Where all names differ (request 2026-02), `name` is the one received; else none of the names.
+struct Asked {
+    second: bool,
+    taken: usize,
+    at: usize,
+    first: usize,
+    count: usize,
+    name: usize,
+    capacity: usize,
+}
+
+// What the other side's step of number `first` leads to, if it is an answer. A step of the second side and an answer with the same header lead where
+// the first side's step led, with the two exchanged: that situation is not looked for, and counts as left.
 fn grow_answer(
     arities: &[u8],
     free: &[u8],
-    apart: [u8; PAIR_COUNT],
-    second: bool,
+    apart: &[u8; PAIR_COUNT],
     area: &[u8],
-    at: usize,
     others: &[u8],
-    place: usize,
-    name: usize,
+    asked: Asked,
     work: &mut [u8],
-    capacity: usize,
     known: usize,
 ) -> Added
-    requires { ⌜ (1 ≤ capacity) × (known ≤ capacity) × (capacity ≤ 4096) × (slotBytes * capacity ≤ length (now work)) × (at + stepBytes ≤ length (now area)) × (place + stepBytes ≤ length (now others)) ⌝ }
-    ensures { λ r. ⌜ AnswerIs (now (arities .entry)) (now (free .entry)) apart second (now (area .entry)) at (now (others .entry)) place name capacity (now (work .entry)) known r (now (work .exit)) ⌝ }
+    requires { ⌜ CanAsk asked (length (now area)) (length (now others)) (length (now work)) known × (asked .first < asked .count) ⌝ }
+    ensures { λ r. ⌜ AnswerTo (now (arities .entry)) (now (free .entry)) (now (apart .entry)) asked (now (area .entry)) (now (others .entry)) (now (work .entry)) known r (now (work .exit)) ⌝ }
 {
+    let at = asked.at;
+    let first = asked.first;
+    let place = STEP_BYTES * first;
     if !answers(area, at, others, place) {
         return Added {
             growth: Growth::Known(known),
@@ -129,7 +125,7 @@ fn grow_answer(
             led: 0,
         };
     }
-    if second {
+    if asked.second {
         if same_header(area, at, others, place) {
             return Added {
                 growth: Growth::Known(known),
@@ -138,49 +134,46 @@ fn grow_answer(
             };
         }
     }
-    let key = successor(arities, free, apart, second, area, at, others, place, name);
-    add(work, capacity, known, &key)
+    let answer = Answering {
+        second: asked.second,
+        at,
+        place,
+        name: asked.name,
+    };
+    let key = successor(arities, free, apart, area, others, answer);
+    add(work, asked.capacity, known, &key)
 }
 
-// What every answer of the other side, which has `count` steps, leads to, whether one of those situations is left, and their slot; none before
-// `first` answers.
+// What every answer of the other side leads to, whether one of those situations is left, and their slot; none before `first` answers.
 fn grow_answers(
     arities: &[u8],
     free: &[u8],
-    apart: [u8; PAIR_COUNT],
-    second: bool,
+    apart: &[u8; PAIR_COUNT],
     area: &[u8],
-    at: usize,
     others: &[u8],
-    first: usize,
-    count: usize,
-    name: usize,
+    asked: Asked,
     work: &mut [u8],
-    capacity: usize,
     known: usize,
 ) -> Added
-    requires { ⌜ (1 ≤ capacity) × (known ≤ capacity) × (capacity ≤ 4096) × (slotBytes * capacity ≤ length (now work)) × (at + stepBytes ≤ length (now area)) × (first ≤ count) × (count ≤ mostSteps) × (mostSteps * stepBytes ≤ length (now others)) ⌝ }
-    ensures { λ r. ⌜ AnswersAre (now (arities .entry)) (now (free .entry)) apart second (now (area .entry)) at (now (others .entry)) first count name capacity (now (work .entry)) known r (now (work .exit)) ⌝ }
+    requires { ⌜ CanAsk asked (length (now area)) (length (now others)) (length (now work)) known ⌝ }
+    ensures { λ r. ⌜ AnswersTo (now (arities .entry)) (now (free .entry)) (now (apart .entry)) asked (now (area .entry)) (now (others .entry)) (now (work .entry)) known r (now (work .exit)) ⌝ }
 {
+    let count = asked.count;
     let mut so_far = known;
     let mut left = false;
     let mut led = 0;
-    let mut j = first;
+    let mut j = asked.first;
     while j < count {
-        let added = grow_answer(
-            arities,
-            free,
-            apart,
-            second,
-            area,
-            at,
-            others,
-            STEP_BYTES * j,
-            name,
-            work,
-            capacity,
-            so_far,
-        );
+        let next = Asked {
+            second: asked.second,
+            taken: asked.taken,
+            at: asked.at,
+            first: j,
+            count,
+            name: asked.name,
+            capacity: asked.capacity,
+        };
+        let added = grow_answer(arities, free, apart, area, others, next, work, so_far);
         let growth = added.growth;
         let Growth::Known(n) = growth else {
             return Added {
@@ -216,108 +209,80 @@ fn first_answer(area: &[u8], at: usize, others: &[u8], count: usize) -> usize
     count
 }
 
-// A step that must be answered: the second side's or the first's, of the situation in slot `taken`, where it stands, the number of its first answer, and
-// how many steps the other side has.
-struct Asked {
-    second: bool,
-    taken: usize,
-    at: usize,
-    first: usize,
-    count: usize,
-    capacity: usize,
-}
-
-// What its answers lead to, one move. Where all lead to situations that are struck out, none is ever left: the situation is struck out. Where all lead
+// What the answers lead to, one move. Where all lead to situations that are struck out, none is ever left: the situation is struck out. Where all lead
 // to one situation, that is noted.
 fn grow_move(
     arities: &[u8],
     free: &[u8],
-    apart: [u8; PAIR_COUNT],
-    asked: Asked,
+    apart: &[u8; PAIR_COUNT],
     area: &[u8],
     others: &[u8],
-    name: usize,
+    asked: Asked,
     work: &mut [u8],
     known: usize,
 ) -> Growth
     requires { ⌜ CanAsk asked (length (now area)) (length (now others)) (length (now work)) known ⌝ }
-    ensures { λ r. ⌜ MoveIs (now (arities .entry)) (now (free .entry)) apart asked (now (area .entry)) (now (others .entry)) name (now (work .entry)) known r (now (work .exit)) ⌝ }
+    ensures { λ r. ⌜ MoveIs (now (arities .entry)) (now (free .entry)) (now (apart .entry)) asked (now (area .entry)) (now (others .entry)) (now (work .entry)) known r (now (work .exit)) ⌝ }
 {
     let taken = asked.taken;
-    let added = grow_answers(
-        arities,
-        free,
-        apart,
-        asked.second,
-        area,
-        asked.at,
-        others,
-        asked.first,
-        asked.count,
-        name,
-        work,
-        asked.capacity,
-        known,
-    );
+    let added = grow_answers(arities, free, apart, area, others, asked, work, known);
     if added.left {
         if added.led < SEVERAL {
             note_sole(work, taken, added.led);
         }
         return added.growth;
     }
-    work[SLOT_BYTES * taken + KEY_BYTES] = 1;
+    strike(work, taken);
     Growth::Known(known)
 }
 
-// The move with `name`, if the step receives it.
+// The move with the name, if the step receives it.
 fn grow_name(
     arities: &[u8],
     free: &[u8],
-    apart: [u8; PAIR_COUNT],
-    asked: Asked,
+    apart: &[u8; PAIR_COUNT],
     area: &[u8],
     others: &[u8],
-    name: usize,
+    asked: Asked,
     work: &mut [u8],
     known: usize,
 ) -> Growth
-    requires { ⌜ CanAsk asked (length (now area)) (length (now others)) (length (now work)) known × (name < nameCount) ⌝ }
-    ensures { λ r. ⌜ NamesAre (now (arities .entry)) (now (free .entry)) apart asked (now (area .entry)) (now (others .entry)) (name ∷ []) (now (work .entry)) known r (now (work .exit)) ⌝ }
+    requires { ⌜ CanAsk asked (length (now area)) (length (now others)) (length (now work)) known × (asked .name < nameCount) ⌝ }
+    ensures { λ r. ⌜ NamesAre (now (arities .entry)) (now (free .entry)) (now (apart .entry)) asked (now (area .entry)) (now (others .entry)) (asked .name ∷ []) (now (work .entry)) known r (now (work .exit)) ⌝ }
 {
-    if !is_received(free, area, asked.at, name) {
+    if !is_received(free, area, asked.at, asked.name) {
         return Growth::Known(known);
     }
-    grow_move(arities, free, apart, asked, area, others, name, work, known)
+    grow_move(arities, free, apart, area, others, asked, work, known)
 }
 
 // Where all names differ (request 2026-02): one move for each name that the step receives.
 fn grow_names(
     arities: &[u8],
     free: &[u8],
-    apart: [u8; PAIR_COUNT],
-    asked: Asked,
+    apart: &[u8; PAIR_COUNT],
     area: &[u8],
     others: &[u8],
+    asked: Asked,
     work: &mut [u8],
     known: usize,
 ) -> Growth
     requires { ⌜ CanAsk asked (length (now area)) (length (now others)) (length (now work)) known ⌝ }
-    ensures { λ r. ⌜ NamesAre (now (arities .entry)) (now (free .entry)) apart asked (now (area .entry)) (now (others .entry)) (namesFrom 0 nameCount) (now (work .entry)) known r (now (work .exit)) ⌝ }
+    ensures { λ r. ⌜ NamesAre (now (arities .entry)) (now (free .entry)) (now (apart .entry)) asked (now (area .entry)) (now (others .entry)) (namesFrom 0 nameCount) (now (work .entry)) known r (now (work .exit)) ⌝ }
 {
     let mut so_far = known;
     let mut name = 0;
     while name < NAME_COUNT {
-        let growth = grow_name(
-            arities,
-            free,
-            apart,
-            asked,
-            area,
-            others,
+        let named = Asked {
+            second: asked.second,
+            taken: asked.taken,
+            at: asked.at,
+            first: asked.first,
+            count: asked.count,
             name,
-            work,
-            so_far,
-        );
+            capacity: asked.capacity,
+        };
+        let growth = grow_name(arities, free, apart, area, others, named, work, so_far);
         let Growth::Known(n) = growth else {
             return Growth::Full;
         };
@@ -327,61 +292,62 @@ fn grow_names(
     Growth::Known(so_far)
 }
 
-// What the step at `at` of the situation in slot `taken` leads to, if it must be answered; `differ`: all names differ. Where no answer is there, the
-// situation is struck out. All answers to a step without a condition have its header.
+// A step of the second or the first side of the situation in slot `taken`: where it stands, and how many steps the other side has; `differ`: all names
+// differ.
+pub struct Step {
+    pub differ: bool,
+    pub second: bool,
+    pub taken: usize,
+    pub at: usize,
+    pub count: usize,
+    pub capacity: usize,
+}
+
+// What the step leads to, if it must be answered. Where no answer is there, the situation is struck out. All answers to a step without a condition have
+// its header.
 pub fn grow_step(
     arities: &[u8],
     free: &[u8],
-    apart: [u8; PAIR_COUNT],
-    differ: bool,
-    second: bool,
-    taken: usize,
+    apart: &[u8; PAIR_COUNT],
     area: &[u8],
-    at: usize,
     others: &[u8],
-    count: usize,
+    step: Step,
     work: &mut [u8],
-    capacity: usize,
     known: usize,
 ) -> Growth
-    requires { ⌜ (taken < known) × (known ≤ capacity) × (capacity ≤ 4096) × (slotBytes * capacity ≤ length (now work)) × (at + stepBytes ≤ length (now area)) × (count ≤ mostSteps) × (mostSteps * stepBytes ≤ length (now others)) ⌝ }
-    ensures { λ r. ⌜ GrowsStep (now (arities .entry)) (now (free .entry)) apart differ second taken (now (area .entry)) at (now (others .entry)) count capacity (now (work .entry)) known r (now (work .exit)) ⌝ }
+    requires { ⌜ Underway (step .taken) known (step .capacity) (length (now work)) × (step .at + stepBytes ≤ length (now area)) × HasSteps (step .count) (length (now others)) ⌝ }
+    ensures { λ r. ⌜ StepIs (now (arities .entry)) (now (free .entry)) (now (apart .entry)) step (now (area .entry)) (now (others .entry)) (now (work .entry)) known r (now (work .exit)) ⌝ }
 {
-    if !allowed(differ, &apart, area, at) {
+    let differ = step.differ;
+    let taken = step.taken;
+    let at = step.at;
+    let count = step.count;
+    if !allowed(differ, apart, area, at) {
         return Growth::Known(known);
     }
     let first = first_answer(area, at, others, count);
     if first == count {
-        work[SLOT_BYTES * taken + KEY_BYTES] = 1;
+        strike(work, taken);
         return Growth::Known(known);
     }
-    if second {
+    if step.second {
         if Condition::is_trivial(area, at) {
             return Growth::Known(known);
         }
     }
     let asked = Asked {
-        second,
+        second: step.second,
         taken,
         at,
         first,
         count,
-        capacity,
+        name: NAME_COUNT,
+        capacity: step.capacity,
     };
     if differ {
-        return grow_names(arities, free, apart, asked, area, others, work, known);
+        return grow_names(arities, free, apart, area, others, asked, work, known);
     }
-    grow_move(
-        arities,
-        free,
-        apart,
-        asked,
-        area,
-        others,
-        NAME_COUNT,
-        work,
-        known,
-    )
+    grow_move(arities, free, apart, area, others, asked, work, known)
 }
 
 // More than any number of a slot plus 1.

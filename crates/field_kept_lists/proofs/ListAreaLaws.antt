@@ -16,7 +16,7 @@ use Rattle.steps.specs.Limits.{stepBytes}
 use Rattle.steps.specs.Listed.{ListedStep}
 use Rattle.steps.specs.Listing.{Listing, unsettled, listed, stepsOf}
 use Rattle.steps.specs.Operations.{listBytes}
-use Rattle.steps_splicing.specs.ListedParts.{Lists}
+use Rattle.steps_lister.specs.PartLister.{Lists}
 use Rattle.steps_lister.specs.PartLister.{AnswersListing, ListPartIs}
 use Rattle.steps_lister.specs.declared.list.ListAnswer.{ListAnswer}
 use Rattle.steps_lister.specs.declared.list.ListAnswer.the-variants.{Unsettled, Count}
@@ -130,7 +130,7 @@ module _ (question part : List ℕ) (x : ℕ) (area : List ℕ) (r : ListAnswer)
 
   side-past : r ≡ Unsettled → (b : List ℕ) → SideIs question part x Unsettled b
   unfolding SideIs AnswersListing
-  side-past u b q P l new = go (stepsOf (q .bodies) x P) (answer .is q P l)
+  side-past u b q P l new = go (stepsOf (q .bodies) x P) (answer .is q P l new)
     where
       go : (k : Listing) → AnswersListing k r steps → k ≡ unsettled
       go unsettled e = refl
@@ -141,7 +141,7 @@ module _ (question part : List ℕ) (x : ℕ) (area : List ℕ) (r : ListAnswer)
 
   list-made : (n : ℕ) → r ≡ Count n → ListIn question part x n steps
   unfolding AnswersListing
-  list-made n c = record { few = answer .few n c; is = λ q P l new. go q P l new (stepsOf (q .bodies) x P) refl (answer .is q P l) }
+  list-made n c = record { few = answer .few n c; is = λ q P l new. go q P l new (stepsOf (q .bodies) x P) refl (answer .is q P l new) }
     where
       go : (q : Question) (P : Term) → Lists question part x q P → ¬ Free x P → (k : Listing) → stepsOf (q .bodies) x P ≡ k
           → AnswersListing k r steps

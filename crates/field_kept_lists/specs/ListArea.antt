@@ -14,7 +14,7 @@ use Rattle.steps.specs.Listed.{ListedStep}
 use Rattle.steps.specs.Listing.{unsettled, listed, stepsOf}
 use Rattle.steps.specs.Operations.{listBytes}
 use Rattle.steps_entries.specs.Entries.{listRoom}
-use Rattle.steps_splicing.specs.ListedParts.{Lists}
+use Rattle.steps_lister.specs.PartLister.{Lists}
 use Rattle.steps_lister.specs.declared.list.ListAnswer.{ListAnswer}
 use Rattle.steps_lister.specs.declared.list.ListAnswer.the-variants.{Unsettled, Count}
 

@@ -18,7 +18,7 @@ use Rattle.field.specs.Situation.{freeFrom}
 use Rattle.field.specs.Successors.{select, received}
 use Rattle.field.proofs.Proper.{free-from, from-free}
 use Rattle.field.proofs.Selections.{select-∈, select-same}
-use Rattle.field_pairs.specs.Entry.{EntryAt}
+use Rattle.field_pairs.specs.Entry.{EntryAt, kindByte, objectByte}
 use Rattle.field_pairs.specs.NameFlags.{HasNames, ReceivedIs}
 use Rattle.field_pairs.specs.Slot.{flag}
 use Rattle.field_pairs.proofs.EntryLaws.{entry-kind, entry-object}
@@ -50,7 +50,7 @@ among-received G s n l = go (eqb (s .kind) 1)
     go false = or-false (eqb n (s .object))
 
 module _ (free area : List ℕ) (at name : ℕ) (l : name < nameCount) where
-  pub received-object : getD area (at + 18) 0 ≡ name → ReceivedIs free area at name true
+  pub received-object : getD area (at + objectByte) 0 ≡ name → ReceivedIs free area at name true
   unfolding ReceivedIs
   received-object q G s h e = sym (among-received G s name l ∙ rw (eq-eqb name (s .object) (sym q ∙ entry-object area at s e)) (go (eqb (s .kind) 1)))
     where
@@ -58,16 +58,16 @@ module _ (free area : List ℕ) (at name : ℕ) (l : name < nameCount) where
       go true = refl
       go false = refl
 
-  module _ (other : getD area (at + 18) 0 ≡ name → ⊥) where
+  module _ (other : getD area (at + objectByte) 0 ≡ name → ⊥) where
     not-object : (s : ListedStep) → EntryAt area at s → eqb name (s .object) ≡ false
     not-object s e = ne-eqb name (s .object) (λ q. other (entry-object area at s e ∙ sym q))
 
-    pub received-none : (getD area (at + 16) 0 ≡ 1 → ⊥) → ReceivedIs free area at name false
+    pub received-none : (getD area (at + kindByte) 0 ≡ 1 → ⊥) → ReceivedIs free area at name false
     unfolding ReceivedIs
     received-none k G s h e =
         sym (among-received G s name l ∙ rw (not-object s e, ne-eqb (s .kind) 1 (λ q. k (entry-kind area at s e ∙ q))))
 
-    pub received-free : getD area (at + 16) 0 ≡ 1 → ReceivedIs free area at name (not (eqb (getD free name 0) 0))
+    pub received-free : getD area (at + kindByte) 0 ≡ 1 → ReceivedIs free area at name (not (eqb (getD free name 0) 0))
     unfolding ReceivedIs HasNames flag
     received-free k G s h e =
         sym (among-received G s name l ∙ rw (not-object s e, eq-eqb (s .kind) 1 (sym (entry-kind area at s e) ∙ k), h name l) (go (among G name)))

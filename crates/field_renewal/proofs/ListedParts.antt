@@ -35,7 +35,7 @@ use Rattle.steps.specs.Limits.{mostSteps, stepBytes}
 use Rattle.steps.specs.Listed.{ListedStep, listedAs, objectOf, classIn, resultBytes, bytes}
 use Rattle.steps.specs.Listing.{listed, stepsOf}
 use Rattle.steps.specs.Operations.{listBytes}
-use Rattle.steps_splicing.specs.ListedParts.{Lists}
+use Rattle.steps_lister.specs.PartLister.{Lists}
 use Rattle.steps.proofs.ClassLists.{length-classes, class-of}
 use Rattle.steps.proofs.ListedBytes.{step-size, length-listBytes}
 use Rattle.steps.proofs.ListingLaws.{listing-exact}

@@ -29,7 +29,7 @@ use Rattle.steps_entries.specs.Entries.{Sized, entryFrom, comesBefore}
 use Rattle.steps.specs.Limits.{stepBytes}
 use Rattle.steps.specs.Listed.{ListedStep, resultBytes, bytes}
 use Rattle.steps.specs.Operations.{listBytes}
-use Rattle.steps_splicing.specs.ListedParts.{Lists}
+use Rattle.steps_lister.specs.PartLister.{Lists}
 use Rattle.steps_lister.specs.Renewed.{bindsNew, renewed}
 use Rattle.steps_lister.specs.declared.list.ListAnswer.{ListAnswer}
 use Rattle.steps_lister.specs.declared.list.ListAnswer.the-variants.{Unsettled, Count}

@@ -8,7 +8,7 @@ use Rattle.terms.specs.Encoding.{InScope}
 use Rattle.terms.specs.Limits.{nameCount}
 use Rattle.steps.specs.Limits.{stepBytes}
 use Rattle.steps.specs.Listed.{ListedStep}
-use Rattle.steps_splicing.specs.ListedParts as lister
+use Rattle.steps_lister.specs.PartLister as lister
 use Rattle.field_pairs.specs.Entry.{EntryAt, Rewritten}
 
 -- A list of steps in an area, each at its place, with results of the question's definitions, rewritten by the conditions, and objects that are names.

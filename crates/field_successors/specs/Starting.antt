@@ -6,16 +6,17 @@ use Prim.Native.Nat.{ℕ, _+_, _≤_}
 use lib.ListN.{length, replicate}
 use Rattle.calculus.specs.Cond.{Pairs}
 use Rattle.calculus.specs.Term.{Term}
-use Rattle.terms.specs.Encoding.{encode}
-use Rattle.terms.specs.Limits.{longestTerm}
+use Rattle.calculus.specs.Tidy.{tidy}
+use Rattle.terms.specs.Encoding.{encode, InScope}
+use Rattle.terms.specs.Limits.{nameCount, longestTerm}
 use Rattle.terms.specs.Question.{pairBytes}
 use Rattle.field_pairs.specs.Slot.{partBytes, flagsOf}
 
--- A part that fits takes the place of zeros, its length first.
-unfoldable pub PutsPart : List ℕ → List ℕ → ℕ → List ℕ → Type 0
-PutsPart part key put key′ =
-    (P : Term) (front rest : List ℕ) → part ≡ encode 0 P → length (encode 0 P) ≤ longestTerm → length front ≡ put
-    → key ≡ front ++ (replicate (1 + longestTerm) 0 ++ rest) → key′ ≡ front ++ (partBytes P ++ rest)
+-- A part that fits takes the place of zeros, tidied (request 2026-04), its length first.
+unfoldable pub PutsPart : List ℕ → List ℕ → List ℕ → ℕ → List ℕ → Type 0
+PutsPart part arities key put key′ =
+    (P : Term) (front rest : List ℕ) → InScope nameCount arities 0 P → part ≡ encode 0 P → length (encode 0 P) ≤ longestTerm → length front ≡ put
+    → key ≡ front ++ (replicate (1 + longestTerm) 0 ++ rest) → key′ ≡ front ++ (partBytes (tidy P) ++ rest)
 
 -- The pairs of an apart list.
 unfoldable pub MarksList : List ℕ → List ℕ → List ℕ → Type 0

@@ -17,18 +17,19 @@ use terms_bytes::frame::arities;
 use terms_bytes::frame::definitions;
 use terms_bytes::frame::field_at;
 use terms_bytes::frame::field_place;
+use terms_bytes::limits::LONGEST_TERM;
+use terms_tidying::tidy::tidy;
 
-// Writes a part at `put`, its length first; one that is too long is left out.
-fn put_part(part: &[u8], key: &mut [u8], put: usize)
+// Writes a part at `put`, tidied (request 2026-04), its length first.
+fn put_part(part: &[u8], list: &[u8], key: &mut [u8], put: usize)
     requires { ⌜ put + 113 ≤ length (now key) ⌝ }
-    ensures { λ _. ⌜ PutsPart (now (part .entry)) (now (key .entry)) put (now (key .exit)) ⌝ }
+    ensures { λ _. ⌜ PutsPart (now (part .entry)) (now (list .entry)) (now (key .entry)) put (now (key .exit)) ⌝ }
 {
-    let n = part.len();
-    if PART_BYTES <= n {
-        return;
-    }
+    let mut tidied = [0u8; LONGEST_TERM];
+    let ends = tidy(part, 0, list, &mut tidied, 0);
+    let n = ends.written;
     key[put] = n as u8;
-    copy(part, 0, n, key, put + 1);
+    copy(&tidied, 0, n, key, put + 1);
 }
 
 // Holds the names of each pair of an apart list apart, from the last pair on.
@@ -63,11 +64,12 @@ pub fn start_key(question: &[u8], differ: bool) -> [u8; KEY_BYTES]
 {
     let first = field_place(question, definitions(question));
     let second = after_field(question, first);
+    let called = arities(question);
     let mut key = [0u8; KEY_BYTES];
-    put_part(field_at(question, first), &mut key, 0);
-    put_part(field_at(question, second), &mut key, PART_BYTES);
+    put_part(field_at(question, first), called, &mut key, 0);
+    put_part(field_at(question, second), called, &mut key, PART_BYTES);
     let list = field_at(question, after_field(question, second));
     let apart = start_pairs(list, differ);
-    complete(&mut key, arities(question), &apart);
+    complete(&mut key, called, &apart);
     key
 }

@@ -21,7 +21,7 @@ use Rattle.steps.specs.Limits.{mostSteps, stepBytes}
 use Rattle.steps.specs.Listed.{ListedStep}
 use Rattle.steps.specs.Listing.{Listing, unsettled, listed, stepsOf}
 use Rattle.steps.specs.Operations.{listBytes}
-use Rattle.steps_splicing.specs.ListedParts as lister
+use Rattle.steps_lister.specs.PartLister as lister
 use Rattle.steps_lister.specs.declared.list.ListAnswer.{ListAnswer}
 use Rattle.steps_lister.specs.declared.list.ListAnswer.the-variants.{Unsettled}
 use Rattle.field_pairs.specs.Entry.{BindsIs}

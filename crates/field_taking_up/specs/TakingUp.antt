@@ -12,7 +12,7 @@ use Rattle.terms.specs.Question.{Question, checkOf}
 use Rattle.steps.specs.Limits.{mostSteps}
 use Rattle.steps.specs.Listed.{ListedStep}
 use Rattle.steps.specs.Listing.{listed, stepsOf}
-use Rattle.steps_splicing.specs.ListedParts as lister
+use Rattle.steps_lister.specs.PartLister as lister
 use Rattle.field_slots.specs.Key.{SituationAt}
 use Rattle.field_successors.specs.Leading.{placed}
 use Rattle.field_pairs.specs.NameFlags.{HasNames}

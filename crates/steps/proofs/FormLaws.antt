@@ -82,7 +82,7 @@ tidied-form = record {
 -- the form of the service
 pub result-form : Form resultForm
 unfolding resultForm
-result-form = as-it-is
+result-form = tidied-form
 
 module _ {form : Term → Term} (f : Form form) where
   -- the same free names

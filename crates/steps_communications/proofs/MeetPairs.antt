@@ -28,11 +28,11 @@ use Rattle.steps_placing.specs.Taking.{candidatesOf, TakeIs}
 use Rattle.steps_rows.specs.Rows.{actionKind, rowAction, Outlined}
 use Rattle.steps_splicing.specs.PlacedResults.{Trivial}
 use Rattle.steps_entries.specs.StepActions.{stepAction}
-use Rattle.steps_placing.specs.Placing.{PutPlacedIs, PutClassedIs}
+use Rattle.steps_placing.specs.Placing.{PutClassedIs}
 use Rattle.steps_communications.specs.declared.meet.Partner.{Partner}
 use Rattle.steps_placing.proofs.DecidingLaws.{decided-step, met-like, like-trivial}
 use Rattle.steps_communications.proofs.MeetLaws.{trivial-match, opposite, pair-same, merged-inside, pair-merged}
-use Rattle.steps_communications.proofs.MetLaws.{From, raised-from, unopened-of}
+use Rattle.steps_communications.proofs.MetLaws.{raised-from}
 use Rattle.steps_placing.proofs.ResultScope.{silent-scope}
 use Rattle.steps_rows.proofs.RowLaws.{row-act, plain-step}
 
@@ -96,12 +96,11 @@ module _ (question part : List ℕ) (at depth number : ℕ) (a b : Partner) (j x
   }
 
   module _ (k : a .kind ≤ 3) (l : b .kind ≤ 3) where
-    -- The communication on one channel, as a candidate of the whole and of the parallel.
+    -- The communication on one channel, as a candidate of the whole.
     record OnOne (K : List Frame) (s t : Candidate) : Type 0 where
       condition : Cond
       whole : Term
       is : raised K (communication s t) ≡ step condition tauA whole
-      from : From K (communication s t) condition tauA whole
       asks : Trivial condition
 
     on-one : a .channel ≡ b .channel → (K : List Frame) → restrictions K ≡ depth → (s t : Candidate)
@@ -116,30 +115,8 @@ module _ (question part : List ℕ) (at depth number : ℕ) (a b : Partner) (j x
           condition = L .condition;
           whole = S .whole;
           is = L .is;
-          from = raised-from K (communication s t) (L .condition) tauA (S .whole) (L .is);
           asks = like-trivial (L .condition) N (L .same) (trivial-match (S .outer));
         }
-
-    pub pair-placed : a .channel ≡ b .channel → PutPlacedIs question part at depth true j (record { kind = 0; channel = 0; object = 0 }) x area count r area′
-        → PairIs question part at depth number a b j x area count r area′
-    unfolding candidates Unextruded stepAction
-    pair-placed e T = record {
-      is = λ q P lists K L R first p s t _ _ _ _ left right m h f.
-          let S = on-one e K (p .level) s t left right m in
-          let F = S .from in
-          subst (λ c. PutIs c x area count r area′) (sym (S .is))
-          (T .is q P lists K (par L R) first number (S .condition) tauA (S .whole)
-          (record {
-            placed = p;
-            condition = F .condition;
-            action = F .action;
-            result = F .result;
-            own = f ∙ F .own;
-            is = F .is;
-            unopened = unopened-of K (F .condition) (F .action) (F .result) (S .condition) tauA (S .whole) (F .is) tt;
-          })
-          (S .asks) refl);
-    }
 
     pub pair-classed : (a .channel ≡ b .channel → ⊥) → (class : List ℕ) → ((n : ℕ) → n < nameCount → getD class n 0 ≡ join (a .channel) (b .channel) n)
         → PutClassedIs question part true (number + j) class (record { kind = 0; channel = 0; object = 0 }) x area count r area′

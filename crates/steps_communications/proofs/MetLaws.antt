@@ -29,6 +29,12 @@ use Rattle.steps_splicing.specs.Contexts.{Frame, leftOf, rightOf, beneath, fill
 use Rattle.steps_splicing.specs.Locating.{Component, Leads, LocateIs, Holes, PutMetIs, Unextruded, tableSlot, TakeMetIs}
 use Rattle.steps_splicing.specs.ListedParts.{Lists}
 use Rattle.steps_splicing.specs.PlacedResults.{Unopened}
+use Rattle.steps_splicing.specs.Ready.{PartUnrestricted}
+use Rattle.terms_tidying.specs.Restrictions.{Unrestricted}
+use Rattle.steps_tallies.specs.Candidates.{candidates}
+use Rattle.steps_tallies.proofs.Unrestricted.{Plain, unrestricted-ren}
+use Rattle.steps_splicing.proofs.PlainContexts.{plain-filled, plain-raised, plain-result}
+use Rattle.steps_placing.proofs.PlainResults.{plain-term, plain-part}
 use Rattle.steps_splicing.specs.declared.locate.Located.{Located}
 use Rattle.steps_splicing.proofs.ContextLaws.{fill-bytes, fill-bytes-in, level-before, placed-left, placed-right, placed-bytes, placed-depth}
 use Rattle.steps_splicing.proofs.PlacedResults.{raised-never, filled-result}
@@ -166,7 +172,7 @@ sided q s at d C c l E M α A e u y new h =
           (unopened-of K (F .condition) (F .action) (F .result) M α A (F .is) u);
     }
 
-module _ (question part tally : List ℕ) (T : TallyIs question part 1 tally) (at depth v w object : ℕ) (left : Located) (one : LocateIs part tally (at + 1) depth v left)
+module _ (question part tally : List ℕ) (T : TallyIs question part 1 tally) (U : PartUnrestricted question part) (at depth v w object : ℕ) (left : Located) (one : LocateIs part tally (at + 1) depth v left)
     (m : ℕ) (N : MiddleIs part tally at m) (right : Located) (two : LocateIs part tally m depth w right) where
   module _ (q : Question) (P : Term) (x : ℕ) (lists : Lists question part x q P) (K : List Frame) (L R : Term) (first number : ℕ)
       (p : Placed (q .arities) (bodyOf (q .bodies)) P K (par L R) at depth first number) (α : Act) (A : Term) (β : Act) (B : Term) (y new : ℕ)
@@ -269,7 +275,7 @@ module _ (question part tally : List ℕ) (T : TallyIs question part 1 tally) (a
 
   pub met-taken : (new : ℕ) → new ≡ tableSlot object → (merges : Bool) (class area : List ℕ) (count r : ℕ) (area′ : List ℕ)
       → PutMetIs question part left right new merges class area count r area′ → TakeMetIs question part at depth v w object merges class area count r area′
-  unfolding Leads Unopened receiving
+  unfolding Leads Unopened receiving candidates
   met-taken new slot merges class area count r area′ put = record {
     is = λ q P x lists K L R first number p hv hw M₁ α A ea ua M₂ β B eb ub y sent below N₁ M W e c scope.
         let h = subst (λ (n : ℕ). HasNew depth n y) (sym slot) (new-sent depth y object sent below) in
@@ -289,5 +295,12 @@ module _ (question part tally : List ℕ) (T : TallyIs question part 1 tally) (a
         let whole : W ≡ fill K (par (fill (l .frames) (ren (receiving (l .name) (λ n. n) (l .action)) (l .result))) (fill (r .frames) (ren (receiving (r .name) (λ n. n) (r .action)) (r .result)))) =
         sym (ren-id W) ∙ filled-result K M tauA W 0 N₁ tauA (par one-side other-side) e tt ∙ ap (fill K) (ren-id (par one-side other-side))
         ∙ ap₂ (λ (C D : Term). fill K (par C D)) (l .filled) (r .filled) in
-        put .is q x M W (lists .accepted) c scope (holes q P x lists K L R first number p α A β B y new l r ends W whole);
+        let f = plain-filled K (par L R) (subst Unrestricted (sym (p .whole)) (plain-part question part U x q P lists)) in
+        let bodies = U .0 q (lists .accepted) in
+        let a : Unrestricted one-side =
+        unrestricted-ren (receiving y (λ n. n) α) A (plain-result M₁ α A (plain-term (bodyOf (q .bodies)) bodies L (f .0 .0) false v M₁ α A ea)) in
+        let b : Unrestricted other-side =
+        unrestricted-ren (receiving y (λ n. n) β) B (plain-result M₂ β B (plain-term (bodyOf (q .bodies)) bodies R (f .0 .1) false w M₂ β B eb)) in
+        let u : Plain (step M tauA W) = subst Plain e (plain-raised K (f .1) (step N₁ tauA (par one-side other-side)) (a, b)) in
+        put .is q x M W (lists .accepted) c scope u (holes q P x lists K L R first number p α A β B y new l r ends W whole);
   }

@@ -1,8 +1,10 @@
 // The communications of a parallel, from the rows of its two sides (specs/Rows).
 ghost use mathlib.Core.Path.{_≡_};
+ghost use mathlib.Core.Bool.{true};
 ghost use Prim.Native.Nat.{_+_, _*_, _≤_, _<_};
-ghost use lib.ListN.{length};
+ghost use lib.ListN.{length, getD};
 ghost use Rattle.terms.specs.Limits.{nameCount, longestTerm};
+ghost use Rattle.steps_tallies.specs.Tally.{restrictedAt};
 ghost use Rattle.steps_splicing.specs.Ready.{Inside};
 ghost use Rattle.steps_splicing.specs.Locating.{tableSlot, TakeMetIs};
 ghost use Rattle.steps_placing.specs.Putting.{CanPut};
@@ -17,14 +19,13 @@ use steps_placing::put::Communication;
 use steps_placing::put::Step;
 use steps_placing::put::put_classed;
 use steps_placing::put::put_met;
-use steps_placing::put::put_placed;
 use steps_rows::rows::MATCHED;
 use steps_rows::rows::REPEATED;
 use steps_rows::rows::ROW_BYTES;
 use steps_splicing::locate::locate;
-use steps_splicing::splice::Position;
 use steps_splicing::splice::Selection;
 use steps_splicing::splice::own_names;
+use steps_tallies::tally::is_restricted;
 use terms_bytes::limits::NAME_COUNT;
 use terms_renaming::tables::merging;
 
@@ -195,6 +196,17 @@ fn sends_free(a: Partner, depth: usize) -> bool
     (a.object as usize) < NAME_COUNT + depth
 }
 
+// Whether the result of a communication is written between copies of the part: [Com], and no restriction is there that might go (request 2026-04).
+fn is_spliced(tally: &[u32], a: Partner, depth: usize) -> bool
+    requires { ⌜ depth ≤ longestTerm ⌝ }
+    ensures { λ r. ⌜ (r ≡ true → (sendsFree depth a ≡ true) × (getD (now (tally .entry)) restrictedAt 0 ≡ 0)) ⌝ }
+{
+    if is_restricted(tally) {
+        return false;
+    }
+    sends_free(a, depth)
+}
+
 // A name's slot in a table of names, from its slot in rows: the table has the new name between the free ones and the restrictions.
 fn table_slot(slot: u8) -> u8
     requires { ⌜ slot < 255 ⌝ }
@@ -206,7 +218,7 @@ fn table_slot(slot: u8) -> u8
     slot + 1
 }
 
-// Puts the communication of two candidates of the sides of a parallel into the list, where nothing is extruded. `class` are the classes of its
+// Puts the communication of two candidates of the sides of a parallel into the list, where there are no restrictions. `class` are the classes of its
 // condition, if that merges names.
 fn take_met(
     question: &[u8],
@@ -218,7 +230,7 @@ fn take_met(
     area: &mut [u8],
     count: usize,
 ) -> usize
-    requires { ⌜ CanPut (now question) (now bodies) (now part) (now tally) (now area) count × Inside (now part) (sent .at) (sent .depth) × (sent .object < 255) × (nameCount ≤ length (now class)) ⌝ }
+    requires { ⌜ CanPut (now question) (now bodies) (now part) (now tally) (now area) count × Inside (now part) (sent .at) (sent .depth) × (sent .object < 255) × (nameCount ≤ length (now class)) × (getD (now tally) restrictedAt 0 ≡ 0) ⌝ }
     ensures { λ r. ⌜ TakeMetIs (now (question .entry)) (now (part .entry)) (sent .at) (sent .depth) (sent .left) (sent .right) (sent .object) (sent .merges) (now (class .entry)) (now (area .entry)) count r (now (area .exit)) ⌝ }
 {
     let at = sent.at;
@@ -245,7 +257,7 @@ fn take_met(
     )
 }
 
-// Puts the communication of two candidates on one channel into the list.
+// Puts the communication of two candidates on one channel into the list. Where it is not written between copies it is found by its number in the part.
 fn take_same(
     question: &[u8],
     bodies: &[u32],
@@ -256,13 +268,13 @@ fn take_same(
     area: &mut [u8],
     count: usize,
 ) -> usize
-    requires { ⌜ CanPut (now question) (now bodies) (now part) (now tally) (now area) count × Inside (now part) (node .at) (node .depth) × (pair .left .kind ≤ 3) × (pair .right .kind ≤ 3) × (pair .left .channel ≡ pair .right .channel) ⌝ }
+    requires { ⌜ CanPut (now question) (now bodies) (now part) (now tally) (now area) count × Inside (now part) (node .at) (node .depth) × (pair .left .kind ≤ 3) × (pair .right .kind ≤ 3) × (pair .left .channel ≡ pair .right .channel) × (node .number + pair .number ≤ mostNumbers + mostNumbers) ⌝ }
     ensures { λ r. ⌜ PairIs (now (question .entry)) (now (part .entry)) (node .at) (node .depth) (node .number) (pair .left) (pair .right) (pair .number) (node .x) (now (area .entry)) count r (now (area .exit)) ⌝ }
 {
     let a = pair.left;
     let b = pair.right;
     let from = sender(a, b);
-    if sends_free(from, node.depth) {
+    if is_spliced(tally, from, node.depth) {
         let object = from.object;
         let class = own_names(0);
         let com = Com {
@@ -275,22 +287,13 @@ fn take_same(
         };
         return take_met(question, bodies, part, tally, com, &class, area, count);
     }
-    let place = Position {
-        at: node.at,
-        depth: node.depth,
-    };
-    let action = ActionBytes {
-        kind: 0,
-        channel: 0,
-        object: 0,
-    };
+    let i = node.number + pair.number;
     let candidate = Selection {
         silently: true,
-        number: pair.number,
+        number: i,
         x: node.x,
     };
-    let step = Step { candidate, action };
-    put_placed(question, bodies, part, tally, place, step, area, count)
+    take_candidate(question, bodies, part, tally, candidate, area, count)
 }
 
 // Puts the communication of two candidates on two channels, which its condition merges, into the list.
@@ -311,7 +314,7 @@ fn take_merging(
     let b = pair.right;
     let class = merging(a.channel, b.channel);
     let from = sender(a, b);
-    if sends_free(from, node.depth) {
+    if is_spliced(tally, from, node.depth) {
         let sent = from.object;
         let com = Com {
             at: node.at,

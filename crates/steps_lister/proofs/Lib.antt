@@ -2,3 +2,5 @@ pub mod NewNameLaws
 pub mod OperationLaws
 mod WalkOrder
 mod WalkedList
+pub mod TidiedBodies
+pub mod TidiedListing

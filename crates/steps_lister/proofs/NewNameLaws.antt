@@ -36,7 +36,7 @@ use Rattle.steps.proofs.Scope.{CallsInScope, scope-calls}
 use Rattle.steps.specs.Limits.{mostSteps}
 use Rattle.steps.specs.Listed.{ListedStep, listedAs, canonStep, kindOf, channelOf, objectOf, resultBytes, bytes}
 use Rattle.steps.specs.Listing.{listed, limited, listing, stepsOf}
-use Rattle.steps_splicing.specs.ListedParts.{Lists}
+use Rattle.steps_lister.specs.PartLister.{Lists}
 use Rattle.steps_lister.specs.Renewed.{bindsNew, renewed}
 use Rattle.steps.proofs.ByteOrder.{before-trans}
 use Rattle.steps.proofs.ClassLists.{unmatched}

@@ -1,6 +1,6 @@
 -- The listing operation answers and writes what its definition says. Assumes nothing.
 use borrow.Author.Tests.{le-ltb, lt-ltb, le-leb, lt-leb, eq-eqb, ne-eqb}
-use mathlib.Core.Bool.{Bool, true, false, _&&_, _||_, not}
+use mathlib.Core.Bool.{Bool, true, false, _&&_, _||_, not, false≢true}
 use mathlib.Core.List.{List, [], _∷_, _++_}
 use mathlib.Core.Path.{_≡_, refl, sym, _∙_, ap, subst}
 use native.Mathlib.Nat.{mul-le-mul-right, zero-add}
@@ -10,7 +10,9 @@ use lib.Dec.{ltb, leb, eqb}
 use lib.ListN.{length, getD, take, drop, length-append}
 use lib.Seq.{sets, sets-eq, getD-append-seam, getD-append-add}
 use Rattle.calculus.specs.Distinction.{among}
-use Rattle.calculus.specs.Free.{fn}
+use Rattle.calculus.specs.Free.{Free, fn}
+use Rattle.calculus.proofs.FreeNames.{free→fn}
+use Rattle.calculus.proofs.Selection.{in-among}
 use Rattle.calculus.specs.Term.{Term}
 use Rattle.terms.specs.Answer.{Answer, refused, result, _>>=_, _>>_, need}
 use Rattle.terms.specs.Edition.{one}
@@ -46,7 +48,7 @@ use Rattle.steps.proofs.ListedIffDerived.{steps-length, side-allowed}
 module _ (question bytes : List ℕ) (x : ℕ) (own′ area : List ℕ) (space : mostSteps * stepBytes ≤ length area) where
   pub into-unsettled : (a : ListAnswer) → a ≡ part.Unsettled → ListPartIs question bytes x a own′ → ListsInto question bytes x area Unsettled area
   unfolding ListsInto AnswersListing stepsAnswer areaAfter
-  into-unsettled a e p q P l = go (stepsOf (q .bodies) x P) (subst (λ c. AnswersListing (stepsOf (q .bodies) x P) c own′) e (p .is q P l))
+  into-unsettled a e p q P l new = go (stepsOf (q .bodies) x P) (subst (λ c. AnswersListing (stepsOf (q .bodies) x P) c own′) e (p .is q P l new))
     where
       go : (r : Listing) → AnswersListing r part.Unsettled own′ → DoesList (result r) area Unsettled area
       go unsettled a = record { answer = refl; left = refl }
@@ -55,8 +57,8 @@ module _ (question bytes : List ℕ) (x : ℕ) (own′ area : List ℕ) (space :
   pub into-count : (n : ℕ) (a : ListAnswer) → a ≡ part.Count n → ListPartIs question bytes x a own′ → (area′ : List ℕ)
       → area′ ≡ sets area 0 (take (n * stepBytes) own′) → ListsInto question bytes x area (Count n) area′
   unfolding ListsInto AnswersListing stepsAnswer areaAfter definitions
-  into-count n a c p area′ e q P l =
-      go (stepsOf (q .bodies) x P) refl (subst (λ c. AnswersListing (stepsOf (q .bodies) x P) c own′) c (p .is q P l))
+  into-count n a c p area′ e q P l new =
+      go (stepsOf (q .bodies) x P) refl (subst (λ c. AnswersListing (stepsOf (q .bodies) x P) c own′) c (p .is q P l new))
     where
       go : (r : Listing) → stepsOf (q .bodies) x P ≡ r → AnswersListing r (part.Count n) own′ → DoesList (result r) area (Count n) area′
       go unsettled s a = let z : _≡_ {A = ℕ} 0 1 = cc in absurd (omega arith)
@@ -223,7 +225,8 @@ module _ (s : List ℕ) (side x : ℕ) (area : List ℕ) where
                   bytes = stands q a;
                   size = scope-of q a .size;
                   new = omega arith;
-                }))
+                })
+                (λ i. false≢true (sym new ∙ is-free q a ∙ in-among (fn (sideTerm q side)) x (free→fn x (sideTerm q side) i))))
 
 -- Twins list alike: the list of a question of edition two is that of its edition-one form.
 pub does-alike : (s plain : List ℕ) (q : Question) → questionOf s ≡ result q → checkOf plain ≡ result q → (side x : ℕ) (area : List ℕ) (r : StepsAnswer)

@@ -20,7 +20,7 @@ use Rattle.steps.specs.Listed.{ListedStep, bytes}
 use Rattle.steps.specs.Listing.{Listing, collect, unsettled, listed, limited, listing, stepsOf}
 use Rattle.steps.specs.Operations.{listBytes}
 use Rattle.steps_splicing.specs.ListedParts.{Lists}
-use Rattle.steps_lister.specs.PartLister.{AnswersListing, ListPartIs}
+use Rattle.steps_lister.specs.PartLister.{AnswersListing, ListTidiedIs}
 use Rattle.steps_walk.specs.Walking.{walked}
 use Rattle.steps_lister.specs.declared.list.ListAnswer.the-variants.{Unsettled, Count}
 use Rattle.steps_placing.proofs.CollectLaws.{canon-classes}
@@ -140,9 +140,9 @@ module _ (question part : List ℕ) (x : ℕ) (area : List ℕ) (n : ℕ) (area�
               ap (λ i. take (i * stepBytes) area″) (sym m) ∙ arranged found (s .ascending) (s .number) (s .indexed) ∙ bytes-same found whole same ∙ ap listBytes d,
             )
 
-  pub list-passed : mostSteps < n → ListPartIs question part x Unsettled area′
+  pub list-passed : mostSteps < n → ListTidiedIs question part x Unsettled area′
   list-passed h = record { few = not-counted; is = λ q P l. answers-passed q P l h }
 
   -- and the entries are brought into order
-  pub list-given : n ≤ mostSteps → (area″ : List ℕ) → ArrangeIs area′ n area″ → ListPartIs question part x (Count n) area″
+  pub list-given : n ≤ mostSteps → (area″ : List ℕ) → ArrangeIs area′ n area″ → ListTidiedIs question part x (Count n) area″
   list-given h area″ arranged = record { few = λ m e. let d : n ≡ m = cc in omega arith; is = λ q P l. answers-given q P l h area″ arranged }

@@ -5,13 +5,14 @@ use mathlib.Core.Path.{_≡_}
 use Prim.Native.Nat.{ℕ}
 use lib.Dec.{eqb}
 use lib.ListN.{length}
+use Rattle.calculus.specs.Free.{Free}
 use Rattle.calculus.specs.Term.{Term}
 use Rattle.terms.specs.Answer.{Answer, refused, result}
 use Rattle.terms.specs.Encoding.{encode}
 use Rattle.terms.specs.Question.{Question, checkOf}
 use Rattle.steps.specs.Listing.{Listing, unsettled, listed, stepsOf}
 use Rattle.steps.specs.Operations.{areaAfter}
-use Rattle.steps_splicing.specs.ListedParts.{Lists}
+use Rattle.steps_lister.specs.PartLister.{Lists}
 use Rattle.steps_lister.specs.declared.operation.StepsAnswer.{StepsAnswer}
 use Rattle.steps_lister.specs.declared.operation.StepsAnswer.the-variants.{Refused, Unsettled, Count}
 
@@ -36,4 +37,4 @@ SideIs question side r = (q : Question) → checkOf question ≡ result q → r 
 -- The steps of a part of the question's definitions, or nothing written.
 unfoldable pub ListsInto : List ℕ → List ℕ → ℕ → List ℕ → StepsAnswer → List ℕ → Type 0
 ListsInto question part x area r area′ =
-    (q : Question) (P : Term) → Lists question part x q P → DoesList (result (stepsOf (q .bodies) x P)) area r area′
+    (q : Question) (P : Term) → Lists question part x q P → ¬ Free x P → DoesList (result (stepsOf (q .bodies) x P)) area r area′

@@ -40,7 +40,7 @@ pub enum StepsAnswer {
 
 // Lists the steps of a part into the area, which does not change where they are unsettled.
 fn list_into(question: &[u8], part: &[u8], x: u8, area: &mut [u8]) -> StepsAnswer
-    requires { ⌜ (mostSteps * stepBytes ≤ length (now area)) × (length (now part) ≤ longestTerm) ⌝ }
+    requires { ⌜ (mostSteps * stepBytes ≤ length (now area)) × (length (now part) ≤ longestTerm) × Plain (now question) ⌝ }
     ensures { λ r. ⌜ ListsInto (now (question .entry)) (now (part .entry)) x (now (area .entry)) r (now (area .exit)) ⌝ }
 {
     let mut listing = [0u8; LIST_ROOM];

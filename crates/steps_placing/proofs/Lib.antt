@@ -1,7 +1,11 @@
 mod CanonBytes
 pub mod CollectLaws
 pub mod DecidingLaws
+pub mod PlainResults
 mod PutLaws
+mod RawBounds
+pub mod RawRoom
 mod RepeatedCandidates
 pub mod ResultScope
 mod TakeLaws
+mod TidiedResults

@@ -43,6 +43,19 @@ use Rattle.steps_placing.proofs.CollectLaws.{put-step, put-long, take-s
 use Rattle.steps_splicing.proofs.PlacedResults.{trivial-result}
 use Rattle.steps_placing.proofs.ResultScope.{silent-scope}
 use Rattle.steps_splicing.proofs.CandidateResults.{receiving-canonical}
+use Rattle.steps_splicing.specs.Ready.{PartUnrestricted}
+use Rattle.terms.proofs.WellFormed.{accepted-well-formed}
+use Rattle.terms_tidying.specs.Tidying.{longestRaw}
+use Rattle.steps_tallies.specs.Tally.{BodiesTidied}
+use Rattle.steps_tallies.proofs.Unrestricted.{Plain}
+use Rattle.steps_placing.specs.TidiedResults.{TidiedResultIs}
+use Rattle.steps_placing.proofs.PlainResults.{tidied-canonical, plain-formed, plain-at, plain-raise}
+use Rattle.steps_placing.proofs.RawRoom.{raw-room}
+
+-- The result without restrictions as it is written.
+as-written : (x : ℕ) (M : Cond) (α : Act) (A : Term) → Plain (step M α A)
+    → resultBytes (canonStep resultForm nameCount x M α A) ≡ encode 0 (ren (receiving x (cls M) α) A)
+as-written x M α A p = ap resultBytes (plain-formed x M α A p) ∙ receiving-canonical x M α A
 
 -- The action's bytes are those of the step in canonical form.
 pub step-coded : (x : ℕ) (M : Cond) (α : Act) → stepAction x M α ≡ coded (actionOfStep M x α)
@@ -75,40 +88,53 @@ module _ (class : List ℕ) (action : ActionBytes) (result : List ℕ) (n : ℕ)
   put-result-inserted short many entry made r area′ inserted = record {
     is = λ out x M α A size w classes acts found s.
         let bs : List ℕ = resultBytes (canonStep resultForm nameCount x M α A) in
-        let fit : length bs ≤ longestTerm = within (length bs) (λ k. omega (arith, w .over (omega arith))) in
+        let fit : length bs ≤ longestTerm = within (length bs) (length out) size (λ k. w .fits (omega arith) .0) (λ k. w .over (omega arith)) in
         let f = w .fits (omega arith) in
         let t : take n result ≡ bs = ap (take n) (f .1) ∙ take-sets out bs n (omega (arith, f .0)) (omega arith) in
         put-step area x count found s M α A fit entry
         (made ∙ ap₂ (entryBytes class) (acts ∙ step-coded x M α) t ∙ entry-canonical class M many classes x α A) r area′ inserted;
   }
     where
-      within : (b : ℕ) → (longestTerm < b → longestTerm < n) → b ≤ longestTerm
-      within b f = go (leb b longestTerm) refl
+      within : (b o : ℕ) → longestTerm ≤ o → (b ≤ o → n ≡ 0 + b) → (o < b → o < n) → b ≤ longestTerm
+      within b o room f g = go (leb b o) refl
         where
-          go : (t : Bool) → leb b longestTerm ≡ t → b ≤ longestTerm
-          go true d = leb-true b longestTerm d
-          go false d = absurd (omega (arith, f (leb-false b longestTerm d)))
+          go : (t : Bool) → leb b o ≡ t → b ≤ longestTerm
+          go true d = omega (arith, f (leb-true b o d))
+          go false d = absurd (omega (arith, g (leb-false b o d)))
 
--- By the way in which the result was written.
-pub classed-put : (question part : List ℕ) (silently : Bool) (i : ℕ) (class : List ℕ) (action : ActionBytes) (x : ℕ) (area : List ℕ) (count r : ℕ)
+-- By the way in which the result was written: as it is, where there are no restrictions.
+pub classed-put : (question part : List ℕ) → PartUnrestricted question part → (silently : Bool) (i : ℕ) (class : List ℕ) (action : ActionBytes) (x : ℕ) (area : List ℕ) (count r : ℕ)
     (area′ out result : List ℕ) (n : ℕ) → length out ≡ longestTerm → ResultIs question part silently i class x out n result
     → PutResultIs class action result n area count r area′ → PutClassedIs question part silently i class action x area count r area′
 unfolding ResultIs
-classed-put question part silently i class action x area count r area′ out result n size w p = record {
+classed-put question part U silently i class action x area count r area′ out result n size w p = record {
   is = λ q P l M α A e classes acts.
       let B : List ℕ = encode 0 (ren (receiving x (cls M) α) A) in
-      p .is out x M α A size
-      (rw (receiving-canonical x M α A)
+      p .is out x M α A (omega arith)
+      (rw (as-written x M α A (plain-at question part U x q P l silently i M α A e))
       (written-of 0 A out 0 B n result (omega arith) (length-ren 0 0 (receiving x (cls M) α) A)
       (λ low shallow. w low q P l M α A e (cls M) (λ k h. (classes k h, omega (arith, cls-le M k))) (λ t. let k = shallow t in omega arith)))) classes acts;
 }
 
+-- Tidied.
+pub classed-tidied : (question part : List ℕ) → BodiesTidied question → (silently : Bool) (i : ℕ) (class : List ℕ) (action : ActionBytes) (x : ℕ) (area : List ℕ) (count r : ℕ)
+    (area′ out result : List ℕ) (n : ℕ) → length out ≡ longestRaw → TidiedResultIs question part silently i class x out n result
+    → PutResultIs class action result n area count r area′ → PutClassedIs question part silently i class action x area count r area′
+unfolding TidiedResultIs
+classed-tidied question part T silently i class action x area count r area′ out result n size w p = record {
+  is = λ q P l M α A e classes acts.
+      let room = raw-room q (accepted-well-formed question q (l .accepted)) (T q (l .accepted)) P (l .scope) (l .tidied) (l .size) silently i M α A e in
+      let t = w q P l M α A e classes (room .0) (room .1) in
+      p .is out x M α A (omega arith)
+      (rw (tidied-canonical x M α A) (record { fits = λ h. (omega (arith, t .0), t .1); over = λ h. omega (arith, t .0) })) classes acts;
+}
+
 -- A silent step whose result was written with its own names.
-pub classed-merged : (question part : List ℕ) (silently : Bool) → silently ≡ true → (i : ℕ) (class : List ℕ) (action : ActionBytes) (x : ℕ) (area : List ℕ) (count r : ℕ)
+pub classed-merged : (question part : List ℕ) → PartUnrestricted question part → (silently : Bool) → silently ≡ true → (i : ℕ) (class : List ℕ) (action : ActionBytes) (x : ℕ) (area : List ℕ) (count r : ℕ)
     (area′ out result own : List ℕ) (n : ℕ) → length out ≡ longestTerm → OwnNames 0 own → ResultIs question part silently i own x out n result
     → PutMergedIs question class result n area count r area′ → PutClassedIs question part silently i class action x area count r area′
 unfolding ResultIs OwnNames candidatesOf candidates receiving
-classed-merged question part true quiet i class action x area count r area′ out result own n size owns w p = record {
+classed-merged question part U true quiet i class action x area count r area′ out result own n size owns w p = record {
   is = λ q P l M α A e classes acts.
       let t : α ≡ tauA = silent-action (bodyOf (q .bodies)) 1 P i M α A e in
       let e₁ = e ∙ ap (λ (α : Act). step M α A) t in
@@ -117,9 +143,10 @@ classed-merged question part true quiet i class action x area count r area′ ou
       (written-of 0 A out 0 (encode 0 (ren (λ k. k) A)) n result (omega arith) (length-ren 0 0 (λ k. k) A)
       (λ low shallow. w low q P l M tauA A e₁ (λ k. k) (λ k h. (owns k (omega arith), h)) (λ t. let k = shallow t in omega arith))) in
       subst (λ (α : Act). PutIs (step M α A) x area count r area′) (sym t)
-      (p .is q out x M A (l .accepted) size classes (silent-scope question q P (l .accepted) (l .scope) i M A e₁) w₁);
+      (p .is q out x M A (l .accepted) size classes (silent-scope question q P (l .accepted) (l .scope) i M A e₁)
+      (plain-at question part U x q P l true i M tauA A e₁) w₁);
 }
-classed-merged question part false quiet i class action x area count r area′ out result own n size owns w p = let z : _≡_ {A = ℕ} 0 1 = cc in absurd (omega arith)
+classed-merged question part U false quiet i class action x area count r area′ out result own n size owns w p = let z : _≡_ {A = ℕ} 0 1 = cc in absurd (omega arith)
 
 -- The names of its result are merged where it stands.
 pub merged-put : (question class result : List ℕ) (n : ℕ) (area : List ℕ) (count r : ℕ) (area′ arities : List ℕ) → AritiesIs question arities
@@ -127,10 +154,10 @@ pub merged-put : (question class result : List ℕ) (n : ℕ) (area : List ℕ) 
     → PutResultIs class (record { kind = 0; channel = 0; object = 0 }) merged n area count r area′ → PutMergedIs question class result n area count r area′
 unfolding stepAction receiving AritiesIs
 merged-put question class result n area count r area′ arities ar merged R p = record {
-  is = λ q out x M A ok size classes scope v.
+  is = λ q out x M A ok size classes scope u v.
       let same : length (encode 0 (ren (cls M) A)) ≡ length (encode 0 A) = length-ren 0 0 (cls M) A in
-      p .is out x M tauA A size
-      (rw (receiving-canonical x M tauA A) (record {
+      p .is out x M tauA A (omega arith)
+      (rw (as-written x M tauA A u) (record {
         fits = λ h.
             let f = v .fits (omega (arith, same)) in (
               omega (arith, f .0, same),
@@ -144,13 +171,15 @@ merged-put question class result n area count r area′ arities ar merged R p = 
       classes refl;
 }
 
-pub placed-put : (question part : List ℕ) (at depth : ℕ) (silently : Bool) (j : ℕ) (action : ActionBytes) (x : ℕ) (area : List ℕ) (count r : ℕ)
+pub placed-put : (question part : List ℕ) → PartUnrestricted question part → (at depth : ℕ) (silently : Bool) (j : ℕ) (action : ActionBytes) (x : ℕ) (area : List ℕ) (count r : ℕ)
     (area′ out result class : List ℕ) (n : ℕ) → length out ≡ longestTerm → OwnNames 0 class → PlacedResultIs question part at depth silently j x out n result
     → PutResultIs class action result n area count r area′ → PutPlacedIs question part at depth silently j action x area count r area′
 unfolding OwnNames Trivial
-placed-put question part at depth silently j action x area count r area′ out result class n size own w p = record {
+placed-put question part U at depth silently j action x area count r area′ out result class n size own w p = record {
   is = λ q P l K C first number M α A raises t acts.
-      p .is out x M α A size (w .is q P l K C first number M α A raises t) (λ k h. own k (omega arith) ∙ sym (t k)) acts;
+      p .is out x M α A (omega arith)
+      (rw (plain-formed x M α A (plain-raise question part U x q P l K C at depth first number silently j M α A raises))
+      (w .is q P l K C first number M α A raises t)) (λ k h. own k (omega arith) ∙ sym (t k)) acts;
 }
 
 module _ (question part : List ℕ) (left right : Located) (new : ℕ) (class area : List ℕ) (count r : ℕ) (area′ out result : List ℕ) (n : ℕ)
@@ -159,10 +188,11 @@ module _ (question part : List ℕ) (left right : Located) (new : ℕ) (class ar
       → PutMetIs question part left right new false class area count r area′
   unfolding receiving stepAction
   met-put p = record {
-    is = λ q x M A ok c scope H.
-        let e : resultBytes (canonStep resultForm nameCount x M tauA A) ≡ encode 0 A = trivial-result x M tauA A (c .trivial refl) ∙ ap (encode 0) (ren-id A) in
-        p .is out x M tauA A size (rw e (w .is q (encode 0 A) ok H)) (c .classes) refl;
+    is = λ q x M A ok c scope u H.
+        let e : resultBytes (canonStep resultForm nameCount x M tauA A) ≡ encode 0 A =
+        ap resultBytes (plain-formed x M tauA A u) ∙ trivial-result x M tauA A (c .trivial refl) ∙ ap (encode 0) (ren-id A) in
+        p .is out x M tauA A (omega arith) (rw e (w .is q (encode 0 A) ok H)) (c .classes) refl;
   }
 
   pub met-merged : PutMergedIs question class result n area count r area′ → PutMetIs question part left right new true class area count r area′
-  met-merged p = record { is = λ q x M A ok c scope H. p .is q out x M A ok size (c .classes) scope (w .is q (encode 0 A) ok H) }
+  met-merged p = record { is = λ q x M A ok c scope u H. p .is q out x M A ok size (c .classes) scope u (w .is q (encode 0 A) ok H) }

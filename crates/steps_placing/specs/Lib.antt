@@ -2,3 +2,4 @@ pub mod Deciding
 pub mod Placing
 pub mod Putting
 pub mod Taking
+pub mod TidiedResults

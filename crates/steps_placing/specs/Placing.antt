@@ -2,7 +2,7 @@
 use mathlib.Core.Path.{_≡_}
 use mathlib.Core.Bool.{Bool}
 use mathlib.Core.List.{List}
-use Prim.Native.Nat.{ℕ, _<_}
+use Prim.Native.Nat.{ℕ, _<_, _≤_}
 use lib.ListN.{length, getD}
 use Rattle.calculus.specs.Abstraction.{Act}
 use Rattle.calculus.specs.Cond.{Cond, cls}
@@ -24,7 +24,7 @@ use Rattle.steps_entries.specs.StepActions.{stepAction}
 
 -- A step put into the list, from the classes of its condition, the bytes of its action and those that were written for its result.
 pub record PutResultIs (class : List ℕ) (action : ActionBytes) (result : List ℕ) (n : ℕ) (area : List ℕ) (count r : ℕ) (area′ : List ℕ) : Type 0 where
-  pub is : (out : List ℕ) (x : ℕ) (M : Cond) (α : Act) (A : Term) → length out ≡ longestTerm
+  pub is : (out : List ℕ) (x : ℕ) (M : Cond) (α : Act) (A : Term) → longestTerm ≤ length out
       → Written out 0 (resultBytes (canonStep resultForm nameCount x M α A)) n result
       → ((n : ℕ) → n < nameCount → getD class n 0 ≡ cls M n) → action ≡ stepAction x M α
       → PutIs (step M α A) x area count r area′

@@ -1,3 +1,4 @@
 // A step put into the list.
 pub mod candidate;
 pub mod put;
+pub mod result;

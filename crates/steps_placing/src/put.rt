@@ -1,21 +1,19 @@
 // Steps put into the list: from the classes of the condition, the bytes of the action and those written for the result.
 ghost use mathlib.Core.Path.{_≡_};
 ghost use Prim.Native.Nat.{_≤_};
-ghost use lib.ListN.{length};
+ghost use lib.ListN.{length, getD};
 ghost use Rattle.terms.specs.Limits.{nameCount, longestTerm};
-ghost use Rattle.steps_splicing.specs.Ready.{Tallied, Inside, FoundIn};
+ghost use Rattle.steps_tallies.specs.Tally.{restrictedAt};
+ghost use Rattle.steps_splicing.specs.Ready.{Inside, FoundIn};
 ghost use Rattle.steps_splicing.specs.Locating.{PutMergedIs, PutMetIs};
-ghost use Rattle.steps_placing.specs.Taking.{NamesAre, ResultIs};
 ghost use Rattle.steps_placing.specs.Placing.{PutResultIs, PutPlacedIs, PutClassedIs};
 ghost use Rattle.steps_placing.specs.Putting.{HasRoom, CanPut};
+use crate::result::write_result;
+use crate::result::write_tidied;
 use steps_entries::limits::MOST_STEPS;
 use steps_entries::listed::ActionBytes;
 use steps_entries::listed::entry_of;
 use steps_entries::listed::insert;
-use steps_passing::names::NAME_SLOTS;
-use steps_plans::plan::Cursor;
-use steps_plans::plan::Task;
-use steps_results::result::write;
 use steps_splicing::locate::Located;
 use steps_splicing::merged::merge_names;
 use steps_splicing::splice::Position;
@@ -24,9 +22,9 @@ use steps_splicing::splice::own_names;
 use steps_splicing::splice::write_met;
 use steps_splicing::splice::write_placed;
 use steps_tallies::bodies::arities_of;
-use terms_bytes::bytes::copy;
+use steps_tallies::tally::is_restricted;
 use terms_bytes::limits::LONGEST_TERM;
-use terms_bytes::limits::NAME_COUNT;
+use terms_tidying::tidy::LONGEST_RAW;
 
 // A step to be put into the list: its candidate, and the bytes of its action.
 pub struct Step {
@@ -42,48 +40,6 @@ pub struct Communication {
     pub merges: bool,
 }
 
-// What the names are written as in a result: each as its class, or as itself. The new name's slot has itself.
-fn result_names(class: &[u8]) -> [u8; NAME_SLOTS]
-    requires { ⌜ nameCount ≤ length (now class) ⌝ }
-    ensures { λ r. ⌜ NamesAre (now (class .entry)) r ⌝ }
-{
-    let mut names = [0u8; NAME_SLOTS];
-    copy(class, 0, NAME_COUNT, &mut names, 0);
-    names[NAME_COUNT] = NAME_COUNT as u8;
-    names
-}
-
-// The result of a candidate of the part, rewritten by the classes of its condition, or with its own names. The answer is where its bytes end, or past
-// the end of `out` where there is no room.
-pub fn write_result(
-    question: &[u8],
-    bodies: &[u32],
-    part: &[u8],
-    tally: &[u32],
-    candidate: Selection,
-    class: &[u8],
-    out: &mut [u8],
-) -> usize
-    requires { ⌜ Tallied (now question) (now bodies) (now part) (now tally) × (nameCount ≤ length (now class)) ⌝ }
-    ensures { λ r. ⌜ ResultIs (now (question .entry)) (now (part .entry)) (candidate .silently) (candidate .number) (now (class .entry)) (candidate .x) (now (out .entry)) r (now (out .exit)) ⌝ }
-{
-    let task = Task {
-        new: candidate.x,
-        levels: 0,
-        calls: 1,
-        still: false,
-        silently: candidate.silently,
-        number: candidate.number,
-    };
-    let mut names = result_names(class);
-    let whole = Cursor {
-        at: 0,
-        binders: 0,
-        put: 0,
-    };
-    write(question, bodies, part, tally, whole, task, &mut names, out)
-}
-
 // Puts a step into the list whose result was written up to `n`. A result that is too long passes a limit.
 fn put_result(
     class: &[u8],
@@ -93,7 +49,7 @@ fn put_result(
     area: &mut [u8],
     count: usize,
 ) -> usize
-    requires { ⌜ HasRoom (now area) count × (nameCount ≤ length (now class)) × (length (now result) ≡ longestTerm) ⌝ }
+    requires { ⌜ HasRoom (now area) count × (nameCount ≤ length (now class)) × (longestTerm ≤ length (now result)) ⌝ }
     ensures { λ r. ⌜ PutResultIs (now (class .entry)) action (now (result .entry)) n (now (area .entry)) count r (now (area .exit)) ⌝ }
 {
     if LONGEST_TERM < n {
@@ -124,7 +80,29 @@ fn put_merged(
     put_result(class, silent, result, n, area, count)
 }
 
-// Puts a step of the part into the list, `class` being the classes of its condition. A silent one's result has no new name: it is written with its own
+// Puts a step of the part into the list whose result is tidied first, since there are restrictions (request 2026-04): order, duplicates and the limit of
+// its bytes go by the tidied result.
+fn put_tidied(
+    question: &[u8],
+    bodies: &[u32],
+    part: &[u8],
+    tally: &[u32],
+    step: Step,
+    class: &[u8],
+    area: &mut [u8],
+    count: usize,
+) -> usize
+    requires { ⌜ CanPut (now question) (now bodies) (now part) (now tally) (now area) count × (nameCount ≤ length (now class)) ⌝ }
+    ensures { λ r. ⌜ PutClassedIs (now (question .entry)) (now (part .entry)) (step .candidate .silently) (step .candidate .number) (now (class .entry)) (step .action) (step .candidate .x) (now (area .entry)) count r (now (area .exit)) ⌝ }
+{
+    let candidate = step.candidate;
+    let action = step.action;
+    let mut result = [0u8; LONGEST_RAW];
+    let n = write_tidied(question, bodies, part, tally, candidate, class, &mut result);
+    put_result(class, action, &result, n, area, count)
+}
+
+// Puts a step of the part into the list, `class` being the classes of its condition. Without restrictions a result is tidied as it is. A silent one's result has no new name: it is written with its own
 // names, so that what stands beside it is copied, and then names are merged.
 pub fn put_classed(
     question: &[u8],
@@ -139,6 +117,9 @@ pub fn put_classed(
     requires { ⌜ CanPut (now question) (now bodies) (now part) (now tally) (now area) count × (nameCount ≤ length (now class)) ⌝ }
     ensures { λ r. ⌜ PutClassedIs (now (question .entry)) (now (part .entry)) (step .candidate .silently) (step .candidate .number) (now (class .entry)) (step .action) (step .candidate .x) (now (area .entry)) count r (now (area .exit)) ⌝ }
 {
+    if is_restricted(tally) {
+        return put_tidied(question, bodies, part, tally, step, class, area, count);
+    }
     let candidate = step.candidate;
     let mut result = [0u8; LONGEST_TERM];
     if candidate.silently {
@@ -151,7 +132,7 @@ pub fn put_classed(
     put_result(class, action, &result, n, area, count)
 }
 
-// Puts the step that a candidate of the term at a place is in the part into the list. Its condition merges nothing.
+// Puts the step that a candidate of the term at a place is in the part into the list. Its condition merges nothing, and there are no restrictions.
 pub fn put_placed(
     question: &[u8],
     bodies: &[u32],
@@ -162,7 +143,7 @@ pub fn put_placed(
     area: &mut [u8],
     count: usize,
 ) -> usize
-    requires { ⌜ CanPut (now question) (now bodies) (now part) (now tally) (now area) count × Inside (now part) (place .at) (place .depth) ⌝ }
+    requires { ⌜ CanPut (now question) (now bodies) (now part) (now tally) (now area) count × Inside (now part) (place .at) (place .depth) × (getD (now tally) restrictedAt 0 ≡ 0) ⌝ }
     ensures { λ r. ⌜ PutPlacedIs (now (question .entry)) (now (part .entry)) (place .at) (place .depth) (step .candidate .silently) (step .candidate .number) (step .action) (step .candidate .x) (now (area .entry)) count r (now (area .exit)) ⌝ }
 {
     let candidate = step.candidate;
@@ -173,7 +154,7 @@ pub fn put_placed(
     put_result(&class, action, &result, n, area, count)
 }
 
-// Puts a communication into the list: [Com]. `class` are the classes of its condition; where that merges names, they are merged where the result
+// Puts a communication without restrictions into the list: [Com]. `class` are the classes of its condition; where that merges names, they are merged where the result
 // stands.
 pub fn put_met(
     question: &[u8],

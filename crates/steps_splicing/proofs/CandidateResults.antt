@@ -7,13 +7,13 @@ use Rattle.calculus.specs.Term.{Term, ren}
 use Rattle.terms.specs.Encoding.{encode}
 use Rattle.terms.specs.Limits.{nameCount}
 use Rattle.steps_plans.specs.Plans.{receiving}
-use Rattle.steps.specs.Forms.{resultForm}
+use Rattle.steps.specs.Forms.{asItIs}
 use Rattle.steps.specs.Listed.{listedAs, canonStep, resultBytes}
 
--- The result that the writer writes by this table is that in canonical form: the form of results is as they are.
+-- The result that the writer writes by this table is that in canonical form, as it is before it is tidied.
 pub receiving-canonical : (x : ℕ) (M : Cond) (α : Act) (A : Term)
-    → resultBytes (canonStep resultForm nameCount x M α A) ≡ encode 0 (ren (receiving x (cls M) α) A)
-unfolding resultForm resultBytes canonStep listedAs receiving
+    → resultBytes (canonStep asItIs nameCount x M α A) ≡ encode 0 (ren (receiving x (cls M) α) A)
+unfolding resultBytes canonStep listedAs receiving
 receiving-canonical x M tauA A = refl
 receiving-canonical x M (inpA a) A = refl
 receiving-canonical x M (outA a b) A = refl

@@ -4,3 +4,4 @@ mod LocateLaws
 mod MergingLaws
 mod MetResults
 pub mod PlacedResults
+pub mod PlainContexts

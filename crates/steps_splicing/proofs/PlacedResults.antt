@@ -22,7 +22,7 @@ use Rattle.terms.proofs.RenamingKeeps.{length-ren}
 use Rattle.steps_plans.proofs.ResultLaws.{written-of}
 use Rattle.steps_conditions.specs.Names.{OwnNames}
 use Rattle.steps_tallies.specs.Candidates.{candidates}
-use Rattle.steps.specs.Forms.{resultForm}
+use Rattle.steps.specs.Forms.{asItIs}
 use Rattle.steps.specs.Raw.{step, blocked, leftSteps, rightSteps, restrictedAlone, outside, restrictedAction, restricted}
 use Rattle.steps_plans.specs.Plans.{receiving, chosen, Written, WriteIs}
 use Rattle.steps_tallies.specs.Tally.{endAt, TallyIs}
@@ -180,7 +180,7 @@ module _ (out before bs behind : List ℕ) (at m n : ℕ) (b : length before ≡
 
 -- The result of a step whose condition merges nothing, in canonical form.
 pub trivial-result : (x : ℕ) (M : Cond) (α : Act) (A : Term) → Trivial M
-    → resultBytes (canonStep resultForm nameCount x M α A) ≡ encode 0 (ren (receiving x (λ n. n) α) A)
+    → resultBytes (canonStep asItIs nameCount x M α A) ≡ encode 0 (ren (receiving x (λ n. n) α) A)
 unfolding Trivial
 trivial-result x M α A t = receiving-canonical x M α A ∙ ap (λ (f : ℕ → ℕ). encode 0 (ren (receiving x f α) A)) (fun-ext t)
 
@@ -194,7 +194,7 @@ module _ (question part tally : List ℕ) (T : TallyIs question part 1 tally) (a
     abbrev own-result : List ℕ
     own-result = encode depth (ren (receiving (depth + x) (λ n. n) (r .action)) (r .result))
 
-    whole-result : resultBytes (canonStep resultForm nameCount x M α A) ≡ bytesBefore K ++ (own-result ++ bytesBehind K)
+    whole-result : resultBytes (canonStep asItIs nameCount x M α A) ≡ bytesBefore K ++ (own-result ++ bytesBehind K)
     whole-result =
         trivial-result x M α A t
         ∙ ap (encode 0) (filled-result K M α A x (r .condition) (r .action) (r .result) (r .is) (r .unopened))

@@ -5,6 +5,7 @@ use mathlib.Core.Path.{_≡_}
 use Prim.Native.Nat.{ℕ, _≤_}
 use lib.ListN.{length}
 use Rattle.calculus.specs.Term.{Term}
+use Rattle.calculus.specs.Tidy.{tidy}
 use Rattle.terms.specs.Answer.{result}
 use Rattle.terms.specs.Encoding.{encode, InScope}
 use Rattle.terms.specs.Limits.{nameCount, longestTerm}
@@ -18,3 +19,5 @@ pub record Lists (question part : List ℕ) (x : ℕ) (q : Question) (P : Term) 
   pub bytes : part ≡ encode 0 P
   pub size : length (encode 0 P) ≤ longestTerm
   pub new : x ≤ nameCount
+  -- it is tidied (document 02, request 2026-04)
+  pub tidied : tidy P ≡ P

@@ -14,6 +14,7 @@ use Rattle.terms.specs.Encoding.{encode, InScope}
 use Rattle.terms.specs.Limits.{nameCount, longestTerm}
 use Rattle.terms.specs.Question.{Question, checkOf}
 use Rattle.terms.specs.Question.{bodyOf}
+use Rattle.terms_tidying.specs.Restrictions.{Unrestricted}
 use Rattle.terms_bytes.specs.NameTable.{lastName}
 use Rattle.steps_conditions.specs.Names.{HasNew}
 use Rattle.steps.specs.Raw.{Candidate, step, blocked, visible}
@@ -102,16 +103,17 @@ pub record Classed (merges : Bool) (class : List ℕ) (M : Cond) : Type 0 where
   pub classes : (n : ℕ) → n < nameCount → getD class n 0 ≡ cls M n
   pub trivial : merges ≡ false → Trivial M
 
--- A silent step put into the list, from the classes of its condition and the bytes that were written for its result but for the names that are merged.
+-- A silent step without restrictions put into the list, from the classes of its condition and the bytes that were written for its result but for the names that are merged.
 pub record PutMergedIs (question class written : List ℕ) (n : ℕ) (area : List ℕ) (count r : ℕ) (area′ : List ℕ) : Type 0 where
   pub is : (q : Question) (out : List ℕ) (x : ℕ) (M : Cond) (A : Term) → checkOf question ≡ result q → length out ≡ longestTerm
-      → ((n : ℕ) → n < nameCount → getD class n 0 ≡ cls M n) → InScope nameCount (q .arities) 0 A → Written out 0 (encode 0 A) n written
+      → ((n : ℕ) → n < nameCount → getD class n 0 ≡ cls M n) → InScope nameCount (q .arities) 0 A → Unrestricted A
+      → Written out 0 (encode 0 A) n written
       → PutIs (step M tauA A) x area count r area′
 
--- A communication whose result has those bytes but for the names that its condition merges, put into the list.
+-- A communication without restrictions whose result has those bytes but for the names that its condition merges, put into the list.
 pub record PutMetIs (question part : List ℕ) (left right : Located) (new : ℕ) (merges : Bool) (class area : List ℕ) (count r : ℕ) (area′ : List ℕ) : Type 0 where
   pub is : (q : Question) (x : ℕ) (M : Cond) (A : Term) → checkOf question ≡ result q → Classed merges class M → InScope nameCount (q .arities) 0 A
-      → Holes q part left right new (encode 0 A) → PutIs (step M tauA A) x area count r area′
+      → Unrestricted A → Holes q part left right new (encode 0 A) → PutIs (step M tauA A) x area count r area′
 
 -- No name is extruded.
 unfoldable pub Unextruded : Act → Type 0

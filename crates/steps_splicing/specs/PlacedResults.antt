@@ -11,7 +11,7 @@ use Rattle.terms.specs.Limits.{nameCount}
 use Rattle.terms.specs.Question.{Question}
 use Rattle.terms.specs.Question.{bodyOf}
 use Rattle.steps_tallies.specs.Candidates.{candidates}
-use Rattle.steps.specs.Forms.{resultForm}
+use Rattle.steps.specs.Forms.{asItIs}
 use Rattle.steps.specs.Raw.{step, blocked}
 use Rattle.steps_plans.specs.Plans.{Written}
 use Rattle.steps_splicing.specs.Contexts.{Frame, raised, Placed}
@@ -42,9 +42,9 @@ pub record Raises (q : Question) (P : Term) (K : List Frame) (C : Term) (at dept
   pub is : raised K (step condition action result) ≡ step M α A
   pub unopened : Unopened action α
 
--- The result of such a step with a trivial condition: all of the part that stands around the term stays, byte for byte.
+-- The result of such a step with a trivial condition, before it is tidied: all of the part that stands around the term stays, byte for byte.
 pub record PlacedResultIs (question part : List ℕ) (at depth : ℕ) (silently : Bool) (j x : ℕ) (area : List ℕ) (r : ℕ) (area′ : List ℕ) : Type 0 where
   pub is : (q : Question) (P : Term) → Lists question part x q P
       → (K : List Frame) (C : Term) (first number : ℕ) (M : Cond) (α : Act) (A : Term)
       → Raises q P K C at depth first number silently j M α A → Trivial M
-      → Written area 0 (resultBytes (canonStep resultForm nameCount x M α A)) r area′
+      → Written area 0 (resultBytes (canonStep asItIs nameCount x M α A)) r area′

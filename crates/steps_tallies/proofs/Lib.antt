@@ -4,5 +4,7 @@ pub mod CandidateForms
 pub mod FrontLaws
 pub mod Numbering
 pub mod Premises
+mod RestrictedBodies
 mod TallyLaws
 pub mod TallyLoops
+pub mod Unrestricted

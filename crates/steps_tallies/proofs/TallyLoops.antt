@@ -23,7 +23,7 @@ use Rattle.steps_tallies.specs.Bodies.{AritiesIs, BodyIs, OpeningIs}
 use Rattle.terms.specs.Question.{bodyOf}
 use Rattle.steps_tallies.specs.Candidates.{candidates}
 use Rattle.steps.specs.Raw.{visible, silent}
-use Rattle.steps_tallies.specs.Tally.{tallySize, bodyTallies, visibleAt, silentAt, endAt, TallyIs, bodyTally, visibleCall, silentCall, Few, FewCalls, placeIn, smallPlace, TalliedBelow, PlacesBelow, BodiesTallied}
+use Rattle.steps_tallies.specs.Tally.{tallySize, bodyTallies, visibleAt, silentAt, endAt, TallyIs, restrictedAt, PartTallied, bodyTally, visibleCall, silentCall, Few, FewCalls, placeIn, smallPlace, TalliedBelow, PlacesBelow, BodiesTallied}
 use Rattle.steps_tallies.specs.Tallying.{CallsAre, EntryIs, entryAt, Filled}
 use Rattle.steps_tallies.specs.declared.bodies.Opening.{Opening}
 use Rattle.steps_tallies.specs.declared.tally.Entry.{Entry}
@@ -133,7 +133,7 @@ length-tally : (l : List ℕ) → length l ≡ bodyTallies → (i : ℕ) → i <
 unfolding bodyTally
 length-tally l z i h = length-take-le tallySize (drop (tallySize * i) l) (omega (arith, length-drop (tallySize * i) l))
 
-at-tally : (l : List ℕ) (i j : ℕ) → j < tallySize → getD (bodyTally l i) j 0 ≡ getD l (tallySize * i + j) 0
+pub at-tally : (l : List ℕ) (i j : ℕ) → j < tallySize → getD (bodyTally l i) j 0 ≡ getD l (tallySize * i + j) 0
 unfolding bodyTally
 at-tally l i j h = getD-take tallySize (drop (tallySize * i) l) j 0 h ∙ getD-drop (tallySize * i) l j 0
 
@@ -269,8 +269,8 @@ module _ (question t : List ℕ) (k : ℕ) (N : TalliedBelow question k t) (body
           (λ i h m. subst (TallyIs question (fieldAt question (fieldPlace question i)) 0) (same-tally i h) (N .are i h m));
     }
 
--- The place of a body put into its tally.
-tally-same : (question s : List ℕ) (calls : ℕ) (t t′ : List ℕ) → length s ≤ longestTerm → ((i : ℕ) → i < 336 → getD t′ i 0 ≡ getD t i 0)
+-- A number more in a tally says nothing of the candidates.
+pub tally-same : (question s : List ℕ) (calls : ℕ) (t t′ : List ℕ) → length s ≤ longestTerm → ((i : ℕ) → i < 336 → getD t′ i 0 ≡ getD t i 0)
     → TallyIs question s calls t → TallyIs question s calls t′
 unfolding visibleAt silentAt endAt
 tally-same question s calls t t′ few same T = record {
@@ -281,6 +281,7 @@ tally-same question s calls t t′ few same T = record {
       (same i (omega arith) ∙ a, same (longestTerm + i) (omega arith) ∙ b, same (longestTerm + longestTerm + i) (omega arith) ∙ d);
 }
 
+-- The place of a body put into its tally.
 module _ (question t : List ℕ) (k : ℕ) (inside : k < mostDefinitions) (N : TalliedBelow question mostDefinitions t) (L : PlacesBelow question k t) where
   placed-other : (v i : ℕ) → (i ≡ placeIn k → ⊥) → getD (set t (placeIn k) v) i 0 ≡ getD t i 0
   placed-other v i h = getD-set-other t (placeIn k) i v 0 h
@@ -311,9 +312,6 @@ module _ (question t : List ℕ) (k : ℕ) (inside : k < mostDefinitions) (N : T
       go : Dec (j ≡ k) → getD t (placeIn j) 0 ≡ fieldPlace question j
       go (yes z) = absurd (omega (arith, e, far, subst (λ i. fieldPlace question i < smallPlace) z l))
       go (no z) = L j (omega arith) l
-
-pub all-placed : (question t : List ℕ) → TalliedBelow question mostDefinitions t → PlacesBelow question mostDefinitions t → BodiesTallied question t
-all-placed question t N L = record { size = N .size; few = N .few; are = N .are; places = L }
 
 pub no-place : (question t : List ℕ) → PlacesBelow question 0 t
 unfolding PlacesBelow
@@ -359,3 +357,11 @@ called-tally question bodies s at calls N o O may l body B t e n z =
     let y : 0 ≡ n = omega (arith, m) in
     subst (λ (n : ℕ). TallyIs question body n t) y
     (subst (TallyIs question body 0) (sym e) (subst (λ (s : List ℕ). TallyIs question s 0 (bodyTally bodies (o .definition))) (sym (B .piece)) (N .are (o .definition) (m .3) (m .2))))
+
+-- The tally of a part, with a number put behind it.
+pub part-tallied : (question s : List ℕ) (restricted : Bool) (t : List ℕ) (v : ℕ) → length s ≤ longestTerm → length t ≡ tallySize → TallyIs question s 1 t
+    → (v ≡ 0 → restricted ≡ false) → PartTallied question s restricted (set t restrictedAt v)
+part-tallied question s restricted t v short size T known = record {
+  is = tally-same question s 1 t (set t restrictedAt v) short (λ i l. getD-set-other t restrictedAt i v 0 (λ z. omega arith)) T;
+  noted = λ z. known (sym (getD-set-same t restrictedAt v 0 (omega arith)) ∙ z);
+}

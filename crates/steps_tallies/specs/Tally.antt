@@ -1,23 +1,33 @@
 -- How many candidates each subterm of a part or body has, visible and silent, and where it ends, by the place where it begins: one list of numbers.
 use mathlib.Core.Path.{_≡_}
-use mathlib.Core.List.{List, _++_}
+use mathlib.Core.Bool.{Bool, false}
+use mathlib.Core.List.{List, _++_, map}
 use Prim.Native.Nat.{ℕ, _+_, _*_, _<_, _≤_}
 use lib.ListN.{length, getD, take, drop}
 use Rattle.calculus.specs.Term.{Term, ren}
+use Rattle.calculus.specs.Tidy.{tidy}
 use Rattle.terms.specs.Answer.{result}
 use Rattle.terms.specs.Encoding.{encode, InScope}
 use Rattle.terms_bytes.specs.FieldPlaces.{fieldAt, fieldPlace}
 use Rattle.terms.specs.Limits.{longestTerm, mostDefinitions}
 use Rattle.terms.specs.Question.{Question, checkOf}
 use Rattle.terms.specs.Question.{bodyOf}
+use Rattle.terms_tidying.specs.Restrictions.{Unrestricted}
 use Rattle.steps.specs.Raw.{visible, silent}
 
--- Three numbers for each place, and one more; and the tallies of all bodies one behind the other.
+-- Three numbers for each place, and one more; and the tallies of all bodies one behind the other, and one number more.
 abbrev pub tallySize : ℕ
 tallySize = 337
 
 abbrev pub bodyTallies : ℕ
-bodyTallies = 5392
+bodyTallies = 5393
+
+-- That number is 0 only where no body has a restriction or an output of a new name; the last number of a part's tally only where besides the part has none.
+abbrev pub restrictedBodies : ℕ
+restrictedBodies = 5392
+
+abbrev pub restrictedAt : ℕ
+restrictedAt = 336
 
 -- In the tally of body k the last number says where the field of the body begins, if that is a small number.
 abbrev pub placeIn : ℕ → ℕ
@@ -88,10 +98,25 @@ pub record TalliedBelow (question : List ℕ) (n : ℕ) (t : List ℕ) : Type 0 
 unfoldable pub PlacesBelow : List ℕ → ℕ → List ℕ → Type 0
 PlacesBelow question n t = (k : ℕ) → k < n → fieldPlace question k < smallPlace → getD t (placeIn k) 0 ≡ fieldPlace question k
 
--- The bodies of all definitions are tallied, and their places are there.
+-- The bodies of the question are tidied (document 02, request 2026-04).
+abbrev pub BodiesTidied : List ℕ → Type 0
+BodiesTidied question = (q : Question) → checkOf question ≡ result q → map tidy (q .bodies) ≡ q .bodies
+
+-- No body has a restriction or an output of a new name.
+abbrev pub BodiesUnrestricted : List ℕ → Type 0
+BodiesUnrestricted question = (q : Question) → checkOf question ≡ result q → (k : ℕ) → Unrestricted (bodyOf (q .bodies) k)
+
+-- The bodies of all definitions are tallied, and their places are there; they are tidied, and it is known whether they have restrictions.
 pub record BodiesTallied (question t : List ℕ) : Type 0 where
   pub size : length t ≡ bodyTallies
   pub few : FewCalls longestTerm t
   pub are : (k : ℕ) → k < mostDefinitions → length (fieldAt question (fieldPlace question k)) ≤ longestTerm
       → TallyIs question (fieldAt question (fieldPlace question k)) 0 (bodyTally t k)
   pub places : PlacesBelow question mostDefinitions t
+  pub tidied : BodiesTidied question
+  pub plain : getD t restrictedBodies 0 ≡ 0 → BodiesUnrestricted question
+
+-- The tally of a part, with what is said of restrictions noted in it.
+pub record PartTallied (question s : List ℕ) (restricted : Bool) (t : List ℕ) : Type 0 where
+  pub is : TallyIs question s 1 t
+  pub noted : getD t restrictedAt 0 ≡ 0 → restricted ≡ false

@@ -1,10 +1,11 @@
 // How many candidates each subterm of a part or body has, and where it ends, tallied once from its last byte to its first.
 ghost use mathlib.Core.Path.{_≡_};
+ghost use mathlib.Core.Bool.{false};
 ghost use Prim.Native.Nat.{_+_, _<_, _≤_};
 ghost use lib.ListN.{length, getD};
 ghost use Rattle.terms_bytes.specs.FieldPlaces.{fieldPlace};
 ghost use Rattle.terms.specs.Limits.{longestTerm, mostDefinitions};
-ghost use Rattle.steps_tallies.specs.Tally.{tallySize, bodyTallies, visibleAt, silentAt, endAt, TallyIs, FewCalls, bodyTally, TalliedBelow, PlacesBelow, BodiesTallied};
+ghost use Rattle.steps_tallies.specs.Tally.{tallySize, bodyTallies, visibleAt, silentAt, endAt, restrictedBodies, restrictedAt, FewCalls, bodyTally, TalliedBelow, PlacesBelow, BodiesTidied, BodiesUnrestricted, BodiesTallied, PartTallied};
 ghost use Rattle.steps_tallies.specs.Tallying.{numberAt, EntryIs, talliedEntry, prefixEntry, callEntry, choiceEntry, parallelEntry, Small, Filled};
 use crate::bodies::arities_of;
 use crate::bodies::body_at;
@@ -20,12 +21,19 @@ use terms_bytes::tags::INACTION;
 use terms_bytes::tags::MATCH;
 use terms_bytes::tags::PARALLEL;
 use terms_bytes::tags::SILENT;
+use terms_tidying::restriction::has_restriction;
 
 // Three times the longest term, at each place the visible candidates, the silent ones, and the end; and one number more.
 pub const TALLY: usize = 337;
 
-// A tally for each definition.
-pub const BODY_TALLIES: usize = 5392;
+// A tally for each definition, and one number more.
+pub const BODY_TALLIES: usize = 5393;
+
+// That number is 0 only where no body has a restriction or an output of a new name.
+const RESTRICTED_BODIES: usize = 5392;
+
+// The last number of a part's tally is 0 only where neither the part nor a body has one.
+const RESTRICTED: usize = 336;
 
 // The last number of a body's tally: where its field begins in the question.
 const PLACE: usize = 336;
@@ -232,7 +240,7 @@ fn put_place(question: &[u8], bodies: &mut [u32], k: usize, place: usize)
 // Puts the places of the bodies into their tallies, found on one way along the question.
 fn put_places(question: &[u8], bodies: &mut [u32])
     requires { ⌜ TalliedBelow (now question) mostDefinitions (now bodies) ⌝ }
-    ensures { λ _. ⌜ BodiesTallied (now (question .entry)) (now (bodies .exit)) ⌝ }
+    ensures { λ _. ⌜ TalliedBelow (now (question .entry)) mostDefinitions (now (bodies .exit)) × PlacesBelow (now (question .entry)) mostDefinitions (now (bodies .exit)) ⌝ }
 {
     let mut place = field_place(question, 0);
     let mut k = 0;
@@ -243,8 +251,37 @@ fn put_places(question: &[u8], bodies: &mut [u32])
     }
 }
 
-// The tallies of the bodies of all definitions, one behind the other.
+// Whether a body has a restriction or an output of a new name.
+pub fn has_restricted_body(question: &[u8]) -> bool
+    ensures { λ r. ⌜ (r ≡ false → BodiesUnrestricted (now (question .entry))) ⌝ }
+{
+    let arities = arities_of(question);
+    let mut place = field_place(question, 0);
+    let mut k = 0;
+    while k < arities.len() {
+        let body = body_at(question, place);
+        if has_restriction(body, arities) {
+            return true;
+        }
+        place = after_field(question, place);
+        k += 1;
+    }
+    false
+}
+
+// Notes whether a body has a restriction.
+fn note_restrictions(question: &[u8], bodies: &mut [u32])
+    requires { ⌜ TalliedBelow (now question) mostDefinitions (now bodies) × PlacesBelow (now question) mostDefinitions (now bodies) × BodiesTidied (now question) ⌝ }
+    ensures { λ _. ⌜ BodiesTallied (now (question .entry)) (now (bodies .exit)) ⌝ }
+{
+    if has_restricted_body(question) {
+        bodies[RESTRICTED_BODIES] = 1;
+    }
+}
+
+// The tallies of the bodies of all definitions, one behind the other. The bodies are tidied.
 pub fn body_tallies(question: &[u8]) -> [u32; BODY_TALLIES]
+    requires { ⌜ BodiesTidied (now question) ⌝ }
     ensures { λ r. ⌜ BodiesTallied (now (question .entry)) r ⌝ }
 {
     let mut bodies = [0u32; BODY_TALLIES];
@@ -256,6 +293,7 @@ pub fn body_tallies(question: &[u8]) -> [u32; BODY_TALLIES]
         k += 1;
     }
     put_places(question, &mut bodies);
+    note_restrictions(question, &mut bodies);
     bodies
 }
 
@@ -283,10 +321,35 @@ pub fn body_tally(bodies: &[u32], k: usize) -> &[u32]
     &bodies[from..end]
 }
 
-// Tallies the candidates of a part, in which one call may be opened. What `numbers` has before is not read.
-pub fn tally(question: &[u8], bodies: &[u32], src: &[u8], numbers: &mut [u32])
+// Whether it is noted that a body has a restriction.
+pub fn bodies_restricted(bodies: &[u32]) -> bool
+    ensures { λ r. ⌜ (r ≡ false → getD (now (bodies .entry)) restrictedBodies 0 ≡ 0) ⌝ }
+{
+    if number(bodies, 0, RESTRICTED_BODIES) == 0 {
+        return false;
+    }
+    true
+}
+
+// Whether it is noted that the part that is tallied, or a body, has a restriction.
+pub fn is_restricted(tally: &[u32]) -> bool
+    ensures { λ r. ⌜ (r ≡ false → getD (now (tally .entry)) restrictedAt 0 ≡ 0) ⌝ }
+{
+    if number(tally, 0, RESTRICTED) == 0 {
+        return false;
+    }
+    true
+}
+
+// Tallies the candidates of a part, in which one call may be opened, and notes whether the part or a body has a restriction. What `numbers` has before is not read.
+pub fn tally(question: &[u8], bodies: &[u32], src: &[u8], restricted: bool, numbers: &mut [u32])
     requires { ⌜ (length (now src) ≤ longestTerm) × BodiesTallied (now question) (now bodies) × (length (now numbers) ≡ tallySize) ⌝ }
-    ensures { λ _. ⌜ TallyIs (now (question .entry)) (now (src .entry)) 1 (now (numbers .exit)) ⌝ }
+    ensures { λ _. ⌜ PartTallied (now (question .entry)) (now (src .entry)) restricted (now (numbers .exit)) ⌝ }
 {
     fill(src, arities_of(question), bodies, numbers);
+    if restricted {
+        numbers[RESTRICTED] = 1;
+        return;
+    }
+    numbers[RESTRICTED] = 0;
 }

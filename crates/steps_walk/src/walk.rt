@@ -5,6 +5,7 @@ ghost use mathlib.Core.Bool.{true};
 ghost use Prim.Native.Nat.{ℕ, _+_, _*_, _≤_, _<_};
 ghost use lib.ListN.{length, getD};
 ghost use Rattle.steps_rows.specs.Rows.{rowBytes, mostRows, UnconditionalIs};
+ghost use Rattle.steps_tallies.specs.Tally.{restrictedAt};
 ghost use Rattle.steps_splicing.specs.Ready.{Inside};
 ghost use Rattle.steps_placing.specs.Putting.{CanPut};
 ghost use Rattle.steps_walk.specs.Walking.{mostNumber, rowOpens, rowObject, TakeRowIs, TakeRowsIs, TakeSilentIs, WalkIs};
@@ -30,6 +31,7 @@ use steps_rows::rows::unconditional;
 use steps_splicing::splice::Position;
 use steps_splicing::splice::Selection;
 use steps_splicing::splice::own_names;
+use steps_tallies::tally::is_restricted;
 use steps_tallies::tally::silent_at;
 use terms_bytes::bytes::get;
 use terms_bytes::limits::GREATEST_ARITY;
@@ -77,7 +79,7 @@ fn row_object(kind: u8, object: u8, x: u8) -> u8
 }
 
 // Puts a visible candidate of a component into the list by its row. One that adds no step is passed over; one beneath a match of free names is found by
-// its number.
+// its number, and so is any where there are restrictions.
 fn take_row(
     question: &[u8],
     bodies: &[u32],
@@ -125,6 +127,9 @@ fn take_row(
             action: extruding,
         };
         return put_classed(question, bodies, part, tally, opened, &class, area, count);
+    }
+    if is_restricted(tally) {
+        return take_candidate(question, bodies, part, tally, whole, area, count);
     }
     let action = ActionBytes {
         kind,
@@ -179,7 +184,7 @@ fn take_rows(
     n
 }
 
-// Puts the silent candidates of a component into the list, where they have no condition.
+// Puts the silent candidates of a component into the list, where they have no condition and there are no restrictions.
 fn take_unconditional(
     question: &[u8],
     bodies: &[u32],
@@ -189,7 +194,7 @@ fn take_unconditional(
     area: &mut [u8],
     count: usize,
 ) -> usize
-    requires { ⌜ CanPut (now question) (now bodies) (now part) (now tally) (now area) count × Inside (now part) (node .at) (node .depth) × UnconditionalIs (now question) (now part) (node .at) 1 true ⌝ }
+    requires { ⌜ CanPut (now question) (now bodies) (now part) (now tally) (now area) count × Inside (now part) (node .at) (node .depth) × UnconditionalIs (now question) (now part) (node .at) 1 true × (getD (now tally) restrictedAt 0 ≡ 0) ⌝ }
     ensures { λ r. ⌜ TakeSilentIs (now (question .entry)) (now (part .entry)) (node .at) (node .depth) (node .number) (node .x) (now (area .entry)) count r (now (area .exit)) ⌝ }
 {
     let at = node.at;
@@ -272,6 +277,9 @@ fn take_silent(
     requires { ⌜ CanPut (now question) (now bodies) (now part) (now tally) (now area) count × Inside (now part) (node .at) (node .depth) × (node .number ≤ node .at * mostNumber) ⌝ }
     ensures { λ r. ⌜ TakeSilentIs (now (question .entry)) (now (part .entry)) (node .at) (node .depth) (node .number) (node .x) (now (area .entry)) count r (now (area .exit)) ⌝ }
 {
+    if is_restricted(tally) {
+        return take_numbered(question, bodies, part, tally, node, area, count);
+    }
     if unconditional(question, bodies, part, tally, node.at, 1) {
         return take_unconditional(question, bodies, part, tally, node, area, count);
     }

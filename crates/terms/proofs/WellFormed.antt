@@ -17,7 +17,9 @@ use Rattle.terms.specs.Edition.{Edition, one, two, versionByte, encodeIn
 use Rattle.terms.specs.Reading.{numbered, readWhole}
 use Rattle.terms.specs.Grammar.{sequential, parallelOutermost, guarded}
 use Rattle.terms.specs.Framing.{Fields, framed, sized, allSized, joined}
-use Rattle.terms.specs.Question.{Question, every, version, fits, readBodies, readPart, readPartWith, differentNames, differentNamesWith, readPairs, readPairsWith, readApart, readApartWith, checkTermsWith, checkFields, checkFieldsWith, checkIn, checkWith, checkOf, bodyFieldsIn, pairBytes, fieldsIn, writeIn, fitsIn, fieldsOf, write}
+use Rattle.terms.specs.Question.{Question, every, version, fits, readBodies, readPart, readPartWith, differentNames, differentNamesWith}
+use Rattle.terms.specs.Question.{readPairs, readPairsWith, readApart, readApartWith, checkTermsWith, checkFields, checkFieldsWith, checkIn, checkWith}
+use Rattle.terms.specs.Question.{checkOf, bodyFieldsIn, pairBytes, fieldsIn, writeIn, fitsIn, fieldsOf, write}
 use Rattle.terms.proofs.Answers.{result-injective, refused-not-result, bind-result, bind-to, then-result, bind-id, bind-assoc, need-result, need-passed, both-true, true-both, all-every, every-all}
 use Rattle.terms.proofs.EditionOne.{encode-first, encode-shorter, fields-first, write-first}
 use Rattle.terms.proofs.ReadEncoded.{encode-some-in, read-whole}

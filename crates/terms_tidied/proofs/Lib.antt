@@ -1,1 +1,2 @@
+pub mod QuestionBodies
 pub mod TidiedQuestion

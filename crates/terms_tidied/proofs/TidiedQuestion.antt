@@ -10,51 +10,22 @@ use Rattle.calculus.specs.Tidy.{tidy}
 use Rattle.terms.specs.Answer.{result}
 use Rattle.terms.specs.Edition.{one, versionByte}
 use Rattle.terms.specs.Encoding.{encode, InScope}
-use Rattle.terms.specs.Framing.{Fields, sized, allSized, joined}
-use Rattle.terms.specs.Limits.{longestTerm, greatestArity}
+use Rattle.terms.specs.Framing.{sized, allSized, joined}
+use Rattle.terms.specs.Limits.{longestTerm}
 use Rattle.terms.specs.Operations.{areaAfter}
 use Rattle.terms.specs.Question.{Question, checkOf, bodyFields, pairBytes, fieldsOf, writeIn, write}
-use Rattle.terms.specs.WellFormed.{Every, BodiesAllowed, WellFormed}
-use Rattle.terms.proofs.Answers.{result-injective}
 use Rattle.terms.proofs.EditionOne.{write-first}
-use Rattle.terms.proofs.FramingLaws.{Framable}
 use Rattle.terms.proofs.TidyShorter.{tidy-shorter}
-use Rattle.terms.proofs.WellFormed.{accepted-well-formed, framable}
-use Rattle.terms_bytes.specs.FieldPlaces.{definitionsOf, aritiesOf, sizeAt, afterField, fieldAt, fieldPlace}
+use Rattle.terms.proofs.WellFormed.{framable}
+use Rattle.terms_bytes.specs.FieldPlaces.{definitionsOf, aritiesOf, afterField, fieldAt, fieldPlace}
 use Rattle.terms_bytes.specs.Writing.{Plain, Writes}
-use Rattle.terms_bytes.proofs.Places.{allFields, definitions-of, field-at-place, field-is, after-of, whole, size-of}
 use Rattle.terms_bytes.proofs.QuestionPlaces.{beforeParts, first-is, accepted-joined, accepted-arities}
 use Rattle.terms_bytes.proofs.Stores.{span, sets-join, sets-start}
 use Rattle.terms_bytes.proofs.Heights.{height-bytes}
 use Rattle.terms_tidying.specs.Tidying.{Tidied, TidiedIs}
 use Rattle.terms_tidying.specs.declared.tidy.Ends.{Ends}
 use Rattle.terms_tidied.specs.TidiedBodies.{tidiedBodies, BodyAt, HasBody, TidiesBody, MayTidyBodies, tidiedFields, TidiesBodies, WritesTidied}
-
--- Body k, as it stands in the question and as it is written.
-record NthBody (arities : List ℕ) (k : ℕ) (xs ys : List (List ℕ)) : Type 0 where
-  depth : ℕ
-  term : Term
-  parameters : depth ≤ greatestArity
-  scope : InScope 0 arities depth term
-  size : length (encode depth term) ≤ longestTerm
-  from : getD xs k [] ≡ encode depth term
-  to : getD ys k [] ≡ encode depth (tidy term)
-
-nth-body : (arities sizes : List ℕ) (Ps : List Term) → BodiesAllowed arities sizes Ps → Every (λ a. a ≤ greatestArity) sizes → (rest : List (List ℕ))
-    → (k : ℕ) → k < length sizes → NthBody arities k (bodyFields sizes Ps ++ rest) (bodyFields sizes (map tidy Ps))
-unfolding BodiesAllowed bodyFields Every
-nth-body arities (a ∷ sizes) (P ∷ Ps) w few rest zero h =
-    record { depth = a; term = P; parameters = few .0; scope = w .0 .scope; size = w .0 .size; from = refl; to = refl }
-nth-body arities (a ∷ sizes) (P ∷ Ps) w few rest (suc k) h =
-    let n = nth-body arities sizes Ps (w .1) (few .1) rest k (omega arith) in
-    record { depth = n .depth; term = n .term; parameters = n .parameters; scope = n .scope; size = n .size; from = n .from; to = n .to }
-nth-body arities [] [] w few rest k h = absurd (omega arith)
-
-count-bodies : (arities sizes : List ℕ) (Ps : List Term) → BodiesAllowed arities sizes Ps
-    → (length (bodyFields sizes Ps) ≡ length sizes) × (length (bodyFields sizes (map tidy Ps)) ≡ length sizes)
-unfolding BodiesAllowed bodyFields
-count-bodies arities (a ∷ sizes) (P ∷ Ps) w = let c = count-bodies arities sizes Ps (w .1) in (ap suc (c .0), ap suc (c .1))
-count-bodies arities [] [] w = (refl, refl)
+use Rattle.terms_tidied.proofs.QuestionBodies.{NthBody, count-bodies, FieldHas, well, count-is, behind, body, body-field}
 
 -- A body that is tidied two bytes behind `put`.
 module _ (question : List ℕ) (at : ℕ) (arities out : List ℕ) (put d : ℕ) (P : Term) (b : BodyAt question at arities out put d P) where
@@ -88,103 +59,48 @@ module _ (question out₀ : List ℕ) where
   unfolding Writing tidiedFields
   writing-start at h q a = record { wrote = []; place = h; target = omega arith; behind = omega arith; stored = refl; left = refl }
 
-  module _ (q : Question) (a : checkOf question ≡ result q) where
-    well : WellFormed q
-    well = accepted-well-formed question q a
+  module _ (q : Question) (a : checkOf question ≡ result q) (room : length question ≤ length out₀) (k at put : ℕ) (area : List ℕ)
+      (below : k < length (q .arities)) (same : length area ≡ length out₀) (W : WrittenTo q k at put area) where
+    abbrev ys : List (List ℕ)
+    ys = bodyFields (q .arities) (map tidy (q .bodies))
 
-    frame : Framable (fieldsOf q)
-    frame = framable q well
+    B : NthBody (q .arities) (q .arities) (q .bodies) k (behind question q a)
+    B = body question q a k below
 
-    pub count-is : definitionsOf question ≡ length (q .arities)
-    unfolding fieldsOf
-    count-is = subst (λ (s : List ℕ). definitionsOf s ≡ length (q .arities)) (accepted-joined question q a) (definitions-of one (fieldsOf q) frame)
+    F : FieldHas question at (encode (B .depth) (B .term))
+    unfolding B
+    F = body-field question q a k below at (W .place)
 
-    module _ (room : length question ≤ length out₀) (k at put : ℕ) (area : List ℕ) (below : k < length (q .arities)) (same : length area ≡ length out₀)
-        (W : WrittenTo q k at put area) where
-      abbrev ys : List (List ℕ)
-      ys = bodyFields (q .arities) (map tidy (q .bodies))
+    body-at : (list : List ℕ) → list ≡ aritiesOf question → BodyAt question at list area put (B .depth) (B .term)
+    body-at list h = record {
+      parameters = B .parameters;
+      scope = subst (λ (l : List ℕ). InScope 0 l (B .depth) (B .term)) (sym (h ∙ accepted-arities question q a)) (B .scope);
+      bytes = F .bytes;
+      size = B .size;
+      room = omega (arith, W .behind, F .ends);
+    }
 
-      B : NthBody (q .arities) k (allFields (fieldsOf q)) (bodyFields (q .arities) (map tidy (q .bodies)))
-      unfolding allFields fieldsOf
-      B =
-          nth-body (q .arities) (q .arities) (q .bodies) (well .bodies) (well .parameters)
-          (encode 0 (q .first) ∷ encode 0 (q .second) ∷ pairBytes (q .apart) ∷ []) k below
-
-      counted : k < length (allFields (fieldsOf q))
-      unfolding allFields fieldsOf
-      counted =
-          omega (
-            arith,
-            count-bodies (q .arities) (q .arities) (q .bodies) (well .bodies) .0,
-            length-append (bodyFields (q .arities) (q .bodies)) (encode 0 (q .first) ∷ encode 0 (q .second) ∷ pairBytes (q .apart) ∷ []),
-          )
-
-      behind-it : List ℕ
-      behind-it = allSized (drop (suc k) (allFields (fieldsOf q)))
-
-      stands : drop at question ≡ sized (encode (B .depth) (B .term)) ++ behind-it
-      unfolding behind-it
-      stands =
-          ap (λ (n : ℕ). drop n question) (W .place)
-          ∙ subst (λ (s : List ℕ). drop (fieldPlace s k) s ≡ sized (getD (allFields (fieldsOf q)) k []) ++ allSized (drop (suc k) (allFields (fieldsOf q))))
-          (accepted-joined question q a) (field-at-place one (fieldsOf q) frame k counted)
-          ∙ ap (λ (l : List ℕ). sized l ++ allSized (drop (suc k) (allFields (fieldsOf q)))) (B .from)
-
-      small : length (encode (B .depth) (B .term)) < 65536
-      small = let s = B .size in omega arith
-
-      ends : at + (2 + length (encode (B .depth) (B .term))) ≤ length question
-      ends =
-          omega (
-            arith,
-            whole question at (encode (B .depth) (B .term)) behind-it small stands,
-            size-of question at (encode (B .depth) (B .term)) behind-it small stands,
-          )
-
-      bytes-at : fieldAt question at ≡ encode (B .depth) (B .term)
-      bytes-at =
-          ap (fieldAt question) (W .place)
-          ∙ subst (λ (s : List ℕ). fieldAt s (fieldPlace s k) ≡ getD (allFields (fieldsOf q)) k []) (accepted-joined question q a)
-          (field-is one (fieldsOf q) frame k counted)
-          ∙ B .from
-
-      body-at : (list : List ℕ) → list ≡ aritiesOf question → BodyAt question at list area put (B .depth) (B .term)
-      body-at list h = record {
-        parameters = B .parameters;
-        scope = subst (λ (l : List ℕ). InScope 0 l (B .depth) (B .term)) (sym (h ∙ accepted-arities question q a)) (B .scope);
-        bytes = bytes-at;
-        size = B .size;
-        room = (let b = W .behind in omega (arith, ends));
-      }
-
-      written-next : (list : List ℕ) → list ≡ aritiesOf question → (at′ r : ℕ) (area′ : List ℕ) → TidiesBody question at list area put r area′
-          → at′ ≡ afterField question at → WrittenTo q (k + 1) at′ r area′
-      unfolding TidiesBody fieldPlace allSized sized
-      written-next list h at′ r area′ T w =
-          let y = T (B .depth) (B .term) (body-at list h) in
-          let X : List ℕ = encode (B .depth) (tidy (B .term)) in
-          let s : k + 1 ≡ suc k = omega arith in
-          let n : length ys ≡ length (q .arities) = count-bodies (q .arities) (q .arities) (q .bodies) (well .bodies) .1 in
-          rw s (record {
-            wrote = W .wrote ++ sized X;
-            place = w ∙ ap (afterField question) (W .place);
-            target = omega (arith, y .0, W .target, length-append (W .wrote) (sized X));
-            behind = omega (
-              arith,
-              y .0,
-              W .behind,
-              tidy-shorter (B .depth) (B .term),
-              w,
-              after-of question at (encode (B .depth) (B .term)) behind-it small stands,
-            );
-            stored =
-                y .1 ∙ ap₂ (λ (l : List ℕ) (m : ℕ). sets l m (sized X)) (W .stored) (W .target)
-                ∙ sets-join out₀ (fieldPlace question 0) (fieldPlace question 0 + length (W .wrote)) (W .wrote) (sized X) refl;
-            left =
-                W .left ∙ ap (λ (l : List (List ℕ)). W .wrote ++ allSized l) (drop-cons ys k [] (omega arith))
-                ∙ ap (λ (l : List ℕ). W .wrote ++ (sized l ++ allSized (drop (suc k) ys))) (B .to)
-                ∙ sym (append-assoc (W .wrote) (sized X) (allSized (drop (suc k) ys)));
-          })
+    written-next : (list : List ℕ) → list ≡ aritiesOf question → (at′ r : ℕ) (area′ : List ℕ) → TidiesBody question at list area put r area′
+        → at′ ≡ afterField question at → WrittenTo q (k + 1) at′ r area′
+    unfolding TidiesBody fieldPlace allSized sized
+    written-next list h at′ r area′ T w =
+        let y = T (B .depth) (B .term) (body-at list h) in
+        let X : List ℕ = encode (B .depth) (tidy (B .term)) in
+        let s : k + 1 ≡ suc k = omega arith in
+        let n : length ys ≡ length (q .arities) = count-bodies (q .arities) (q .arities) (q .bodies) (well question q a .bodies) .2 in
+        rw s (record {
+          wrote = W .wrote ++ sized X;
+          place = w ∙ ap (afterField question) (W .place);
+          target = omega (arith, y .0, W .target, length-append (W .wrote) (sized X));
+          behind = omega (arith, y .0, W .behind, tidy-shorter (B .depth) (B .term), w, F .after);
+          stored =
+              y .1 ∙ ap₂ (λ (l : List ℕ) (m : ℕ). sets l m (sized X)) (W .stored) (W .target)
+              ∙ sets-join out₀ (fieldPlace question 0) (fieldPlace question 0 + length (W .wrote)) (W .wrote) (sized X) refl;
+          left =
+              W .left ∙ ap (λ (l : List (List ℕ)). W .wrote ++ allSized l) (drop-cons ys k [] (omega arith))
+              ∙ ap (λ (l : List ℕ). W .wrote ++ (sized l ++ allSized (drop (suc k) ys))) (B .tidied)
+              ∙ sym (append-assoc (W .wrote) (sized X) (allSized (drop (suc k) ys)));
+        })
 
   -- The same for the code, which is told that some question is accepted.
   module _ (may : MayTidyBodies question out₀) (k at put : ℕ) (area : List ℕ) (below : k < definitionsOf question) (same : length area ≡ length out₀)
@@ -193,21 +109,21 @@ module _ (question out₀ : List ℕ) where
     unfolding Writing Plain
     writing-body =
         let (q, a) = may .accepted in
-        record { depth = _; term = _; body = body-at q a (may .room) k at put area (omega (arith, count-is q a)) same (W q a) list parameters }
+        record { depth = _; term = _; body = body-at q a (may .room) k at put area (omega (arith, count-is question q a)) same (W q a) list parameters }
 
     pub writing-again : (at′ r : ℕ) (area′ : List ℕ) → TidiesBody question at list area put r area′ → at′ ≡ afterField question at → Writing (k + 1) at′ r area′
     unfolding Writing
     writing-again at′ r area′ T w q a =
-        written-next q a (may .room) k at put area (omega (arith, count-is q a)) same (W q a) list parameters at′ r area′ T w
+        written-next q a (may .room) k at put area (omega (arith, count-is question q a)) same (W q a) list parameters at′ r area′ T w
 
   pub writing-done : (k at put : ℕ) (area : List ℕ) → k ≡ definitionsOf question → Writing k at put area
       → TidiesBodies question out₀ (record { read = at; written = put }) area
   unfolding Writing TidiesBodies allSized
   writing-done k at put area h W q a =
       let w = W q a in
-      let n = count-bodies (q .arities) (q .arities) (q .bodies) (well q a .bodies) .1 in
+      let n = count-bodies (q .arities) (q .arities) (q .bodies) (well question q a .bodies) .2 in
       let e : drop k (bodyFields (q .arities) (map tidy (q .bodies))) ≡ [] =
-      drop-of-length-le (bodyFields (q .arities) (map tidy (q .bodies))) {i = k} (omega (arith, count-is q a)) in
+      drop-of-length-le (bodyFields (q .arities) (map tidy (q .bodies))) {i = k} (omega (arith, count-is question q a)) in
       let t : tidiedFields q ≡ w .wrote = w .left ∙ ap (λ (l : List (List ℕ)). w .wrote ++ allSized l) e ∙ append-nil (w .wrote) in (
         w .place ∙ ap (fieldPlace question) h,
         w .target ∙ ap (λ (l : List ℕ). fieldPlace question 0 + length l) (sym t),
@@ -236,13 +152,13 @@ module _ (question : List ℕ) (q : Question) (a : checkOf question ≡ result q
 
   starts : fieldPlace question 0 ≡ length head
   unfolding fieldPlace head
-  starts = omega (arith, count-is question [] q a)
+  starts = omega (arith, count-is question q a)
 
   parts-at : fieldPlace question (definitionsOf question) ≡ length (head ++ fields)
   unfolding fieldsOf beforeParts versionByte head fields
   parts-at =
       subst (λ (s : List ℕ). fieldPlace s (definitionsOf s) ≡ length (head ++ fields)) (accepted-joined question q a)
-      (first-is one (fieldsOf q) (framable q (accepted-well-formed question q a)))
+      (first-is one (fieldsOf q) (framable q (well question q a)))
 
   head-within : fieldPlace question 0 ≤ length question
   head-within = omega (arith, starts, ap length question-is, length-append head (fields ++ tail))

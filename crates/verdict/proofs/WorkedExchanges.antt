@@ -12,6 +12,7 @@ use Rattle.terms.specs.Answer.{Answer, result, _>>=_, _>>_, need}
 use Rattle.terms.specs.Encoding.{nameByte, encode}
 use Rattle.terms.specs.Framing.{cut, field, fields, framed, joined, sized, allSized}
 use Rattle.terms.specs.Grammar.{sequential, parallelOutermost, guarded}
+use Rattle.calculus.specs.Tidy.{restrictUsed, tidy}
 use Rattle.terms.specs.Operations.{holdsApart}
 use Rattle.terms.specs.Question.{every, fits, readBodies, readPartWith, readApartWith, differentNamesWith, readPairsWith, version, checkTermsWith, checkFieldsWith, checkWith, editionOf, questionWith, bodyFields, pairBytes, fieldsOf, write}
 use Rattle.terms.specs.Edition.{versionByte}
@@ -104,7 +105,7 @@ unfolding judged expected exchanges turnings named-exchanges ask askWith judgeBy
     namedDemands sidesDemand namedMoves demandOf lots startOf decided rounds strike allAnswered answered allFound found unseen together withRow
     explore fieldOf successors withSteps ledTo someBinds bindsName moves movesOf answersTo joinAll led received allowed unconditional ownClasses put
     updatedBy extrudedBy answers implies permitted select freeFrom freeIn pairsOf situation missing newName sameBytes sameSituation settingOf stepsIn
-    holdsApart among keep fn lowerL bodyOf listing limited collect insert order allFit bytes resultBytes resultForm canonStep listedAs kindOf channelOf objectOf
+    holdsApart among keep fn lowerL bodyOf listing limited collect insert order allFit bytes resultBytes resultForm tidy restrictUsed canonStep listedAs kindOf channelOf objectOf
     classesOf classIn namesFrom visible silent visibleCalls silentCalls visibleOf silentOf restricted restrictedAction outside restrictedAlone
     leavesAlone communications communication meet leftSteps rightSteps matching cls join questionWith editionOf checkWith versionByte numbered readCount
 computed = (refl, refl, refl)

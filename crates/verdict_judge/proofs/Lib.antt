@@ -1,3 +1,4 @@
 mod ByNumber
 mod DecideLaws
 mod JudgeLaws
+mod TidiedJudging

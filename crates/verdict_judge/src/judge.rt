@@ -8,21 +8,25 @@ ghost use Rattle.verdict.specs.Judge.{slotBytes, greatestCapacity};
 ghost use Rattle.late_early.specs.LateEarly.{late, early};
 ghost use Rattle.verdict.specs.Verdict.{openly, named};
 ghost use Rattle.verdict_survival.specs.Manners.{mannerOf};
-ghost use Rattle.terms_bytes.specs.Writing.{IsAccepted};
+ghost use Rattle.terms_bytes.specs.Writing.{IsAccepted, Plain};
+ghost use Rattle.steps_tallies.specs.Tally.{BodiesTidied};
 ghost use Rattle.terms_converting.specs.Questions.{AcceptedFrom};
 ghost use Rattle.verdict_judge.specs.Judging.{DecidesIs, AcceptedIs, OwnIs, JudgedIs};
 use field_exploration::explore::Explored;
+use field_exploration::explore::Extent;
 use field_exploration::explore::explore;
 use field_kept_lists::list_area::LIST_AREA;
 use field_slots::find::SLOT_BYTES;
 use steps_lister::list::SCRATCH_NUMBERS;
 use steps_lister::list::SCRATCH_ROWS;
 use steps_tallies::tally::body_tallies;
+use steps_tallies::tally::has_restricted_body;
 use terms_bytes::limits::LONGEST_QUESTION;
 use terms_checks::check::Checked;
 use terms_checks::check::check;
 use terms_checks::check::is_counted;
 use terms_converting::question::convert_question;
+use terms_tidied::question::tidy_bodies;
 use verdict_capacity::capacity::capacity_check;
 use verdict_start::passes::start_survives;
 use verdict_survival::manner::Manner;
@@ -51,7 +55,7 @@ fn clear(work: &mut [u8], n: usize)
 
 // The verdict on an accepted question of edition one. The tallies of the bodies, the lister's tables and the lists of the two sides serve exploration and passes.
 fn decide(question: &[u8], capacity: usize, work: &mut [u8], manner: Manner) -> Judged
-    requires { ⌜ (1 ≤ capacity) × (capacity ≤ greatestCapacity) × (slotBytes * capacity ≤ length (now work)) ⌝ }
+    requires { ⌜ (1 ≤ capacity) × (capacity ≤ greatestCapacity) × (slotBytes * capacity ≤ length (now work)) × BodiesTidied (now question) ⌝ }
     ensures { λ r. ⌜ DecidesIs (mannerOf manner) (now (question .entry)) capacity (now (work .entry)) r (now (work .exit)) ⌝ }
 {
     let bodies = body_tallies(question);
@@ -68,8 +72,7 @@ fn decide(question: &[u8], capacity: usize, work: &mut [u8], manner: Manner) -> 
         &mut firsts,
         &mut seconds,
         work,
-        capacity,
-        differ,
+        Extent { differ, capacity },
     );
     match explored {
         Explored::Incomplete => Judged::Unsettled,
@@ -96,14 +99,27 @@ fn decide(question: &[u8], capacity: usize, work: &mut [u8], manner: Manner) -> 
     }
 }
 
-// The verdict on an accepted question of edition one; the work area is cleared behind it.
-fn judge_accepted(question: &[u8], capacity: usize, work: &mut [u8], manner: Manner) -> Judged
-    requires { ⌜ (1 ≤ capacity) × (capacity ≤ greatestCapacity) × (slotBytes * capacity ≤ length (now work)) ⌝ }
+// The verdict on an accepted question of edition one whose bodies are tidied; the work area is cleared behind it.
+fn judge_tidied(question: &[u8], capacity: usize, work: &mut [u8], manner: Manner) -> Judged
+    requires { ⌜ (1 ≤ capacity) × (capacity ≤ greatestCapacity) × (slotBytes * capacity ≤ length (now work)) × BodiesTidied (now question) ⌝ }
     ensures { λ r. ⌜ AcceptedIs (mannerOf manner) (now (question .entry)) capacity (now (work .entry)) r (now (work .exit)) ⌝ }
 {
     let verdict = decide(question, capacity, work, manner);
     clear(work, SLOT_BYTES * capacity);
     verdict
+}
+
+// The verdict on an accepted question of edition one: that of the question with tidied bodies (request 2026-04).
+fn judge_accepted(question: &[u8], capacity: usize, work: &mut [u8], manner: Manner) -> Judged
+    requires { ⌜ (1 ≤ capacity) × (capacity ≤ greatestCapacity) × (slotBytes * capacity ≤ length (now work)) × Plain (now question) ⌝ }
+    ensures { λ r. ⌜ AcceptedIs (mannerOf manner) (now (question .entry)) capacity (now (work .entry)) r (now (work .exit)) ⌝ }
+{
+    if !has_restricted_body(question) {
+        return judge_tidied(question, capacity, work, manner);
+    }
+    let mut tidied = [0u8; LONGEST_QUESTION];
+    let n = tidy_bodies(question, &mut tidied);
+    judge_tidied(&tidied[..n], capacity, work, manner)
 }
 
 // The same of edition two, by its edition-one form.

@@ -21,6 +21,7 @@ use field_slots::chains::find_chained;
 use field_slots::find::Found;
 use field_slots::find::SLOT_BYTES;
 use field_slots::find::left_at;
+use field_successors::results::Answering;
 use field_successors::results::successor;
 use field_taking_up::taking::Lists;
 use field_taking_up::taking::take_up;
@@ -161,7 +162,13 @@ fn lot_left(
         if !counts(free, area, at, y) {
             continue 'names;
         }
-        let key = successor(arities, free, apart, second, area, at, others, place, y);
+        let answer = Answering {
+            second,
+            at,
+            place,
+            name: y,
+        };
+        let key = successor(arities, free, &apart, area, others, answer);
         let found = find_left(work, capacity, count, &key);
         match found {
             Found::At(slot) => {

@@ -30,6 +30,11 @@ pub fn all() -> Vec<Workload> {
         judging("field-512", "12 components, 9 of them with two states", full(field(9))),
         judging("field-4096", "12 components, each with two states", full(field(12))),
         judging("wide", "37 components, 5 of them with two states", full(wide())),
+        judging(
+            "unused",
+            "the components of field-512, each step loses a restriction",
+            full(unused()),
+        ),
         judging("blocked", "985 raw steps, of which 6 are not blocked", full(blocked())),
         judging("far-end", "a ten-bit counter: all is alike until it overflows", full(far_end())),
         judging(
@@ -170,6 +175,16 @@ fn field(with_two_states: u8) -> Fields {
     question(definitions, grouped_right(&components), grouped_right(&turned(&components)))
 }
 
+/// The same with nine of two states, where each component has a restricted name. Its step passes on
+/// a new one in place of it, so that every result has a restriction that binds nothing.
+fn unused() -> Fields {
+    let passes_on = |next: u8| definition(2, &[0x03, 0x81, 0x81, 0x08, 0x09, next, 0x82, 0x80]);
+    let definitions = vec![passes_on(1), passes_on(0), passes_on(2)];
+    let component = |name: u8| restricted(1, call(if name < 9 { 0 } else { 2 }, &[name, 0x80]));
+    let components: Vec<Vec<u8>> = (0..12).map(component).collect();
+    question(definitions, grouped_right(&components), grouped_right(&turned(&components)))
+}
+
 /// Definitions, with these numbers, of components that only make silent steps: the first two are
 /// the states of one, the third has one state.
 fn silent_states(first: u8) -> [Definition; 3] {
@@ -200,15 +215,11 @@ fn with_idle(mut definitions: Vec<Definition>) -> Vec<Definition> {
     definitions
 }
 
-/// Different terms, the shortest first.
+/// Different terms without restrictions, the shortest first.
 fn continuations() -> impl Iterator<Item = Vec<u8>> {
-    let two: Vec<Vec<u8>> = [vec![0x01, 0x00], vec![0x08, 0x00]]
-        .into_iter()
-        .chain(IDLE.map(|k| call(k, &[])))
-        .collect();
-    let three =
-        two.clone().into_iter().flat_map(|two| [0x01, 0x08].map(|tag| prefixed(&[tag], &two)));
-    let three: Vec<Vec<u8>> = three.collect();
+    let two: Vec<Vec<u8>> =
+        std::iter::once(vec![0x01, 0x00]).chain(IDLE.map(|k| call(k, &[]))).collect();
+    let three: Vec<Vec<u8>> = two.iter().map(|two| prefixed(&[0x01], two)).collect();
     std::iter::once(vec![0x00]).chain(two).chain(three)
 }
 

@@ -5,6 +5,8 @@
 
 extern crate compare as reference;
 
+#[path = "../../reference/tests/apart.rs"]
+mod apart;
 #[path = "../../reference/tests/census.rs"]
 mod census;
 #[path = "../../reference/tests/changes.rs"]
@@ -23,3 +25,5 @@ mod rearranged;
 mod refusals;
 #[path = "../../reference/tests/steps.rs"]
 mod steps;
+#[path = "../../reference/tests/tidied.rs"]
+mod tidied;

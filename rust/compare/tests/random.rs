@@ -91,10 +91,11 @@ impl Tally {
 
 /// A question, and a draft with its names and definitions, or with others if it is damaged.
 fn question(random: &mut Random) -> (Vec<u8>, Draft) {
-    let draft = match random.below(10) {
+    let draft = match random.below(14) {
         0..=2 => Draft::unrelated(random),
         3..=6 => Draft::near_miss(random),
-        _ => Draft::busy(random),
+        7..=9 => Draft::busy(random),
+        _ => Draft::untidy(random),
     };
     let question = match random.below(20) {
         0..=2 => generate::near_limit(random),

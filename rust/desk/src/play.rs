@@ -74,9 +74,10 @@ pub struct Field {
 }
 
 impl Field {
-    /// The start alone. At most this many positions are to be found.
+    /// The start alone. At most this many positions are to be found. The start is told as it is; a
+    /// play that comes back to it comes to its tidied form.
     pub fn new(table: Table, start: Position, most: usize) -> Field {
-        let numbers = HashMap::from([(start.clone(), 0)]);
+        let numbers = HashMap::from([(table.tidied(&start), 0)]);
         Field {
             table,
             positions: vec![start],

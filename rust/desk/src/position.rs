@@ -91,6 +91,13 @@ impl Table {
         Position { parts, apart }
     }
 
+    /// The position without the restrictions that bind nothing, as the library has every position
+    /// that follows another, and the start too when it counts them.
+    pub fn tidied(&self, position: &Position) -> Position {
+        let parts = position.parts.each_ref().map(|part| self.term(part).tidied().bytes());
+        Position { parts, apart: position.apart.clone() }
+    }
+
     /// The term of a coded part.
     pub fn term(&self, part: &[u8]) -> Term {
         Term::read(part, &self.arities).unwrap_or_else(Term::nil)

@@ -199,6 +199,42 @@ impl Term {
         outline
     }
 
+    /// Its bytes without its names and restrictions.
+    pub fn bare_outline(&self) -> Vec<u8> {
+        let mut outline = Vec::new();
+        self.walk(&mut |term, _| match term.head {
+            Head::Restriction => {}
+            _ => outline.extend(term.head_bytes()),
+        });
+        outline
+    }
+
+    /// The term without the restrictions, however deep, whose name is not free beneath them: so the
+    /// library has every result of a step.
+    pub fn tidied(&self) -> Term {
+        let mut beneath: Vec<Term> = self.beneath.iter().map(Term::tidied).collect();
+        let mut used = self.head != Head::Restriction;
+        for term in &beneath {
+            term.walk(&mut |term, depth| used |= term.names.contains(&Name::Bound(depth)));
+        }
+        match used {
+            true => Term { beneath, ..self.clone() },
+            false => beneath.remove(0).outside(0),
+        }
+    }
+
+    /// The term outside a binder whose name it does not use.
+    fn outside(mut self, depth: usize) -> Term {
+        for name in &mut self.names {
+            if let Name::Bound(k) = name {
+                *k -= usize::from(*k > depth);
+            }
+        }
+        let depth = depth + usize::from(self.head.binds());
+        self.beneath = self.beneath.into_iter().map(|term| term.outside(depth)).collect();
+        self
+    }
+
     /// What stays of it when names are put for others: its outline, and which of its names are
     /// bound where in it. Two terms of one shape were most likely written at one place.
     pub fn shape(&self) -> Vec<u8> {
@@ -292,5 +328,16 @@ mod tests {
         let unused = Term::read(&[7, 2, 6, 3, 2, 2, 0, 3, 7, 2, 0], &[]).expect("a term");
         assert_ne!(term.shape(), unused.shape());
         assert_eq!(term.outline(), unused.outline());
+    }
+
+    #[test]
+    fn unused_restrictions_go() {
+        let tidied = |bytes: &[u8]| Term::read(bytes, &[2]).expect("a term").tidied().bytes();
+        assert_eq!(tidied(&[8, 8, 0]), [0]);
+        assert_eq!(tidied(&[8, 3, 0, 128, 8, 0]), [8, 3, 0, 128, 0]);
+        assert_eq!(tidied(&[2, 0, 8, 3, 129, 0, 0]), [2, 0, 3, 128, 0, 0]);
+        assert_eq!(tidied(&[8, 2, 0, 8, 3, 130, 129, 0]), [8, 2, 0, 3, 129, 128, 0]);
+        assert_eq!(tidied(&[8, 8, 9, 0, 129, 0]), [8, 9, 0, 128, 0]);
+        assert_eq!(tidied(&[7, 8, 1, 0, 8, 4, 128, 0]), [7, 1, 0, 8, 4, 128, 0]);
     }
 }

@@ -90,6 +90,10 @@ fn those_that_make_the_move_are_red() {
     assert_eq!(red("(new s)(a<s>.s(x).0) | (new t)t<b>.0"), [1, 1, 0]);
     assert_eq!(red("(new s)(s<s>.0 | a<new x>.0 | s<b>.0)"), [1, 1, 0]);
     assert_eq!(red("[a=b]0 | [a=b]c<d>.0"), [1, 1, 0]);
+    // the name of the restriction goes with the step, and another could have been taken
+    assert_eq!(red("(new s)(s<a>.0 | s(y).0 | tau.tau.0)"), [2, 0, 1]);
+    assert_eq!(red("(new s)(s<s>.s<a>.0 | s(y).tau.0 | s(y).0)"), [2, 0, 1]);
+    assert_eq!(red("a<new x>.x<x>.0 | a(y).y<b>.0 | a<new x>.0"), [2, 1, 0]);
 }
 
 #[test]

@@ -11,9 +11,10 @@ use generate::{each_seed, Random};
 const SMALL: u64 = 48;
 
 fn question(random: &mut Random) -> Vec<u8> {
-    match random.below(4) {
+    match random.below(6) {
         0 => generate::unrelated(random),
         1 => generate::busy(random),
+        2 | 3 => generate::untidy(random),
         _ => generate::near_miss(random),
     }
 }
@@ -141,7 +142,8 @@ fn assert_positions_are_files(exchange: &Exchange, told: &str, judge: &mut Judge
 
 #[test]
 fn every_worked_exchange_is_explained() {
-    for worked in generate::EXCHANGES.iter().chain(generate::APPENDIX) {
+    let unused = generate::UNUSED.iter().map(|(worked, _)| worked);
+    for worked in generate::EXCHANGES.iter().chain(generate::APPENDIX).chain(unused) {
         let bytes = worked.bytes();
         let question = Question::new(&bytes).expect(worked.name);
         let capacity = Capacity::new(worked.capacity).expect("a capacity");

@@ -9,7 +9,14 @@ use std::process::{Command, Output, Stdio};
 
 const NEWCOMER: &str = "old = entry(x).0 | office<card>.0\n\
                         new = entry(x).office<card>.0 + office<card>.entry(x).0\n";
-const GROWING: &str = "Round(a) = a<a>.(new x)Round(a)\nold = Round(b)\nnew = Round(b)\n";
+
+/// Ten outputs, then a call whose step leaves 113 bytes.
+fn long() -> String {
+    let silent = |steps: usize| format!("{}0", "tau.".repeat(steps));
+    let part = format!("First(b) | {}", silent(12));
+    let outputs = "a<a>.".repeat(10);
+    format!("Long = {}\nFirst(a) = {outputs}Long\nold = {part}\nnew = {part}\n", silent(99))
+}
 
 /// A folder of its own for a test, which goes with it.
 struct Folder(PathBuf);
@@ -87,7 +94,7 @@ fn a_folder_worst_first() {
     let folder = Folder::new("folder");
     folder.file("a.exchange", "old = tau.0 + [a=b]tau.0\nnew = tau.0");
     folder.file("b.exchange", NEWCOMER);
-    folder.file("c.exchange", GROWING);
+    folder.file("c.exchange", long());
     folder.file("d.exchange", "old = K\nnew = 0");
     folder.file("e.exchange", [1, 0, 0, 1, 0, 0, 1, 0, 0, 0]);
     folder.file("notes.txt", "not an exchange");
@@ -116,7 +123,7 @@ fn the_exit_status_is_that_of_the_worst() {
     let folder = Folder::new("status");
     let same = folder.file("same.exchange", "old = 0\nnew = 0");
     let different = folder.file("different.exchange", NEWCOMER);
-    let unsettled = folder.file("unsettled.exchange", GROWING);
+    let unsettled = folder.file("unsettled.exchange", long());
     let missing = folder.0.join("missing.exchange");
     let missing = missing.to_str().expect("a path");
     let judged = |files: &[&str]| status(&desk(&[&["judge"], files].concat()));
@@ -180,8 +187,8 @@ fn explain_tells_the_limit() {
     let file = folder.file("a.exchange", NEWCOMER);
     let small = told(&["explain", "--capacity", "2", &file]);
     assert!(small.contains("At capacity 256 the library answers: different 4."), "{small}");
-    let growing = told(&["explain", &folder.file("b.exchange", GROWING)]);
-    assert!(growing.contains("After 109 answered moves, old is past a limit"), "{growing}");
+    let long = told(&["explain", &folder.file("b.exchange", long())]);
+    assert!(long.contains("After 10 answered moves, old is past a limit"), "{long}");
     let names: String = (0..16).map(|number| format!("n{number}<n{number}>.")).collect();
     let full = format!("old = n0(x).{names}0\nnew = n0(x).{names}0\n");
     let full = told(&["explain", &folder.file("c.exchange", full)]);

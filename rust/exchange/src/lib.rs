@@ -118,9 +118,10 @@ pub fn check(question: &[u8]) -> Result<(), Refusal> {
 /// The area must hold [`STEPS`] steps of [`STEP_BYTES`] bytes. The steps stand at its front in
 /// ascending byte order; later bytes are untouched. A step is: the class name of each of the 16
 /// names; the action's kind (0 silent, 1 input, 2 free output, 3 new-name output), channel and
-/// object; the result's length; the result, filled with 0 to 112 bytes. If there are more than
-/// [`STEPS`] steps, or a result is longer than 112 bytes, the answer is unsettled and the area
-/// untouched.
+/// object; the result's length; the result, filled with 0 to 112 bytes. A result has lost every
+/// restriction whose name is not free beneath it; length, order and number go by what is left. If
+/// there are more than [`STEPS`] steps, or a result is longer than 112 bytes, the answer is
+/// unsettled and the area untouched.
 ///
 /// # Errors
 /// The first of the rules 3 to 13 and 15 that turns the arguments back.
@@ -258,7 +259,8 @@ pub fn convert_up(question: &[u8], area: &mut [u8]) -> Result<usize, Refusal> {
 }
 
 /// Judges a question: whether its parts are open bisimilar under its apart list. At most
-/// `capacity` situations are looked at.
+/// `capacity` situations are looked at; parts that differ only in restrictions whose name is not
+/// free beneath them are one part there.
 ///
 /// The work area must have [`SITUATION_BYTES`] for each of them. After every verdict, and after
 /// "unsettled", that many bytes at its front are 0, and later bytes are untouched.

@@ -1,10 +1,10 @@
-//! The deepest walks that were found, of either edition, each called on a stack of 368 KiB.
+//! The deepest walks that were found, of either edition, each called on a stack of 416 KiB.
 
 use exchange::{Answer, APART_BYTES, QUESTION_BYTES, SITUATION_BYTES, STEPS, STEP_BYTES};
 use generate::Fields;
 use std::thread;
 
-const STACK_BYTES: usize = 368 * 1024;
+const STACK_BYTES: usize = 416 * 1024;
 const CAPACITY: usize = 16;
 
 /// Repeats the first bytes, then ends with the others.
@@ -28,7 +28,8 @@ fn every_operation(question: &[u8]) {
     let _ = exchange::merge(question, 0, 1, &mut area).expect("the names are merged");
 }
 
-/// Bodies over one parameter that are walked to their last byte.
+/// Bodies over one parameter that are walked to their last byte. Most of their restrictions bind
+/// nothing and go; those of the last three are used.
 fn bodies() -> Vec<Vec<u8>> {
     let restricted =
         |times: usize| nested(times, &[8], &[3, 128 + times as u8, 128 + times as u8, 0]);
@@ -40,10 +41,13 @@ fn bodies() -> Vec<Vec<u8>> {
         nested(54, &[6], &nested(1, &[3, 128, 128, 0], &[0; 54])),
         nested(37, &[8, 6, 0], &[0]),
         nested(22, &[8, 6, 0, 6, 0], &[1, 0]),
+        nested(27, &[8, 5, 128, 128], &[1, 0]),
+        nested(22, &[8, 6, 2, 128, 0], &[1, 0]),
+        nested(1, &[1], &nested(27, &[8, 5, 128, 128], &[0])),
     ]
 }
 
-/// Parts that end in a call, beneath as much as fits.
+/// Parts that end in a call, beneath as much as fits; the restrictions of the last two are used.
 fn parts() -> Vec<Vec<u8>> {
     let call = [9, 0, 0];
     vec![
@@ -56,6 +60,8 @@ fn parts() -> Vec<Vec<u8>> {
         nested(21, &[8, 6, 0, 6], &[&call[..], &[0; 21]].concat()),
         nested(36, &[8, 7], &[&call[..], &[0; 36]].concat()),
         nested(26, &[7], &[9, 0, 0].repeat(27)),
+        nested(27, &[8, 5, 128, 128], &call),
+        nested(21, &[8, 7, 9, 0, 128], &call),
     ]
 }
 

@@ -63,7 +63,7 @@ fn fault_in_term(random: &mut Random, draft: &mut Draft) {
         Some(_) => &mut draft.second,
     };
     let target = random.below(term.count());
-    let spot = nth(term, target);
+    let spot = term.nth_mut(target);
     *spot = faulty(random, spot.clone(), missing);
 }
 
@@ -92,22 +92,6 @@ fn faulty(random: &mut Random, mut term: Term, missing: u8) -> Term {
         7 => (0..random.between(20, 110)).fold(term, |term, _| Term::Silent(term.into())),
         _ => Term::Nil,
     }
-}
-
-/// The term of this number in a walk from the root.
-fn nth(term: &mut Term, mut number: usize) -> &mut Term {
-    if number == 0 {
-        return term;
-    }
-    number -= 1;
-    for inner in term.beneath_mut() {
-        let count = inner.count();
-        if number < count {
-            return nth(inner, number);
-        }
-        number -= count;
-    }
-    unreachable!("the number is below the count")
 }
 
 fn damage(random: &mut Random, bytes: &mut Vec<u8>) {

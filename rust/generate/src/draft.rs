@@ -93,7 +93,7 @@ impl Draft {
     }
 
     /// The draft with a copy of its first part, rewritten this many times, as the second.
-    fn copied(mut self, random: &mut Random, rewritings: usize) -> Draft {
+    pub(crate) fn copied(mut self, random: &mut Random, rewritings: usize) -> Draft {
         self.second = self.first.clone();
         for _ in 0..rewritings {
             let changed = rewritten(random, &self, &self.second);

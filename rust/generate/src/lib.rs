@@ -20,6 +20,7 @@ mod rearrange;
 mod rewrite;
 mod seeds;
 mod term;
+mod unused;
 mod worked;
 
 pub use changes::{entries, third_part, Entry};
@@ -31,16 +32,17 @@ pub use limits::near_limit;
 pub use random::Random;
 pub use seeds::{each_seed, SEED, TIMES};
 pub use term::{Name, Term};
-pub use worked::{Worked, APPENDIX, EXCHANGES, INSIDE, REARRANGED};
+pub use worked::{Worked, APPENDIX, EXCHANGES, INSIDE, REARRANGED, UNUSED};
 
 /// A question of any kind. Most are accepted; the rest are damaged or pass a limit.
 pub fn any(random: &mut Random) -> Vec<u8> {
-    match random.below(10) {
+    match random.below(11) {
         0 => unrelated(random),
         1..=4 => near_miss(random),
         5..=6 => busy(random),
         7 => near_limit(random),
-        _ => damaged(random),
+        8..=9 => damaged(random),
+        _ => untidy(random),
     }
 }
 
@@ -58,4 +60,9 @@ pub fn near_miss(random: &mut Random) -> Vec<u8> {
 /// rewritten copy.
 pub fn busy(random: &mut Random) -> Vec<u8> {
     Draft::busy(random).bytes()
+}
+
+/// An accepted question with restrictions that bind nothing.
+pub fn untidy(random: &mut Random) -> Vec<u8> {
+    Draft::untidy(random).bytes()
 }

@@ -132,6 +132,22 @@ impl Term {
         1 + self.beneath().iter().map(|term| term.count()).sum::<usize>()
     }
 
+    /// The term of this number, below the number of terms, in a walk from the root.
+    pub fn nth_mut(&mut self, mut number: usize) -> &mut Term {
+        if number == 0 {
+            return self;
+        }
+        number -= 1;
+        for inner in self.beneath_mut() {
+            let count = inner.count();
+            if number < count {
+                return inner.nth_mut(number);
+            }
+            number -= count;
+        }
+        unreachable!("the number is below the count")
+    }
+
     /// Changes each name that is not bound inside the term. The function sees and gives names as
     /// they are at its root.
     pub fn rename(&mut self, of: &dyn Fn(Name) -> Name) {

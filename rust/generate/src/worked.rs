@@ -55,7 +55,7 @@ const MATCH: [&str; 2] = ["05 00 01 01 00", "00"];
 const EXPANSION: [&str; 2] = ["07 02 00 00 03 01 02 00", "06 02 00 03 01 02 00 03 01 02 02 00 00"];
 const UNFOLDING: [&str; 2] = ["09 00 00", "03 00 00 09 00 00"];
 const LOOP: &[(u8, &str)] = &[(1, "03 80 80 09 00 80")];
-const GROWING: &[(u8, &str)] = &[(1, "03 80 80 08 09 00 81")];
+const RESTRICTING: &[(u8, &str)] = &[(1, "03 80 80 08 09 00 81")];
 
 /// "Exchanges to try" that are judged.
 pub const EXCHANGES: &[Worked] = &[
@@ -73,7 +73,7 @@ pub const EXCHANGES: &[Worked] = &[
     Worked::new("K⟨a⟩ and āa.K⟨a⟩", UNFOLDING, "same 2").with(LOOP),
     Worked::new("K⟨a⟩ and āa.K⟨a⟩, 2", UNFOLDING, "same 2").with(LOOP).capacity(2),
     Worked::new("K⟨a⟩ and āa.K⟨a⟩, 1", UNFOLDING, "unsettled 0").with(LOOP).capacity(1),
-    Worked::new("K⟨a⟩ growing", ["09 00 00", "09 00 00"], "unsettled 0").with(GROWING),
+    Worked::new("K⟨a⟩ that restricts", ["09 00 00", "09 00 00"], "same 1").with(RESTRICTING),
 ];
 
 /// Names a to i are 00 to 08. Definition 0 is K1, with K2 written out in its body, and 1 is K2.
@@ -97,8 +97,8 @@ pub const APPENDIX: &[Worked] = &[
     Worked::new("P1 and P2", [P1, P2], "same 23").with(K).capacity(4096),
     Worked::new("P3 and P4", [P3, P4], "same 136").with(K).capacity(4096),
     Worked::new("P2 and P4", [P2, P4], "different 7").with(K).capacity(4096),
-    Worked::new("P5 and P5", [P5, P5], "same 129").with(K).capacity(4096),
-    Worked::new("P5 and P6", [P5, P6], "different 212").with(K).capacity(4096),
+    Worked::new("P5 and P5", [P5, P5], "same 105").with(K).capacity(4096),
+    Worked::new("P5 and P6", [P5, P6], "different 128").with(K).capacity(4096),
     Worked::new("P7 and P7", [P7, P7], "unsettled 0").with(K).capacity(4096),
 ];
 
@@ -113,7 +113,7 @@ const COPIES: [&str; 2] = ["06 09 00 00 09 00 00", "09 00 00"];
 
 /// Pieces in another order (request 2026-07); the last is no law.
 pub const REARRANGED: &[Worked] = &[
-    Worked::new("(a(x).0 | b̄c.0) | (νy)āy.0 bracketed anew", EXTRUSION, "same 12"),
+    Worked::new("(a(x).0 | b̄c.0) | (νy)āy.0 bracketed anew", EXTRUSION, "same 10"),
     Worked::new("a(x).x̄b.0 | ā(y).0 exchanged", MEETING, "same 7"),
     Worked::new("a(x).x̄b.0 | 0 and a(x).x̄b.0", BESIDE_INACTION, "same 3"),
     Worked::new("a(x).(τ.0 + x̄x.0) exchanged", BENEATH_INPUT, "same 3"),
@@ -121,7 +121,7 @@ pub const REARRANGED: &[Worked] = &[
         .apart("00 01"),
     Worked::new("ā(x).0 + 0 and ā(x).0", ["06 04 00 00 00", "04 00 00"], "same 2"),
     Worked::new("K⟨a⟩ + K⟨a⟩ and K⟨a⟩", COPIES, "same 2").with(LOOP),
-    Worked::new("K⟨a⟩ + K⟨a⟩ and K⟨a⟩, growing", COPIES, "unsettled 0").with(GROWING),
+    Worked::new("K⟨a⟩ + K⟨a⟩ and K⟨a⟩, 1", COPIES, "unsettled 0").with(LOOP).capacity(1),
     Worked::new("τ.0 | τ.0 and τ.0", ["07 01 00 01 00", "01 00"], "different 3"),
 ];
 
@@ -151,3 +151,24 @@ pub const INSIDE: &[Worked] = &[
 
 const NESTED: [&str; 2] =
     ["08 06 01 03 01 02 05 80 01 01 00 04 01 00", "08 06 01 03 01 02 00 04 01 00"];
+
+const OWN_RESTRICTION: &[(u8, &str)] = &[(0, "01 08 09 00"), (0, "01 09 01")];
+const IGNORED: &[(u8, &str)] = &[(1, "00")];
+const GATHERED: [&str; 2] = ["09 00", "09 01"];
+
+/// Unused restrictions (request 2026-04), each with its answer and with the one before the request.
+pub const UNUSED: &[(Worked, &str)] = &[
+    (
+        Worked::new("K⟨a⟩ that restricts", ["09 00 00", "09 00 00"], "same 1").with(RESTRICTING),
+        "unsettled 0",
+    ),
+    (Worked::new("K⟨a⟩ + K⟨a⟩ and K⟨a⟩", COPIES, "same 2").with(RESTRICTING), "unsettled 0"),
+    (Worked::new("τ.0 + τ.(νx)0 and τ.0", ["06 01 00 01 08 00", "01 00"], "same 2"), "same 3"),
+    (Worked::new("(νx)τ.0 and τ.0", ["08 01 00", "01 00"], "same 2"), "same 2"),
+    (Worked::new("(νx)0 and 0", ["08 00", "00"], "same 1"), "same 1"),
+    (Worked::new("K = τ.(νx)K, L = τ.L", GATHERED, "same 1").with(OWN_RESTRICTION), "unsettled 0"),
+    (
+        Worked::new("τ.(νx)K⟨x⟩ and τ.0", ["01 08 09 00 80", "01 00"], "same 2").with(IGNORED),
+        "same 2",
+    ),
+];

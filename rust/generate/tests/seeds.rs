@@ -35,7 +35,7 @@ fn drafts_keep_the_limits() {
     for seed in 0..2000 {
         let random = &mut Random::new(seed);
         let near = [Draft::near_miss, Draft::reordered, Draft::held_apart];
-        let drafts = near.into_iter().chain([Draft::unrelated, Draft::busy]);
+        let drafts = near.into_iter().chain([Draft::unrelated, Draft::busy, Draft::untidy]);
         for draft in drafts.map(|make| make(random)) {
             let bodies = draft.definitions.iter().map(|definition| &definition.1);
             for term in bodies.chain([&draft.first, &draft.second]) {

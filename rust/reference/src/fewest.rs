@@ -3,6 +3,7 @@
 use crate::answer::{Answer, Check};
 use crate::condition::NAMES;
 use crate::field::Kind;
+use crate::form::Form;
 use crate::judge::{used, verdict};
 use crate::question::{Question, APART_BYTES};
 use std::collections::BTreeSet;
@@ -12,6 +13,7 @@ type Pairs = BTreeSet<(u8, u8)>;
 /// Checks 1 to 12, 18 and 15, then the search.
 pub fn apart(
     question: &[u8],
+    form: Form,
     capacity: u64,
     names: &[u8],
     work: &mut [u8],
@@ -29,18 +31,24 @@ pub fn apart(
     if area.len() < APART_BYTES {
         return Err(Check::ResultArea);
     }
-    let answer = search(&question, capacity, &given, area);
+    let answer = search(&question, form, capacity, &given, area);
     work[..used].fill(0);
     Ok(answer)
 }
 
-fn search(question: &Question, capacity: u64, given: &BTreeSet<u8>, area: &mut [u8]) -> Answer {
+fn search(
+    question: &Question,
+    form: Form,
+    capacity: u64,
+    given: &BTreeSet<u8>,
+    area: &mut [u8],
+) -> Answer {
     let held: Pairs = question.apart.iter().map(|&(a, b)| (a.min(b), a.max(b))).collect();
     let mut best: Option<(Vec<(u8, u8)>, Pairs)> = None;
     for choice in choices(given, &held) {
         let list: Pairs = held.iter().chain(&choice).copied().collect();
         let enlarged = Question { apart: list.iter().copied().collect(), ..question.clone() };
-        match verdict(&enlarged, Kind::Open, capacity) {
+        match verdict(&enlarged, Kind::Open, form, capacity) {
             Answer::Unsettled => return Answer::Unsettled,
             Answer::Same(_) if best.as_ref().map_or(true, |(other, _)| before(&choice, other)) => {
                 best = Some((choice, list));

@@ -1,6 +1,7 @@
 //! The field of a question: its situations, and what each of them needs to stay related.
 
 use crate::condition::{Apart, Names, NAMES};
+use crate::form::Form;
 use crate::question::{Definition, Question};
 use crate::steps::{steps, Action, Step};
 use crate::term::{Name, Term};
@@ -10,7 +11,8 @@ use std::rc::Rc;
 /// How many steps the step lists kept for reuse may hold together.
 const KEPT_STEPS: usize = 1 << 16;
 
-/// A situation: two parts and the apart pairs whose names are free in at least one of them.
+/// A situation: two parts and the apart pairs whose names are free in at least one of them. The parts have the form of
+/// results: rewriting a result, or putting a name for the placeholder, keeps it.
 #[derive(Clone, PartialEq, Eq, Hash, Debug)]
 struct Situation {
     first: Term,
@@ -70,10 +72,11 @@ impl Field {
     }
 }
 
-/// The field of the question, or nothing if the verdict is unsettled.
-pub fn field(question: &Question, kind: Kind, capacity: usize) -> Option<Field> {
+/// The field of the question with parts in this form, or nothing if the verdict is unsettled.
+pub fn field(question: &Question, kind: Kind, form: Form, capacity: usize) -> Option<Field> {
     let mut search = Search {
         kind,
+        form,
         definitions: &question.definitions,
         capacity,
         situations: Vec::new(),
@@ -85,7 +88,7 @@ pub fn field(question: &Question, kind: Kind, capacity: usize) -> Option<Field> 
         Kind::Open => Apart::of(&question.apart),
         Kind::Late | Kind::Early => Apart::of(&[]),
     };
-    search.place(Situation::new(question.first.clone(), question.second.clone(), &apart))?;
+    search.place(Situation::new(form.of(&question.first), form.of(&question.second), &apart))?;
     let mut next = 0;
     while next < search.situations.len() {
         search.take_up(next)?;
@@ -97,6 +100,7 @@ pub fn field(question: &Question, kind: Kind, capacity: usize) -> Option<Field> 
 /// The search for the field. Its functions give nothing once the verdict is unsettled.
 struct Search<'a> {
     kind: Kind,
+    form: Form,
     definitions: &'a [Definition],
     capacity: usize,
     situations: Vec<Situation>,
@@ -149,8 +153,8 @@ impl Search<'_> {
     /// Tests the limits of a situation and finds the situations that follow it.
     fn take_up(&mut self, number: usize) -> Option<()> {
         let Situation { first, second, apart } = self.situations[number].clone();
-        let first_steps = self.lists.get(&first, self.definitions)?;
-        let second_steps = self.lists.get(&second, self.definitions)?;
+        let first_steps = self.lists.get(&first, self.definitions, self.form)?;
+        let second_steps = self.lists.get(&second, self.definitions, self.form)?;
         let free = first.names().with(second.names());
         let new = free.smallest_missing();
         let mut steps = first_steps.iter().chain(second_steps.iter());
@@ -272,11 +276,11 @@ struct StepLists {
 }
 
 impl StepLists {
-    fn get(&mut self, part: &Term, definitions: &[Definition]) -> Option<Rc<[Step]>> {
+    fn get(&mut self, part: &Term, definitions: &[Definition], form: Form) -> Option<Rc<[Step]>> {
         if let Some(list) = self.lists.get(part) {
             return Some(list.clone());
         }
-        let list: Rc<[Step]> = steps(part, definitions)?.into();
+        let list: Rc<[Step]> = steps(part, definitions, form)?.into();
         if self.held + list.len() > KEPT_STEPS {
             self.lists.clear();
             self.held = 0;

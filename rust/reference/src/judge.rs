@@ -2,6 +2,7 @@
 
 use crate::answer::{Answer, Check};
 use crate::field::{field, Field, Kind};
+use crate::form::Form;
 use crate::question::Question;
 
 /// The greatest capacity.
@@ -10,10 +11,16 @@ pub const CAPACITY: u64 = 4096;
 pub const SITUATION_BYTES: u64 = 256;
 
 /// Checks 1 to 12, then the verdict.
-pub fn judge(question: &[u8], kind: Kind, capacity: u64, work: &mut [u8]) -> Result<Answer, Check> {
+pub fn judge(
+    question: &[u8],
+    kind: Kind,
+    form: Form,
+    capacity: u64,
+    work: &mut [u8],
+) -> Result<Answer, Check> {
     let used = used(capacity, work)?;
     let question = Question::read(question)?;
-    let verdict = verdict(&question, kind, capacity);
+    let verdict = verdict(&question, kind, form, capacity);
     work[..used].fill(0);
     Ok(verdict)
 }
@@ -31,8 +38,8 @@ pub fn used(capacity: u64, work: &[u8]) -> Result<usize, Check> {
 }
 
 /// The verdict on an accepted question.
-pub fn verdict(question: &Question, kind: Kind, capacity: u64) -> Answer {
-    match field(question, kind, capacity as usize) {
+pub fn verdict(question: &Question, kind: Kind, form: Form, capacity: u64) -> Answer {
+    match field(question, kind, form, capacity as usize) {
         None => Answer::Unsettled,
         Some(field) if start_stays(&field) => Answer::Same(field.size() as u64),
         Some(field) => Answer::Different(field.size() as u64),

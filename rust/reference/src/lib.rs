@@ -1,7 +1,7 @@
 //! A second implementation of the exchange judge, written from its paper alone and apart from the
 //! proved one. It parses a question into trees, works on trees and names, and prints them back.
 //!
-//! The eight operations take numbers and byte areas and answer with an [`Answer`].
+//! The ten operations take numbers and byte areas and answer with an [`Answer`].
 
 #![deny(missing_docs)]
 #![forbid(unsafe_code)]
@@ -10,10 +10,12 @@ mod answer;
 mod condition;
 mod fewest;
 mod field;
+mod form;
 mod judge;
 mod question;
 mod steps;
 mod term;
+pub mod untidied;
 
 pub use answer::{Answer, Check};
 pub use condition::NAMES;
@@ -23,6 +25,7 @@ pub use steps::{Listed, STEPS, STEP_BYTES};
 
 use condition::{Apart, Condition};
 use field::Kind;
+use form::Form;
 use question::Question;
 use term::{Edition, Shape, Term};
 
@@ -36,6 +39,11 @@ pub fn check(question: &[u8]) -> Answer {
 
 /// Lists the steps of side 1 or 2 with the given new name, and answers their count.
 pub fn steps(question: &[u8], side: u64, new_name: u64, area: &mut [u8]) -> Answer {
+    steps_in(Form::Tidied, question, side, new_name, area)
+}
+
+/// The same with results in a form.
+fn steps_in(form: Form, question: &[u8], side: u64, new_name: u64, area: &mut [u8]) -> Answer {
     let (part, new, question) = match side_to_list(question, side, new_name) {
         Ok(found) => found,
         Err(check) => return check.into(),
@@ -43,7 +51,7 @@ pub fn steps(question: &[u8], side: u64, new_name: u64, area: &mut [u8]) -> Answ
     if area.len() < STEPS * STEP_BYTES {
         return Check::ResultArea.into();
     }
-    let Some(listed) = list(&part, new, &question) else {
+    let Some(listed) = list(&part, new, &question, form) else {
         return Answer::Unsettled;
     };
     for (place, step) in area.chunks_exact_mut(STEP_BYTES).zip(&listed) {
@@ -56,7 +64,7 @@ pub fn steps(question: &[u8], side: u64, new_name: u64, area: &mut [u8]) -> Answ
 /// answer of the listing.
 pub fn listed_steps(question: &[u8], side: u64, new_name: u64) -> Result<Vec<Listed>, Answer> {
     let (part, new, question) = side_to_list(question, side, new_name)?;
-    list(&part, new, &question).ok_or(Answer::Unsettled)
+    list(&part, new, &question, Form::Tidied).ok_or(Answer::Unsettled)
 }
 
 /// Checks 3 to 13: the part to list and the new name.
@@ -74,8 +82,8 @@ fn side_to_list(bytes: &[u8], side: u64, new_name: u64) -> Result<(Term, u8, Que
 }
 
 /// The listed steps in ascending byte order, or nothing if they are beyond the limits.
-fn list(part: &Term, new: u8, question: &Question) -> Option<Vec<Listed>> {
-    let steps = steps::steps(part, &question.definitions)?;
+fn list(part: &Term, new: u8, question: &Question, form: Form) -> Option<Vec<Listed>> {
+    let steps = steps::steps(part, &question.definitions, form)?;
     let mut listed: Vec<Listed> = steps.iter().map(|step| Listed::of(step, new)).collect();
     listed.sort_by_cached_key(Listed::bytes);
     Some(listed)
@@ -141,17 +149,22 @@ fn convert(question: &[u8], from: Edition, area: &mut [u8]) -> Answer {
 
 /// Judges a question: whether its parts are open bisimilar under its apart list.
 pub fn judge(question: &[u8], capacity: u64, work: &mut [u8]) -> Answer {
-    judge::judge(question, Kind::Open, capacity, work).unwrap_or_else(Answer::from)
+    judge_in(Form::Tidied, Kind::Open, question, capacity, work)
 }
 
 /// Judges whether the parts of a question are late bisimilar; its apart list is only checked.
 pub fn judge_late(question: &[u8], capacity: u64, work: &mut [u8]) -> Answer {
-    judge::judge(question, Kind::Late, capacity, work).unwrap_or_else(Answer::from)
+    judge_in(Form::Tidied, Kind::Late, question, capacity, work)
 }
 
 /// Judges whether the parts of a question are early bisimilar; its apart list is only checked.
 pub fn judge_early(question: &[u8], capacity: u64, work: &mut [u8]) -> Answer {
-    judge::judge(question, Kind::Early, capacity, work).unwrap_or_else(Answer::from)
+    judge_in(Form::Tidied, Kind::Early, question, capacity, work)
+}
+
+/// Judges with results in a form.
+fn judge_in(form: Form, kind: Kind, question: &[u8], capacity: u64, work: &mut [u8]) -> Answer {
+    judge::judge(question, kind, form, capacity, work).unwrap_or_else(Answer::from)
 }
 
 /// Finds the fewest pairs of the names that, held apart besides, make the parts the same, and
@@ -163,7 +176,20 @@ pub fn apart(
     work: &mut [u8],
     area: &mut [u8],
 ) -> Answer {
-    fewest::apart(question, capacity, names, work, area).unwrap_or_else(Answer::from)
+    apart_in(Form::Tidied, question, capacity, names, work, area)
+}
+
+/// The same with results in a form.
+fn apart_in(
+    form: Form,
+    question: &[u8],
+    capacity: u64,
+    names: &[u8],
+    work: &mut [u8],
+    area: &mut [u8],
+) -> Answer {
+    let found = fewest::apart(question, form, capacity, names, work, area);
+    found.unwrap_or_else(Answer::from)
 }
 
 /// A number given as a free name.

@@ -1,6 +1,7 @@
 //! The steps of a part: table 4.1 and the rule Canon, as document 01 reads them.
 
 use crate::condition::{Condition, NAMES};
+use crate::form::Form;
 use crate::question::{Definition, PART_BYTES};
 use crate::term::{Edition, Name, Shape, Term};
 use std::collections::HashSet;
@@ -65,10 +66,10 @@ impl Step {
         Step { condition: Condition::EMPTY, action, result }
     }
 
-    /// Canon: action and result rewritten by the condition.
-    fn canonical(self) -> Step {
+    /// Canon: action and result rewritten by the condition, and the result in its form.
+    fn canonical(self, form: Form) -> Step {
         let action = self.action.rewritten(&self.condition);
-        let result = self.result.rewritten(&self.condition);
+        let result = form.of(&self.result.rewritten(&self.condition));
         Step { condition: self.condition, action, result }
     }
 
@@ -79,13 +80,13 @@ impl Step {
     }
 }
 
-/// The distinct steps of a part, or nothing if there are more than 256 or one has a result
-/// above 112 bytes.
-pub fn steps(part: &Term, definitions: &[Definition]) -> Option<Vec<Step>> {
+/// The distinct steps of a part with results in this form, or nothing if there are more than 256
+/// or one has a result above 112 bytes.
+pub fn steps(part: &Term, definitions: &[Definition], form: Form) -> Option<Vec<Step>> {
     let mut seen = HashSet::new();
     let mut distinct = Vec::new();
     for step in allowed(part, definitions) {
-        let step = step.canonical();
+        let step = step.canonical(form);
         if seen.insert(step.clone()) {
             distinct.push(step);
         }

@@ -64,11 +64,11 @@ impl Name {
         }
     }
 
-    fn facts(self) -> (Names, u16) {
+    fn facts(self) -> (Names, Outward) {
         match self {
-            Name::Free(name) => (Names::one(name), 0),
-            Name::Bound(k) => (Names::NONE, k + 1),
-            Name::New => (Names::PLACEHOLDER, 0),
+            Name::Free(name) => (Names::one(name), Outward::NONE),
+            Name::Bound(k) => (Names::NONE, Outward::one(k)),
+            Name::New => (Names::PLACEHOLDER, Outward::NONE),
         }
     }
 
@@ -123,10 +123,54 @@ struct Facts {
     digest: u64,
     /// The number of bytes of the coded term.
     size: u32,
-    /// How many binders outside the term its names reach.
-    reach: u16,
+    /// The binders outside the term whose names occur, calls included.
+    outward: Outward,
     /// The free names that occur, calls included.
     names: Names,
+    /// Whether a restriction has no name beneath it that it binds.
+    untidy: bool,
+}
+
+/// A set of binders outside a term, the nearest being 0. A part of 112 bytes, a body of 112 bytes
+/// opened in it and a restriction for an extruded name have fewer than 256 binders one within the
+/// other.
+#[derive(Clone, Copy, PartialEq, Eq, Debug)]
+struct Outward {
+    near: u128,
+    far: u128,
+}
+
+impl Outward {
+    const NONE: Outward = Outward { near: 0, far: 0 };
+
+    fn one(k: u16) -> Outward {
+        match k.checked_sub(128) {
+            None => Outward { near: 1 << k, far: 0 },
+            Some(k) => Outward { near: 0, far: 1 << k },
+        }
+    }
+
+    fn with(self, other: Outward) -> Outward {
+        Outward { near: self.near | other.near, far: self.far | other.far }
+    }
+
+    /// Whether the nearest binder is in the set.
+    fn has_nearest(self) -> bool {
+        self.near & 1 == 1
+    }
+
+    /// The binders as they are seen from outside the nearest.
+    fn beyond_nearest(self) -> Outward {
+        Outward { near: self.near >> 1 | self.far << 127, far: self.far >> 1 }
+    }
+
+    /// Whether there is a binder beyond this many.
+    fn reaches_beyond(self, depth: u16) -> bool {
+        match depth.checked_sub(128) {
+            None => self.near >> depth != 0 || self.far != 0,
+            Some(depth) => self.far >> depth != 0,
+        }
+    }
 }
 
 impl Term {
@@ -214,11 +258,39 @@ impl Term {
         self.renamed(&Rewritten { condition, changed }, 0)
     }
 
+    /// Whether the name of the nearest binder outside occurs.
+    fn uses_binder(&self) -> bool {
+        self.0.facts.outward.has_nearest()
+    }
+
+    /// The term without the restrictions, however deep, whose name is not free beneath them. One
+    /// walk is enough: what goes takes no name with it.
+    pub fn tidied(&self) -> Term {
+        if !self.0.facts.untidy {
+            return self.clone();
+        }
+        Term::new(match self.shape() {
+            Shape::Restriction(p) => match p.tidied() {
+                // there is no name to put the placeholder for
+                p if !p.uses_binder() => return p.opened(),
+                p => Shape::Restriction(p),
+            },
+            Shape::Silent(p) => Shape::Silent(p.tidied()),
+            Shape::Input(a, p) => Shape::Input(*a, p.tidied()),
+            Shape::Output(a, b, p) => Shape::Output(*a, *b, p.tidied()),
+            Shape::NewOutput(a, p) => Shape::NewOutput(*a, p.tidied()),
+            Shape::Match(a, b, p) => Shape::Match(*a, *b, p.tidied()),
+            Shape::Choice(p, q) => Shape::Choice(p.tidied(), q.tidied()),
+            Shape::Parallel(p, q) => Shape::Parallel(p.tidied(), q.tidied()),
+            Shape::Inaction | Shape::Call(..) => return self.clone(),
+        })
+    }
+
     /// The term with each name that is not bound inside it renamed. Subtrees that no renaming
     /// touches are shared with the old term.
     fn renamed<R: Renaming>(&self, renaming: &R, depth: u16) -> Term {
         let facts = &self.0.facts;
-        if !renaming.touches(facts.names, facts.reach > depth) {
+        if !renaming.touches(facts.names, facts.outward.reaches_beyond(depth)) {
             return self.clone();
         }
         let name = |name: Name| rename(renaming, name, depth);
@@ -273,7 +345,10 @@ impl Facts {
             Shape::Match(a, b, p) => Facts::start(5).name(*a).name(*b).and(p, 0),
             Shape::Choice(p, q) => Facts::start(6).and(p, 0).and(q, 0),
             Shape::Parallel(p, q) => Facts::start(7).and(p, 0).and(q, 0),
-            Shape::Restriction(p) => Facts::start(8).and(p, 1),
+            Shape::Restriction(p) => {
+                let facts = Facts::start(8).and(p, 1);
+                Facts { untidy: facts.untidy || !p.uses_binder(), ..facts }
+            }
             Shape::Call(k, names) => {
                 let call = Facts::start(9).mixed(u64::from(*k), 1);
                 names.iter().fold(call, |facts, name| facts.name(*name))
@@ -282,7 +357,8 @@ impl Facts {
     }
 
     fn start(tag: u64) -> Facts {
-        let facts = Facts { digest: 0, size: 0, reach: 0, names: Names::NONE };
+        let (outward, names) = (Outward::NONE, Names::NONE);
+        let facts = Facts { digest: 0, size: 0, outward, names, untidy: false };
         facts.mixed(tag + 1, 1)
     }
 
@@ -293,16 +369,24 @@ impl Facts {
     }
 
     fn name(self, name: Name) -> Facts {
-        let (names, reach) = name.facts();
+        let (names, outward) = name.facts();
         let facts = self.mixed(name.digest(), 1);
-        Facts { names: self.names.with(names), reach: self.reach.max(reach), ..facts }
+        Facts { names: self.names.with(names), outward: self.outward.with(outward), ..facts }
     }
 
+    /// With a term beneath, and a binder between or none.
     fn and(self, term: &Term, binders: u16) -> Facts {
         let inner = term.0.facts;
-        let facts = self.mixed(inner.digest, inner.size);
-        let reach = self.reach.max(inner.reach.saturating_sub(binders));
-        Facts { names: self.names.with(inner.names), reach, ..facts }
+        let seen = match binders {
+            0 => inner.outward,
+            _ => inner.outward.beyond_nearest(),
+        };
+        Facts {
+            names: self.names.with(inner.names),
+            outward: self.outward.with(seen),
+            untidy: self.untidy || inner.untidy,
+            ..self.mixed(inner.digest, inner.size)
+        }
     }
 }
 

@@ -48,6 +48,16 @@ fn worked_rows() {
     assert_eq!(found(&question("01 00", "01 00", ""), 1, &[0]).0, Answer::Unsettled);
 }
 
+/// Unused restrictions go in every choice: K(x) = x̄x.(νy)K(x), and K(a) twice.
+#[test]
+fn restrictions_that_go() {
+    let restricting = common::ask(&[(1, "03 80 80 08 09 00 81")], "09 00 00", "09 00 00", "");
+    assert_eq!(found(&restricting, 1, &[0, 1]).0, Answer::Result(0));
+    let (mut work, mut area) = ([0; 256], [0; 240]);
+    let before = reference::untidied::apart(&restricting, 1, &[0, 1], &mut work, &mut area);
+    assert_eq!(before, Answer::Unsettled);
+}
+
 /// Adding a pair can enlarge the field.
 #[test]
 fn a_larger_choice_may_be_unsettled() {

@@ -133,9 +133,10 @@ impl Run<'_> {
 fn lists_of_changes() {
     let mut tally = Tally::default();
     each_seed(2000, |random| {
-        let draft = match random.below(4) {
+        let draft = match random.below(5) {
             0 => Draft::unrelated(random),
             3 => Draft::busy(random),
+            4 => Draft::untidy(random),
             _ => Draft::near_miss(random),
         };
         let count = random.between(4, 14);

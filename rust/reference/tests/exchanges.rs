@@ -50,11 +50,11 @@ fn the_whole_file() {
     assert_eq!(EXCHANGES.iter().find(named).unwrap().bytes(), file);
 }
 
-/// The definition whose restrictions gather is unsettled whatever the capacity.
+/// The definition whose restrictions gathered has one situation, whatever the capacity.
 #[test]
-fn restrictions_that_gather() {
-    let growing = EXCHANGES.last().unwrap();
+fn restrictions_that_gathered() {
+    let restricting = EXCHANGES.last().unwrap();
     for capacity in [1, 109, 110, 111, 256, 4096] {
-        answers(&Worked { capacity, ..*growing });
+        answers(&Worked { capacity, ..*restricting });
     }
 }

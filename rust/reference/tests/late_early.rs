@@ -1,6 +1,6 @@
 //! Late and early verdicts beside the open one (document 02, request 2026-02).
 
-use generate::each_seed;
+use generate::{each_seed, Fields};
 use reference::Answer::{self, Different, Refused, Same, Unsettled};
 
 const CAPACITY: u64 = 256;
@@ -73,11 +73,16 @@ fn definitions_limits_and_refusals() {
         answers("0101010006038080090080000309000000060300000900000000"),
         [Same(2), Same(2), Same(2)]
     );
-    // the growing K
+    // the K that restricts, and a part with a result of 113 bytes
     assert_eq!(
         answers("010101000703808008090081000309000000030900000000"),
-        [Unsettled, Unsettled, Unsettled]
+        [Same(1), Same(1), Same(1)]
     );
+    let silent = |length: usize| [vec![0x01; length - 1], vec![0x00]].concat();
+    let definitions = vec![(0, silent(100))];
+    let first = [vec![0x07, 0x09, 0x00], silent(13)].concat();
+    let fields = Fields { definitions, first, second: vec![0x00], apart: vec![] };
+    assert_eq!(judged(&fields.bytes()), [Unsettled, Unsettled, Unsettled]);
     // a name apart from itself: the list is checked though it plays no other part
     let refused = answers("010000010000010000020000");
     assert!(refused.iter().all(|answer| *answer == refused[0] && matches!(answer, Refused(_))));

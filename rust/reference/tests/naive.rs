@@ -3,7 +3,7 @@
 
 mod common;
 
-use generate::{each_seed, Draft, Fields, APPENDIX, EXCHANGES};
+use generate::{each_seed, Draft, Fields, APPENDIX, EXCHANGES, UNUSED};
 use reference::Answer::{self, Different, Same, Unsettled};
 use reference::{listed_steps, Listed};
 use std::collections::{BTreeMap, BTreeSet};
@@ -46,7 +46,11 @@ impl Definitions {
         push(&[0x00], &mut question);
         push(&[], &mut question);
         match listed_steps(&question, 1, new.into()) {
-            Ok(steps) => Ok(steps),
+            Ok(steps) => {
+                let is_tidied = |step: &Listed| self.tidied(&step.result) == step.result;
+                assert!(steps.iter().all(is_tidied), "{steps:02x?}");
+                Ok(steps)
+            }
             Err(answer) => {
                 assert_eq!(answer, Unsettled);
                 Err(Stop::Limit)
@@ -85,6 +89,10 @@ impl Definitions {
     fn free(&self, term: &[u8]) -> BTreeSet<u8> {
         let names = self.name_places(term).into_iter().map(|place| term[place]);
         names.filter(|&name| name < 0x80).collect()
+    }
+
+    fn tidied(&self, part: &[u8]) -> Vec<u8> {
+        common::tidied(part, &self.arities)
     }
 
     fn situation(&self, first: Vec<u8>, second: Vec<u8>, apart: &Pairs) -> Situation {
@@ -157,7 +165,8 @@ fn verdict(fields: &Fields, capacity: usize) -> Option<Answer> {
     let definitions = Definitions::of(fields);
     let pairs = fields.apart.chunks(2).map(|pair| (pair[0], pair[1]));
     let apart: Pairs = pairs.flat_map(|(a, b)| [(a, b), (b, a)]).collect();
-    let start = definitions.situation(fields.first.clone(), fields.second.clone(), &apart);
+    let [first, second] = [&fields.first, &fields.second].map(|part| definitions.tidied(part));
+    let start = definitions.situation(first, second, &apart);
     let mut field: BTreeMap<Situation, Vec<BTreeSet<Situation>>> = BTreeMap::new();
     let mut waiting = BTreeSet::from([start.clone()]);
     while let Some(situation) = waiting.pop_first() {
@@ -196,9 +205,10 @@ fn struck_out(
 fn verdict_and_size_agree() {
     let (mut same, mut different, mut unsettled, mut larger) = (0, 0, 0, 0);
     each_seed(4000, |random| {
-        let draft = match random.below(5) {
+        let draft = match random.below(6) {
             0 => Draft::unrelated(random),
             1 | 2 => Draft::busy(random),
+            3 => Draft::untidy(random),
             _ => Draft::near_miss(random),
         };
         let answer = common::judge(&draft.bytes(), 64);
@@ -218,7 +228,8 @@ fn verdict_and_size_agree() {
 /// The last pair of the appendix is left out: this way to its field is too long.
 #[test]
 fn worked_questions() {
-    for worked in EXCHANGES.iter().chain(&APPENDIX[..APPENDIX.len() - 1]) {
+    let unused = UNUSED.iter().map(|(worked, _)| worked);
+    for worked in EXCHANGES.iter().chain(&APPENDIX[..APPENDIX.len() - 1]).chain(unused) {
         let answer = verdict(&worked.fields(), worked.capacity as usize);
         assert_eq!(answer.unwrap().to_string(), worked.answer, "{}", worked.name);
     }

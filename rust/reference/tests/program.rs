@@ -23,8 +23,8 @@ fn lines() {
     let file = hex("01 00 00 08 06 01 00 05 00 01 01 00 00 02 01 00 00 00");
     assert_eq!(printed(&file), "same 2\n");
     assert_eq!(printed(&pair("05 00 01 01 00", "00", "")), "different 1\n");
-    let growing = ask(&[(1, "03 80 80 08 09 00 81")], "09 00 00", "09 00 00", "");
-    assert_eq!(printed(&growing), "unsettled 0\n");
+    let restricting = ask(&[(1, "03 80 80 08 09 00 81")], "09 00 00", "09 00 00", "");
+    assert_eq!(printed(&restricting), "same 1\n");
     assert_eq!(printed(&[]), "refused 3\n");
     assert_eq!(printed(&[0x01; 4096]), "refused 4\n");
     assert_eq!(printed(&[0x01; 4097]), "refused 4\n");

@@ -106,6 +106,15 @@ fn near_misses_are_accepted_and_share_out() {
 }
 
 #[test]
+fn untidy_questions_are_accepted_and_share_out() {
+    let shares = shares("untidy", 256, generate::untidy);
+    assert_eq!(shares.accepted() as u64, QUESTIONS);
+    for count in [shares.same, shares.different, shares.unsettled] {
+        assert!(count as u64 * 20 > QUESTIONS);
+    }
+}
+
+#[test]
 fn near_limits_are_turned_back_about_half_the_time() {
     let shares = shares("near limit", 256, generate::near_limit);
     assert!(shares.accepted() as u64 * 4 > QUESTIONS);

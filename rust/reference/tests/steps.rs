@@ -59,7 +59,7 @@ fn choices_without_duplicates() {
     lists("06 05 01 01 02 00 00 06 05 02 02 05 03 03 02 00 00 02 00 00", &input);
     lists("05 01 01 06 02 00 00 05 01 01 06 02 00 00 02 00 00", &input);
     // A match that fails stands beside one that does not.
-    lists("08 06 05 80 00 02 00 00 05 80 80 02 00 00", &[step(&[], [1, 0, NEW], "08 00")]);
+    lists("08 06 05 80 00 02 00 00 05 80 80 02 00 00", &[step(&[], [1, 0, NEW], "00")]);
     // Different as they stand, equal once rewritten by the condition.
     lists("05 00 01 06 03 00 01 00 03 01 00 00", &[step(&[(1, 0)], [2, 0, 0], "00")]);
 }
@@ -180,15 +180,15 @@ fn opening_and_communication() {
 /// A restricted name blocks a step exactly if the condition merges it with another.
 #[test]
 fn conditions_on_restricted_names() {
-    lists("08 05 80 80 01 00", &[step(&[], [0, 0, 0], "08 00")]);
+    lists("08 05 80 80 01 00", &[step(&[], [0, 0, 0], "00")]);
     lists("08 05 80 00 01 00", &[]);
     lists("08 05 00 80 01 00", &[]);
     lists("08 08 05 80 81 01 00", &[]);
-    lists("08 05 00 01 01 00", &[step(&[(1, 0)], [0, 0, 0], "08 00")]);
+    lists("08 05 00 01 01 00", &[step(&[(1, 0)], [0, 0, 0], "00")]);
     lists("08 07 03 80 00 00 02 01 00", &[step(&[], [1, 1, NEW], "08 07 03 80 00 00 00")]);
-    lists("08 07 03 80 00 00 02 80 00", &[step(&[], [0, 0, 0], "08 07 00 00")]);
+    lists("08 07 03 80 00 00 02 80 00", &[step(&[], [0, 0, 0], "07 00 00")]);
     lists("08 08 07 03 80 00 00 02 81 00", &[]);
-    lists("08 07 04 80 00 02 80 00", &[step(&[], [0, 0, 0], "08 08 07 00 00")]);
+    lists("08 07 04 80 00 02 80 00", &[step(&[], [0, 0, 0], "07 00 00")]);
 }
 
 #[test]
@@ -204,7 +204,7 @@ fn calls() {
     lists_with(&matching, "08 09 00 80 03", &[]);
     // Parameters that stand for one name, two names and a restricted one, in communications.
     let offers = [(2, "05 80 81 02 80 00"), (2, "05 80 81 04 80 00")];
-    let both = step(&[], [0, 0, 0], "08 08 07 00 00");
+    let both = step(&[], [0, 0, 0], "07 00 00");
     lists_with(&offers, "08 07 09 00 80 80 09 01 80 80", &[both]);
     lists_with(&offers, "08 07 09 00 80 00 09 01 80 80", &[]);
     // A call stays folded in a result until its own step.
@@ -298,10 +298,10 @@ fn a_blocked_result_of_113_bytes() {
     let listed = steps(&question(50), 1, 0).unwrap();
     assert_eq!(listed.len(), 1);
     assert_eq!(listed[0][19], 4 + 50);
-    let free = [hex("08 07 09 00 00"), silent(10)].concat();
+    let free = [hex("08 07 09 00 00"), silent(11)].concat();
     let question = |part: &[u8]| raw(&[(1, body.clone())], part, &[0x00], &[]);
     assert_eq!(steps(&question(&free), 1, 1).map(|list| list.len()), Ok(2));
-    let free = [hex("08 07 09 00 00"), silent(11)].concat();
+    let free = [hex("08 07 09 00 00"), silent(12)].concat();
     assert_eq!(steps(&question(&free), 1, 1), Err(Unsettled));
     // A condition blocks as a channel does.
     let matching = [hex("05 80 81 01"), silent(100)].concat();

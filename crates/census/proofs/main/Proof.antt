@@ -1,3 +1,4 @@
+-- `census::main` meets its contract. Assumes nothing.
 -- The loop ends: `size` counts up to the greatest length.
 use borrow.Author.Needs.{needs}
 use Prim.Native.Nat.{_-_, _≤_}

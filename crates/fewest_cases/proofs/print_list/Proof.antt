@@ -1,3 +1,4 @@
+-- `fewest_cases::print_list` meets its contract. Assumes nothing.
 -- The loop ends: `i` counts up to the length of the list.
 use borrow.Author.Needs.{needs}
 use Prim.Native.Nat.{_-_, _≤_}

@@ -1,3 +1,4 @@
+-- `fewest_cases::write_answers` meets its contract. Assumes nothing.
 -- The loop ends: `i` counts up to the number of cases.
 use borrow.Author.Needs.{needs}
 use mathlib.Core.Path.{_≡_}

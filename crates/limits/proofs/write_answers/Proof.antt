@@ -1,3 +1,4 @@
+-- `limits::write_answers` meets its contract. Assumes nothing.
 -- The loop ends: `i` counts up to the number of questions.
 use borrow.Author.Needs.{needs}
 use Prim.Native.Nat.{_-_, _≤_}

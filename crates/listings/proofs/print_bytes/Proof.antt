@@ -1,3 +1,4 @@
+-- `listings::print_bytes` meets its contract. Assumes nothing.
 -- The loop ends: `i` counts up to the number of bytes.
 use borrow.Author.Needs.{needs}
 use Prim.Native.Nat.{_-_, _≤_}

@@ -1,3 +1,4 @@
+-- `listings::print_steps` meets its contract. Assumes nothing.
 -- The loop ends: `i` counts up to the number of steps.
 use borrow.Author.Needs.{needs}
 use Prim.Native.Nat.{_-_, _≤_}

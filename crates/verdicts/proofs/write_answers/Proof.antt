@@ -1,3 +1,4 @@
+-- `verdicts::write_answers` meets its contract. Assumes nothing.
 -- The loop ends: `i` counts up to the number of questions.
 use borrow.Author.Needs.{needs}
 use mathlib.Core.Path.{_≡_}

@@ -26,14 +26,15 @@ impl Alone {
 }
 
 /// The components that make the move, as far as that can be found: of those that could, the first
-/// after whose steps the part has the outline of the move's result.
+/// after whose steps the part has the outline of the move's result. Restrictions do not count: a
+/// step can leave one unused, so that it goes, or bring one for a name that is passed on.
 pub fn movers(pieces: &Pieces<'_>, part: &Term, step: Step<'_>, table: &mut Table) -> Vec<Mover> {
     let Some(alone) = alone(pieces, part, table) else { return Vec::new() };
     let causes = match step.action() {
         Action::Silent => [single(&alone, step), pairs(&alone, step)].concat(),
         _ => single(&alone, step),
     };
-    let result = table.term(step.result()).outline();
+    let result = table.term(step.result()).bare_outline();
     let fits = |cause: &&Cause| replaced(part, pieces, cause, &alone, table) == result;
     let best = causes.iter().find(fits).or_else(|| causes.first());
     best.map(|cause| cause.iter().map(|taker| (taker.component, taker.channel)).collect())
@@ -146,9 +147,9 @@ fn replaced(
             let taker = cause.iter().find(|taker| taker.component == component);
             outline.extend(match taker {
                 Some(taker) => {
-                    table.term(alone[component].steps[taker.step].step().result()).outline()
+                    table.term(alone[component].steps[taker.step].step().result()).bare_outline()
                 }
-                None => pieces.components[component].term.outline(),
+                None => pieces.components[component].term.bare_outline(),
             });
             component += 1;
         }
@@ -157,11 +158,13 @@ fn replaced(
     outline
 }
 
-/// The bytes of parallels and restrictions above the components, and nothing for each component.
+/// The bytes of parallels above the components, and nothing for each component.
 fn skeleton(term: &Term, see: &mut impl FnMut(Option<u8>)) {
     match term.head {
         Head::Parallel | Head::Restriction => {
-            see(term.outline().first().copied());
+            if term.head == Head::Parallel {
+                see(term.outline().first().copied());
+            }
             term.beneath.iter().for_each(|beneath| skeleton(beneath, see));
         }
         _ => see(None),

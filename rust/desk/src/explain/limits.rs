@@ -10,7 +10,7 @@ pub fn listing(part: &Term, exchange: &Exchange) -> (String, &'static str) {
     let steps = format!("it has more than {} steps", exchange::STEPS);
     let length = format!("what it becomes after some step is longer than {PART_BYTES} bytes");
     let fewer = "Try fewer parts beside each other, or fewer branches.";
-    let shorter = "Try to leave out restrictions that nothing uses, or shorter definitions.";
+    let shorter = "Try shorter definitions, or fewer parts beside each other.";
     match (may_be_long(part, exchange), may_have_many_steps(part, exchange)) {
         (true, false) => (length, shorter),
         (false, true) => (steps, fewer),
@@ -18,7 +18,8 @@ pub fn listing(part: &Term, exchange: &Exchange) -> (String, &'static str) {
     }
 }
 
-/// A step opens at most two calls and adds at most one restriction.
+/// A step opens at most two calls and adds at most one restriction; unused ones that go make it
+/// shorter.
 fn may_be_long(part: &Term, exchange: &Exchange) -> bool {
     let bodies = exchange.definitions.iter().map(|definition| definition.body.bytes().len());
     part.bytes().len() + 2 * bodies.max().unwrap_or(0) + 1 > PART_BYTES

@@ -14,7 +14,7 @@ pub fn bound_words() -> impl Iterator<Item = String> {
 }
 
 /// What people called the bound names, by the term that binds them. Steps put names for others and
-/// leave shapes, so a result can be printed in the words of its file.
+/// leave the shapes of tidied terms, so a result can be printed in the words of its file.
 #[derive(Clone, Debug, Default)]
 pub struct Words {
     by_bytes: HashMap<Vec<u8>, String>,
@@ -26,7 +26,9 @@ impl Words {
     pub fn of(exchange: &Exchange) -> Words {
         let mut words = Words::default();
         let bodies = exchange.definitions.iter().map(|definition| &definition.body);
-        for term in exchange.parts.iter().chain(bodies) {
+        let written: Vec<&Term> = exchange.parts.iter().chain(bodies).collect();
+        let tidied: Vec<Term> = written.iter().map(|term| term.tidied()).collect();
+        for term in written.into_iter().chain(&tidied) {
             term.walk(&mut |term, _| {
                 if let Some(word) = &term.word {
                     words.by_bytes.entry(term.bytes()).or_insert_with(|| word.clone());

@@ -119,3 +119,53 @@ pub fn silent(length: usize) -> Vec<u8> {
     part[length - 1] = 0x00;
     part
 }
+
+/// A coded term without its unused restrictions. One after another is tried; if no name beneath is
+/// its own, it goes, and all are tried again.
+pub fn tidied(term: &[u8], arities: &[u8]) -> Vec<u8> {
+    let mut walk = Walk::default();
+    walk.from(term, 0, 0, arities);
+    for at in walk.restrictions {
+        let mut beneath = Walk::default();
+        beneath.from(term, at + 1, 0, arities);
+        let bound = |&(place, depth): &(usize, u8)| (place, term[place].checked_sub(0x80 + depth));
+        let outward: Vec<(usize, Option<u8>)> = beneath.names.iter().map(bound).collect();
+        if outward.iter().all(|&(_, outward)| outward != Some(0)) {
+            let mut shorter = term.to_vec();
+            let further = outward.iter().filter(|(_, outward)| outward.is_some());
+            further.for_each(|&(place, _)| shorter[place] -= 1);
+            shorter.remove(at);
+            return tidied(&shorter, arities);
+        }
+    }
+    term.to_vec()
+}
+
+/// The places of restrictions and of names in a coded term, names with the binders around them.
+#[derive(Default)]
+struct Walk {
+    restrictions: Vec<usize>,
+    names: Vec<(usize, u8)>,
+}
+
+impl Walk {
+    /// Walks the term that begins at a place; where it ends.
+    fn from(&mut self, term: &[u8], at: usize, depth: u8, arities: &[u8]) -> usize {
+        let (skipped, names, binds, terms) = match term[at] {
+            0 => (1, 0, 0, 0),
+            1 => (1, 0, 0, 1),
+            2 | 4 => (1, 1, 1, 1),
+            3 | 5 => (1, 2, 0, 1),
+            6 | 7 => (1, 0, 0, 2),
+            8 => (1, 0, 1, 1),
+            _ => (2, arities[usize::from(term[at + 1])], 0, 0),
+        };
+        if term[at] == 8 {
+            self.restrictions.push(at);
+        }
+        let first = at + skipped;
+        let end = first + usize::from(names);
+        self.names.extend((first..end).map(|place| (place, depth)));
+        (0..terms).fold(end, |at, _| self.from(term, at, depth + binds, arities))
+    }
+}

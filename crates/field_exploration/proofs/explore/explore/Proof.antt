@@ -1,4 +1,4 @@
--- `field::explore::explore` meets its contract. Assumes nothing.
+-- `field_exploration::explore::explore` meets its contract. Assumes nothing.
 use native.Mathlib.Omega.{arith}
 use mathlib.Core.Path.{_≡_, refl}
 use Prim.Native.Nat.{_*_, _-_, _≤_}
@@ -12,13 +12,13 @@ use Rattle.field_exploration.proofs.explore.explore.Statement.{statemen
 use Rattle.field_exploration.proofs.explore.explore.Tie as tie
 
 abbrev Inv-loop : tie.InvT-loop
-Inv-loop question bodies tallies₀ rows₀ firsts₀ seconds₀ work₀ capacity differ known₀ taken₀ tallies rows firsts seconds work known taken =
+Inv-loop question bodies tallies₀ rows₀ firsts₀ seconds₀ work₀ differ capacity known₀ taken₀ tallies rows firsts seconds work known taken =
     (taken ≤ known) × (1 ≤ known) × (known ≤ capacity) × (length work ≡ length work₀) × (length tallies ≡ tallySize) × (rowBytes * mostRows ≤ length rows)
     × Labelled question firsts × Labelled question seconds × Explorers differ question capacity work₀ work known taken
     × (length tallies ≡ length tallies₀) × (length rows ≡ length rows₀) × (length firsts ≡ length firsts₀) × (length seconds ≡ length seconds₀)
 
 abbrev μ-loop : tie.MeasureT-loop
-μ-loop question bodies tallies₀ rows₀ firsts₀ seconds₀ work₀ capacity differ known₀ taken₀ tallies rows firsts seconds work known taken = capacity - taken
+μ-loop question bodies tallies₀ rows₀ firsts₀ seconds₀ work₀ differ capacity known₀ taken₀ tallies rows firsts seconds work known taken = capacity - taken
 
 start-key-requires : tie.Need-start-key-requires Inv-loop μ-loop
 start-key-requires c κs = search needs
@@ -56,16 +56,14 @@ grow-requires c κs =
     let c7 = c .before .before .before .before .before .before .before in
     let c9 = c7 .before .before in
     let c10 = c9 .before in
-    let c24 = c10 .before .before .before .before .before .before .before .before .before .before .before .before .before .before in (
-      c9 .loop-test .taken,
-      c10 .loop .inv .2,
-      c24 .pre .1,
-      omega (arith, c24 .pre .2, c10 .loop .inv .3, c7 .clear-slot .kept),
+    let c24 = c10 .before .before .before .before .before .before .before .before .before .before .before .before .before .before in
+    let i = c10 .loop .inv in (
+      record { waits = c9 .loop-test .taken; few = i .2; most = c24 .pre .1; room = omega (arith, c24 .pre .2, i .3, c7 .clear-slot .kept) },
       c24 .pre .3,
-      c10 .loop .inv .4,
-      c10 .loop .inv .5,
-      c10 .loop .inv .6,
-      c10 .loop .inv .7,
+      i .4,
+      i .5,
+      i .6,
+      i .7,
     )
 
 enum-known-growth : tie.Need-enum-known-growth Inv-loop μ-loop
@@ -148,8 +146,8 @@ loop-again c =
       search needs,
       c .before .before .before .before .before .before .before .before .before .before .before .before .before .grow .ensures .1,
       c .before .before .before .before .before .before .before .before .before .before .before .before .before .grow .ensures .2,
-      explorers-next _ _ _ _
-          _ _ _ (explorers-cleared _ _ _ _ _ _ _ _ (omega (
+      explorers-next _ _ _
+          _ _ _ _ (explorers-cleared _ _ _ _ _ _ _ _ (omega (
             arith,
             c .before .before .before .before .before .before .before .before .before .before .before .before .before .before .before .before .before .before .before .before .before .before .before .loop-test .taken,
             c .before .before .before .before .before .before .before .before .before .before .before .before .before .before .before .before .before .before .before .before .before .before .before .before .loop .inv .2,
@@ -202,8 +200,8 @@ returns-2 c =
     let c1 = c .before in
     let c4 = c1 .before .before .before in
     let c15 = c4 .before .before .before .before .before .before .before .before .before .before .before in (
-      explored-from _ _ _ (c15 .pre .0) _ (c15 .pre .2) _ (omega arith) _ (c4 .put .ensures) _ _ (explorers-end _ _ _ _ _ _ _ (c1 .loop .inv .8) (omega
-          arith) (omega arith) (omega arith)),
+      explored-from _ _ _ (c15 .pre .0) _ (c15 .pre .2) _ (omega arith) _ (c4 .put .ensures) _ _ (explorers-end _ _ _ _ _ _ _ (c1 .loop .inv .8)
+          (omega arith) (omega arith) (omega arith)),
       c1 .loop .inv .6,
       c1 .loop .inv .7,
     )

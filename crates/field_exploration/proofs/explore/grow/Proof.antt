@@ -1,6 +1,7 @@
--- `field::explore::grow` meets its contract. Assumes nothing.
+-- `field_exploration::explore::grow` meets its contract. Assumes nothing.
 use native.Mathlib.Omega.{arith}
 use Rattle.field_exploration.proofs.ExploringLaws.{grow-past, grow-listed}
+use mathlib.Core.Path.{refl}
 use borrow.Author.Needs.{needs}
 use Rattle.field_exploration.proofs.explore.grow.Statement.{statement}
 use Rattle.field_exploration.proofs.explore.grow.Tie as tie
@@ -11,7 +12,7 @@ mul-take-up c = search needs
 take-up-requires : tie.Need-take-up-requires
 take-up-requires c κs =
     let c12 = c .before .before .before .before .before .before .before .before .before .before .before .before in
-    (omega (arith, c12 .pre .0, c12 .pre .1, c12 .pre .3), c12 .pre .4, c12 .pre .5, c12 .pre .6, c12 .pre .7, c12 .pre .8)
+    (omega (arith, c12 .pre .0 .waits, c12 .pre .0 .few, c12 .pre .0 .room), c12 .pre .1, c12 .pre .2, c12 .pre .3, c12 .pre .4, c12 .pre .5)
 
 enum-told : tie.Need-enum-told
 enum-told c = search needs
@@ -27,13 +28,13 @@ slice-aggregate-grow-sides c = search needs
 
 grow-sides-requires : tie.Need-grow-sides-requires
 grow-sides-requires c κs =
-    let c6 = c .before .before .before .before .before .before in
-    let c18 = c6 .before .before .before .before .before .before .before .before .before .before .before .before in
-    let c31 = c18 .before .before .before .before .before .before .before .before .before .before .before .before .before in
-    let b = c18 .take-up .ensures .0 .few _ _ (c6 .lists .given .1) in
-    let k = c18 .take-up .ensures .1 .room in
-    let l = c18 .take-up .ensures .2 .room in
-    (c31 .pre .0, c31 .pre .1, c31 .pre .2, c31 .pre .3, b .0, omega (arith, k), b .1, omega (arith, l))
+    let c7 = c .before .before .before .before .before .before .before in
+    let c19 = c7 .before .before .before .before .before .before .before .before .before .before .before .before in
+    let c32 = c19 .before .before .before .before .before .before .before .before .before .before .before .before .before in
+    let b = c19 .take-up .ensures .0 .few _ _ (c7 .lists .given .1) in
+    let k = c19 .take-up .ensures .1 .room in
+    let l = c19 .take-up .ensures .2 .room in
+    (c32 .pre .0, record { most = b .0; room = omega (arith, k) }, record { most = b .1; room = omega (arith, l) }, refl)
 
 same-length : tie.Need-same-length
 same-length c = search needs
@@ -53,8 +54,11 @@ same-length-5 c = search needs
 returns : tie.Need-returns
 returns c =
     let c12 = c .before .before .before .before .before .before .before .before .before .before .before .before in
-    let c25 = c12 .before .before .before .before .before .before .before .before .before .before .before .before .before in
-    (grow-past _ _ _ _ _ _ (c25 .pre .0) _ _ _ (c12 .take-up .ensures .0) (c .enum-told .given .1), c12 .take-up .ensures .1, c12 .take-up .ensures .2)
+    let c25 = c12 .before .before .before .before .before .before .before .before .before .before .before .before .before in (
+      grow-past _ _ _ _ _ _ (c25 .pre .0 .waits) _ _ _ (c12 .take-up .ensures .0) (c .enum-told .given .1),
+      c12 .take-up .ensures .1,
+      c12 .take-up .ensures .2,
+    )
 
 same-length-6 : tie.Need-same-length-6
 same-length-6 c = search needs
@@ -73,14 +77,14 @@ same-length-10 c = search needs
 
 returns-2 : tie.Need-returns-2
 returns-2 c =
-    let c7 = c .before .before .before .before .before .before .before in
-    let c9 = c7 .before .before in
-    let c21 = c9 .before .before .before .before .before .before .before .before .before .before .before .before in
-    let c34 = c21 .before .before .before .before .before .before .before .before .before .before .before .before .before in (
-      grow-listed _ _ _ _ _ _ (c34 .pre .0) _ _ _ (c21 .take-up .ensures .0) _ _ (c9 .lists .given .1) _ (c7 .arities-of .ensures) _ _
+    let c8 = c .before .before .before .before .before .before .before .before in
+    let c10 = c8 .before .before in
+    let c22 = c10 .before .before .before .before .before .before .before .before .before .before .before .before in
+    let c35 = c22 .before .before .before .before .before .before .before .before .before .before .before .before .before in (
+      grow-listed _ _ _ _ _ _ (c35 .pre .0 .waits) _ _ _ (c22 .take-up .ensures .0) _ _ (c10 .lists .given .1) _ (c8 .arities-of .ensures) _ _
           (c .before .before .grow-sides .ensures),
-      c21 .take-up .ensures .1,
-      c21 .take-up .ensures .2,
+      c22 .take-up .ensures .1,
+      c22 .take-up .ensures .2,
     )
 
 pub grow-spec : {M : Type 1} → statement M

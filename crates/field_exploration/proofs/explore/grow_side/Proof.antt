@@ -1,4 +1,4 @@
--- `field::explore::grow_side` meets its contract. Assumes nothing.
+-- `field_exploration::explore::grow_side` meets its contract. Assumes nothing.
 use native.Mathlib.Omega.{arith}
 use mathlib.Core.Path.{_≡_, refl}
 use Prim.Native.Nat.{_-_, _≤_}
@@ -9,17 +9,18 @@ use Rattle.field_exploration.proofs.explore.grow_side.Statement.{statem
 use Rattle.field_exploration.proofs.explore.grow_side.Tie as tie
 
 abbrev Inv-loop : tie.InvT-loop
-Inv-loop arities free apart differ second taken area steps others count work₀ capacity known so-far₀ i₀ work so-far i =
-    (i ≤ steps) × (length work ≡ length work₀) × (known ≤ so-far) × (so-far ≤ capacity) × Steps arities free apart differ second taken area steps others count capacity work₀ known work so-far i
+Inv-loop arities free apart area others side work₀ known steps so-far₀ i₀ work so-far i =
+    (i ≤ side .steps) × (length work ≡ length work₀) × (known ≤ so-far) × (so-far ≤ side .capacity)
+    × Steps arities free apart (side .differ) (side .second) (side .taken) area (side .steps) others (side .count) (side .capacity) work₀ known work so-far i
 
 abbrev μ-loop : tie.MeasureT-loop
-μ-loop arities free apart differ second taken area steps others count work₀ capacity known so-far₀ i₀ work so-far i = steps - i
+μ-loop arities free apart area others side work₀ known steps so-far₀ i₀ work so-far i = side .steps - i
 
 loop-holds : tie.Need-loop-holds Inv-loop μ-loop
 loop-holds c = (search needs, search needs, search needs, search needs, steps-start _ _ _ _ _ _ _ _ _ _ _ _ _ (omega arith))
 
-mul-grow-step : tie.Need-mul-grow-step Inv-loop μ-loop
-mul-grow-step c = search needs
+mul-at : tie.Need-mul-at Inv-loop μ-loop
+mul-at c = search needs
 
 grow-step-requires : tie.Need-grow-step-requires Inv-loop μ-loop
 grow-step-requires c κs = search needs
@@ -72,7 +73,7 @@ grow-side-spec =
     Inv-loop
     μ-loop
     loop-holds
-    mul-grow-step
+    mul-at
     grow-step-requires
     enum-known-growth
     enum-told

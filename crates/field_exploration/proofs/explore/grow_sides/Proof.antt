@@ -1,4 +1,4 @@
--- `field::explore::grow_sides` meets its contract. Assumes nothing.
+-- `field_exploration::explore::grow_sides` meets its contract. Assumes nothing.
 use native.Mathlib.Omega.{arith}
 use mathlib.Core.Path.{refl}
 use Rattle.field_growth.proofs.GrowingLaws.{sides-full, sides-both}
@@ -24,7 +24,10 @@ same-length : tie.Need-same-length
 same-length c = search needs
 
 returns : tie.Need-returns
-returns c = sides-full _ _ _ _ _ _ _ _ _ _ _ _ _ (rw (c .enum-told .given .1) at (c .before .before .before .before .grow-side .ensures))
+returns c =
+    let c4 = c .before .before .before .before in
+    let c11 = c4 .before .before .before .before .before .before .before in
+    sides-full _ _ _ _ _ _ _ _ _ _ _ _ _ (rw (c11 .pre .3, c .enum-told .given .1) at (c4 .grow-side .ensures))
 
 same-length-2 : tie.Need-same-length-2
 same-length-2 c = search needs
@@ -33,7 +36,8 @@ returns-2 : tie.Need-returns-2
 returns-2 c =
     let c5 = c .before .before .before .before .before in
     let c9 = c5 .before .before .before .before in
-    sides-both _ _ _ _ _ _ _ _ _ _ _ _ (omega arith) _ _ (rw (c5 .growth .given .1) at (c9 .grow-side .ensures)) _ _
+    let c16 = c9 .before .before .before .before .before .before .before in
+    sides-both _ _ _ _ _ _ _ _ _ _ _ _ (omega arith) _ _ (rw (c16 .pre .3, c5 .growth .given .1) at (c9 .grow-side .ensures)) _ _
     (c .before .before .grow-side2 .ensures)
 
 pub grow-sides-spec : {M : Type 1} → statement M

@@ -1,4 +1,4 @@
--- `field::explore::add` meets its contract. Assumes nothing.
+-- `field_growth::growth::add` meets its contract. Assumes nothing.
 use native.Mathlib.Omega.{arith}
 use mathlib.Core.Path.{refl}
 use Rattle.field_growth.proofs.GrowingLaws.{add-full, add-new, added-full, added-new, added-found}

@@ -1,4 +1,4 @@
--- `field::explore::first_answer` meets its contract. Assumes nothing.
+-- `field_growth::growth::first_answer` meets its contract. Assumes nothing.
 use native.Mathlib.Omega.{arith}
 use borrow.Author.Needs.{needs}
 use Prim.Native.Nat.{_-_, _≤_}

@@ -1,4 +1,4 @@
--- `field::explore::grow_answers` meets its contract. Assumes nothing.
+-- `field_growth::growth::grow_answers` meets its contract. Assumes nothing.
 use native.Mathlib.Omega.{arith}
 use mathlib.Core.Path.{_≡_, refl}
 use Prim.Native.Nat.{_-_, _≤_}
@@ -9,18 +9,24 @@ use Rattle.field_growth.proofs.growth.grow_answers.Statement.{statement
 use Rattle.field_growth.proofs.growth.grow_answers.Tie as tie
 
 abbrev Inv-loop : tie.InvT-loop
-Inv-loop arities free apart second area at others first count name work₀ capacity known so-far₀ left₀ led₀ j₀ work so-far left led j =
-    (j ≤ count) × (length work ≡ length work₀) × (so-far ≤ capacity) × Answers arities free apart second area at others first count name capacity work₀ known work so-far j
-    × Looked arities free apart second area at others first count name capacity work₀ known work so-far j left led
+Inv-loop arities free apart area others asked work₀ known count so-far₀ left₀ led₀ j₀ work so-far left led j =
+    (j ≤ asked .count) × (length work ≡ length work₀) × (known ≤ so-far) × (so-far ≤ asked .capacity)
+    × Answers arities free apart (asked .second) area (asked .at) others (asked .first) (asked .count) (asked .name) (asked .capacity) work₀ known work so-far j
+    × Looked arities free apart (asked .second) area (asked .at) others (asked .first) (asked .count) (asked .name) (asked .capacity) work₀ known work so-far j left led
 
 abbrev μ-loop : tie.MeasureT-loop
-μ-loop arities free apart second area at others first count name work₀ capacity known so-far₀ left₀ led₀ j₀ work so-far left led j = count - j
+μ-loop arities free apart area others asked work₀ known count so-far₀ left₀ led₀ j₀ work so-far left led j = asked .count - j
 
 loop-holds : tie.Need-loop-holds Inv-loop μ-loop
-loop-holds c = (search needs, search needs, search needs, answers-start _ _ _ _ _ _ _ _ _ _ _ _ _ (omega arith), looked-start _ _ _ _ _ _ _ _ _ _ _ _ _)
-
-mul-grow-answer : tie.Need-mul-grow-answer Inv-loop μ-loop
-mul-grow-answer c = search needs
+loop-holds c = (
+  search needs,
+  search needs,
+  search needs,
+  search needs,
+  answers-start _ _ _ _ _ _ _ _ _ _ _ _ _ (omega arith),
+  looked-start _ _ _ _ _ _ _ _ _ _
+      _ _ _,
+)
 
 grow-answer-requires : tie.Need-grow-answer-requires Inv-loop μ-loop
 grow-answer-requires c κs = search needs
@@ -39,7 +45,7 @@ returns c =
     let c4 = c .before .before .before .before in
     let c6 = c4 .before .before in
     let c7 = c6 .before in
-    looked-full _ _ _ _ _ _ _ _ _ _ _ _ _ _ (answers-full _ _ _ _ _ _ _ _ _ _ _ _ _ _ _ _ _ (c7 .loop .inv .3) (c6 .loop-test .taken) (rw
+    looked-full _ _ _ _ _ _ _ _ _ _ _ _ _ _ (answers-full _ _ _ _ _ _ _ _ _ _ _ _ _ _ _ _ _ (c7 .loop .inv .4) (c6 .loop-test .taken) (rw
     (c .enum-told .given .1) at (c4 .grow-answer .ensures .grown)))
 
 join-requires : tie.Need-join-requires Inv-loop μ-loop
@@ -53,29 +59,32 @@ loop-less c = search needs
 
 loop-again : tie.Need-loop-again Inv-loop μ-loop
 loop-again c =
+    let c7 = c .before .before .before .before .before .before .before in
+    let c9 = c7 .before .before in
+    let c10 = c9 .before in
     let g = rw (c .before .before .before .growth .given .1) at
-    (c .before .before .before .before .before .before .before .grow-answer .ensures .grown) in (
+    (c7 .grow-answer .ensures .grown) in (
       search needs,
       search needs,
-      g .grows .within _
-          refl .1,
+      omega (arith, g .grows .within _ refl .0, c10 .loop .inv .2),
+      g .grows .within _ refl .1,
       answers-next _ _ _ _ _ _ _ _ _ _ _ _ _ _ _ _ _ _
-          (c .before .before .before .before .before .before .before .before .before .before .loop .inv .3)
-          (c .before .before .before .before .before .before .before .before .before .loop-test .taken) g,
+          (c10 .loop .inv .4)
+          (c9 .loop-test .taken) g,
       looked-next _ _ _ _ _ _ _ _ _ _ _ _ _ _ _ _
-          (c .before .before .before .before .before .before .before .before .before .before .loop .left) _
-          (c .before .before .before .before .before .before .before .grow-answer .result) _ _ _
-          (c .before .before .before .before .before .before .before .before .before .before .loop .inv .3)
-          (c .before .before .before .before .before .before .before .before .before .before .loop .inv .4)
-          (c .before .before .before .before .before .before .before .before .before .loop-test .taken) (c .before .before .before .growth .given .1)
-          (c .join .ensures) (c .before .before .before .before .before .before .before .grow-answer .ensures),
+          (c10 .loop .left) _
+          (c7 .grow-answer .result) _ _ _
+          (c10 .loop .inv .4)
+          (c10 .loop .inv .5)
+          (c9 .loop-test .taken) (c .before .before .before .growth .given .1)
+          (c .join .ensures) (c7 .grow-answer .ensures),
     )
 
 same-length-2 : tie.Need-same-length-2 Inv-loop μ-loop
 same-length-2 c = search needs
 
 returns-2 : tie.Need-returns-2 Inv-loop μ-loop
-returns-2 c = looked-end _ _ _ _ _ _ _ _ _ _ _ _ _ _ _ _ _ _ (c .before .loop .inv .3) (c .before .loop .inv .4) (omega arith)
+returns-2 c = looked-end _ _ _ _ _ _ _ _ _ _ _ _ _ _ _ _ _ _ (c .before .loop .inv .4) (c .before .loop .inv .5) (omega arith)
 
 pub grow-answers-spec : {M : Type 1} → statement M
 grow-answers-spec =
@@ -84,7 +93,6 @@ grow-answers-spec =
     Inv-loop
     μ-loop
     loop-holds
-    mul-grow-answer
     grow-answer-requires
     enum-known-growth
     enum-told

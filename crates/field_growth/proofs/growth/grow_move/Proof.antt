@@ -1,4 +1,4 @@
--- `field::growth::grow_move` meets its contract. Assumes nothing.
+-- `field_growth::growth::grow_move` meets its contract. Assumes nothing.
 use native.Mathlib.Omega.{arith}
 use Rattle.field_growth.proofs.GrowingLaws.{move-answered, move-noted, move-gone}
 use borrow.Author.Needs.{needs}
@@ -19,8 +19,11 @@ returns c =
     let c4 = c .before .before .before .before in
     let c9 = c4 .before .before .before .before .before in
     let c16 = c9 .before .before .before .before .before .before .before in
-    move-noted _ _ _ _ _ _ _ _ _ _ _ _ _ _ (c16 .pre .waits) (c9 .grow-answers .result) _ (omega (arith, c16 .pre .waits, c16 .pre .few))
-    (c9 .grow-answers .ensures) (c4 .if2 .taken) _ (c .before .before .note-sole .ensures)
+    move-noted _ _ _ _ _ _ _ _ _ _ _ _ _ _ (c16 .pre .slots .waits) (c9 .grow-answers .result) _ (omega (
+      arith,
+      c16 .pre .slots .waits,
+      c16 .pre .slots .few,
+    )) (c9 .grow-answers .ensures) (c4 .if2 .taken) _ (c .before .before .note-sole .ensures)
 
 same-length-2 : tie.Need-same-length-2
 same-length-2 c = search needs
@@ -29,26 +32,21 @@ returns-2 : tie.Need-returns-2
 returns-2 c =
     let c5 = c .before .before .before .before .before in
     let c12 = c5 .before .before .before .before .before .before .before in
-    move-answered _ _ _ _ _ _ _ _ _ _ _ _ _ _ (c12 .pre .waits) _ _ (c5 .grow-answers .ensures .grown)
+    move-answered _ _ _ _ _ _ _ _ _ _ _ _ _ _ (c12 .pre .slots .waits) _ _ (c5 .grow-answers .ensures .grown)
 
-mul-work : tie.Need-mul-work
-mul-work c = search needs
-
-add-work : tie.Need-add-work
-add-work c = search needs
-
-slice-write-work : tie.Need-slice-write-work
-slice-write-work c = search needs
+strike-requires : tie.Need-strike-requires
+strike-requires c κs = search needs
 
 same-length-3 : tie.Need-same-length-3
 same-length-3 c = search needs
 
 returns-3 : tie.Need-returns-3
 returns-3 c =
-    let c3 = c .before .before .before in
-    let c10 = c3 .before .before .before .before .before .before .before in
-    move-gone _ _ _ _ _ _ _ _ _ _ _ _ _ _ (c10 .pre .waits) (c3 .grow-answers .result) _ (c .if1 .left) (omega arith) (omega arith)
-    (c3 .grow-answers .ensures)
+    let c4 = c .before .before .before .before in
+    let c7 = c4 .before .before .before in
+    let c14 = c7 .before .before .before .before .before .before .before in
+    rw (c .before .before .strike .ensures) (move-gone _ _ _ _ _ _ _ _ _ _ _ _ _ _ (c14 .pre .slots .waits) (c7 .grow-answers .result) _
+    (c4 .if1 .left) (omega arith) (omega arith) (c7 .grow-answers .ensures))
 
 pub grow-move-spec : {M : Type 1} → statement M
 grow-move-spec =
@@ -60,8 +58,6 @@ grow-move-spec =
     returns
     same-length-2
     returns-2
-    mul-work
-    add-work
-    slice-write-work
+    strike-requires
     same-length-3
     returns-3)

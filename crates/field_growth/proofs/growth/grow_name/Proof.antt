@@ -1,4 +1,4 @@
--- `field::growth::grow_name` meets its contract. Assumes nothing.
+-- `field_growth::growth::grow_name` meets its contract. Assumes nothing.
 use native.Mathlib.Omega.{arith}
 use borrow.Author.Tests.{not-true, not-false}
 use Rattle.field_growth.proofs.GrowingLaws.{name-none, name-received}
@@ -13,7 +13,8 @@ returns : tie.Need-returns
 returns c =
     let c1 = c .before in
     let c7 = c1 .before .before .before .before .before .before in
-    name-none _ _ _ _ _ _ _ _ _ _ _ _ _ _ (c7 .pre .0 .few) (rw (not-true (c1 .is-received .result) (c .if1 .taken)) at (c1 .is-received .ensures))
+    name-none _ _ _ _ _ _ _ _ _ _ _ _ _ _ (c7 .pre .0 .slots .few) (rw (not-true (c1 .is-received .result) (c .if1 .taken)) at
+    (c1 .is-received .ensures))
 
 grow-move-requires : tie.Need-grow-move-requires
 grow-move-requires c κs = search needs

@@ -1,4 +1,4 @@
--- `field::growth::grow_names` meets its contract. Assumes nothing.
+-- `field_growth::growth::grow_names` meets its contract. Assumes nothing.
 use native.Mathlib.Omega.{arith}
 use mathlib.Core.Path.{_≡_, refl}
 use Prim.Native.Nat.{_-_, _≤_}
@@ -10,12 +10,12 @@ use Rattle.field_growth.proofs.growth.grow_names.Statement.{statement}
 use Rattle.field_growth.proofs.growth.grow_names.Tie as tie
 
 abbrev Inv-loop : tie.InvT-loop
-Inv-loop arities free apart asked area others work₀ known so-far₀ name₀ work so-far name =
+Inv-loop arities free apart area others asked work₀ known so-far₀ name₀ work so-far name =
     (name ≤ nameCount) × (length work ≡ length work₀) × (known ≤ so-far) × (so-far ≤ asked .capacity)
     × Names arities free apart (asked .second) (asked .taken) area (asked .at) others (asked .first) (asked .count) (asked .capacity) work₀ known work so-far name
 
 abbrev μ-loop : tie.MeasureT-loop
-μ-loop arities free apart asked area others work₀ known so-far₀ name₀ work so-far name = nameCount - name
+μ-loop arities free apart area others asked work₀ known so-far₀ name₀ work so-far name = nameCount - name
 
 loop-holds : tie.Need-loop-holds Inv-loop μ-loop
 loop-holds c = (
@@ -24,7 +24,7 @@ loop-holds c = (
   search needs,
   search needs,
   names-start _ _ _ _ _ _ _ _ _ _ _ _ _
-      (c .before .before .before .before .before .pre .few),
+      (c .before .before .before .before .before .pre .slots .few),
 )
 
 grow-name-requires : tie.Need-grow-name-requires Inv-loop μ-loop
@@ -45,8 +45,8 @@ returns c =
     let c6 = c4 .before .before in
     let c7 = c6 .before in
     let c13 = c7 .before .before .before .before .before .before in
-    names-full _ _ _ _ _ _ _ _ _ _ _ _ _ (c13 .pre .waits) _ _ _ _ (c7 .loop .inv .4) (omega (arith, c6 .loop-test .taken)) (rw (c .enum-told .given .1) at
-    (c4 .grow-name .ensures))
+    names-full _ _ _ _ _ _ _ _ _ _ _ _ _ (c13 .pre .slots .waits) _ _ _ _ (c7 .loop .inv .4) (omega (arith, c6 .loop-test .taken)) (rw
+    (c .enum-told .given .1) at (c4 .grow-name .ensures))
 
 add-name : tie.Need-add-name Inv-loop μ-loop
 add-name c = search needs
@@ -62,9 +62,11 @@ loop-again c =
       omega (arith, b .0, c .before .before .before .before .before .before .before .before .loop .inv .2),
       b .1,
       names-next _ _ _ _ _ _ _ _ _ _ _ _ _
-          (c .before .before .before .before .before .before .before .before .before .before .before .before .before .before .pre .waits) _ _ _ _ _
-          (c .before .before .before .before .before .before .before .before .loop .inv .4)
-          (omega (arith, c .before .before .before .before .before .before .before .loop-test .taken)) g,
+          (c .before .before .before .before .before .before .before .before .before .before .before .before .before .before .pre .slots .waits) _ _ _ _ _
+          (c .before .before .before .before .before .before .before .before .loop .inv .4) (omega (
+            arith,
+            c .before .before .before .before .before .before .before .loop-test .taken,
+          )) g,
     )
 
 same-length-2 : tie.Need-same-length-2 Inv-loop μ-loop

@@ -1,4 +1,4 @@
--- `field::growth::grow_step` meets its contract. Assumes nothing.
+-- `field_growth::growth::grow_step` meets its contract. Assumes nothing.
 use native.Mathlib.Omega.{arith}
 use borrow.Author.Tests.{not-true, not-false}
 use Rattle.field_growth.proofs.GrowingLaws.{step-none, step-struck, step-mirrored, step-named, step-open}
@@ -17,24 +17,21 @@ returns c =
 first-answer-requires : tie.Need-first-answer-requires
 first-answer-requires c κs = search needs
 
-mul-work : tie.Need-mul-work
-mul-work c = search needs
-
-add-work : tie.Need-add-work
-add-work c = search needs
-
-slice-write-work : tie.Need-slice-write-work
-slice-write-work c = search needs
+strike-requires : tie.Need-strike-requires
+strike-requires c κs = search needs
 
 same-length : tie.Need-same-length
 same-length c = search needs
 
 returns-2 : tie.Need-returns-2
 returns-2 c =
-    let c3 = c .before .before .before in
-    let c10 = c3 .before .before .before .before .before .before .before in
-    step-struck _ _ _ _ _ _ _ _ _ _ _ _ _ (rw (not-false (c3 .allowed .result) (c .before .before .if1 .left)) at (c3 .allowed .ensures)) _
-    (c .before .first-answer .ensures) (c10 .pre .0) (c .if2 .taken) (omega arith) (omega arith)
+    let c4 = c .before .before .before .before in
+    let c5 = c4 .before in
+    let c6 = c5 .before in
+    let c7 = c6 .before in
+    let c13 = c7 .before .before .before .before .before .before in
+    rw (c .before .before .strike .ensures) (step-struck _ _ _ _ _ _ _ _ _ _ _ _ _ (rw (not-false (c7 .allowed .result) (c6 .if1 .left)) at
+    (c7 .allowed .ensures)) _ (c5 .first-answer .ensures) (c13 .pre .0 .waits) (c4 .if2 .taken) (omega arith) (omega arith))
 
 is-trivial-requires : tie.Need-is-trivial-requires
 is-trivial-requires c κs = search needs
@@ -45,9 +42,9 @@ returns-3 c =
     let c4 = c3 .before in
     let c5 = c4 .before in
     let c6 = c5 .before in
-    let c13 = c6 .before .before .before .before .before .before .before in
+    let c12 = c6 .before .before .before .before .before .before in
     step-mirrored _ _ _ _ _ _ _ _ _ _ _ _ _ (rw (not-false (c6 .allowed .result) (c5 .if1 .left)) at (c6 .allowed .ensures)) _
-    (c4 .first-answer .ensures) (c13 .pre .0) (c3 .if2 .left) (omega arith) (c .before .before .if3 .taken) _ (c .before .is-trivial .ensures)
+    (c4 .first-answer .ensures) (c12 .pre .0 .waits) (c3 .if2 .left) (omega arith) (c .before .before .if3 .taken) _ (c .before .is-trivial .ensures)
     (c .if4 .taken)
 
 grow-names-requires : tie.Need-grow-names-requires
@@ -63,9 +60,9 @@ returns-4 c =
     let c7 = c6 .before in
     let c8 = c7 .before in
     let c9 = c8 .before in
-    let c16 = c9 .before .before .before .before .before .before .before in
+    let c15 = c9 .before .before .before .before .before .before in
     step-named _ _ _ _ _ _ _ _ _ _ _ _ _ (rw (not-false (c9 .allowed .result) (c8 .if1 .left)) at (c9 .allowed .ensures)) _
-    (c7 .first-answer .ensures) (c16 .pre .0) (c6 .if2 .left) (c4 .if5 .taken) _ _ (c .before .before .grow-names .ensures)
+    (c7 .first-answer .ensures) (c15 .pre .0 .waits) (c6 .if2 .left) (c4 .if5 .taken) _ _ (c .before .before .grow-names .ensures)
 
 grow-move-requires : tie.Need-grow-move-requires
 grow-move-requires c κs = search needs
@@ -80,9 +77,9 @@ returns-5 c =
     let c7 = c6 .before in
     let c8 = c7 .before in
     let c9 = c8 .before in
-    let c16 = c9 .before .before .before .before .before .before .before in
+    let c15 = c9 .before .before .before .before .before .before in
     step-open _ _ _ _ _ _ _ _ _ _ _ _ _ (rw (not-false (c9 .allowed .result) (c8 .if1 .left)) at (c9 .allowed .ensures)) _ (c7 .first-answer .ensures)
-    (c16 .pre .0) (c6 .if2 .left) (c4 .if5 .left) _ _ (c .before .before .grow-move .ensures)
+    (c15 .pre .0 .waits) (c6 .if2 .left) (c4 .if5 .left) _ _ (c .before .before .grow-move .ensures)
 
 pub grow-step-spec : {M : Type 1} → statement M
 grow-step-spec =
@@ -91,9 +88,7 @@ grow-step-spec =
     allowed-requires
     returns
     first-answer-requires
-    mul-work
-    add-work
-    slice-write-work
+    strike-requires
     same-length
     returns-2
     is-trivial-requires

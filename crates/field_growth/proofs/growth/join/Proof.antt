@@ -1,4 +1,4 @@
--- `field::explore::join` meets its contract. Assumes nothing.
+-- `field_growth::growth::join` meets its contract. Assumes nothing.
 use Rattle.field_growth.proofs.GrowingLaws.{joined-first, joined-second, joined-same, joined-several}
 use borrow.Author.Needs.{needs}
 use Rattle.field_growth.proofs.growth.join.Statement.{statement}

@@ -1,4 +1,4 @@
--- `field::kept_lists::bring` meets its contract. Assumes nothing.
+-- `field_kept_lists::kept_lists::bring` meets its contract. Assumes nothing.
 use native.Mathlib.Omega.{arith}
 use Rattle.field_kept_lists.proofs.KeptListLaws.{brought}
 use borrow.Author.Needs.{needs}

@@ -1,4 +1,4 @@
--- `field::kept_lists::copy_within` meets its contract. Assumes nothing.
+-- `field_kept_lists::kept_lists::copy_within` meets its contract. Assumes nothing.
 use native.Mathlib.Omega.{arith}
 use borrow.Author.Needs.{needs}
 use mathlib.Core.Path.{_≡_, ap, _∙_}

@@ -1,4 +1,4 @@
--- `field::kept_lists::kept_place` meets its contract. Assumes nothing.
+-- `field_kept_lists::kept_lists::kept_place` meets its contract. Assumes nothing.
 use native.Mathlib.Omega.{arith}
 use mathlib.Core.Path.{refl}
 use Prim.Native.Nat.{_+_, _*_, _/_, _%_}

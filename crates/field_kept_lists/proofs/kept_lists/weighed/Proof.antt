@@ -1,4 +1,4 @@
--- `field::kept_lists::weighed` meets its contract. Assumes nothing.
+-- `field_kept_lists::kept_lists::weighed` meets its contract. Assumes nothing.
 use native.Mathlib.Omega.{arith}
 use borrow.Author.Needs.{needs}
 use Prim.Native.Nat.{_*_, _-_, _≤_}

@@ -1,4 +1,4 @@
--- `field::list_area::put_label` meets its contract. Assumes nothing.
+-- `field_kept_lists::list_area::put_label` meets its contract. Assumes nothing.
 use native.Mathlib.Omega.{arith}
 use mathlib.Core.Path.{_∙_, ap}
 use Prim.Native.Nat.{_+_}

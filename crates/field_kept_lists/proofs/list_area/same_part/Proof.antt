@@ -1,4 +1,4 @@
--- `field::list_area::same_part` meets its contract. Assumes nothing.
+-- `field_kept_lists::list_area::same_part` meets its contract. Assumes nothing.
 use native.Mathlib.Omega.{arith}
 use mathlib.Core.Path.{_≡_}
 use Prim.Native.Nat.{ℕ}

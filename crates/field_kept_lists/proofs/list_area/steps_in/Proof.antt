@@ -1,4 +1,4 @@
--- `field::list_area::steps_in` meets its contract. Assumes nothing.
+-- `field_kept_lists::list_area::steps_in` meets its contract. Assumes nothing.
 use mathlib.Core.Path.{sym, _∙_}
 use Rattle.field_kept_lists.proofs.LabelLaws.{count-of}
 use borrow.Author.Needs.{needs}

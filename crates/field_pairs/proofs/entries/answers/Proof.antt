@@ -1,4 +1,4 @@
--- `field::entries::answers` meets its contract. Assumes nothing.
+-- `field_pairs::entries::answers` meets its contract. Assumes nothing.
 use native.Mathlib.Omega.{arith}
 use Rattle.field_pairs.specs.Entry.{channelByte, objectByte}
 use borrow.Author.Needs.{needs}

@@ -1,4 +1,4 @@
--- `field::entries::binds` meets its contract. Assumes nothing.
+-- `field_pairs::entries::binds` meets its contract. Assumes nothing.
 use mathlib.Core.Path.{sym, _∙_}
 use Prim.Native.Nat.{_-_}
 use Rattle.field_pairs.proofs.EntryLaws.{binds-input, binds-other}

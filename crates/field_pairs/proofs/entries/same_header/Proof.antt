@@ -1,4 +1,4 @@
--- `field::entries::same_header` meets its contract. Assumes nothing.
+-- `field_pairs::entries::same_header` meets its contract. Assumes nothing.
 use native.Mathlib.Omega.{arith}
 use borrow.Author.Needs.{needs}
 use Rattle.field_pairs.specs.Entry.{SameHeaderIs}

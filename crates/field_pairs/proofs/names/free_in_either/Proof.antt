@@ -1,4 +1,4 @@
--- `field::names::free_in_either` meets its contract. Assumes nothing.
+-- `field_pairs::names::free_in_either` meets its contract. Assumes nothing.
 use mathlib.Core.Path.{refl}
 use mathlib.Core.List.{[]}
 use Rattle.calculus.specs.Free.{fn}

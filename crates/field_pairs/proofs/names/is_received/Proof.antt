@@ -1,4 +1,4 @@
--- `field::names::is_received` meets its contract. Assumes nothing.
+-- `field_pairs::names::is_received` meets its contract. Assumes nothing.
 use mathlib.Core.Path.{sym, _∙_}
 use native.Mathlib.Omega.{arith}
 use Rattle.field_pairs.proofs.ReceivedNames.{received-object, received-none, received-free}

@@ -1,4 +1,4 @@
--- `field::names::new_name` meets its contract. Assumes nothing.
+-- `field_pairs::names::new_name` meets its contract. Assumes nothing.
 use native.Mathlib.Omega.{arith}
 use borrow.Author.Needs.{needs}
 use mathlib.Core.Path.{refl, sym, _∙_}

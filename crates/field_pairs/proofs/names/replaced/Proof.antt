@@ -1,4 +1,4 @@
--- `field::names::replaced` meets its contract. Assumes nothing.
+-- `field_pairs::names::replaced` meets its contract. Assumes nothing.
 use mathlib.Core.Path.{sym}
 use Rattle.calculus.proofs.Binding.{put-self, put-other}
 use Rattle.field_pairs.proofs.names.replaced.Statement.{statement}

@@ -1,4 +1,4 @@
--- `field::names::replacing` meets its contract. Assumes nothing.
+-- `field_pairs::names::replacing` meets its contract. Assumes nothing.
 use mathlib.Core.Path.{_≡_, refl}
 use Prim.Native.Nat.{_-_, _≤_}
 use native.Mathlib.Omega.{arith}

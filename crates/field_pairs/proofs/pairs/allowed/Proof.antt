@@ -1,4 +1,4 @@
--- `field::pairs::allowed` meets its contract. Assumes nothing.
+-- `field_pairs::pairs::allowed` meets its contract. Assumes nothing.
 use Rattle.field_pairs.proofs.PairLaws.{allowed-trivial, allowed-permitted}
 use borrow.Author.Needs.{needs}
 use Rattle.field_pairs.proofs.pairs.allowed.Statement.{statement}

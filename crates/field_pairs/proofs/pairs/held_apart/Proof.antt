@@ -1,4 +1,4 @@
--- `field::pairs::held_apart` meets its contract. Assumes nothing.
+-- `field_pairs::pairs::held_apart` meets its contract. Assumes nothing.
 use native.Mathlib.Omega.{arith}
 use Rattle.field_pairs.proofs.PairLaws.{held-ordered, held-swapped, held-alone}
 use borrow.Author.Needs.{needs}

@@ -1,4 +1,4 @@
--- `field::pairs::mark_ordered` meets its contract. Assumes nothing.
+-- `field_pairs::pairs::mark_ordered` meets its contract. Assumes nothing.
 use native.Mathlib.Omega.{arith}
 use Prim.Native.Nat.{_-_}
 use Rattle.field_pairs.proofs.PairLaws.{adds-nothing, adds-number}

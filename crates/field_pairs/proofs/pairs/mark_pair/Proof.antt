@@ -1,4 +1,4 @@
--- `field::pairs::mark_pair` meets its contract. Assumes nothing.
+-- `field_pairs::pairs::mark_pair` meets its contract. Assumes nothing.
 use Prim.Native.Nat.{_-_}
 use Rattle.field_pairs.proofs.PairLaws.{adds-swapped}
 use borrow.Author.Needs.{needs}

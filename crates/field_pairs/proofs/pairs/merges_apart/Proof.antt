@@ -1,4 +1,4 @@
--- `field::pairs::merges_apart` meets its contract. Assumes nothing.
+-- `field_pairs::pairs::merges_apart` meets its contract. Assumes nothing.
 use native.Mathlib.Omega.{arith}
 use borrow.Author.Tests.{not-true, not-false}
 use mathlib.Core.Logic.{inl, inr}

@@ -1,4 +1,4 @@
--- `field::pairs::none_apart` meets its contract. Assumes nothing.
+-- `field_pairs::pairs::none_apart` meets its contract. Assumes nothing.
 use native.Mathlib.Omega.{arith}
 use borrow.Author.Needs.{needs}
 use mathlib.Core.Logic.{⊎-elim}

@@ -1,4 +1,4 @@
--- `field::pairs::pair_of` meets its contract. Assumes nothing.
+-- `field_pairs::pairs::pair_of` meets its contract. Assumes nothing.
 use native.Mathlib.Omega.{arith}
 use Rattle.terms.specs.Limits.{nameCount}
 use Rattle.field_pairs.proofs.PairNumbering.{InRow, row-first, row-on}

@@ -1,4 +1,4 @@
--- `field::pairs::permitted` meets its contract. Assumes nothing.
+-- `field_pairs::pairs::permitted` meets its contract. Assumes nothing.
 use native.Mathlib.Omega.{arith}
 use mathlib.Core.Logic.{inl, inr}
 use Prim.Native.Nat.{_-_, _≤_}

@@ -1,4 +1,4 @@
--- `field::renewing::ascends` meets its contract. Assumes nothing.
+-- `field_renewal::renewing::ascends` meets its contract. Assumes nothing.
 use borrow.Author.Tests.{not-false}
 use mathlib.Core.Path.{_≡_, sym, _∙_}
 use native.Mathlib.Omega.{arith}

@@ -1,4 +1,4 @@
--- `field::renewing::renew` meets its contract. Assumes nothing.
+-- `field_renewal::renewing::renew` meets its contract. Assumes nothing.
 use borrow.Author.Tests.{not-false}
 use mathlib.Core.List.{_++_}
 use mathlib.Core.Path.{sym, _≡_}

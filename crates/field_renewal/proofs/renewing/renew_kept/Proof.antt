@@ -1,4 +1,4 @@
--- `field::renewing::renew_kept` meets its contract. Assumes nothing.
+-- `field_renewal::renewing::renew_kept` meets its contract. Assumes nothing.
 use mathlib.Core.Path.{refl, _∙_}
 use native.Mathlib.Omega.{arith}
 use Rattle.field_renewal.proofs.RenewingLaws.{copied-whole, part-whole, kept-out, not-renewed}

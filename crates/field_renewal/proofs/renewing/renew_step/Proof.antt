@@ -1,4 +1,4 @@
--- `field::renewing::renew_step` meets its contract. Assumes nothing.
+-- `field_renewal::renewing::renew_step` meets its contract. Assumes nothing.
 use borrow.Author.Tests.{not-true, not-false}
 use native.Mathlib.Omega.{arith}
 use Prim.Native.Nat.{_+_}

@@ -1,4 +1,4 @@
--- `field::renewing::renew_steps` meets its contract. Assumes nothing.
+-- `field_renewal::renewing::renew_steps` meets its contract. Assumes nothing.
 use mathlib.Core.Path.{_≡_, refl, _∙_}
 use native.Mathlib.Omega.{arith}
 use Prim.Native.Nat.{_-_, _≤_}

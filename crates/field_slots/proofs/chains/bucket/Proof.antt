@@ -1,4 +1,4 @@
--- `field::chains::bucket` meets its contract. Assumes nothing.
+-- `field_slots::chains::bucket` meets its contract. Assumes nothing.
 use native.Mathlib.Omega.{arith}
 use borrow.Author.Needs.{needs}
 use Rattle.field_slots.proofs.ChainLaws.{bucket-is}

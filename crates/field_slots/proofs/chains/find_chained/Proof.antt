@@ -1,4 +1,4 @@
--- `field::chains::find_chained` meets its contract. Assumes nothing.
+-- `field_slots::chains::find_chained` meets its contract. Assumes nothing.
 use native.Mathlib.Omega.{arith}
 use borrow.Author.Needs.{needs}
 use Prim.Native.Nat.{_-_, _≤_}

@@ -1,4 +1,4 @@
--- `field::chains::link` meets its contract. Assumes nothing.
+-- `field_slots::chains::link` meets its contract. Assumes nothing.
 use native.Mathlib.Omega.{arith}
 use Rattle.field_slots.proofs.ChainLaws.{link-is}
 use borrow.Author.Needs.{needs}

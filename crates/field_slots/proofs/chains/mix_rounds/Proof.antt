@@ -1,4 +1,4 @@
--- `field::chains::mix_rounds` meets its contract. Assumes nothing.
+-- `field_slots::chains::mix_rounds` meets its contract. Assumes nothing.
 use Rattle.field_slots.proofs.ChainLaws.{rounds-next, rounds-whole}
 use Rattle.field_slots.specs.Chains.{rounds}
 use Prim.Native.Nat.{_-_, _<_, _≤_}

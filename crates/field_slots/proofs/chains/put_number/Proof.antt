@@ -1,4 +1,4 @@
--- `field::chains::put_number` meets its contract. Assumes nothing.
+-- `field_slots::chains::put_number` meets its contract. Assumes nothing.
 use Rattle.field_slots.specs.Chains.{putNumber}
 use mathlib.Core.Path.{refl}
 use borrow.Author.Needs.{needs}

@@ -1,4 +1,4 @@
--- `field::chains::spread` meets its contract. Assumes nothing.
+-- `field_slots::chains::spread` meets its contract. Assumes nothing.
 use Rattle.field_slots.proofs.ChainLaws.{spread-is}
 use native.Mathlib.Omega.{arith}
 use Prim.Native.Nat.{_-_}

@@ -1,4 +1,4 @@
--- `field::chains::word` meets its contract. Assumes nothing.
+-- `field_slots::chains::word` meets its contract. Assumes nothing.
 use native.Mathlib.Omega.{arith}
 use borrow.Author.Needs.{needs}
 use mathlib.Core.Path.{refl}

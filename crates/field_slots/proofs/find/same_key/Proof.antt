@@ -1,4 +1,4 @@
--- `field::find::same_key` meets its contract. Assumes nothing.
+-- `field_slots::find::same_key` meets its contract. Assumes nothing.
 use native.Mathlib.Omega.{arith}
 use borrow.Author.Needs.{needs}
 use mathlib.Core.Logic.{⊎-elim}

@@ -1,4 +1,4 @@
--- `field::notes::clear_slot` meets its contract. Assumes nothing.
+-- `field_slots::notes::clear_slot` meets its contract. Assumes nothing.
 use native.Mathlib.Omega.{arith}
 use mathlib.Core.Path.{_≡_, refl}
 use Prim.Native.Nat.{_-_, _≤_}

@@ -1,4 +1,4 @@
--- `field::notes::note_sole` meets its contract. Assumes nothing.
+-- `field_slots::notes::note_sole` meets its contract. Assumes nothing.
 use native.Mathlib.Omega.{arith}
 use mathlib.Core.Path.{_≡_, refl, ap}
 use Prim.Native.Nat.{_-_, _≤_}

@@ -1,4 +1,4 @@
--- `field::slots::apart_flags` meets its contract. Assumes nothing.
+-- `field_slots::slots::apart_flags` meets its contract. Assumes nothing.
 use Prim.Native.Nat.{_-_}
 use Rattle.field_slots.proofs.KeyLaws.{apart-is}
 use borrow.Author.Needs.{needs}

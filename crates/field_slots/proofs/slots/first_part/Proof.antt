@@ -1,4 +1,4 @@
--- `field::slots::first_part` meets its contract. Assumes nothing.
+-- `field_slots::slots::first_part` meets its contract. Assumes nothing.
 use Prim.Native.Nat.{_-_}
 use Rattle.field_slots.proofs.KeyLaws.{first-is}
 use borrow.Author.Needs.{needs}

@@ -1,4 +1,4 @@
--- `field::slots::kept_bit` meets its contract. Assumes nothing.
+-- `field_slots::slots::kept_bit` meets its contract. Assumes nothing.
 use mathlib.Core.Path.{sym, _∙_}
 use Rattle.field_slots.proofs.KeptFlags.{bit-off, bit-first, bit-second, bit-on}
 use borrow.Author.Needs.{needs}

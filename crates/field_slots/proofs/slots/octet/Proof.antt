@@ -1,4 +1,4 @@
--- `field::slots::octet` meets its contract. Assumes nothing.
+-- `field_slots::slots::octet` meets its contract. Assumes nothing.
 use native.Mathlib.Omega.{arith}
 use Rattle.field_slots.proofs.KeptFlags.{octet-none}
 use Rattle.field_slots.proofs.KeyLaws.{octet-is}

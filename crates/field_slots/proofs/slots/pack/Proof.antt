@@ -1,4 +1,4 @@
--- `field::slots::pack` meets its contract. Assumes nothing.
+-- `field_slots::slots::pack` meets its contract. Assumes nothing.
 use native.Mathlib.Omega.{arith}
 use mathlib.Core.Path.{_≡_, refl}
 use Prim.Native.Nat.{_-_, _≤_}

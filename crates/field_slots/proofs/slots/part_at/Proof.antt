@@ -1,4 +1,4 @@
--- `field::slots::part_at` meets its contract. Assumes nothing.
+-- `field_slots::slots::part_at` meets its contract. Assumes nothing.
 use Prim.Native.Nat.{_-_}
 use Rattle.field_slots.proofs.KeyLaws.{part-none, part-piece}
 use borrow.Author.Needs.{needs}

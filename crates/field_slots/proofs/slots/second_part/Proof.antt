@@ -1,4 +1,4 @@
--- `field::slots::second_part` meets its contract. Assumes nothing.
+-- `field_slots::slots::second_part` meets its contract. Assumes nothing.
 use Prim.Native.Nat.{_-_}
 use Rattle.field_slots.proofs.KeyLaws.{second-is}
 use borrow.Author.Needs.{needs}

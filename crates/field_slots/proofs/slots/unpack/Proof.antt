@@ -1,4 +1,4 @@
--- `field::slots::unpack` meets its contract. Assumes nothing.
+-- `field_slots::slots::unpack` meets its contract. Assumes nothing.
 use Rattle.field_slots.proofs.KeyLaws.{bitFrom, unpack-zero, unpack-next, unpacked}
 use Rattle.terms_renaming.proofs.Filling.{Filling, fill-start}
 use Rattle.field_pairs.specs.Slot.{octets}

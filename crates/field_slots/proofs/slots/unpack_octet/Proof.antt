@@ -1,4 +1,4 @@
--- `field::slots::unpack_octet` meets its contract. Assumes nothing.
+-- `field_slots::slots::unpack_octet` meets its contract. Assumes nothing.
 use Rattle.field_slots.proofs.KeyLaws.{bits-stored}
 use lib.ListN.{length-set}
 use native.Mathlib.Omega.{arith}

@@ -1,4 +1,4 @@
--- `field::results::complete` meets its contract. Assumes nothing.
+-- `field_successors::results::complete` meets its contract. Assumes nothing.
 use Rattle.field_successors.proofs.LeadingLaws.{completes, completes-none}
 use Rattle.field_slots.proofs.UpdateLaws.{kept-is}
 use borrow.Author.Needs.{needs}

@@ -1,4 +1,4 @@
--- `field::results::copy_result` meets its contract. Assumes nothing.
+-- `field_successors::results::copy_result` meets its contract. Assumes nothing.
 use Prim.Native.Nat.{_-_}
 use Rattle.field_successors.proofs.ResultLaws.{copies-result}
 use borrow.Author.Needs.{needs}

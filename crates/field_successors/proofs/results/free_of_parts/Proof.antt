@@ -1,4 +1,4 @@
--- `field::results::free_of_parts` meets its contract. Assumes nothing.
+-- `field_successors::results::free_of_parts` meets its contract. Assumes nothing.
 use Rattle.field_successors.proofs.LeadingLaws.{free-of-parts}
 use borrow.Author.Needs.{needs}
 use Rattle.field_successors.proofs.results.free_of_parts.Statement.{statement}

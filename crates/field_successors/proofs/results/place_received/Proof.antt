@@ -1,4 +1,4 @@
--- `field::results::place_received` meets its contract. Assumes nothing.
+-- `field_successors::results::place_received` meets its contract. Assumes nothing.
 use Rattle.field_successors.proofs.LeadingLaws.{received-first, received-second}
 use borrow.Author.Needs.{needs}
 use Rattle.field_successors.proofs.results.place_received.Statement.{statement}

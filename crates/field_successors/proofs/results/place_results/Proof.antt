@@ -1,4 +1,4 @@
--- `field::results::place_results` meets its contract. Assumes nothing.
+-- `field_successors::results::place_results` meets its contract. Assumes nothing.
 use Rattle.field_successors.proofs.LeadingLaws.{places-first, places-second}
 use borrow.Author.Needs.{needs}
 use Rattle.field_successors.proofs.results.place_results.Statement.{statement}

@@ -1,4 +1,4 @@
--- `field::results::receive_result` meets its contract. Assumes nothing.
+-- `field_successors::results::receive_result` meets its contract. Assumes nothing.
 use Rattle.field_successors.proofs.ResultLaws.{receives-same, receives-result}
 use borrow.Author.Needs.{needs}
 use Rattle.field_successors.proofs.results.receive_result.Statement.{statement}

@@ -1,4 +1,4 @@
--- `field::results::rewrite_result` meets its contract. Assumes nothing.
+-- `field_successors::results::rewrite_result` meets its contract. Assumes nothing.
 use Prim.Native.Nat.{_-_}
 use Rattle.field_successors.proofs.ResultLaws.{rewrites-result, copied-same}
 use borrow.Author.Needs.{needs}

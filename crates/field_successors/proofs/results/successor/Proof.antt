@@ -1,4 +1,4 @@
--- `field::results::successor` meets its contract. Assumes nothing.
+-- `field_successors::results::successor` meets its contract. Assumes nothing.
 use Rattle.field_slots.specs.Update.{KeepsPairs}
 use Rattle.field_successors.proofs.LeadingLaws.{successor-is, successor-received}
 use borrow.Author.Needs.{needs}

@@ -1,4 +1,4 @@
--- `field::start::mark_list` meets its contract. Assumes nothing.
+-- `field_successors::start::mark_list` meets its contract. Assumes nothing.
 use mathlib.Core.Path.{_≡_, refl}
 use Prim.Native.Nat.{_%_, _≤_}
 use lib.ListN.{length}

@@ -1,4 +1,4 @@
--- `field::start::start_pairs` meets its contract. Assumes nothing.
+-- `field_successors::start::start_pairs` meets its contract. Assumes nothing.
 use Rattle.field_successors.proofs.StartLaws.{start-none, start-listed}
 use borrow.Author.Needs.{needs}
 use Rattle.field_successors.proofs.start.start_pairs.Statement.{statement}

@@ -1,4 +1,4 @@
--- `field::update::mark_row` meets its contract. Assumes nothing.
+-- `field_successors::update::mark_row` meets its contract. Assumes nothing.
 use native.Mathlib.Omega.{arith}
 use borrow.Author.Needs.{needs}
 use mathlib.Core.Path.{_≡_}

@@ -1,4 +1,4 @@
--- `field::update::rewrite` meets its contract. Assumes nothing.
+-- `field_successors::update::rewrite` meets its contract. Assumes nothing.
 use native.Mathlib.Omega.{arith}
 use borrow.Author.Needs.{needs}
 use mathlib.Core.Path.{_≡_}

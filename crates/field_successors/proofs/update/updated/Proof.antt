@@ -1,4 +1,4 @@
--- `field::update::updated` meets its contract. Assumes nothing.
+-- `field_successors::update::updated` meets its contract. Assumes nothing.
 use Rattle.field_slots.proofs.UpdateLaws.{extruded-copied, updated-is, updated-none, updated-trivial}
 use borrow.Author.Needs.{needs}
 use Rattle.field_successors.proofs.update.updated.Statement.{statement}

@@ -1,4 +1,4 @@
--- `field::taking::list_second` meets its contract. Assumes nothing.
+-- `field_taking_up::taking::list_second` meets its contract. Assumes nothing.
 use native.Mathlib.Omega.{arith}
 use mathlib.Core.Path.{ap, subst}
 use Prim.Native.Nat.{_+_, _*_, _≤_}

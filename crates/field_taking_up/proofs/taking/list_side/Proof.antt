@@ -1,4 +1,4 @@
--- `field::taking::list_side` meets its contract. Assumes nothing.
+-- `field_taking_up::taking::list_side` meets its contract. Assumes nothing.
 use native.Mathlib.Omega.{arith}
 use Rattle.field_kept_lists.proofs.KeptListLaws.{few-kept}
 use Rattle.field_kept_lists.proofs.ListAreaLaws.{long-part, side-at-hand, side-is}

@@ -1,4 +1,4 @@
--- `field::taking::list_sides` meets its contract. Assumes nothing.
+-- `field_taking_up::taking::list_sides` meets its contract. Assumes nothing.
 use native.Mathlib.Omega.{arith}
 use Rattle.field_kept_lists.proofs.ListAreaLaws.{side-list}
 use Rattle.field_taking_up.proofs.TakingLaws.{sides-first-past, sides-second-past, sides-names-past, sides-listed}

@@ -1,4 +1,4 @@
--- `field::taking::past_names` meets its contract. Assumes nothing.
+-- `field_taking_up::taking::past_names` meets its contract. Assumes nothing.
 use borrow.Author.Needs.{needs}
 use Rattle.field_taking_up.proofs.TakingLaws.{names-left, names-first, names-second}
 use Rattle.field_taking_up.proofs.taking.past_names.Statement.{statement}

@@ -1,4 +1,4 @@
--- `field::taking::some_binds` meets its contract. Assumes nothing.
+-- `field_taking_up::taking::some_binds` meets its contract. Assumes nothing.
 use mathlib.Core.Path.{refl}
 use native.Mathlib.Omega.{arith}
 use borrow.Author.Needs.{needs}

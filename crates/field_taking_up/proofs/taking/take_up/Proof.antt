@@ -1,4 +1,4 @@
--- `field::taking::take_up` meets its contract. Assumes nothing.
+-- `field_taking_up::taking::take_up` meets its contract. Assumes nothing.
 use borrow.Author.Needs.{needs}
 use Rattle.field_taking_up.proofs.TakingLaws.{taken-up}
 use Rattle.field_taking_up.proofs.taking.take_up.Statement.{statement}

@@ -1,4 +1,4 @@
--- `steps::meet::action_kind` meets its contract. Assumes nothing.
+-- `steps_communications::meet::action_kind` meets its contract. Assumes nothing.
 use borrow.Author.Needs.{needs}
 use borrow.Author.Tests.{lt-ltb, le-ltb}
 use Rattle.steps_rows.specs.Rows.{actionKind}

@@ -1,4 +1,4 @@
--- `steps::meet::first_merged` meets its contract. Assumes nothing.
+-- `steps_communications::meet::first_merged` meets its contract. Assumes nothing.
 use borrow.Author.Tests.{le-leb, lt-leb}
 use Rattle.steps_communications.specs.Meeting.{firstMerged}
 use Rattle.steps_communications.proofs.meet.first_merged.Statement.{statement}

@@ -1,4 +1,4 @@
--- `steps::meet::is_between` meets its contract. Assumes nothing.
+-- `steps_communications::meet::is_between` meets its contract. Assumes nothing.
 use borrow.Author.Tests.{lt-ltb, le-ltb}
 use Rattle.steps_communications.specs.Meeting.{isBetween}
 use Rattle.steps_communications.proofs.meet.is_between.Statement.{statement}

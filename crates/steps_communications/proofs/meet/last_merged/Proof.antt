@@ -1,4 +1,4 @@
--- `steps::meet::last_merged` meets its contract. Assumes nothing.
+-- `steps_communications::meet::last_merged` meets its contract. Assumes nothing.
 use borrow.Author.Tests.{le-leb, lt-leb}
 use Rattle.steps_communications.specs.Meeting.{lastMerged}
 use Rattle.steps_communications.proofs.meet.last_merged.Statement.{statement}

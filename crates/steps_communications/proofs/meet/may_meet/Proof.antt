@@ -1,4 +1,4 @@
--- `steps::meet::may_meet` meets its contract. Assumes nothing.
+-- `steps_communications::meet::may_meet` meets its contract. Assumes nothing.
 use mathlib.Core.Path.{sym, _∙_}
 use borrow.Author.Tests.{eq-eqb, ne-eqb}
 use Rattle.steps_communications.specs.Meeting.{meetsBetween}

@@ -1,4 +1,4 @@
--- `steps::meet::meet` meets its contract. Assumes nothing.
+-- `steps_communications::meet::meet` meets its contract. Assumes nothing.
 use borrow.Author.Needs.{needs}
 use mathlib.Core.Path.{_≡_, refl}
 use Prim.Native.Nat.{_+_, _*_, _-_, _≤_}

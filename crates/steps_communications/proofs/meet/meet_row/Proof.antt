@@ -1,4 +1,4 @@
--- `steps::meet::meet_row` meets its contract. Assumes nothing.
+-- `steps_communications::meet::meet_row` meets its contract. Assumes nothing.
 use borrow.Author.Needs.{needs}
 use mathlib.Core.Bool.{true}
 use mathlib.Core.Path.{_≡_, refl}

@@ -1,4 +1,4 @@
--- `steps::meet::next_met` meets its contract. Assumes nothing.
+-- `steps_communications::meet::next_met` meets its contract. Assumes nothing.
 use borrow.Author.Needs.{needs}
 use mathlib.Core.Bool.{false}
 use mathlib.Core.Path.{_≡_, _∙_}

@@ -1,4 +1,4 @@
--- `steps::meet::sender` meets its contract. Assumes nothing.
+-- `steps_communications::meet::sender` meets its contract. Assumes nothing.
 use Rattle.steps_communications.specs.Meeting.{senderOf}
 use borrow.Author.Tests.{eq-eqb, ne-eqb}
 use Rattle.steps_communications.proofs.meet.sender.Statement.{statement}

@@ -1,4 +1,4 @@
--- `steps::meet::sends_free` meets its contract. Assumes nothing.
+-- `steps_communications::meet::sends_free` meets its contract. Assumes nothing.
 use Rattle.steps_communications.specs.Meeting.{sendsFree}
 use borrow.Author.Tests.{eq-eqb, ne-eqb}
 use borrow.Author.Needs.{needs}

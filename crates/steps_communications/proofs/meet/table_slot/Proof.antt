@@ -1,4 +1,4 @@
--- `steps::meet::table_slot` meets its contract. Assumes nothing.
+-- `steps_communications::meet::table_slot` meets its contract. Assumes nothing.
 use Rattle.steps_splicing.specs.Locating.{tableSlot}
 use borrow.Author.Tests.{le-leb, lt-leb}
 use borrow.Author.Needs.{needs}

@@ -1,4 +1,4 @@
--- `steps::meet::take_merging` meets its contract. Assumes nothing.
+-- `steps_communications::meet::take_merging` meets its contract. Assumes nothing.
 use Rattle.terms.specs.Limits.{nameCount}
 use lib.Dec.{eqb, ltb}
 use Prim.Native.Nat.{_+_}
@@ -7,7 +7,6 @@ use Rattle.steps_communications.specs.Meeting.{sendsFree}
 use Rattle.terms.proofs.Answers.{both-true}
 use borrow.Author.Tests.{ltb-true}
 use native.Mathlib.Omega.{arith}
-use mathlib.Core.Path.{sym, _∙_}
 use borrow.Author.Needs.{needs}
 use Rattle.steps_communications.proofs.meet.take_merging.Statement.{statement}
 use Rattle.steps_communications.proofs.meet.take_merging.Tie as tie
@@ -18,9 +17,10 @@ merging-requires c κs = search needs
 sender-requires : tie.Need-sender-requires
 sender-requires c κs = search needs
 
-sends-free-requires : tie.Need-sends-free-requires
-sends-free-requires c κs =
+is-spliced-requires : tie.Need-is-spliced-requires
+is-spliced-requires c κs =
     let c9 = c .before .before .before .before .before .before .before .before .before in
+    let c9 = c9 in
     omega (arith, c9 .pre .0 .1 .0, c9 .pre .1 .0, c9 .pre .1 .1)
 
 slice-aggregate-take-met : tie.Need-slice-aggregate-take-met
@@ -29,11 +29,11 @@ slice-aggregate-take-met c = search needs
 take-met-requires : tie.Need-take-met-requires
 unfolding sendsFree
 take-met-requires c κs =
-    let g = c .before .before .before .before .before .before .before .before .before .before .before .before .before .pre in
-    let s = c .before .before .before .before .sender .result in
-    let d = c .before .before .before .before .before .before .before .before .before .before .before .before .before .args .node .depth in
-    let o = ltb-true (s .object) (nameCount + d) (both-true (eqb (s .kind) 2) (ltb (s .object) (nameCount + d)) (sym (c .before .before .before .sends-free .ensures) ∙ c .before .before .if1 .taken) .1) in
-    (g .0, g .1, omega (arith, o, g .0 .1 .0, g .1), search needs)
+    let g = c .before .before .before .before .before .before .before .before .before .before .before .before .before .pre in let s =
+    c .before .before .before .before .sender .result in let d =
+    c .before .before .before .before .before .before .before .before .before .before .before .before .before .args .node .depth in let f =
+    c .before .before .before .is-spliced .ensures (c .before .before .if1 .taken) in let o = ltb-true (s .object) (nameCount + d) (both-true (eqb
+    (s .kind) 2) (ltb (s .object) (nameCount + d)) (f .0) .1) in (g .0, g .1, omega (arith, o, g .0 .1 .0, g .1), search needs, f .1)
 
 same-length : tie.Need-same-length
 same-length c = search needs
@@ -49,7 +49,7 @@ returns c =
     let v = c16 .args in
     pair-merging (v .question .now) (v .part .now) (v .node .at) (v .node .depth) (v .node .number) (v .pair .left) (v .pair .right) (v .pair .number)
     (v .node .x) (v .area .now) (v .count) (c2 .take-met .result) _ (c16 .pre .3) (c16 .pre .4) (c16 .pre .5) (c7 .sender .result)
-    (c7 .sender .ensures) (sym (c6 .sends-free .ensures) ∙ c5 .if1 .taken) (c8 .merging .result) (c8 .merging .ensures) (c2 .take-met .ensures)
+    (c7 .sender .ensures) (c6 .is-spliced .ensures (c5 .if1 .taken) .0) (c8 .merging .result) (c8 .merging .ensures) (c2 .take-met .ensures)
 
 add-i : tie.Need-add-i
 add-i c = search needs
@@ -79,7 +79,7 @@ take-merging-spec =
     (tie.spec
     merging-requires
     sender-requires
-    sends-free-requires
+    is-spliced-requires
     slice-aggregate-take-met
     take-met-requires
     same-length

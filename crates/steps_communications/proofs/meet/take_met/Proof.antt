@@ -1,4 +1,4 @@
--- `steps::meet::take_met` meets its contract. Assumes nothing.
+-- `steps_communications::meet::take_met` meets its contract. Assumes nothing.
 use Rattle.steps_passing.proofs.TwoSides.{middle-past, middle-inside}
 use Rattle.steps_communications.proofs.MetLaws.{met-taken}
 use native.Mathlib.Omega.{arith}
@@ -61,7 +61,7 @@ returns c =
     let c7 = c6 .before in
     let c14 = c7 .before .before .before .before .before .before .before in
     let a = c14 .args in
-    met-taken (a .question .now) (a .part .now) (a .tally .now) (c14 .pre .0 .1 .1) (a .sent .at) (a .sent .depth) (a .sent .left) (a .sent .right)
+    met-taken (a .question .now) (a .part .now) (a .tally .now) (c14 .pre .0 .1 .1) (c14 .pre .0 .1 .3 .plain (c14 .pre .4)) (a .sent .at) (a .sent .depth) (a .sent .left) (a .sent .right)
     (a .sent .object) (c7 .locate .result) (c7 .locate .ensures) (c6 .middle-of .result) (c6 .middle-of .ensures) (c5 .locate2 .result)
     (c5 .locate2 .ensures) (c4 .table-slot .result) (c4 .table-slot .ensures) (a .sent .merges) (a .class .now) (a .area .now) (a .count)
     (c2 .put-met .result) _ (c2 .put-met .ensures)

@@ -1,4 +1,4 @@
--- `steps::meet::take_pair` meets its contract. Assumes nothing.
+-- `steps_communications::meet::take_pair` meets its contract. Assumes nothing.
 use Rattle.steps_communications.proofs.MeetPairs.{pair-taken}
 use native.Mathlib.Omega.{arith}
 use borrow.Author.Needs.{needs}
@@ -41,7 +41,7 @@ take-same-requires c κs =
     let c4 = c .before .before .before .before in
     let c6 = c4 .before .before in
     let c17 = c6 .before .before .before .before .before .before .before .before .before .before .before in
-    (c17 .pre .0, c17 .pre .1, omega (arith, c6 .if1 .left), omega (arith, c4 .if2 .left), c .before .if3 .taken)
+    (c17 .pre .0, c17 .pre .1, omega (arith, c6 .if1 .left), omega (arith, c4 .if2 .left), c .before .if3 .taken, c17 .pre .2)
 
 same-length-3 : tie.Need-same-length-3
 same-length-3 c = search needs

@@ -1,4 +1,4 @@
--- `candidates::rules::communication` meets its contract. Assumes nothing.
+-- `steps_conditions::rules::communication` meets its contract. Assumes nothing.
 use Rattle.steps_conditions.proofs.LabelRules.{communication-left, communication-right, communication-found}
 use borrow.Author.Needs.{needs}
 use Rattle.steps_conditions.proofs.rules.communication.Statement.{statement}

@@ -1,4 +1,4 @@
--- `candidates::rules::matching` meets its contract. Assumes nothing.
+-- `steps_conditions::rules::matching` meets its contract. Assumes nothing.
 use mathlib.Core.Path.{refl}
 use Rattle.steps_conditions.proofs.LabelRules.{matching-blocked, matching-found}
 use borrow.Author.Needs.{needs}

@@ -1,4 +1,4 @@
--- `candidates::rules::meeting_of` meets its contract. Assumes nothing.
+-- `steps_conditions::rules::meeting_of` meets its contract. Assumes nothing.
 use Rattle.steps_conditions.specs.Labels.{meetingOf, receivedBy}
 use borrow.Author.Needs.{needs}
 use Rattle.steps_conditions.proofs.rules.meeting_of.Statement.{statement}

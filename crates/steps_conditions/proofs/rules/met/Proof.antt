@@ -1,4 +1,4 @@
--- `candidates::rules::met` meets its contract. Assumes nothing.
+-- `steps_conditions::rules::met` meets its contract. Assumes nothing.
 use mathlib.Core.Path.{refl, sym, _∙_}
 use Rattle.steps_conditions.proofs.LabelRules.{met-apart, met-together}
 use borrow.Author.Needs.{needs}

@@ -1,4 +1,4 @@
--- `candidates::rules::outside` meets its contract. Assumes nothing.
+-- `steps_conditions::rules::outside` meets its contract. Assumes nothing.
 use borrow.Author.Tests.{not-true, not-false}
 use mathlib.Core.Path.{refl, sym, subst}
 use Rattle.steps_conditions.proofs.LabelRules.{Avoids, On, outside-merged, outside-keeps, outside-blocks, outside-opens}

@@ -1,4 +1,4 @@
--- `candidates::rules::received` meets its contract. Assumes nothing.
+-- `steps_conditions::rules::received` meets its contract. Assumes nothing.
 use Rattle.steps_conditions.specs.Labels.{receivedBy}
 use borrow.Author.Needs.{needs}
 use Rattle.steps_conditions.proofs.rules.received.Statement.{statement}

@@ -1,4 +1,4 @@
--- `candidates::rules::restricted` meets its contract. Assumes nothing.
+-- `steps_conditions::rules::restricted` meets its contract. Assumes nothing.
 use Rattle.steps_conditions.proofs.LabelRules.{restricted-blocked, restricted-found}
 use borrow.Author.Needs.{needs}
 use Rattle.steps_conditions.proofs.rules.restricted.Statement.{statement}

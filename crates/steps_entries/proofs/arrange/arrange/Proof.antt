@@ -1,4 +1,4 @@
--- `steps::arrange::arrange` meets its contract. Assumes nothing.
+-- `steps_entries::arrange::arrange` meets its contract. Assumes nothing.
 use Prim.Native.Nat.{_-_, _≤_}
 use borrow.Author.Needs.{needs}
 use mathlib.Core.Path.{_≡_}

@@ -1,4 +1,4 @@
--- `steps::arrange::exchange` meets its contract. Assumes nothing.
+-- `steps_entries::arrange::exchange` meets its contract. Assumes nothing.
 use native.Mathlib.Omega.{arith}
 use Rattle.steps_entries.proofs.ArrangeLaws.{exchanged}
 use Rattle.steps_entries.specs.Entries.{entryFrom}

@@ -1,4 +1,4 @@
--- `steps::arrange::moved` meets its contract. Assumes nothing.
+-- `steps_entries::arrange::moved` meets its contract. Assumes nothing.
 use borrow.Author.Tests.{eq-eqb, ne-eqb}
 use mathlib.Core.Path.{refl}
 use Rattle.steps_entries.specs.Arranging.{relabelled}

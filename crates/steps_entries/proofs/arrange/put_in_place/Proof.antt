@@ -1,4 +1,4 @@
--- `steps::arrange::settle` meets its contract. Assumes nothing.
+-- `steps_entries::arrange::put_in_place` meets its contract. Assumes nothing.
 use mathlib.Core.Path.{sym, _∙_}
 use Rattle.steps_entries.proofs.ArrangeLaws.{settled-there, settled-away}
 use borrow.Author.Needs.{needs}

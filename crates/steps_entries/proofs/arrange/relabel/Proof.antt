@@ -1,4 +1,4 @@
--- `steps::arrange::relabel` meets its contract. Assumes nothing.
+-- `steps_entries::arrange::relabel` meets its contract. Assumes nothing.
 use Prim.Native.Nat.{_-_, _≤_}
 use borrow.Author.Needs.{needs}
 use native.Mathlib.Omega.{arith}

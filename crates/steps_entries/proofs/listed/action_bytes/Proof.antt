@@ -1,4 +1,4 @@
--- `steps::listed::action_bytes` meets its contract. Assumes nothing.
+-- `steps_entries::listed::action_bytes` meets its contract. Assumes nothing.
 use borrow.Author.Needs.{needs}
 use mathlib.Core.Path.{refl, sym, ap, _∙_}
 use Rattle.steps_entries.proofs.StepEntries.{same-action}

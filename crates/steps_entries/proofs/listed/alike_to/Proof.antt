@@ -1,4 +1,4 @@
--- `steps::listed::alike_to` meets its contract. Assumes nothing.
+-- `steps_entries::listed::alike_to` meets its contract. Assumes nothing.
 use Prim.Native.Nat.{_-_, _≤_}
 use borrow.Author.Needs.{needs}
 use borrow.Author.Tests.{not-false}

@@ -1,4 +1,4 @@
--- `steps::listed::entry_of` meets its contract. Assumes nothing.
+-- `steps_entries::listed::entry_of` meets its contract. Assumes nothing.
 use borrow.Author.Needs.{needs}
 use lib.ListN.{length}
 use native.Mathlib.Omega.{arith}

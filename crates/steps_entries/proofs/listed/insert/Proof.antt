@@ -1,4 +1,4 @@
--- `steps::listed::insert` meets its contract. Assumes nothing.
+-- `steps_entries::listed::insert` meets its contract. Assumes nothing.
 use Prim.Native.Nat.{_+_, _-_}
 use borrow.Author.Tests.{not-true, not-false}
 use mathlib.Core.Logic.{⊎-elim}

@@ -1,4 +1,4 @@
--- `steps::listed::move_up` meets its contract. Assumes nothing.
+-- `steps_entries::listed::move_up` meets its contract. Assumes nothing.
 use Prim.Native.Nat.{_+_, _-_, _≤_}
 use borrow.Author.Needs.{needs}
 use lib.ListN.{length}

@@ -1,4 +1,4 @@
--- `steps::listed::precedes` meets its contract. Assumes nothing.
+-- `steps_entries::listed::precedes` meets its contract. Assumes nothing.
 use Prim.Native.Nat.{_-_, _≤_}
 use borrow.Author.Needs.{needs}
 use native.Mathlib.Omega.{arith}

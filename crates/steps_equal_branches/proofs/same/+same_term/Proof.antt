@@ -1,4 +1,4 @@
--- `steps::same::same_term` meets its contract. The measure: the bytes left. Assumes nothing.
+-- `steps_equal_branches::same::same_term` meets its contract. The measure: the bytes left. Assumes nothing.
 use Prim.Native.Nat.{ℕ, _+_, _-_, _<_}
 use Rattle.steps_equal_branches.proofs.SameLaws.{lengths-fit, same-not, same-none, same-one, same-two}
 use native.Mathlib.Omega.{arith}

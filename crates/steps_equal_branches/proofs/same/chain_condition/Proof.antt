@@ -1,4 +1,4 @@
--- `steps::same::chain_condition` meets its contract. Assumes nothing.
+-- `steps_equal_branches::same::chain_condition` meets its contract. Assumes nothing.
 use mathlib.Core.Path.{_≡_, subst}
 use native.Mathlib.Omega.{arith}
 use Prim.Native.Nat.{ℕ, _-_, _≤_}

@@ -1,4 +1,4 @@
--- `steps::same::chain_holds` meets its contract. Assumes nothing.
+-- `steps_equal_branches::same::chain_holds` meets its contract. Assumes nothing.
 use mathlib.Core.Path.{_≡_, subst}
 use native.Mathlib.Nat.{zero-add}
 use native.Mathlib.Omega.{arith}

@@ -1,4 +1,4 @@
--- `steps::same::same_branch` meets its contract. Assumes nothing.
+-- `steps_equal_branches::same::same_branch` meets its contract. Assumes nothing.
 use native.Mathlib.Omega.{arith}
 use Rattle.steps_equal_branches.proofs.BranchLaws.{branch-not, branch-same, branch-plain}
 use borrow.Author.Needs.{needs}

@@ -1,4 +1,4 @@
--- `steps::same::same_names` meets its contract. Assumes nothing.
+-- `steps_equal_branches::same::same_names` meets its contract. Assumes nothing.
 use borrow.Author.Needs.{needs}
 use mathlib.Core.Path.{_≡_, sym, subst, _∙_}
 use native.Mathlib.Omega.{arith}

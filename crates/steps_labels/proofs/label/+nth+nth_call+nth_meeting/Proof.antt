@@ -1,4 +1,4 @@
--- `candidates::label::nth`, `nth_call` and `nth_meeting` meet their contracts. The measure: the bytes left, and 113 for each call that may
+-- `steps_labels::label::nth`, `nth_call` and `nth_meeting` meet their contracts. The measure: the bytes left, and 113 for each call that may
 -- be opened. Assumes nothing.
 use Rattle.steps_tallies.proofs.TallyLoops.{called-tally}
 use mathlib.Core.Path.{_≡_, refl, sym, ap, _∙_}

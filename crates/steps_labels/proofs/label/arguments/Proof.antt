@@ -1,4 +1,4 @@
--- `candidates::label::arguments` meets its contract. Assumes nothing.
+-- `steps_labels::label::arguments` meets its contract. Assumes nothing.
 use mathlib.Core.Path.{_≡_, refl}
 use Prim.Native.Nat.{_+_, _-_, _≤_}
 use native.Mathlib.Omega.{arith}

@@ -1,4 +1,4 @@
--- `candidates::label::leave` meets its contract. Assumes nothing.
+-- `steps_labels::label::leave` meets its contract. Assumes nothing.
 use Prim.Native.Nat.{_+_, _≤_}
 use native.Mathlib.Omega.{arith}
 use borrow.Author.Needs.{needs}

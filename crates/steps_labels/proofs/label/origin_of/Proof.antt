@@ -1,4 +1,4 @@
--- `candidates::label::side_of` meets its contract. Assumes nothing.
+-- `steps_labels::label::origin_of` meets its contract. Assumes nothing.
 use mathlib.Core.Path.{ap}
 use Prim.Native.Nat.{ℕ, _-_, _≤_}
 use native.Mathlib.Omega.{arith}

@@ -1,4 +1,4 @@
--- `candidates::label::outside_of` meets its contract. Assumes nothing.
+-- `steps_labels::label::outside_of` meets its contract. Assumes nothing.
 use mathlib.Core.Path.{ap, _∙_}
 use borrow.Author.Needs.{needs}
 use Rattle.steps_labels.specs.LabelWalk.{slotAt}

@@ -1,4 +1,4 @@
--- `candidates::label::past` meets its contract. Assumes nothing.
+-- `steps_labels::label::past` meets its contract. Assumes nothing.
 use mathlib.Core.Path.{ap, sym}
 use mathlib.Core.Bool.{Bool, cond}
 use borrow.Author.Tests.{eq-eqb, ne-eqb}

@@ -1,4 +1,4 @@
--- `candidates::label::prefix_action` meets its contract. Assumes nothing.
+-- `steps_labels::label::prefix_action` meets its contract. Assumes nothing.
 use borrow.Author.Tests.{eq-eqb, ne-eqb}
 use Rattle.steps_labels.specs.LabelWalk.{prefixAction}
 use Rattle.steps_labels.proofs.label.prefix_action.Statement.{statement}

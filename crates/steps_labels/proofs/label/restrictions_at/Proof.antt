@@ -1,4 +1,4 @@
--- `candidates::label::restrictions_at` meets its contract. Assumes nothing.
+-- `steps_labels::label::restrictions_at` meets its contract. Assumes nothing.
 use Prim.Native.Nat.{_-_, _≤_, max}
 use native.Mathlib.Omega.{arith}
 use lib.ListN.{length}

@@ -1,4 +1,4 @@
--- `candidates::label::slot` meets its contract. Assumes nothing.
+-- `steps_labels::label::slot` meets its contract. Assumes nothing.
 use mathlib.Core.Path.{sym, _∙_}
 use Rattle.steps_labels.proofs.ArgumentSlots.{at-free, at-inner, at-parameter}
 use borrow.Author.Needs.{needs}

@@ -1,4 +1,4 @@
--- `steps::operation::is_side` meets its contract. Assumes nothing.
+-- `steps_lister::operation::is_side` meets its contract. Assumes nothing.
 use borrow.Author.Tests.{eq-eqb, ne-eqb}
 use Rattle.steps_lister.proofs.operation.is_side.Statement.{statement}
 use Rattle.steps_lister.proofs.operation.is_side.Tie as tie

@@ -1,4 +1,4 @@
--- `steps::operation::list_into` meets its contract. Assumes nothing.
+-- `steps_lister::operation::list_into` meets its contract. Assumes nothing.
 use Prim.Native.Nat.{_≤_}
 use borrow.Author.Needs.{needs}
 use native.Mathlib.Omega.{arith}

@@ -1,4 +1,4 @@
--- `steps::operation::side_of` meets its contract. Assumes nothing.
+-- `steps_lister::operation::side_of` meets its contract. Assumes nothing.
 use borrow.Author.Needs.{needs}
 use mathlib.Core.Path.{sym, ap, subst, _∙_}
 use native.Mathlib.Omega.{arith}

@@ -1,4 +1,4 @@
--- `steps::operation::steps` meets its contract. Assumes nothing.
+-- `steps_lister::operation::steps` meets its contract. Assumes nothing.
 use borrow.Author.Needs.{needs}
 use mathlib.Core.Path.{ap, _∙_}
 use Rattle.steps_lister.proofs.OperationLaws.{question-accepted, list-turned-back}

@@ -1,4 +1,4 @@
--- `steps::operation::steps_accepted` meets its contract. Assumes nothing.
+-- `steps_lister::operation::steps_accepted` meets its contract. Assumes nothing.
 use borrow.Author.Needs.{needs}
 use borrow.Author.Tests.{not-true, not-false}
 use Rattle.steps_lister.proofs.OperationLaws.{does-no-side, does-no-name, does-free, does-short, part-fits, does-list}
@@ -70,6 +70,7 @@ list-into-requires c κs =
           (c .before .before .before .before .before .before .before .if1 .left)) (search needs)
           (c .before .before .before .before .before .side-of .result .now) (c .before .before .before .before .arities-of .result .now)
           (c .before .before .before .before .before .side-of .ensures) (c .before .before .before .before .arities-of .ensures),
+      c .before .before .before .before .before .before .before .before .before .before .before .pre,
     )
 
 same-length : tie.Need-same-length

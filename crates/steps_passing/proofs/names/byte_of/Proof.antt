@@ -1,4 +1,4 @@
--- `candidates::names::byte_of` meets its contract. Assumes nothing.
+-- `steps_passing::names::byte_of` meets its contract. Assumes nothing.
 use mathlib.Core.Path.{sym}
 use borrow.Author.Needs.{needs}
 use Rattle.terms_bytes.specs.NameTable.{tableNames}

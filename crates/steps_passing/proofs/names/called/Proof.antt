@@ -1,4 +1,4 @@
--- `candidates::names::called` meets its contract. Assumes nothing.
+-- `steps_passing::names::called` meets its contract. Assumes nothing.
 use mathlib.Core.Path.{_≡_, ap, _∙_}
 use Prim.Native.Nat.{ℕ, _+_, _-_, _≤_}
 use native.Mathlib.Omega.{arith}

@@ -1,4 +1,4 @@
--- `candidates::names::renaming` meets its contract. Assumes nothing.
+-- `steps_passing::names::renaming` meets its contract. Assumes nothing.
 use native.Mathlib.Omega.{arith}
 use borrow.Author.Needs.{needs}
 use Rattle.steps_conditions.proofs.NameSlots.{table-done}

@@ -1,4 +1,4 @@
--- `candidates::names::same_levels` meets its contract. Assumes nothing.
+-- `steps_passing::names::same_levels` meets its contract. Assumes nothing.
 use native.Mathlib.Omega.{arith}
 use borrow.Author.Tests.{eqb-true}
 use Rattle.steps_conditions.specs.Names.{LevelsIs}

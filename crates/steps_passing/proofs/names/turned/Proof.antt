@@ -1,4 +1,4 @@
--- `candidates::names::turned` meets its contract. Assumes nothing.
+-- `steps_passing::names::turned` meets its contract. Assumes nothing.
 use mathlib.Core.Path.{sym}
 use borrow.Author.Needs.{needs}
 use Rattle.steps_conditions.proofs.NameSlots.{turn-free, turn-bound, turn-past}

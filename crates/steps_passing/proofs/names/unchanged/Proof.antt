@@ -1,4 +1,4 @@
--- `candidates::names::unchanged` meets its contract. Assumes nothing.
+-- `steps_passing::names::unchanged` meets its contract. Assumes nothing.
 use mathlib.Core.Path.{_≡_, subst}
 use borrow.Author.Tests.{not-false}
 use Prim.Native.Nat.{ℕ, _+_, _-_, _≤_}

@@ -1,4 +1,4 @@
--- `candidates::pass::pass` and `pass_call` meet their contracts. The measure: the bytes left, and 113 for each call that may be opened. Assumes nothing.
+-- `steps_passing::pass::pass` and `pass_call` meet their contracts. The measure: the bytes left, and 113 for each call that may be opened. Assumes nothing.
 use Rattle.steps_tallies.proofs.TallyLoops.{called-tally}
 use mathlib.Core.Bool.{false}
 use mathlib.Core.Path.{refl, ap}

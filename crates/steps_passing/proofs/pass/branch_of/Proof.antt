@@ -1,4 +1,4 @@
--- `candidates::pass::branch_of` meets its contract. Assumes nothing.
+-- `steps_passing::pass::branch_of` meets its contract. Assumes nothing.
 use mathlib.Core.Path.{_≡_, sym}
 use Prim.Native.Nat.{_-_, _≤_}
 use native.Mathlib.Omega.{arith}

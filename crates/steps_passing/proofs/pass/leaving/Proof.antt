@@ -1,4 +1,4 @@
--- `candidates::pass::leaving` meets its contract. Assumes nothing.
+-- `steps_passing::pass::leaving` meets its contract. Assumes nothing.
 use mathlib.Core.Path.{_≡_, sym, _∙_}
 use mathlib.Core.Bool.{true, false}
 use borrow.Author.Needs.{needs}

@@ -1,4 +1,4 @@
--- `candidates::pass::opens` meets its contract. Assumes nothing.
+-- `steps_passing::pass::opens` meets its contract. Assumes nothing.
 use native.Mathlib.Omega.{arith}
 use borrow.Author.Tests.{eq-eqb, ne-eqb}
 use borrow.Author.Needs.{needs}

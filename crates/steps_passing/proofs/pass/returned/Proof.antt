@@ -1,4 +1,4 @@
--- `candidates::pass::returned` meets its contract. Assumes nothing.
+-- `steps_passing::pass::returned` meets its contract. Assumes nothing.
 use mathlib.Core.Path.{_≡_, ap, _∙_}
 use Prim.Native.Nat.{ℕ, _+_, _-_}
 use lib.ListN.{getD}

@@ -1,4 +1,4 @@
--- `candidates::pass::source_of` meets its contract. Assumes nothing.
+-- `steps_passing::pass::source_of` meets its contract. Assumes nothing.
 use Prim.Native.Nat.{_-_, _≤_}
 use native.Mathlib.Omega.{arith}
 use lib.ListN.{length}

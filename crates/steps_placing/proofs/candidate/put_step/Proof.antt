@@ -1,4 +1,4 @@
--- `steps::list::put_step` meets its contract. Assumes nothing.
+-- `steps_placing::candidate::put_step` meets its contract. Assumes nothing.
 use lib.ListN.{length}
 use mathlib.Core.Path.{_≡_}
 use native.Mathlib.Omega.{arith}

@@ -1,4 +1,4 @@
--- `steps::list::take_candidate` meets its contract. Assumes nothing.
+-- `steps_placing::candidate::take_candidate` meets its contract. Assumes nothing.
 use borrow.Author.Needs.{needs}
 use Rattle.steps_placing.proofs.TakeLaws.{takes-blocked, takes-found}
 use Rattle.steps_placing.proofs.candidate.take_candidate.Statement.{statement}

@@ -1,4 +1,4 @@
--- `steps::put::put_merged` meets its contract. Assumes nothing.
+-- `steps_placing::put::put_merged` meets its contract. Assumes nothing.
 use Rattle.steps_placing.proofs.PutLaws.{merged-put}
 use borrow.Author.Needs.{needs}
 use Rattle.steps_placing.proofs.put.put_merged.Statement.{statement}

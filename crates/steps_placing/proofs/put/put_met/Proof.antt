@@ -1,4 +1,4 @@
--- `steps::put::put_met` meets its contract. Assumes nothing.
+-- `steps_placing::put::put_met` meets its contract. Assumes nothing.
 use lib.ListN.{replicate}
 use mathlib.Core.Path.{refl}
 use Rattle.terms.specs.Limits.{longestTerm}

@@ -1,4 +1,4 @@
--- `steps::put::put_placed` meets its contract. Assumes nothing.
+-- `steps_placing::put::put_placed` meets its contract. Assumes nothing.
 use lib.ListN.{replicate}
 use mathlib.Core.Path.{refl}
 use Rattle.terms.specs.Limits.{longestTerm}
@@ -35,9 +35,10 @@ returns c =
     let c8 = c6 .before .before in
     let c17 = c8 .before .before .before .before .before .before .before .before .before in
     let a = c17 .args in
-    placed-put (a .question .now) (a .part .now) (a .place .at) (a .place .depth) (a .step .candidate .silently) (a .step .candidate .number)
-    (a .step .action) (a .step .candidate .x) (a .area .now) (a .count) (c2 .put-result .result) _ (replicate longestTerm 0) _ (c6 .own-names .result)
-    (c8 .write-placed .result) refl (c6 .own-names .ensures) (c8 .write-placed .ensures) (c2 .put-result .ensures)
+    placed-put (a .question .now) (a .part .now) (c17 .pre .0 .1 .3 .plain (c17 .pre .2)) (a .place .at) (a .place .depth)
+    (a .step .candidate .silently) (a .step .candidate .number) (a .step .action) (a .step .candidate .x) (a .area .now) (a .count)
+    (c2 .put-result .result) _ (replicate longestTerm 0) _ (c6 .own-names .result) (c8 .write-placed .result) refl (c6 .own-names .ensures)
+    (c8 .write-placed .ensures) (c2 .put-result .ensures)
 
 pub put-placed-spec : {M : Type 1} → statement M
 put-placed-spec =

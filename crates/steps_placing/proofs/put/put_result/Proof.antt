@@ -1,4 +1,4 @@
--- `steps::put::put_result` meets its contract. Assumes nothing.
+-- `steps_placing::put::put_result` meets its contract. Assumes nothing.
 use Rattle.steps_placing.proofs.PutLaws.{put-result-long, put-result-inserted}
 use borrow.Author.Needs.{needs}
 use Rattle.steps_placing.proofs.put.put_result.Statement.{statement}

@@ -1,4 +1,4 @@
--- `candidates::beside::copy_behind` meets its contract. Assumes nothing.
+-- `steps_plans::beside::copy_behind` meets its contract. Assumes nothing.
 use mathlib.Core.Path.{sym, _∙_}
 use native.Mathlib.Omega.{arith}
 use borrow.Author.Tests.{leb-true, leb-false, not-true, not-false}

@@ -1,4 +1,4 @@
--- `candidates::result::open_pair` meets its contract. Assumes nothing.
+-- `steps_plans::pieces::open_pair` meets its contract. Assumes nothing.
 use mathlib.Core.Path.{_≡_}
 use mathlib.Core.Bool.{true, false}
 use mathlib.Core.List.{[], _∷_}

@@ -1,4 +1,4 @@
--- `candidates::result::store` meets its contract. Assumes nothing.
+-- `steps_plans::pieces::store` meets its contract. Assumes nothing.
 use borrow.Author.Needs.{needs}
 use Rattle.steps_plans.proofs.ResultLaws.{store-full, store-done}
 use Rattle.steps_plans.proofs.pieces.store.Statement.{statement}

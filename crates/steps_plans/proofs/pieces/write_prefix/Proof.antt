@@ -1,4 +1,4 @@
--- `candidates::result::write_prefix` meets its contract. Assumes nothing.
+-- `steps_plans::pieces::write_prefix` meets its contract. Assumes nothing.
 use Rattle.steps_plans.proofs.ResultLaws.{ends-tallied}
 use mathlib.Core.Path.{sym, _∙_}
 use Prim.Native.Nat.{_+_}

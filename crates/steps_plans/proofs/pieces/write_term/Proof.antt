@@ -1,4 +1,4 @@
--- `candidates::result::write_term` meets its contract. Assumes nothing.
+-- `steps_plans::pieces::write_term` meets its contract. Assumes nothing.
 use mathlib.Core.Path.{sym, subst, _∙_}
 use native.Mathlib.Omega.{arith}
 use borrow.Author.Tests.{leb-true, leb-false, not-true, not-false}

@@ -1,4 +1,4 @@
--- `candidates::result::alone` meets its contract. Assumes nothing.
+-- `steps_plans::plan::alone` meets its contract. Assumes nothing.
 use mathlib.Core.Path.{refl, subst}
 use native.Mathlib.Omega.{arith}
 use Rattle.steps_plans.specs.Beside.{FoundBeside}

@@ -1,4 +1,4 @@
--- `candidates::result::meet` meets its contract. Assumes nothing.
+-- `steps_plans::plan::meet` meets its contract. Assumes nothing.
 use mathlib.Core.Bool.{true, false}
 use mathlib.Core.Path.{_≡_, ap, _∙_}
 use native.Mathlib.Omega.{arith}

@@ -1,4 +1,4 @@
--- `candidates::result::plan_of` meets its contract. Assumes nothing.
+-- `steps_plans::plan::plan_of` meets its contract. Assumes nothing.
 use mathlib.Core.Bool.{false}
 use mathlib.Core.Path.{sym, ap, subst}
 use Prim.Native.Nat.{ℕ, _-_, _<_, _≤_}

@@ -1,4 +1,4 @@
--- `candidates::result::receive` meets its contract. Assumes nothing.
+-- `steps_plans::plan::receive` meets its contract. Assumes nothing.
 use mathlib.Core.Path.{ap}
 use Prim.Native.Nat.{ℕ}
 use borrow.Author.Needs.{needs}

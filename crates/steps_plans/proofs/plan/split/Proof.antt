@@ -1,4 +1,4 @@
--- `candidates::result::split` meets its contract. Assumes nothing.
+-- `steps_plans::plan::split` meets its contract. Assumes nothing.
 use mathlib.Core.Path.{sym}
 use native.Mathlib.Nat.{div-add-mod', mod-lt}
 use native.Mathlib.Omega.{arith}

@@ -1,4 +1,4 @@
--- `candidates::result::write` and the functions that it calls in turn meet their contracts. The measure: the bytes left, and 113 for each call that may be opened. Assumes nothing.
+-- `steps_results::result::write` and the functions that it calls in turn meet their contracts. The measure: the bytes left, and 113 for each call that may be opened. Assumes nothing.
 use Rattle.steps_tallies.proofs.TallyLoops.{called-tally}
 use mathlib.Core.List.{[], _∷_}
 use mathlib.Core.Path.{_≡_, sym, ap, subst, _∙_}

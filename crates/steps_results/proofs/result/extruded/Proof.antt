@@ -1,4 +1,4 @@
--- `candidates::result::extruded` meets its contract. Assumes nothing.
+-- `steps_results::result::extruded` meets its contract. Assumes nothing.
 use mathlib.Core.Bool.{Bool}
 use mathlib.Core.Path.{refl, sym, subst}
 use Prim.Native.Nat.{_+_}

@@ -1,4 +1,4 @@
--- `steps::rows::adds_nothing` meets its contract. Assumes nothing.
+-- `steps_rows::rows::adds_nothing` meets its contract. Assumes nothing.
 use mathlib.Core.Path.{sym, _∙_}
 use native.Mathlib.Omega.{arith}
 use Rattle.steps_equal_branches.proofs.ChoiceLaws.{repeated-failing}

@@ -1,4 +1,4 @@
--- `steps::rows::behind_piece` meets its contract. Assumes nothing.
+-- `steps_rows::rows::behind_piece` meets its contract. Assumes nothing.
 use mathlib.Core.Path.{sym, _∙_}
 use lib.ListN.{getD}
 use borrow.Author.Tests.{eq-eqb, ne-eqb}

@@ -1,4 +1,4 @@
--- `steps::rows::is_failing` meets its contract. Assumes nothing.
+-- `steps_rows::rows::is_failing` meets its contract. Assumes nothing.
 use mathlib.Core.Path.{sym}
 use borrow.Author.Tests.{eq-eqb, ne-eqb, le-leb, lt-leb}
 use Rattle.terms.specs.Limits.{nameCount}

@@ -1,4 +1,4 @@
--- `steps::rows::is_repeated` meets its contract. Assumes nothing.
+-- `steps_rows::rows::is_repeated` meets its contract. Assumes nothing.
 use mathlib.Core.Path.{subst}
 use Rattle.steps_equal_branches.specs.Same.{SameBranchIs}
 use native.Mathlib.Omega.{arith}

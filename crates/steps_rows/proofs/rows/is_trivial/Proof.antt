@@ -1,4 +1,4 @@
--- `steps::rows::is_trivial` meets its contract. Assumes nothing.
+-- `steps_rows::rows::is_trivial` meets its contract. Assumes nothing.
 use mathlib.Core.Path.{sym}
 use Rattle.steps_equal_branches.proofs.ChoiceLaws.{other-trivial, trivial-is}
 use borrow.Author.Needs.{needs}

@@ -1,4 +1,4 @@
--- `steps::rows::may_be_same` meets its contract. Assumes nothing.
+-- `steps_rows::rows::may_be_same` meets its contract. Assumes nothing.
 use mathlib.Core.Path.{_≡_, sym, _∙_}
 use borrow.Author.Tests.{not-true}
 use native.Mathlib.Omega.{arith}

@@ -1,4 +1,4 @@
--- `steps::rows::prefix_kind` meets its contract. Assumes nothing.
+-- `steps_rows::rows::prefix_kind` meets its contract. Assumes nothing.
 use borrow.Author.Needs.{needs}
 use mathlib.Core.Path.{refl}
 use native.Mathlib.Omega.{arith}

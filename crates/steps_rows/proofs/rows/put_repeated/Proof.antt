@@ -1,4 +1,4 @@
--- `steps::rows::put_repeated` meets its contract. Assumes nothing.
+-- `steps_rows::rows::put_repeated` meets its contract. Assumes nothing.
 use borrow.Author.Needs.{needs}
 use mathlib.Core.Path.{_≡_, refl, subst}
 use native.Mathlib.Omega.{arith}

@@ -1,4 +1,4 @@
--- `steps::rows::put_row` meets its contract. Assumes nothing.
+-- `steps_rows::rows::put_row` meets its contract. Assumes nothing.
 use mathlib.Core.Path.{refl}
 use native.Mathlib.Omega.{arith}
 use lib.ListN.{length-set}

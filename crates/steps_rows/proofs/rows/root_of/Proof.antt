@@ -1,4 +1,4 @@
--- `steps::rows::root_of` meets its contract. Assumes nothing.
+-- `steps_rows::rows::root_of` meets its contract. Assumes nothing.
 use borrow.Author.Tests.{eq-eqb, ne-eqb}
 use Rattle.steps_rows.specs.Rows.{rootOf}
 use Rattle.steps_rows.proofs.rows.root_of.Statement.{statement}

@@ -1,4 +1,4 @@
--- `steps::rows::scan_prefix` meets its contract. Assumes nothing.
+-- `steps_rows::rows::scan_prefix` meets its contract. Assumes nothing.
 use native.Mathlib.Omega.{arith}
 use mathlib.Core.Path.{refl, ap, _∙_}
 use Rattle.steps_labels.specs.LabelWalk.{slotAt}

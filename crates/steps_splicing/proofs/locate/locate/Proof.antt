@@ -1,4 +1,4 @@
--- `steps::locate::locate` meets its contract. Assumes nothing.
+-- `steps_splicing::locate::locate` meets its contract. Assumes nothing.
 use Prim.Native.Nat.{_-_, _≤_}
 use native.Mathlib.Omega.{arith}
 use lib.ListN.{length}

@@ -1,4 +1,4 @@
--- `steps::merged::merge_names` meets its contract. Assumes nothing.
+-- `steps_splicing::merged::merge_names` meets its contract. Assumes nothing.
 use mathlib.Core.Path.{_≡_, refl, _∙_}
 use Prim.Native.Nat.{_-_, _<_, _≤_}
 use native.Mathlib.Omega.{arith}

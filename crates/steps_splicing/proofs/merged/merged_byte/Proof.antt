@@ -1,4 +1,4 @@
--- `steps::merged::merged_byte` meets its contract. Assumes nothing.
+-- `steps_splicing::merged::merged_byte` meets its contract. Assumes nothing.
 use mathlib.Core.Path.{refl}
 use borrow.Author.Tests.{lt-ltb, le-ltb}
 use Rattle.steps_splicing.specs.Merging.{mergedByte}

@@ -1,4 +1,4 @@
--- `steps::splice::own_names` meets its contract. Assumes nothing.
+-- `steps_splicing::splice::own_names` meets its contract. Assumes nothing.
 use mathlib.Core.Path.{_≡_, refl}
 use Prim.Native.Nat.{_+_, _-_, _≤_}
 use native.Mathlib.Omega.{arith}

@@ -1,4 +1,4 @@
--- `steps::splice::write_placed` meets its contract. Assumes nothing.
+-- `steps_splicing::splice::write_placed` meets its contract. Assumes nothing.
 use Prim.Native.Nat.{_+_, _-_, _<_, _≤_}
 use lib.ListN.{length}
 use Rattle.terms.specs.Limits.{longestTerm}

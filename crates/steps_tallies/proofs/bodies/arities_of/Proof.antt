@@ -1,4 +1,4 @@
--- `candidates::bodies::arities_of` meets its contract. Assumes nothing.
+-- `steps_tallies::bodies::arities_of` meets its contract. Assumes nothing.
 use mathlib.Core.Path.{sym, subst}
 use native.Mathlib.Omega.{arith}
 use borrow.Author.Needs.{needs}

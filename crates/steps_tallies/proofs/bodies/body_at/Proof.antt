@@ -1,4 +1,4 @@
--- `candidates::bodies::body_at` meets its contract. Assumes nothing.
+-- `steps_tallies::bodies::body_at` meets its contract. Assumes nothing.
 use mathlib.Core.Path.{sym, ap, subst, _∙_}
 use native.Mathlib.Omega.{arith}
 use borrow.Author.Needs.{needs}

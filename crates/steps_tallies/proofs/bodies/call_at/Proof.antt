@@ -1,4 +1,4 @@
--- `candidates::bodies::call_at` meets its contract. Assumes nothing.
+-- `steps_tallies::bodies::call_at` meets its contract. Assumes nothing.
 use Rattle.steps_tallies.proofs.CallLaws.{opening-is}
 use borrow.Author.Needs.{needs}
 use Rattle.steps_tallies.proofs.bodies.call_at.Statement.{statement}

@@ -1,4 +1,4 @@
--- `candidates::bodies::may_open` meets its contract. Assumes nothing.
+-- `steps_tallies::bodies::may_open` meets its contract. Assumes nothing.
 use mathlib.Core.Path.{_≡_}
 use Prim.Native.Nat.{ℕ}
 use native.Mathlib.Omega.{arith}

@@ -1,4 +1,4 @@
--- `candidates::front::front_at` meets its contract. Assumes nothing.
+-- `steps_tallies::front::front_at` meets its contract. Assumes nothing.
 use mathlib.Core.Path.{refl, sym, _∙_}
 use borrow.Author.Tests.{leb-true, leb-false, not-true, not-false}
 use Rattle.steps_tallies.proofs.FrontLaws.{front-past, front-short, front-there}

@@ -1,4 +1,4 @@
--- `candidates::tally::body_tally` meets its contract. Assumes nothing.
+-- `steps_tallies::tally::body_tally` meets its contract. Assumes nothing.
 use mathlib.Core.Path.{_≡_, ap}
 use Prim.Native.Nat.{ℕ, _+_, _-_, _*_}
 use native.Mathlib.Omega.{arith}

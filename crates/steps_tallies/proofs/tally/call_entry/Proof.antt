@@ -1,4 +1,4 @@
--- `candidates::tally::call_entry` meets its contract. Assumes nothing.
+-- `steps_tallies::tally::call_entry` meets its contract. Assumes nothing.
 use mathlib.Core.Path.{refl}
 use Rattle.steps_tallies.specs.Tally.{visibleCall, silentCall}
 use Rattle.steps_tallies.specs.Tallying.{callEntry}

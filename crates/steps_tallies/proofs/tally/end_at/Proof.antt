@@ -1,4 +1,4 @@
--- `candidates::tally::end_at` meets its contract. Assumes nothing.
+-- `steps_tallies::tally::end_at` meets its contract. Assumes nothing.
 use Rattle.steps_tallies.specs.Tally.{endAt}
 use borrow.Author.Needs.{needs}
 use Rattle.steps_tallies.proofs.tally.end_at.Statement.{statement}

@@ -1,4 +1,4 @@
--- `candidates::tally::entry_at` meets its contract. Assumes nothing.
+-- `steps_tallies::tally::entry_at` meets its contract. Assumes nothing.
 use Rattle.steps_tallies.specs.Tallying.{EntryIs, nothingAt, callEntry, choiceEntry, parallelEntry}
 use Rattle.steps_tallies.proofs.TallyLaws.{small-entry, front-behind, second-behind, entry-none, entry-call, entry-prefix, entry-one, entry-choice, entry-parallel}
 use mathlib.Core.Path.{sym, subst}

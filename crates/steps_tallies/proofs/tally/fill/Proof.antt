@@ -1,4 +1,4 @@
--- `candidates::tally::fill` meets its contract. Assumes nothing.
+-- `steps_tallies::tally::fill` meets its contract. Assumes nothing.
 use borrow.Author.Needs.{needs}
 use mathlib.Core.Path.{_≡_, sym, subst, _∙_}
 use Prim.Native.Nat.{ℕ, _+_, _-_, _≤_}

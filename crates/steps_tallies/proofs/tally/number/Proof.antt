@@ -1,4 +1,4 @@
--- `candidates::tally::number` meets its contract. Assumes nothing.
+-- `steps_tallies::tally::number` meets its contract. Assumes nothing.
 use mathlib.Core.Path.{sym}
 use lib.ListN.{List·getD-eq-default}
 use native.Mathlib.Omega.{arith}

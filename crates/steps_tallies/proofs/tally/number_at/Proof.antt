@@ -1,4 +1,4 @@
--- `candidates::tally::number_at` meets its contract. Assumes nothing.
+-- `steps_tallies::tally::number_at` meets its contract. Assumes nothing.
 use Rattle.steps_tallies.specs.Tallying.{numberAt}
 use borrow.Author.Needs.{needs}
 use Rattle.steps_tallies.proofs.tally.number_at.Statement.{statement}

@@ -1,4 +1,4 @@
--- `candidates::tally::place_of` meets its contract. Assumes nothing.
+-- `steps_tallies::tally::place_of` meets its contract. Assumes nothing.
 use mathlib.Core.Path.{_∙_}
 use native.Mathlib.Omega.{arith}
 use Rattle.terms_bytes.specs.FieldPlaces.{definitionsOf}

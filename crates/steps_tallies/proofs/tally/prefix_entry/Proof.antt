@@ -1,4 +1,4 @@
--- `candidates::tally::prefix_entry` meets its contract. Assumes nothing.
+-- `steps_tallies::tally::prefix_entry` meets its contract. Assumes nothing.
 use mathlib.Core.Path.{refl}
 use borrow.Author.Tests.{ne-eqb}
 use Rattle.steps_tallies.specs.Tallying.{prefixEntry}

@@ -1,4 +1,4 @@
--- `candidates::tally::put_place` meets its contract. Assumes nothing.
+-- `steps_tallies::tally::put_place` meets its contract. Assumes nothing.
 use native.Mathlib.Omega.{arith}
 use Rattle.steps_tallies.proofs.TallyLoops.{placed-tallied, placed-more, placed-large}
 use borrow.Author.Needs.{needs}

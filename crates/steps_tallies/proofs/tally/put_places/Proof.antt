@@ -1,4 +1,4 @@
--- `candidates::tally::put_places` meets its contract. Assumes nothing.
+-- `steps_tallies::tally::put_places` meets its contract. Assumes nothing.
 use native.Mathlib.Omega.{arith}
 use mathlib.Core.Path.{_≡_, refl, ap, subst, _∙_}
 use Prim.Native.Nat.{ℕ, _-_, _≤_}
@@ -7,7 +7,7 @@ use lib.ListN.{length}
 use Rattle.terms_bytes.specs.FieldPlaces.{afterField, fieldPlace}
 use Rattle.terms.specs.Limits.{mostDefinitions}
 use Rattle.steps_tallies.specs.Tally.{TalliedBelow, PlacesBelow}
-use Rattle.steps_tallies.proofs.TallyLoops.{no-place, all-placed}
+use Rattle.steps_tallies.proofs.TallyLoops.{no-place}
 use borrow.Author.Needs.{needs}
 use Rattle.steps_tallies.proofs.tally.put_places.Statement.{statement}
 use Rattle.steps_tallies.proofs.tally.put_places.Tie as tie
@@ -56,12 +56,14 @@ same-length c = search needs
 returns : tie.Need-returns Inv-loop μ-loop
 returns c =
     let c1 = c .before in
-    let c5 = c1 .before .before .before .before in
-    all-placed _ _ (c1 .loop .inv .1) (subst (λ (k : ℕ). PlacesBelow (c5 .args .question .now) k (c1 .loop .bodies)) (omega (
-      arith,
-      c1 .loop .inv .0,
-      c .loop-test .left,
-    )) (c1 .loop .inv .2))
+    let c5 = c1 .before .before .before .before in (
+      c1 .loop .inv .1,
+      subst (λ (k : ℕ). PlacesBelow (c5 .args .question .now) k (c1 .loop .bodies)) (omega (
+        arith,
+        c1 .loop .inv .0,
+        c .loop-test .left,
+      )) (c1 .loop .inv .2),
+    )
 
 pub put-places-spec : {M : Type 1} → statement M
 put-places-spec =

@@ -1,4 +1,4 @@
--- `candidates::tally::silent_at` meets its contract. Assumes nothing.
+-- `steps_tallies::tally::silent_at` meets its contract. Assumes nothing.
 use Rattle.steps_tallies.specs.Tally.{silentAt}
 use borrow.Author.Needs.{needs}
 use Rattle.steps_tallies.proofs.tally.silent_at.Statement.{statement}

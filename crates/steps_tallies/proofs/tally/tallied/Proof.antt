@@ -1,4 +1,4 @@
--- `candidates::tally::tallied` meets its contract. Assumes nothing.
+-- `steps_tallies::tally::tallied` meets its contract. Assumes nothing.
 use mathlib.Core.Path.{refl}
 use borrow.Author.Tests.{le-leb, lt-leb}
 use Rattle.steps_tallies.specs.Tallying.{talliedEntry, nothingAt, entryAt}

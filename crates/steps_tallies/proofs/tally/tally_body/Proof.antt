@@ -1,4 +1,4 @@
--- `candidates::tally::tally_body` meets its contract. Assumes nothing.
+-- `steps_tallies::tally::tally_body` meets its contract. Assumes nothing.
 use mathlib.Core.Path.{_∙_}
 use native.Mathlib.Omega.{arith}
 use Rattle.terms.specs.Limits.{longestTerm}

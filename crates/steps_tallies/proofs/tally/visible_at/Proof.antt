@@ -1,4 +1,4 @@
--- `candidates::tally::visible_at` meets its contract. Assumes nothing.
+-- `steps_tallies::tally::visible_at` meets its contract. Assumes nothing.
 use mathlib.Core.Path.{ap, _∙_}
 use Prim.Native.Nat.{ℕ}
 use lib.ListN.{getD}

@@ -1,4 +1,4 @@
--- `steps::walk::walk` and `walk_parallel` meet their contracts. The measure: the bytes left. Assumes nothing.
+-- `steps_walk::walk::walk` and `walk_parallel` meet their contracts. The measure: the bytes left. Assumes nothing.
 use native.Mathlib.Omega.{arith}
 use lib.ListN.{length}
 use borrow.Author.Needs.{needs}

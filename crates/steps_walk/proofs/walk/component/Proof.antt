@@ -1,4 +1,4 @@
--- `steps::walk::component` meets its contract. Assumes nothing.
+-- `steps_walk::walk::component` meets its contract. Assumes nothing.
 use native.Mathlib.Omega.{arith}
 use Rattle.steps_walk.proofs.WalkLaws.{walk-passed, walk-component}
 use borrow.Author.Needs.{needs}

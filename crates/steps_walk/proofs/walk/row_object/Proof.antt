@@ -1,4 +1,4 @@
--- `steps::walk::row_object` meets its contract. Assumes nothing.
+-- `steps_walk::walk::row_object` meets its contract. Assumes nothing.
 use borrow.Author.Tests.{eq-eqb, ne-eqb}
 use Rattle.steps_walk.specs.Walking.{rowObject}
 use Rattle.steps_walk.proofs.walk.row_object.Statement.{statement}

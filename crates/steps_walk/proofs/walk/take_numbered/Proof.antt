@@ -1,4 +1,4 @@
--- `steps::walk::take_numbered` meets its contract. Assumes nothing.
+-- `steps_walk::walk::take_numbered` meets its contract. Assumes nothing.
 use mathlib.Core.Path.{_≡_, refl}
 use native.Mathlib.Omega.{arith}
 use Prim.Native.Nat.{ℕ, _+_, _-_, _≤_}

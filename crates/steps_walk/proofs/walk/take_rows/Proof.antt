@@ -1,4 +1,4 @@
--- `steps::walk::take_rows` meets its contract. Assumes nothing.
+-- `steps_walk::walk::take_rows` meets its contract. Assumes nothing.
 use mathlib.Core.Path.{_≡_, refl}
 use Prim.Native.Nat.{_-_, _≤_}
 use lib.ListN.{length}

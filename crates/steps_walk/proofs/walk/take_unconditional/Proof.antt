@@ -1,4 +1,4 @@
--- `steps::walk::take_unconditional` meets its contract. Assumes nothing.
+-- `steps_walk::walk::take_unconditional` meets its contract. Assumes nothing.
 use mathlib.Core.Path.{_≡_, refl}
 use Prim.Native.Nat.{ℕ, _-_, _≤_}
 use lib.ListN.{length}
@@ -30,7 +30,7 @@ loop-holds c =
 put-placed-requires : tie.Need-put-placed-requires Inv-loop μ-loop
 put-placed-requires c κs =
     let g = c .before .before .before .before .before .before .before .before .before .pre in
-    (((c .before .before .loop .inv .0, search needs), g .0 .1), g .1)
+    (((c .before .before .loop .inv .0, search needs), g .0 .1), g .1, g .3)
 
 same-length : tie.Need-same-length Inv-loop μ-loop
 same-length c = search needs

@@ -1,4 +1,4 @@
--- `terms::bytes::copy` meets its contract. Assumes nothing.
+-- `terms_bytes::bytes::copy` meets its contract. Assumes nothing.
 use mathlib.Core.Path.{_≡_, ap, _∙_}
 use Prim.Native.Nat.{_-_, _<_, _≤_}
 use native.Mathlib.Omega.{arith}

@@ -1,4 +1,4 @@
--- `terms::bytes::get` meets its contract. Assumes nothing.
+-- `terms_bytes::bytes::get` meets its contract. Assumes nothing.
 use mathlib.Core.Path.{sym}
 use lib.ListN.{List·getD-eq-default}
 use borrow.Author.Needs.{needs}

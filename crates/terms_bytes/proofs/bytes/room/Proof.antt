@@ -1,4 +1,4 @@
--- `terms::bytes::room` meets its contract. Assumes nothing.
+-- `terms_bytes::bytes::room` meets its contract. Assumes nothing.
 use mathlib.Core.Path.{sym}
 use Prim.Native.Nat.{_+_}
 use native.Mathlib.Omega.{arith}

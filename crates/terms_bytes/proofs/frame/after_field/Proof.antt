@@ -1,4 +1,4 @@
--- `terms::frame::after_field` meets its contract. Assumes nothing.
+-- `terms_bytes::frame::after_field` meets its contract. Assumes nothing.
 use mathlib.Core.Path.{sym}
 use native.Mathlib.Omega.{arith}
 use borrow.Author.Needs.{needs}

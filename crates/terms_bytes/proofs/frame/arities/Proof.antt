@@ -1,4 +1,4 @@
--- `terms::frame::arities` meets its contract. Assumes nothing.
+-- `terms_bytes::frame::arities` meets its contract. Assumes nothing.
 use mathlib.Core.Path.{_≡_}
 use Prim.Native.Nat.{_+_, _-_}
 use native.Mathlib.Omega.{arith}

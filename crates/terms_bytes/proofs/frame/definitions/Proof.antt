@@ -1,4 +1,4 @@
--- `terms::frame::definitions` meets its contract. Assumes nothing.
+-- `terms_bytes::frame::definitions` meets its contract. Assumes nothing.
 use borrow.Author.Needs.{needs}
 use Rattle.terms_bytes.specs.FieldPlaces.{definitionsOf}
 use Rattle.terms_bytes.proofs.frame.definitions.Statement.{statement}

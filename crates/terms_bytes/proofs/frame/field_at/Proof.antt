@@ -1,4 +1,4 @@
--- `terms::frame::field_at` meets its contract. Assumes nothing.
+-- `terms_bytes::frame::field_at` meets its contract. Assumes nothing.
 use native.Mathlib.Omega.{arith}
 use borrow.Author.Needs.{needs}
 use Rattle.terms_bytes.proofs.Places.{field-piece, field-none}

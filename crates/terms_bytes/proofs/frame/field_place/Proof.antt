@@ -1,4 +1,4 @@
--- `terms::frame::field_place` meets its contract. Assumes nothing.
+-- `terms_bytes::frame::field_place` meets its contract. Assumes nothing.
 use mathlib.Core.Path.{_≡_, ap, _∙_}
 use Prim.Native.Nat.{ℕ, _+_, _-_, _≤_}
 use native.Mathlib.Omega.{arith}

@@ -1,4 +1,4 @@
--- `terms::frame::size_at` meets its contract. Assumes nothing.
+-- `terms_bytes::frame::size_at` meets its contract. Assumes nothing.
 use mathlib.Core.Path.{_≡_, ap₂}
 use Prim.Native.Nat.{ℕ, _+_, _*_}
 use native.Mathlib.Omega.{arith}

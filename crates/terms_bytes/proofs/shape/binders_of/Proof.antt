@@ -1,4 +1,4 @@
--- `terms::shape::binders_of` meets its contract. Assumes nothing.
+-- `terms_bytes::shape::binders_of` meets its contract. Assumes nothing.
 use mathlib.Core.Path.{sym, ap}
 use Rattle.terms_bytes.specs.Shape.{bindersAt}
 use Rattle.terms_bytes.proofs.Shapes.{binders-else}

@@ -1,4 +1,4 @@
--- `terms::shape::names_of` meets its contract. Assumes nothing.
+-- `terms_bytes::shape::names_of` meets its contract. Assumes nothing.
 use mathlib.Core.Path.{sym, ap}
 use Rattle.terms_bytes.specs.Shape.{namesBehind}
 use Rattle.terms_bytes.proofs.Shapes.{names-else}

@@ -1,4 +1,4 @@
--- `terms::shape::shape_at` meets its contract. Assumes nothing.
+-- `terms_bytes::shape::shape_at` meets its contract. Assumes nothing.
 use mathlib.Core.Path.{refl, sym, ap, _∙_}
 use mathlib.Core.List.{[], _∷_}
 use Prim.Native.Nat.{ℕ}

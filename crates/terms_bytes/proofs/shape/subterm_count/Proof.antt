@@ -1,4 +1,4 @@
--- `terms::shape::parts_of` meets its contract. Assumes nothing.
+-- `terms_bytes::shape::subterm_count` meets its contract. Assumes nothing.
 use mathlib.Core.Path.{sym, ap}
 use mathlib.Core.List.{[], _∷_}
 use lib.ListN.{List·getD-eq-default}

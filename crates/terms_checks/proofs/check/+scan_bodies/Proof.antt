@@ -1,4 +1,4 @@
--- `terms::check::scan_bodies` meets its contract. Assumes nothing.
+-- `terms_checks::check::scan_bodies` meets its contract. Assumes nothing.
 use native.Mathlib.Omega.{arith}
 use lib.ListN.{length}
 use Rattle.terms_bytes.specs.Counted.{editionFrom}

@@ -1,4 +1,4 @@
--- `terms::check::apart_allowed` meets its contract. Assumes nothing.
+-- `terms_checks::check::apart_allowed` meets its contract. Assumes nothing.
 use mathlib.Core.Path.{_≡_, sym, ap, ap₂, _∙_}
 use native.Mathlib.Omega.{arith}
 use borrow.Author.Needs.{needs}

@@ -1,4 +1,4 @@
--- `terms::check::apart_list` meets its contract. Assumes nothing.
+-- `terms_checks::check::apart_list` meets its contract. Assumes nothing.
 use mathlib.Core.Path.{ap, _∙_}
 use Rattle.terms_checks.proofs.FramedPlaces.{apart-place}
 use mathlib.Core.Path.{ap, _∙_}

@@ -1,4 +1,4 @@
--- `terms::check::arities_fit` meets its contract. Assumes nothing.
+-- `terms_checks::check::arities_fit` meets its contract. Assumes nothing.
 use mathlib.Core.Path.{_≡_, refl, sym, _∙_}
 use Prim.Native.Nat.{_≤_, _-_}
 use native.Mathlib.Omega.{arith}

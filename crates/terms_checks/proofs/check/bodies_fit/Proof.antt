@@ -1,4 +1,4 @@
--- `terms::check::bodies_fit` meets its contract. Assumes nothing.
+-- `terms_checks::check::bodies_fit` meets its contract. Assumes nothing.
 use mathlib.Core.Path.{_≡_, refl, sym, ap, _∙_}
 use native.Mathlib.Omega.{arith}
 use borrow.Author.Needs.{needs}

@@ -1,4 +1,4 @@
--- `terms::check::check_terms` meets its contract. Assumes nothing.
+-- `terms_checks::check::check_terms` meets its contract. Assumes nothing.
 use mathlib.Core.Path.{sym, ap, _∙_}
 use borrow.Author.Tests.{not-true, not-false}
 use Rattle.terms.specs.Answer.{need}

@@ -1,4 +1,4 @@
--- `terms::check::different_names` meets its contract. Assumes nothing.
+-- `terms_checks::check::different_names` meets its contract. Assumes nothing.
 use mathlib.Core.Path.{sym}
 use Rattle.terms_checks.proofs.CheckLaws.{left-not, right-not, same-not, names-different}
 use Rattle.terms_checks.proofs.check.different_names.Statement.{statement}

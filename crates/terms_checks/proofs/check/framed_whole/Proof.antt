@@ -1,4 +1,4 @@
--- `terms::check::framed_whole` meets its contract. Assumes nothing.
+-- `terms_checks::check::framed_whole` meets its contract. Assumes nothing.
 use mathlib.Core.Path.{sym, ap, _∙_}
 use borrow.Author.Tests.{eq-eqb, ne-eqb}
 use Rattle.terms_bytes.specs.FieldPlaces.{afterField}

@@ -1,4 +1,4 @@
--- `terms::check::meet` meets its contract. Assumes nothing.
+-- `terms_checks::check::joint` meets its contract. Assumes nothing.
 use mathlib.Core.Path.{refl}
 use Rattle.terms_checks.specs.Checking.{jointOf}
 use borrow.Author.Needs.{needs}

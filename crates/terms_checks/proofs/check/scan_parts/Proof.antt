@@ -1,4 +1,4 @@
--- `terms::check::scan_parts` meets its contract. Assumes nothing.
+-- `terms_checks::check::scan_parts` meets its contract. Assumes nothing.
 use Rattle.terms_bytes.specs.FieldPlaces.{afterField, fieldAt}
 use Rattle.terms_checks.proofs.CheckTerms.{first-fault, second-fault, parts-both}
 use Rattle.terms_bytes.specs.Counted.{editionFrom}

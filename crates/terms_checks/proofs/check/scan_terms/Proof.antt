@@ -1,4 +1,4 @@
--- `terms::check::scan_terms` meets its contract. Assumes nothing.
+-- `terms_checks::check::scan_terms` meets its contract. Assumes nothing.
 use Rattle.terms_checks.specs.Checking.{fieldsAt}
 use Rattle.terms_checks.proofs.CheckPlaces.{bodies-at, parts-at}
 use Rattle.terms_checks.proofs.CheckTerms.{bodies-wrong, parts-wrong, terms-right}

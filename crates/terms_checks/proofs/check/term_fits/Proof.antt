@@ -1,4 +1,4 @@
--- `terms::check::term_fits` meets its contract. Assumes nothing.
+-- `terms_checks::check::term_fits` meets its contract. Assumes nothing.
 use mathlib.Core.Path.{sym}
 use Rattle.terms_checks.proofs.CheckLaws.{fits-short, fits-long, fits-both}
 use Rattle.terms_checks.proofs.check.term_fits.Statement.{statement}

@@ -1,4 +1,4 @@
--- `terms::scan::scan_term` meets its contract. Assumes nothing.
+-- `terms_checks::scan::scan_term` meets its contract. Assumes nothing.
 use mathlib.Core.Path.{sym, ap, _∙_}
 use native.Mathlib.Omega.{arith}
 use lib.ListN.{length}

@@ -1,4 +1,4 @@
--- `terms::scan::combine` meets its contract. Assumes nothing.
+-- `terms_checks::scan::combine` meets its contract. Assumes nothing.
 use Rattle.terms_checks.proofs.ControlLaws.{combined-parallel, combined-restriction, combined-call, combined-prefix, combined-inaction, combined-other}
 use borrow.Author.Needs.{needs}
 use Rattle.terms_checks.proofs.scan.combine.Statement.{statement}

@@ -1,4 +1,4 @@
--- `terms::scan::is_name` meets its contract. Assumes nothing.
+-- `terms_checks::scan::is_name` meets its contract. Assumes nothing.
 use mathlib.Core.Path.{sym}
 use Rattle.terms_checks.proofs.ScanLaws.{name-free, name-none, name-bound, name-far}
 use Rattle.terms_checks.proofs.scan.is_name.Statement.{statement}

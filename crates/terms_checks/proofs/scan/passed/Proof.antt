@@ -1,4 +1,4 @@
--- `terms::scan::passed` meets its contract. Assumes nothing.
+-- `terms_checks::scan::passed` meets its contract. Assumes nothing.
 use mathlib.Core.Path.{refl}
 use Rattle.terms_checks.specs.Scanning.{passing}
 use Rattle.terms_checks.proofs.scan.passed.Statement.{statement}

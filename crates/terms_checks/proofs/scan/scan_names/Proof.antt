@@ -1,4 +1,4 @@
--- `terms::scan::scan_names` meets its contract. Assumes nothing.
+-- `terms_checks::scan::scan_names` meets its contract. Assumes nothing.
 use mathlib.Core.Path.{_≡_, refl, sym, _∙_}
 use Prim.Native.Nat.{_≤_, max}
 use native.Mathlib.Omega.{arith}

@@ -1,4 +1,4 @@
--- `terms::scan::scan_whole` meets its contract. Assumes nothing.
+-- `terms_checks::scan::scan_whole` meets its contract. Assumes nothing.
 use Rattle.terms_checks.proofs.ScanTerms.{whole-wrong, whole-more, whole-term}
 use Rattle.terms_bytes.specs.Counted.{editionFrom}
 use borrow.Author.Needs.{needs}

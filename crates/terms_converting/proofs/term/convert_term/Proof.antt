@@ -1,4 +1,4 @@
--- `converter::convert_term` meets its contract. Assumes nothing.
+-- `terms_converting::term::convert_term` meets its contract. Assumes nothing.
 use mathlib.Core.Path.{_≡_, refl, _∙_}
 use Prim.Native.Nat.{ℕ, _-_, _<_, _≤_}
 use native.Mathlib.Omega.{arith}

@@ -1,4 +1,4 @@
--- `terms::free::free_names` meets its contract. Assumes nothing.
+-- `terms_renaming::free::free_names` meets its contract. Assumes nothing.
 use mathlib.Core.Path.{refl}
 use lib.ListN.{getD-replicate}
 use borrow.Author.Needs.{needs}

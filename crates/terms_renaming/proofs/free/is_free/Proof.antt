@@ -1,4 +1,4 @@
--- `terms::free::is_free` meets its contract. Assumes nothing.
+-- `terms_renaming::free::is_free` meets its contract. Assumes nothing.
 use mathlib.Core.Path.{sym}
 use Rattle.terms_renaming.specs.FreeFlags.{FreeFlagsOf, IsFreeOf}
 use Rattle.terms_renaming.proofs.FreeTests.{free-test, none-free}

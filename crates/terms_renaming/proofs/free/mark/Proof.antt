@@ -1,4 +1,4 @@
--- `terms::free::mark` meets its contract. Assumes nothing.
+-- `terms_renaming::free::mark` meets its contract. Assumes nothing.
 use mathlib.Core.Path.{sym}
 use native.Mathlib.Omega.{arith}
 use lib.Seq.{set-out}

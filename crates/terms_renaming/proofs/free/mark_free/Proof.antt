@@ -1,4 +1,4 @@
--- `terms::free::mark_free` meets its contract. Assumes nothing.
+-- `terms_renaming::free::mark_free` meets its contract. Assumes nothing.
 use mathlib.Core.Path.{_≡_, refl, sym, _∙_}
 use Prim.Native.Nat.{_+_, _-_, _≤_}
 use native.Mathlib.Omega.{arith}

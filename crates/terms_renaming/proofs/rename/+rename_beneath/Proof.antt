@@ -1,4 +1,4 @@
--- `terms::rename::rename_beneath` meets its contract. Assumes nothing.
+-- `terms_renaming::rename::rename_beneath` meets its contract. Assumes nothing.
 use mathlib.Core.Path.{subst, _∙_}
 use Prim.Native.Nat.{_-_, ℕ, _<_}
 use native.Mathlib.Omega.{arith}

@@ -1,4 +1,4 @@
--- `terms::rename::byte_beneath` meets its contract. Assumes nothing.
+-- `terms_renaming::rename::byte_beneath` meets its contract. Assumes nothing.
 use Prim.Native.Nat.{_+_}
 use native.Mathlib.Omega.{arith}
 use borrow.Author.Tests.{lt-ltb, le-ltb}

@@ -1,4 +1,4 @@
--- `terms::rename::rename` meets its contract. Assumes nothing.
+-- `terms_renaming::rename::rename` meets its contract. Assumes nothing.
 use borrow.Author.Needs.{needs}
 use Rattle.terms_renaming.proofs.RenamingWalk.{renamed-whole}
 use Rattle.terms_renaming.proofs.rename.rename.Statement.{statement}

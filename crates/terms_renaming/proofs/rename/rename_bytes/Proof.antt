@@ -1,4 +1,4 @@
--- `terms::rename::rename_bytes` meets its contract. Assumes nothing.
+-- `terms_renaming::rename::rename_bytes` meets its contract. Assumes nothing.
 use mathlib.Core.Path.{_≡_, sym, ap, _∙_}
 use mathlib.Core.List.{map}
 use Prim.Native.Nat.{_-_, _<_, _≤_}

@@ -1,4 +1,4 @@
--- `terms::rename::rename_front` meets its contract. Assumes nothing.
+-- `terms_renaming::rename::rename_front` meets its contract. Assumes nothing.
 use mathlib.Core.Path.{sym, _∙_}
 use Prim.Native.Nat.{_+_}
 use native.Mathlib.Omega.{arith}

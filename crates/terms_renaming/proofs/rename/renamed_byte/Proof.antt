@@ -1,4 +1,4 @@
--- `terms::rename::renamed_byte` meets its contract. Assumes nothing.
+-- `terms_renaming::rename::renamed_byte` meets its contract. Assumes nothing.
 use mathlib.Core.Path.{ap, _∙_}
 use borrow.Author.Tests.{lt-ltb, le-ltb}
 use borrow.Author.Needs.{needs}

@@ -1,4 +1,4 @@
--- `terms::tables::merged_name` meets its contract. Assumes nothing.
+-- `terms_renaming::tables::merged_name` meets its contract. Assumes nothing.
 use mathlib.Core.Logic.{⊎-elim}
 use native.Mathlib.Omega.{arith}
 use Rattle.calculus.proofs.Conditions.{join-cases}

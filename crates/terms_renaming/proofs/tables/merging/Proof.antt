@@ -1,4 +1,4 @@
--- `terms::tables::merging` meets its contract. Assumes nothing.
+-- `terms_renaming::tables::merging` meets its contract. Assumes nothing.
 use mathlib.Core.Path.{_≡_, refl}
 use Prim.Native.Nat.{_-_, _≤_}
 use native.Mathlib.Omega.{arith}

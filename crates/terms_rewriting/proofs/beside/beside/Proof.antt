@@ -1,4 +1,4 @@
--- `terms::beside::beside` meets its contract. Assumes nothing.
+-- `terms_rewriting::beside::beside` meets its contract. Assumes nothing.
 use mathlib.Core.Path.{ap, _∙_}
 use lib.ListN.{length}
 use borrow.Author.Needs.{needs}

@@ -1,4 +1,4 @@
--- `terms::beside::beside_allowed` meets its contract. Assumes nothing.
+-- `terms_rewriting::beside::beside_allowed` meets its contract. Assumes nothing.
 use native.Mathlib.Omega.{arith}
 use lib.ListN.{length}
 use borrow.Author.Needs.{needs}

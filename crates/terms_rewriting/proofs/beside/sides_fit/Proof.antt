@@ -1,4 +1,4 @@
--- `terms::beside::sides_fit` meets its contract. Assumes nothing.
+-- `terms_rewriting::beside::sides_fit` meets its contract. Assumes nothing.
 use Prim.Native.Nat.{_+_}
 use native.Mathlib.Omega.{arith}
 use borrow.Author.Tests.{lt-leb, le-leb}

@@ -1,4 +1,4 @@
--- `terms::beside::write_beside` meets its contract. Assumes nothing.
+-- `terms_rewriting::beside::write_beside` meets its contract. Assumes nothing.
 use mathlib.Core.Path.{refl, ap, _∙_}
 use native.Mathlib.Omega.{arith}
 use borrow.Author.Needs.{needs}

@@ -1,4 +1,4 @@
--- `terms::beside::write_side` meets its contract. Assumes nothing.
+-- `terms_rewriting::beside::write_side` meets its contract. Assumes nothing.
 use mathlib.Core.Path.{refl, _∙_}
 use Prim.Native.Nat.{_+_}
 use native.Mathlib.Omega.{arith}

@@ -1,4 +1,4 @@
--- `terms::merge::holds_apart` meets its contract. Assumes nothing.
+-- `terms_rewriting::merge::holds_apart` meets its contract. Assumes nothing.
 use mathlib.Core.Path.{_∙_}
 use Prim.Native.Nat.{_-_, _≤_}
 use native.Mathlib.Omega.{arith}

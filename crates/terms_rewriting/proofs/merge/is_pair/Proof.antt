@@ -1,4 +1,4 @@
--- `terms::merge::is_pair` meets its contract. Assumes nothing.
+-- `terms_rewriting::merge::is_pair` meets its contract. Assumes nothing.
 use borrow.Author.Tests.{eq-eqb, ne-eqb}
 use Rattle.terms_rewriting.proofs.merge.is_pair.Statement.{statement}
 use Rattle.terms_rewriting.proofs.merge.is_pair.Tie as tie

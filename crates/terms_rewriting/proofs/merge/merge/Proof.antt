@@ -1,4 +1,4 @@
--- `terms::merge::merge` meets its contract. Assumes nothing.
+-- `terms_rewriting::merge::merge` meets its contract. Assumes nothing.
 use mathlib.Core.Path.{ap, _∙_}
 use lib.ListN.{length}
 use borrow.Author.Needs.{needs}

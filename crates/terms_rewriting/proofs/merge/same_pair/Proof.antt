@@ -1,4 +1,4 @@
--- `terms::merge::same_pair` meets its contract. Assumes nothing.
+-- `terms_rewriting::merge::same_pair` meets its contract. Assumes nothing.
 use mathlib.Core.Path.{_≡_, sym, _∙_}
 use mathlib.Core.Bool.{true, false, _&&_}
 use lib.Dec.{eqb}

@@ -1,4 +1,4 @@
--- `terms::merge::write_merged` meets its contract. Assumes nothing.
+-- `terms_rewriting::merge::write_merged` meets its contract. Assumes nothing.
 use mathlib.Core.Path.{ap, _∙_}
 use native.Mathlib.Omega.{arith}
 use borrow.Author.Needs.{needs}

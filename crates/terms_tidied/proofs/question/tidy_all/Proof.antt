@@ -33,9 +33,17 @@ loop-holds c = (refl, omega arith, writing-start _ _ (c .field-place .result) (c
 -- src/question.rt:36:9
 tidy-body-requires : tie.Need-tidy-body-requires Inv-loop μ-loop
 tidy-body-requires c κs =
-    let a = c .before .before .before .before .before .before .before .before .args in
-    writing-body (a .question .now) (a .out .now) (c .before .before .before .before .before .before .before .before .pre) (c .before .before .loop .k) (c .before .before .loop .at) (c .before .before .loop .put) (c .before .before .loop .out)
-    (omega (arith, c .before .loop-test .taken, c .before .before .before .before .definitions .ensures .0)) (c .before .before .loop .inv .0) (c .before .before .loop .inv .2) (c .before .before .before .before .before .arities .result .now) (c .before .before .before .before .before .arities .ensures)
+    let c2 = c .before .before in
+    let c4 = c2 .before .before in
+    let c5 = c4 .before in
+    let c8 = c5 .before .before .before in
+    let a = c8 .args in
+    writing-body (a .question .now) (a .out .now) (c8 .pre) (c2 .loop .k) (c2 .loop .at) (c2 .loop .put) (c2 .loop .out) (omega (
+      arith,
+      c .before .loop-test .taken,
+      c4 .definitions .ensures .0,
+    )) (c2 .loop .inv .0) (c2 .loop .inv .2) (c5 .arities .result .now)
+    (c5 .arities .ensures)
 
 -- src/question.rt:37:9
 after-field-requires : tie.Need-after-field-requires Inv-loop μ-loop
@@ -52,12 +60,20 @@ loop-less c = omega arith
 -- src/question.rt:35:5
 loop-again : tie.Need-loop-again Inv-loop μ-loop
 loop-again c =
-    let a = c .before .before .before .before .before .before .before .before .before .before .before .before .args in (
-      c .before .before .before .tidy-body .kept .1 .1 .1 .0 ∙ c .before .before .before .before .before .before .loop .inv .0,
+    let c3 = c .before .before .before in
+    let c3 = c3 in
+    let c5 = c3 .before .before in
+    let c6 = c5 .before in
+    let c8 = c6 .before .before in
+    let c9 = c8 .before in
+    let c12 = c9 .before .before .before in
+    let a = c12 .args in (
+      c3 .tidy-body .kept .1 .1 .1 .0 ∙ c6 .loop .inv .0,
       omega arith,
-      writing-again (a .question .now) (a .out .now) (c .before .before .before .before .before .before .before .before .before .before .before .before .pre) (c .before .before .before .before .before .before .loop .k) (c .before .before .before .before .before .before .loop .at) (c .before .before .before .before .before .before .loop .put) (c .before .before .before .before .before .before .loop .out)
-          (omega (arith, c .before .before .before .before .before .loop-test .taken, c .before .before .before .before .before .before .before .before .definitions .ensures .0)) (c .before .before .before .before .before .before .loop .inv .0) (c .before .before .before .before .before .before .loop .inv .2) (c .before .before .before .before .before .before .before .before .before .arities .result .now) (c .before .before .before .before .before .before .before .before .before .arities .ensures)
-          (c .after-field .result) (c .before .before .before .tidy-body .result) _ (c .before .before .before .tidy-body .ensures) (c .after-field .ensures),
+      writing-again (a .question .now) (a .out .now) (c12 .pre) (c6 .loop .k)
+          (c6 .loop .at) (c6 .loop .put) (c6 .loop .out) (omega (arith, c5 .loop-test .taken, c8 .definitions .ensures .0)) (c6 .loop .inv .0)
+          (c6 .loop .inv .2) (c9 .arities .result .now) (c9 .arities .ensures) (c .after-field .result) (c3 .tidy-body .result) _ (c3 .tidy-body .ensures)
+          (c .after-field .ensures),
     )
 
 -- src/question.rt:26:1
@@ -67,9 +83,16 @@ same-length c = c .before .loop .inv .0
 -- src/question.rt:26:1
 returns : tie.Need-returns Inv-loop μ-loop
 returns c =
-    let a = c .before .before .before .before .before .before .before .args in
-    writing-done (a .question .now) (a .out .now) (c .before .loop .k) (c .before .loop .at) (c .before .loop .put) (c .before .loop .out)
-    (omega (arith, c .loop-test .left, c .before .loop .inv .1, c .before .before .before .definitions .ensures .0)) (c .before .loop .inv .2)
+    let c1 = c .before in
+    let c3 = c1 .before .before in
+    let c7 = c3 .before .before .before .before in
+    let a = c7 .args in
+    writing-done (a .question .now) (a .out .now) (c1 .loop .k) (c1 .loop .at) (c1 .loop .put) (c1 .loop .out) (omega (
+      arith,
+      c .loop-test .left,
+      c1 .loop .inv .1,
+      c3 .definitions .ensures .0,
+    )) (c1 .loop .inv .2)
 
 pub tidy-all-spec : {M : Type 1} → statement M
 tidy-all-spec =

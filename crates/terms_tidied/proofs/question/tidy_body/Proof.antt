@@ -31,19 +31,25 @@ add-n c = search needs
 -- src/question.rt:19:13
 sub-n : tie.Need-sub-n
 sub-n c =
-    let a = c .before .before .before .before .before .before .before .before .args in
-    let p = c .before .before .before .before .before .before .before .before .pre in
-    let b = body-tidied (a .question .now) (a .at) (a .list .now) (a .out .now) (a .put) (p .depth) (p .term) (p .body) _ (c .before .before .before .before .field-at .ensures)
-    (c .before .before .tidy .result) _ (c .before .before .tidy .ensures) in
+    let c2 = c .before .before in
+    let c4 = c2 .before .before in
+    let c8 = c4 .before .before .before .before in
+    let a = c8 .args in
+    let p = c8 .pre in
+    let b = body-tidied (a .question .now) (a .at) (a .list .now) (a .out .now) (a .put) (p .depth) (p .term) (p .body) _ (c4 .field-at .ensures)
+    (c2 .tidy .result) _ (c2 .tidy .ensures) in
     omega (arith, b .0)
 
 -- src/question.rt:20:16
 cast-out : tie.Need-cast-out
 cast-out c =
-    let a = c .before .before .before .before .before .before .before .before .args in
-    let p = c .before .before .before .before .before .before .before .before .pre in
-    let b = body-tidied (a .question .now) (a .at) (a .list .now) (a .out .now) (a .put) (p .depth) (p .term) (p .body) _ (c .before .before .before .before .field-at .ensures)
-    (c .before .before .tidy .result) _ (c .before .before .tidy .ensures) in
+    let c2 = c .before .before in
+    let c4 = c2 .before .before in
+    let c8 = c4 .before .before .before .before in
+    let a = c8 .args in
+    let p = c8 .pre in
+    let b = body-tidied (a .question .now) (a .at) (a .list .now) (a .out .now) (a .put) (p .depth) (p .term) (p .body) _ (c4 .field-at .ensures)
+    (c2 .tidy .result) _ (c2 .tidy .ensures) in
     omega (arith, b .0, body-shorter (a .question .now) (a .at) (a .list .now) (a .out .now) (a .put) (p .depth) (p .term) (p .body))
 
 -- src/question.rt:20:5
@@ -60,7 +66,10 @@ add-out c = search needs
 
 -- src/question.rt:21:5
 slice-write-out-2 : tie.Need-slice-write-out-2
-slice-write-out-2 c = simp length-set (omega (arith, c .before .before .tidy .kept .1 .1 .1 .0, c .before .before .before .before .before .before .before .before .pre .body .room))
+slice-write-out-2 c =
+    let c8 = c .before .before .before .before .before .before .before .before in
+    let c8 = c8 in
+    simp length-set (omega (arith, c .before .before .tidy .kept .1 .1 .1 .0, c8 .pre .body .room))
 
 -- src/question.rt:13:1
 same-length : tie.Need-same-length
@@ -70,11 +79,15 @@ same-length c = search needs
 returns : tie.Need-returns
 unfolding TidiesBody
 returns c =
-    let a = c .before .before .before .before .before .before .before .before .args in
-    λ d P b.
-    let y = body-tidied (a .question .now) (a .at) (a .list .now) (a .out .now) (a .put) d P b _ (c .before .before .before .before .field-at .ensures) (c .before .before .tidy .result) _ (c .before .before .tidy .ensures) in (
+    let c2 = c .before .before in
+    let c4 = c2 .before .before in
+    let c8 = c4 .before .before .before .before in
+    let a = c8 .args in
+    λ d P b. let y = body-tidied (a .question .now) (a .at) (a .list .now) (a .out .now) (a .put) d P b _ (c4 .field-at .ensures) (c2 .tidy .result) _
+    (c2 .tidy .ensures) in (
       omega (arith, y .0),
-      field-stored (a .out .now) (encode d (tidy P)) (a .put) (c .before .before .tidy .result .written - (a .put + 2)) _ _ _ (y .1) (omega (arith, y .0)) refl refl,
+      field-stored (a .out .now) (encode d (tidy P)) (a .put) (c2 .tidy .result .written - (a .put + 2)) _
+          _ _ (y .1) (omega (arith, y .0)) refl refl,
     )
 
 pub tidy-body-spec : {M : Type 1} → statement M

@@ -25,12 +25,19 @@ shared-slice-read-t c = search needs
 -- src/restriction.rt:15:13
 returns : tie.Need-returns Inv-loop μ-loop
 unfolding restricts
-returns c = found (c .before .before .before .before .before .before .args .src .now) (c .before .before .before .before .before .before .args .arities .now) (c .before .before .before .loop .at) (c .before .before .loop-test .taken) (c .before .before .before .loop .inv) 8 (c .if1 .taken) refl
+returns c =
+    let c3 = c .before .before .before in
+    let c6 = c3 .before .before .before in
+    found (c6 .args .src .now) (c6 .args .arities .now) (c3 .loop .at) (c .before .before .loop-test .taken) (c3 .loop .inv) 8 (c .if1 .taken) refl
 
 -- src/restriction.rt:18:13
 returns-2 : tie.Need-returns-2 Inv-loop μ-loop
 unfolding restricts
-returns-2 c = found (c .before .before .before .before .before .before .before .args .src .now) (c .before .before .before .before .before .before .before .args .arities .now) (c .before .before .before .before .loop .at) (c .before .before .before .loop-test .taken) (c .before .before .before .before .loop .inv) 4 (c .if2 .taken) refl
+returns-2 c =
+    let c3 = c .before .before .before in
+    let c4 = c3 .before in
+    let c7 = c4 .before .before .before in
+    found (c7 .args .src .now) (c7 .args .arities .now) (c4 .loop .at) (c3 .loop-test .taken) (c4 .loop .inv) 4 (c .if2 .taken) refl
 
 -- src/restriction.rt:20:13
 shape-at-requires : tie.Need-shape-at-requires Inv-loop μ-loop
@@ -46,7 +53,13 @@ sub-if3 c = search needs
 
 -- src/restriction.rt:23:13
 returns-3 : tie.Need-returns-3 Inv-loop μ-loop
-returns-3 c = fits (c .before .before .before .before .before .before .before .before .before .before .args .src .now) (c .before .before .before .before .before .before .before .before .before .before .args .arities .now) (c .before .before .before .before .before .before .before .loop .at) (c .before .before .before .before .before .before .loop-test .taken) (c .before .before .before .before .before .before .before .loop .inv) (c .before .before .shape-at .result) (c .before .before .shape-at .ensures) (c .if3 .taken)
+returns-3 c =
+    let c2 = c .before .before in
+    let c6 = c2 .before .before .before .before in
+    let c7 = c6 .before in
+    let c10 = c7 .before .before .before in
+    fits (c10 .args .src .now) (c10 .args .arities .now) (c7 .loop .at) (c6 .loop-test .taken) (c7 .loop .inv) (c2 .shape-at .result)
+    (c2 .shape-at .ensures) (c .if3 .taken)
 
 -- src/restriction.rt:25:9
 add-at : tie.Need-add-at Inv-loop μ-loop
@@ -58,11 +71,22 @@ loop-less c = search needs
 
 -- src/restriction.rt:12:5
 loop-again : tie.Need-loop-again Inv-loop μ-loop
-loop-again c = looking-again (c .before .before .before .before .before .before .before .before .before .before .args .src .now) (c .before .before .before .before .before .before .before .before .before .before .args .arities .now) (c .before .before .before .before .before .before .before .loop .at) (c .before .before .before .before .before .before .loop-test .taken) (c .before .before .before .before .before .before .before .loop .inv) (c .before .before .shape-at .result) (c .before .before .shape-at .ensures) (no-tag _ (c .before .before .before .before .if1 .left) (c .before .before .before .if2 .left))
+loop-again c =
+    let c2 = c .before .before in
+    let c3 = c2 .before in
+    let c4 = c3 .before in
+    let c6 = c4 .before .before in
+    let c7 = c6 .before in
+    let c10 = c7 .before .before .before in
+    looking-again (c10 .args .src .now) (c10 .args .arities .now) (c7 .loop .at) (c6 .loop-test .taken) (c7 .loop .inv) (c2 .shape-at .result)
+    (c2 .shape-at .ensures) (no-tag _ (c4 .if1 .left) (c3 .if2 .left))
 
 -- src/restriction.rt:8:1
 returns-4 : tie.Need-returns-4 Inv-loop μ-loop
-returns-4 c = looking-done (c .before .before .before .before .args .src .now) (c .before .before .before .before .args .arities .now) (c .before .loop .at) (c .loop-test .left) (c .before .loop .inv)
+returns-4 c =
+    let c1 = c .before in
+    let c4 = c1 .before .before .before in
+    looking-done (c4 .args .src .now) (c4 .args .arities .now) (c1 .loop .at) (c .loop-test .left) (c1 .loop .inv)
 
 pub has-restriction-spec : {M : Type 1} → statement M
 has-restriction-spec =

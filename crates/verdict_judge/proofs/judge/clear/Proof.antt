@@ -1,4 +1,4 @@
--- `verdict::judge::clear` meets its contract. Assumes nothing.
+-- `verdict_judge::judge::clear` meets its contract. Assumes nothing.
 use native.Mathlib.Omega.{arith}
 use borrow.Author.Needs.{needs}
 use borrow.Author.Fill.{fill-none, fill-more}

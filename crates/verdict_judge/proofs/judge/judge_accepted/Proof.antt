@@ -1,30 +1,83 @@
--- `verdict::judge::judge_accepted` meets its contract. Assumes nothing.
+-- `verdict_judge::judge::judge_accepted` meets its contract. Assumes nothing.
+use borrow.Author.Tests.{not-true}
+use mathlib.Core.Path.{sym}
+use native.Mathlib.Omega.{arith}
+use lib.Seq.{length-take-le}
+use Rattle.terms.specs.Edition.{one}
+use Rattle.terms.specs.Question.{checkOf}
+use Rattle.terms.proofs.RefusalNumbers.{accepted-length-in}
+use Rattle.terms_bytes.specs.Writing.{Plain}
+use Rattle.steps_tallies.proofs.Unrestricted.{unrestricted-bodies}
+use Rattle.steps_lister.proofs.TidiedBodies.{tidied-fits, bodies-are-tidied}
+use Rattle.verdict_judge.proofs.TidiedJudging.{judged-tidied}
 use borrow.Author.Needs.{needs}
-use Rattle.verdict_judge.proofs.JudgeLaws.{cleared}
 use Rattle.verdict_judge.proofs.judge.judge_accepted.Statement.{statement}
 use Rattle.verdict_judge.proofs.judge.judge_accepted.Tie as tie
+use Rattle.verdict_judge.proofs.judge.judge_accepted.Reads as reads
+use Rattle.verdict_judge.proofs.judge.judge_accepted.Lts as lts
+use Rattle.steps_tallies.proofs.tally.has_restricted_body.Reads as has-restricted-body-reads
+use Rattle.terms_tidied.proofs.question.tidy_bodies.Reads as tidy-bodies-reads
+use Rattle.verdict_judge.proofs.judge.judge_tidied.Reads as judge-tidied-reads
 
-decide-requires : tie.Need-decide-requires
-decide-requires c κs = search needs
+-- src/judge.rt:117:9
+has-restricted-body-requires : tie.Need-has-restricted-body-requires
+has-restricted-body-requires c κs = search needs
 
-mul-clear : tie.Need-mul-clear
-mul-clear c = search needs
+-- src/judge.rt:118:9
+judge-tidied-requires : tie.Need-judge-tidied-requires
+judge-tidied-requires c κs = (c .before .before .before .before .before .pre .0, c .before .before .before .before .before .pre .1, c .before .before .before .before .before .pre .2, λ q a. unrestricted-bodies (q .bodies) (c .before .before .has-restricted-body .ensures (not-true (c .before .before .has-restricted-body .result) (c .before .if1 .taken)) q a))
 
-clear-requires : tie.Need-clear-requires
-clear-requires c κs = search needs
-
+-- src/judge.rt:118:9
 same-length : tie.Need-same-length
 same-length c = search needs
 
+-- src/judge.rt:118:9
 returns : tie.Need-returns
-returns c = cleared _ _ _ _ _ _ _ (c .before .before .before .before .before .before .decide .ensures) (c .before .before .clear .ensures)
+returns c = c .before .before .judge-tidied .ensures
+
+-- src/judge.rt:121:35
+slice-aggregate-tidy-bodies : tie.Need-slice-aggregate-tidy-bodies
+slice-aggregate-tidy-bodies c = search needs
+
+-- src/judge.rt:121:9
+tidy-bodies-requires : tie.Need-tidy-bodies-requires
+unfolding Plain checkOf
+tidy-bodies-requires c κs = record { accepted = c .before .before .before .before .before .pre .3; room = omega (arith, accepted-length-in one (c .before .before .before .before .before .args .question .now) (c .before .before .before .before .before .pre .3 .0) (c .before .before .before .before .before .pre .3 .1)) }
+
+-- src/judge.rt:122:18
+array-share-prefix-tidied : tie.Need-array-share-prefix-tidied
+unfolding Plain
+array-share-prefix-tidied c = omega (arith, tidied-fits _ (c .before .before .before .before .before .before .before .pre .3 .0) (c .before .before .before .before .before .before .before .pre .3 .1) _ _ _ (c .before .tidy-bodies .ensures))
+
+-- src/judge.rt:122:18
+slice-aggregate-judge-tidied : tie.Need-slice-aggregate-judge-tidied
+unfolding Plain
+slice-aggregate-judge-tidied c = sym (length-take-le _ _ (omega (arith, tidied-fits _ (c .before .before .before .before .before .before .before .before .pre .3 .0) (c .before .before .before .before .before .before .before .before .pre .3 .1) _ _ _ (c .before .before .tidy-bodies .ensures))))
+
+-- src/judge.rt:122:5
+judge-tidied-requires-2 : tie.Need-judge-tidied-requires-2
+judge-tidied-requires-2 c κs = (c .before .before .before .before .before .before .before .before .before .pre .0, c .before .before .before .before .before .before .before .before .before .pre .1, c .before .before .before .before .before .before .before .before .before .pre .2, bodies-are-tidied _ _ _ _ (c .before .before .before .before .before .before .before .before .before .pre .3) (c .before .before .before .tidy-bodies .ensures))
+
+-- src/judge.rt:113:1
+same-length-2 : tie.Need-same-length-2
+same-length-2 c = search needs
+
+-- src/judge.rt:113:1
+returns-2 : tie.Need-returns-2
+returns-2 c = judged-tidied _ _ _ _ _ (c .before .before .before .before .before .before .tidy-bodies .ensures) _ _ _ _ (c .before .before .judge-tidied2 .ensures)
 
 pub judge-accepted-spec : {M : Type 1} → statement M
 judge-accepted-spec =
     tie.close
     (tie.spec
-    decide-requires
-    mul-clear
-    clear-requires
+    has-restricted-body-requires
+    judge-tidied-requires
     same-length
-    returns)
+    returns
+    slice-aggregate-tidy-bodies
+    tidy-bodies-requires
+    array-share-prefix-tidied
+    slice-aggregate-judge-tidied
+    judge-tidied-requires-2
+    same-length-2
+    returns-2)

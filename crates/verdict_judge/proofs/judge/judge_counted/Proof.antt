@@ -5,6 +5,7 @@ use borrow.Author.Needs.{needs}
 use Rattle.terms.specs.Edition.{two}
 use Rattle.terms.proofs.OwnEdition.{in-own}
 use Rattle.terms_bytes.specs.Counted.{editionFrom}
+use Rattle.terms_bytes.specs.Writing.{Plain}
 use Rattle.terms_converting.specs.Questions.{AcceptedFrom}
 use Rattle.terms_converting.proofs.PlainForm.{plain-may, plain-room, plain-size, plain-checked, plain-taken}
 use Rattle.verdict_judge.proofs.JudgeLaws.{own-of-plain}
@@ -35,9 +36,19 @@ slice-aggregate-judge-accepted c =
     plain-size (a .question .now) (c6 .pre .3 .0) (c6 .pre .3 .1) _ _ _ (c .before .before .convert-question .ensures)
 
 judge-accepted-requires : tie.Need-judge-accepted-requires
+unfolding AcceptedFrom editionFrom Plain
 judge-accepted-requires c κs =
     let c7 = c .before .before .before .before .before .before .before in
-    (c7 .pre .0, c7 .pre .1, c7 .pre .2)
+    let a = c7 .args in (
+      c7 .pre .0,
+      c7 .pre .1,
+      c7 .pre .2,
+      (
+        c7 .pre .3 .0,
+        plain-checked (a .question .now) (c7 .pre .3 .0) (c7 .pre .3 .1) _
+            (plain-taken (a .question .now) (c7 .pre .3 .0) (c7 .pre .3 .1) _ _ _ (c .before .before .before .convert-question .ensures)),
+      ),
+    )
 
 same-length : tie.Need-same-length
 same-length c = search needs

@@ -3,7 +3,7 @@ use mathlib.Core.Path.{_≡_, refl, sym, ap, subst, _∙_}
 use native.Mathlib.Omega.{arith}
 use borrow.Author.Needs.{needs}
 use Rattle.terms_bytes.specs.Counted.{editionFrom}
-use Rattle.terms_bytes.specs.Writing.{IsAccepted}
+use Rattle.terms_bytes.specs.Writing.{IsAccepted, Plain}
 use Rattle.terms_converting.specs.Questions.{AcceptedFrom}
 use Rattle.terms_converting.proofs.PlainForm.{own-counted, own-plain}
 use Rattle.verdict_judge.proofs.JudgeLaws.{own-of-plain}
@@ -36,9 +36,19 @@ returns : tie.Need-returns
 returns c = c .before .before .judge-counted .ensures
 
 judge-accepted-requires : tie.Need-judge-accepted-requires
+unfolding IsAccepted Plain
 judge-accepted-requires c κs =
-    let c5 = c .before .before .before .before .before in
-    (c5 .pre .0, c5 .pre .1, c5 .pre .2)
+    let c2 = c .before .before in
+    let c5 = c2 .before .before .before in
+    let a = c5 .args in (
+      c5 .pre .0,
+      c5 .pre .1,
+      c5 .pre .2,
+      (
+        c5 .pre .3 .0,
+        own-plain (a .question .now) (c5 .pre .3 .0) (c2 .is-counted .result) (c2 .is-counted .ensures) (c .before .if1 .left) (c5 .pre .3 .1),
+      ),
+    )
 
 same-length-2 : tie.Need-same-length-2
 same-length-2 c = search needs

@@ -1,4 +1,4 @@
--- `verdict::strike::equal_parts` meets its contract. Assumes nothing.
+-- `verdict_strikeout::strike::equal_parts` meets its contract. Assumes nothing.
 use mathlib.Core.Path.{sym, _∙_}
 use Rattle.field_slots.specs.Key.{FirstPartIs, SecondPartIs}
 use Rattle.verdict_survival.specs.Striking.{EqualPartsIs}

@@ -1,4 +1,4 @@
--- `verdict::strike::strike_sole` meets its contract. Assumes nothing.
+-- `verdict_strikeout::strike::strike_sole` meets its contract. Assumes nothing.
 use borrow.Author.Tests.{not-true, not-false}
 use Rattle.verdict_strikeout.proofs.StrikeLaws.{sole-kept, sole-gone}
 use borrow.Author.Needs.{needs}

@@ -1,4 +1,4 @@
--- `verdict::strike::turn` meets its contract. Assumes nothing.
+-- `verdict_strikeout::strike::turn` meets its contract. Assumes nothing.
 use mathlib.Core.Path.{refl}
 use Rattle.verdict_survival.specs.Striking.{turned}
 use borrow.Author.Needs.{needs}

@@ -1,4 +1,4 @@
--- `verdict::strike::width` meets its contract. Assumes nothing.
+-- `verdict_strikeout::strike::width` meets its contract. Assumes nothing.
 use Rattle.verdict_strikeout.proofs.BlockLaws.{width-none, width-one, width-more}
 use Rattle.verdict_strikeout.proofs.strike.width.Statement.{statement}
 use Rattle.verdict_strikeout.proofs.strike.width.Tie as tie

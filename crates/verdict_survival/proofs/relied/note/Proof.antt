@@ -1,4 +1,4 @@
--- `verdict::relied::note` meets its contract. Assumes nothing.
+-- `verdict_survival::relied::note` meets its contract. Assumes nothing.
 use native.Mathlib.Omega.{arith}
 use mathlib.Core.Path.{_≡_, refl}
 use Prim.Native.Nat.{_-_, _≤_}

@@ -1,4 +1,4 @@
--- `verdict::relied::relied_none` meets its contract. Assumes nothing.
+-- `verdict_survival::relied::relied_none` meets its contract. Assumes nothing.
 use Rattle.verdict_survival.proofs.NoteLaws.{none-numbers}
 use borrow.Author.Needs.{needs}
 use Rattle.verdict_survival.proofs.relied.relied_none.Statement.{statement}

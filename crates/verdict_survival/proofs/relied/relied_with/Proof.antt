@@ -1,4 +1,4 @@
--- `verdict::relied::relied_with` meets its contract. Assumes nothing.
+-- `verdict_survival::relied::relied_with` meets its contract. Assumes nothing.
 use native.Mathlib.Omega.{arith}
 use mathlib.Core.Path.{_≡_}
 use Prim.Native.Nat.{_-_, _≤_}

@@ -1,4 +1,4 @@
--- `verdict::relied::relies_on_left` meets its contract. Assumes nothing.
+-- `verdict_survival::relied::relies_on_left` meets its contract. Assumes nothing.
 use native.Mathlib.Omega.{arith}
 use borrow.Author.Count.{below-more}
 use borrow.Author.Tests.{not-false}

@@ -1,4 +1,4 @@
--- `verdict::relied::sole_struck` meets its contract. Assumes nothing.
+-- `verdict_survival::relied::sole_struck` meets its contract. Assumes nothing.
 use native.Mathlib.Omega.{arith}
 use borrow.Author.Tests.{not-true}
 use Prim.Native.Nat.{_-_, _≤_}

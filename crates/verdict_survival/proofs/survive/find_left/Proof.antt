@@ -1,4 +1,4 @@
--- `verdict::strike::find_left` meets its contract. Assumes nothing.
+-- `verdict_survival::survive::find_left` meets its contract. Assumes nothing.
 use native.Mathlib.Omega.{arith}
 use Rattle.verdict_survival.proofs.LeftLaws.{nothing-left, found-left, found-struck}
 use borrow.Author.Needs.{needs}

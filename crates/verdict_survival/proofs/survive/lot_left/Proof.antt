@@ -8,11 +8,11 @@ use Rattle.verdict_survival.proofs.survive.lot_left.Statement.{statemen
 use Rattle.verdict_survival.proofs.survive.lot_left.Tie as tie
 
 abbrev Inv-names : tie.InvT-names
-Inv-names arities work free apart area others before at place from to second capacity count relied₀ name₀ relied name =
+Inv-names arities work free area others before apart at place from to second capacity count relied₀ name₀ relied name =
     (from ≤ name) × LotSwept arities capacity work count free apart second area at others place from to before relied name
 
 abbrev μ-names : tie.MeasureT-names
-μ-names arities work free apart area others before at place from to second capacity count relied₀ name₀ relied name =
+μ-names arities work free area others before apart at place from to second capacity count relied₀ name₀ relied name =
     to - name
 
 answers-requires : tie.Need-answers-requires Inv-names μ-names
@@ -57,9 +57,9 @@ enum-known-found c = search needs
 relied-with-requires : tie.Need-relied-with-requires Inv-names μ-names
 relied-with-requires c κs =
     let c3 = c .before .before .before in
-    let c9 = c3 .before .before .before .before .before .before in
-    let c20 = c9 .before .before .before .before .before .before .before .before .before .before .before in
-    (c9 .names .inv .1 .numbers, omega (arith, c3 .find-left .ensures .within _ (c .before .found .given .1), c20 .pre .0 .1, c20 .pre .0 .2))
+    let c10 = c3 .before .before .before .before .before .before .before in
+    let c21 = c10 .before .before .before .before .before .before .before .before .before .before .before in
+    (c10 .names .inv .1 .numbers, omega (arith, c3 .find-left .ensures .within _ (c .before .found .given .1), c21 .pre .0 .1, c21 .pre .0 .2))
 
 names-less-2 : tie.Need-names-less-2 Inv-names μ-names
 names-less-2 c = search needs
@@ -68,11 +68,11 @@ names-again-2 : tie.Need-names-again-2 Inv-names μ-names
 names-again-2 c =
     let c4 = c .before .before .before .before in
     let c6 = c4 .before .before in
-    let c8 = c6 .before .before in
-    let c10 = c8 .before .before in (
+    let c9 = c6 .before .before .before in
+    let c11 = c9 .before .before in (
       omega arith,
-      lot-more _ _ _ _ _ _ _ _ _ _ _ _ _ _ _ _ (c8 .counts .ensures) _ _ (c6 .successor .ensures) (c4 .find-left .ensures) _ _ _
-          (c .before .before .found .given .1) (c .relied-with .ensures) (c10 .names .inv .1),
+      lot-more _ _ _ _ _ _ _ _ _ _ _ _ _ _ _ _ (c9 .counts .ensures) _ _ (c6 .successor .ensures) (c4 .find-left .ensures) _ _ _
+          (c .before .before .found .given .1) (c .relied-with .ensures) (c11 .names .inv .1),
     )
 
 enum-told : tie.Need-enum-told Inv-names μ-names
@@ -81,15 +81,15 @@ enum-told c = search needs
 returns-2 : tie.Need-returns-2 Inv-names μ-names
 returns-2 c =
     let c4 = c .before .before .before .before in
-    let c5 = c4 .before in
-    let c6 = c5 .before in
-    let c8 = c6 .before .before in
-    let c12 = c8 .before .before .before .before in
-    let c13 = c12 .before in
-    let c19 = c13 .before .before .before .before .before .before in
-    lot-fails _ _ _ _ _ _ _ _ _ _ _ _ _ _ _ _ (c6 .counts .ensures) _ _ (c4 .successor .ensures) (c .before .before .find-left .ensures)
-    (c8 .names .inv .0) (omega arith) (not-false _ (c5 .if2 .left)) _ (c13 .answers .ensures) (not-false _ (c12 .if1 .left)) (c .enum-told .given .1)
-    (c19 .pre .4)
+    let c6 = c4 .before .before in
+    let c7 = c6 .before in
+    let c9 = c7 .before .before in
+    let c13 = c9 .before .before .before .before in
+    let c14 = c13 .before in
+    let c20 = c14 .before .before .before .before .before .before in
+    lot-fails _ _ _ _ _ _ _ _ _ _ _ _ _ _ _ _ (c7 .counts .ensures) _ _ (c4 .successor .ensures) (c .before .before .find-left .ensures)
+    (c9 .names .inv .0) (omega arith) (not-false _ (c6 .if2 .left)) _ (c14 .answers .ensures) (not-false _ (c13 .if1 .left)) (c .enum-told .given .1)
+    (c20 .pre .4)
 
 returns-3 : tie.Need-returns-3 Inv-names μ-names
 returns-3 c =

@@ -1,4 +1,4 @@
--- `candidates::condition::Condition::both` meets its contract. Assumes nothing.
+-- `steps_conditions::condition::Condition::both` meets its contract. Assumes nothing.
 use mathlib.Core.Path.{_≡_}
 use mathlib.Core.Logic.{⊎-elim}
 use Prim.Native.Nat.{_-_, _≤_}

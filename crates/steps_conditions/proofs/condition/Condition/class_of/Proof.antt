@@ -1,4 +1,4 @@
--- `candidates::condition::Condition::class_of` meets its contract. Assumes nothing.
+-- `steps_conditions::condition::Condition::class_of` meets its contract. Assumes nothing.
 use mathlib.Core.Path.{_∙_}
 use Prim.Native.Nat.{_-_}
 use Rattle.steps_conditions.specs.Conditions.{ClassOfIs}

@@ -1,4 +1,4 @@
--- `candidates::condition::Condition::empty` meets its contract. Assumes nothing.
+-- `steps_conditions::condition::Condition::empty` meets its contract. Assumes nothing.
 use mathlib.Core.Path.{refl, _≡_}
 use Prim.Native.Nat.{_-_, _≤_}
 use native.Mathlib.Omega.{arith}

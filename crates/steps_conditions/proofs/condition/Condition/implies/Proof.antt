@@ -1,4 +1,4 @@
--- `candidates::condition::Condition::implies` meets its contract. Assumes nothing.
+-- `steps_conditions::condition::Condition::implies` meets its contract. Assumes nothing.
 use native.Mathlib.Omega.{arith}
 use borrow.Author.Needs.{needs}
 use mathlib.Core.Path.{refl}

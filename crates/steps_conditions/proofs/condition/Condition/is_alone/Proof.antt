@@ -1,4 +1,4 @@
--- `candidates::condition::Condition::spares` meets its contract. Assumes nothing.
+-- `steps_conditions::condition::Condition::is_alone` meets its contract. Assumes nothing.
 use Rattle.steps_conditions.proofs.ConditionArrays.{level-spared, level-merged}
 use borrow.Author.Needs.{needs}
 use Rattle.steps_conditions.proofs.condition.Condition.is_alone.Statement.{statement}

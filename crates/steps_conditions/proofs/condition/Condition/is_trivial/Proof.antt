@@ -1,4 +1,4 @@
--- `candidates::condition::Condition::is_trivial` meets its contract. Assumes nothing.
+-- `steps_conditions::condition::Condition::is_trivial` meets its contract. Assumes nothing.
 use native.Mathlib.Omega.{arith}
 use borrow.Author.Needs.{needs}
 use mathlib.Core.Logic.{⊎-elim}

@@ -1,4 +1,4 @@
--- `candidates::condition::Condition::merge` meets its contract. Assumes nothing.
+-- `steps_conditions::condition::Condition::merge` meets its contract. Assumes nothing.
 use mathlib.Core.Path.{_≡_, ap, _∙_}
 use Prim.Native.Nat.{_-_, _≤_}
 use native.Mathlib.Omega.{arith}

@@ -1,4 +1,4 @@
--- `candidates::condition::Condition::respects` meets its contract. Assumes nothing.
+-- `steps_conditions::condition::Condition::respects` meets its contract. Assumes nothing.
 use borrow.Author.Needs.{needs}
 use Rattle.steps_conditions.proofs.ClassBytes.{respects-is}
 use Rattle.steps_conditions.proofs.condition.Condition.respects.Statement.{statement}

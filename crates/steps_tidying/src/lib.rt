@@ -1,2 +1,0 @@
-// Results tidied before they are listed.
-pub mod result;
