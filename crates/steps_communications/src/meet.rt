@@ -120,14 +120,14 @@ fn is_between(c: u8, low: u8, high: u8) -> bool
     c <= high
 }
 
-// The kind of a row without the match.
-fn action_kind(kind: u8) -> u8
-    ensures { λ r. ⌜ r ≡ actionKind kind ⌝ }
+// Whether the candidate of a row of this kind receives, beneath a match or not.
+fn receives(kind: u8) -> bool
+    ensures { λ r. ⌜ r ≡ eqb (actionKind kind) 1 ⌝ }
 {
-    if MATCHED < kind {
-        return kind - MATCHED;
+    if kind == INPUT {
+        return true;
     }
-    kind
+    kind == INPUT + MATCHED
 }
 
 // Whether the candidates of two rows may communicate: by their kinds, and by the channel of one and those that may be merged with the other's. A
@@ -135,18 +135,16 @@ fn action_kind(kind: u8) -> u8
 fn may_meet(k1: u8, low: u8, high: u8, k2: u8, c2: u8) -> bool
     ensures { λ r. ⌜ r ≡ meetsBetween k1 low high k2 c2 ⌝ }
 {
-    if k2 == REPEATED {
-        return false;
-    }
-    let a1 = action_kind(k1);
-    let a2 = action_kind(k2);
-    if a1 == INPUT {
-        if a2 == INPUT {
+    if receives(k1) {
+        if k2 == REPEATED {
+            return false;
+        }
+        if receives(k2) {
             return false;
         }
         return is_between(c2, low, high);
     }
-    if a2 == INPUT {
+    if receives(k2) {
         return is_between(c2, low, high);
     }
     false

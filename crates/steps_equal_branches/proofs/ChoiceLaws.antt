@@ -203,13 +203,12 @@ module _ (body : ℕ → Term) (calls : ℕ) (arities : List ℕ) (free D : ℕ)
     pieces-of before (call k xs) at rest scope st m e q = other before (call k xs) at rest (λ z. omega arith) (λ z. omega arith) scope st m e q
 
     -- The right side of a choice, before which the left side stands too.
-    pub offers-right : (before : List Candidate) (root at : ℕ) → Has before root at → getD s at 0 ≡ 6 → (P : Term) (rest : List ℕ) → InScope free arities D P
-        → drop (at + 1) s ≡ encode D P ++ rest → (m : ℕ) → m ≡ at + 1 + length (encode D P) → Has (before ++ seen P) root m
-    offers-right before root at o six P rest scope st m e =
+    pub offers-right : (before : List Candidate) (root at : ℕ) → Has before root at → (P : Term) (rest : List ℕ) → InScope free arities D P
+        → drop at s ≡ encode D P ++ rest → (m : ℕ) → m ≡ at + length (encode D P) → Has (before ++ seen P) root m
+    offers-right before root at (l, k) P rest scope st m e =
         let more : List Candidate = before ++ seen P in
-        let (l, k) = offers-left before root at o six in
-        let (l′, k′) = pieces-of more P (at + 1) rest scope st (λ c i. again-one depth c more (∈-right c before (seen P) i)) m e in
-        (l ++ l′, pieces-join more l l′ root (at + 1) m (pieces-more before more (λ c i. ∈-left c before (seen P) i) l root (at + 1) k) k′)
+        let (l′, k′) = pieces-of more P at rest scope st (λ c i. again-one depth c more (∈-right c before (seen P) i)) m e in
+        (l ++ l′, pieces-join more l l′ root at m (pieces-more before more (λ c i. ∈-left c before (seen P) i) l root at k) k′)
 
 -- The place behind a piece lies behind it.
 pub behind-on : (s t args : List ℕ) (inner depth p : ℕ) → EndsInside s t → p < length s → p < behindPiece s t args inner depth p

@@ -1,6 +1,6 @@
 -- The walk over the bytes of a term puts the rows of its visible candidates, form by form. Assumes nothing.
 use mathlib.Core.Path.{_≡_, refl, sym, ap, ap₂, subst, _∙_}
-use mathlib.Core.Bool.{Bool, true, false}
+use mathlib.Core.Bool.{Bool, true, false, cond}
 use mathlib.Core.List.{List, [], _∷_, _++_, map, append-nil}
 use mathlib.Core.Logic.{inr, ⊎-elim}
 use Prim.Native.Nat.{ℕ, suc, _+_, _-_, _*_, _<_, _≤_}
@@ -8,7 +8,7 @@ use native.Mathlib.Nat.{eq-or-lt-of-le}
 use native.Mathlib.Omega.{arith}
 use lib.ListN.{length, getD, set, drop, length-append, length-map, length-set}
 use lib.Seq.{getD-set-same, getD-set-other}
-use lib.Dec.{ltb}
+use lib.Dec.{ltb, eqb}
 use borrow.Author.Tests.{ltb-true, ltb-false, lt-ltb, le-ltb, eq-eqb, ne-eqb}
 use Rattle.calculus.specs.Abstraction.{Act, inpA, outA, boutA}
 use Rattle.calculus.specs.Cond.{canonical, matchesBelow, above}
@@ -38,7 +38,7 @@ use Rattle.steps_conditions.proofs.SlotLaws.{slot-below}
 use Rattle.steps_passing.proofs.TwoSides.{at-left}
 use Rattle.steps_passing.proofs.TwoSides as two
 use Rattle.steps_placing.specs.Deciding.{fails, decided}
-use Rattle.steps_rows.specs.Rows.{rowBytes, mostRows, kindAt, channelAt, objectAt, actionKind, rowAction, Outlined, Row, RowsBehind, Rows, Matched, RowsKept, PutRowIs, PutRepeatedIs, sentSlot, prefixKind, PrefixRowIs, rootOf, ScanIs}
+use Rattle.steps_rows.specs.Rows.{rowBytes, mostRows, kindAt, channelAt, objectAt, actionKind, rowAction, Outlined, Row, RowsBehind, Rows, Matched, RowsKept, PutRowIs, PutRepeatedIs, sentSlot, prefixKind, PrefixRowIs, behindRoot, rootOf, ScanIs}
 use Rattle.steps_equal_branches.specs.BranchRows.{isTrivial, Offers, RepeatedIs}
 use Rattle.steps_equal_branches.proofs.ChoiceLaws.{trivial-slots, trivial-names, offers-alone, offers-left, offers-beneath, offers-right}
 use Rattle.steps_rows.proofs.RowLaws.{row-input, row-output, row-new, rows-again, rows-more, rows-append, rows-matching, rows-trivial, rows-par, rows-res, kind-kept, rows-kept, matched-kept, kept-all, kept-then}
@@ -169,6 +169,17 @@ module _ (t root at : ℕ) where
   root-other : (t ≡ 6 → ⊥) → rootOf t root at ≡ at
   unfolding rootOf
   root-other n = simp (ne-eqb t 6 n)
+
+-- What the choice has before a term stays so without its first piece.
+module _ (body : ℕ → Term) (calls : ℕ) (arities : List ℕ) (free D : ℕ) (σ : ℕ → ℕ) (s args : List ℕ) (inner depth : ℕ) (before : List Candidate) where
+  offers-behind : (root at next : ℕ) → Offers body calls arities free D σ s args inner depth before root next
+      → Offers body calls arities free D σ s args inner depth before (behindRoot root at next) next
+  unfolding behindRoot
+  offers-behind root at next o = go (eqb root at)
+    where
+      go : (b : Bool) → Offers body calls arities free D σ s args inner depth before (cond b next root) next
+      go true = offers-alone body calls arities free D σ s args inner depth before next
+      go false = o
 
 -- One row.
 module _ (d kind channel object : ℕ) (rows : List ℕ) (n : ℕ) (k : kindAt rows n ≡ kind) where
@@ -302,10 +313,10 @@ module _ (question s : List ℕ) (root at : ℕ) (asked : Bool) (args : List ℕ
   }
 
   -- [Match] of a name with itself
-  pub scan-trivial : isTrivial s args inner depth at ≡ true → (r : ℕ) (rows′ : List ℕ) → ScanIs question s root (at + 3) asked args inner depth calls n rows r rows′
-      → ScanIs question s root at asked args inner depth calls n rows r rows′
+  pub scan-trivial : isTrivial s args inner depth at ≡ true → (begin : ℕ) → begin ≡ behindRoot root at (at + 3) → (r : ℕ) (rows′ : List ℕ)
+      → ScanIs question s begin (at + 3) asked args inner depth calls n rows r rows′ → ScanIs question s root at asked args inner depth calls n rows r rows′
   unfolding visible visibleOf InScope encode
-  scan-trivial t r rows′ X = record {
+  scan-trivial t begin begins r rows′ X = record {
     on = X .on;
     inside = X .inside;
     kept = X .kept;
@@ -315,7 +326,9 @@ module _ (question s : List ℕ) (root at : ℕ) (asked : Bool) (args : List ℕ
         let m : length (map (matching (σ a) (σ b)) cs) ≡ length cs = length-map cs (matching (σ a) (σ b)) in
         let same = trivial-names free D σ s args inner depth few has (q .arities) a b P at rest scope st t in
         let w = X .is q free D σ P rest before ok few has (scope .2) (behind s at 3 (5 ∷ nameByte D a ∷ nameByte D b ∷ []) (encode D P ++ rest) st refl)
-        (offers-beneath (bodyOf (q .bodies)) calls (q .arities) free D σ s args inner depth before root at o t) (omega arith) in
+        (subst (λ (i : ℕ). Offers (bodyOf (q .bodies)) calls (q .arities) free D σ s args inner depth before i (at + 3)) (sym begins)
+        (offers-behind (bodyOf (q .bodies)) calls (q .arities) free D σ s args inner depth before root at (at + 3)
+        (offers-beneath (bodyOf (q .bodies)) calls (q .arities) free D σ s args inner depth before root at o t))) (omega arith) in
         (w .0 ∙ omega arith, rows-trivial rows′ n depth (σ a) (σ b) same before cs (w .1), λ e. rw m (w .2 e)))
         P (sym (tag-at s at D P rest st) ∙ trivial-slots s args inner depth at t .0) scope st;
   }
@@ -359,7 +372,7 @@ module _ (question s : List ℕ) (root at : ℕ) (asked : Bool) (args : List ℕ
 
   -- A choice or a parallel: the left side's rows, then the right side's.
   module _ (l : 5 < getD s at 0) (g : getD s at 0 < 8) (numbers : List ℕ) (T : TallyIs question s calls numbers) (middle : ℕ) (N : MiddleIs s numbers at middle)
-      (left : ℕ) (begins : left ≡ rootOf (getD s at 0) root (at + 1)) (right : ℕ) (begins₂ : right ≡ rootOf (getD s at 0) root middle) (r₁ : ℕ) (rows₁ : List ℕ)
+      (begin : ℕ) (behinds : begin ≡ behindRoot root at (at + 1)) (left : ℕ) (begins : left ≡ rootOf (getD s at 0) begin (at + 1)) (right : ℕ) (begins₂ : right ≡ rootOf (getD s at 0) begin middle) (r₁ : ℕ) (rows₁ : List ℕ)
       (X : ScanIs question s left (at + 1) asked args inner depth calls n rows r₁ rows₁) (r : ℕ) (rows′ : List ℕ)
       (Y : ScanIs question s right middle asked args inner depth calls r₁ rows₁ r rows′) where
     sides : (q : Question) (free D : ℕ) (σ : ℕ → ℕ) (P Q : Term) (rest : List ℕ) (before before₁ before₂ : List Candidate) → checkOf question ≡ result q → free ≤ nameCount
@@ -379,6 +392,14 @@ module _ (question s : List ℕ) (root at : ℕ) (asked : Bool) (args : List ℕ
           λ t. rw m (matched-both rows′ n (length ps) (length qs) (matched-kept r₁ rows₁ rows′ (Y .kept) (length ps) n (omega arith) (u t)) (subst (Matched (length qs) rows′) e (u₂ t))),
         )
 
+    -- before the left side
+    ahead : (q : Question) (free D : ℕ) (σ : ℕ → ℕ) (before : List Candidate) → Offers (bodyOf (q .bodies)) calls (q .arities) free D σ s args inner depth before root at
+        → getD s at 0 ≡ 6 → Offers (bodyOf (q .bodies)) calls (q .arities) free D σ s args inner depth before begin (at + 1)
+    ahead q free D σ before o t =
+        subst (λ (i : ℕ). Offers (bodyOf (q .bodies)) calls (q .arities) free D σ s args inner depth before i (at + 1)) (sym behinds)
+        (offers-behind (bodyOf (q .bodies)) calls (q .arities) free D σ s args inner depth before root at (at + 1)
+        (offers-left (bodyOf (q .bodies)) calls (q .arities) free D σ s args inner depth before root at o t))
+
     pub scan-two : ScanIs question s root at asked args inner depth calls n rows r rows′
     unfolding InScope encode
     scan-two = record {
@@ -393,16 +414,15 @@ module _ (question s : List ℕ) (root at : ℕ) (asked : Bool) (args : List ℕ
           let sl = at-left D s at P Q rest 6 st in
           let m = two.middle-is question s calls numbers T at middle N q free D σ P Q rest ok (scope .0) (scope .1) sl in
           sides q free D σ P Q rest before before (before ++ seen q σ P) ok few has (scope .0) (scope .1) sl
-          (subst (λ (i : ℕ). Offers body calls (q .arities) free D σ s args inner depth before i (at + 1)) (sym (begins ∙ root-choice (getD s at 0) root (at + 1) t))
-          (offers-left body calls (q .arities) free D σ s args inner depth before root at o t))
-          (subst (λ (i : ℕ). Offers body calls (q .arities) free D σ s args inner depth (before ++ seen q σ P) i middle) (sym (begins₂ ∙ root-choice (getD s at 0) root middle t))
-          (offers-right body calls (q .arities) free D σ s args inner depth few has before root at o t P (encode D Q ++ rest) (scope .0) sl middle m))
+          (subst (λ (i : ℕ). Offers body calls (q .arities) free D σ s args inner depth before i (at + 1)) (sym (begins ∙ root-choice (getD s at 0) begin (at + 1) t)) (ahead q free D σ before o t))
+          (subst (λ (i : ℕ). Offers body calls (q .arities) free D σ s args inner depth (before ++ seen q σ P) i middle) (sym (begins₂ ∙ root-choice (getD s at 0) begin middle t))
+          (offers-right body calls (q .arities) free D σ s args inner depth few has before begin (at + 1) (ahead q free D σ before o t) P (encode D Q ++ rest) (scope .0) sl middle m))
           _ (many-sum body calls (ren σ P) (ren σ Q)) (rows-sum body calls rows′ n depth before (ren σ P) (ren σ Q)))
           (λ P Q t scope st.
           sides q free D σ P Q rest before [] [] ok few has (scope .0) (scope .1) (at-left D s at P Q rest 7 st)
-          (subst (λ (i : ℕ). Offers body calls (q .arities) free D σ s args inner depth [] i (at + 1)) (sym (begins ∙ root-other (getD s at 0) root (at + 1) (λ z. omega arith)))
+          (subst (λ (i : ℕ). Offers body calls (q .arities) free D σ s args inner depth [] i (at + 1)) (sym (begins ∙ root-other (getD s at 0) begin (at + 1) (λ z. omega arith)))
           (offers-alone body calls (q .arities) free D σ s args inner depth [] (at + 1)))
-          (subst (λ (i : ℕ). Offers body calls (q .arities) free D σ s args inner depth [] i middle) (sym (begins₂ ∙ root-other (getD s at 0) root middle (λ z. omega arith)))
+          (subst (λ (i : ℕ). Offers body calls (q .arities) free D σ s args inner depth [] i middle) (sym (begins₂ ∙ root-other (getD s at 0) begin middle (λ z. omega arith)))
           (offers-alone body calls (q .arities) free D σ s args inner depth [] middle))
           _ (many-par body calls (ren σ P) (ren σ Q)) (λ f g. behind-all before rows′ _ (rows-par body calls rows′ n depth (ren σ P) (ren σ Q) f g)))
           P (omega arith) (omega arith) k scope st;

@@ -119,6 +119,10 @@ prefixKind t asked = cond asked (t + 3) (t - 1)
 abbrev pub PrefixRowIs : List ℕ → ℕ → Bool → List ℕ → ℕ → ℕ → ℕ → List ℕ → ℕ → List ℕ → Type 0
 PrefixRowIs s at asked args inner depth = PutRowIs (prefixKind (getD s at 0) asked) (slotAt args inner depth (getD s (at + 1) 0)) (sentSlot s at args inner depth)
 
+-- Where the choice that begins at `root` and stands at `at` begins for what is behind its first byte or match: that is no branch.
+unfoldable pub behindRoot : (root at next : ℕ) → ℕ
+behindRoot root at next = cond (eqb root at) next root
+
 -- Where the choice of a side at `at` begins: the sides of a choice belong to its own, and any other side stands alone.
 unfoldable pub rootOf : (t root at : ℕ) → ℕ
 rootOf t root at = cond (eqb t 6) root at

@@ -8,7 +8,7 @@ ghost use Rattle.terms.specs.Limits.{nameCount, longestTerm};
 ghost use Rattle.steps_labels.specs.LabelWalk.{Within};
 ghost use Rattle.steps_conditions.specs.Slots.{slotCount};
 ghost use Rattle.steps_tallies.specs.Tally.{EndsInside, TallyIs, EndsTallied, BodiesTallied};
-ghost use Rattle.steps_rows.specs.Rows.{HasRows, PutRowIs, prefixKind, PrefixRowIs, PutRepeatedIs, rootOf, ScanIs, UnconditionalIs};
+ghost use Rattle.steps_rows.specs.Rows.{HasRows, PutRowIs, prefixKind, PrefixRowIs, PutRepeatedIs, behindRoot, rootOf, ScanIs, UnconditionalIs};
 ghost use Rattle.steps_equal_branches.specs.BranchRows.{isTrivial, isFailing, behindPiece, RepeatedIs};
 use steps_equal_branches::same::same_branch;
 use steps_labels::label::Scope;
@@ -127,6 +127,17 @@ fn root_of(t: u8, root: usize, at: usize) -> usize
         return root;
     }
     at
+}
+
+// Where a choice that begins at `root` begins for what stands at `next`, behind its byte or match at `at`: the first of them is no branch, and is not
+// looked at again.
+fn behind_root(root: usize, at: usize, next: usize) -> usize
+    ensures { λ r. ⌜ r ≡ behindRoot root at next ⌝ }
+{
+    if root == at {
+        return next;
+    }
+    root
 }
 
 // Whether a match of a name with itself stands at `at`: it asks nothing.
@@ -342,7 +353,12 @@ pub fn scan(
             depth,
             calls,
         };
-        return scan(question, bodies, src, tally, behind, args, rows, branch);
+        let same = RowBranch {
+            root: behind_root(root, at, next),
+            asked,
+            row: n,
+        };
+        return scan(question, bodies, src, tally, behind, args, rows, same);
     }
     if t != CHOICE {
         if adds_nothing(question, src, tally, root, at, args, inner, depth) {
@@ -389,7 +405,8 @@ pub fn scan(
     }
     let middle = middle_of(src, tally, at);
     let first = at + 1;
-    let left_root = root_of(t, root, first);
+    let begins = behind_root(root, at, first);
+    let left_root = root_of(t, begins, first);
     let left = Scope {
         at: first,
         inner,
@@ -402,7 +419,7 @@ pub fn scan(
         row: n,
     };
     let m = scan(question, bodies, src, tally, left, args, rows, left_branch);
-    let right_root = root_of(t, root, middle);
+    let right_root = root_of(t, begins, middle);
     let right = Scope {
         at: middle,
         inner,

@@ -27,6 +27,7 @@ use Rattle.steps_passing.proofs.pass.middle_of.Reads as middle-of-reads
 use Rattle.steps_rows.proofs.rows.adds_nothing.Reads as adds-nothing-reads
 use Rattle.steps_rows.proofs.rows.is_trivial.Reads as is-trivial-reads
 use Rattle.steps_rows.proofs.rows.put_repeated.Reads as put-repeated-reads
+use Rattle.steps_rows.proofs.rows.behind_root.Reads as behind-root-reads
 use Rattle.steps_rows.proofs.rows.root_of.Reads as root-of-reads
 use Rattle.steps_rows.proofs.rows.scan_prefix.Reads as scan-prefix-reads
 use Rattle.steps_tallies.proofs.tally.body_tally.Reads as body-tally-reads
@@ -57,6 +58,8 @@ abbrev scan-claims : ℕ → scan-lts.Claims
 scan-claims t = (
   is-trivial-reads.Asked,
   is-trivial-reads.Learnt,
+  behind-root-reads.Asked,
+  behind-root-reads.Learnt,
   scan-below t,
   scan.Post,
   adds-nothing-reads.Asked,
@@ -103,6 +106,9 @@ scan-is-trivial-requires t c κs =
     let w = c9 .pre .1 .0 .room in
     (c .before .before .if1 .left, c9 .pre .1 .0 .outer, omega arith)
 
+scan-behind-root-requires : (t : ℕ) → scan-lts.Need-behind-root-requires (scan-claims t) (scan-at t) scan.Post
+scan-behind-root-requires t c κs = search needs
+
 scan-add-next : (t : ℕ) → scan-lts.Need-add-next (scan-claims t) (scan-at t) scan.Post
 scan-add-next t c =
     let c4 = c .before .before .before .before in
@@ -112,11 +118,11 @@ scan-add-next t c =
 
 scan-scan-requires : (t : ℕ) → scan-lts.Need-scan-requires (scan-claims t) (scan-at t) scan.Post
 scan-scan-requires t c κs =
-    let c5 = c .before .before .before .before .before in
-    let c12 = c5 .before .before .before .before .before .before .before in
-    let a = c12 .args in
-    let p = c12 .pre in (
-      weight-on (a .scope .calls * 113) (length (a .src .now)) (a .scope .at) (a .scope .at + 3) t 3 (p .0) (omega arith) (c5 .if1 .left),
+    let c6 = c .before .before .before .before .before .before in
+    let c13 = c6 .before .before .before .before .before .before .before in
+    let a = c13 .args in
+    let p = c13 .pre in (
+      weight-on (a .scope .calls * 113) (length (a .src .now)) (a .scope .at) (a .scope .at + 3) t 3 (p .0) (omega arith) (c6 .if1 .left),
       (
         room-on
             (a .src .now) (a .scope .at) (a .scope .at + 3) (a .scope .inner) (a .scope .depth) (a .scope .calls) (p .1 .0) (omega arith),
@@ -131,13 +137,13 @@ scan-same-length t c = search needs
 
 scan-returns-3 : (t : ℕ) → scan-lts.Need-returns-3 (scan-claims t) (scan-at t) scan.Post
 scan-returns-3 t c =
-    let c4 = c .before .before .before .before in
-    let c5 = c4 .before in
-    let c15 = c5 .before .before .before .before .before .before .before .before .before .before in
-    let a = c15 .args in
-    let p = c15 .pre in
+    let c5 = c .before .before .before .before .before in
+    let c6 = c5 .before in
+    let c16 = c6 .before .before .before .before .before .before .before .before .before .before in
+    let a = c16 .args in
+    let p = c16 .pre in
     scan-trivial (a .question .now) (a .src .now) (a .branch .root) (a .scope .at) (a .branch .asked) (a .args .now) (a .scope .inner)
-    (a .scope .depth) (a .scope .calls) (a .branch .row) (a .rows .now) (sym (c5 .is-trivial .ensures) ∙ c4 .if3 .taken) _ _
+    (a .scope .depth) (a .scope .calls) (a .branch .row) (a .rows .now) (sym (c6 .is-trivial .ensures) ∙ c5 .if3 .taken) (c .before .before .before .before .behind-root .result) (c .before .before .before .before .behind-root .ensures) _ _
     (c .before .before .scan .ensures)
 
 scan-adds-nothing-requires : (t : ℕ) → scan-lts.Need-adds-nothing-requires (scan-claims t) (scan-at t) scan.Post
@@ -321,16 +327,19 @@ scan-add-first t c =
     let w = c17 .pre .1 .0 .short in
     omega (arith, c10 .if1 .left)
 
+scan-behind-root-requires-2 : (t : ℕ) → scan-lts.Need-behind-root-requires-2 (scan-claims t) (scan-at t) scan.Post
+scan-behind-root-requires-2 t c κs = search needs
+
 scan-root-of-requires : (t : ℕ) → scan-lts.Need-root-of-requires (scan-claims t) (scan-at t) scan.Post
 scan-root-of-requires t c κs = search needs
 
 scan-scan-requires-4 : (t : ℕ) → scan-lts.Need-scan-requires-4 (scan-claims t) (scan-at t) scan.Post
 scan-scan-requires-4 t c κs =
-    let c12 = c .before .before .before .before .before .before .before .before .before .before .before .before in
-    let c19 = c12 .before .before .before .before .before .before .before in
-    let a = c19 .args in
-    let p = c19 .pre in (
-      weight-on (a .scope .calls * 113) (length (a .src .now)) (a .scope .at) (a .scope .at + 1) t 3 (p .0) (omega arith) (c12 .if1 .left),
+    let c13 = c .before .before .before .before .before .before .before .before .before .before .before .before .before in
+    let c20 = c13 .before .before .before .before .before .before .before in
+    let a = c20 .args in
+    let p = c20 .pre in (
+      weight-on (a .scope .calls * 113) (length (a .src .now)) (a .scope .at) (a .scope .at + 1) t 3 (p .0) (omega arith) (c13 .if1 .left),
       (
         room-on
             (a .src .now) (a .scope .at) (a .scope .at + 1) (a .scope .inner) (a .scope .depth) (a .scope .calls) (p .1 .0) (omega arith),
@@ -346,19 +355,19 @@ scan-root-of-requires-2 t c κs = search needs
 scan-scan-requires-5 : (t : ℕ) → scan-lts.Need-scan-requires-5 (scan-claims t) (scan-at t) scan.Post
 scan-scan-requires-5 t c κs =
     let a =
-    c .before .before .before .before .before .before .before .before .before .before .before .before .before .before .before .before .before .before .before .before .before .before .before .before .args
+    c .before .before .before .before .before .before .before .before .before .before .before .before .before .before .before .before .before .before .before .before .before .before .before .before .before .args
     in let p =
-    c .before .before .before .before .before .before .before .before .before .before .before .before .before .before .before .before .before .before .before .before .before .before .before .before .pre
+    c .before .before .before .before .before .before .before .before .before .before .before .before .before .before .before .before .before .before .before .before .before .before .before .before .before .pre
     in let on = middle-on (a .question .now) (a .src .now) (a .scope .calls) (a .tally .now) (p .1 .1) (a .scope .at)
-    (c .before .before .before .before .before .before .before .middle-of .result)
-    (c .before .before .before .before .before .before .before .middle-of .ensures)
-    (c .before .before .before .before .before .before .before .before .before .before .before .before .before .before .before .before .before .if1 .left)
+    (c .before .before .before .before .before .before .before .before .middle-of .result)
+    (c .before .before .before .before .before .before .before .before .middle-of .ensures)
+    (c .before .before .before .before .before .before .before .before .before .before .before .before .before .before .before .before .before .before .if1 .left)
     in (
-      weight-on (a .scope .calls * 113) (length (a .src .now)) (a .scope .at) (c .before .before .before .before .before .before .before .middle-of .result) t 3
+      weight-on (a .scope .calls * 113) (length (a .src .now)) (a .scope .at) (c .before .before .before .before .before .before .before .before .middle-of .result) t 3
           (p .0) (on)
-          (c .before .before .before .before .before .before .before .before .before .before .before .before .before .before .before .before .before .if1 .left),
+          (c .before .before .before .before .before .before .before .before .before .before .before .before .before .before .before .before .before .before .if1 .left),
       (
-        room-on (a .src .now) (a .scope .at) (c .before .before .before .before .before .before .before .middle-of .result) (a .scope .inner) (a .scope .depth) (a .scope .calls)
+        room-on (a .src .now) (a .scope .at) (c .before .before .before .before .before .before .before .before .middle-of .result) (a .scope .inner) (a .scope .depth) (a .scope .calls)
             (p .1 .0) (omega arith),
         p .1 .1,
         p .1 .2,
@@ -375,7 +384,8 @@ scan-returns-9 t c =
     let c7 = c4 .before .before .before in
     let c9 = c7 .before .before in
     let c10 = c9 .before in
-    let c11 = c10 .before in
+    let c10b = c10 .before in
+    let c11 = c10b .before in
     let c12 = c11 .before in
     let c13 = c12 .before in
     let c14 = c13 .before in
@@ -384,7 +394,7 @@ scan-returns-9 t c =
     let p = c27 .pre in
     scan-two (a .question .now) (a .src .now) (a .branch .root) (a .scope .at) (a .branch .asked) (a .args .now) (a .scope .inner) (a .scope .depth)
     (a .scope .calls) (a .branch .row) (a .rows .now) (omega (arith, c14 .if6 .left, c13 .if7 .left)) (omega (arith, c12 .if8 .left, c11 .if9 .left))
-    (a .tally .now) (p .1 .1) (c10 .middle-of .result) (c10 .middle-of .ensures) (c9 .root-of .result) (c9 .root-of .ensures) (c4 .root-of2 .result)
+    (a .tally .now) (p .1 .1) (c10b .middle-of .result) (c10b .middle-of .ensures) (c10 .behind-root2 .result) (c10 .behind-root2 .ensures) (c9 .root-of .result) (c9 .root-of .ensures) (c4 .root-of2 .result)
     (c4 .root-of2 .ensures) _ _ (c7 .scan4 .ensures) _ _ (c .before .before .scan5 .ensures)
 
 scan-call-call-at-requires : (t : ℕ) → scan-call-lts.Need-call-at-requires (scan-call-claims t) (scan-call-at t) scan-call.Post
@@ -494,6 +504,7 @@ pub +scan+scan-call-spec : {M : Type 1} → statement M
     (scan-returns-2 t)
     (scan-is-trivial-requires t)
     (scan-add-next t)
+    (scan-behind-root-requires t)
     (scan-scan-requires t)
     (scan-same-length t)
     (scan-returns-3 t)
@@ -520,6 +531,7 @@ pub +scan+scan-call-spec : {M : Type 1} → statement M
     (scan-returns-8 t)
     (scan-middle-of-requires t)
     (scan-add-first t)
+    (scan-behind-root-requires-2 t)
     (scan-root-of-requires t)
     (scan-scan-requires-4 t)
     (scan-root-of-requires-2 t)
