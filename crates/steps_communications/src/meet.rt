@@ -2,6 +2,7 @@
 ghost use mathlib.Core.Path.{_≡_};
 ghost use mathlib.Core.Bool.{true};
 ghost use Prim.Native.Nat.{_+_, _*_, _≤_, _<_};
+ghost use lib.Dec.{eqb};
 ghost use lib.ListN.{length, getD};
 ghost use Rattle.terms.specs.Limits.{nameCount, longestTerm};
 ghost use Rattle.steps_tallies.specs.Tally.{restrictedAt};
@@ -31,6 +32,8 @@ use terms_renaming::tables::merging;
 
 // The kind of an input; the others are outputs.
 const INPUT: u8 = 1;
+
+const MATCHED_INPUT: u8 = INPUT + MATCHED;
 
 const FREE_OUTPUT: u8 = 2;
 
@@ -127,7 +130,10 @@ fn receives(kind: u8) -> bool
     if kind == INPUT {
         return true;
     }
-    kind == INPUT + MATCHED
+    if kind == MATCHED_INPUT {
+        return true;
+    }
+    false
 }
 
 // Whether the candidates of two rows may communicate: by their kinds, and by the channel of one and those that may be merged with the other's. A
