@@ -494,3 +494,24 @@ pub fn unconditional(
     }
     unconditional(question, bodies, src, tally, middle, calls)
 }
+
+// The rows of a component of a part. Most components are calls, which are opened at once: they are no branches of a choice.
+pub fn scan_component(
+    question: &[u8],
+    bodies: &[u32],
+    src: &[u8],
+    tally: &[u32],
+    scope: Scope,
+    args: &[u8],
+    rows: &mut [u8],
+    branch: RowBranch,
+) -> usize
+    requires { ⌜ (scope .at < length (now src)) × Within (now src) (scope .at) (scope .inner) (scope .depth) (scope .calls) × TallyIs (now question) (now src) (scope .calls) (now tally) × BodiesTallied (now question) (now bodies) × HasRows (now rows) (branch .row) ⌝ }
+    ensures { λ r. ⌜ ScanIs (now (question .entry)) (now (src .entry)) (branch .root) (scope .at) (branch .asked) (now (args .entry)) (scope .inner) (scope .depth) (scope .calls) (branch .row) (now (rows .entry)) r (now (rows .exit)) ⌝ }
+{
+    let at = scope.at;
+    if src[at] == CALL {
+        return scan_call(question, bodies, src, scope, args, rows, branch);
+    }
+    scan(question, bodies, src, tally, scope, args, rows, branch)
+}

@@ -26,7 +26,7 @@ use steps_rows::rows::MOST_ROWS;
 use steps_rows::rows::REPEATED;
 use steps_rows::rows::ROW_BYTES;
 use steps_rows::rows::RowBranch;
-use steps_rows::rows::scan;
+use steps_rows::rows::scan_component;
 use steps_rows::rows::unconditional;
 use steps_splicing::splice::Position;
 use steps_splicing::splice::Selection;
@@ -315,7 +315,7 @@ fn component(
         asked: false,
         row: n,
     };
-    let last = scan(question, bodies, part, tally, scope, &none, rows, branch);
+    let last = scan_component(question, bodies, part, tally, scope, &none, rows, branch);
     let own = OwnRows {
         first: n,
         last,

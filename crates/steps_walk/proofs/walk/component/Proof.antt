@@ -5,12 +5,13 @@ use borrow.Author.Needs.{needs}
 use Rattle.steps_walk.proofs.walk.component.Statement.{statement}
 use Rattle.steps_walk.proofs.walk.component.Tie as tie
 
-slice-aggregate-scan : tie.Need-slice-aggregate-scan
-slice-aggregate-scan c = search needs
+slice-aggregate-scan-component : tie.Need-slice-aggregate-scan-component
+slice-aggregate-scan-component c = search needs
 
-scan-requires : tie.Need-scan-requires
-scan-requires c κs =
+scan-component-requires : tie.Need-scan-component-requires
+scan-component-requires c κs =
     let g = c .before .before .before .before .before .before .before .before .pre in let s = g .0 .1 .0 in let i = g .1 .0 in let j = g .1 .1 in (
+      g .1 .1,
       record { short = g .0 .1 .0; once = search needs; outer = search needs; room = omega arith },
       g .0 .1 .1,
       g .0 .1 .2,
@@ -33,7 +34,7 @@ returns c =
     let c17 = c8 .before .before .before .before .before .before .before .before .before in
     let v = c17 .args in
     walk-passed (v .question .now) (v .part .now) (v .node .at) (v .node .depth) (v .node .number) (v .node .x) (v .rows .now) (v .walked .rows)
-    (v .area .now) (v .walked .count) (c17 .pre .5) (c17 .pre .6) _ (c8 .scan .result) _ (c8 .scan .ensures) (c3 .take-rows .result) _
+    (v .area .now) (v .walked .count) (c17 .pre .5) (c17 .pre .6) _ (c8 .scan-component .result) _ (c8 .scan-component .ensures) (c3 .take-rows .result) _
     (c3 .take-rows .ensures) (c .if1 .taken)
 
 take-silent-requires : tie.Need-take-silent-requires
@@ -54,8 +55,8 @@ returns-2 c =
     (v .area .now) (v .walked .count)
     (c .before .before .before .before .before .before .before .before .before .before .before .before .before .before .before .before .before .before .before .before .before .pre .5)
     (c .before .before .before .before .before .before .before .before .before .before .before .before .before .before .before .before .before .before .before .before .before .pre .6)
-    _ (c .before .before .before .before .before .before .before .before .before .before .before .before .scan .result) _
-    (c .before .before .before .before .before .before .before .before .before .before .before .before .scan .ensures)
+    _ (c .before .before .before .before .before .before .before .before .before .before .before .before .scan-component .result) _
+    (c .before .before .before .before .before .before .before .before .before .before .before .before .scan-component .ensures)
     (c .before .before .before .before .before .before .before .take-rows .result) _
     (c .before .before .before .before .before .before .before .take-rows .ensures) (search needs) (c .before .before .take-silent .result) _
     (c .before .before .take-silent .ensures)
@@ -64,8 +65,8 @@ pub component-spec : {M : Type 1} → statement M
 component-spec =
     tie.close
     (tie.spec
-    slice-aggregate-scan
-    scan-requires
+    slice-aggregate-scan-component
+    scan-component-requires
     take-rows-requires
     same-length
     same-length-2
