@@ -31,7 +31,7 @@ eqb-suc i n = go (eqb i n) refl
     go true e = let q = eqb-true i n e in eq-eqb (1 + i) (suc n) (omega arith)
     go false e = ne-eqb (1 + i) (suc n) (λ q. eqb-false i n e (omega arith))
 
-among-lower : (xs : List ℕ) (i : ℕ) → among (lowerL xs) i ≡ among xs (1 + i)
+pub among-lower : (xs : List ℕ) (i : ℕ) → among (lowerL xs) i ≡ among xs (1 + i)
 unfolding lowerL among
 among-lower [] i = refl
 among-lower (zero ∷ xs) i = rw (ne-eqb (1 + i) zero (λ q. omega arith)) (among-lower xs i)
@@ -45,18 +45,22 @@ pub or-assoc : (a b c : Bool) → (a || b) || c ≡ a || (b || c)
 or-assoc true b c = refl
 or-assoc false b c = refl
 
-among-append : (xs ys : List ℕ) (i : ℕ) → among (xs ++ ys) i ≡ among xs i || among ys i
+pub or-neither : (a b : Bool) → a || b ≡ false → (a ≡ false) × (b ≡ false)
+or-neither false b e = (refl, e)
+or-neither true b e = let z : _≡_ {A = ℕ} 0 1 = cc in absurd (omega arith)
+
+pub among-append : (xs ys : List ℕ) (i : ℕ) → among (xs ++ ys) i ≡ among xs i || among ys i
 unfolding among
 among-append [] ys i = refl
 among-append (x ∷ xs) ys i = ap (λ (b : Bool). eqb i x || b) (among-append xs ys i) ∙ sym (or-assoc (eqb i x) (among xs i) (among ys i))
 
 -- whether a name is free in one of the terms
-usedBy : List Term → ℕ → Bool
+unfoldable pub usedBy : List Term → ℕ → Bool
 usedBy [] i = false
 usedBy (P ∷ Ps) i = among (fn P) i || usedBy Ps i
 
 -- A name is free in a term if it is one of the names at its front, or free in a subterm.
-among-parts : (P : Term) (i : ℕ) → among (fn P) i ≡ among (ownNames P) i || usedBy (subterms P) (binders P + i)
+pub among-parts : (P : Term) (i : ℕ) → among (fn P) i ≡ among (ownNames P) i || usedBy (subterms P) (binders P + i)
 unfolding fn among ownNames usedBy subterms binders
 among-parts nil i = refl
 among-parts (tau P) i = rw (or-false, zero-add)
@@ -83,7 +87,7 @@ byte-is free d n inner few l h = go (ltb n d) refl
         let k = ltb-false n d e in
         rw (byte-free d n k, ne-eqb (128 + inner) (n - d) (λ q. omega arith), ne-eqb inner n (λ q. omega arith))
 
-among-bytes : (free d inner : ℕ) → free ≤ tableNames → inner < d → (ns : List ℕ) → NamesInScope free d ns
+pub among-bytes : (free d inner : ℕ) → free ≤ tableNames → inner < d → (ns : List ℕ) → NamesInScope free d ns
     → among (map (nameByte d) ns) (128 + inner) ≡ among ns inner
 unfolding among NamesInScope
 among-bytes free d inner few h [] s = refl
@@ -149,6 +153,16 @@ use-front-read s at arities inner h used is fit found = record {
 length-parts : (d : ℕ) (P : Term) → length (encode d P) ≡ length (frontBytes d P) + length (encodeAll (binders P + d) (subterms P))
 length-parts d P = ap length (encode-parts d P) ∙ length-append (frontBytes d P) (encodeAll (binders P + d) (subterms P))
 
+-- What stands behind the front of a term.
+pub behind : (s : List ℕ) (at n d : ℕ) (P : Term) (rest : List ℕ) (Ps : List Term) → n ≡ length (frontBytes d P) → drop at s ≡ encode d P ++ rest
+    → subterms P ≡ Ps → drop (at + n) s ≡ encodeAll (binders P + d) Ps ++ rest
+behind s at n d P rest Ps len st q =
+    rw (len, ← drop-drop, st, encode-parts d P, append-assoc (frontBytes d P) (encodeAll (binders P + d) (subterms P)) rest, drop-append-seam, q)
+
+pub size-behind : (n d : ℕ) (P : Term) (Ps : List Term) → n ≡ length (frontBytes d P) → subterms P ≡ Ps
+    → length (encode d P) ≡ n + length (encodeAll (binders P + d) Ps)
+size-behind n d P Ps len q = length-parts d P ∙ rw (len, q)
+
 -- No term stands past the end, or where its front does not fit.
 pub none-past : (s : List ℕ) (at : ℕ) (arities : List ℕ) → length s ≤ at → (free d : ℕ) (P : Term) (rest : List ℕ) → InScope free arities d P → drop at s ≡ encode d P ++ rest → ⊥
 none-past s at arities past free d P rest scope e =
@@ -176,11 +190,10 @@ module _ (s : List ℕ) (at : ℕ) (arities : List ℕ) (inner : ℕ) (h : UseFr
       beneath Ps q = rw (among-parts P inner, ← x .3, unused, q)
 
       part : (Ps : List Term) → subterms P ≡ Ps → drop (at + h .len) s ≡ encodeAll (binders P + d) Ps ++ rest
-      part Ps q =
-          rw (x .0, ← drop-drop, st, encode-parts d P, append-assoc (frontBytes d P) (encodeAll (binders P + d) (subterms P)) rest, drop-append-seam, q)
+      part Ps q = behind s at (h .len) d P rest Ps (x .0) st q
 
       size : (Ps : List Term) → subterms P ≡ Ps → length (encode d P) ≡ h .len + length (encodeAll (binders P + d) Ps)
-      size Ps q = length-parts d P ∙ rw (x .0, q)
+      size Ps q = size-behind (h .len) d P Ps (x .0) q
 
     pub unused-none : h .subterms ≡ 0 → UnusedTo s at arities inner (at + h .len)
     unfolding UnusedTo usedBy encodeAll
