@@ -34,7 +34,7 @@ use Rattle.steps_tallies.specs.Bodies.{AritiesIs}
 use Rattle.steps_tallies.specs.Tally.{BodiesUnrestricted}
 use Rattle.steps_tallies.proofs.Unrestricted.{unrestricted-tidied}
 use Rattle.steps_splicing.specs.ListedParts as tidied
-use Rattle.steps_lister.specs.PartLister.{AnswersListing, Lists, ListPartIs, ListTidiedIs, Restricted}
+use Rattle.steps_lister.specs.PartLister.{PartTidied, AnswersListing, Lists, ListPartIs, ListTidiedIs, Restricted}
 use Rattle.steps_lister.specs.declared.list.ListAnswer.{ListAnswer}
 use Rattle.steps_lister.proofs.TidiedBodies.{tidied-checked}
 
@@ -59,9 +59,19 @@ pub restricted : (question part : List ℕ) → Restricted question part true
 restricted question part = record { plain = λ e. absurd (let z : _≡_ {A = ℕ} 0 1 = cc in omega arith) }
 
 -- A part without restrictions is tidied.
-pub list-plain : (question part : List ℕ) (x : ℕ) (r : ListAnswer) (area′ : List ℕ) → Restricted question part false → ListTidiedIs question part x r area′
+pub plain-tidied : (question part : List ℕ) → Restricted question part false → PartTidied question part
+plain-tidied question part plain q P is = unrestricted-tidied P (plain .plain refl .1 q P is)
+
+-- So is one of which the walk says so.
+pub walked-tidied : (question part arities : List ℕ) → AritiesIs question arities → IsTidiedIs part arities true → PartTidied question part
+unfolding AritiesIs IsTidiedIs
+walked-tidied question part arities own t q P (accepted, scope, bytes) =
+    t refl nameCount 0 P (omega arith) (subst (λ (a : List ℕ). InScope nameCount a 0 P) (sym (own q accepted)) scope) bytes
+
+-- A part that is tidied as it is.
+pub list-as-it-is : (question part : List ℕ) (x : ℕ) (r : ListAnswer) (area′ : List ℕ) → PartTidied question part → ListTidiedIs question part x r area′
     → ListPartIs question part x r area′
-list-plain question part x r area′ plain is = record {
+list-as-it-is question part x r area′ tidied is = record {
   few = is .few;
   is = λ q P l new.
       is .is q P (record {
@@ -70,7 +80,7 @@ list-plain question part x r area′ plain is = record {
         bytes = l .bytes;
         size = l .size;
         new = l .new;
-        tidied = unrestricted-tidied P (plain .plain refl .1 q P (l .accepted, l .scope, l .bytes));
+        tidied = tidied q P (l .accepted, l .scope, l .bytes);
       });
 }
 

@@ -53,3 +53,7 @@ pub record ListTidiedIs (question part : List ℕ) (x : ℕ) (r : ListAnswer) (a
 -- Whether the part or a body may have a restriction.
 pub record Restricted (question part : List ℕ) (restricted : Bool) : Type 0 where
   pub plain : restricted ≡ false → PartUnrestricted question part
+
+-- The part is tidied as it is.
+abbrev pub PartTidied : (question part : List ℕ) → Type 0
+PartTidied question part = (q : Question) (P : Term) → IsPart question part q P → tidy P ≡ P

@@ -1,11 +1,13 @@
 // The steps of a part, listed.
+ghost use mathlib.Core.Bool.{true};
+ghost use mathlib.Core.Path.{_≡_};
 ghost use Prim.Native.Nat.{_≤_};
 ghost use lib.ListN.{length};
 ghost use Rattle.terms.specs.Limits.{longestTerm};
 ghost use Rattle.steps_entries.specs.Entries.{listRoom};
 ghost use Rattle.terms_bytes.specs.Writing.{Plain};
 ghost use Rattle.steps_tallies.specs.Tally.{BodiesTidied, BodiesTallied};
-ghost use Rattle.steps_lister.specs.PartLister.{CanList, Restricted, ListTidiedIs, ListPartIs};
+ghost use Rattle.steps_lister.specs.PartLister.{CanList, Restricted, PartTidied, ListTidiedIs, ListPartIs};
 use steps_communications::meet::Node;
 use steps_entries::arrange::arrange;
 use steps_entries::limits::MOST_STEPS;
@@ -14,14 +16,15 @@ use steps_tallies::bodies::arities_of;
 use steps_tallies::tally::TALLY;
 use steps_tallies::tally::bodies_restricted;
 use steps_tallies::tally::body_tallies;
-use steps_tallies::tally::has_restricted_body;
 use steps_tallies::tally::tally;
 use steps_walk::walk::Walked;
 use steps_walk::walk::walk;
 use terms_bytes::limits::LONGEST_QUESTION;
 use terms_bytes::limits::LONGEST_TERM;
+use terms_tidied::question::has_tidied_bodies;
 use terms_tidied::question::tidy_bodies;
 use terms_tidying::restriction::has_restriction;
+use terms_tidying::tidied::is_tidied;
 use terms_tidying::tidy::tidy;
 
 // The scratch that a listing wants of its caller: numbers for the part's tally, bytes for its rows.
@@ -43,6 +46,17 @@ fn any_restriction(question: &[u8], bodies: &[u32], part: &[u8]) -> bool
         return true;
     }
     has_restriction(part, arities_of(question))
+}
+
+// Whether the part is tidied as it is. Without restrictions it is.
+fn is_tidied_part(question: &[u8], part: &[u8], restricted: bool) -> bool
+    requires { ⌜ Restricted (now question) (now part) restricted ⌝ }
+    ensures { λ r. ⌜ (r ≡ true → PartTidied (now (question .entry)) (now (part .entry))) ⌝ }
+{
+    if !restricted {
+        return true;
+    }
+    is_tidied(part, arities_of(question))
 }
 
 // Lists the steps of a tidied part.
@@ -78,7 +92,7 @@ fn list_tidied(
 
 // Lists the steps of a part under the definitions of an accepted question whose bodies are tallied, for the new name `x`. The area must hold as
 // many steps as the limit allows, and their index. `tallies` and `rows` are lent for the part's tally and rows; what they have before is not read. A part
-// with restrictions is tidied first (request 2026-04): its list is the same.
+// with restrictions that bind nothing is tidied first (request 2026-04): its list is the same.
 pub fn list_tallied(
     question: &[u8],
     bodies: &[u32],
@@ -91,8 +105,9 @@ pub fn list_tallied(
     requires { ⌜ CanList (now question) (now bodies) (now part) (now tallies) (now rows) (now area) ⌝ }
     ensures { λ r. ⌜ ListPartIs (now (question .entry)) (now (part .entry)) x r (now (area .exit)) ⌝ }
 {
-    if !any_restriction(question, bodies, part) {
-        return list_tidied(question, bodies, part, x, false, tallies, rows, area);
+    let restricted = any_restriction(question, bodies, part);
+    if is_tidied_part(question, part, restricted) {
+        return list_tidied(question, bodies, part, x, restricted, tallies, rows, area);
     }
     let mut tidied = [0u8; LONGEST_TERM];
     let ends = tidy(part, 0, arities_of(question), &mut tidied, 0);
@@ -116,7 +131,7 @@ pub fn list_part(question: &[u8], part: &[u8], x: u8, area: &mut [u8]) -> ListAn
     requires { ⌜ (listRoom ≤ length (now area)) × (length (now part) ≤ longestTerm) × Plain (now question) ⌝ }
     ensures { λ r. ⌜ ListPartIs (now (question .entry)) (now (part .entry)) x r (now (area .exit)) ⌝ }
 {
-    if !has_restricted_body(question) {
+    if has_tidied_bodies(question) {
         return list_under(question, part, x, area);
     }
     let mut tidied = [0u8; LONGEST_QUESTION];

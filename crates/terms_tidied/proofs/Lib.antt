@@ -1,2 +1,3 @@
 pub mod QuestionBodies
+pub mod TidiedAlready
 pub mod TidiedQuestion

@@ -11,7 +11,7 @@ use Rattle.terms.specs.Edition.{one}
 use Rattle.terms.specs.Encoding.{encode, InScope}
 use Rattle.terms.specs.Framing.{sized, allSized}
 use Rattle.terms.specs.Limits.{longestTerm, greatestArity}
-use Rattle.terms.specs.Question.{Question, checkOf, bodyFields, pairBytes, fieldsOf}
+use Rattle.terms.specs.Question.{Question, checkOf, bodyFields, bodyOf, pairBytes, fieldsOf}
 use Rattle.terms.specs.WellFormed.{Every, BodiesAllowed, WellFormed}
 use Rattle.terms.proofs.FramingLaws.{Framable}
 use Rattle.terms.proofs.WellFormed.{accepted-well-formed, framable}
@@ -26,15 +26,16 @@ pub record NthBody (arities sizes : List ℕ) (Ps : List Term) (k : ℕ) (rest :
   pub parameters : depth ≤ greatestArity
   pub scope : InScope 0 arities depth term
   pub size : length (encode depth term) ≤ longestTerm
+  pub nth : bodyOf Ps k ≡ term
   pub next : drop k Ps ≡ term ∷ drop (suc k) Ps
   pub field : getD (bodyFields sizes Ps ++ rest) k [] ≡ encode depth term
   pub tidied : getD (bodyFields sizes (map tidy Ps)) k [] ≡ encode depth (tidy term)
 
 nth-body : (arities sizes : List ℕ) (Ps : List Term) → BodiesAllowed arities sizes Ps → Every (λ a. a ≤ greatestArity) sizes → (rest : List (List ℕ))
     → (k : ℕ) → k < length sizes → NthBody arities sizes Ps k rest
-unfolding BodiesAllowed bodyFields Every
+unfolding BodiesAllowed bodyFields bodyOf Every
 nth-body arities (a ∷ sizes) (P ∷ Ps) w few rest zero h =
-    record { depth = a; term = P; parameters = few .0; scope = w .0 .scope; size = w .0 .size; next = refl; field = refl; tidied = refl }
+    record { depth = a; term = P; parameters = few .0; scope = w .0 .scope; size = w .0 .size; nth = refl; next = refl; field = refl; tidied = refl }
 nth-body arities (a ∷ sizes) (P ∷ Ps) w few rest (suc k) h =
     let n = nth-body arities sizes Ps (w .1) (few .1) rest k (omega arith) in
     record {
@@ -43,6 +44,7 @@ nth-body arities (a ∷ sizes) (P ∷ Ps) w few rest (suc k) h =
       parameters = n .parameters;
       scope = n .scope;
       size = n .size;
+      nth = n .nth;
       next = n .next;
       field = n .field;
       tidied = n .tidied;

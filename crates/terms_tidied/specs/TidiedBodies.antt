@@ -21,6 +21,10 @@ unfoldable pub tidiedBodies : Question → Question
 tidiedBodies q =
     record { arities = q .arities; bodies = map tidy (q .bodies); first = q .first; second = q .second; apart = q .apart }
 
+-- They are tidied as they are.
+abbrev pub HasTidied : List ℕ → Type 0
+HasTidied question = (q : Question) → checkOf question ≡ result q → map tidy (q .bodies) ≡ q .bodies
+
 -- The field at `at` is the body P with d parameters, and there is room for it behind a length of two bytes.
 pub record BodyAt (question : List ℕ) (at : ℕ) (arities out : List ℕ) (put d : ℕ) (P : Term) : Type 0 where
   pub parameters : d ≤ greatestArity

@@ -1,13 +1,34 @@
 // The question with tidied bodies, under which the lister and the judge go on: document 02, request 2026-04.
-ghost use Rattle.terms_tidied.specs.TidiedBodies.{HasBody, TidiesBody, MayTidyBodies, TidiesBodies, WritesTidied};
+ghost use mathlib.Core.Bool.{true};
+ghost use mathlib.Core.Path.{_≡_};
+ghost use Rattle.terms_tidied.specs.TidiedBodies.{HasTidied, HasBody, TidiesBody, MayTidyBodies, TidiesBodies, WritesTidied};
 use terms_bytes::bytes::copy;
 use terms_bytes::frame::after_field;
 use terms_bytes::frame::arities;
 use terms_bytes::frame::definitions;
 use terms_bytes::frame::field_at;
 use terms_bytes::frame::field_place;
+use terms_tidying::tidied::is_tidied;
 use terms_tidying::tidy::Ends;
 use terms_tidying::tidy::tidy;
+
+// Whether the bodies of an accepted question are tidied as they are; most are.
+pub fn has_tidied_bodies(question: &[u8]) -> bool
+    ensures { λ r. ⌜ (r ≡ true → HasTidied (now (question .entry))) ⌝ }
+{
+    let list = arities(question);
+    let last = definitions(question);
+    let mut at = field_place(question, 0);
+    let mut k = 0;
+    while k < last {
+        if !is_tidied(field_at(question, at), list) {
+            return false;
+        }
+        at = after_field(question, at);
+        k += 1;
+    }
+    true
+}
 
 // Writes the body that is the field at `at`, tidied, as a field at `put`; answers where it ends.
 fn tidy_body(question: &[u8], at: usize, list: &[u8], out: &mut [u8], put: usize) -> usize

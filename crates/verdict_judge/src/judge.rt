@@ -20,12 +20,12 @@ use field_slots::find::SLOT_BYTES;
 use steps_lister::list::SCRATCH_NUMBERS;
 use steps_lister::list::SCRATCH_ROWS;
 use steps_tallies::tally::body_tallies;
-use steps_tallies::tally::has_restricted_body;
 use terms_bytes::limits::LONGEST_QUESTION;
 use terms_checks::check::Checked;
 use terms_checks::check::check;
 use terms_checks::check::is_counted;
 use terms_converting::question::convert_question;
+use terms_tidied::question::has_tidied_bodies;
 use terms_tidied::question::tidy_bodies;
 use verdict_capacity::capacity::capacity_check;
 use verdict_start::passes::start_survives;
@@ -114,7 +114,7 @@ fn judge_accepted(question: &[u8], capacity: usize, work: &mut [u8], manner: Man
     requires { ⌜ (1 ≤ capacity) × (capacity ≤ greatestCapacity) × (slotBytes * capacity ≤ length (now work)) × Plain (now question) ⌝ }
     ensures { λ r. ⌜ AcceptedIs (mannerOf manner) (now (question .entry)) capacity (now (work .entry)) r (now (work .exit)) ⌝ }
 {
-    if !has_restricted_body(question) {
+    if has_tidied_bodies(question) {
         return judge_tidied(question, capacity, work, manner);
     }
     let mut tidied = [0u8; LONGEST_QUESTION];

@@ -1,6 +1,5 @@
 -- `steps_lister::list::list_part` meets its contract. Assumes nothing.
 use borrow.Author.Needs.{needs}
-use borrow.Author.Tests.{not-true}
 use mathlib.Core.Path.{sym}
 use native.Mathlib.Omega.{arith}
 use lib.Seq.{length-take-le}
@@ -8,7 +7,6 @@ use Rattle.terms.specs.Edition.{one}
 use Rattle.terms.specs.Question.{checkOf}
 use Rattle.terms.proofs.RefusalNumbers.{accepted-length-in}
 use Rattle.terms_bytes.specs.Writing.{Plain}
-use Rattle.steps_tallies.proofs.Unrestricted.{unrestricted-bodies}
 use Rattle.steps_lister.proofs.TidiedBodies.{tidied-fits, bodies-are-tidied}
 use Rattle.steps_lister.proofs.TidiedListing.{list-under-tidied}
 use Rattle.steps_lister.proofs.list.list_part.Statement.{statement}
@@ -16,20 +14,19 @@ use Rattle.steps_lister.proofs.list.list_part.Tie as tie
 use Rattle.steps_lister.proofs.list.list_part.Reads as reads
 use Rattle.steps_lister.proofs.list.list_part.Lts as lts
 use Rattle.steps_lister.proofs.list.list_under.Reads as list-under-reads
-use Rattle.steps_tallies.proofs.tally.has_restricted_body.Reads as has-restricted-body-reads
+use Rattle.terms_tidied.proofs.question.has_tidied_bodies.Reads as has-tidied-bodies-reads
 use Rattle.terms_tidied.proofs.question.tidy_bodies.Reads as tidy-bodies-reads
 
 -- src/list.rt:119:9
-has-restricted-body-requires : tie.Need-has-restricted-body-requires
-has-restricted-body-requires c κs = search needs
+has-tidied-bodies-requires : tie.Need-has-tidied-bodies-requires
+has-tidied-bodies-requires c κs = search needs
 
 -- src/list.rt:120:9
 list-under-requires : tie.Need-list-under-requires
 list-under-requires c κs = (
   search needs,
   search needs,
-  λ q a. unrestricted-bodies (q .bodies) (c .before .before .has-restricted-body .ensures (not-true
-      (c .before .before .has-restricted-body .result) (c .before .if1 .taken)) q a),
+  c .before .before .has-tidied-bodies .ensures (c .before .if1 .taken),
 )
 
 -- src/list.rt:120:9
@@ -88,7 +85,7 @@ pub list-part-spec : {M : Type 1} → statement M
 list-part-spec =
     tie.close
     (tie.spec
-    has-restricted-body-requires
+    has-tidied-bodies-requires
     list-under-requires
     same-length
     returns

@@ -1,10 +1,8 @@
 -- `steps_lister::list::list_tallied` meets its contract. Assumes nothing.
-use borrow.Author.Tests.{not-true}
-use mathlib.Core.Path.{sym, subst}
+use mathlib.Core.Path.{sym}
 use native.Mathlib.Omega.{arith}
 use lib.Seq.{length-take-le}
-use Rattle.steps_lister.specs.PartLister.{Restricted}
-use Rattle.steps_lister.proofs.TidiedListing.{short-front, restricted, list-plain, list-restricted}
+use Rattle.steps_lister.proofs.TidiedListing.{short-front, restricted, list-as-it-is, list-restricted}
 use borrow.Author.Needs.{needs}
 use Rattle.steps_lister.proofs.list.list_tallied.Statement.{statement}
 use Rattle.steps_lister.proofs.list.list_tallied.Tie as tie
@@ -19,13 +17,13 @@ use Rattle.terms_tidying.proofs.tidy.tidy.Reads as tidy-reads
 any-restriction-requires : tie.Need-any-restriction-requires
 any-restriction-requires c κs = search needs
 
--- src/list.rt:95:9
+is-tidied-part-requires : tie.Need-is-tidied-part-requires
+is-tidied-part-requires c κs = c .any-restriction .ensures
+
 list-tidied-requires : tie.Need-list-tidied-requires
 list-tidied-requires c κs = (
   (search needs, search needs, search needs, search needs, search needs),
-  subst (Restricted _ _) (not-true
-      (c .before .before .before .before .any-restriction .result) (c .before .before .before .if1 .taken))
-      (c .before .before .before .before .any-restriction .ensures),
+  c .before .before .before .before .before .any-restriction .ensures,
 )
 
 -- src/list.rt:95:9
@@ -46,8 +44,7 @@ returns c =
     let c6 = c .before .before .before .before .before .before in
     let c10 = c6 .before .before .before .before in
     let c11 = c10 .before in
-    list-plain _ _ _ _ _ (subst (Restricted _ _) (not-true (c11 .any-restriction .result) (c10 .if1 .taken)) (c11 .any-restriction .ensures))
-    (c6 .list-tidied .ensures)
+    list-as-it-is _ _ _ _ _ (c11 .is-tidied-part .ensures (c10 .if1 .taken)) (c6 .list-tidied .ensures)
 
 -- src/list.rt:98:30
 arities-of-requires : tie.Need-arities-of-requires
@@ -101,6 +98,7 @@ list-tallied-spec =
     tie.close
     (tie.spec
     any-restriction-requires
+    is-tidied-part-requires
     list-tidied-requires
     same-length
     same-length-2

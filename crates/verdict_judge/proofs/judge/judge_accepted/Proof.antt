@@ -1,5 +1,4 @@
 -- `verdict_judge::judge::judge_accepted` meets its contract. Assumes nothing.
-use borrow.Author.Tests.{not-true}
 use mathlib.Core.Path.{sym}
 use native.Mathlib.Omega.{arith}
 use lib.Seq.{length-take-le}
@@ -7,7 +6,6 @@ use Rattle.terms.specs.Edition.{one}
 use Rattle.terms.specs.Question.{checkOf}
 use Rattle.terms.proofs.RefusalNumbers.{accepted-length-in}
 use Rattle.terms_bytes.specs.Writing.{Plain}
-use Rattle.steps_tallies.proofs.Unrestricted.{unrestricted-bodies}
 use Rattle.steps_lister.proofs.TidiedBodies.{tidied-fits, bodies-are-tidied}
 use Rattle.verdict_judge.proofs.TidiedJudging.{judged-tidied}
 use borrow.Author.Needs.{needs}
@@ -15,17 +13,17 @@ use Rattle.verdict_judge.proofs.judge.judge_accepted.Statement.{stateme
 use Rattle.verdict_judge.proofs.judge.judge_accepted.Tie as tie
 use Rattle.verdict_judge.proofs.judge.judge_accepted.Reads as reads
 use Rattle.verdict_judge.proofs.judge.judge_accepted.Lts as lts
-use Rattle.steps_tallies.proofs.tally.has_restricted_body.Reads as has-restricted-body-reads
+use Rattle.terms_tidied.proofs.question.has_tidied_bodies.Reads as has-tidied-bodies-reads
 use Rattle.terms_tidied.proofs.question.tidy_bodies.Reads as tidy-bodies-reads
 use Rattle.verdict_judge.proofs.judge.judge_tidied.Reads as judge-tidied-reads
 
 -- src/judge.rt:117:9
-has-restricted-body-requires : tie.Need-has-restricted-body-requires
-has-restricted-body-requires c κs = search needs
+has-tidied-bodies-requires : tie.Need-has-tidied-bodies-requires
+has-tidied-bodies-requires c κs = search needs
 
 -- src/judge.rt:118:9
 judge-tidied-requires : tie.Need-judge-tidied-requires
-judge-tidied-requires c κs = (c .before .before .before .before .before .pre .0, c .before .before .before .before .before .pre .1, c .before .before .before .before .before .pre .2, λ q a. unrestricted-bodies (q .bodies) (c .before .before .has-restricted-body .ensures (not-true (c .before .before .has-restricted-body .result) (c .before .if1 .taken)) q a))
+judge-tidied-requires c κs = (c .before .before .before .before .before .pre .0, c .before .before .before .before .before .pre .1, c .before .before .before .before .before .pre .2, c .before .before .has-tidied-bodies .ensures (c .before .if1 .taken))
 
 -- src/judge.rt:118:9
 same-length : tie.Need-same-length
@@ -70,7 +68,7 @@ pub judge-accepted-spec : {M : Type 1} → statement M
 judge-accepted-spec =
     tie.close
     (tie.spec
-    has-restricted-body-requires
+    has-tidied-bodies-requires
     judge-tidied-requires
     same-length
     returns
