@@ -21,6 +21,7 @@ use Rattle.terms.proofs.WellFormed.{accepted-well-formed}
 use Rattle.terms_bytes.proofs.Heights.{height-bytes}
 use Rattle.terms_bytes.proofs.Stores.{sets-middle}
 use Rattle.terms_tidying.specs.Restrictions.{HasRestrictionIs}
+use Rattle.terms_tidying.specs.TidiedTerms.{IsTidiedIs}
 use Rattle.terms_tidying.specs.Tidying.{Tidied, TidiedIs}
 use Rattle.terms_tidying.specs.declared.tidy.Ends.{Ends}
 use Rattle.terms_tidying.proofs.RestrictionWalk.{unrestricted}

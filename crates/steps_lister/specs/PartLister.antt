@@ -7,6 +7,7 @@ use Prim.Native.Nat.{ℕ, _*_, _≤_}
 use lib.ListN.{length, take}
 use Rattle.calculus.specs.Free.{Free}
 use Rattle.calculus.specs.Term.{Term}
+use Rattle.calculus.specs.Tidy.{tidy}
 use Rattle.terms.specs.Answer.{result}
 use Rattle.terms.specs.Encoding.{encode, InScope}
 use Rattle.terms.specs.Limits.{nameCount, longestTerm}
@@ -19,7 +20,7 @@ use Rattle.steps_lister.specs.declared.list.ListAnswer.the-variants.{Uns
 use Rattle.steps_entries.specs.Entries.{listRoom}
 use Rattle.steps_rows.specs.Rows.{rowBytes, mostRows}
 use Rattle.steps_splicing.specs.ListedParts as tidied
-use Rattle.steps_splicing.specs.Ready.{PartUnrestricted}
+use Rattle.steps_splicing.specs.Ready.{IsPart, PartUnrestricted}
 use Rattle.steps_tallies.specs.Tally.{tallySize, BodiesTallied}
 
 -- What listing a part needs: room for the list, for the part's tally and for its rows, and the bodies tallied.
