@@ -24,3 +24,17 @@ pub record MeetsIs (question part : List ℕ) (at depth number before x : ℕ) (
       → Rows depth (visible (bodyOf (q .bodies)) 1 L) rows first
       → Rows depth (visible (bodyOf (q .bodies)) 1 R) rows middle
       → CollectIs (map (raised K) (communications (visible (bodyOf (q .bodies)) 1 L) (visible (bodyOf (q .bodies)) 1 R))) x area count r area′
+
+-- [Com]: the communication of the visible candidates number v and w of the sides of the parallel at `at`, where the name in a row's slot is sent.
+pub record TakeMetIs (question part : List ℕ) (at depth v w object : ℕ) (merges : Bool) (class area : List ℕ) (count r : ℕ) (area′ : List ℕ) : Type 0 where
+  pub is : (q : Question) (P : Term) (x : ℕ) → Lists question part x q P
+      → (K : List Frame) (L R : Term) (first number : ℕ)
+      → Placed (q .arities) (bodyOf (q .bodies)) P K (par L R) at depth first number
+      → v < length (visible (bodyOf (q .bodies)) 1 L)
+      → w < length (visible (bodyOf (q .bodies)) 1 R)
+      → (M₁ : Cond) (α : Act) (A : Term) → getD (visible (bodyOf (q .bodies)) 1 L) v blocked ≡ step M₁ α A → Unextruded α
+      → (M₂ : Cond) (β : Act) (B : Term) → getD (visible (bodyOf (q .bodies)) 1 R) w blocked ≡ step M₂ β B → Unextruded β
+      → (y : ℕ) → slotOf nameCount depth y ≡ object → y < depth + nameCount
+      → (N M : Cond) (W : Term)
+      → raised K (step N tauA (par (ren (receiving y (λ n. n) α) A) (ren (receiving y (λ n. n) β) B))) ≡ step M tauA W → Classed merges class M
+      → InScope nameCount (q .arities) 0 W → PutIs (step M tauA W) x area count r area′
