@@ -30,14 +30,12 @@ use Rattle.steps_entries.specs.Entries.{InsertIs}
 use Rattle.steps_entries.specs.EntryBytes.{entryBytes}
 use Rattle.steps.specs.Limits.{mostSteps}
 use Rattle.steps.specs.Listed.{kindOf, channelOf, objectOf, listedAs, canonStep, resultBytes}
-use Rattle.steps_splicing.specs.Locating.{MetResultIs, PutMergedIs, PutMetIs}
 use Rattle.steps_splicing.specs.Merging.{MergedIs}
 use Rattle.steps_placing.specs.Taking.{candidatesOf, ResultIs}
 use Rattle.steps_splicing.specs.PlacedResults.{Trivial, PlacedResultIs}
 use Rattle.steps_entries.specs.StepActions.{stepAction}
-use Rattle.steps_placing.specs.Placing.{PutResultIs, PutPlacedIs, PutClassedIs}
+use Rattle.steps_placing.specs.Placing.{PutResultIs, PutMergedIs, PutPlacedIs, PutClassedIs}
 use Rattle.steps_entries.specs.declared.listed.ActionBytes.{ActionBytes}
-use Rattle.steps_splicing.specs.declared.locate.Located.{Located}
 use Rattle.steps_placing.proofs.CanonBytes.{actionOfStep, coded, entry-canonical}
 use Rattle.steps_placing.proofs.CollectLaws.{put-step, put-long, take-sets}
 use Rattle.steps_splicing.proofs.PlacedResults.{trivial-result}
@@ -181,18 +179,3 @@ placed-put question part U at depth silently j action x area count r area′ out
       (rw (plain-formed x M α A (plain-raise question part U x q P l K C at depth first number silently j M α A raises))
       (w .is q P l K C first number M α A raises t)) (λ k h. own k (omega arith) ∙ sym (t k)) acts;
 }
-
-module _ (question part : List ℕ) (left right : Located) (new : ℕ) (class area : List ℕ) (count r : ℕ) (area′ out result : List ℕ) (n : ℕ)
-    (size : length out ≡ longestTerm) (w : MetResultIs question part left right new out n result) where
-  pub met-put : PutResultIs class (record { kind = 0; channel = 0; object = 0 }) result n area count r area′
-      → PutMetIs question part left right new false class area count r area′
-  unfolding receiving stepAction
-  met-put p = record {
-    is = λ q x M A ok c scope u H.
-        let e : resultBytes (canonStep resultForm nameCount x M tauA A) ≡ encode 0 A =
-        ap resultBytes (plain-formed x M tauA A u) ∙ trivial-result x M tauA A (c .trivial refl) ∙ ap (encode 0) (ren-id A) in
-        p .is out x M tauA A (omega arith) (rw e (w .is q (encode 0 A) ok H)) (c .classes) refl;
-  }
-
-  pub met-merged : PutMergedIs question class result n area count r area′ → PutMetIs question part left right new true class area count r area′
-  met-merged p = record { is = λ q x M A ok c scope u H. p .is q out x M A ok size (c .classes) scope u (w .is q (encode 0 A) ok H) }

@@ -1,14 +1,20 @@
 -- The steps of a part put into an area on one walk of its parallels and restrictions: what the functions that do so promise.
 use mathlib.Core.Path.{_≡_}
-use mathlib.Core.Bool.{Bool}
+use mathlib.Core.Bool.{Bool, true, false}
 use mathlib.Core.List.{List}
-use Prim.Native.Nat.{ℕ, _<_, _≤_}
+use Prim.Native.Nat.{ℕ, suc, _<_, _≤_}
 use lib.ListN.{length, getD}
-use Rattle.calculus.specs.Abstraction.{Act}
+use Rattle.calculus.specs.Abstraction.{Act, tauA}
 use Rattle.calculus.specs.Cond.{Cond, cls}
+use Rattle.calculus.specs.Distinction.{among}
+use Rattle.calculus.specs.Free.{fn}
 use Rattle.calculus.specs.Term.{Term, out}
+use Rattle.calculus.specs.Tidy.{tidy}
+use Rattle.terms.specs.Answer.{result}
+use Rattle.terms.specs.Encoding.{encode, InScope}
 use Rattle.terms.specs.Limits.{nameCount, longestTerm}
-use Rattle.terms.specs.Question.{Question}
+use Rattle.terms.specs.Question.{Question, checkOf}
+use Rattle.terms_tidying.specs.Restrictions.{Unrestricted}
 use Rattle.steps.specs.Forms.{resultForm}
 use Rattle.steps.specs.Raw.{step, blocked}
 use Rattle.steps_plans.specs.Plans.{Written}
@@ -17,10 +23,12 @@ use Rattle.steps_splicing.specs.Contexts.{Frame}
 use Rattle.steps_entries.specs.declared.listed.ActionBytes.{ActionBytes}
 use Rattle.steps.specs.Listed.{canonStep, resultBytes}
 use Rattle.steps_splicing.specs.ListedParts.{Lists}
+use Rattle.steps_splicing.specs.Locating.{Holes, Classed}
 use Rattle.steps_placing.specs.Taking.{candidatesOf}
 use Rattle.steps_splicing.specs.PlacedResults.{Trivial}
 use Rattle.steps_splicing.specs.PlacedResults.{Raises}
 use Rattle.steps_entries.specs.StepActions.{stepAction}
+use Rattle.steps_placing.specs.declared.put.Communication.{Communication}
 
 -- A step put into the list, from the classes of its condition, the bytes of its action and those that were written for its result.
 pub record PutResultIs (class : List ℕ) (action : ActionBytes) (result : List ℕ) (n : ℕ) (area : List ℕ) (count r : ℕ) (area′ : List ℕ) : Type 0 where
@@ -42,3 +50,24 @@ pub record PutClassedIs (question part : List ℕ) (silently : Bool) (i : ℕ) (
       → (M : Cond) (α : Act) (A : Term) → getD (candidatesOf silently q P) i blocked ≡ step M α A
       → ((n : ℕ) → n < nameCount → getD class n 0 ≡ cls M n) → action ≡ stepAction x M α
       → PutIs (step M α A) x area count r area′
+
+-- A silent step without restrictions put into the list, from the classes of its condition and the bytes that were written for its result but for the names that are merged.
+pub record PutMergedIs (question class written : List ℕ) (n : ℕ) (area : List ℕ) (count r : ℕ) (area′ : List ℕ) : Type 0 where
+  pub is : (q : Question) (out : List ℕ) (x : ℕ) (M : Cond) (A : Term) → checkOf question ≡ result q → length out ≡ longestTerm
+      → ((n : ℕ) → n < nameCount → getD class n 0 ≡ cls M n) → InScope nameCount (q .arities) 0 A → Unrestricted A
+      → Written out 0 (encode 0 A) n written
+      → PutIs (step M tauA A) x area count r area′
+
+-- What was written for a communication whose result is A. [Com]: the result itself. [Close]: the two sides without the restriction, where a name that stands
+-- for nothing else is sent; where it does not occur the restriction binds nothing, and goes.
+unfoldable pub StandsFor : (closes : Bool) → Term → Term → Type 0
+StandsFor false B A = B ≡ A
+StandsFor true B A = among (fn B) nameCount ≡ false → tidy B ≡ tidy A
+
+-- A communication put into the list: the silent candidate of this number of the part, for which the bytes of B are put together but for the names that its
+-- condition merges.
+pub record PutMetIs (question part : List ℕ) (met : Communication) (class area : List ℕ) (count r : ℕ) (area′ : List ℕ) : Type 0 where
+  pub is : (q : Question) (P : Term) → Lists question part (met .x) q P
+      → (M : Cond) (B A : Term) → getD (candidatesOf true q P) (met .number) blocked ≡ step M tauA A → Classed (met .merges) class M
+      → Holes q part (met .left) (met .right) (met .new) (encode 0 B) → InScope (suc nameCount) (q .arities) 0 B → StandsFor (met .closes) B A
+      → PutIs (step M tauA A) (met .x) area count r area′

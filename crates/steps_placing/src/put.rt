@@ -5,8 +5,7 @@ ghost use lib.ListN.{length, getD};
 ghost use Rattle.terms.specs.Limits.{nameCount, longestTerm};
 ghost use Rattle.steps_tallies.specs.Tally.{restrictedAt};
 ghost use Rattle.steps_splicing.specs.Ready.{Inside, FoundIn};
-ghost use Rattle.steps_splicing.specs.Locating.{PutMergedIs, PutMetIs};
-ghost use Rattle.steps_placing.specs.Placing.{PutResultIs, PutPlacedIs, PutClassedIs};
+ghost use Rattle.steps_placing.specs.Placing.{PutResultIs, PutMergedIs, PutPlacedIs, PutClassedIs, PutMetIs};
 ghost use Rattle.steps_placing.specs.Putting.{HasRoom, CanPut};
 use crate::result::write_result;
 use crate::result::write_tidied;
@@ -19,7 +18,6 @@ use steps_splicing::merged::merge_names;
 use steps_splicing::splice::Position;
 use steps_splicing::splice::Selection;
 use steps_splicing::splice::own_names;
-use steps_splicing::splice::write_met;
 use steps_splicing::splice::write_placed;
 use steps_tallies::bodies::arities_of;
 use steps_tallies::tally::is_restricted;
@@ -32,12 +30,16 @@ pub struct Step {
     pub action: ActionBytes,
 }
 
-// A communication of two components, one of which receives the name in the slot `new`: [Com]. Whether its condition merges names.
+// A communication of two components, the silent candidate of this number of the part, where `x` is the new name. What is received is the name in the slot `new`: [Com];
+// or, if it closes, a new restriction: [Close]. Whether its condition merges names.
 pub struct Communication {
     pub left: Located,
     pub right: Located,
     pub new: u8,
     pub merges: bool,
+    pub closes: bool,
+    pub number: usize,
+    pub x: u8,
 }
 
 // Puts a step into the list whose result was written up to `n`. A result that is too long passes a limit.
@@ -154,8 +156,7 @@ pub fn put_placed(
     put_result(&class, action, &result, n, area, count)
 }
 
-// Puts a communication without restrictions into the list: [Com]. `class` are the classes of its condition; where that merges names, they are merged where the result
-// stands.
+// Puts a communication into the list. `class` are the classes of its condition.
 pub fn put_met(
     question: &[u8],
     bodies: &[u32],
@@ -167,28 +168,18 @@ pub fn put_met(
     count: usize,
 ) -> usize
     requires { ⌜ CanPut (now question) (now bodies) (now part) (now tally) (now area) count × FoundIn (now part) (met .left) × FoundIn (now part) (met .right) × (nameCount ≤ length (now class)) ⌝ }
-    ensures { λ r. ⌜ PutMetIs (now (question .entry)) (now (part .entry)) (met .left) (met .right) (met .new) (met .merges) (now (class .entry)) (now (area .entry)) count r (now (area .exit)) ⌝ }
+    ensures { λ r. ⌜ PutMetIs (now (question .entry)) (now (part .entry)) met (now (class .entry)) (now (area .entry)) count r (now (area .exit)) ⌝ }
 {
-    let left = met.left;
-    let right = met.right;
-    let mut result = [0u8; LONGEST_TERM];
-    let n = write_met(
-        question,
-        bodies,
-        part,
-        tally,
-        left,
-        right,
-        met.new,
-        &mut result,
-    );
-    if met.merges {
-        return put_merged(question, class, &mut result, n, area, count);
-    }
+    let candidate = Selection {
+        silently: true,
+        number: met.number,
+        x: met.x,
+    };
     let action = ActionBytes {
         kind: 0,
         channel: 0,
         object: 0,
     };
-    put_result(class, action, &result, n, area, count)
+    let step = Step { candidate, action };
+    put_classed(question, bodies, part, tally, step, class, area, count)
 }

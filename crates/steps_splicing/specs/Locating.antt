@@ -8,22 +8,18 @@ use lib.Dec.{leb}
 use lib.ListN.{length, getD, drop}
 use Rattle.calculus.specs.Abstraction.{Act, tauA, inpA, outA, boutA}
 use Rattle.calculus.specs.Cond.{Cond, cls}
-use Rattle.calculus.specs.Term.{Term, par, ren}
+use Rattle.calculus.specs.Term.{Term, ren}
 use Rattle.terms.specs.Answer.{result}
 use Rattle.terms.specs.Encoding.{encode, InScope}
-use Rattle.terms.specs.Limits.{nameCount, longestTerm}
+use Rattle.terms.specs.Limits.{nameCount}
 use Rattle.terms.specs.Question.{Question, checkOf}
 use Rattle.terms.specs.Question.{bodyOf}
-use Rattle.terms_tidying.specs.Restrictions.{Unrestricted}
 use Rattle.terms_bytes.specs.NameTable.{lastName}
 use Rattle.steps_conditions.specs.Names.{HasNew}
 use Rattle.steps.specs.Raw.{Candidate, step, blocked, visible}
 use Rattle.steps_plans.specs.Plans.{receiving, Written}
-use Rattle.steps_conditions.specs.Slots.{slotOf}
 use Rattle.steps_tallies.specs.Tally.{TallyIs}
-use Rattle.steps_splicing.specs.Collecting.{PutIs}
-use Rattle.steps_splicing.specs.Contexts.{Frame, fill, raised, levelIn, beforeIn, Placed}
-use Rattle.steps_splicing.specs.ListedParts.{Lists}
+use Rattle.steps_splicing.specs.Contexts.{Frame, fill, raised, levelIn, beforeIn}
 use Rattle.steps_splicing.specs.PlacedResults.{Trivial}
 use Rattle.steps_splicing.specs.declared.locate.Located.{Located}
 
@@ -103,18 +99,6 @@ pub record Classed (merges : Bool) (class : List ℕ) (M : Cond) : Type 0 where
   pub classes : (n : ℕ) → n < nameCount → getD class n 0 ≡ cls M n
   pub trivial : merges ≡ false → Trivial M
 
--- A silent step without restrictions put into the list, from the classes of its condition and the bytes that were written for its result but for the names that are merged.
-pub record PutMergedIs (question class written : List ℕ) (n : ℕ) (area : List ℕ) (count r : ℕ) (area′ : List ℕ) : Type 0 where
-  pub is : (q : Question) (out : List ℕ) (x : ℕ) (M : Cond) (A : Term) → checkOf question ≡ result q → length out ≡ longestTerm
-      → ((n : ℕ) → n < nameCount → getD class n 0 ≡ cls M n) → InScope nameCount (q .arities) 0 A → Unrestricted A
-      → Written out 0 (encode 0 A) n written
-      → PutIs (step M tauA A) x area count r area′
-
--- A communication without restrictions whose result has those bytes but for the names that its condition merges, put into the list.
-pub record PutMetIs (question part : List ℕ) (left right : Located) (new : ℕ) (merges : Bool) (class area : List ℕ) (count r : ℕ) (area′ : List ℕ) : Type 0 where
-  pub is : (q : Question) (x : ℕ) (M : Cond) (A : Term) → checkOf question ≡ result q → Classed merges class M → InScope nameCount (q .arities) 0 A
-      → Unrestricted A → Holes q part left right new (encode 0 A) → PutIs (step M tauA A) x area count r area′
-
 -- No name is extruded.
 unfoldable pub Unextruded : Act → Type 0
 Unextruded tauA = Unit {0}
@@ -125,17 +109,3 @@ Unextruded (boutA a) = ⊥
 -- The slot of a name in a table of names (Names), where rows have it in this one.
 unfoldable pub tableSlot : ℕ → ℕ
 tableSlot slot = cond (leb slot lastName) slot (slot + 1)
-
--- [Com]: the communication of the visible candidates number v and w of the sides of the parallel at `at`, where the name in a row's slot is sent.
-pub record TakeMetIs (question part : List ℕ) (at depth v w object : ℕ) (merges : Bool) (class area : List ℕ) (count r : ℕ) (area′ : List ℕ) : Type 0 where
-  pub is : (q : Question) (P : Term) (x : ℕ) → Lists question part x q P
-      → (K : List Frame) (L R : Term) (first number : ℕ)
-      → Placed (q .arities) (bodyOf (q .bodies)) P K (par L R) at depth first number
-      → v < length (visible (bodyOf (q .bodies)) 1 L)
-      → w < length (visible (bodyOf (q .bodies)) 1 R)
-      → (M₁ : Cond) (α : Act) (A : Term) → getD (visible (bodyOf (q .bodies)) 1 L) v blocked ≡ step M₁ α A → Unextruded α
-      → (M₂ : Cond) (β : Act) (B : Term) → getD (visible (bodyOf (q .bodies)) 1 R) w blocked ≡ step M₂ β B → Unextruded β
-      → (y : ℕ) → slotOf nameCount depth y ≡ object → y < depth + nameCount
-      → (N M : Cond) (W : Term)
-      → raised K (step N tauA (par (ren (receiving y (λ n. n) α) A) (ren (receiving y (λ n. n) β) B))) ≡ step M tauA W → Classed merges class M
-      → InScope nameCount (q .arities) 0 W → PutIs (step M tauA W) x area count r area′
