@@ -1,3 +1,4 @@
+pub mod Mentions
 pub mod RestrictionWalk
 pub mod TidyCounts
 mod TidyWalk

@@ -15,11 +15,7 @@ use Rattle.terms_bytes.specs.Shape.{binders, subterms, frontBytes, ShapeIs}
 use Rattle.terms_bytes.specs.declared.shape.Shape.{Shape}
 use Rattle.terms_bytes.proofs.Shapes.{encodeAll, encode-parts, AllInScope, subterms-scope, front-of, length-front}
 use Rattle.terms_tidying.specs.Restrictions.{restrictedAnywhere, Unrestricted, HasRestrictionIs}
-use Rattle.terms_tidying.proofs.UnusedWalk.{or-false, or-assoc, first-byte}
-
-or-neither : (a b : Bool) → a || b ≡ false → (a ≡ false) × (b ≡ false)
-or-neither false b e = (refl, e)
-or-neither true b e = let z : _≡_ {A = ℕ} 0 1 = cc in absurd (omega arith)
+use Rattle.terms_tidying.proofs.UnusedWalk.{or-false, or-assoc, or-neither, first-byte}
 
 -- Where there is none, no subterm has one.
 pub unrestricted : (P : Term) → restrictedAnywhere P ≡ false → Unrestricted P

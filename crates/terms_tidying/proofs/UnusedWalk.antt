@@ -31,7 +31,7 @@ eqb-suc i n = go (eqb i n) refl
     go true e = let q = eqb-true i n e in eq-eqb (1 + i) (suc n) (omega arith)
     go false e = ne-eqb (1 + i) (suc n) (λ q. eqb-false i n e (omega arith))
 
-among-lower : (xs : List ℕ) (i : ℕ) → among (lowerL xs) i ≡ among xs (1 + i)
+pub among-lower : (xs : List ℕ) (i : ℕ) → among (lowerL xs) i ≡ among xs (1 + i)
 unfolding lowerL among
 among-lower [] i = refl
 among-lower (zero ∷ xs) i = rw (ne-eqb (1 + i) zero (λ q. omega arith)) (among-lower xs i)
@@ -45,18 +45,22 @@ pub or-assoc : (a b c : Bool) → (a || b) || c ≡ a || (b || c)
 or-assoc true b c = refl
 or-assoc false b c = refl
 
-among-append : (xs ys : List ℕ) (i : ℕ) → among (xs ++ ys) i ≡ among xs i || among ys i
+pub or-neither : (a b : Bool) → a || b ≡ false → (a ≡ false) × (b ≡ false)
+or-neither false b e = (refl, e)
+or-neither true b e = let z : _≡_ {A = ℕ} 0 1 = cc in absurd (omega arith)
+
+pub among-append : (xs ys : List ℕ) (i : ℕ) → among (xs ++ ys) i ≡ among xs i || among ys i
 unfolding among
 among-append [] ys i = refl
 among-append (x ∷ xs) ys i = ap (λ (b : Bool). eqb i x || b) (among-append xs ys i) ∙ sym (or-assoc (eqb i x) (among xs i) (among ys i))
 
 -- whether a name is free in one of the terms
-usedBy : List Term → ℕ → Bool
+unfoldable pub usedBy : List Term → ℕ → Bool
 usedBy [] i = false
 usedBy (P ∷ Ps) i = among (fn P) i || usedBy Ps i
 
 -- A name is free in a term if it is one of the names at its front, or free in a subterm.
-among-parts : (P : Term) (i : ℕ) → among (fn P) i ≡ among (ownNames P) i || usedBy (subterms P) (binders P + i)
+pub among-parts : (P : Term) (i : ℕ) → among (fn P) i ≡ among (ownNames P) i || usedBy (subterms P) (binders P + i)
 unfolding fn among ownNames usedBy subterms binders
 among-parts nil i = refl
 among-parts (tau P) i = rw (or-false, zero-add)
@@ -83,7 +87,7 @@ byte-is free d n inner few l h = go (ltb n d) refl
         let k = ltb-false n d e in
         rw (byte-free d n k, ne-eqb (128 + inner) (n - d) (λ q. omega arith), ne-eqb inner n (λ q. omega arith))
 
-among-bytes : (free d inner : ℕ) → free ≤ tableNames → inner < d → (ns : List ℕ) → NamesInScope free d ns
+pub among-bytes : (free d inner : ℕ) → free ≤ tableNames → inner < d → (ns : List ℕ) → NamesInScope free d ns
     → among (map (nameByte d) ns) (128 + inner) ≡ among ns inner
 unfolding among NamesInScope
 among-bytes free d inner few h [] s = refl

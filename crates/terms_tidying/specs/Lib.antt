@@ -1,3 +1,4 @@
 pub mod Restrictions
+pub mod TidiedTerms
 pub mod Tidying
 pub mod Unused

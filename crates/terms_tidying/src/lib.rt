@@ -1,4 +1,6 @@
 // Restrictions that bind nothing go from the bytes of a term (request 2026-04).
+pub mod occurs;
 pub mod restriction;
+pub mod tidied;
 pub mod tidy;
 pub mod unused;
