@@ -1,5 +1,6 @@
 pub mod Mentions
 pub mod RestrictionWalk
+mod TidiedWalk
 pub mod TidyCounts
 mod TidyWalk
 mod UnusedWalk

@@ -30,6 +30,7 @@ use Rattle.terms_tidying.specs.Tidying.{longestRaw, CopiedFrontIs, Tidie
 use Rattle.terms_tidying.specs.Unused.{bindsNothing, BindsNothing}
 use Rattle.terms_tidying.specs.declared.tidy.CopiedFront.{CopiedFront}
 use Rattle.terms_tidying.specs.declared.tidy.Ends.{Ends}
+use Rattle.terms_tidying.proofs.UnusedWalk.{behind, size-behind}
 
 -- The name of a restriction that binds nothing becomes the first free name; the others are as they are outside of it.
 outsideOf : ℕ → ℕ → ℕ
@@ -217,11 +218,10 @@ module _ (s : List ℕ) (at : ℕ) (arities area : List ℕ) (put : ℕ) (h : Co
     x = F .is free d P rest scope st room
 
     part : (Ps : List Term) → subterms P ≡ Ps → drop (at + h .len) s ≡ encodeAll (binders P + d) Ps ++ rest
-    part Ps q =
-        rw (x .0, ← drop-drop, st, encode-parts d P, append-assoc (frontBytes d P) (encodeAll (binders P + d) (subterms P)) rest, drop-append-seam, q)
+    part Ps q = behind s at (h .len) d P rest Ps (x .0) st q
 
     size : (Ps : List Term) → subterms P ≡ Ps → length (encode d P) ≡ h .len + length (encodeAll (binders P + d) Ps)
-    size Ps q = ap length (encode-parts d P) ∙ length-append (frontBytes d P) (encodeAll (binders P + d) (subterms P)) ∙ rw (x .0, q)
+    size Ps q = size-behind (h .len) d P Ps (x .0) q
 
     bytes : (Ps : List Term) → subterms P ≡ Ps → encode d (tidy P) ≡ frontBytes d P ++ encodeAll (binders P + d) (map tidy Ps)
     bytes Ps q = kept-parts d P (keeps free d P rest few scope st) ∙ rw q

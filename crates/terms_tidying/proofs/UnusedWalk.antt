@@ -153,6 +153,16 @@ use-front-read s at arities inner h used is fit found = record {
 length-parts : (d : ℕ) (P : Term) → length (encode d P) ≡ length (frontBytes d P) + length (encodeAll (binders P + d) (subterms P))
 length-parts d P = ap length (encode-parts d P) ∙ length-append (frontBytes d P) (encodeAll (binders P + d) (subterms P))
 
+-- What stands behind the front of a term.
+pub behind : (s : List ℕ) (at n d : ℕ) (P : Term) (rest : List ℕ) (Ps : List Term) → n ≡ length (frontBytes d P) → drop at s ≡ encode d P ++ rest
+    → subterms P ≡ Ps → drop (at + n) s ≡ encodeAll (binders P + d) Ps ++ rest
+behind s at n d P rest Ps len st q =
+    rw (len, ← drop-drop, st, encode-parts d P, append-assoc (frontBytes d P) (encodeAll (binders P + d) (subterms P)) rest, drop-append-seam, q)
+
+pub size-behind : (n d : ℕ) (P : Term) (Ps : List Term) → n ≡ length (frontBytes d P) → subterms P ≡ Ps
+    → length (encode d P) ≡ n + length (encodeAll (binders P + d) Ps)
+size-behind n d P Ps len q = length-parts d P ∙ rw (len, q)
+
 -- No term stands past the end, or where its front does not fit.
 pub none-past : (s : List ℕ) (at : ℕ) (arities : List ℕ) → length s ≤ at → (free d : ℕ) (P : Term) (rest : List ℕ) → InScope free arities d P → drop at s ≡ encode d P ++ rest → ⊥
 none-past s at arities past free d P rest scope e =
@@ -180,11 +190,10 @@ module _ (s : List ℕ) (at : ℕ) (arities : List ℕ) (inner : ℕ) (h : UseFr
       beneath Ps q = rw (among-parts P inner, ← x .3, unused, q)
 
       part : (Ps : List Term) → subterms P ≡ Ps → drop (at + h .len) s ≡ encodeAll (binders P + d) Ps ++ rest
-      part Ps q =
-          rw (x .0, ← drop-drop, st, encode-parts d P, append-assoc (frontBytes d P) (encodeAll (binders P + d) (subterms P)) rest, drop-append-seam, q)
+      part Ps q = behind s at (h .len) d P rest Ps (x .0) st q
 
       size : (Ps : List Term) → subterms P ≡ Ps → length (encode d P) ≡ h .len + length (encodeAll (binders P + d) Ps)
-      size Ps q = length-parts d P ∙ rw (x .0, q)
+      size Ps q = size-behind (h .len) d P Ps (x .0) q
 
     pub unused-none : h .subterms ≡ 0 → UnusedTo s at arities inner (at + h .len)
     unfolding UnusedTo usedBy encodeAll

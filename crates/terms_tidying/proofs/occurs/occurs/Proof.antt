@@ -38,16 +38,16 @@ loop-less c = search needs
 -- src/occurs.rt:11:5
 loop-again : tie.Need-loop-again Inv-loop μ-loop
 loop-again c =
-    let a = c .before .before .before .args in
+    let c3 = c .before .before .before in
+    let a = c3 .args in
     let l = c .before .before .loop in
     ap (λ (t : Bool). t || eqb (getD (a .src .now) (l .i) 0) (a .b)) (l .inv) ∙ occurs-more (a .src .now) (l .i) (a .b) (c .before .loop-test .taken)
 
 -- src/occurs.rt:6:1
 returns : tie.Need-returns Inv-loop μ-loop
 returns c =
-    let a = c .before .before .args in
-    let l = c .before .loop in
-    l .inv ∙ ap (λ (xs : List ℕ). among xs (a .b)) (take-all (l .i) (a .src .now) (search needs))
+    let a = c .before .before .args in let l = c .before .loop in l .inv ∙ ap (λ (xs : List ℕ). among xs (a .b)) (take-all (l .i) (a .src .now)
+    (search needs))
 
 pub occurs-spec : {M : Type 1} → statement M
 occurs-spec =
