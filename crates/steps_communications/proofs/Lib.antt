@@ -1,3 +1,4 @@
+mod ComLaws
 mod MeetLaws
 mod MeetPairs
 mod MeetRows

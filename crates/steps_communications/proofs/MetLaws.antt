@@ -11,33 +11,32 @@ use lib.Seq.{drop-at}
 use Rattle.calculus.specs.Abstraction.{Act, tauA, inpA, outA, boutA, weak, swap}
 use Rattle.calculus.specs.Cond.{Cond, mapP}
 use Rattle.calculus.specs.Term.{Term, par, res, ren}
-use Rattle.calculus.proofs.Renaming.{ren-id}
 use Rattle.terms.specs.Encoding.{encode, InScope}
 use Rattle.terms.specs.Limits.{nameCount}
 use Rattle.terms_bytes.specs.NameTable.{tableNames, lastName}
 use Rattle.terms.specs.Question.{Question}
 use Rattle.terms.specs.Question.{bodyOf}
 use Rattle.steps_conditions.specs.Names.{HasNew}
-use Rattle.steps_passing.specs.Passing.{MiddleIs}
 use Rattle.steps.specs.Raw.{Candidate, step, blocked, leftSteps, rightSteps, restrictedAlone, outside, restrictedAction, restricted, visible}
 use Rattle.steps_plans.specs.Plans.{receiving}
 use Rattle.steps_conditions.specs.Slots.{slotOf}
+use Rattle.steps_tallies.specs.Candidates.{candidates}
 use Rattle.steps_tallies.specs.Tally.{TallyIs}
 use Rattle.steps_tallies.proofs.FrontLaws.{stands}
 use Rattle.steps_conditions.proofs.NameSlots.{slot-bound, slot-free, new-beneath}
 use Rattle.steps_splicing.specs.Contexts.{Frame, leftOf, rightOf, beneath, fill, raised, levelIn, restrictions, beforeIn, behindIn, bytesBefore, bytesBehind, Placed}
-use Rattle.steps_splicing.specs.Locating.{Component, Leads, LocateIs, Holes, PutMetIs, Unextruded, tableSlot, TakeMetIs}
+use Rattle.steps_splicing.specs.Locating.{Component, Leads, Holes, Unextruded, tableSlot}
 use Rattle.steps_splicing.specs.ListedParts.{Lists}
 use Rattle.steps_splicing.specs.PlacedResults.{Unopened}
-use Rattle.steps_splicing.specs.Ready.{PartUnrestricted}
-use Rattle.terms_tidying.specs.Restrictions.{Unrestricted}
-use Rattle.steps_tallies.specs.Candidates.{candidates}
-use Rattle.steps_tallies.proofs.Unrestricted.{Plain, unrestricted-ren}
-use Rattle.steps_splicing.proofs.PlainContexts.{plain-filled, plain-raised, plain-result}
-use Rattle.steps_placing.proofs.PlainResults.{plain-term, plain-part}
 use Rattle.steps_splicing.specs.declared.locate.Located.{Located}
 use Rattle.steps_splicing.proofs.ContextLaws.{fill-bytes, fill-bytes-in, level-before, placed-left, placed-right, placed-bytes, placed-depth}
 use Rattle.steps_splicing.proofs.PlacedResults.{raised-never, filled-result}
+use Rattle.steps_placing.specs.Taking.{candidatesOf}
+use Rattle.steps_placing.proofs.ResultScope.{silent-scope}
+use Rattle.steps_communications.specs.Met.{ComponentsAre, Communicates}
+use Rattle.steps_communications.specs.declared.meet.Components.{Components}
+use Rattle.steps_communications.specs.declared.meet.Node.{Node}
+use Rattle.steps_communications.specs.declared.meet.Pair.{Pair}
 
 -- An output stays one.
 abbrev Sends : Act → Type 0
@@ -90,7 +89,7 @@ new-raised (beneath ∷ K) d new y h =
     (subst (λ (n : ℕ). HasNew n new (suc (restrictions K + y))) e (new-beneath (levelIn d K) new (restrictions K + y) (new-raised K d new y h)))
 
 -- The name that is sent, by its slot in rows.
-new-sent : (d y object : ℕ) → slotOf nameCount d y ≡ object → y < d + nameCount → HasNew d (tableSlot object) y
+pub new-sent : (d y object : ℕ) → slotOf nameCount d y ≡ object → y < d + nameCount → HasNew d (tableSlot object) y
 unfolding HasNew tableSlot
 new-sent d y object e h = (go (ltb y d) refl (leb object lastName) refl, omega arith)
   where
@@ -150,8 +149,16 @@ record Sided (q : Question) (at d : ℕ) (C : Term) (α : Act) (A : Term) (y new
   own : getD (visible (bodyOf (q .bodies)) 1 term) (l .number) blocked ≡ step condition action result
   filled : ren (receiving y (λ n. n) α) A ≡ fill frames (ren (receiving name (λ n. n) action) result)
 
+-- [Open] does not apply on the way out of the component.
+pub record Unopens (q : Question) (s : List ℕ) (at d : ℕ) (C : Term) (c : Candidate) (l : Located) (α : Act) : Type 0 where
+  pub is : (E : Component q s at d C c (l .at) (l .depth) (l .number)) (N : Cond) (γ : Act) (T : Term) (M : Cond) (A : Term)
+      → getD (visible (bodyOf (q .bodies)) 1 (E .term)) (l .number) blocked ≡ step N γ T → raised (E .frames) (step N γ T) ≡ step M α A → Unopened γ α
+
+pub unextruded-unopens : (q : Question) (s : List ℕ) (at d : ℕ) (C : Term) (c : Candidate) (l : Located) (α : Act) → Unextruded α → Unopens q s at d C c l α
+unextruded-unopens q s at d C c l α u = record { is = λ E N γ T M A _ e. unopened-of (E .frames) N γ T M α A e u }
+
 sided : (q : Question) (s : List ℕ) (at d : ℕ) (C : Term) (c : Candidate) (l : Located) → Component q s at d C c (l .at) (l .depth) (l .number)
-    → (M : Cond) (α : Act) (A : Term) → c ≡ step M α A → Unextruded α → (y new : ℕ) → HasNew d new y → Sided q at d C α A y new l
+    → (M : Cond) (α : Act) (A : Term) → c ≡ step M α A → Unopens q s at d C c l α → (y new : ℕ) → HasNew d new y → Sided q at d C α A y new l
 sided q s at d C c l E M α A e u y new h =
     let K = E .frames in
     let F = raised-from K (getD (visible (bodyOf (q .bodies)) 1 (E .term)) (l .number) blocked) M α A (sym (E .candidate) ∙ e) in
@@ -169,138 +176,153 @@ sided q s at d C c l E M α A e u y new h =
       result = F .result;
       own = F .own;
       filled = filled-result K M α A y (F .condition) (F .action) (F .result) (F .is)
-          (unopened-of K (F .condition) (F .action) (F .result) M α A (F .is) u);
+          (u .is E (F .condition) (F .action) (F .result) M A (F .own) (F .is));
     }
 
-module _ (question part tally : List ℕ) (T : TallyIs question part 1 tally) (U : PartUnrestricted question part) (at depth v w object : ℕ) (left : Located) (one : LocateIs part tally (at + 1) depth v left)
-    (m : ℕ) (N : MiddleIs part tally at m) (right : Located) (two : LocateIs part tally m depth w right) where
-  module _ (q : Question) (P : Term) (x : ℕ) (lists : Lists question part x q P) (K : List Frame) (L R : Term) (first number : ℕ)
-      (p : Placed (q .arities) (bodyOf (q .bodies)) P K (par L R) at depth first number) (α : Act) (A : Term) (β : Act) (B : Term) (y new : ℕ)
-      (l : Sided q (at + 1) depth L α A y new left) (r : Sided q m depth R β B y new right) (ends : m ≡ at + 1 + length (encode depth L)) where
-    abbrev J : List Frame
-    J = l .frames
+module _ (question part : List ℕ) (at depth m : ℕ) (left right : Located) (q : Question) (P : Term) (x : ℕ) (lists : Lists question part x q P) (K : List Frame)
+    (L R : Term) (first number : ℕ) (p : Placed (q .arities) (bodyOf (q .bodies)) P K (par L R) at depth first number) (α : Act) (A : Term) (β : Act) (B : Term)
+    (y new : ℕ) (l : Sided q (at + 1) depth L α A y new left) (r : Sided q m depth R β B y new right) (ends : m ≡ at + 1 + length (encode depth L)) where
+  abbrev J : List Frame
+  J = l .frames
 
-    abbrev I : List Frame
-    I = r .frames
+  abbrev I : List Frame
+  I = r .frames
 
-    abbrev X : Term
-    X = ren (receiving (l .name) (λ n. n) (l .action)) (l .result)
+  abbrev X : Term
+  X = ren (receiving (l .name) (λ n. n) (l .action)) (l .result)
 
-    abbrev Y : Term
-    Y = ren (receiving (r .name) (λ n. n) (r .action)) (r .result)
+  abbrev Y : Term
+  Y = ren (receiving (r .name) (λ n. n) (r .action)) (r .result)
 
-    abbrev start : List ℕ
-    start = firstBytes K depth (p .level) J I
+  abbrev start : List ℕ
+  start = firstBytes K depth (p .level) J I
 
-    abbrev centre : List ℕ
-    centre = betweenBytes K depth (p .level) J I
+  abbrev centre : List ℕ
+  centre = betweenBytes K depth (p .level) J I
 
-    abbrev finish : List ℕ
-    finish = lastBytes K depth (p .level) J I
+  abbrev finish : List ℕ
+  finish = lastBytes K depth (p .level) J I
 
-    -- the part's bytes, and those of the result
-    bytes : (C D : Term) → encode 0 (fill K (par (fill J C) (fill I D)))
-        ≡ start ++ (encode (left .depth) C ++ (centre ++ (encode (right .depth) D ++ finish)))
-    bytes C D =
-        pair-bytes K depth (p .level) J I C D
-        ∙ ap₂ (λ (d e : ℕ). start ++ (encode d C ++ (centre ++ (encode e D ++ finish)))) (l .level) (r .level)
+  -- the part's bytes, and those of the result
+  bytes : (C D : Term) → encode 0 (fill K (par (fill J C) (fill I D)))
+      ≡ start ++ (encode (left .depth) C ++ (centre ++ (encode (right .depth) D ++ finish)))
+  bytes C D =
+      pair-bytes K depth (p .level) J I C D
+      ∙ ap₂ (λ (d e : ℕ). start ++ (encode d C ++ (centre ++ (encode e D ++ finish)))) (l .level) (r .level)
 
-    split : part ≡ start ++ (encode (left .depth) (l .term) ++ (centre ++ (encode (right .depth) (r .term) ++ finish)))
-    split =
-        lists .bytes ∙ ap (encode 0) (sym (p .whole)) ∙ ap₂ (λ (C D : Term). encode 0 (fill K (par C D))) (sym (l .whole)) (sym (r .whole))
-        ∙ bytes (l .term) (r .term)
+  split : part ≡ start ++ (encode (left .depth) (l .term) ++ (centre ++ (encode (right .depth) (r .term) ++ finish)))
+  split =
+      lists .bytes ∙ ap (encode 0) (sym (p .whole)) ∙ ap₂ (λ (C D : Term). encode 0 (fill K (par C D))) (sym (l .whole)) (sym (r .whole))
+      ∙ bytes (l .term) (r .term)
 
-    start-length : length start ≡ left .at
-    start-length = omega (arith, p .place, l .place, length-append (bytesBefore K) (7 ∷ beforeIn depth J))
+  start-length : length start ≡ left .at
+  start-length = omega (arith, p .place, l .place, length-append (bytesBefore K) (7 ∷ beforeIn depth J))
 
-    side-length : length (encode depth L) ≡ length (beforeIn depth J) + (length (encode (left .depth) (l .term)) + length (behindIn depth J))
-    side-length =
-        ap (λ (C : Term). length (encode depth C)) (sym (l .whole)) ∙ ap length (fill-bytes-in depth J (l .term))
-        ∙ ap (λ (d : ℕ). length (beforeIn depth J ++ (encode d (l .term) ++ behindIn depth J))) (l .level)
-        ∙ length-append (beforeIn depth J) (encode (left .depth) (l .term) ++ behindIn depth J)
-        ∙ ap (λ (n : ℕ). length (beforeIn depth J) + n) (length-append (encode (left .depth) (l .term)) (behindIn depth J))
+  side-length : length (encode depth L) ≡ length (beforeIn depth J) + (length (encode (left .depth) (l .term)) + length (behindIn depth J))
+  side-length =
+      ap (λ (C : Term). length (encode depth C)) (sym (l .whole)) ∙ ap length (fill-bytes-in depth J (l .term))
+      ∙ ap (λ (d : ℕ). length (beforeIn depth J ++ (encode d (l .term) ++ behindIn depth J))) (l .level)
+      ∙ length-append (beforeIn depth J) (encode (left .depth) (l .term) ++ behindIn depth J)
+      ∙ ap (λ (n : ℕ). length (beforeIn depth J) + n) (length-append (encode (left .depth) (l .term)) (behindIn depth J))
 
-    centre-length : length centre ≡ length (behindIn depth J) + length (beforeIn depth I)
-    centre-length = length-append (behindIn depth J) (beforeIn depth I)
+  centre-length : length centre ≡ length (behindIn depth J) + length (beforeIn depth I)
+  centre-length = length-append (behindIn depth J) (beforeIn depth I)
 
-    abbrev passed : ℕ
-    passed = left .at + length (encode (left .depth) (l .term))
+  abbrev passed : ℕ
+  passed = left .at + length (encode (left .depth) (l .term))
 
-    from-passed : drop passed part ≡ centre ++ (encode (right .depth) (r .term) ++ finish)
-    from-passed =
-        ap (drop passed) (split ∙ sym (append-assoc start (encode (left .depth) (l .term)) (centre ++ (encode (right .depth) (r .term) ++ finish))))
-        ∙ drop-at (start ++ encode (left .depth) (l .term)) (centre ++ (encode (right .depth) (r .term) ++ finish)) passed
-        (omega (arith, start-length, length-append start (encode (left .depth) (l .term))))
+  from-passed : drop passed part ≡ centre ++ (encode (right .depth) (r .term) ++ finish)
+  from-passed =
+      ap (drop passed) (split ∙ sym (append-assoc start (encode (left .depth) (l .term)) (centre ++ (encode (right .depth) (r .term) ++ finish))))
+      ∙ drop-at (start ++ encode (left .depth) (l .term)) (centre ++ (encode (right .depth) (r .term) ++ finish)) passed
+      (omega (arith, start-length, length-append start (encode (left .depth) (l .term))))
 
-    holes : (W : Term) → W ≡ fill K (par (fill J X) (fill I Y)) → Holes q part left right new (encode 0 W)
-    holes W e = record {
-      first = start;
-      one = encode (left .depth) X;
-      rest = centre ++ (encode (right .depth) (r .term) ++ finish);
-      leftHole = record {
-        term = l .term;
-        bytes = split;
-        place = omega (arith, start-length);
-        scope = l .scope;
-        name = l .name;
-        received = l .received;
-        condition = l .condition;
-        action = l .action;
-        result = l .result;
-        own = l .own;
-        is = refl;
-      };
-      end = passed;
-      ends = refl;
-      between = centre;
-      two = encode (right .depth) Y;
-      last = finish;
-      rightHole = record {
-        term = r .term;
-        bytes = from-passed;
-        place = omega (arith, l .place, r .place, ends, side-length, centre-length);
-        scope = r .scope;
-        name = r .name;
-        received = r .received;
-        condition = r .condition;
-        action = r .action;
-        result = r .result;
-        own = r .own;
-        is = refl;
-      };
-      leftDeep = omega (arith, l .level, l .place, p .place, start-length, placed-depth p, level-before depth J);
-      rightDeep = omega (arith, r .level, l .place, p .place, start-length, centre-length, placed-depth p, level-before depth I);
-      is = ap (encode 0) e ∙ bytes X Y;
-    }
-
-  pub met-taken : (new : ℕ) → new ≡ tableSlot object → (merges : Bool) (class area : List ℕ) (count r : ℕ) (area′ : List ℕ)
-      → PutMetIs question part left right new merges class area count r area′ → TakeMetIs question part at depth v w object merges class area count r area′
-  unfolding Leads Unopened receiving candidates
-  met-taken new slot merges class area count r area′ put = record {
-    is = λ q P x lists K L R first number p hv hw M₁ α A ea ua M₂ β B eb ub y sent below N₁ M W e c scope.
-        let h = subst (λ (n : ℕ). HasNew depth n y) (sym slot) (new-sent depth y object sent below) in
-        let pl = placed-left p in
-        let pr = placed-right p in
-        let bl = placed-bytes lists pl in
-        let br = placed-bytes lists pr in
-        let ends : m ≡ at + 1 + length (encode depth L) =
-        N .is (omega (arith, stands part (at + 1) depth L (bytesBehind (leftOf R ∷ K)) bl))
-        ∙ T .is q (at + 1) nameCount depth (λ n. n) L (bytesBehind (leftOf R ∷ K)) (lists .accepted) (pl .scope) bl .2 in
-        let cl = one .is question T q L (bytesBehind (leftOf R ∷ K)) (lists .accepted) (pl .scope) bl hv in
-        let cr = two .is question T q R (bytesBehind (rightOf L ∷ K)) (lists .accepted) (pr .scope) (ap (λ (k : ℕ). drop k part) ends ∙ br) hw in
-        let l = sided q part (at + 1) depth L (getD (visible (bodyOf (q .bodies)) 1 L) v blocked) left cl M₁ α A ea ua y new h in
-        let r = sided q part m depth R (getD (visible (bodyOf (q .bodies)) 1 R) w blocked) right cr M₂ β B eb ub y new h in
-        let one-side : Term = ren (receiving y (λ n. n) α) A in
-        let other-side : Term = ren (receiving y (λ n. n) β) B in
-        let whole : W ≡ fill K (par (fill (l .frames) (ren (receiving (l .name) (λ n. n) (l .action)) (l .result))) (fill (r .frames) (ren (receiving (r .name) (λ n. n) (r .action)) (r .result)))) =
-        sym (ren-id W) ∙ filled-result K M tauA W 0 N₁ tauA (par one-side other-side) e tt ∙ ap (fill K) (ren-id (par one-side other-side))
-        ∙ ap₂ (λ (C D : Term). fill K (par C D)) (l .filled) (r .filled) in
-        let f = plain-filled K (par L R) (subst Unrestricted (sym (p .whole)) (plain-part question part U x q P lists)) in
-        let bodies = U .0 q (lists .accepted) in
-        let a : Unrestricted one-side =
-        unrestricted-ren (receiving y (λ n. n) α) A (plain-result M₁ α A (plain-term (bodyOf (q .bodies)) bodies L (f .0 .0) false v M₁ α A ea)) in
-        let b : Unrestricted other-side =
-        unrestricted-ren (receiving y (λ n. n) β) B (plain-result M₂ β B (plain-term (bodyOf (q .bodies)) bodies R (f .0 .1) false w M₂ β B eb)) in
-        let u : Plain (step M tauA W) = subst Plain e (plain-raised K (f .1) (step N₁ tauA (par one-side other-side)) (a, b)) in
-        put .is q x M W (lists .accepted) c scope u (holes q P x lists K L R first number p α A β B y new l r ends W whole);
+  holes : (W : Term) → W ≡ fill K (par (fill J X) (fill I Y)) → Holes q part left right new (encode 0 W)
+  holes W e = record {
+    first = start;
+    one = encode (left .depth) X;
+    rest = centre ++ (encode (right .depth) (r .term) ++ finish);
+    leftHole = record {
+      term = l .term;
+      bytes = split;
+      place = omega (arith, start-length);
+      scope = l .scope;
+      name = l .name;
+      received = l .received;
+      condition = l .condition;
+      action = l .action;
+      result = l .result;
+      own = l .own;
+      is = refl;
+    };
+    end = passed;
+    ends = refl;
+    between = centre;
+    two = encode (right .depth) Y;
+    last = finish;
+    rightHole = record {
+      term = r .term;
+      bytes = from-passed;
+      place = omega (arith, l .place, r .place, ends, side-length, centre-length);
+      scope = r .scope;
+      name = r .name;
+      received = r .received;
+      condition = r .condition;
+      action = r .action;
+      result = r .result;
+      own = r .own;
+      is = refl;
+    };
+    leftDeep = omega (arith, l .level, l .place, p .place, start-length, placed-depth p, level-before depth J);
+    rightDeep = omega (arith, r .level, l .place, p .place, start-length, centre-length, placed-depth p, level-before depth I);
+    is = ap (encode 0) e ∙ bytes X Y;
   }
+
+-- A communication as a candidate of the part.
+module _ (question part : List ℕ) (node : Node) (pair : Pair) (q : Question) (P : Term) (M : Cond) (W : Term) (C : Communicates question part node pair q P M W) where
+  pub met-numbered : getD (candidatesOf true q P) (node .number + pair .number) blocked ≡ step M tauA W
+  unfolding candidatesOf candidates
+  met-numbered = C .placed .silently .is (pair .number) (C .number) ∙ ap (raised (C .frames)) (C .numbered) ∙ C .is
+
+  pub met-scope : InScope nameCount (q .arities) 0 W
+  unfolding candidatesOf candidates
+  met-scope = silent-scope question q P (C .lists .accepted) (C .lists .scope) (node .number + pair .number) M W met-numbered
+
+-- The two sides of a communication, where the name y is received: its slot is `new`.
+module _ (question part tally : List ℕ) (T : TallyIs question part 1 tally) (node : Node) (pair : Pair) (both : Components) (E : ComponentsAre part tally node pair both)
+    (q : Question) (P : Term) (M : Cond) (W : Term) (C : Communicates question part node pair q P M W) where
+  abbrev body : ℕ → Term
+  body = bodyOf (q .bodies)
+
+  abbrev LeftUnopens : Type 0
+  LeftUnopens = Unopens q part (node .at + 1) (node .depth) (C .left) (getD (visible body 1 (C .left)) (pair .left .number) blocked) (both .left) (C .leftAct)
+
+  abbrev RightUnopens : Type 0
+  RightUnopens = Unopens q part (E .middle) (node .depth) (C .right) (getD (visible body 1 (C .right)) (pair .right .number) blocked) (both .right) (C .rightAct)
+
+  -- the part's result without a restriction that [Close] puts around the sides
+  abbrev pub metTerm : ℕ → Term
+  metTerm y = fill (C .frames) (par (ren (receiving y (λ n. n) (C .leftAct)) (C .leftResult)) (ren (receiving y (λ n. n) (C .rightAct)) (C .rightResult)))
+
+  pub met-holes : (y new : ℕ) → HasNew (node .depth) new y → LeftUnopens → RightUnopens → Holes q part (both .left) (both .right) new (encode 0 (metTerm y))
+  unfolding Leads
+  met-holes y new h ul ur =
+      let K = C .frames in
+      let L = C .left in
+      let R = C .right in
+      let at = node .at in
+      let d = node .depth in
+      let p = C .placed in
+      let pl = placed-left p in
+      let pr = placed-right p in
+      let bl = placed-bytes (C .lists) pl in
+      let br = placed-bytes (C .lists) pr in
+      let ends : E .middle ≡ at + 1 + length (encode d L) =
+      E .ends .is (omega (arith, stands part (at + 1) d L (bytesBehind (leftOf R ∷ K)) bl))
+      ∙ T .is q (at + 1) nameCount d (λ n. n) L (bytesBehind (leftOf R ∷ K)) (C .lists .accepted) (pl .scope) bl .2 in
+      let cl = E .left .is question T q L (bytesBehind (leftOf R ∷ K)) (C .lists .accepted) (pl .scope) bl (C .leftInside) in
+      let cr = E .right .is question T q R (bytesBehind (rightOf L ∷ K)) (C .lists .accepted) (pr .scope) (ap (λ (k : ℕ). drop k part) ends ∙ br) (C .rightInside) in
+      let l = sided q part (at + 1) d L (getD (visible body 1 L) (pair .left .number) blocked) (both .left) cl (C .leftCond) (C .leftAct) (C .leftResult) (C .leftStep) ul y new h in
+      let r = sided q part (E .middle) d R (getD (visible body 1 R) (pair .right .number) blocked) (both .right) cr (C .rightCond) (C .rightAct) (C .rightResult) (C .rightStep) ur y new h in
+      holes question part at d (E .middle) (both .left) (both .right) q P (node .x) (C .lists) K L R (C .first) (node .number) p (C .leftAct) (C .leftResult) (C .rightAct) (C .rightResult)
+      y new l r ends (metTerm y) (ap₂ (λ (X Y : Term). fill K (par X Y)) (l .filled) (r .filled))

@@ -2,15 +2,15 @@
 ghost use mathlib.Core.Path.{_≡_};
 ghost use mathlib.Core.Bool.{true};
 ghost use Prim.Native.Nat.{_+_, _*_, _≤_, _<_};
-ghost use lib.ListN.{length, getD};
+ghost use lib.ListN.{length};
 ghost use Rattle.terms.specs.Limits.{nameCount, longestTerm};
-ghost use Rattle.steps_tallies.specs.Tally.{restrictedAt};
+ghost use Rattle.steps_tallies.specs.Tally.{EndsInside};
 ghost use Rattle.steps_splicing.specs.Ready.{Inside};
-ghost use Rattle.steps_splicing.specs.Locating.{tableSlot, TakeMetIs};
+ghost use Rattle.steps_splicing.specs.Locating.{tableSlot};
 ghost use Rattle.steps_placing.specs.Putting.{CanPut};
 ghost use Rattle.steps_communications.specs.Meeting.{mostNumbers, firstMerged, lastMerged, isBetween, meetsBetween, senderOf, sendsFree, NextMetIs, PairIs, MeetRowIs};
 ghost use Rattle.steps_rows.specs.Rows.{rowBytes, mostRows, actionKind};
-ghost use Rattle.steps_communications.specs.Met.{MeetsIs};
+ghost use Rattle.steps_communications.specs.Met.{MeetsIs, ComponentsAre, CanTake, TakeMetIs};
 use steps_entries::limits::MOST_STEPS;
 use steps_entries::listed::ActionBytes;
 use steps_passing::pass::middle_of;
@@ -22,10 +22,10 @@ use steps_placing::put::put_met;
 use steps_rows::rows::MATCHED;
 use steps_rows::rows::REPEATED;
 use steps_rows::rows::ROW_BYTES;
+use steps_splicing::locate::Located;
 use steps_splicing::locate::locate;
 use steps_splicing::splice::Selection;
 use steps_splicing::splice::own_names;
-use steps_tallies::tally::is_restricted;
 use terms_bytes::limits::NAME_COUNT;
 use terms_renaming::tables::merging;
 
@@ -60,15 +60,17 @@ struct Pair {
     number: usize,
 }
 
-// [Com] at the parallel at `at`: the numbers of the two sides' visible candidates, the slot of the name that is sent, and whether the condition merges
-// names.
-struct Com {
-    at: usize,
-    depth: usize,
-    left: usize,
-    right: usize,
-    object: u8,
+// The communication of the candidates of two rows at a parallel, and whether its condition merges names.
+struct Met {
+    node: Node,
+    pair: Pair,
     merges: bool,
+}
+
+// The components of the sides of a parallel that communicate.
+struct Components {
+    left: Located,
+    right: Located,
 }
 
 // A row of the left side and the number of its candidate, the rows of the right side, the number of the first communication, and how many steps the
@@ -196,17 +198,6 @@ fn sends_free(a: Partner, depth: usize) -> bool
     (a.object as usize) < NAME_COUNT + depth
 }
 
-// Whether the result of a communication is written between copies of the part: [Com], and no restriction is there that might go (request 2026-04).
-fn is_spliced(tally: &[u32], a: Partner, depth: usize) -> bool
-    requires { ⌜ depth ≤ longestTerm ⌝ }
-    ensures { λ r. ⌜ (r ≡ true → (sendsFree depth a ≡ true) × (getD (now (tally .entry)) restrictedAt 0 ≡ 0)) ⌝ }
-{
-    if is_restricted(tally) {
-        return false;
-    }
-    sends_free(a, depth)
-}
-
 // A name's slot in a table of names, from its slot in rows: the table has the new name between the free ones and the restrictions.
 fn table_slot(slot: u8) -> u8
     requires { ⌜ slot < 255 ⌝ }
@@ -218,32 +209,53 @@ fn table_slot(slot: u8) -> u8
     slot + 1
 }
 
-// Puts the communication of two candidates of the sides of a parallel into the list, where there are no restrictions. `class` are the classes of its
-// condition, if that merges names.
-fn take_met(
+// The components that have the candidates of two rows.
+fn components_of(part: &[u8], tally: &[u32], node: Node, pair: Pair) -> Components
+    requires { ⌜ Inside (now part) (node .at) (node .depth) × (length (now part) ≤ longestTerm) × EndsInside (now part) (now tally) ⌝ }
+    ensures { λ r. ⌜ ComponentsAre (now (part .entry)) (now (tally .entry)) node pair r ⌝ }
+{
+    let at = node.at;
+    let depth = node.depth;
+    let a = pair.left;
+    let b = pair.right;
+    let left = locate(part, tally, at + 1, depth, a.number);
+    let middle = middle_of(part, tally, at);
+    let right = locate(part, tally, middle, depth, b.number);
+    Components { left, right }
+}
+
+// Puts a communication into the list where a free name is sent: [Com]. `class` are the classes of its condition.
+fn take_com(
     question: &[u8],
     bodies: &[u32],
     part: &[u8],
     tally: &[u32],
-    sent: Com,
+    met: Met,
     class: &[u8],
     area: &mut [u8],
     count: usize,
 ) -> usize
-    requires { ⌜ CanPut (now question) (now bodies) (now part) (now tally) (now area) count × Inside (now part) (sent .at) (sent .depth) × (sent .object < 255) × (nameCount ≤ length (now class)) × (getD (now tally) restrictedAt 0 ≡ 0) ⌝ }
-    ensures { λ r. ⌜ TakeMetIs (now (question .entry)) (now (part .entry)) (sent .at) (sent .depth) (sent .left) (sent .right) (sent .object) (sent .merges) (now (class .entry)) (now (area .entry)) count r (now (area .exit)) ⌝ }
+    requires { ⌜ CanTake (now question) (now bodies) (now part) (now tally) (now area) count met (now class) × (sendsFree (met .node .depth) (senderOf (met .pair .left) (met .pair .right)) ≡ true) ⌝ }
+    ensures { λ r. ⌜ TakeMetIs (now (question .entry)) (now (part .entry)) met (now (class .entry)) (now (area .entry)) count r (now (area .exit)) ⌝ }
 {
-    let at = sent.at;
-    let depth = sent.depth;
-    let left = locate(part, tally, at + 1, depth, sent.left);
-    let middle = middle_of(part, tally, at);
-    let right = locate(part, tally, middle, depth, sent.right);
-    let new = table_slot(sent.object);
+    let node = met.node;
+    let pair = met.pair;
+    let both = components_of(part, tally, node, pair);
+    let left = both.left;
+    let right = both.right;
+    let a = pair.left;
+    let b = pair.right;
+    let from = sender(a, b);
+    let new = table_slot(from.object);
+    let number = node.number + pair.number;
     let communication = Communication {
         left,
         right,
         new,
-        merges: sent.merges,
+        merges: met.merges,
+        closes: false,
+        number,
+        x: node.x,
     };
     put_met(
         question,
@@ -257,7 +269,63 @@ fn take_met(
     )
 }
 
-// Puts the communication of two candidates on one channel into the list. Where it is not written between copies it is found by its number in the part.
+// Puts a communication into the list by its number in the part.
+fn take_numbered(
+    question: &[u8],
+    bodies: &[u32],
+    part: &[u8],
+    tally: &[u32],
+    met: Met,
+    class: &[u8],
+    area: &mut [u8],
+    count: usize,
+) -> usize
+    requires { ⌜ CanTake (now question) (now bodies) (now part) (now tally) (now area) count met (now class) ⌝ }
+    ensures { λ r. ⌜ TakeMetIs (now (question .entry)) (now (part .entry)) met (now (class .entry)) (now (area .entry)) count r (now (area .exit)) ⌝ }
+{
+    let node = met.node;
+    let pair = met.pair;
+    let number = node.number + pair.number;
+    let candidate = Selection {
+        silently: true,
+        number,
+        x: node.x,
+    };
+    let action = ActionBytes {
+        kind: 0,
+        channel: 0,
+        object: 0,
+    };
+    let step = Step { candidate, action };
+    put_classed(question, bodies, part, tally, step, class, area, count)
+}
+
+// Puts a communication into the list whose condition has these classes.
+fn take_met(
+    question: &[u8],
+    bodies: &[u32],
+    part: &[u8],
+    tally: &[u32],
+    met: Met,
+    class: &[u8],
+    area: &mut [u8],
+    count: usize,
+) -> usize
+    requires { ⌜ CanTake (now question) (now bodies) (now part) (now tally) (now area) count met (now class) ⌝ }
+    ensures { λ r. ⌜ TakeMetIs (now (question .entry)) (now (part .entry)) met (now (class .entry)) (now (area .entry)) count r (now (area .exit)) ⌝ }
+{
+    let node = met.node;
+    let pair = met.pair;
+    let a = pair.left;
+    let b = pair.right;
+    let from = sender(a, b);
+    if sends_free(from, node.depth) {
+        return take_com(question, bodies, part, tally, met, class, area, count);
+    }
+    take_numbered(question, bodies, part, tally, met, class, area, count)
+}
+
+// Puts the communication of two candidates on one channel into the list.
 fn take_same(
     question: &[u8],
     bodies: &[u32],
@@ -271,29 +339,13 @@ fn take_same(
     requires { ⌜ CanPut (now question) (now bodies) (now part) (now tally) (now area) count × Inside (now part) (node .at) (node .depth) × (pair .left .kind ≤ 3) × (pair .right .kind ≤ 3) × (pair .left .channel ≡ pair .right .channel) × (node .number + pair .number ≤ mostNumbers + mostNumbers) ⌝ }
     ensures { λ r. ⌜ PairIs (now (question .entry)) (now (part .entry)) (node .at) (node .depth) (node .number) (pair .left) (pair .right) (pair .number) (node .x) (now (area .entry)) count r (now (area .exit)) ⌝ }
 {
-    let a = pair.left;
-    let b = pair.right;
-    let from = sender(a, b);
-    if is_spliced(tally, from, node.depth) {
-        let object = from.object;
-        let class = own_names(0);
-        let com = Com {
-            at: node.at,
-            depth: node.depth,
-            left: a.number,
-            right: b.number,
-            object,
-            merges: false,
-        };
-        return take_met(question, bodies, part, tally, com, &class, area, count);
-    }
-    let i = node.number + pair.number;
-    let candidate = Selection {
-        silently: true,
-        number: i,
-        x: node.x,
+    let class = own_names(0);
+    let met = Met {
+        node,
+        pair,
+        merges: false,
     };
-    take_candidate(question, bodies, part, tally, candidate, area, count)
+    take_met(question, bodies, part, tally, met, &class, area, count)
 }
 
 // Puts the communication of two candidates on two channels, which its condition merges, into the list.
@@ -313,32 +365,12 @@ fn take_merging(
     let a = pair.left;
     let b = pair.right;
     let class = merging(a.channel, b.channel);
-    let from = sender(a, b);
-    if is_spliced(tally, from, node.depth) {
-        let sent = from.object;
-        let com = Com {
-            at: node.at,
-            depth: node.depth,
-            left: a.number,
-            right: b.number,
-            object: sent,
-            merges: true,
-        };
-        return take_met(question, bodies, part, tally, com, &class, area, count);
-    }
-    let action = ActionBytes {
-        kind: 0,
-        channel: 0,
-        object: 0,
+    let met = Met {
+        node,
+        pair,
+        merges: true,
     };
-    let i = node.number + pair.number;
-    let candidate = Selection {
-        silently: true,
-        number: i,
-        x: node.x,
-    };
-    let step = Step { candidate, action };
-    put_classed(question, bodies, part, tally, step, &class, area, count)
+    take_met(question, bodies, part, tally, met, &class, area, count)
 }
 
 // Puts the communication of two candidates whose rows may meet into the list. Where a candidate stands beneath a match of free names it is found by
