@@ -9,3 +9,4 @@ mod RepeatedCandidates
 pub mod ResultScope
 mod TakeLaws
 mod TidiedResults
+mod WrittenLaws

@@ -1,8 +1,8 @@
--- Where neither the part nor a body has a restriction, the results of its candidates have none, and their canonical form is that of the result as it is.
+-- Where neither the part nor a body has a restriction, the results of its candidates have none, and are tidied as they are.
 -- Assumes nothing.
 use mathlib.Core.Bool.{Bool, true, false}
 use mathlib.Core.List.{List, [], _∷_, _++_}
-use mathlib.Core.Path.{_≡_, refl, sym, subst}
+use mathlib.Core.Path.{_≡_, refl, subst}
 use Prim.Native.Nat.{ℕ}
 use lib.ListN.{getD}
 use Rattle.calculus.specs.Abstraction.{Act, tauA, inpA, outA, boutA}
@@ -13,18 +13,16 @@ use Rattle.terms.specs.Encoding.{encode}
 use Rattle.terms.specs.Limits.{nameCount}
 use Rattle.terms.specs.Question.{Question, bodyOf}
 use Rattle.terms_tidying.specs.Restrictions.{Unrestricted}
-use Rattle.steps.specs.Forms.{resultForm, asItIs}
+use Rattle.steps.specs.Forms.{resultForm}
 use Rattle.steps.specs.Listed.{listedAs, canonStep, resultBytes}
 use Rattle.steps.specs.Lists.{All}
 use Rattle.steps.specs.Raw.{Candidate, step, blocked, visible, silent}
 use Rattle.steps_plans.specs.Plans.{receiving}
 use Rattle.steps_tallies.specs.Candidates.{candidates}
-use Rattle.steps_tallies.proofs.Unrestricted.{Plain, plain-candidates, plain-canon}
-use Rattle.steps_splicing.specs.Contexts.{Frame}
+use Rattle.steps_tallies.proofs.Unrestricted.{Plain, unrestricted-tidied, unrestricted-ren, plain-candidates}
 use Rattle.steps_splicing.specs.ListedParts.{Lists}
-use Rattle.steps_splicing.specs.PlacedResults.{Raises}
 use Rattle.steps_splicing.specs.Ready.{PartUnrestricted}
-use Rattle.steps_splicing.proofs.PlainContexts.{plain-filled, plain-raised}
+use Rattle.steps_splicing.proofs.PlainContexts.{plain-result}
 use Rattle.steps_placing.specs.Taking.{candidatesOf}
 use Rattle.steps_placing.proofs.ResultScope.{all-at, within}
 
@@ -38,9 +36,8 @@ tidied-canonical x M (outA a b) A = refl
 tidied-canonical x M (boutA a) A = refl
 
 -- A result without restrictions is tidied as it is.
-pub plain-formed : (x : ℕ) (M : Cond) (α : Act) (A : Term) → Plain (step M α A) → canonStep resultForm nameCount x M α A ≡ canonStep asItIs nameCount x M α A
-unfolding resultForm
-plain-formed x M α A p = plain-canon nameCount x M α A p
+pub plain-tidied : (ρ : ℕ → ℕ) (M : Cond) (α : Act) (A : Term) → Plain (step M α A) → tidy (ren ρ A) ≡ ren ρ A
+plain-tidied ρ M α A p = unrestricted-tidied (ren ρ A) (unrestricted-ren ρ A (plain-result M α A p))
 
 all-split : (S : Candidate → Type 0) (cs ds : List Candidate) → All S (cs ++ ds) → All S cs × All S ds
 all-split S [] ds a = (tt, a)
@@ -64,12 +61,3 @@ module _ (question part : List ℕ) (U : PartUnrestricted question part) (x : �
   pub plain-at : (silently : Bool) (i : ℕ) (M : Cond) (α : Act) (A : Term) → getD (candidatesOf silently q P) i blocked ≡ step M α A → Plain (step M α A)
   unfolding candidatesOf
   plain-at = plain-term (bodyOf (q .bodies)) (U .0 q (l .accepted)) P plain-part
-
-  -- what a candidate of a term in the part is raised to
-  pub plain-raise : (K : List Frame) (C : Term) (at depth first number : ℕ) (silently : Bool) (j : ℕ) (M : Cond) (α : Act) (A : Term)
-      → Raises q P K C at depth first number silently j M α A → Plain (step M α A)
-  plain-raise K C at depth first number silently j M α A r =
-      let f = plain-filled K C (subst Unrestricted (sym (r .placed .whole)) plain-part) in
-      subst Plain (r .is)
-      (plain-raised K (f .1) (step (r .condition) (r .action) (r .result))
-      (plain-term (bodyOf (q .bodies)) (U .0 q (l .accepted)) C (f .0) silently j (r .condition) (r .action) (r .result) (r .own)))

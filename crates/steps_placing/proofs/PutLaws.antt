@@ -1,59 +1,66 @@
 -- A step put into the list: from its classes, its action's bytes and the bytes written for its result. Assumes nothing.
 use borrow.Author.Tests.{leb-true, leb-false}
-use mathlib.Core.Bool.{Bool, true, false}
-use mathlib.Core.List.{List, _++_}
+use mathlib.Core.Bool.{Bool, true, false, cond, _||_}
+use mathlib.Core.List.{List}
 use mathlib.Core.Path.{_≡_, refl, sym, _∙_, ap, ap₂, subst}
 use native.Mathlib.Omega.{arith}
-use Prim.Native.Nat.{ℕ, _+_, _<_, _≤_}
+use Prim.Native.Nat.{ℕ, suc, _+_, _<_, _≤_}
 use lib.Dec.{leb}
-use lib.ListN.{length, take, drop}
+use lib.ListN.{length, getD, take}
 use Rattle.calculus.specs.Abstraction.{Act, tauA, inpA, outA, boutA}
 use Rattle.calculus.specs.Cond.{Cond, cls}
+use Rattle.calculus.specs.Distinction.{among}
+use Rattle.calculus.specs.Free.{fn}
 use Rattle.calculus.specs.Term.{Term, ren}
+use Rattle.calculus.specs.Tidy.{tidy}
 use Rattle.calculus.proofs.Conditions.{cls-le}
 use Rattle.calculus.proofs.Renaming.{ren-id}
 use Rattle.terms.specs.Encoding.{encode, InScope}
 use Rattle.terms.specs.Limits.{nameCount, longestTerm}
+use Rattle.terms.specs.Question.{Question, bodyOf}
 use Rattle.terms.proofs.RenamingKeeps.{length-ren}
-use Rattle.terms_bytes.proofs.Stores.{sets-start}
-use Rattle.steps_plans.proofs.ResultLaws.{written-of}
-use Rattle.steps_tallies.specs.Bodies.{AritiesIs}
-use Rattle.terms.specs.Question.{bodyOf}
-use Rattle.steps_conditions.specs.Names.{OwnNames}
-use Rattle.steps_tallies.specs.Candidates.{candidates}
-use Rattle.steps.specs.Forms.{resultForm}
-use Rattle.steps.specs.Raw.{step}
-use Rattle.steps_plans.specs.Plans.{receiving, Written}
-use Rattle.steps_results.proofs.SilentSteps.{silent-action}
-use Rattle.steps_splicing.specs.Collecting.{PutIs}
-use Rattle.steps_entries.specs.Entries.{InsertIs}
-use Rattle.steps_entries.specs.EntryBytes.{entryBytes}
-use Rattle.steps.specs.Limits.{mostSteps}
-use Rattle.steps.specs.Listed.{kindOf, channelOf, objectOf, listedAs, canonStep, resultBytes}
-use Rattle.steps_splicing.specs.Merging.{MergedIs}
-use Rattle.steps_placing.specs.Taking.{candidatesOf, ResultIs}
-use Rattle.steps_splicing.specs.PlacedResults.{Trivial, PlacedResultIs}
-use Rattle.steps_entries.specs.StepActions.{stepAction}
-use Rattle.steps_placing.specs.Placing.{PutResultIs, PutMergedIs, PutPlacedIs, PutClassedIs}
-use Rattle.steps_entries.specs.declared.listed.ActionBytes.{ActionBytes}
-use Rattle.steps_placing.proofs.CanonBytes.{actionOfStep, coded, entry-canonical}
-use Rattle.steps_placing.proofs.CollectLaws.{put-step, put-long, take-sets}
-use Rattle.steps_splicing.proofs.PlacedResults.{trivial-result}
-use Rattle.steps_placing.proofs.ResultScope.{silent-scope}
-use Rattle.steps_splicing.proofs.CandidateResults.{receiving-canonical}
-use Rattle.steps_splicing.specs.Ready.{PartUnrestricted}
 use Rattle.terms.proofs.WellFormed.{accepted-well-formed}
 use Rattle.terms_tidying.specs.Tidying.{longestRaw}
+use Rattle.terms_tidying.proofs.Mentions.{unmentioned, narrowed}
+use Rattle.steps.specs.Forms.{resultForm}
+use Rattle.steps.specs.Limits.{mostSteps}
+use Rattle.steps.specs.Listed.{kindOf, channelOf, objectOf, listedAs, canonStep, resultBytes}
+use Rattle.steps.specs.Raw.{step, blocked, visible, silent}
+use Rattle.steps_tallies.specs.Candidates.{candidates}
 use Rattle.steps_tallies.specs.Tally.{BodiesTidied}
-use Rattle.steps_tallies.proofs.Unrestricted.{Plain}
+use Rattle.steps_conditions.specs.Names.{OwnNames}
+use Rattle.steps_plans.specs.Plans.{receiving, Written}
+use Rattle.steps_plans.proofs.ResultLaws.{written-of}
+use Rattle.steps_results.proofs.SilentSteps.{silent-action}
+use Rattle.steps_entries.specs.Entries.{InsertIs}
+use Rattle.steps_entries.specs.EntryBytes.{entryBytes}
+use Rattle.steps_entries.specs.StepActions.{stepAction}
+use Rattle.steps_entries.specs.declared.listed.ActionBytes.{ActionBytes}
+use Rattle.steps_splicing.specs.Collecting.{PutIs}
+use Rattle.steps_splicing.specs.Contexts.{Frame, raised, Placed}
+use Rattle.steps_splicing.specs.ListedParts.{Lists}
+use Rattle.steps_splicing.specs.Locating.{MetResultIs}
+use Rattle.steps_splicing.specs.PlacedResults.{Trivial, Raises, PlacedResultIs}
+use Rattle.steps_splicing.specs.Ready.{PartUnrestricted}
+use Rattle.steps_splicing.proofs.CandidateResults.{receiving-canonical}
+use Rattle.steps_placing.specs.Placing.{PutResultIs, PutWrittenIs, PutSilentIs, PutPlacedIs, PutClassedIs, PutMetIs, StandsFor}
+use Rattle.steps_placing.specs.Taking.{candidatesOf, ResultIs}
 use Rattle.steps_placing.specs.TidiedResults.{TidiedResultIs}
-use Rattle.steps_placing.proofs.PlainResults.{tidied-canonical, plain-formed, plain-at, plain-raise}
+use Rattle.steps_placing.specs.declared.put.Communication.{Communication}
+use Rattle.steps_placing.proofs.CanonBytes.{actionOfStep, coded, entry-canonical}
+use Rattle.steps_placing.proofs.CollectLaws.{put-step, put-long, take-sets}
+use Rattle.steps_placing.proofs.PlainResults.{tidied-canonical, plain-tidied, plain-at}
 use Rattle.steps_placing.proofs.RawRoom.{raw-room}
+use Rattle.steps_placing.proofs.ResultScope.{within, silent-scope}
+use Rattle.steps_placing.proofs.TidiedResults.{result-scope}
+use Rattle.steps_placing.proofs.WrittenLaws.{whole-bytes}
 
--- The result without restrictions as it is written.
-as-written : (x : ℕ) (M : Cond) (α : Act) (A : Term) → Plain (step M α A)
-    → resultBytes (canonStep resultForm nameCount x M α A) ≡ encode 0 (ren (receiving x (cls M) α) A)
-as-written x M α A p = ap resultBytes (plain-formed x M α A p) ∙ receiving-canonical x M α A
+pub opposed : {T : Type 0} → true ≡ false → T
+opposed f = let z : _≡_ {A = ℕ} 0 1 = cc in absurd (omega arith)
+
+pub neither : (a b : Bool) → a || b ≡ false → (a ≡ false) × (b ≡ false)
+neither false b e = (refl, e)
+neither true b e = opposed e
 
 -- The action's bytes are those of the step in canonical form.
 pub step-coded : (x : ℕ) (M : Cond) (α : Act) → stepAction x M α ≡ coded (actionOfStep M x α)
@@ -100,19 +107,39 @@ module _ (class : List ℕ) (action : ActionBytes) (result : List ℕ) (n : ℕ)
           go true d = omega (arith, f (leb-true b o d))
           go false d = absurd (omega (arith, g (leb-false b o d)))
 
--- By the way in which the result was written: as it is, where there are no restrictions.
-pub classed-put : (question part : List ℕ) → PartUnrestricted question part → (silently : Bool) (i : ℕ) (class : List ℕ) (action : ActionBytes) (x : ℕ) (area : List ℕ) (count r : ℕ)
-    (area′ out result : List ℕ) (n : ℕ) → length out ≡ longestTerm → ResultIs question part silently i class x out n result
-    → PutResultIs class action result n area count r area′ → PutClassedIs question part silently i class action x area count r area′
-unfolding ResultIs
-classed-put question part U silently i class action x area count r area′ out result n size w p = record {
-  is = λ q P l M α A e classes acts.
-      let B : List ℕ = encode 0 (ren (receiving x (cls M) α) A) in
-      p .is out x M α A (omega arith)
-      (rw (as-written x M α A (plain-at question part U x q P l silently i M α A e))
-      (written-of 0 A out 0 B n result (omega arith) (length-ren 0 0 (receiving x (cls M) α) A)
-      (λ low shallow. w low q P l M α A e (cls M) (λ k h. (classes k h, omega (arith, cls-le M k))) (λ t. let k = shallow t in omega arith)))) classes acts;
-}
+-- By the way in which its result was written: by the classes of its condition,
+module _ (question part : List ℕ) (restricted : Bool) (U : restricted ≡ false → PartUnrestricted question part) (silently : Bool) (i : ℕ) (class : List ℕ) (action : ActionBytes) (x : ℕ)
+    (area : List ℕ) (count r : ℕ) (area′ out : List ℕ) (size : length out ≡ longestTerm) (written : List ℕ) (n : ℕ) where
+  pub classed-put : ResultIs question part silently i class x out n written → PutWrittenIs question class action written n restricted area count r area′
+      → PutClassedIs question part silently i class action x area count r area′
+  unfolding ResultIs
+  classed-put w p = record {
+    is = λ q P l M α A e classes acts.
+        let R : Term = ren (receiving x (cls M) α) A in
+        p .is q out x M α A R (l .accepted) size (result-scope question part x q P l silently i M α A e)
+        (written-of 0 A out 0 (encode 0 R) n written (omega arith) (length-ren 0 0 (receiving x (cls M) α) A)
+        (λ low shallow. w low q P l M α A e (cls M) (λ k h. (classes k h, omega (arith, cls-le M k))) (λ t. let k = shallow t in omega arith)))
+        refl (λ f. plain-tidied (receiving x (cls M) α) M α A (plain-at question part (U f) x q P l silently i M α A e)) classes acts;
+  }
+
+  -- or, if it is silent, with its own names.
+  pub classed-silent : silently ≡ true → (own : List ℕ) → OwnNames 0 own → ResultIs question part silently i own x out n written
+      → PutSilentIs question class written n true restricted area count r area′ → PutClassedIs question part silently i class action x area count r area′
+  unfolding ResultIs OwnNames candidatesOf candidates receiving
+  classed-silent quiet own owns w p = record {
+    is = λ q P l M α A e classes acts.
+        let e₀ : getD (silent (bodyOf (q .bodies)) 1 P) i blocked ≡ step M α A = subst (λ (b : Bool). getD (candidates b (bodyOf (q .bodies)) 1 P) i blocked ≡ step M α A) quiet e in
+        let t : α ≡ tauA = silent-action (bodyOf (q .bodies)) 1 P i M α A e₀ in
+        let e₁ = e ∙ ap (λ (α : Act). step M α A) t in
+        let w₁ : Written out 0 (encode 0 A) n written =
+        subst (λ (B : Term). Written out 0 (encode 0 B) n written) (ren-id A)
+        (written-of 0 A out 0 (encode 0 (ren (λ k. k) A)) n written (omega arith) (length-ren 0 0 (λ k. k) A)
+        (λ low shallow. w low q P l M tauA A e₁ (λ k. k) (λ k h. (owns k (omega arith), h)) (λ t. let k = shallow t in omega arith))) in
+        subst (λ (α : Act). PutIs (step M α A) x area count r area′) (sym t)
+        (p .is q out x M A A (l .accepted) size (record { classes = classes; trivial = opposed })
+        (silent-scope question q P (l .accepted) (l .scope) i M A (e₀ ∙ ap (λ (α : Act). step M α A) t)) w₁ refl
+        (λ f. subst (λ (B : Term). tidy B ≡ B) (ren-id A) (plain-tidied (λ k. k) M tauA A (plain-at question part (U f) x q P l silently i M tauA A e₁))));
+  }
 
 -- Tidied.
 pub classed-tidied : (question part : List ℕ) → BodiesTidied question → (silently : Bool) (i : ℕ) (class : List ℕ) (action : ActionBytes) (x : ℕ) (area : List ℕ) (count r : ℕ)
@@ -127,55 +154,74 @@ classed-tidied question part T silently i class action x area count r area′ ou
       (rw (tidied-canonical x M α A) (record { fits = λ h. (omega (arith, t .0), t .1); over = λ h. omega (arith, t .0) })) classes acts;
 }
 
--- A silent step whose result was written with its own names.
-pub classed-merged : (question part : List ℕ) → PartUnrestricted question part → (silently : Bool) → silently ≡ true → (i : ℕ) (class : List ℕ) (action : ActionBytes) (x : ℕ) (area : List ℕ) (count r : ℕ)
-    (area′ out result own : List ℕ) (n : ℕ) → length out ≡ longestTerm → OwnNames 0 own → ResultIs question part silently i own x out n result
-    → PutMergedIs question class result n area count r area′ → PutClassedIs question part silently i class action x area count r area′
-unfolding ResultIs OwnNames candidatesOf candidates receiving
-classed-merged question part U true quiet i class action x area count r area′ out result own n size owns w p = record {
-  is = λ q P l M α A e classes acts.
-      let t : α ≡ tauA = silent-action (bodyOf (q .bodies)) 1 P i M α A e in
-      let e₁ = e ∙ ap (λ (α : Act). step M α A) t in
-      let w₁ : Written out 0 (encode 0 A) n result =
-      subst (λ (B : Term). Written out 0 (encode 0 B) n result) (ren-id A)
-      (written-of 0 A out 0 (encode 0 (ren (λ k. k) A)) n result (omega arith) (length-ren 0 0 (λ k. k) A)
-      (λ low shallow. w low q P l M tauA A e₁ (λ k. k) (λ k h. (owns k (omega arith), h)) (λ t. let k = shallow t in omega arith))) in
-      subst (λ (α : Act). PutIs (step M α A) x area count r area′) (sym t)
-      (p .is q out x M A (l .accepted) size classes (silent-scope question q P (l .accepted) (l .scope) i M A e₁)
-      (plain-at question part U x q P l true i M tauA A e₁) w₁);
-}
-classed-merged question part U false quiet i class action x area count r area′ out result own n size owns w p = let z : _≡_ {A = ℕ} 0 1 = cc in absurd (omega arith)
+-- A candidate of a term that stands in the part, whose condition merges nothing.
+module _ (question part : List ℕ) (at depth start : ℕ) (silently : Bool) (j : ℕ) (action : ActionBytes) (x : ℕ) (area : List ℕ) (count r : ℕ) (area′ class : List ℕ)
+    (own : OwnNames 0 class) where
+  -- its number in the part
+  numbered : (q : Question) (P : Term) (K : List Frame) (C : Term) (first number : ℕ) (M : Cond) (α : Act) (A : Term)
+      → Raises q P K C at depth first number silently j M α A → start ≡ cond silently number first
+      → getD (candidatesOf silently q P) (start + j) blocked ≡ step M α A
+  unfolding candidatesOf candidates
+  numbered q P K C first number M α A raises e = rw e (go silently (raises .placed) (raises .own)) ∙ ap (raised K) (raises .own) ∙ raises .is
+    where
+      go : (b : Bool) → Placed (q .arities) (bodyOf (q .bodies)) P K C at depth first number
+          → getD (candidates b (bodyOf (q .bodies)) 1 C) j blocked ≡ step (raises .condition) (raises .action) (raises .result)
+          → getD (candidates b (bodyOf (q .bodies)) 1 P) (cond b number first + j) blocked ≡ raised K (getD (candidates b (bodyOf (q .bodies)) 1 C) j blocked)
+      go true p e = p .silently .is j (within (silent (bodyOf (q .bodies)) 1 C) j (raises .condition) (raises .action) (raises .result) e)
+      go false p e = p .visibly .is j (within (visible (bodyOf (q .bodies)) 1 C) j (raises .condition) (raises .action) (raises .result) e)
 
--- The names of its result are merged where it stands.
-pub merged-put : (question class result : List ℕ) (n : ℕ) (area : List ℕ) (count r : ℕ) (area′ arities : List ℕ) → AritiesIs question arities
-    → (merged : List ℕ) → MergedIs result n arities class merged
-    → PutResultIs class (record { kind = 0; channel = 0; object = 0 }) merged n area count r area′ → PutMergedIs question class result n area count r area′
-unfolding stepAction receiving AritiesIs
-merged-put question class result n area count r area′ arities ar merged R p = record {
-  is = λ q out x M A ok size classes scope u v.
-      let same : length (encode 0 (ren (cls M) A)) ≡ length (encode 0 A) = length-ren 0 0 (cls M) A in
-      p .is out x M tauA A (omega arith)
-      (rw (as-written x M tauA A u) (record {
-        fits = λ h.
-            let f = v .fits (omega (arith, same)) in (
-              omega (arith, f .0, same),
-              R .is (cls M) A (drop (length (encode 0 A)) out) (λ k l. (classes k l, omega (arith, cls-le M k)))
-                  (subst (λ (l : List ℕ). InScope nameCount l 0 A) (sym (ar q ok)) scope) (f .1 ∙ sets-start out (encode 0 A) (omega (arith, same)))
-                  (omega (arith, f .0))
-                  ∙ ap (λ (k : ℕ). encode 0 (ren (cls M) A) ++ drop k out) (sym same) ∙ sym (sets-start out (encode 0 (ren (cls M) A)) (omega arith)),
-            );
-        over = λ h. v .over (omega (arith, same));
-      }))
-      classes refl;
-}
+  pub placed-put : (restricted : Bool) → (restricted ≡ false → PartUnrestricted question part) → (out : List ℕ) → length out ≡ longestTerm → (written : List ℕ) (n : ℕ)
+      → PlacedResultIs question part at depth silently j x out n written → PutWrittenIs question class action written n restricted area count r area′
+      → PutPlacedIs question part at depth start silently j action x area count r area′
+  unfolding OwnNames Trivial
+  placed-put restricted U out size written n w p = record {
+    is = λ q P l K C first number M α A raises from t acts.
+        let e = numbered q P K C first number M α A raises from in
+        p .is q out x M α A (ren (receiving x (cls M) α) A) (l .accepted) size (result-scope question part x q P l silently (start + j) M α A e)
+        (rw (← receiving-canonical x M α A) (w .is q P l K C first number M α A raises t)) refl
+        (λ f. plain-tidied (receiving x (cls M) α) M α A (plain-at question part (U f) x q P l silently (start + j) M α A e))
+        (λ k h. own k (omega arith) ∙ sym (t k)) acts;
+  }
 
-pub placed-put : (question part : List ℕ) → PartUnrestricted question part → (at depth : ℕ) (silently : Bool) (j : ℕ) (action : ActionBytes) (x : ℕ) (area : List ℕ) (count r : ℕ)
-    (area′ out result class : List ℕ) (n : ℕ) → length out ≡ longestTerm → OwnNames 0 class → PlacedResultIs question part at depth silently j x out n result
-    → PutResultIs class action result n area count r area′ → PutPlacedIs question part at depth silently j action x area count r area′
-unfolding OwnNames Trivial
-placed-put question part U at depth silently j action x area count r area′ out result class n size own w p = record {
-  is = λ q P l K C first number M α A raises t acts.
-      p .is out x M α A (omega arith)
-      (rw (plain-formed x M α A (plain-raise question part U x q P l K C at depth first number silently j M α A raises))
-      (w .is q P l K C first number M α A raises t)) (λ k h. own k (omega arith) ∙ sym (t k)) acts;
-}
+  pub placed-tidied : PutClassedIs question part silently (start + j) class action x area count r area′
+      → PutPlacedIs question part at depth start silently j action x area count r area′
+  unfolding OwnNames Trivial
+  placed-tidied p = record {
+    is = λ q P l K C first number M α A raises from t acts.
+        p .is q P l M α A (numbered q P K C first number M α A raises from) (λ k h. own k (omega arith) ∙ sym (t k)) acts;
+  }
+
+-- A communication.
+module _ (question part : List ℕ) (met : Communication) (class area : List ℕ) (count r : ℕ) (area′ : List ℕ) where
+  pub met-numbered : PutClassedIs question part true (met .number) class (record { kind = 0; channel = 0; object = 0 }) (met .x) area count r area′
+      → PutMetIs question part met class area count r area′
+  unfolding stepAction
+  met-numbered p = record { is = λ q P l M B A e c holes scope stands. p .is q P l M tauA A e (c .classes) refl }
+
+  -- from what was written for it, in which the name that stands for nothing else does not occur
+  pub met-put : (restricted : Bool) → (restricted ≡ false → (met .closes ≡ false) × PartUnrestricted question part) → (out : List ℕ) → length out ≡ longestTerm → (written : List ℕ) (n : ℕ)
+      → MetResultIs question part (met .left) (met .right) (met .new) out n written
+      → (met .closes ≡ true → (n ≤ longestTerm) × (among (take n written) nameCount ≡ false))
+      → PutSilentIs question class written n (met .merges) restricted area count r area′ → PutMetIs question part met class area count r area′
+  unfolding StandsFor candidatesOf candidates
+  met-put restricted U out size written n w none p = record {
+    is = λ q P l M B A e c holes scope stands.
+        let v = w .is q (encode 0 B) (l .accepted) holes in
+        let (s, t, u) = stood q P l M B A e scope v (met .closes) refl stands in
+        p .is q out (met .x) M B A (l .accepted) size c s v t u;
+  }
+    where
+      stood : (q : Question) (P : Term) → Lists question part (met .x) q P → (M : Cond) (B A : Term) → getD (candidatesOf true q P) (met .number) blocked ≡ step M tauA A
+          → InScope (suc nameCount) (q .arities) 0 B → Written out 0 (encode 0 B) n written → (b : Bool) → met .closes ≡ b → StandsFor b B A
+          → InScope nameCount (q .arities) 0 B × (tidy B ≡ tidy A) × (restricted ≡ false → tidy B ≡ B)
+      stood q P l M B A e scope v false k same = (
+        subst (InScope nameCount (q .arities) 0) (sym same) (silent-scope question q P (l .accepted) (l .scope) (met .number) M A e),
+        ap tidy same,
+        λ f.
+            subst (λ (R : Term). tidy R ≡ R) (ren-id A ∙ sym same)
+            (plain-tidied (λ k. k) M tauA A (plain-at question part (U f .1) (met .x) q P l true (met .number) M tauA A e)),
+      )
+      stood q P l M B A e scope v true k same =
+          let (short, m) = none k in
+          let free : among (fn B) nameCount ≡ false = unmentioned 0 nameCount B (rw (whole-bytes B n out written size v short) at m) in
+          (narrowed nameCount (q .arities) 0 B scope free, same free, λ f. opposed (sym k ∙ U f .0))

@@ -50,7 +50,7 @@ canon-scope arities x M (inpA a) A s = s
 canon-scope arities x M (outA a b) A s = s
 canon-scope arities x M (boutA a) A s = s
 
-result-scope : (question part : List ℕ) (x : ℕ) (q : Question) (P : Term) → Lists question part x q P → (silently : Bool) (i : ℕ) (M : Cond) (α : Act) (A : Term)
+pub result-scope : (question part : List ℕ) (x : ℕ) (q : Question) (P : Term) → Lists question part x q P → (silently : Bool) (i : ℕ) (M : Cond) (α : Act) (A : Term)
     → getD (candidatesOf silently q P) i blocked ≡ step M α A → InScope (suc nameCount) (q .arities) 0 (ren (receiving x (cls M) α) A)
 unfolding definitions candidatesOf candidates
 result-scope question part x q P l silently i M α A e =

@@ -13,3 +13,7 @@ HasRoom area count = (count ≤ mostSteps) × (listRoom ≤ length area)
 -- And the part whose candidates are put into it is tallied.
 abbrev pub CanPut : (question bodies part tally area : List ℕ) (count : ℕ) → Type 0
 CanPut question bodies part tally area count = HasRoom area count × Tallied question bodies part tally
+
+-- More than a tallied part has candidates: 112 bytes, each with a number below 2 to the power of 32.
+abbrev pub mostCandidates : ℕ
+mostCandidates = 1099511627776

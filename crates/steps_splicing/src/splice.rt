@@ -18,10 +18,11 @@ use terms_bytes::bytes::room;
 use terms_bytes::limits::LONGEST_TERM;
 use terms_bytes::limits::TABLE_NAMES;
 
-// A term of a part: where it stands, and how many restrictions are around it.
+// A term of a part: where it stands, how many restrictions are around it, and the number in the part of its first candidate, visible or silent.
 pub struct Position {
     pub at: usize,
     pub depth: usize,
+    pub first: usize,
 }
 
 // A candidate of a term: the silent or the visible one of this number, where `x` is the new name.

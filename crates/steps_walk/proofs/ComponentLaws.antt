@@ -153,7 +153,7 @@ module _ (question part : List ℕ) (at depth : ℕ) (rows : List ℕ) (first j 
 
       placed : (kind ≡ 2 → object < nameCount) → (action : ActionBytes)
           → (0 < kind → (α : Act) → actionOf 0 α ≡ rowAction 0 kind channel object → action ≡ stepAction x [] α)
-          → PutPlacedIs question part at depth false j action x area count r area′ → Takes r area′
+          → PutPlacedIs question part at depth first false j action x area count r area′ → Takes r area′
       unfolding candidates
       placed m action same put = record {
         over = λ e. absurd (new (at-kind ∙ e));
@@ -173,17 +173,17 @@ module _ (question part : List ℕ) (at depth : ℕ) (rows : List ℕ) (first j 
               own = own .is;
               is = ap (raised K) (sym (own .is)) ∙ t .like .is;
               unopened = unopened x kind channel object (t .action) (t .acts) m depth β f;
-            }) (like-trivial M [] (t .like .same) trivial) (same (inside c row .known) (t .action) (t .acts) ∙ like-action x [] M (sym (t .like .same)) (t .action)));
+            }) refl (like-trivial M [] (t .like .same) trivial) (same (inside c row .known) (t .action) (t .acts) ∙ like-action x [] M (sym (t .like .same)) (t .action)));
       }
 
       pub row-placed : rowOpens kind object ≡ false → (o : ℕ) → o ≡ rowObject kind object x
-          → PutPlacedIs question part at depth false j (record { kind = kind; channel = channel; object = o }) x area count r area′
+          → PutPlacedIs question part at depth first false j (record { kind = kind; channel = channel; object = o }) x area count r area′
           → Takes r area′
       unfolding rowOpens rowObject
       row-placed = go (eqb kind 2) refl
         where
           go : (b : Bool) → eqb kind 2 ≡ b → b && leb nameCount object ≡ false → (o : ℕ) → o ≡ cond b object x
-              → PutPlacedIs question part at depth false j (record { kind = kind; channel = channel; object = o }) x area count r area′ → Takes r area′
+              → PutPlacedIs question part at depth first false j (record { kind = kind; channel = channel; object = o }) x area count r area′ → Takes r area′
           go true e n o d put =
               let m = leb-false nameCount object n in
               placed (λ _. m) _ (λ some α a. same-action kind refl d ∙ bytes-free x kind channel object α a (eqb-true kind 2 e) m) put
@@ -301,7 +301,7 @@ module _ (question part : List ℕ) (at depth number j x : ℕ) (area : List ℕ
       → PutIs (raised K (getD (silent (bodyOf (q .bodies)) 1 C) j blocked)) x area n m area′
 
   pub silent-placed : UnconditionalIs question part at 1 true
-      → PutPlacedIs question part at depth true j (record { kind = 0; channel = 0; object = 0 }) x area n m area′ → OneSilent
+      → PutPlacedIs question part at depth number true j (record { kind = 0; channel = 0; object = 0 }) x area n m area′ → OneSilent
   unfolding Unconditional candidates stepAction Unopened
   silent-placed unconditional put q P l K C first p h =
       let cs : List Candidate = silent (bodyOf (q .bodies)) 1 C in
@@ -312,7 +312,7 @@ module _ (question part : List ℕ) (at depth number j x : ℕ) (area : List ℕ
       let (B, d) = raised-silent K A in
       subst (λ c. PutIs c x area n m area′) (sym (ap (raised K) e ∙ d))
       (put .is q P l K C first number [] tauA B
-      (record { placed = p; condition = []; action = tauA; result = A; own = e; is = d; unopened = tt }) trivial refl)
+      (record { placed = p; condition = []; action = tauA; result = A; own = e; is = d; unopened = tt }) refl trivial refl)
 
   pub silent-taken : TakeIs question part true (number + j) x area n m area′ → OneSilent
   unfolding TakeIs candidatesOf candidates

@@ -5,7 +5,6 @@ ghost use mathlib.Core.Bool.{true};
 ghost use Prim.Native.Nat.{ℕ, _+_, _*_, _≤_, _<_};
 ghost use lib.ListN.{length, getD};
 ghost use Rattle.steps_rows.specs.Rows.{rowBytes, mostRows, UnconditionalIs};
-ghost use Rattle.steps_tallies.specs.Tally.{restrictedAt};
 ghost use Rattle.steps_splicing.specs.Ready.{Inside};
 ghost use Rattle.steps_placing.specs.Putting.{CanPut};
 ghost use Rattle.steps_walk.specs.Walking.{mostNumber, rowOpens, rowObject, TakeRowIs, TakeRowsIs, TakeSilentIs, WalkIs};
@@ -31,7 +30,6 @@ use steps_rows::rows::unconditional;
 use steps_splicing::splice::Position;
 use steps_splicing::splice::Selection;
 use steps_splicing::splice::own_names;
-use steps_tallies::tally::is_restricted;
 use steps_tallies::tally::silent_at;
 use terms_bytes::bytes::get;
 use terms_bytes::limits::GREATEST_ARITY;
@@ -79,7 +77,7 @@ fn row_object(kind: u8, object: u8, x: u8) -> u8
 }
 
 // Puts a visible candidate of a component into the list by its row. One that adds no step is passed over; one beneath a match of free names is found by
-// its number, and so is any where there are restrictions.
+// its number.
 fn take_row(
     question: &[u8],
     bodies: &[u32],
@@ -128,9 +126,6 @@ fn take_row(
         };
         return put_classed(question, bodies, part, tally, opened, &class, area, count);
     }
-    if is_restricted(tally) {
-        return take_candidate(question, bodies, part, tally, whole, area, count);
-    }
     let action = ActionBytes {
         kind,
         channel,
@@ -145,6 +140,7 @@ fn take_row(
     let place = Position {
         at: node.at,
         depth: node.depth,
+        first: own.first,
     };
     put_placed(question, bodies, part, tally, place, step, area, count)
 }
@@ -184,7 +180,7 @@ fn take_rows(
     n
 }
 
-// Puts the silent candidates of a component into the list, where they have no condition and there are no restrictions.
+// Puts the silent candidates of a component into the list, where they have no condition.
 fn take_unconditional(
     question: &[u8],
     bodies: &[u32],
@@ -194,7 +190,7 @@ fn take_unconditional(
     area: &mut [u8],
     count: usize,
 ) -> usize
-    requires { ⌜ CanPut (now question) (now bodies) (now part) (now tally) (now area) count × Inside (now part) (node .at) (node .depth) × UnconditionalIs (now question) (now part) (node .at) 1 true × (getD (now tally) restrictedAt 0 ≡ 0) ⌝ }
+    requires { ⌜ CanPut (now question) (now bodies) (now part) (now tally) (now area) count × Inside (now part) (node .at) (node .depth) × (node .number ≤ node .at * mostNumber) × UnconditionalIs (now question) (now part) (node .at) 1 true ⌝ }
     ensures { λ r. ⌜ TakeSilentIs (now (question .entry)) (now (part .entry)) (node .at) (node .depth) (node .number) (node .x) (now (area .entry)) count r (now (area .exit)) ⌝ }
 {
     let at = node.at;
@@ -219,6 +215,7 @@ fn take_unconditional(
         let place = Position {
             at,
             depth: node.depth,
+            first: node.number,
         };
         let m = put_placed(question, bodies, part, tally, place, step, area, n);
         if MOST_STEPS < m {
@@ -277,9 +274,6 @@ fn take_silent(
     requires { ⌜ CanPut (now question) (now bodies) (now part) (now tally) (now area) count × Inside (now part) (node .at) (node .depth) × (node .number ≤ node .at * mostNumber) ⌝ }
     ensures { λ r. ⌜ TakeSilentIs (now (question .entry)) (now (part .entry)) (node .at) (node .depth) (node .number) (node .x) (now (area .entry)) count r (now (area .exit)) ⌝ }
 {
-    if is_restricted(tally) {
-        return take_numbered(question, bodies, part, tally, node, area, count);
-    }
     if unconditional(question, bodies, part, tally, node.at, 1) {
         return take_unconditional(question, bodies, part, tally, node, area, count);
     }

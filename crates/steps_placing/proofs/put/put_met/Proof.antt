@@ -1,25 +1,81 @@
-use mathlib.Core.Path.{refl}
-use Rattle.calculus.specs.Abstraction.{tauA}
-use Rattle.steps_entries.specs.StepActions.{stepAction}
+-- `steps_placing::put::put_met` meets its contract. Assumes nothing.
+use mathlib.Core.Logic.{⊎-elim}
+use lib.ListN.{replicate}
+use mathlib.Core.Bool.{_||_}
+use mathlib.Core.Path.{refl, sym, _∙_}
+use Rattle.terms.specs.Limits.{longestTerm}
+use Rattle.steps_placing.proofs.PutLaws.{opposed, neither, met-put}
 use borrow.Author.Needs.{needs}
 use Rattle.steps_placing.proofs.put.put_met.Statement.{statement}
 use Rattle.steps_placing.proofs.put.put_met.Tie as tie
-use Rattle.steps_placing.proofs.put.put_met.Reads as reads
-use Rattle.steps_placing.proofs.put.put_met.Lts as lts
-use Rattle.steps_placing.proofs.put.put_classed.Reads as put-classed-reads
 
--- src/put.rt:184:5
-put-classed-requires : tie.Need-put-classed-requires
-put-classed-requires c κs = search needs
+is-restricted-requires : tie.Need-is-restricted-requires
+is-restricted-requires c κs = search needs
 
--- src/put.rt:160:1
+slice-aggregate-write-met : tie.Need-slice-aggregate-write-met
+slice-aggregate-write-met c = search needs
+
+write-met-requires : tie.Need-write-met-requires
+write-met-requires c κs = search needs
+
+slice-aggregate-falls-short : tie.Need-slice-aggregate-falls-short
+slice-aggregate-falls-short c = search needs
+
+falls-short-requires : tie.Need-falls-short-requires
+falls-short-requires c κs = search needs
+
+put-numbered-requires : tie.Need-put-numbered-requires
+put-numbered-requires c κs = search needs
+
 same-length : tie.Need-same-length
 same-length c = search needs
 
--- src/put.rt:160:1
 returns : tie.Need-returns
-unfolding stepAction
-returns c = record { is = λ q P l M B A e k h s f. c .before .before .put-classed .ensures .is q P l M tauA A e (k .classes) refl }
+returns c = c .before .before .put-numbered .ensures
+
+slice-aggregate-put-silent : tie.Need-slice-aggregate-put-silent
+slice-aggregate-put-silent c = search needs
+
+put-silent-requires : tie.Need-put-silent-requires
+put-silent-requires c κs = (
+  search needs,
+  search needs,
+  search needs,
+  ⊎-elim (λ w t. w .2 .ensures (w .3 .left) .0) (λ w t. opposed (sym t ∙ w .left))
+      (c .before .before .if1 .came),
+)
+
+same-length-2 : tie.Need-same-length-2
+same-length-2 c = search needs
+
+returns-2 : tie.Need-returns-2
+returns-2 c =
+    let c3 = c .before .before .before in
+    let c6 = c3 .before .before .before in
+    let c8 = c6 .before .before in
+    let c10 = c8 .before .before in
+    let c17 = c10 .before .before .before .before .before .before .before in
+    let a = c17 .args in
+    let closes = a .met .closes in
+    let restricted = c10 .is-restricted .result in
+    met-put (a .question .now) (a .part .now) (a .met) (a .class .now) (a .area .now) (a .count) (c3 .put-silent .result) _ (closes || restricted) (λ
+    f. let (g, h) = neither closes restricted f in (g, c17 .pre .0 .1 .3 .plain (c10 .is-restricted .ensures h))) (replicate longestTerm 0) refl _
+    (c8 .write-met .result) (c8 .write-met .ensures) (⊎-elim (λ w t. let (l, n) = w .2 .ensures (w .3 .left) in (l, n t)) (λ w t. opposed (sym t ∙
+    neither closes restricted (w .left) .0)) (c6 .if1 .came)) (c3 .put-silent .ensures)
 
 pub put-met-spec : {M : Type 1} → statement M
-put-met-spec = tie.close (tie.spec put-classed-requires same-length returns)
+put-met-spec =
+    tie.close
+    (tie.spec
+    is-restricted-requires
+    slice-aggregate-write-met
+    write-met-requires
+    slice-aggregate-falls-short
+    falls-short-requires
+    put-numbered-requires
+    same-length
+    returns
+    slice-aggregate-put-silent
+    put-silent-requires
+    same-length-2
+    returns-2)
