@@ -3,9 +3,7 @@ ghost use Prim.Native.Nat.{_+_, _≤_};
 ghost use lib.ListN.{length};
 ghost use Rattle.field_slots.specs.Key.{SameKeyIs};
 ghost use Rattle.field_pairs.specs.Slot.{keyBytes};
-pub use crate::slot::KEY_BYTES;
-pub use crate::slot::SLOT_BYTES;
-pub use crate::slot::left_at;
+use crate::slot::KEY_BYTES;
 
 // Whether the bytes from `at` on begin with the key. All of them are compared, for a loop without an exit takes many at a time.
 pub fn same_key(area: &[u8], at: usize, key: &[u8]) -> bool

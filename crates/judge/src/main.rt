@@ -1,6 +1,6 @@
 // The program `judge`: a question on standard input, one line on standard output. The capacity is 256. A question that does not fit the buffer
 // is longer than document 01 allows, and so is what is read of it.
-use field_slots::find::SLOT_BYTES;
+use field_slots::slot::SLOT_BYTES;
 use report::print_verdict;
 use verdict_judge::judge::judge;
 

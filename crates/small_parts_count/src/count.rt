@@ -3,7 +3,7 @@ ghost use Rattle.small_parts_count.specs.Counts.{CountIs};
 use crate::tally::CAPACITY;
 use crate::tally::Tally;
 use crate::tally::tally_pairs;
-use field_slots::find::SLOT_BYTES;
+use field_slots::slot::SLOT_BYTES;
 use small_parts_words::parts::GREATEST_LENGTH;
 use small_parts_words::parts::collect_parts;
 

@@ -3,7 +3,7 @@ ghost use mathlib.Core.Path.{_≡_};
 ghost use Prim.Native.Nat.{_*_};
 ghost use Rattle.verdict.specs.Judge.{slotBytes, withinCapacity};
 ghost use Rattle.verdict_capacity.specs.Numbers.{byNumber};
-use field_slots::find::SLOT_BYTES;
+use field_slots::slot::SLOT_BYTES;
 
 const GREATEST_CAPACITY: u64 = 4096;
 

@@ -16,7 +16,7 @@ use field_exploration::explore::Explored;
 use field_exploration::explore::Extent;
 use field_exploration::explore::explore;
 use field_kept_lists::list_area::LIST_AREA;
-use field_slots::find::SLOT_BYTES;
+use field_slots::slot::SLOT_BYTES;
 use steps_lister::list::SCRATCH_NUMBERS;
 use steps_lister::list::SCRATCH_ROWS;
 use steps_tallies::tally::body_tallies;

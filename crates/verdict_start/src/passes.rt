@@ -5,7 +5,7 @@ ghost use Rattle.field_pairs.specs.Slot.{slotBytes};
 ghost use Rattle.verdict_survival.specs.Manners.{mannerOf};
 ghost use Rattle.verdict_survival.specs.Striking.{Slots, Listing, AllSole, FirstStruckIs, StartSurvivesIs};
 use field_slots::find::Found;
-use field_slots::find::left_at;
+use field_slots::slot::left_at;
 use verdict_strikeout::strike::LARGEST_BLOCKS;
 use verdict_strikeout::strike::Pass;
 use verdict_strikeout::strike::strike_blocks;

@@ -8,9 +8,9 @@ ghost use Rattle.verdict.specs.Judge.{greatestCapacity};
 ghost use Rattle.verdict_survival.specs.Manners.{mannerOf};
 ghost use Rattle.verdict_survival.specs.Striking.{Slots, Listing, NotesHold, EqualPartsIs, StrikesSole, StrikesOne, Run, PassIs, blockSlots, turned};
 use field_kept_lists::list_area::same_part;
-use field_slots::find::KEY_BYTES;
-use field_slots::find::SLOT_BYTES;
-use field_slots::find::left_at;
+use field_slots::slot::SLOT_BYTES;
+use field_slots::slot::left_at;
+use field_slots::slot::strike;
 use field_slots::slots::first_part;
 use field_slots::slots::second_part;
 use verdict_survival::relied::Relied;
@@ -59,7 +59,7 @@ fn strike_sole(work: &mut [u8], count: usize, i: usize) -> bool
     if !sole_struck(work, count, i) {
         return false;
     }
-    work[SLOT_BYTES * i + KEY_BYTES] = 1;
+    strike(work, i);
     true
 }
 
@@ -111,7 +111,7 @@ fn strike_one(
         note(work, i, relied);
         return false;
     }
-    work[SLOT_BYTES * i + KEY_BYTES] = 1;
+    strike(work, i);
     true
 }
 

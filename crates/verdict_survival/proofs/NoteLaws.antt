@@ -11,7 +11,7 @@ use lib.ListN.{length, getD, set, replicate, getD-replicate}
 use lib.Seq.{getD-set-same, getD-set-other}
 use Rattle.field_slots.specs.Chains.{putNumber}
 use Rattle.field_slots.specs.Noted.{notedCount, notePlace, noteAt, SpareOnly, OtherNotes}
-use Rattle.field_pairs.specs.Slot.{slotBytes, noteByte, struckAt, LeftAtIs}
+use Rattle.field_pairs.specs.Slot.{slotBytes, struckAt, LeftAtIs}
 use Rattle.field_slots.proofs.ChainLaws.{size-put}
 use Rattle.field_slots.proofs.NotedLaws.{spare-none, spare-put, note-other}
 use Rattle.verdict_survival.specs.Notes.{Has, Numbers, WithIs, NoteIs, ClearsNotes, ReliesOnLeftIs, SoleStruckIs}
@@ -95,13 +95,11 @@ abbrev pub Clearing : ℕ → List ℕ → List ℕ → ℕ → Type 0
 Clearing count work₀ work i = SpareOnly count work₀ work × ((k : ℕ) → k < i → noteAt work k 0 ≡ 0)
 
 pub clearing-next : (count : ℕ) (work₀ work : List ℕ) (i : ℕ) (work′ : List ℕ) → i < count → slotBytes * count ≤ length work
-    → work′ ≡ putNumber work (slotBytes * i + noteByte) 0 → Clearing count work₀ work i → Clearing count work₀ work′ (i + 1)
-clearing-next count work₀ work i work′ h room e c =
-    let z : slotBytes * i + noteByte ≡ notePlace i 0 = omega arith in
-    rw (e ∙ ap (λ p. putNumber work p 0) z) (
-      spare-put count work₀ work i 0 0 h (omega arith) (c .0),
-      below-more _ i (λ k l. note-other work i 0 0 k 0 (λ z. omega arith) ∙ c .1 k l) (size-put work (notePlace i 0) 0 (omega arith)),
-    )
+    → work′ ≡ putNumber work (notePlace i 0) 0 → Clearing count work₀ work i → Clearing count work₀ work′ (i + 1)
+clearing-next count work₀ work i work′ h room e c = rw e (
+  spare-put count work₀ work i 0 0 h (omega arith) (c .0),
+  below-more _ i (λ k l. note-other work i 0 0 k 0 (λ z. omega arith) ∙ c .1 k l) (size-put work (notePlace i 0) 0 (omega arith)),
+)
 
 pub cleared : (count : ℕ) (work work′ : List ℕ) (i : ℕ) → count ≤ i → Clearing count work work′ i → ClearsNotes count work work′
 cleared count work work′ i h c = record { spare = c .0; none = λ k l. c .1 k (omega arith) }

@@ -5,12 +5,10 @@ ghost use Prim.Native.Nat.{_+_, _*_, _<_, _≤_};
 ghost use lib.ListN.{length};
 ghost use Rattle.field_pairs.specs.Slot.{slotBytes};
 ghost use Rattle.verdict_survival.specs.Notes.{Numbers, WithIs, NoteIs, ReliesOnLeftIs, SoleStruckIs, ClearsNotes};
-use field_slots::chains::put_number;
-use field_slots::find::SLOT_BYTES;
-use field_slots::find::left_at;
-use field_slots::notes::NOTED;
-use field_slots::notes::NOTES;
-use terms_bytes::frame::size_at;
+use field_slots::notes::note_at;
+use field_slots::notes::put_note;
+use field_slots::slot::NOTED;
+use field_slots::slot::left_at;
 
 // The first `count` places have numbers of slots, plus 1. The first place is 0 once there were more than places.
 pub struct Relied {
@@ -62,7 +60,7 @@ pub fn note(work: &mut [u8], i: usize, relied: Relied)
     let slots = relied.slots;
     let mut k = 0;
     while k < NOTED {
-        put_number(work, SLOT_BYTES * i + NOTES + 2 * k, slots[k]);
+        put_note(work, i, k, slots[k]);
         k += 1;
     }
 }
@@ -74,7 +72,7 @@ pub fn relies_on_left(work: &[u8], count: usize, i: usize) -> bool
 {
     let mut k = 0;
     while k < NOTED {
-        let n = size_at(work, SLOT_BYTES * i + NOTES + 2 * k);
+        let n = note_at(work, i, k);
         if n == 0 {
             return false;
         }
@@ -96,7 +94,7 @@ pub fn sole_struck(work: &[u8], count: usize, i: usize) -> bool
 {
     let mut k = 0;
     while k < NOTED {
-        let number = size_at(work, SLOT_BYTES * i + NOTES + 2 * k);
+        let number = note_at(work, i, k);
         // the numbers stand before the places that are free
         if number == 0 {
             return false;
@@ -119,7 +117,7 @@ pub fn clear_notes(work: &mut [u8], count: usize)
 {
     let mut i = 0;
     while i < count {
-        put_number(work, SLOT_BYTES * i + NOTES, 0);
+        put_note(work, i, 0, 0);
         i += 1;
     }
 }

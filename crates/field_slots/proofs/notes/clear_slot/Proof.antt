@@ -18,21 +18,8 @@ abbrev μ-loop : tie.MeasureT-loop
 loop-holds : tie.Need-loop-holds Inv-loop μ-loop
 loop-holds c = (search needs, refl, clearing-start _ _)
 
-mul-put-number : tie.Need-mul-put-number Inv-loop μ-loop
-mul-put-number c = search needs
-
-add-put-number : tie.Need-add-put-number Inv-loop μ-loop
-add-put-number c = search needs
-
-mul-put-number-2 : tie.Need-mul-put-number-2 Inv-loop μ-loop
-mul-put-number-2 c = search needs
-
-add-put-number-2 : tie.Need-add-put-number-2 Inv-loop μ-loop
-add-put-number-2 c = search needs
-
-put-number-requires : tie.Need-put-number-requires Inv-loop μ-loop
-put-number-requires c κs =
-    (omega (arith, c .before .before .loop .inv .1, c .before .before .before .before .pre, c .before .loop-test .taken), search needs)
+put-note-requires : tie.Need-put-note-requires Inv-loop μ-loop
+put-note-requires c κs = search needs
 
 add-k : tie.Need-add-k Inv-loop μ-loop
 add-k c = search needs
@@ -49,7 +36,7 @@ loop-again c = (
     c .before .before .before .before .before .loop .inv .1,
     c .before .before .before .before .before .before .before .pre,
   ))
-      (c .before .before .put-number .ensures) (c .before .before .before .before .before .loop .inv .2),
+      (c .before .before .put-note .ensures) (c .before .before .before .before .before .loop .inv .2),
 )
 
 same-length : tie.Need-same-length Inv-loop μ-loop
@@ -65,11 +52,7 @@ clear-slot-spec =
     Inv-loop
     μ-loop
     loop-holds
-    mul-put-number
-    add-put-number
-    mul-put-number-2
-    add-put-number-2
-    put-number-requires
+    put-note-requires
     add-k
     loop-less
     loop-again

@@ -18,20 +18,9 @@ abbrev μ-loop : tie.MeasureT-loop
 loop-holds : tie.Need-loop-holds Inv-loop μ-loop
 loop-holds c = (omega arith, refl)
 
-mul-at : tie.Need-mul-at Inv-loop μ-loop
-mul-at c = search needs
-
-add-at : tie.Need-add-at Inv-loop μ-loop
-add-at c = search needs
-
-mul-at-2 : tie.Need-mul-at-2 Inv-loop μ-loop
-mul-at-2 c = search needs
-
-add-at-2 : tie.Need-add-at-2 Inv-loop μ-loop
-add-at-2 c = search needs
-
-size-at-requires : tie.Need-size-at-requires Inv-loop μ-loop
-size-at-requires c κs = search needs
+note-at-requires : tie.Need-note-at-requires Inv-loop μ-loop
+note-at-requires c κs =
+    (omega (arith, ap length (c .before .before .loop .inv .1), c .before .before .before .before .pre .0), c .before .loop-test .taken)
 
 same-length : tie.Need-same-length Inv-loop μ-loop
 same-length c = ap length (c .before .before .before .before .loop .inv .1)
@@ -39,24 +28,24 @@ same-length c = ap length (c .before .before .before .before .loop .inv .1)
 returns : tie.Need-returns Inv-loop μ-loop
 returns c = rw (c .before .before .before .before .loop .inv .1) (notes-none _ _ _)
 
-put-number-requires : tie.Need-put-number-requires Inv-loop μ-loop
-put-number-requires c κs =
+put-note-requires : tie.Need-put-note-requires Inv-loop μ-loop
+put-note-requires c κs =
     let c5 = c .before .before .before .before .before in
     let c6 = c5 .before in
     let c8 = c6 .before .before in
-    (omega (arith, ap length (c6 .loop .inv .1), c8 .pre .0, c5 .loop-test .taken), c8 .pre .1)
+    (omega (arith, ap length (c6 .loop .inv .1), c8 .pre .0), c5 .loop-test .taken, c8 .pre .1)
 
 same-length-2 : tie.Need-same-length-2 Inv-loop μ-loop
 same-length-2 c =
     let c9 = c .before .before .before .before .before .before .before .before .before in
-    omega (arith, ap length (c9 .loop .inv .1), c .before .before .put-number .kept)
+    omega (arith, ap length (c9 .loop .inv .1), c .before .before .put-note .kept)
 
 returns-2 : tie.Need-returns-2 Inv-loop μ-loop
 returns-2 c =
     let c8 = c .before .before .before .before .before .before .before .before in
     let c9 = c8 .before in
     let c11 = c9 .before .before in
-    notes-put _ _ _ _ _ _ (c9 .loop .inv .1) (c8 .loop-test .taken) (omega (arith, c11 .pre .0)) (c .before .before .put-number .ensures)
+    notes-put _ _ _ _ _ _ (c9 .loop .inv .1) (c8 .loop-test .taken) (omega (arith, c11 .pre .0)) (c .before .before .put-note .ensures)
 
 add-k : tie.Need-add-k Inv-loop μ-loop
 add-k c = search needs
@@ -80,14 +69,10 @@ note-sole-spec =
     Inv-loop
     μ-loop
     loop-holds
-    mul-at
-    add-at
-    mul-at-2
-    add-at-2
-    size-at-requires
+    note-at-requires
     same-length
     returns
-    put-number-requires
+    put-note-requires
     same-length-2
     returns-2
     add-k

@@ -108,20 +108,11 @@ returns-5 c =
       c14 .survives .ensures .2,
     )
 
-mul-work : tie.Need-mul-work
-mul-work c =
-    let c35 = c .before .before .before .before .before .before .before .before .before .before .before .before .before .before .before .before .before .before .before .before .before .before .before .before .before .before .before .before .before .before .before .before .before .before .before in
-    omega (arith, c35 .pre .0, c35 .pre .1 .1, c35 .pre .1 .3, c35 .pre .1 .2)
-
-add-work : tie.Need-add-work
-add-work c =
-    let c35 = c .before .before .before .before .before .before .before .before .before .before .before .before .before .before .before .before .before .before .before .before .before .before .before .before .before .before .before .before .before .before .before .before .before .before .before in
-    omega (arith, c35 .pre .0, c35 .pre .1 .1, c35 .pre .1 .3, c35 .pre .1 .2)
-
-slice-write-work : tie.Need-slice-write-work
-slice-write-work c =
-    let c35 = c .before .before .before .before .before .before .before .before .before .before .before .before .before .before .before .before .before .before .before .before .before .before .before .before .before .before .before .before .before .before .before .before .before .before .before in
-    omega (arith, c35 .pre .0, c35 .pre .1 .1, c35 .pre .1 .3)
+strike-requires : tie.Need-strike-requires
+strike-requires c κs =
+    let c17 = c .before .before .before .before .before .before .before .before .before .before .before .before .before .before .before .before .before in
+    let c36 = c17 .before .before .before .before .before .before .before .before .before .before .before .before .before .before .before .before .before .before .before in
+    omega (arith, c36 .pre .0, c36 .pre .1 .1, c36 .pre .1 .3)
 
 same-length-10 : tie.Need-same-length-10
 same-length-10 c = search needs
@@ -140,14 +131,15 @@ same-length-14 c = search needs
 
 returns-6 : tie.Need-returns-6
 returns-6 c =
-    let c10 = c .before .before .before .before .before .before .before .before .before .before in
-    let c23 = c10 .before .before .before .before .before .before .before .before .before .before .before .before .before in
-    let c24 = c23 .before in
-    let c35 = c24 .before .before .before .before .before .before .before .before .before .before .before in (
-      one-strikes _ _ _ _ _ _ (c35 .pre .3) _ (left-zero _ _ _ (c24 .left-at .ensures) (not-false _ (c23 .if1 .left))) (c10 .survives .ensures .0)
-          (c .if5 .left),
-      c10 .survives .ensures .1,
-      c10 .survives .ensures .2,
+    let c4 = c .before .before .before .before in
+    let c14 = c4 .before .before .before .before .before .before .before .before .before .before in
+    let c27 = c14 .before .before .before .before .before .before .before .before .before .before .before .before .before in
+    let c28 = c27 .before in
+    let c39 = c28 .before .before .before .before .before .before .before .before .before .before .before in (
+      rw (c .before .before .strike .ensures) (one-strikes _ _ _ _ _ _ (c39 .pre .3) _ (left-zero _ _ _ (c28 .left-at .ensures) (not-false _
+          (c27 .if1 .left))) (c14 .survives .ensures .0) (c4 .if5 .left)),
+      c14 .survives .ensures .1,
+      c14 .survives .ensures .2,
     )
 
 pub strike-one-spec : {M : Type 1} → statement M
@@ -174,9 +166,7 @@ strike-one-spec =
     same-length-8
     same-length-9
     returns-5
-    mul-work
-    add-work
-    slice-write-work
+    strike-requires
     same-length-10
     same-length-11
     same-length-12

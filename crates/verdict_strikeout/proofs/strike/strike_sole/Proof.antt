@@ -14,20 +14,16 @@ same-length c = search needs
 returns : tie.Need-returns
 returns c = sole-kept _ _ _ _ (c .before .sole-struck .ensures) (not-true _ (c .if1 .taken))
 
-mul-work : tie.Need-mul-work
-mul-work c = search needs
-
-add-work : tie.Need-add-work
-add-work c = search needs
-
-slice-write-work : tie.Need-slice-write-work
-slice-write-work c = search needs
+strike-requires : tie.Need-strike-requires
+strike-requires c κs = search needs
 
 same-length-2 : tie.Need-same-length-2
 same-length-2 c = search needs
 
 returns-2 : tie.Need-returns-2
-returns-2 c = sole-gone _ _ _ _ (c .before .sole-struck .ensures) (not-false _ (c .if1 .left))
+returns-2 c =
+    let c4 = c .before .before .before .before in
+    rw (c .before .before .strike .ensures) (sole-gone _ _ _ _ (c4 .before .sole-struck .ensures) (not-false _ (c4 .if1 .left)))
 
 pub strike-sole-spec : {M : Type 1} → statement M
 strike-sole-spec =
@@ -36,8 +32,6 @@ strike-sole-spec =
     sole-struck-requires
     same-length
     returns
-    mul-work
-    add-work
-    slice-write-work
+    strike-requires
     same-length-2
     returns-2)

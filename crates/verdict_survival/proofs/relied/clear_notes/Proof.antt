@@ -18,14 +18,8 @@ abbrev μ-loop : tie.MeasureT-loop
 loop-holds : tie.Need-loop-holds Inv-loop μ-loop
 loop-holds c = (search needs, refl, (spare-none _ _, λ k h. absurd (omega arith)))
 
-mul-put-number : tie.Need-mul-put-number Inv-loop μ-loop
-mul-put-number c = search needs
-
-add-put-number : tie.Need-add-put-number Inv-loop μ-loop
-add-put-number c = search needs
-
-put-number-requires : tie.Need-put-number-requires Inv-loop μ-loop
-put-number-requires c κs = search needs
+put-note-requires : tie.Need-put-note-requires Inv-loop μ-loop
+put-note-requires c κs = search needs
 
 add-i : tie.Need-add-i Inv-loop μ-loop
 add-i c = search needs
@@ -42,7 +36,7 @@ loop-again c = (
     c .before .before .before .before .before .loop .inv .1,
     c .before .before .before .before .before .before .before .pre,
   ))
-      (c .before .before .put-number .ensures) (c .before .before .before .before .before .loop .inv .2),
+      (c .before .before .put-note .ensures) (c .before .before .before .before .before .loop .inv .2),
 )
 
 same-length : tie.Need-same-length Inv-loop μ-loop
@@ -58,9 +52,7 @@ clear-notes-spec =
     Inv-loop
     μ-loop
     loop-holds
-    mul-put-number
-    add-put-number
-    put-number-requires
+    put-note-requires
     add-i
     loop-less
     loop-again

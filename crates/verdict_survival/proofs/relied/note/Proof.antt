@@ -18,29 +18,17 @@ abbrev μ-loop : tie.MeasureT-loop
 loop-holds : tie.Need-loop-holds Inv-loop μ-loop
 loop-holds c = (search needs, refl, noting-start _ _ _)
 
-mul-put-number : tie.Need-mul-put-number Inv-loop μ-loop
-mul-put-number c = search needs
+mul-put-note : tie.Need-mul-put-note Inv-loop μ-loop
+mul-put-note c = search needs
 
-add-put-number : tie.Need-add-put-number Inv-loop μ-loop
-add-put-number c = search needs
+array-read-put-note : tie.Need-array-read-put-note Inv-loop μ-loop
+array-read-put-note c = search needs
 
-mul-put-number-2 : tie.Need-mul-put-number-2 Inv-loop μ-loop
-mul-put-number-2 c = search needs
-
-add-put-number-2 : tie.Need-add-put-number-2 Inv-loop μ-loop
-add-put-number-2 c = search needs
-
-mul-put-number-3 : tie.Need-mul-put-number-3 Inv-loop μ-loop
-mul-put-number-3 c = search needs
-
-array-read-put-number : tie.Need-array-read-put-number Inv-loop μ-loop
-array-read-put-number c = search needs
-
-put-number-requires : tie.Need-put-number-requires Inv-loop μ-loop
-put-number-requires c κs =
+put-note-requires : tie.Need-put-note-requires Inv-loop μ-loop
+put-note-requires c κs =
     let c1 = c .before in
     let c5 = c1 .before .before .before .before in
-    (omega (arith, c .before .before .loop .inv .1, c5 .pre .0, c1 .loop-test .taken), c5 .pre .1 .small _ (c1 .loop-test .taken))
+    (omega (arith, c1 .before .loop .inv .1, c5 .pre .0), c1 .loop-test .taken, c5 .pre .1 .small _ (c1 .loop-test .taken))
 
 add-k : tie.Need-add-k Inv-loop μ-loop
 add-k c = search needs
@@ -57,7 +45,7 @@ loop-again c = (
     c .before .before .before .before .before .loop .inv .1,
     c .before .before .before .before .before .before .before .before .pre .0,
   ))
-      (c .before .before .put-number .ensures) (c .before .before .before .before .before .loop .inv .2),
+      (c .before .before .put-note .ensures) (c .before .before .before .before .before .loop .inv .2),
 )
 
 same-length : tie.Need-same-length Inv-loop μ-loop
@@ -73,13 +61,9 @@ note-spec =
     Inv-loop
     μ-loop
     loop-holds
-    mul-put-number
-    add-put-number
-    mul-put-number-2
-    add-put-number-2
-    mul-put-number-3
-    array-read-put-number
-    put-number-requires
+    mul-put-note
+    array-read-put-note
+    put-note-requires
     add-k
     loop-less
     loop-again

@@ -18,20 +18,8 @@ abbrev μ-loop : tie.MeasureT-loop
 loop-holds : tie.Need-loop-holds Inv-loop μ-loop
 loop-holds c = (search needs, λ l h. absurd (omega arith))
 
-mul-size-at : tie.Need-mul-size-at Inv-loop μ-loop
-mul-size-at c = search needs
-
-add-size-at : tie.Need-add-size-at Inv-loop μ-loop
-add-size-at c = search needs
-
-mul-size-at-2 : tie.Need-mul-size-at-2 Inv-loop μ-loop
-mul-size-at-2 c = search needs
-
-add-size-at-2 : tie.Need-add-size-at-2 Inv-loop μ-loop
-add-size-at-2 c = search needs
-
-size-at-requires : tie.Need-size-at-requires Inv-loop μ-loop
-size-at-requires c κs = search needs
+note-at-requires : tie.Need-note-at-requires Inv-loop μ-loop
+note-at-requires c κs = search needs
 
 returns : tie.Need-returns Inv-loop μ-loop
 returns c = not-relying _ _ _
@@ -58,7 +46,7 @@ loop-again : tie.Need-loop-again Inv-loop μ-loop
 loop-again c = (
   search needs,
   below-more _ _ (c .before .before .before .before .before .before .loop .inv .1) (note-left _ _ _ _ _ _
-      (c .before .before .before .before .size-at .ensures .0) (c .before .before .before .if1 .left) (omega arith) (c .before .left-at .ensures)
+      (c .before .before .before .before .note-at .ensures) (c .before .before .before .if1 .left) (omega arith) (c .before .left-at .ensures)
       (not-false _ (c .if3 .left))),
 )
 
@@ -72,11 +60,7 @@ relies-on-left-spec =
     Inv-loop
     μ-loop
     loop-holds
-    mul-size-at
-    add-size-at
-    mul-size-at-2
-    add-size-at-2
-    size-at-requires
+    note-at-requires
     returns
     returns-2
     sub-left-at

@@ -17,20 +17,8 @@ abbrev μ-loop : tie.MeasureT-loop
 loop-holds : tie.Need-loop-holds Inv-loop μ-loop
 loop-holds c = search needs
 
-mul-size-at : tie.Need-mul-size-at Inv-loop μ-loop
-mul-size-at c = search needs
-
-add-size-at : tie.Need-add-size-at Inv-loop μ-loop
-add-size-at c = search needs
-
-mul-size-at-2 : tie.Need-mul-size-at-2 Inv-loop μ-loop
-mul-size-at-2 c = search needs
-
-add-size-at-2 : tie.Need-add-size-at-2 Inv-loop μ-loop
-add-size-at-2 c = search needs
-
-size-at-requires : tie.Need-size-at-requires Inv-loop μ-loop
-size-at-requires c κs = search needs
+note-at-requires : tie.Need-note-at-requires Inv-loop μ-loop
+note-at-requires c κs = search needs
 
 returns : tie.Need-returns Inv-loop μ-loop
 returns c = none-sole _ _ _
@@ -49,7 +37,7 @@ returns-3 c =
     let c3 = c .before .before .before in
     let c4 = c3 .before in
     let c5 = c4 .before in
-    sole-is-struck _ _ _ _ _ _ (omega (arith, c5 .loop-test .taken)) (c4 .size-at .ensures .0) (c3 .if1 .left) (omega (
+    sole-is-struck _ _ _ _ _ _ (omega (arith, c5 .loop-test .taken)) (c4 .note-at .ensures) (c3 .if1 .left) (omega (
       arith,
       c .before .before .if2 .left,
     )) (c .before .left-at .ensures) (not-true _ (c .if3 .taken))
@@ -73,11 +61,7 @@ sole-struck-spec =
     Inv-loop
     μ-loop
     loop-holds
-    mul-size-at
-    add-size-at
-    mul-size-at-2
-    add-size-at-2
-    size-at-requires
+    note-at-requires
     returns
     returns-2
     sub-left-at
