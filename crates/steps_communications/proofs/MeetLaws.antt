@@ -14,10 +14,10 @@ use Rattle.calculus.specs.Cond.{Cond, join, cls}
 use Rattle.calculus.specs.Term.{Term}
 use Rattle.terms.specs.Limits.{nameCount}
 use Rattle.terms_bytes.specs.NameTable.{lastName}
-use Rattle.steps_conditions.specs.Labels.{actionOf, ActionBelow}
+use Rattle.steps_conditions.specs.Labels.{inputOn, newOutputOn, actionOf, ActionBelow}
 use Rattle.steps.specs.Raw.{Candidate, step, blocked, meet, communication}
 use Rattle.steps_conditions.specs.Slots.{slotOf}
-use Rattle.steps_conditions.specs.declared.action.Action.the-variants.{Input, Output, NewOutput}
+use Rattle.steps_conditions.specs.declared.action.Action.the-variants.{Output}
 use Rattle.steps_tallies.proofs.Numbering.{not-met}
 use Rattle.steps_splicing.specs.Contexts.{Frame, raised, restrictions}
 use Rattle.steps_communications.specs.Meeting.{firstMerged, lastMerged, isBetween, meetsBetween, mayMeet}
@@ -49,14 +49,14 @@ record Visible (d : ℕ) (c : Candidate) (kind : ℕ) (r : Bool) (channel : ℕ)
   is : c ≡ step condition action result
 
 module _ (d : ℕ) (c : Candidate) (kind : ℕ) (M : Cond) (few : kind ≤ 3 → M ≡ []) (A : Term) (channel object : ℕ) where
-  input-of : (α : Act) → c ≡ step M α A → ActionBelow (d + nameCount) α → actionOf d α ≡ Input channel → Visible d c kind true channel
+  input-of : (α : Act) → c ≡ step M α A → ActionBelow (d + nameCount) α → actionOf d α ≡ inputOn channel → Visible d c kind true channel
   unfolding actionOf ActionBelow
   input-of tauA e b h = let z : _≡_ {A = ℕ} 0 1 = cc in absurd (omega arith)
   input-of (inpA a) e b h = record { name = a; below = b; slot = cc; condition = M; plain = few; action = inpA a; result = A; on = refl; is = e }
   input-of (outA a y) e b h = let z : _≡_ {A = ℕ} 0 1 = cc in absurd (omega arith)
   input-of (boutA a) e b h = let z : _≡_ {A = ℕ} 0 1 = cc in absurd (omega arith)
 
-  output-of : (α : Act) → c ≡ step M α A → ActionBelow (d + nameCount) α → (actionOf d α ≡ Output channel object) ⊎ (actionOf d α ≡ NewOutput channel)
+  output-of : (α : Act) → c ≡ step M α A → ActionBelow (d + nameCount) α → (actionOf d α ≡ Output channel object) ⊎ (actionOf d α ≡ newOutputOn channel)
       → Visible d c kind false channel
   unfolding actionOf ActionBelow
   output-of tauA e b (inl h) = let z : _≡_ {A = ℕ} 0 1 = cc in absurd (omega arith)
@@ -72,7 +72,7 @@ visible-of : (d : ℕ) (c : Candidate) (kind channel object : ℕ) → RowActs d
 unfolding rowAction
 visible-of d c kind channel object D = go (eqb (actionKind kind) 1) (eqb (actionKind kind) 2 && ltb object (nameCount + d)) (D .acts)
   where
-    go : (r t : Bool) → actionOf d (D .action) ≡ cond r (Input channel) (cond t (Output channel object) (NewOutput channel)) → Visible d c kind r channel
+    go : (r t : Bool) → actionOf d (D .action) ≡ cond r (inputOn channel) (cond t (Output channel object) (newOutputOn channel)) → Visible d c kind r channel
     go true t a = input-of d c kind (D .condition) (D .plain) (D .result) channel object (D .action) (D .is) (D .below) a
     go false true a = output-of d c kind (D .condition) (D .plain) (D .result) channel object (D .action) (D .is) (D .below) (inl a)
     go false false a = output-of d c kind (D .condition) (D .plain) (D .result) channel object (D .action) (D .is) (D .below) (inr a)

@@ -12,7 +12,7 @@ use Rattle.terms.specs.Limits.{nameCount}
 use Rattle.steps.specs.Raw.{Candidate, step, blocked, matching, meet, communication, restrictedAlone, outside, restrictedAction, restricted}
 use Rattle.steps_conditions.specs.Slots.{slotOf, slotCount, HasSlotClasses, HasClasses, Below}
 use Rattle.steps_conditions.specs.Conditions.{MergedIs, BothIs, AloneIs}
-use Rattle.steps_conditions.specs.Labels.{actionOf, ActionBelow, BlockedIs, HeaderIs, Labels, MatchingIs, RestrictedIs, OutsideIs, receivedBy, meetingOf, MetIs, CommunicationIs}
+use Rattle.steps_conditions.specs.Labels.{inputOn, newOutputOn, actionOf, ActionBelow, BlockedIs, HeaderIs, Labels, MatchingIs, RestrictedIs, OutsideIs, receivedBy, meetingOf, MetIs, CommunicationIs}
 use Rattle.steps_conditions.specs.declared.action.Action.{Action}
 use Rattle.steps_conditions.specs.declared.action.Action.the-variants.{Silent, Input, Output, NewOutput}
 use Rattle.steps_conditions.specs.declared.action.Status.{Status}
@@ -63,16 +63,16 @@ module _ (s : Label) (a b : ℕ) where
 -- [Res] and [Open]. The restricted name is the name n of no part of the action,
 abbrev pub Avoids : ℕ → Action → Type 0
 Avoids n Silent = Unit {0}
-Avoids n (Input a) = a ≡ n → ⊥
+Avoids n (Input a b) = a ≡ n → ⊥
 Avoids n (Output a b) = (a ≡ n → ⊥) × (b ≡ n → ⊥)
-Avoids n (NewOutput a) = a ≡ n → ⊥
+Avoids n (NewOutput a b) = a ≡ n → ⊥
 
 -- or it is the channel
 abbrev pub On : ℕ → Action → Type 0
 On n Silent = ⊥
-On n (Input a) = a ≡ n
+On n (Input a b) = a ≡ n
 On n (Output a b) = a ≡ n
-On n (NewOutput a) = a ≡ n
+On n (NewOutput a b) = a ≡ n
 
 module _ (s : Label) (level : ℕ) where
   abbrev slot : ℕ
@@ -107,7 +107,7 @@ module _ (s : Label) (level : ℕ) where
     keeps M (inpA (suc a)) P h sp = record {
       found = h .found;
       classes = outside-classes M (inpA (suc a)) h sp;
-      action = h .action ∙ ap Input (slot-inner nameCount level a);
+      action = h .action ∙ ap inputOn (slot-inner nameCount level a);
       below = outside-below M (inpA (suc a)) h sp;
       names = let n = h .names in omega arith;
     }
@@ -124,7 +124,7 @@ module _ (s : Label) (level : ℕ) where
     keeps M (boutA (suc a)) P h sp = record {
       found = h .found;
       classes = outside-classes M (boutA (suc a)) h sp;
-      action = h .action ∙ ap NewOutput (slot-inner nameCount level a);
+      action = h .action ∙ ap newOutputOn (slot-inner nameCount level a);
       below = outside-below M (boutA (suc a)) h sp;
       names = let n = h .names in omega arith;
     }
@@ -143,7 +143,7 @@ module _ (s : Label) (level : ℕ) where
     blocks M (boutA (suc a)) P h sp = absurd (not-at a (h .names) (subst (On slot) (h .action) on))
 
   module _ (r : Label) (f : r .status ≡ Found) (k : r .condition .class ≡ s .condition .class) (a b : ℕ)
-      (o : s .action ≡ Output a b) (w : r .action ≡ NewOutput a) (na : a ≡ slot → ⊥) (eb : b ≡ slot) where
+      (o : s .action ≡ Output a b) (w : r .action ≡ newOutputOn a) (na : a ≡ slot → ⊥) (eb : b ≡ slot) where
     opens : (M : Cond) (α : Act) (P : Term) → HeaderIs (1 + level) M α s → restrictedAlone M ≡ true
         → Labels level (restrictedAction (mapP outside M) α P) r
     unfolding Labels restrictedAction actionOf ActionBelow
@@ -160,7 +160,7 @@ module _ (s : Label) (level : ℕ) where
         record {
           found = f;
           classes = subst (λ (c : List ℕ). HasClasses c level (mapP outside M)) (sym k) (outside-classes M (outA (suc x) zero) h sp);
-          action = w ∙ ap NewOutput (q ∙ slot-inner nameCount level x);
+          action = w ∙ ap newOutputOn (q ∙ slot-inner nameCount level x);
           below = outside-below M (outA (suc x) zero) h sp;
           names = let n = h .names in omega arith;
         }
@@ -194,7 +194,7 @@ module _ (s : Label) (level : ℕ) where
     outside-blocks r e B on = record { is = by-action r e (blocks r B on) }
 
     pub outside-opens : (r : Label) → t ≡ true → r .status ≡ Found → r .condition .class ≡ s .condition .class
-        → (a b : ℕ) → s .action ≡ Output a b → r .action ≡ NewOutput a → (a ≡ slot → ⊥) → b ≡ slot → OutsideIs s level r
+        → (a b : ℕ) → s .action ≡ Output a b → r .action ≡ newOutputOn a → (a ≡ slot → ⊥) → b ≡ slot → OutsideIs s level r
     outside-opens r e f k a b o w na eb = record { is = by-action r e (opens r f k a b o w na eb) }
 
   pub restricted-blocked : s .status ≡ Blocked → RestrictedIs s level s

@@ -7,7 +7,7 @@ use Rattle.calculus.specs.Cond.{Cond}
 use Rattle.calculus.specs.Term.{Term}
 use Rattle.terms.specs.Limits.{nameCount}
 use Rattle.steps.specs.Raw.{Candidate, step, blocked, matching, communication, restricted}
-use Rattle.steps_conditions.specs.Slots.{slotOf, slotCount, HasSlotClasses, HasClasses, Below}
+use Rattle.steps_conditions.specs.Slots.{slotOf, newSlot, slotCount, HasSlotClasses, HasClasses, Below}
 use Rattle.steps_conditions.specs.declared.action.Action.{Action}
 use Rattle.steps_conditions.specs.declared.action.Action.the-variants.{Silent, Input, Output, NewOutput}
 use Rattle.steps_conditions.specs.declared.action.Status.the-variants.{Blocked, Found}
@@ -15,12 +15,19 @@ use Rattle.steps_conditions.specs.declared.action.Label.{Label}
 use Rattle.steps_conditions.specs.declared.rules.Meeting.{Meeting}
 use Rattle.steps_conditions.specs.declared.rules.Meeting.the-variants.{Never, At}
 
+-- an input, and an output of a new name, by the slot of the channel
+abbrev pub inputOn : ℕ → Action
+inputOn a = Input a newSlot
+
+abbrev pub newOutputOn : ℕ → Action
+newOutputOn a = NewOutput a newSlot
+
 -- an action under d restrictions, by slots
 unfoldable pub actionOf : ℕ → Act → Action
 actionOf d tauA = Silent
-actionOf d (inpA a) = Input (slotOf nameCount d a)
+actionOf d (inpA a) = inputOn (slotOf nameCount d a)
 actionOf d (outA a b) = Output (slotOf nameCount d a) (slotOf nameCount d b)
-actionOf d (boutA a) = NewOutput (slotOf nameCount d a)
+actionOf d (boutA a) = newOutputOn (slotOf nameCount d a)
 
 -- every name of the action is below n
 unfoldable pub ActionBelow : ℕ → Act → Type 0
@@ -65,18 +72,18 @@ pub record OutsideIs (s : Label) (level : ℕ) (r : Label) : Type 0 where
 -- Where two actions meet: the channels of an output and an input.
 unfoldable pub receivedBy : ℕ → Action → Meeting
 receivedBy a Silent = Never
-receivedBy a (Input b) = At a b
+receivedBy a (Input b y) = At a b
 receivedBy a (Output b y) = Never
-receivedBy a (NewOutput b) = Never
+receivedBy a (NewOutput b y) = Never
 
 unfoldable pub meetingOf : Action → Action → Meeting
 meetingOf Silent β = Never
-meetingOf (Input a) Silent = Never
-meetingOf (Input a) (Input b) = Never
-meetingOf (Input a) (Output b y) = At a b
-meetingOf (Input a) (NewOutput b) = At a b
+meetingOf (Input a x) Silent = Never
+meetingOf (Input a x) (Input b y) = Never
+meetingOf (Input a x) (Output b y) = At a b
+meetingOf (Input a x) (NewOutput b y) = At a b
 meetingOf (Output a x) β = receivedBy a β
-meetingOf (NewOutput a) β = receivedBy a β
+meetingOf (NewOutput a x) β = receivedBy a β
 
 -- [Com] and [Close] on labels: the two conditions and the match of the channels
 pub record MetIs (p q r : Label) : Type 0 where

@@ -13,6 +13,11 @@ use Rattle.terms.specs.Limits.{nameCount}
 unfoldable pub slotOf : ℕ → ℕ → ℕ → ℕ
 slotOf names d n = cond (ltb n d) (names + (d - 1 - n)) (n - d)
 
+-- The slot of the name that an action receives or extrudes, behind those of the free names. The object is looked up outside every restriction,
+-- where no other name has this slot.
+abbrev pub newSlot : ℕ
+newSlot = nameCount
+
 -- As many as a byte can number: a part has fewer restrictions than its 112 bytes, and so has the body of a call in it.
 abbrev pub slotCount : ℕ
 slotCount = 256

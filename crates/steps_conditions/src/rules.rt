@@ -6,6 +6,7 @@ ghost use Rattle.steps_conditions.specs.Slots.{slotCount};
 ghost use Rattle.steps_conditions.specs.Labels.{MatchingIs, RestrictedIs, OutsideIs, receivedBy, meetingOf, MetIs, CommunicationIs};
 use crate::action::Action;
 use crate::action::Label;
+use crate::action::NEW_NAME;
 use crate::action::Status;
 use crate::condition::Condition;
 
@@ -42,8 +43,8 @@ fn outside(label: Label, level: usize) -> Label
     let action = label.action;
     match action {
         Action::Silent => label,
-        Action::Input(a) => if a == name { Label::blocked() } else { label },
-        Action::NewOutput(a) => if a == name { Label::blocked() } else { label },
+        Action::Input(a, _) => if a == name { Label::blocked() } else { label },
+        Action::NewOutput(a, _) => if a == name { Label::blocked() } else { label },
         Action::Output(a, b) => {
             if a == name {
                 return Label::blocked();
@@ -52,7 +53,7 @@ fn outside(label: Label, level: usize) -> Label
                 return Label {
                     status: Status::Found,
                     condition,
-                    action: Action::NewOutput(a),
+                    action: Action::NewOutput(a, NEW_NAME),
                 };
             }
             label
@@ -84,9 +85,9 @@ fn received(a: u8, right: Action) -> Meeting
 {
     match right {
         Action::Silent => Meeting::Never,
-        Action::Input(b) => Meeting::At(a, b),
+        Action::Input(b, _) => Meeting::At(a, b),
         Action::Output(_, _) => Meeting::Never,
-        Action::NewOutput(_) => Meeting::Never,
+        Action::NewOutput(_, _) => Meeting::Never,
     }
 }
 
@@ -95,14 +96,14 @@ fn meeting_of(left: Action, right: Action) -> Meeting
 {
     match left {
         Action::Silent => Meeting::Never,
-        Action::Input(a) => match right {
+        Action::Input(a, _) => match right {
             Action::Silent => Meeting::Never,
-            Action::Input(_) => Meeting::Never,
+            Action::Input(_, _) => Meeting::Never,
             Action::Output(b, _) => Meeting::At(a, b),
-            Action::NewOutput(b) => Meeting::At(a, b),
+            Action::NewOutput(b, _) => Meeting::At(a, b),
         },
         Action::Output(a, _) => received(a, right),
-        Action::NewOutput(a) => received(a, right),
+        Action::NewOutput(a, _) => received(a, right),
     }
 }
 

@@ -4,14 +4,15 @@ use mathlib.Core.Path.{_≡_, refl, _∙_, ap, ap₂}
 use native.Mathlib.Nat.{sub-zero}
 use native.Mathlib.Omega.{arith}
 use Prim.Native.Nat.{ℕ, _+_, _<_}
+use borrow.Author.Tests.{ne-eqb}
 use lib.ListN.{getD}
 use Rattle.calculus.specs.Abstraction.{Act, tauA, inpA, outA, boutA}
 use Rattle.calculus.specs.Cond.{Cond, mapP, cls}
 use Rattle.terms.specs.Limits.{nameCount}
 use Rattle.steps_conditions.specs.Labels.{actionOf, ActionBelow}
-use Rattle.steps_conditions.specs.Slots.{slotOf, HasClasses}
+use Rattle.steps_conditions.specs.Slots.{slotOf, newSlot, HasClasses}
 use Rattle.steps_conditions.proofs.NameSlots.{slot-free}
-use Rattle.steps_entries.specs.EntryBytes.{actionBytes}
+use Rattle.steps_entries.specs.EntryBytes.{objectByte, actionBytes}
 use Rattle.steps_entries.specs.StepActions.{stepAction}
 use Rattle.steps_entries.specs.declared.listed.ActionBytes.{ActionBytes}
 
@@ -36,9 +37,19 @@ module _ (class : List ℕ) (M : Cond) (classes : (n : ℕ) → n < nameCount �
   channel-is : (a : ℕ) → a < 0 + nameCount → getD class (slotOf nameCount 0 a) 0 ≡ cls M a
   channel-is a h = ap (λ n. getD class n 0) (slot-name nameCount a) ∙ classes a (omega arith)
 
+  new-is : objectByte class x newSlot ≡ x
+  unfolding objectByte
+  new-is = refl
+
+  object-is : (b : ℕ) → b < 0 + nameCount → objectByte class x (slotOf nameCount 0 b) ≡ cls M b
+  unfolding objectByte
+  object-is b h =
+      let z : slotOf nameCount 0 b ≡ newSlot → ⊥ = λ e. omega (arith, slot-name nameCount b) in
+      rw (ne-eqb (slotOf nameCount 0 b) newSlot z) (channel-is b h)
+
   pub action-is : (α : Act) → ActionBelow (0 + nameCount) α → actionBytes class x (actionOf 0 α) ≡ stepAction x M α
   unfolding actionBytes actionOf ActionBelow stepAction
   action-is tauA b = refl
-  action-is (inpA a) b = same-action 1 (channel-is a b) refl
-  action-is (outA a c) b = same-action 2 (channel-is a (b .0)) (channel-is c (b .1))
-  action-is (boutA a) b = same-action 3 (channel-is a b) refl
+  action-is (inpA a) b = same-action 1 (channel-is a b) new-is
+  action-is (outA a c) b = same-action 2 (channel-is a (b .0)) (object-is c (b .1))
+  action-is (boutA a) b = same-action 3 (channel-is a b) new-is

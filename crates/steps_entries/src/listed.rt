@@ -6,13 +6,14 @@ ghost use lib.ListN.{length, take};
 ghost use lib.Seq.{sets};
 ghost use Rattle.terms.specs.Limits.{nameCount, longestTerm};
 ghost use Rattle.steps_entries.specs.Entries.{entryFrom, comesBefore, Alike, AlikeIs, placeAt, PlaceIs, InsertIs};
-ghost use Rattle.steps_entries.specs.EntryBytes.{actionBytes, entryBytes};
+ghost use Rattle.steps_entries.specs.EntryBytes.{objectByte, actionBytes, entryBytes};
 ghost use Rattle.steps.specs.Limits.{stepBytes, mostSteps};
 ghost use Rattle.steps_entries.specs.Entries.{indexPlace, listRoom};
 use crate::limits::INDEX;
 use crate::limits::MOST_STEPS;
 use crate::limits::STEP_BYTES;
 use steps_conditions::action::Action;
+use steps_conditions::action::NEW_NAME;
 use terms_bytes::bytes::copy;
 use terms_bytes::bytes::get;
 use terms_bytes::limits::NAME_COUNT;
@@ -45,7 +46,17 @@ pub fn entry_of(class: &[u8], action: ActionBytes, result: &[u8], n: usize) -> [
     entry
 }
 
-// The bytes of an action outside every restriction: channel and object are rewritten by the condition, and the new name is `x`.
+// The byte of an action's object outside every restriction: the new name is `x`, and another name is rewritten by the condition.
+fn object_byte(class: &[u8], object: u8, x: u8) -> u8
+    ensures { λ r. ⌜ r ≡ objectByte (now (class .entry)) x object ⌝ }
+{
+    if object == NEW_NAME {
+        return x;
+    }
+    get(class, object as usize)
+}
+
+// The bytes of an action outside every restriction: the channel is rewritten by the condition, and the new name is `x`.
 pub fn action_bytes(class: &[u8], action: Action, x: u8) -> ActionBytes
     ensures { λ r. ⌜ r ≡ actionBytes (now (class .entry)) x action ⌝ }
 {
@@ -55,20 +66,20 @@ pub fn action_bytes(class: &[u8], action: Action, x: u8) -> ActionBytes
             channel: 0,
             object: 0,
         },
-        Action::Input(a) => ActionBytes {
+        Action::Input(a, b) => ActionBytes {
             kind: 1,
             channel: get(class, a as usize),
-            object: x,
+            object: object_byte(class, b, x),
         },
         Action::Output(a, b) => ActionBytes {
             kind: 2,
             channel: get(class, a as usize),
-            object: get(class, b as usize),
+            object: object_byte(class, b, x),
         },
-        Action::NewOutput(a) => ActionBytes {
+        Action::NewOutput(a, b) => ActionBytes {
             kind: 3,
             channel: get(class, a as usize),
-            object: x,
+            object: object_byte(class, b, x),
         },
     }
 }

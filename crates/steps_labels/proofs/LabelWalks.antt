@@ -15,7 +15,7 @@ use Rattle.terms.specs.Question.{Question, checkOf}
 use Rattle.terms_bytes.proofs.Stores.{getD-front}
 use Rattle.steps_tallies.specs.Bodies.{BodyIs, OpeningIs}
 use Rattle.terms.specs.Question.{bodyOf}
-use Rattle.steps_conditions.specs.Labels.{actionOf, ActionBelow, HeaderIs, Labels, MatchingIs, RestrictedIs, CommunicationIs}
+use Rattle.steps_conditions.specs.Labels.{inputOn, newOutputOn, actionOf, ActionBelow, HeaderIs, Labels, MatchingIs, RestrictedIs, CommunicationIs}
 use Rattle.steps_labels.specs.LabelWalk.{slotAt, HasSlots, ArgumentsIs, prefixAction, PrefixLabelIs, Within, NthIs, MeetingIs}
 use Rattle.steps_tallies.specs.Candidates.{candidates}
 use Rattle.steps_passing.specs.Passing.{MiddleIs}
@@ -23,7 +23,7 @@ use Rattle.steps.specs.Raw.{Candidate, step, blocked, matching, leftSteps, righ
 use Rattle.steps_conditions.specs.Slots.{slotCount, HasSlotClasses, HasClasses, Below}
 use Rattle.steps_tallies.specs.Tally.{visibleAt, TallyIs}
 use Rattle.steps_tallies.specs.Tallying.{numberAt}
-use Rattle.steps_conditions.specs.declared.action.Action.the-variants.{Input, Output, NewOutput}
+use Rattle.steps_conditions.specs.declared.action.Action.the-variants.{Output}
 use Rattle.steps_conditions.specs.declared.action.Label.{Label}
 use Rattle.steps_tallies.specs.declared.bodies.Opening.{Opening}
 use Rattle.steps_labels.proofs.ArgumentSlots.{slots-lift, slot-read, slots-call}
@@ -115,14 +115,14 @@ module _ (question s : List ℕ) (at i : ℕ) (t : Bool) (args : List ℕ) (inne
         (λ P scope st nz. (refl, tt))
         (λ x P scope st nz.
         let u = read 1 x (scope .0) (getD-front s at (encode D (inp x P)) rest 1 st (omega arith)) a refl in
-        (ap Input (u .0), u .1))
+        (ap inputOn (u .0), u .1))
         (λ x y P scope st nz.
         let u = read 1 x (scope .0) (getD-front s at (encode D (out x y P)) rest 1 st (omega arith)) a refl in
         let v = read 2 y (scope .1) (getD-front s at (encode D (out x y P)) rest 2 st (omega arith)) b refl in
         (ap₂ Output (u .0) (v .0), (u .1, v .1)))
         (λ x P scope st nz.
         let u = read 1 x (scope .0) (getD-front s at (encode D (bout x P)) rest 1 st (omega arith)) a refl in
-        (ap NewOutput (u .0), u .1))
+        (ap newOutputOn (u .0), u .1))
         P small scope st nz
 
     pub nth-prefix : NthIs question s at i t args inner depth calls r

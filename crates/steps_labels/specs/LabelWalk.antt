@@ -11,14 +11,14 @@ use Rattle.terms.specs.Answer.{result}
 use Rattle.terms.specs.Encoding.{nameByte, encode, InScope}
 use Rattle.terms.specs.Limits.{nameCount, longestTerm}
 use Rattle.terms.specs.Question.{Question, checkOf}
-use Rattle.steps_conditions.specs.Labels.{FirstIs, Labels}
+use Rattle.steps_conditions.specs.Labels.{inputOn, newOutputOn, FirstIs, Labels}
 use Rattle.terms.specs.Question.{bodyOf}
 use Rattle.steps_tallies.specs.Candidates.{candidates}
 use Rattle.steps.specs.Raw.{blocked, communications, visible}
 use Rattle.steps_conditions.specs.Slots.{slotOf, slotCount}
 use Rattle.steps_tallies.specs.Tally.{TallyIs}
 use Rattle.steps_conditions.specs.declared.action.Action.{Action}
-use Rattle.steps_conditions.specs.declared.action.Action.the-variants.{Silent, Input, Output, NewOutput}
+use Rattle.steps_conditions.specs.declared.action.Action.the-variants.{Silent, Output}
 use Rattle.steps_conditions.specs.declared.action.Label.{Label}
 use Rattle.steps_labels.specs.declared.label.Origin.{Origin}
 
@@ -40,7 +40,7 @@ ArgumentsIs s at count args inner depth r =
 
 -- the action of a prefix by its first byte
 unfoldable pub prefixAction : ℕ → ℕ → ℕ → Action
-prefixAction t a b = cond (eqb t 1) Silent (cond (eqb t 2) (Input a) (cond (eqb t 3) (Output a b) (NewOutput a)))
+prefixAction t a b = cond (eqb t 1) Silent (cond (eqb t 2) (inputOn a) (cond (eqb t 3) (Output a b) (newOutputOn a)))
 
 -- the one step of the prefix at `at`
 abbrev pub PrefixLabelIs : List ℕ → ℕ → List ℕ → ℕ → ℕ → Label → Type 0

@@ -9,6 +9,7 @@ ghost use Rattle.steps_conditions.specs.Slots.{slotCount};
 ghost use Rattle.steps_tallies.specs.Tally.{EndsInside, TallyIs, BodiesTallied};
 use steps_conditions::action::Action;
 use steps_conditions::action::Label;
+use steps_conditions::action::NEW_NAME;
 use steps_conditions::rules::communication;
 use steps_conditions::rules::matching;
 use steps_conditions::rules::restricted;
@@ -83,12 +84,12 @@ fn prefix_action(t: u8, a: u8, b: u8) -> Action
         return Action::Silent;
     }
     if t == INPUT {
-        return Action::Input(a);
+        return Action::Input(a, NEW_NAME);
     }
     if t == OUTPUT {
         return Action::Output(a, b);
     }
-    Action::NewOutput(a)
+    Action::NewOutput(a, NEW_NAME)
 }
 
 // The one step of the prefix at `at`.

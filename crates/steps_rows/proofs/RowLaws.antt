@@ -13,12 +13,12 @@ use Rattle.calculus.specs.Abstraction.{Act, tauA, inpA, outA, boutA, swap, weak
 use Rattle.calculus.specs.Cond.{Cond, mapP, canonical, matchesBelow, above}
 use Rattle.calculus.specs.Term.{Term, par, res, ren}
 use Rattle.terms.specs.Limits.{nameCount}
-use Rattle.steps_conditions.specs.Labels.{actionOf, ActionBelow}
+use Rattle.steps_conditions.specs.Labels.{inputOn, newOutputOn, actionOf, ActionBelow}
 use Rattle.steps.specs.Raw.{Candidate, step, blocked, matching, leftSteps, rightSteps, restrictedAlone, outside, restrictedAction, restricted, visible, visibleOf}
 use Rattle.steps.specs.Lists.{_∈_, Among}
 use Rattle.steps_conditions.specs.Slots.{slotOf}
 use Rattle.steps_conditions.specs.declared.action.Action.{Action}
-use Rattle.steps_conditions.specs.declared.action.Action.the-variants.{Silent, Input, Output, NewOutput}
+use Rattle.steps_conditions.specs.declared.action.Action.the-variants.{Silent, Output}
 use Rattle.steps.proofs.Membership.{∈-left, ∈-right, ∈-nth, take-map, within-either}
 use Rattle.steps_conditions.proofs.NameSlots.{slot-inner}
 use Rattle.steps_tallies.proofs.Numbering.{nth-matching, nth-leftSteps, nth-rightSteps, nth-restricted}
@@ -29,7 +29,7 @@ use Rattle.steps_placing.proofs.DecidingLaws.{by-fails, decided-matching, decid
 
 -- The action of a row.
 module _ (d kind channel object : ℕ) where
-  pub row-input : kind ≡ 1 → rowAction d kind channel object ≡ Input channel
+  pub row-input : kind ≡ 1 → rowAction d kind channel object ≡ inputOn channel
   unfolding rowAction
   row-input e = rw e refl
 
@@ -38,10 +38,10 @@ module _ (d kind channel object : ℕ) where
   row-output e h = rw (e, lt-ltb object (nameCount + d) h) refl
 
   abbrev by : Bool → Bool → Bool → Action
-  by x y z = cond x (Input channel) (cond (y && z) (Output channel object) (NewOutput channel))
+  by x y z = cond x (inputOn channel) (cond (y && z) (Output channel object) (newOutputOn channel))
 
-  pub row-cases : (C : Action → Type 0) → (kind ≡ 1 → C (Input channel)) → (kind ≡ 2 → object < nameCount + d → C (Output channel object))
-      → ((kind ≡ 1 → ⊥) → (kind ≡ 2 → nameCount + d ≤ object) → C (NewOutput channel)) → C (rowAction d kind channel object)
+  pub row-cases : (C : Action → Type 0) → (kind ≡ 1 → C (inputOn channel)) → (kind ≡ 2 → object < nameCount + d → C (Output channel object))
+      → ((kind ≡ 1 → ⊥) → (kind ≡ 2 → nameCount + d ≤ object) → C (newOutputOn channel)) → C (rowAction d kind channel object)
   unfolding rowAction
   row-cases C f g h = go (eqb kind 1) refl (eqb kind 2) refl (ltb object (nameCount + d)) refl
     where
@@ -51,8 +51,8 @@ module _ (d kind channel object : ℕ) where
       go false x true y false z = h (eqb-false kind 1 x) (λ e. ltb-false object (nameCount + d) z)
       go false x false y z z′ = h (eqb-false kind 1 x) (λ e. absurd (eqb-false kind 2 y e))
 
-  pub row-new : (kind ≡ 1 → ⊥) → (kind ≡ 2 → nameCount + d ≤ object) → rowAction d kind channel object ≡ NewOutput channel
-  row-new n m = row-cases (λ (r : Action). r ≡ NewOutput channel) (λ e. absurd (n e)) (λ e h. let k = m e in absurd (omega arith)) (λ x y. refl)
+  pub row-new : (kind ≡ 1 → ⊥) → (kind ≡ 2 → nameCount + d ≤ object) → rowAction d kind channel object ≡ newOutputOn channel
+  row-new n m = row-cases (λ (r : Action). r ≡ newOutputOn channel) (λ e. absurd (n e)) (λ e h. let k = m e in absurd (omega arith)) (λ x y. refl)
 
   -- To show something of an action with this row, show it of the visible ones.
   pub row-act : (C : Act → Type 0) → ((a : ℕ) → kind ≡ 1 → slotOf nameCount d a ≡ channel → C (inpA a))
@@ -62,11 +62,11 @@ module _ (d kind channel object : ℕ) where
   unfolding actionOf
   row-act C f g h tauA = row-cases (λ (r : Action). Silent ≡ r → C tauA)
       (λ k e. let z : _≡_ {A = ℕ} 0 1 = cc in absurd (omega arith)) (λ k l e. let z : _≡_ {A = ℕ} 0 1 = cc in absurd (omega arith)) (λ k l e. let z : _≡_ {A = ℕ} 0 1 = cc in absurd (omega arith))
-  row-act C f g h (inpA a) = row-cases (λ (r : Action). Input (slotOf nameCount d a) ≡ r → C (inpA a))
+  row-act C f g h (inpA a) = row-cases (λ (r : Action). inputOn (slotOf nameCount d a) ≡ r → C (inpA a))
       (λ k e. f a k (cc)) (λ k l e. let z : _≡_ {A = ℕ} 0 1 = cc in absurd (omega arith)) (λ k l e. let z : _≡_ {A = ℕ} 0 1 = cc in absurd (omega arith))
   row-act C f g h (outA a b) = row-cases (λ (r : Action). Output (slotOf nameCount d a) (slotOf nameCount d b) ≡ r → C (outA a b))
       (λ k e. let z : _≡_ {A = ℕ} 0 1 = cc in absurd (omega arith)) (λ k l e. g a b k l (cc) (cc)) (λ k l e. let z : _≡_ {A = ℕ} 0 1 = cc in absurd (omega arith))
-  row-act C f g h (boutA a) = row-cases (λ (r : Action). NewOutput (slotOf nameCount d a) ≡ r → C (boutA a))
+  row-act C f g h (boutA a) = row-cases (λ (r : Action). newOutputOn (slotOf nameCount d a) ≡ r → C (boutA a))
       (λ k e. let z : _≡_ {A = ℕ} 0 1 = cc in absurd (omega arith)) (λ k l e. let z : _≡_ {A = ℕ} 0 1 = cc in absurd (omega arith)) (λ k l e. h a k l (cc))
 
 -- [Res] and [Open]: the row serves outside the restriction.
@@ -107,21 +107,21 @@ module _ (d kind channel object : ℕ) where
 
       input : (a : ℕ) → kind ≡ 1 → slotOf nameCount (1 + d) a ≡ channel → a < 1 + d + nameCount → Acts d M (restrictedAction M (inpA a) A)
       input zero k s h = absurd (other s)
-      input (suc a) k s h = (inpA a, res (ren swap A), refl, ap Input (sym (slot-inner nameCount d a) ∙ s) ∙ sym (row-input d kind channel object k), omega arith)
+      input (suc a) k s h = (inpA a, res (ren swap A), refl, ap inputOn (sym (slot-inner nameCount d a) ∙ s) ∙ sym (row-input d kind channel object k), omega arith)
 
       output : (a b : ℕ) → kind ≡ 2 → slotOf nameCount (1 + d) a ≡ channel → slotOf nameCount (1 + d) b ≡ object → (a < 1 + d + nameCount) × (b < 1 + d + nameCount)
           → Acts d M (restrictedAction M (outA a b) A)
       output zero b k s t h = absurd (other s)
       output (suc a) zero k s t h =
           let o : nameCount + d ≤ object = omega (arith, slot-restricted nameCount d) in
-          (boutA a, A, refl, ap NewOutput (sym (slot-inner nameCount d a) ∙ s) ∙ sym (row-new d kind channel object (λ e. omega arith) (λ e. o)), omega (arith, h .0))
+          (boutA a, A, refl, ap newOutputOn (sym (slot-inner nameCount d a) ∙ s) ∙ sym (row-new d kind channel object (λ e. omega arith) (λ e. o)), omega (arith, h .0))
       output (suc a) (suc b) k s t h =
           let o : object < nameCount + d = omega (arith, slot-outside nameCount d b (omega (arith, h .1))) in
           (outA a b, res A, refl, ap₂ Output (sym (slot-inner nameCount d a) ∙ s) (sym (slot-inner nameCount d b) ∙ t) ∙ sym (row-output d kind channel object k o), (omega (arith, h .0), omega (arith, h .1)))
 
       new : (a : ℕ) → (kind ≡ 1 → ⊥) → (kind ≡ 2 → nameCount + d ≤ object) → slotOf nameCount (1 + d) a ≡ channel → a < 1 + d + nameCount → Acts d M (restrictedAction M (boutA a) A)
       new zero k l s h = absurd (other s)
-      new (suc a) k l s h = (boutA a, res (ren swap A), refl, ap NewOutput (sym (slot-inner nameCount d a) ∙ s) ∙ sym (row-new d kind channel object k l), omega arith)
+      new (suc a) k l s h = (boutA a, res (ren swap A), refl, ap newOutputOn (sym (slot-inner nameCount d a) ∙ s) ∙ sym (row-new d kind channel object k l), omega arith)
 
 -- A candidate without a match above it.
 pub plain-step : (d kind channel object : ℕ) (c : Candidate) → kind ≤ 3 → Outlined d c kind channel object → channel < nameCount + d → Acts d kind channel object d [] c

@@ -20,14 +20,14 @@ use Rattle.terms.specs.Question.{Question, checkOf}
 use Rattle.terms_bytes.proofs.Stores.{getD-front}
 use Rattle.steps_tallies.specs.Bodies.{BodyIs, OpeningIs}
 use Rattle.terms.specs.Question.{bodyOf}
-use Rattle.steps_conditions.specs.Labels.{actionOf, ActionBelow}
+use Rattle.steps_conditions.specs.Labels.{inputOn, newOutputOn, actionOf, ActionBelow}
 use Rattle.steps_labels.specs.LabelWalk.{slotAt, HasSlots, ArgumentsIs}
 use Rattle.steps_tallies.specs.Candidates.{candidates}
 use Rattle.steps_passing.specs.Passing.{MiddleIs}
 use Rattle.steps.specs.Raw.{Candidate, step, blocked, matching, leftSteps, rightSteps, restricted, visible, visibleOf, visibleCalls}
 use Rattle.steps_conditions.specs.Slots.{slotOf}
 use Rattle.steps_tallies.specs.Tally.{visibleAt, TallyIs}
-use Rattle.steps_conditions.specs.declared.action.Action.the-variants.{Input, Output, NewOutput}
+use Rattle.steps_conditions.specs.declared.action.Action.the-variants.{Output}
 use Rattle.steps_tallies.specs.declared.bodies.Opening.{Opening}
 use Rattle.steps_labels.proofs.ArgumentSlots.{slots-lift, slot-read, slots-call}
 use Rattle.steps_passing.proofs.CalledPasses.{params, at-call}
@@ -264,7 +264,7 @@ module _ (question s : List ℕ) (root at : ℕ) (asked : Bool) (args : List ℕ
           (λ a P h k scope st.
           let u = read 1 a (scope .0) (getD-front s at (encode D (inp a P)) rest 1 st (omega arith)) channel refl in
           one _ (outlined depth kind channel object (inpA (σ a)) (ren (lift σ) P) (new .0) (omega (arith, u .0, slot-below nameCount depth (σ a) (u .1)))
-          (ap Input (sym (u .0)) ∙ sym (row-input depth (actionKind kind) channel object (omega (arith, is-plain)))) (u .1)))
+          (ap inputOn (sym (u .0)) ∙ sym (row-input depth (actionKind kind) channel object (omega (arith, is-plain)))) (u .1)))
           (λ a b P h k scope st.
           let u = read 1 a (scope .0) (getD-front s at (encode D (out a b P)) rest 1 st (omega arith)) channel refl in
           let v = read 2 b (scope .1) (getD-front s at (encode D (out a b P)) rest 2 st (omega arith)) (slotAt args inner depth (getD s (at + 2) 0)) refl in
@@ -274,7 +274,7 @@ module _ (question s : List ℕ) (root at : ℕ) (asked : Bool) (args : List ℕ
           (λ a P h k scope st.
           let u = read 1 a (scope .0) (getD-front s at (encode D (bout a P)) rest 1 st (omega arith)) channel refl in
           one _ (outlined depth kind channel object (boutA (σ a)) (ren (lift σ) P) (new .0) (omega (arith, u .0, slot-below nameCount depth (σ a) (u .1)))
-          (ap NewOutput (sym (u .0)) ∙ sym (row-new depth (actionKind kind) channel object (λ e. omega (arith, is-plain)) (λ e. absurd (omega (arith, is-plain))))) (u .1)))
+          (ap newOutputOn (sym (u .0)) ∙ sym (row-new depth (actionKind kind) channel object (λ e. omega (arith, is-plain)) (λ e. absurd (omega (arith, is-plain))))) (u .1)))
           P (omega arith) (omega arith) t scope st;
     }
       where

@@ -16,11 +16,11 @@ use Rattle.terms.specs.Encoding.{encode, InScope}
 use Rattle.terms.specs.Limits.{nameCount}
 use Rattle.terms.specs.Question.{Question, checkOf}
 use Rattle.steps_labels.specs.LabelWalk.{slotAt, HasSlots}
-use Rattle.steps_conditions.specs.Labels.{actionOf, ActionBelow}
+use Rattle.steps_conditions.specs.Labels.{inputOn, newOutputOn, actionOf, ActionBelow}
 use Rattle.terms.specs.Question.{bodyOf}
 use Rattle.steps.specs.Raw.{Candidate, step, blocked, visible, silent}
 use Rattle.steps_conditions.specs.declared.action.Action.{Action}
-use Rattle.steps_conditions.specs.declared.action.Action.the-variants.{Input, Output, NewOutput}
+use Rattle.steps_conditions.specs.declared.action.Action.the-variants.{Output}
 use Rattle.steps_placing.specs.Deciding.{decided, Again}
 use Rattle.steps_equal_branches.specs.BranchRows.{Offers}
 
@@ -53,7 +53,7 @@ actionKind kind = cond (ltb 4 kind) (kind - 4) kind
 -- The action under d restrictions: an output of a name that is restricted further in extrudes it.
 unfoldable pub rowAction : (d kind channel object : ℕ) → Action
 rowAction d kind channel object =
-    cond (eqb kind 1) (Input channel) (cond (eqb kind 2 && ltb object (nameCount + d)) (Output channel object) (NewOutput channel))
+    cond (eqb kind 1) (inputOn channel) (cond (eqb kind 2 && ltb object (nameCount + d)) (Output channel object) (newOutputOn channel))
 
 -- A candidate under d restrictions is a step with the action of its row, which has a condition only beneath a match.
 pub record RowActs (d kind channel object : ℕ) (c : Candidate) : Type 0 where

@@ -1,6 +1,6 @@
 -- `steps_entries::listed::action_bytes` meets its contract. Assumes nothing.
 use borrow.Author.Needs.{needs}
-use mathlib.Core.Path.{refl, sym, ap, _∙_}
+use mathlib.Core.Path.{sym, ap, _∙_}
 use Rattle.steps_entries.proofs.StepEntries.{same-action}
 use Rattle.steps_entries.specs.EntryBytes.{actionBytes}
 use Rattle.steps_entries.proofs.listed.action_bytes.Statement.{statement}
@@ -18,6 +18,9 @@ cast-get c = search needs
 get-requires : tie.Need-get-requires
 get-requires c κs = search needs
 
+object-byte-requires : tie.Need-object-byte-requires
+object-byte-requires c κs = search needs
+
 enum-known-action-2 : tie.Need-enum-known-action-2
 enum-known-action-2 c = search needs
 
@@ -27,20 +30,20 @@ cast-get-2 c = search needs
 get-requires-2 : tie.Need-get-requires-2
 get-requires-2 c κs = search needs
 
+object-byte-requires-2 : tie.Need-object-byte-requires-2
+object-byte-requires-2 c κs = search needs
+
+enum-known-action-3 : tie.Need-enum-known-action-3
+enum-known-action-3 c = search needs
+
 cast-get-3 : tie.Need-cast-get-3
 cast-get-3 c = search needs
 
 get-requires-3 : tie.Need-get-requires-3
 get-requires-3 c κs = search needs
 
-enum-known-action-3 : tie.Need-enum-known-action-3
-enum-known-action-3 c = search needs
-
-cast-get-4 : tie.Need-cast-get-4
-cast-get-4 c = search needs
-
-get-requires-4 : tie.Need-get-requires-4
-get-requires-4 c κs = search needs
+object-byte-requires-3 : tie.Need-object-byte-requires-3
+object-byte-requires-3 c κs = search needs
 
 returns : tie.Need-returns
 unfolding actionBytes
@@ -49,21 +52,23 @@ returns c = ap (actionBytes (c .before .before .before .args .class .now) (c .be
 returns-2 : tie.Need-returns-2
 unfolding actionBytes
 returns-2 c =
-    let c5 = c .before .before .before .before .before in
-    same-action 1 (c .get .ensures) refl ∙ ap (actionBytes (c5 .args .class .now) (c5 .args .x)) (sym (c .before .before .action .given .1))
+    let c3 = c .before .before .before in
+    let c6 = c3 .before .before .before in
+    same-action 1 (c .before .get .ensures) (c .object-byte .ensures) ∙ ap (actionBytes (c6 .args .class .now) (c6 .args .x)) (sym (c3 .action .given .1))
 
 returns-3 : tie.Need-returns-3
 unfolding actionBytes
 returns-3 c =
     let c3 = c .before .before .before in
     let c6 = c3 .before .before .before in
-    same-action 2 (c .before .get2 .ensures) (c .get3 .ensures) ∙ ap (actionBytes (c6 .args .class .now) (c6 .args .x)) (sym (c3 .action2 .given .1))
+    same-action 2 (c .before .get2 .ensures) (c .object-byte2 .ensures) ∙ ap (actionBytes (c6 .args .class .now) (c6 .args .x)) (sym (c3 .action2 .given .1))
 
 returns-4 : tie.Need-returns-4
 unfolding actionBytes
 returns-4 c =
-    let c5 = c .before .before .before .before .before in
-    same-action 3 (c .get4 .ensures) refl ∙ ap (actionBytes (c5 .args .class .now) (c5 .args .x)) (sym (c .before .before .action3 .given .1))
+    let c3 = c .before .before .before in
+    let c6 = c3 .before .before .before in
+    same-action 3 (c .before .get3 .ensures) (c .object-byte3 .ensures) ∙ ap (actionBytes (c6 .args .class .now) (c6 .args .x)) (sym (c3 .action3 .given .1))
 
 pub action-bytes-spec : {M : Type 1} → statement M
 action-bytes-spec =
@@ -73,14 +78,15 @@ action-bytes-spec =
     enum-known-action
     cast-get
     get-requires
+    object-byte-requires
     enum-known-action-2
     cast-get-2
     get-requires-2
+    object-byte-requires-2
+    enum-known-action-3
     cast-get-3
     get-requires-3
-    enum-known-action-3
-    cast-get-4
-    get-requires-4
+    object-byte-requires-3
     returns
     returns-2
     returns-3
