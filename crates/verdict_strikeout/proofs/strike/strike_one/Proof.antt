@@ -110,7 +110,8 @@ returns-5 c =
 
 strike-requires : tie.Need-strike-requires
 strike-requires c κs =
-    let c36 = c .before .before .before .before .before .before .before .before .before .before .before .before .before .before .before .before .before .before .before .before .before .before .before .before .before .before .before .before .before .before .before .before .before .before .before .before in
+    let c17 = c .before .before .before .before .before .before .before .before .before .before .before .before .before .before .before .before .before in
+    let c36 = c17 .before .before .before .before .before .before .before .before .before .before .before .before .before .before .before .before .before .before .before in
     omega (arith, c36 .pre .0, c36 .pre .1 .1, c36 .pre .1 .3)
 
 same-length-10 : tie.Need-same-length-10
