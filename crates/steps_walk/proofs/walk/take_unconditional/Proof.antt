@@ -1,8 +1,11 @@
 -- `steps_walk::walk::take_unconditional` meets its contract. Assumes nothing.
 use mathlib.Core.Path.{_≡_, refl}
-use Prim.Native.Nat.{ℕ, _-_, _≤_}
+use native.Mathlib.Omega.{arith}
+use Prim.Native.Nat.{ℕ, _+_, _-_, _≤_}
 use lib.ListN.{length}
 use borrow.Author.Needs.{needs}
+use Rattle.terms.specs.Limits.{longestTerm}
+use Rattle.steps_tallies.specs.Tally.{silentAt}
 use Rattle.steps.specs.Limits.{mostSteps}
 use Rattle.steps_walk.proofs.ComponentLaws.{SilentGo, silent-start, silent-done, silent-next, silent-passed, silent-placed}
 use Rattle.steps_walk.proofs.walk.take_unconditional.Statement.{statement}
@@ -28,9 +31,18 @@ loop-holds c =
     )
 
 put-placed-requires : tie.Need-put-placed-requires Inv-loop μ-loop
+unfolding silentAt
 put-placed-requires c κs =
-    let g = c .before .before .before .before .before .before .before .before .before .pre in
-    (((c .before .before .loop .inv .0, search needs), g .0 .1), g .1, g .3)
+    let c5 = c .before .before .before .before .before in
+    let c9 = c5 .before .before .before .before in
+    let g = c9 .pre in
+    let b = c5 .shared-slice-known4 .given (longestTerm + c9 .args .node .at) in
+    let e = c .before .before .before .silent-at .ensures in
+    let h = g .2 in
+    let s = g .0 .1 .0 in
+    let i = g .1 .1 in
+    let l = c .before .loop-test .taken in
+    (((c .before .before .loop .inv .0, search needs), g .0 .1), g .1, omega arith)
 
 same-length : tie.Need-same-length Inv-loop μ-loop
 same-length c = search needs
@@ -46,7 +58,7 @@ returns c =
     silent-passed (v .question .now) (v .part .now) (v .node .at) (v .node .depth) (v .node .number) (v .node .x) (v .area .now) (v .count) (v .tally .now)
     (c13 .pre .0 .1 .1) (c6 .loop .j) (c6 .loop .n) (c6 .loop .area) (c6 .loop .inv .2) (rw (c7 .silent-at .ensures) at (c5 .loop-test .taken))
     (c3 .put-placed .result) _ (silent-placed (v .question .now) (v .part .now) (v .node .at) (v .node .depth) (v .node .number) (c6 .loop .j) (v .node .x)
-    (c6 .loop .area) (c6 .loop .n) (c3 .put-placed .result) _ (c13 .pre .2) (c3 .put-placed .ensures)) (c .if1 .taken)
+    (c6 .loop .area) (c6 .loop .n) (c3 .put-placed .result) _ (c13 .pre .3) (c3 .put-placed .ensures)) (c .if1 .taken)
 
 add-j : tie.Need-add-j Inv-loop μ-loop
 add-j c = search needs
@@ -68,7 +80,7 @@ loop-again c =
           (c .before .before .before .put-placed .result) _ (silent-placed (v .question .now) (v .part .now) (v .node .at) (v .node .depth) (v .node .number)
           (c .before .before .before .before .before .before .loop .j) (v .node .x) (c .before .before .before .before .before .before .loop .area)
           (c .before .before .before .before .before .before .loop .n) (c .before .before .before .put-placed .result) _
-          (c .before .before .before .before .before .before .before .before .before .before .before .before .before .pre .2)
+          (c .before .before .before .before .before .before .before .before .before .before .before .before .before .pre .3)
           (c .before .before .before .put-placed .ensures)) (search needs),
     )
 
