@@ -12,12 +12,14 @@ sender-requires c κs = search needs
 sends-free-requires : tie.Need-sends-free-requires
 sends-free-requires c κs =
     let c11 = c .before .before .before .before .before .before .before .before .before .before .before in
+    let c11 = c11 in
     let g = c11 .pre in
     omega (arith, g .0 .1 .0, g .1)
 
 take-com-requires : tie.Need-take-com-requires
 take-com-requires c κs =
     let c3 = c .before .before .before in
+    let c3 = c3 in
     let c14 = c3 .before .before .before .before .before .before .before .before .before .before .before in (
       c14 .pre,
       ap (sendsFree (c14 .args .met .node .depth)) (sym (c3 .sender .ensures)) ∙ sym (c .before .before .sends-free .ensures) ∙
