@@ -9,13 +9,15 @@ ghost use Rattle.steps_tallies.specs.Tally.{EndsInside};
 ghost use Rattle.steps_splicing.specs.Ready.{Inside};
 ghost use Rattle.steps_splicing.specs.Locating.{tableSlot};
 ghost use Rattle.steps_placing.specs.Putting.{CanPut};
-ghost use Rattle.steps_communications.specs.Meeting.{mostNumbers, firstMerged, lastMerged, isBetween, meetsBetween, senderOf, sendsFree, NextMetIs, PairIs, MeetRowIs};
+ghost use Rattle.steps_communications.specs.Meeting.{mostNumbers, firstMerged, lastMerged, isBetween, meetsBetween, unmatchedRow, senderOf, sendsFree, NextMetIs, PairIs, MeetRowIs};
 ghost use Rattle.steps_rows.specs.Rows.{rowBytes, mostRows, actionKind};
 ghost use Rattle.steps_communications.specs.Met.{MeetsIs, ComponentsAre, CanTake, TakeMetIs};
+use steps_conditions::action::Label;
+use steps_conditions::action::Status;
 use steps_entries::limits::MOST_STEPS;
 use steps_entries::listed::ActionBytes;
 use steps_passing::pass::middle_of;
-use steps_placing::candidate::take_candidate;
+use steps_placing::candidate::label_of;
 use steps_placing::put::Communication;
 use steps_placing::put::Step;
 use steps_placing::put::put_classed;
@@ -123,6 +125,16 @@ fn is_between(c: u8, low: u8, high: u8) -> bool
         return false;
     }
     c <= high
+}
+
+// The kind of a row without the match.
+fn action_kind(kind: u8) -> u8
+    ensures { λ r. ⌜ r ≡ actionKind kind ⌝ }
+{
+    if MATCHED < kind {
+        return kind - MATCHED;
+    }
+    kind
 }
 
 // Whether the candidate of a row of this kind receives, beneath a match or not.
@@ -377,8 +389,82 @@ fn take_merging(
     take_met(question, bodies, part, tally, met, &class, area, count)
 }
 
-// Puts the communication of two candidates whose rows may meet into the list. Where a candidate stands beneath a match of free names it is found by
-// its number in the part.
+// The row without the match.
+fn unmatched(a: Partner) -> Partner
+    ensures { λ r. ⌜ r ≡ unmatchedRow a ⌝ }
+{
+    let kind = action_kind(a.kind);
+    Partner {
+        kind,
+        channel: a.channel,
+        object: a.object,
+        number: a.number,
+    }
+}
+
+// Puts a communication into the list whose condition is that of a label.
+fn take_labelled(
+    question: &[u8],
+    bodies: &[u32],
+    part: &[u8],
+    tally: &[u32],
+    label: Label,
+    met: Met,
+    area: &mut [u8],
+    count: usize,
+) -> usize
+    requires { ⌜ CanPut (now question) (now bodies) (now part) (now tally) (now area) count × Inside (now part) (met .node .at) (met .node .depth) × (met .node .number + met .pair .number ≤ mostNumbers + mostNumbers) ⌝ }
+    ensures { λ r. ⌜ TakeMetIs (now (question .entry)) (now (part .entry)) met (label .condition .class) (now (area .entry)) count r (now (area .exit)) ⌝ }
+{
+    let condition = label.condition;
+    let class = condition.class;
+    take_met(question, bodies, part, tally, met, &class, area, count)
+}
+
+// Puts the communication of two candidates, of which one stands beneath a match of free names, into the list. Its condition is found by its number in
+// the part.
+fn take_matched(
+    question: &[u8],
+    bodies: &[u32],
+    part: &[u8],
+    tally: &[u32],
+    node: Node,
+    pair: Pair,
+    area: &mut [u8],
+    count: usize,
+) -> usize
+    requires { ⌜ CanPut (now question) (now bodies) (now part) (now tally) (now area) count × Inside (now part) (node .at) (node .depth) × (node .number + pair .number ≤ mostNumbers + mostNumbers) ⌝ }
+    ensures { λ r. ⌜ PairIs (now (question .entry)) (now (part .entry)) (node .at) (node .depth) (node .number) (pair .left) (pair .right) (pair .number) (node .x) (now (area .entry)) count r (now (area .exit)) ⌝ }
+{
+    let number = node.number + pair.number;
+    let candidate = Selection {
+        silently: true,
+        number,
+        x: node.x,
+    };
+    let label = label_of(question, bodies, part, tally, candidate);
+    let status = label.status;
+    match status {
+        Status::Blocked => count,
+        Status::Found => {
+            let left = unmatched(pair.left);
+            let right = unmatched(pair.right);
+            let rows = Pair {
+                left,
+                right,
+                number: pair.number,
+            };
+            let met = Met {
+                node,
+                pair: rows,
+                merges: true,
+            };
+            take_labelled(question, bodies, part, tally, label, met, area, count)
+        }
+    }
+}
+
+// Puts the communication of two candidates whose rows may meet into the list.
 fn take_pair(
     question: &[u8],
     bodies: &[u32],
@@ -394,17 +480,11 @@ fn take_pair(
 {
     let a = pair.left;
     let b = pair.right;
-    let i = node.number + pair.number;
-    let candidate = Selection {
-        silently: true,
-        number: i,
-        x: node.x,
-    };
     if MATCHED <= a.kind {
-        return take_candidate(question, bodies, part, tally, candidate, area, count);
+        return take_matched(question, bodies, part, tally, node, pair, area, count);
     }
     if MATCHED <= b.kind {
-        return take_candidate(question, bodies, part, tally, candidate, area, count);
+        return take_matched(question, bodies, part, tally, node, pair, area, count);
     }
     if a.channel == b.channel {
         return take_same(question, bodies, part, tally, node, pair, area, count);

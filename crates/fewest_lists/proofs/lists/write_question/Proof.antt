@@ -47,7 +47,6 @@ copy-requires c κs =
 add-write-pairs : tie.Need-add-write-pairs
 add-write-pairs c =
     let c5 = c .before .before .before .before .before in
-    let c5 = c5 in
     let c6 = c5 .before in
     let c7 = c6 .before in
     let c8 = c7 .before in
@@ -88,7 +87,6 @@ cast-out : tie.Need-cast-out
 unfolding PairsWritten
 cast-out c =
     let c15 = c .before .before .before .before .before .before .before .before .before .before .before .before .before .before .before in
-    let c15 = c15 in
     omega (arith, c .before .before .write-pairs .ensures .ends, flagged-bytes (c15 .args .flags .now))
 
 slice-write-out : tie.Need-slice-write-out
@@ -115,7 +113,6 @@ cast-out-2 c = search needs
 add-out : tie.Need-add-out
 add-out c =
     let c8 = c .before .before .before .before .before .before .before .before in
-    let c8 = c8 in
     let c9 = c8 .before in
     let c10 = c9 .before in
     let c11 = c10 .before in

@@ -83,11 +83,11 @@ loop-holds c =
       c .next-met .ensures .on,
       c .next-met .ensures .inside,
       pairs-skipped (v .question .now) (v .part .now) (v .node .at) (v .node .depth)
-          (v .node .number) (v .node .x) (v .rows .now) (v .left .row) (v .left .left) (v .left .middle) (v .left .last) (v .left .first)
-          (v .area .now) (v .left .count) (c .before .before .before .before .if1 .left) (c .before .before .if2 .left) (v .left .count) (v .area .now)
-          (search needs) (v .left .middle) (c .next-met .result) (search needs) (c .next-met .ensures) (paired-start (v .question .now) (v .part .now)
-          (v .node .at) (v .node .depth) (v .node .number) (v .node .x) (v .rows .now) (v .left .row) (v .left .left) (v .left .middle)
-          (v .left .last) (v .left .first) (v .area .now) (v .left .count)),
+          (v .node .number) (v .node .x) (v .rows .now) (v .left .row) (v .left .left) (v .left .middle) (v .left .last) (v .left .first) (v .area .now)
+          (v .left .count) (c .before .before .before .before .if1 .left) (c .before .before .if2 .left) (v .left .count) (v .area .now) (search needs)
+          (v .left .middle) (c .next-met .result) (search needs) (c .next-met .ensures) (paired-start (v .question .now) (v .part .now) (v .node .at)
+          (v .node .depth) (v .node .number) (v .node .x) (v .rows .now) (v .left .row) (v .left .left) (v .left .middle) (v .left .last) (v .left .first)
+          (v .area .now) (v .left .count)),
       c .next-met .ensures .meets,
     )
 
@@ -123,8 +123,9 @@ add-i c = search needs
 
 take-pair-requires : tie.Need-take-pair-requires Inv-loop μ-loop
 take-pair-requires c κs =
-    let g = c .before .before .before .before .before .before .before .before .before .before .before .before .before .before .before .before .before .before .before .pre in
-    (((c .before .before .before .before .before .loop .inv .0, search needs), g .0 .1), g .1, search needs)
+    let g =
+    c .before .before .before .before .before .before .before .before .before .before .before .before .before .before .before .before .before .before .before .pre
+    in (((c .before .before .before .before .before .loop .inv .0, search needs), g .0 .1), g .1, search needs)
 
 same-length : tie.Need-same-length Inv-loop μ-loop
 same-length c = search needs
@@ -166,8 +167,8 @@ loop-again c =
           (arith, c .next-met2 .ensures .on),
       c .next-met2 .ensures .inside,
       pairs-skipped (v .question .now) (v .part .now) (v .node .at) (v .node .depth)
-          (v .node .number) (v .node .x) (v .rows .now) (v .left .row) (v .left .left) (v .left .middle) (v .left .last) (v .left .first)
-          (v .area .now) (v .left .count)
+          (v .node .number) (v .node .x) (v .rows .now) (v .left .row) (v .left .left) (v .left .middle) (v .left .last) (v .left .first) (v .area .now)
+          (v .left .count)
           (c .before .before .before .before .before .before .before .before .before .before .before .before .before .before .before .if1 .left)
           (c .before .before .before .before .before .before .before .before .before .before .before .before .before .if2 .left)
           (c .before .before .before .before .take-pair .result) _ (c .before .if3 .left)

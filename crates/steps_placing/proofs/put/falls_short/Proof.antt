@@ -13,7 +13,6 @@ returns c f = let z : _≡_ {A = ℕ} 0 1 = cc in absurd (omega arith)
 slice-aggregate-occurs : tie.Need-slice-aggregate-occurs
 slice-aggregate-occurs c =
     let c4 = c .before .before .before .before in
-    let c4 = c4 in
     let h = c4 .pre in
     let k = c .before .before .if1 .left in
     sym (length-take-le (c4 .args .n) (c4 .args .result .now) (omega arith))

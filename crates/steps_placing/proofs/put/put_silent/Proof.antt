@@ -22,7 +22,6 @@ put-written-requires : tie.Need-put-written-requires
 put-written-requires c κs =
     let c2 = c .before .before in
     let c7 = c2 .before .before .before .before .before in
-    let c7 = c7 in
     let l : length (c2 .if1 .result) ≡ length (c7 .args .result .now) = ⊎-elim (λ w. ap length (w .6) ∙ w .3 .kept .0) (λ w. ap length (w .1))
     (c2 .if1 .came) in
     (c7 .pre .0, c7 .pre .1, l ∙ c7 .pre .2, c7 .pre .3)

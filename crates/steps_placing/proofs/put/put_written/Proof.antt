@@ -23,7 +23,6 @@ arities-of-requires c κs = search needs
 slice-aggregate-is-tidied : tie.Need-slice-aggregate-is-tidied
 slice-aggregate-is-tidied c =
     let c7 = c .before .before .before .before .before .before .before in
-    let c7 = c7 in
     let k = c7 .pre .3 (c .before .before .if1 .taken) in
     sym (length-take-le (c7 .args .n) (c7 .args .result .now) (omega (arith, c7 .pre .2)))
 

@@ -59,7 +59,6 @@ walk-restrictions-at-requires t c κs = search needs
 walk-add-place : (t : ℕ) → walk-lts.Need-add-place (walk-claims t) (walk-at t) walk.Post
 walk-add-place t c =
     let c7 = c .before .before .before .before .before .before .before in
-    let c7 = c7 in
     let i = c .restrictions-at .ensures .inside in
     let s = c7 .pre .1 .0 .1 .0 in
     omega arith
@@ -67,7 +66,6 @@ walk-add-place t c =
 walk-add-under : (t : ℕ) → walk-lts.Need-add-under (walk-claims t) (walk-at t) walk.Post
 walk-add-under t c =
     let c8 = c .before .before .before .before .before .before .before .before in
-    let c8 = c8 in
     let i = c .before .restrictions-at .ensures .inside in
     let s = c8 .pre .1 .0 .1 .0 in
     let d = c8 .pre .1 .1 in
@@ -90,7 +88,6 @@ walk-shared-slice-read-if2 t c = search needs
 walk-walk-parallel-requires : (t : ℕ) → walk-lts.Need-walk-parallel-requires (walk-claims t) (walk-at t) walk.Post
 walk-walk-parallel-requires t c κs =
     let c4 = c .before .before .before .before in
-    let c4 = c4 in
     let c6 = c4 .before .before in
     let c13 = c6 .before .before .before .before .before .before .before in
     let i = c6 .restrictions-at .ensures .inside in
@@ -109,7 +106,6 @@ walk-same-length-2 t c = search needs
 walk-returns-2 : (t : ℕ) → walk-lts.Need-returns-2 (walk-claims t) (walk-at t) walk.Post
 walk-returns-2 t c =
     let c4 = c .before .before .before .before in
-    let c4 = c4 in
     let c11 = c4 .before .before .before .before .before .before .before in
     let c18 = c11 .before .before .before .before .before .before .before in
     let a = c18 .args in
@@ -121,7 +117,6 @@ walk-returns-2 t c =
 walk-component-requires : (t : ℕ) → walk-lts.Need-component-requires (walk-claims t) (walk-at t) walk.Post
 walk-component-requires t c κs =
     let c4 = c .before .before .before .before in
-    let c4 = c4 in
     let c6 = c4 .before .before in
     let c13 = c6 .before .before .before .before .before .before .before in
     let i = c6 .restrictions-at .ensures .inside in
@@ -146,7 +141,6 @@ walk-same-length-4 t c = search needs
 walk-returns-3 : (t : ℕ) → walk-lts.Need-returns-3 (walk-claims t) (walk-at t) walk.Post
 walk-returns-3 t c =
     let c4 = c .before .before .before .before in
-    let c4 = c4 in
     let c11 = c4 .before .before .before .before .before .before .before in
     let c18 = c11 .before .before .before .before .before .before .before in
     let a = c18 .args in
@@ -161,7 +155,6 @@ walk-parallel-middle-of-requires t c κs = search needs
 walk-parallel-add-next : (t : ℕ) → walk-parallel-lts.Need-add-next (walk-parallel-claims t) (walk-parallel-at t) walk-parallel.Post
 walk-parallel-add-next t c =
     let c7 = c .before .before .before .before .before .before .before in
-    let c7 = c7 in
     let s = c7 .pre .1 .0 .1 .0 in
     let i = c7 .pre .1 .1 .1 in
     omega arith
@@ -169,7 +162,6 @@ walk-parallel-add-next t c =
 walk-parallel-walk-requires : (t : ℕ) → walk-parallel-lts.Need-walk-requires (walk-parallel-claims t) (walk-parallel-at t) walk-parallel.Post
 walk-parallel-walk-requires t c κs =
     let c9 = c .before .before .before .before .before .before .before .before .before in
-    let c9 = c9 in
     let l = c9 .pre .1 .1 .1 in
     let t = c9 .pre .0 in
     let d = c9 .pre .1 .1 .0 in
@@ -185,7 +177,6 @@ walk-parallel-same-length-2 t c = search needs
 walk-parallel-returns : (t : ℕ) → walk-parallel-lts.Need-returns (walk-parallel-claims t) (walk-parallel-at t) walk-parallel.Post
 walk-parallel-returns t c =
     let c6 = c .before .before .before .before .before .before in
-    let c6 = c6 in
     let c16 = c6 .before .before .before .before .before .before .before .before .before .before in
     let v = c16 .args in
     left-passed (v .question .now) (v .part .now) (v .node .at) (v .node .depth) (v .node .number) (v .node .x) (v .rows .now) (v .walked .rows)
@@ -198,7 +189,6 @@ walk-parallel-add-further : (t : ℕ) → walk-parallel-lts.Need-add-further (wa
 unfolding silentAt
 walk-parallel-add-further t c =
     let c13 = c .before .before .before .before .before .before .before .before .before .before .before .before .before in
-    let c13 = c13 in
     let c17 = c13 .before .before .before .before in
     let b = c13 .shared-slice-known4 .given (longestTerm + (c17 .args .node .at + 1)) in
     let e = c .silent-at .ensures in
@@ -297,7 +287,6 @@ walk-parallel-add-silent : (t : ℕ) → walk-parallel-lts.Need-add-silent (walk
 unfolding silentAt
 walk-parallel-add-silent t c =
     let c12 = c .before .before .before .before .before .before .before .before .before .before .before .before in
-    let c12 = c12 in
     let c22 = c12 .before .before .before .before .before .before .before .before .before .before in
     let c25 = c22 .before .before .before in
     let c29 = c25 .before .before .before .before in
@@ -345,14 +334,12 @@ walk-parallel-meet-requires t c κs =
 walk-parallel-same-length-7 : (t : ℕ) → walk-parallel-lts.Need-same-length-7 (walk-parallel-claims t) (walk-parallel-at t) walk-parallel.Post
 walk-parallel-same-length-7 t c =
     let c13 = c .before .before .before .before .before .before .before .before .before .before .before .before .before in
-    let c13 = c13 in
     let c23 = c13 .before .before .before .before .before .before .before .before .before .before in
     omega (arith, c23 .rows .given, c13 .rows2 .given)
 
 walk-parallel-same-length-8 : (t : ℕ) → walk-parallel-lts.Need-same-length-8 (walk-parallel-claims t) (walk-parallel-at t) walk-parallel.Post
 walk-parallel-same-length-8 t c =
     let c11 = c .before .before .before .before .before .before .before .before .before .before .before in
-    let c11 = c11 in
     let c21 = c11 .before .before .before .before .before .before .before .before .before .before in
     omega (arith, c21 .area .given, c11 .area2 .given, c .before .area3 .given)
 

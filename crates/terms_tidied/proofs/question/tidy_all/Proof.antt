@@ -61,7 +61,6 @@ loop-less c = omega arith
 loop-again : tie.Need-loop-again Inv-loop μ-loop
 loop-again c =
     let c3 = c .before .before .before in
-    let c3 = c3 in
     let c5 = c3 .before .before in
     let c6 = c5 .before in
     let c8 = c6 .before .before in

@@ -36,7 +36,6 @@ sub-rest c =
 copy-requires-2 : tie.Need-copy-requires-2
 copy-requires-2 c κs =
     let c3 = c .before .before .before in
-    let c3 = c3 in
     let c7 = c3 .before .before .before .before in
     let c12 = c7 .before .before .before .before .before in
     let w = rest-within (c12 .args .question .now) (c12 .args .out .now) (c12 .pre) _ _ (c3 .tidy-all .result) (c3 .tidy-all .ensures) in
@@ -46,7 +45,6 @@ copy-requires-2 c κs =
 add-result : tie.Need-add-result
 add-result c =
     let c6 = c .before .before .before .before .before .before in
-    let c6 = c6 in
     let c15 = c6 .before .before .before .before .before .before .before .before .before in
     let w = rest-within (c15 .args .question .now) (c15 .args .out .now) (c15 .pre) _ _ (c6 .tidy-all .result) (c6 .tidy-all .ensures) in
     omega (arith, w .0, w .1)
@@ -60,7 +58,6 @@ returns : tie.Need-returns
 unfolding WritesTidied
 returns c =
     let c6 = c .before .before .before .before .before .before in
-    let c6 = c6 in
     let c10 = c6 .before .before .before .before in
     let c12 = c10 .before .before in
     let c15 = c12 .before .before .before in

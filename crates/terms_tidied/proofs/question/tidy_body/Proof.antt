@@ -68,7 +68,6 @@ add-out c = search needs
 slice-write-out-2 : tie.Need-slice-write-out-2
 slice-write-out-2 c =
     let c8 = c .before .before .before .before .before .before .before .before in
-    let c8 = c8 in
     simp length-set (omega (arith, c .before .before .tidy .kept .1 .1 .1 .0, c8 .pre .body .room))
 
 -- src/question.rt:13:1
