@@ -12,8 +12,8 @@ use Rattle.calculus.specs.Definitions.{Defs, opened}
 use Rattle.calculus.proofs.PublishedSteps.{cons-~, ++-~}
 use Rattle.calculus.proofs.Working.{renA, cross, Trans, t-tau, t-inp, t-out, t-bout, t-mat, t-sumL, t-sumR, t-parL, t-parR, t-comL, t-comR, t-closeL, t-closeR, t-res, t-open, t-call}
 use Rattle.steps.specs.Raw.{Candidate, step, matching, leftSteps, rightSteps, meet, communication, communications, restrictedAlone, outside, restrictedAction, restricted, visibleOf, silentOf, visibleCalls, silentCalls, visible, silent}
-use Rattle.steps.specs.Lists.{_∈_}
-use Rattle.steps.proofs.Membership.{∈-left, ∈-right, ∈-map}
+use Rattle.calculus.specs.Lists.{_∈_}
+use Rattle.calculus.proofs.Membership.{∈-left, ∈-right, ∈-map}
 use Rattle.steps.proofs.Restriction.{outside-alone, outside-same}
 use Rattle.steps.proofs.Calls.{Opens}
 use Rattle.steps.proofs.RawSound.{body-opens}

@@ -10,8 +10,8 @@ use Rattle.calculus.proofs.Conditions.{_~_}
 use Rattle.calculus.specs.Definitions.{Defs, opened}
 use Rattle.calculus.proofs.Working.{Trans, t-tau, t-inp, t-out, t-bout, t-mat, t-sumL, t-sumR, t-parL, t-parR, t-comL, t-comR, t-closeL, t-closeR, t-res, t-open, t-call}
 use Rattle.steps.specs.Raw.{Candidate, step, blocked, matching, leftSteps, rightSteps, meet, communication, communications, restrictedAlone, outside, restrictedAction, restricted, visibleOf, silentOf, visibleCalls, silentCalls, visible, silent}
-use Rattle.steps.specs.Lists.{All}
-use Rattle.steps.proofs.Membership.{all-++, all-imp, all-map}
+use Rattle.calculus.specs.Lists.{All}
+use Rattle.calculus.proofs.Membership.{all-++, all-imp, all-map}
 use Rattle.steps.proofs.Restriction.{spared-alone, outside-~}
 use Rattle.steps.proofs.Calls.{EachCall, CallOpens, Opens, opens-ren}
 
