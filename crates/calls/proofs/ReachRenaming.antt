@@ -191,7 +191,7 @@ guarded-quiet opening (sum P Q) C K g =
 guarded-quiet opening (par P Q) C K g = refl
 guarded-quiet opening (res P) C K g = refl
 
-guarded-ren : (P : Term) (σ : ℕ → ℕ) → Guarded P → Guarded (ren σ P)
+pub guarded-ren : (P : Term) (σ : ℕ → ℕ) → Guarded P → Guarded (ren σ P)
 guarded-ren nil σ g = tt
 guarded-ren (tau P) σ g = tt
 guarded-ren (inp a P) σ g = tt
