@@ -6,6 +6,7 @@ pub mod Congruence
 pub mod Distinctions
 pub mod Equivalence
 pub mod FreeNames
+pub mod Membership
 pub mod Parallel
 pub mod PublishedBisimulation
 pub mod PublishedSteps

@@ -23,3 +23,5 @@ pub mod Inside
 pub mod Tidy
 -- actions with their bound name as the innermost binder, for candidates of a step
 pub mod Abstraction
+-- members of a list
+pub mod Lists

@@ -18,8 +18,8 @@ use Rattle.calculus.proofs.WorkingNames.{cond-free}
 use Rattle.calculus.proofs.PublishedBisimulation.{bound-ren}
 use Rattle.calculus.proofs.PublishedSteps.{act, fill, named, avoids-named, unname, name-it}
 use Rattle.steps.specs.Raw.{Candidate, step, visible, silent as silentSteps}
-use Rattle.steps.specs.Lists.{_∈_}
-use Rattle.steps.proofs.Membership.{∈-left, ∈-right}
+use Rattle.calculus.specs.Lists.{_∈_}
+use Rattle.calculus.proofs.Membership.{∈-left, ∈-right}
 use Rattle.steps.proofs.Calls.{Opens}
 use Rattle.steps.specs.Listed.{ListedStep, listedAs, canonStep, classesOf}
 use Rattle.steps.specs.Derived.{Derived}

@@ -2,6 +2,7 @@ pub mod ByteOrder
 pub mod Calls
 pub mod CanonSteps
 pub mod ClassLists
+pub mod CompleteOver
 pub mod DerivedLaws
 pub mod Examples
 pub mod FormLaws
@@ -16,5 +17,6 @@ pub mod RawSound
 pub mod Restriction
 pub mod Scope
 pub mod Sorted
+pub mod SoundOver
 pub mod TidiedQuestions
 pub mod TidyLists

@@ -9,7 +9,7 @@ use Prim.Native.Nat.{ℕ, _<_, _≤_}
 use lib.Dec.{leb}
 use lib.ListN.{length}
 use Rattle.terms.proofs.Answers.{both-true}
-use Rattle.steps.specs.Lists.{_∈_, All}
+use Rattle.calculus.specs.Lists.{_∈_, All}
 use Rattle.steps.specs.Listed.{ListedStep, resultBytes}
 use Rattle.steps.specs.Listing.{allFit, unsettled, listed, limited}
 

@@ -14,7 +14,7 @@ use Rattle.terms.specs.Edition.{one}
 use Rattle.terms.specs.Reading.{numbered, readTerm}
 use Rattle.terms.proofs.Answers.{result-injective}
 use Rattle.terms.proofs.EditionOne.{read-encoded-first}
-use Rattle.steps.specs.Lists.{All}
+use Rattle.calculus.specs.Lists.{All}
 use Rattle.steps.specs.Limits.{stepBytes}
 use Rattle.steps.specs.Listed.{ListedStep, resultBytes, bytes}
 use Rattle.steps.specs.Operations.{listBytes}

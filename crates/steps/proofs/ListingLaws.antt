@@ -19,8 +19,8 @@ use Rattle.calculus.proofs.WorkingNames.{resid-free}
 use Rattle.terms.specs.Encoding.{InScope}
 use Rattle.terms.proofs.ScopeLaws.{free-below}
 use Rattle.steps.specs.Raw.{Candidate, step, blocked, visible, silent}
-use Rattle.steps.specs.Lists.{_∈_, All, Distinct}
-use Rattle.steps.proofs.Membership.{all-++, all-imp, all-∈, distinct-length}
+use Rattle.calculus.specs.Lists.{_∈_, All, Distinct}
+use Rattle.calculus.proofs.Membership.{all-++, all-imp, all-∈, distinct-length}
 use Rattle.steps.proofs.Calls.{Opens}
 use Rattle.steps.proofs.FormLaws.{Form, form-scope}
 use Rattle.steps.proofs.Scope.{CallsInScope, scope-calls, in-scope, calls-ren, calls-residual}

@@ -8,8 +8,8 @@ use Rattle.calculus.specs.Abstraction.{Act}
 use Rattle.calculus.specs.Term.{Term}
 use Rattle.calculus.specs.Cond.{Cond}
 use Rattle.steps.specs.Raw.{Candidate, step, blocked}
-use Rattle.steps.specs.Lists.{_∈_, Among, All}
-use Rattle.steps.proofs.Membership.{all-imp, all-∈}
+use Rattle.calculus.specs.Lists.{_∈_, Among, All}
+use Rattle.calculus.proofs.Membership.{all-imp, all-∈}
 use Rattle.steps.specs.Derived.{Ascending}
 use Rattle.steps.specs.Listed.{ListedStep, canonStep, bytes}
 use Rattle.steps.specs.Listing.{order, insert, collect}

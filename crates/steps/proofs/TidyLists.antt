@@ -24,10 +24,10 @@ use Rattle.steps.specs.Derived.{Ascending, Derived, TooMany, TooLong, Li
 use Rattle.steps.specs.Limits.{mostSteps}
 use Rattle.steps.specs.Listed.{ListedStep, listedAs}
 use Rattle.steps.specs.Listing.{Listing, unsettled, listed, listing}
-use Rattle.steps.specs.Lists.{_∈_, All}
+use Rattle.calculus.specs.Lists.{_∈_, All}
 use Rattle.steps.proofs.FormLaws.{Form, tidied-form, form-scope}
 use Rattle.steps.proofs.ListingLaws.{listing-exact}
-use Rattle.steps.proofs.Membership.{all-imp}
+use Rattle.calculus.proofs.Membership.{all-imp}
 use Rattle.steps.proofs.QuestionDefinitions.{definitions, bodies-in-scope, opens-one}
 use Rattle.steps.proofs.Scope.{scope-calls}
 use Rattle.steps.proofs.Sorted.{ascending-sorted, sorted-same}

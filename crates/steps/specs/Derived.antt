@@ -9,7 +9,7 @@ use Rattle.calculus.specs.Free.{In}
 use Rattle.calculus.specs.Cond.{Cond}
 use Rattle.calculus.specs.Definitions.{Defs}
 use Rattle.calculus.specs.Published.{Action, boundNames, Transition}
-use Rattle.steps.specs.Lists.{_∈_, All, Distinct}
+use Rattle.calculus.specs.Lists.{_∈_, All, Distinct}
 use Rattle.steps.specs.Listed.{ListedStep, listedAs, resultBytes, bytes}
 use Rattle.steps.specs.Listing.{order, Listing, unsettled, listed}
 

@@ -1,5 +1,5 @@
 -- The steps of a part and their list, in reading order.
--- members of a list
+-- members of a list, from crate calculus
 pub mod Lists
 -- the most steps, and the bytes of one
 pub mod Limits

@@ -1,0 +1,4 @@
+pub mod Examples
+pub mod ExpandedComplete
+pub mod ExpandedSound
+pub mod Unchanged
