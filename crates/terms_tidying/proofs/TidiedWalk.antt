@@ -7,9 +7,9 @@ use native.Mathlib.Nat.{zero-add}
 use native.Mathlib.Numerals.{add-one}
 use native.Mathlib.Omega.{arith}
 use lib.ListN.{length, getD, take, drop, set, length-append, length-drop}
-use lib.Seq.{take-suc, getD-set-same, getD-set-other}
+use lib.Seq.{take-suc, getD-drop, getD-set-same, getD-set-other}
 use lib.Dec.{eqb}
-use borrow.Author.Tests.{eqb-false, eq-eqb, not-true}
+use borrow.Author.Tests.{eqb-true, eqb-false, eq-eqb, ne-eqb, not-true}
 use Rattle.calculus.specs.Distinction.{among}
 use Rattle.calculus.specs.Free.{fn}
 use Rattle.calculus.specs.Term.{Term, nil, tau, inp, out, bout, mat, sum, par, res, call}
@@ -17,14 +17,14 @@ use Rattle.calculus.specs.Tidy.{restrictUsed, tidy}
 use Rattle.terms.specs.Encoding.{nameByte, encode, InScope}
 use Rattle.terms.proofs.ReadEncoded.{encode-some}
 use Rattle.terms_bytes.specs.NameTable.{tableNames}
-use Rattle.terms_bytes.specs.Shape.{ownNames, binders, subterms, frontBytes, ShapeIs}
+use Rattle.terms_bytes.specs.Shape.{ownNames, binders, subterms, frontBytes, fixedAt, namesBehind, namesAt, bindersAt, subtermsAt, ShapeIs}
 use Rattle.terms_bytes.specs.declared.shape.Shape.{Shape}
-use Rattle.terms_bytes.proofs.Shapes.{encodeAll, AllInScope, names-scope, subterms-scope, front-of, shape-binds, shape-parts, span-names, length-front, at-most-two}
+use Rattle.terms_bytes.proofs.Shapes.{all-at, encodeAll, AllInScope, names-scope, subterms-scope, front-of, shape-binds, shape-parts, span-names, length-front, front-inside, at-most-two}
 use Rattle.terms_bytes.proofs.Stores.{span, length-span, getD-span}
-use Rattle.terms_tidying.specs.TidiedTerms.{Keeps, KeepsBytes, MetFrontIs, FollowIs, IsTidiedIs}
+use Rattle.terms_tidying.specs.TidiedTerms.{Keeps, KeepsBytes, FrontOf, MetFrontIs, FollowIs, IsTidiedIs}
 use Rattle.terms_tidying.specs.declared.tidied.MetFront.{MetFront}
 use Rattle.terms_tidying.specs.declared.tidied.Place.{Place}
-use Rattle.terms_tidying.proofs.UnusedWalk.{or-false, or-neither, among-append, among-bytes, among-parts, usedBy, first-byte, behind}
+use Rattle.terms_tidying.proofs.UnusedWalk.{or-false, or-neither, among-append, among-bytes, among-parts, usedBy, none-short, first-byte, behind}
 
 -- The names of a front.
 pub keeps-none : (depth : ℕ) (test : ℕ → Bool) (waits : List ℕ) → Keeps depth test waits waits
@@ -57,32 +57,122 @@ keeps-more s at n depth i u v w fit l a b =
     more : take (i + 1) (span s at n) ≡ take i (span s at n) ++ (getD s (at + i) 0 ∷ [])
     more = rw (add-one, take-suc (span s at n) i 0 (omega (arith, length-span s at n fit)), getD-span s at n i l)
 
-pub front-none : (s : List ℕ) (at : ℕ) (arities : List ℕ) (depth : ℕ) (waits : List ℕ)
+-- The front by its first byte, and what was met of the names that the bytes have room for.
+pub front-none : (s : List ℕ) (at : ℕ) (arities : List ℕ) (depth : ℕ) (waits : List ℕ) (h : MetFront) → FrontOf 0 0 0 h
     → ((free d : ℕ) (P : Term) (rest : List ℕ) → InScope free arities d P → drop at s ≡ encode d P ++ rest → ⊥)
-    → MetFrontIs s at arities depth waits (record { len = 0; binds = 0; subterms = 0 }) waits
-front-none s at arities depth waits never = record {
-  inside = omega arith;
-  binds = omega arith;
+    → MetFrontIs s at arities depth waits h waits
+front-none s at arities depth waits h of never = record {
+  few = omega (arith, of .len);
+  one = omega (arith, of .binds);
   is = λ free d P rest few scope e h. absurd (never free d P rest scope e);
 }
 
-pub front-met : (s : List ℕ) (at : ℕ) (arities : List ℕ) (depth : ℕ) (waits : List ℕ) (h : Shape) (waits′ : List ℕ) → ShapeIs s at arities h
-    → at + (h .fixed + h .names) ≤ length s → KeepsBytes depth (span s (at + h .fixed) (h .names)) waits waits′
-    → MetFrontIs s at arities depth waits (record { len = h .fixed + h .names; binds = h .binds; subterms = h .subterms }) waits′
+front-met : (s : List ℕ) (at : ℕ) (arities : List ℕ) (depth : ℕ) (waits : List ℕ) (sh : Shape) (waits′ : List ℕ) (h : MetFront) → at < length s
+    → ShapeIs s at arities sh → FrontOf (sh .fixed + sh .names) (sh .binds) (sh .subterms) h
+    → (at + (sh .fixed + sh .names) ≤ length s → KeepsBytes depth (span s (at + sh .fixed) (sh .names)) waits waits′)
+    → MetFrontIs s at arities depth waits h waits′
 unfolding Keeps
-front-met s at arities depth waits h waits′ is fit met = record {
-  inside = omega arith;
-  binds = is .one;
+front-met s at arities depth waits sh waits′ h inside is of met = record {
+  few = omega (arith, of .len, is .few);
+  one = omega (arith, of .binds, is .one);
   is = λ free d P rest few scope e low.
       let f = front-of free arities d P scope in (
-        length-front s at arities h is d P f rest e,
-        shape-binds s at arities h is d P f rest e,
-        shape-parts s at arities h is d P f rest e,
-        λ l x t. met l x
-            (λ i q. ap (λ (xs : List ℕ). among xs (128 + i)) (span-names s at arities h is d P f rest e)
+        of .len ∙ length-front s at arities sh is d P f rest e,
+        of .binds ∙ shape-binds s at arities sh is d P f rest e,
+        of .subterms ∙ shape-parts s at arities sh is d P f rest e,
+        λ l x t. met (front-inside s at arities sh is d P f rest e inside) l x
+            (λ i q. ap (λ (xs : List ℕ). among xs (128 + i)) (span-names s at arities sh is d P f rest e)
             ∙ among-bytes free d i few (omega arith) (ownNames P) (names-scope free arities d P scope) ∙ t i q),
       );
 }
+
+span-one : (s : List ℕ) (at : ℕ) → at < length s → span s at 1 ≡ getD s at 0 ∷ []
+span-one s at l = take-suc (drop at s) 0 0 (omega (arith, length-drop at s)) ∙ ap (λ (x : ℕ). x ∷ []) (getD-drop at s 0 0 ∙ ap (λ (i : ℕ). getD s i 0) (omega arith))
+
+span-two : (s : List ℕ) (at : ℕ) → at + 3 ≤ length s → span s (at + 1) 2 ≡ getD s (at + 1) 0 ∷ getD s (at + 2) 0 ∷ []
+span-two s at l =
+    take-suc (drop (at + 1) s) 1 0 (omega (arith, length-drop (at + 1) s))
+    ∙ ap₂ (λ (xs : List ℕ) (x : ℕ). xs ++ (x ∷ [])) (span-one s (at + 1) (omega arith))
+    (getD-drop (at + 1) s 1 0 ∙ ap (λ (i : ℕ). getD s i 0) (omega arith))
+
+-- A call.
+module _ (s : List ℕ) (at : ℕ) (arities : List ℕ) (inside : at < length s) (t : getD s at 0 ≡ 9) (n : ℕ) (e : n ≡ getD arities (getD s (at + 1) 0) 0)
+    (small : n < 256) where
+  call-shape : ShapeIs s at arities (record { fixed = 2; names = n; binds = 0; subterms = 0 })
+  unfolding fixedAt namesAt bindersAt subtermsAt
+  call-shape = record {
+    fixed = rw t;
+    names = rw t e;
+    binds = rw t;
+    subterms = rw t;
+    some = omega arith;
+    few = omega arith;
+    one = omega arith;
+  }
+
+  pub call-none : length s < at + (2 + n) → (free d : ℕ) (P : Term) (rest : List ℕ) → InScope free arities d P → drop at s ≡ encode d P ++ rest → ⊥
+  call-none short = none-short s at arities (record { fixed = 2; names = n; binds = 0; subterms = 0 }) call-shape inside short
+
+  pub call-met : (depth : ℕ) (waits waits′ : List ℕ) (h : MetFront) → FrontOf (2 + n) 0 0 h → KeepsBytes depth (span s (at + 2) n) waits waits′
+      → MetFrontIs s at arities depth waits h waits′
+  call-met depth waits waits′ h of met =
+      front-met s at arities depth waits (record { fixed = 2; names = n; binds = 0; subterms = 0 }) waits′ h inside call-shape of (λ fit. met)
+
+above : (t : ℕ) → ¬ (t ≡ 0) → ¬ (t ≡ 1) → ¬ (t ≡ 2) → 3 ≤ t
+above t a b c = omega arith
+
+below : (t : ℕ) → ¬ (t ≡ 6) → ¬ (t ≡ 7) → ¬ (t ≡ 8) → ¬ (t ≡ 9) → t ≤ 9 → t ≤ 5
+below t a b c d l = omega arith
+
+only-match : (t : ℕ) → 3 ≤ t → t ≤ 5 → ¬ (t ≡ 3) → ¬ (t ≡ 4) → t ≡ 5
+only-match t l h a b = omega arith
+
+-- A prefix, or what has no names.
+module _ (s : List ℕ) (at : ℕ) (arities : List ℕ) (depth : ℕ) (waits waits′ : List ℕ) (h : MetFront) (inside : at < length s) where
+  front-at : (t : ℕ) → getD s at 0 ≡ t → ¬ (t ≡ 9) → FrontOf (1 + namesBehind t) (bindersAt t) (subtermsAt t) h
+      → (at + (1 + namesBehind t) ≤ length s → KeepsBytes depth (span s (at + 1) (namesBehind t)) waits waits′) → MetFrontIs s at arities depth waits h waits′
+  unfolding fixedAt namesAt bindersAt
+  front-at t e n of met =
+      front-met s at arities depth waits (record { fixed = 1; names = namesBehind t; binds = bindersAt t; subterms = subtermsAt t }) waits′ h inside
+      (record {
+        fixed = rw (e, ne-eqb t 9 n);
+        names = rw (e, ne-eqb t 9 n);
+        binds = rw e;
+        subterms = rw e;
+        some = omega arith;
+        few = omega (arith, all-at 2 (0 ∷ 0 ∷ 1 ∷ 2 ∷ 1 ∷ 2 ∷ 0 ∷ 0 ∷ 0 ∷ []) t refl);
+        one = all-at 1 (0 ∷ 0 ∷ 1 ∷ 0 ∷ 1 ∷ 0 ∷ 0 ∷ 0 ∷ 1 ∷ []) t refl;
+      }) of met
+
+  pub front-one : (t : ℕ) → getD s at 0 ≡ t → ¬ (t ≡ 9) → namesBehind t ≡ 1 → FrontOf 2 (bindersAt t) (subtermsAt t) h → (x : ℕ) → x ≡ getD s (at + 1) 0
+      → KeepsBytes depth (x ∷ []) waits waits′ → MetFrontIs s at arities depth waits h waits′
+  front-one t e n z of x q met = front-at t e n (rw z of) (λ fit. rw (z, span-one s (at + 1) (omega (arith, z)), ← q) met)
+
+  module _ (x y : ℕ) (first : x ≡ getD s (at + 1) 0) (second : y ≡ getD s (at + 2) 0) (u : List ℕ) (a : KeepsBytes depth (x ∷ []) waits u)
+      (b : KeepsBytes depth (y ∷ []) u waits′) where
+    both : KeepsBytes depth (x ∷ y ∷ []) waits waits′
+    unfolding among
+    both =
+        keeps-then depth (λ k. among (x ∷ []) (128 + k)) (λ k. among (y ∷ []) (128 + k)) (λ k. among (x ∷ y ∷ []) (128 + k)) waits u waits′ a b
+        (λ k q. let (g, r) = or-neither (eqb (128 + k) x) (eqb (128 + k) y || false) q in (or-false (eqb (128 + k) x) ∙ g, r))
+
+    front-two : (t : ℕ) → getD s at 0 ≡ t → ¬ (t ≡ 9) → namesBehind t ≡ 2 → FrontOf 3 (bindersAt t) (subtermsAt t) h → MetFrontIs s at arities depth waits h waits′
+    front-two t e n z of = front-at t e n (rw z of) (λ fit. rw (z, span-two s at (omega (arith, z)), ← first, ← second) both)
+
+    -- an output or a match: no other byte is left
+    pub front-last : (t : ℕ) → getD s at 0 ≡ t → ¬ (t ≡ 0) → ¬ (t ≡ 1) → ¬ (t ≡ 2) → ¬ (t ≡ 4) → ¬ (t ≡ 6) → ¬ (t ≡ 7) → ¬ (t ≡ 8) → ¬ (t ≡ 9) → t ≤ 9
+        → FrontOf 3 0 1 h → MetFrontIs s at arities depth waits h waits′
+    unfolding bindersAt subtermsAt
+    front-last t e n0 n1 n2 n4 n6 n7 n8 n9 l of = go (eqb t 3) refl
+      where
+        go : (q : Bool) → eqb t 3 ≡ q → MetFrontIs s at arities depth waits h waits′
+        go true q = front-two 3 (e ∙ eqb-true t 3 q) (λ z. omega arith) refl of
+        go false q = front-two 5 (e ∙ only-match t (above t n0 n1 n2) (below t n6 n7 n8 n9 l) (eqb-false t 3 q) n4) (λ z. omega arith) refl of
+
+pub front-plain : (s : List ℕ) (at : ℕ) (arities : List ℕ) (depth : ℕ) (waits : List ℕ) (h : MetFront) → at < length s → (t : ℕ) → getD s at 0 ≡ t → ¬ (t ≡ 9)
+    → namesBehind t ≡ 0 → FrontOf 1 (bindersAt t) (subtermsAt t) h → MetFrontIs s at arities depth waits h waits
+front-plain s at arities depth waits h inside t e n z of =
+    front-at s at arities depth waits waits h inside t e n (rw z of) (λ fit. keeps-none depth (λ i. among (span s (at + 1) (namesBehind t)) (128 + i)) waits)
 
 -- A term is tidied if its subterms are and, where it is a restriction, its name is free beneath it.
 abbrev AllTidied : List Term → Type 0
@@ -101,6 +191,23 @@ tidied-parts (sum P Q) a b = ap₂ sum (a .0) (a .1 .0)
 tidied-parts (par P Q) a b = ap₂ par (a .0) (a .1 .0)
 tidied-parts (res P) a b = ap restrictUsed (a .0) ∙ rw (b P refl)
 tidied-parts (call k xs) a b = refl
+
+pub no-term : (s : List ℕ) (at : ℕ) (arities : List ℕ) → 9 < getD s at 0 → (free d : ℕ) (P : Term) (rest : List ℕ) → InScope free arities d P
+    → drop at s ≡ encode d P ++ rest → ⊥
+unfolding encode
+no-term s at arities l free d P rest scope e = go P (first-byte s at arities d P rest e)
+  where
+    go : (P : Term) → getD s at 0 ≡ getD (encode d P) 0 0 → ⊥
+    go nil q = omega arith
+    go (tau P) q = omega arith
+    go (inp a P) q = omega arith
+    go (out a b P) q = omega arith
+    go (bout a P) q = omega arith
+    go (mat a b P) q = omega arith
+    go (sum P Q) q = omega arith
+    go (par P Q) q = omega arith
+    go (res P) q = omega arith
+    go (call k xs) q = omega arith
 
 -- Where no byte is a restriction's there is none.
 none-restricted : (d : ℕ) (P : Term) → among (encode d P) 8 ≡ false → tidy P ≡ P
@@ -354,7 +461,7 @@ module _ (s arities : List ℕ) where
           good = λ u o c.
               let (v, all, o₂) = done-first (binders Q + depth) (subterms Q) ps (set waits₁ depth (cond (eqb (getD s at 0) 8) 1 0)) u o in
               let t : (R : Term) → Q ≡ res R → getD s at 0 ≡ 8 = λ R y. first-byte s at arities (depth + d) Q (codes d ps) st ∙ restriction-byte (depth + d) Q R y in
-              let b : binders Q ≤ 1 = omega (arith, F .binds, x .1) in
+              let b : binders Q ≤ 1 = omega (arith, F .one, x .1) in
               let done : Done depth Q waits v = (
                 done-keeps depth Q waits waits₁ v (getD s at 0) t b room (x .3) idle all,
                 done-tidied depth Q waits waits₁ v (getD s at 0) t b room (x .3) idle all,

@@ -2,7 +2,7 @@
 use mathlib.Core.Path.{_≡_}
 use mathlib.Core.Bool.{Bool, true, false}
 use mathlib.Core.List.{List, _++_}
-use Prim.Native.Nat.{ℕ, suc, _+_, _≤_, max}
+use Prim.Native.Nat.{ℕ, suc, _+_, _<_, _≤_}
 use lib.ListN.{length, getD, drop, set}
 use Rattle.calculus.specs.Distinction.{among}
 use Rattle.calculus.specs.Term.{Term}
@@ -22,10 +22,15 @@ Keeps depth test waits waits′ = (l : ℕ) → getD waits l 0 ≡ 1 → ((i : �
 abbrev pub KeepsBytes : ℕ → List ℕ → List ℕ → List ℕ → Type 0
 KeepsBytes depth bytes = Keeps depth (λ i. among bytes (128 + i))
 
+pub record FrontOf (n b k : ℕ) (h : MetFront) : Type 0 where
+  pub len : h .len ≡ n
+  pub binds : h .binds ≡ b
+  pub subterms : h .subterms ≡ k
+
 -- such as the front of a term names; no front has no length
 pub record MetFrontIs (s : List ℕ) (at : ℕ) (arities : List ℕ) (depth : ℕ) (waits : List ℕ) (h : MetFront) (waits′ : List ℕ) : Type 0 where
-  pub inside : at + h .len ≤ max at (length s)
-  pub binds : h .binds ≤ 1
+  pub few : h .len < 512
+  pub one : h .binds ≤ 1
   pub is : (free d : ℕ) (P : Term) (rest : List ℕ)
       → free ≤ tableNames
       → InScope free arities d P

@@ -117,6 +117,8 @@ occurs-requires c κs = search needs
 returns-4 : tie.Need-returns-4 Inv-loop μ-loop
 returns-4 c =
     let c3 = c .before .before .before in
+    let c3 = c3 in
+    let c3 = c3 in
     let c6 = c3 .before .before .before in
     let a = c6 .args in
     let v = c3 .loop in

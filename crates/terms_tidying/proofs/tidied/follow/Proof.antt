@@ -37,6 +37,8 @@ returns-2 c = let a = c .before .before .before .args in
 returns-3 : tie.Need-returns-3
 returns-3 c =
     let c4 = c .before .before .before .before in
+    let c4 = c4 in
+    let c4 = c4 in
     let a = c4 .args in
     followed-end (a .subterms) (a .depth) (a .pending) (a .depths .now) (c .before .before .if1 .left) (c .before .if2 .left) (c .if3 .taken)
 
@@ -60,6 +62,8 @@ same-length-2 c = search needs
 returns-4 : tie.Need-returns-4
 returns-4 c =
     let c3 = c .before .before .before in
+    let c3 = c3 in
+    let c3 = c3 in
     let c4 = c3 .before in
     let c6 = c4 .before .before in
     let a = c6 .args in

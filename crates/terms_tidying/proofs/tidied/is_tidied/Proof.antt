@@ -18,6 +18,8 @@ occurs-requires c κs = search needs
 returns : tie.Need-returns
 returns c =
     let c4 = c .before .before .before .before in
+    let c4 = c4 in
+    let c4 = c4 in
     no-byte (c4 .args .src .now) (c4 .args .arities .now) (sym (c .before .occurs .ensures) ∙ not-true _ (c .if1 .taken))
 
 -- src/tidied.rt:152:9
