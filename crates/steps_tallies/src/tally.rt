@@ -252,7 +252,7 @@ fn put_places(question: &[u8], bodies: &mut [u32])
 }
 
 // Whether a body has a restriction or an output of a new name.
-pub fn has_restricted_body(question: &[u8]) -> bool
+fn has_restricted_body(question: &[u8]) -> bool
     ensures { λ r. ⌜ (r ≡ false → BodiesUnrestricted (now (question .entry))) ⌝ }
 {
     let arities = arities_of(question);

@@ -56,11 +56,14 @@ loop-again c =
     let c5 = c4 .before in
     let c7 = c5 .before .before in
     let c8 = c7 .before in
-    let c10 = c8 .before .before in
-    (one-more (c10 .args .question .now) (c5 .loop .k) (c5 .loop .inv .0) (c5 .loop .at) (c5 .loop .inv .1) (c3 .field-at .result .now)
-    (c3 .field-at .ensures) (c8 .arities .result .now) (c8 .arities .ensures) (omega (arith, c4 .loop-test .taken, c7 .definitions .ensures .0))
-    (subst (IsTidiedIs (c3 .field-at .result .now) (c8 .arities .result .now)) (not-false _ (c .before .if1 .left))
-    (c .before .before .is-tidied .ensures)), rw add-one (c .after-field .ensures ∙ ap (afterField _) (c5 .loop .inv .1)), omega arith)
+    let c10 = c8 .before .before in (
+      one-more (c10 .args .question .now) (c5 .loop .k) (c5 .loop .inv .0) (c5 .loop .at) (c5 .loop .inv .1) (c3 .field-at .result .now)
+          (c3 .field-at .ensures) (c8 .arities .result .now) (c8 .arities .ensures) (omega (arith, c4 .loop-test .taken, c7 .definitions .ensures .0))
+          (subst (IsTidiedIs (c3 .field-at .result .now) (c8 .arities .result .now)) (not-false _ (c .before .if1 .left))
+          (c .before .before .is-tidied .ensures)),
+      rw add-one (c .after-field .ensures ∙ ap (afterField _) (c5 .loop .inv .1)),
+      omega arith,
+    )
 
 returns-2 : tie.Need-returns-2 Inv-loop μ-loop
 returns-2 c =
