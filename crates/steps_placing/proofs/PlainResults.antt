@@ -1,4 +1,4 @@
--- Where neither the part nor a body has a restriction, the results of its candidates have none, and are tidied as they are.
+-- Where neither the part nor a body has a restriction, the results of its candidates have none. The canonical form has the tidied result.
 -- Assumes nothing.
 use mathlib.Core.Bool.{Bool, true, false}
 use mathlib.Core.List.{List, [], _∷_, _++_}
@@ -19,10 +19,9 @@ use Rattle.steps.specs.Lists.{All}
 use Rattle.steps.specs.Raw.{Candidate, step, blocked, visible, silent}
 use Rattle.steps_plans.specs.Plans.{receiving}
 use Rattle.steps_tallies.specs.Candidates.{candidates}
-use Rattle.steps_tallies.proofs.Unrestricted.{Plain, unrestricted-tidied, unrestricted-ren, plain-candidates}
+use Rattle.steps_tallies.proofs.Unrestricted.{Plain, plain-candidates}
 use Rattle.steps_splicing.specs.ListedParts.{Lists}
 use Rattle.steps_splicing.specs.Ready.{PartUnrestricted}
-use Rattle.steps_splicing.proofs.PlainContexts.{plain-result}
 use Rattle.steps_placing.specs.Taking.{candidatesOf}
 use Rattle.steps_placing.proofs.ResultScope.{all-at, within}
 
@@ -35,16 +34,12 @@ tidied-canonical x M (inpA a) A = refl
 tidied-canonical x M (outA a b) A = refl
 tidied-canonical x M (boutA a) A = refl
 
--- A result without restrictions is tidied as it is.
-pub plain-tidied : (ρ : ℕ → ℕ) (M : Cond) (α : Act) (A : Term) → Plain (step M α A) → tidy (ren ρ A) ≡ ren ρ A
-plain-tidied ρ M α A p = unrestricted-tidied (ren ρ A) (unrestricted-ren ρ A (plain-result M α A p))
-
 all-split : (S : Candidate → Type 0) (cs ds : List Candidate) → All S (cs ++ ds) → All S cs × All S ds
 all-split S [] ds a = (tt, a)
 all-split S (c ∷ cs) ds a = let (b, d) = all-split S cs ds (a .1) in ((a .0, b), d)
 
 -- The candidates of a term without restrictions.
-pub plain-term : (body : ℕ → Term) → ((k : ℕ) → Unrestricted (body k)) → (C : Term) → Unrestricted C → (silently : Bool) (i : ℕ) (M : Cond) (α : Act) (A : Term)
+plain-term : (body : ℕ → Term) → ((k : ℕ) → Unrestricted (body k)) → (C : Term) → Unrestricted C → (silently : Bool) (i : ℕ) (M : Cond) (α : Act) (A : Term)
     → getD (candidates silently body 1 C) i blocked ≡ step M α A → Plain (step M α A)
 unfolding candidates
 plain-term body bodies C u true i M α A e =
@@ -55,7 +50,7 @@ plain-term body bodies C u false i M α A e =
     subst Plain e (all-at Plain cs (all-split Plain cs (silent body 1 C) (plain-candidates body bodies 1 C u) .0) i (within cs i M α A e))
 
 module _ (question part : List ℕ) (U : PartUnrestricted question part) (x : ℕ) (q : Question) (P : Term) (l : Lists question part x q P) where
-  pub plain-part : Unrestricted P
+  plain-part : Unrestricted P
   plain-part = U .1 q P (l .accepted, l .scope, l .bytes)
 
   pub plain-at : (silently : Bool) (i : ℕ) (M : Cond) (α : Act) (A : Term) → getD (candidatesOf silently q P) i blocked ≡ step M α A → Plain (step M α A)

@@ -28,6 +28,7 @@ use Rattle.steps.specs.Listed.{kindOf, channelOf, objectOf, listedAs, canonStep
 use Rattle.steps.specs.Raw.{step, blocked, visible, silent}
 use Rattle.steps_tallies.specs.Candidates.{candidates}
 use Rattle.steps_tallies.specs.Tally.{BodiesTidied}
+use Rattle.steps_tallies.proofs.Unrestricted.{plain-tidied}
 use Rattle.steps_conditions.specs.Names.{OwnNames}
 use Rattle.steps_plans.specs.Plans.{receiving, Written}
 use Rattle.steps_plans.proofs.ResultLaws.{written-of}
@@ -49,7 +50,7 @@ use Rattle.steps_placing.specs.TidiedResults.{TidiedResultIs}
 use Rattle.steps_placing.specs.declared.put.Communication.{Communication}
 use Rattle.steps_placing.proofs.CanonBytes.{actionOfStep, coded, entry-canonical}
 use Rattle.steps_placing.proofs.CollectLaws.{put-step, put-long, take-sets}
-use Rattle.steps_placing.proofs.PlainResults.{tidied-canonical, plain-tidied, plain-at}
+use Rattle.steps_placing.proofs.PlainResults.{tidied-canonical, plain-at}
 use Rattle.steps_placing.proofs.RawRoom.{raw-room}
 use Rattle.steps_placing.proofs.ResultScope.{within, silent-scope}
 use Rattle.steps_placing.proofs.TidiedResults.{result-scope}

@@ -4,4 +4,3 @@ mod LocateLaws
 mod MergingLaws
 mod MetResults
 pub mod PlacedResults
-pub mod PlainContexts

@@ -1,19 +1,14 @@
--- A term without restrictions and new-name outputs, whose calls' bodies have none, steps to such terms alone; they are tidied as they are, so that
--- listing them tidied is listing them as they are. Assumes nothing.
+-- A term without restrictions and new-name outputs, whose calls' bodies have none, steps to such terms alone; they are tidied as they are. Assumes nothing.
 use mathlib.Core.List.{List, [], _∷_, _++_, map, reverse}
-use mathlib.Core.Path.{_≡_, refl, sym, _∙_, ap, ap₂}
+use mathlib.Core.Path.{_≡_, refl, ap, ap₂}
 use Prim.Native.Nat.{ℕ, zero, suc}
 use Rattle.calculus.specs.Abstraction.{Act, tauA, inpA, outA, boutA, weak}
-use Rattle.calculus.specs.Cond.{Cond, cls}
+use Rattle.calculus.specs.Cond.{Cond}
 use Rattle.calculus.specs.Definitions.{at, opened}
-use Rattle.calculus.specs.Term.{Term, nil, tau, inp, out, bout, mat, sum, par, res, call, lift, ren, inst, _•_}
+use Rattle.calculus.specs.Term.{Term, nil, tau, inp, out, bout, mat, sum, par, res, call, lift, ren, inst}
 use Rattle.calculus.specs.Tidy.{tidy}
 use Rattle.terms.specs.Question.{bodyOf}
 use Rattle.terms_tidying.specs.Restrictions.{Unrestricted}
-use Rattle.steps.specs.Forms.{asItIs}
-use Rattle.steps.specs.Listed.{listedAs, canonStep}
-use Rattle.steps.specs.Listing.{collect, insert}
-use Rattle.steps.specs.Listed.{ListedStep}
 use Rattle.steps.specs.Lists.{All}
 use Rattle.steps.specs.Raw.{Candidate, step, blocked, matching, leftSteps, rightSteps, meet, communication, communications, visibleOf, silentOf, visibleCalls, silentCalls, visible, silent}
 use Rattle.steps.proofs.Membership.{all-++, all-map}
@@ -59,14 +54,14 @@ plain-match a b (step M (inpA c) A) p = p
 plain-match a b (step M (outA c d) A) p = p
 plain-match a b blocked p = tt
 
-pub plain-left : (Q : Term) → Unrestricted Q → (c : Candidate) → Plain c → Plain (leftSteps Q c)
+plain-left : (Q : Term) → Unrestricted Q → (c : Candidate) → Plain c → Plain (leftSteps Q c)
 unfolding leftSteps
 plain-left Q u (step M tauA A) p = (p, u)
 plain-left Q u (step M (inpA a) A) p = (p, unrestricted-ren suc Q u)
 plain-left Q u (step M (outA a b) A) p = (p, u)
 plain-left Q u blocked p = tt
 
-pub plain-right : (P : Term) → Unrestricted P → (c : Candidate) → Plain c → Plain (rightSteps P c)
+plain-right : (P : Term) → Unrestricted P → (c : Candidate) → Plain c → Plain (rightSteps P c)
 unfolding rightSteps
 plain-right P u (step M tauA A) p = (u, p)
 plain-right P u (step M (inpA a) A) p = (unrestricted-ren suc P u, p)
@@ -145,18 +140,12 @@ module _ (body : ℕ → Term) (bodies : (k : ℕ) → Unrestricted (body k)) wh
       all-++ Plain (visibleOf (visibleCalls body n) P) (silentOf (visibleCalls body n) (silentCalls body n) P)
       (plain-visible (visibleCalls body n) (silentCalls body n) v s P u) (plain-silent (visibleCalls body n) (silentCalls body n) v s P u)
 
-pub plain-canon : (names x : ℕ) (M : Cond) (α : Act) (A : Term) → Plain (step M α A) → canonStep tidy names x M α A ≡ canonStep asItIs names x M α A
-unfolding canonStep
-plain-canon names x M tauA A u = ap (listedAs names M _) (unrestricted-tidied (ren (cls M) A) (unrestricted-ren (cls M) A u))
-plain-canon names x M (inpA a) A u = ap (listedAs names M _) (unrestricted-tidied (ren (x • cls M) A) (unrestricted-ren (x • cls M) A u))
-plain-canon names x M (outA a b) A u = ap (listedAs names M _) (unrestricted-tidied (ren (cls M) A) (unrestricted-ren (cls M) A u))
-plain-canon names x M (boutA a) A u = absurd u
+-- A plain step's result has no restrictions, and is tidied as it is, however its names are rewritten.
+plain-result : (M : Cond) (α : Act) (A : Term) → Plain (step M α A) → Unrestricted A
+plain-result M tauA A p = p
+plain-result M (inpA a) A p = p
+plain-result M (outA a b) A p = p
+plain-result M (boutA a) A p = absurd p
 
-pub plain-collect : (names longest x : ℕ) (cs : List Candidate) → All Plain cs → (found : List ListedStep)
-    → collect tidy names longest x cs found ≡ collect asItIs names longest x cs found
-unfolding collect
-plain-collect names longest x [] a found = refl
-plain-collect names longest x (step M α A ∷ cs) a found =
-    plain-collect names longest x cs (a .1) (insert longest (canonStep tidy names x M α A) found)
-    ∙ ap (λ s. collect asItIs names longest x cs (insert longest s found)) (plain-canon names x M α A (a .0))
-plain-collect names longest x (blocked ∷ cs) a found = plain-collect names longest x cs (a .1) found
+pub plain-tidied : (ρ : ℕ → ℕ) (M : Cond) (α : Act) (A : Term) → Plain (step M α A) → tidy (ren ρ A) ≡ ren ρ A
+plain-tidied ρ M α A p = unrestricted-tidied (ren ρ A) (unrestricted-ren ρ A (plain-result M α A p))
