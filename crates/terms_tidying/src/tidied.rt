@@ -1,21 +1,30 @@
-// Whether a term is tidied already, in one walk.
+// Whether a term is tidied already, in one walk from front to front.
+ghost use mathlib.Core.Bool.{cond};
 ghost use mathlib.Core.List.{[], _∷_};
-ghost use Prim.Native.Nat.{_+_, _≤_, max};
-ghost use lib.ListN.{length, take, drop};
-ghost use Rattle.terms_tidying.specs.TidiedTerms.{MarksBytes, MarkedFrontIs, TidiedToIs, IsTidiedIs};
+ghost use mathlib.Core.Path.{_≡_};
+ghost use Prim.Native.Nat.{_+_, _<_, _≤_};
+ghost use lib.Dec.{eqb};
+ghost use lib.ListN.{length, getD, take, drop};
+ghost use Rattle.terms_tidying.specs.TidiedTerms.{KeepsBytes, FrontOf, MetFrontIs, FollowIs, IsTidiedIs};
 use crate::occurs::occurs;
 use terms_bytes::bytes::get;
 use terms_bytes::bytes::room;
-use terms_bytes::shape::shape_at;
+use terms_bytes::tags::CALL;
+use terms_bytes::tags::CHOICE;
+use terms_bytes::tags::INACTION;
+use terms_bytes::tags::INPUT;
+use terms_bytes::tags::NEW_OUTPUT;
+use terms_bytes::tags::PARALLEL;
 use terms_bytes::tags::RESTRICTION;
+use terms_bytes::tags::SILENT;
 
-// How many binders have a byte.
+// How many binders have a byte; no term of a question is longer.
 const BINDERS: usize = 128;
 
-// Marks the binder whose name `b` is beneath `depth` binders. Its index counts outward, the marks are from outside.
-fn mark(b: u8, depth: usize, used: &mut [u8])
-    requires { ⌜ depth ≤ length (now used) ⌝ }
-    ensures { λ _. ⌜ MarksBytes depth (b ∷ []) (now (used .entry)) (now (used .exit)) ⌝ }
+// Meets the name `b` beneath `depth` binders: if a restriction's, that waits no more. An index counts outward, `waits` from outside.
+fn meet(b: u8, depth: usize, waits: &mut [u8])
+    requires { ⌜ depth ≤ length (now waits) ⌝ }
+    ensures { λ _. ⌜ KeepsBytes depth (b ∷ []) (now (waits .entry)) (now (waits .exit)) ⌝ }
 {
     if b < 128 {
         return;
@@ -24,87 +33,160 @@ fn mark(b: u8, depth: usize, used: &mut [u8])
     if depth <= inner {
         return;
     }
-    used[depth - 1 - inner] = 1;
+    waits[depth - 1 - inner] = 0;
 }
 
 // The same of `n` names.
-fn mark_names(src: &[u8], at: usize, n: usize, depth: usize, used: &mut [u8])
-    requires { ⌜ (at + n ≤ length (now src)) × (depth ≤ length (now used)) ⌝ }
-    ensures { λ _. ⌜ MarksBytes depth (take n (drop at (now (src .entry)))) (now (used .entry)) (now (used .exit)) ⌝ }
+fn meet_names(src: &[u8], at: usize, n: usize, depth: usize, waits: &mut [u8])
+    requires { ⌜ (at + n ≤ length (now src)) × (depth ≤ length (now waits)) ⌝ }
+    ensures { λ _. ⌜ KeepsBytes depth (take n (drop at (now (src .entry)))) (now (waits .entry)) (now (waits .exit)) ⌝ }
 {
     let mut i = 0;
     while i < n {
-        mark(src[at + i], depth, used);
+        meet(src[at + i], depth, waits);
         i += 1;
     }
 }
 
 // What the walk needs to know of a front: its length, binders and subterms.
-pub struct MarkedFront {
+pub struct MetFront {
     pub len: usize,
     pub binds: usize,
     pub subterms: usize,
 }
 
-// The front of the term at `at`; the binders are marked whose names stand in it.
-fn mark_front(src: &[u8], at: usize, arities: &[u8], depth: usize, used: &mut [u8]) -> MarkedFront
-    requires { ⌜ depth ≤ length (now used) ⌝ }
-    ensures { λ r. ⌜ MarkedFrontIs (now (src .entry)) at (now (arities .entry)) depth (now (used .entry)) r (now (used .exit)) ⌝ }
+fn front(len: usize, binds: usize, subterms: usize) -> MetFront
+    ensures { λ r. ⌜ FrontOf len binds subterms r ⌝ }
 {
-    if src.len() <= at {
-        return MarkedFront {
-            len: 0,
-            binds: 0,
-            subterms: 0,
-        };
-    }
-    let h = shape_at(src, at, arities);
-    let fixed = h.fixed;
-    let names = h.names;
-    if !room(src.len(), at, fixed + names) {
-        return MarkedFront {
-            len: 0,
-            binds: 0,
-            subterms: 0,
-        };
-    }
-    mark_names(src, at + fixed, names, depth, used);
-    MarkedFront {
-        len: fixed + names,
-        binds: h.binds,
-        subterms: h.subterms,
+    MetFront {
+        len,
+        binds,
+        subterms,
     }
 }
 
-// Where the term at `at` ends, if it is tidied, with the binders marked whose names are free in it; else 0. `depth` binders stand around it.
-fn tidied_to(src: &[u8], at: usize, arities: &[u8], depth: usize, used: &mut [u8]) -> usize
-    requires { ⌜ (at ≤ length (now src)) × (depth ≤ length (now used)) ⌝ }
-    ensures { λ r. ⌜ TidiedToIs (now (src .entry)) at (now (arities .entry)) depth (now (used .entry)) r (now (used .exit)) ⌝ }
+// The call at `at`, whose names are met.
+fn meet_call(src: &[u8], at: usize, arities: &[u8], depth: usize, waits: &mut [u8]) -> MetFront
+    requires { ⌜ (at < length (now src)) × (getD (now src) at 0 ≡ 9) × (depth ≤ length (now waits)) ⌝ }
+    ensures { λ r. ⌜ MetFrontIs (now (src .entry)) at (now (arities .entry)) depth (now (waits .entry)) r (now (waits .exit)) ⌝ }
 {
-    let h = mark_front(src, at, arities, depth, used);
-    let n = h.len;
-    let subterms = h.subterms;
-    if subterms == 0 {
-        return at + n;
+    let k = get(src, at + 1) as usize;
+    let n = get(arities, k) as usize;
+    if !room(src.len(), at, 2 + n) {
+        return front(0, 0, 0);
     }
-    if used.len() <= depth {
-        return 0;
+    meet_names(src, at + 2, n, depth, waits);
+    front(2 + n, 0, 0)
+}
+
+// The front of the term at `at`, whose names are met. The tests are its own: by `shape_at` the walk takes 1.4 times the instructions.
+fn meet_front(src: &[u8], at: usize, arities: &[u8], depth: usize, waits: &mut [u8]) -> MetFront
+    requires { ⌜ (at < length (now src)) × (depth ≤ length (now waits)) ⌝ }
+    ensures { λ r. ⌜ MetFrontIs (now (src .entry)) at (now (arities .entry)) depth (now (waits .entry)) r (now (waits .exit)) ⌝ }
+{
+    let t = get(src, at);
+    if t == INACTION {
+        return front(1, 0, 0);
     }
-    let deeper = depth + h.binds;
-    used[depth] = 0;
-    let e = tidied_to(src, at + n, arities, deeper, used);
-    if e <= at {
-        return 0;
+    if t == SILENT {
+        return front(1, 0, 1);
+    }
+    if t == CHOICE {
+        return front(1, 0, 2);
+    }
+    if t == PARALLEL {
+        return front(1, 0, 2);
+    }
+    if t == RESTRICTION {
+        return front(1, 1, 1);
+    }
+    if t == CALL {
+        return meet_call(src, at, arities, depth, waits);
+    }
+    if CALL < t {
+        return front(0, 0, 0);
+    }
+    meet(get(src, at + 1), depth, waits);
+    if t == INPUT {
+        return front(2, 1, 1);
+    }
+    if t == NEW_OUTPUT {
+        return front(2, 1, 1);
+    }
+    meet(get(src, at + 2), depth, waits);
+    front(3, 0, 1)
+}
+
+// How many binders stand around a term, and how many second subterms are still to come behind it.
+pub struct Place {
+    pub depth: usize,
+    pub pending: usize,
+}
+
+// The place of the next term, behind a front that has `depth` binders around its subterms. `depths` is the stack of the second subterms'.
+fn follow(subterms: usize, depth: usize, pending: usize, depths: &mut [u8]) -> Place
+    requires { ⌜ (depth < 256) × (pending < length (now depths)) ⌝ }
+    ensures { λ r. ⌜ FollowIs subterms depth pending (now (depths .entry)) r (now (depths .exit)) ⌝ }
+{
+    if subterms == 1 {
+        return Place { depth, pending };
     }
     if subterms == 2 {
-        return tidied_to(src, e, arities, deeper, used);
+        depths[pending] = depth as u8;
+        return Place {
+            depth,
+            pending: pending + 1,
+        };
     }
-    if used[depth] == 0 {
-        if get(src, at) == RESTRICTION {
-            return 0;
+    if pending == 0 {
+        return Place { depth, pending };
+    }
+    let below = pending - 1;
+    Place {
+        depth: get(depths, below) as usize,
+        pending: below,
+    }
+}
+
+// 1 where a restriction begins.
+fn waiting(t: u8) -> u8
+    ensures { λ r. ⌜ r ≡ cond (eqb t 8) 1 0 ⌝ }
+{
+    if t == RESTRICTION {
+        return 1;
+    }
+    0
+}
+
+// Whether each restriction of the term that `src` is meets its name. One that waits at the depth of a further front has come to its end.
+fn all_met(src: &[u8], arities: &[u8]) -> bool
+    requires { ⌜ length (now src) ≤ 128 ⌝ }
+    ensures { λ r. ⌜ IsTidiedIs (now (src .entry)) (now (arities .entry)) r ⌝ }
+{
+    let mut waits = [0u8; BINDERS];
+    let mut depths = [0u8; BINDERS];
+    let mut depth = 0;
+    let mut pending = 0;
+    let mut at = 0;
+    while at < src.len() {
+        if BINDERS <= depth {
+            return false;
         }
+        let h = meet_front(src, at, arities, depth, &mut waits);
+        let n = h.len;
+        if n == 0 {
+            return false;
+        }
+        if waits[depth] == 1 {
+            return false;
+        }
+        waits[depth] = waiting(src[at]);
+        let p = follow(h.subterms, depth + h.binds, pending, &mut depths);
+        depth = p.depth;
+        pending = p.pending;
+        at += n;
     }
-    e
+    !occurs(&waits, 1)
 }
 
 // Whether no restriction of the term that `src` is binds nothing. Most terms have none.
@@ -114,7 +196,8 @@ pub fn is_tidied(src: &[u8], arities: &[u8]) -> bool
     if !occurs(src, RESTRICTION) {
         return true;
     }
-    let mut used = [0u8; BINDERS];
-    let e = tidied_to(src, 0, arities, 0, &mut used);
-    e != 0
+    if BINDERS < src.len() {
+        return false;
+    }
+    all_met(src, arities)
 }

@@ -1,4 +1,4 @@
--- `terms_tidying::tidied::mark_names` meets its contract. Assumes nothing.
+-- `terms_tidying::tidied::meet_names` meets its contract. Assumes nothing.
 use mathlib.Core.Path.{_≡_, refl, subst, _∙_}
 use mathlib.Core.List.{List}
 use Prim.Native.Nat.{ℕ, _-_, _≤_}
@@ -7,32 +7,32 @@ use lib.ListN.{length, take}
 use lib.Seq.{take-all}
 use borrow.Author.Needs.{needs}
 use Rattle.terms_bytes.proofs.Stores.{span, length-span}
-use Rattle.terms_tidying.specs.TidiedTerms.{MarksBytes}
-use Rattle.terms_tidying.proofs.TidiedWalk.{marks-none, marks-more}
-use Rattle.terms_tidying.proofs.tidied.mark_names.Statement.{statement}
-use Rattle.terms_tidying.proofs.tidied.mark_names.Tie as tie
+use Rattle.terms_tidying.specs.TidiedTerms.{KeepsBytes}
+use Rattle.terms_tidying.proofs.TidiedWalk.{keeps-none, keeps-more}
+use Rattle.terms_tidying.proofs.tidied.meet_names.Statement.{statement}
+use Rattle.terms_tidying.proofs.tidied.meet_names.Tie as tie
 
 abbrev Inv-loop : tie.InvT-loop
-Inv-loop src at n depth used₀ i₀ used i = (i ≤ n) × (length used ≡ length used₀) × MarksBytes depth (take i (span src at n)) used₀ used
+Inv-loop src at n depth waits₀ i₀ waits i = (i ≤ n) × (length waits ≡ length waits₀) × KeepsBytes depth (take i (span src at n)) waits₀ waits
 
 abbrev μ-loop : tie.MeasureT-loop
-μ-loop src at n depth used₀ i₀ used i = n - i
+μ-loop src at n depth waits₀ i₀ waits i = n - i
 
 -- src/tidied.rt:36:5
 loop-holds : tie.Need-loop-holds Inv-loop μ-loop
-loop-holds c = (search needs, refl, marks-none _ _ _)
+loop-holds c = (search needs, refl, keeps-none _ _ _)
 
 -- src/tidied.rt:37:18
-add-mark : tie.Need-add-mark Inv-loop μ-loop
-add-mark c = search needs
+add-meet : tie.Need-add-meet Inv-loop μ-loop
+add-meet c = search needs
 
 -- src/tidied.rt:37:14
-shared-slice-read-mark : tie.Need-shared-slice-read-mark Inv-loop μ-loop
-shared-slice-read-mark c = search needs
+shared-slice-read-meet : tie.Need-shared-slice-read-meet Inv-loop μ-loop
+shared-slice-read-meet c = search needs
 
 -- src/tidied.rt:37:9
-mark-requires : tie.Need-mark-requires Inv-loop μ-loop
-mark-requires c κs = search needs
+meet-requires : tie.Need-meet-requires Inv-loop μ-loop
+meet-requires c κs = search needs
 
 -- src/tidied.rt:38:9
 add-i : tie.Need-add-i Inv-loop μ-loop
@@ -48,12 +48,12 @@ loop-again c =
     let a = c .before .before .before .before .before .before .before .before .before .args in let v =
     c .before .before .before .before .before .before .loop .inv in (
       search needs,
-      c .before .before .mark .kept .1 .1 .0 ∙ v .1,
-      marks-more
-          (a .src .now) (a .at) (a .n) (a .depth) (c .before .before .before .before .before .before .loop .i) (a .used .now)
-          (c .before .before .before .before .before .before .loop .used) _
+      c .before .before .meet .kept .1 .1 .0 ∙ v .1,
+      keeps-more
+          (a .src .now) (a .at) (a .n) (a .depth) (c .before .before .before .before .before .before .loop .i) (a .waits .now)
+          (c .before .before .before .before .before .before .loop .waits) _
           (c .before .before .before .before .before .before .before .before .before .pre .0) (c .before .before .before .before .before .loop-test .taken)
-          (v .2) (c .before .before .mark .ensures),
+          (v .2) (c .before .before .meet .ensures),
     )
 
 -- src/tidied.rt:31:1
@@ -66,19 +66,19 @@ returns c =
     let c1 = c .before in
     let c4 = c1 .before .before .before in
     let a = c4 .args in
-    subst (λ (xs : List ℕ). MarksBytes (a .depth) xs (a .used .now) (c1 .loop .used)) (take-all (c1 .loop .i) (span (a .src .now) (a .at) (a .n))
+    subst (λ (xs : List ℕ). KeepsBytes (a .depth) xs (a .waits .now) (c1 .loop .waits)) (take-all (c1 .loop .i) (span (a .src .now) (a .at) (a .n))
     (omega (arith, length-span (a .src .now) (a .at) (a .n) (c4 .pre .0), c .loop-test .left))) (c1 .loop .inv .2)
 
-pub mark-names-spec : {M : Type 1} → statement M
-mark-names-spec =
+pub meet-names-spec : {M : Type 1} → statement M
+meet-names-spec =
     tie.close
     (tie.spec
     Inv-loop
     μ-loop
     loop-holds
-    add-mark
-    shared-slice-read-mark
-    mark-requires
+    add-meet
+    shared-slice-read-meet
+    meet-requires
     add-i
     loop-less
     loop-again
