@@ -1,3 +1,4 @@
+mod CloseLaws
 mod ComLaws
 mod MeetLaws
 mod MeetPairs

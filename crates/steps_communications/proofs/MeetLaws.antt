@@ -124,6 +124,10 @@ meets-new k₁ c₁ k₂ c₂ e = eqb-false k₂ 4 (not-repeated (eqb k₂ 4) _ 
 abbrev mergeable : ℕ → ℕ → Bool
 mergeable a b = isBetween b (firstMerged a) (lastMerged a)
 
+pub meets-opposite : (k₁ c₁ k₂ c₂ : ℕ) → mayMeet k₁ c₁ k₂ c₂ ≡ true → (eqb (actionKind k₂) 1 ≡ not (eqb (actionKind k₁) 1)) × (mergeable c₁ c₂ ≡ true)
+unfolding mayMeet meetsBetween
+meets-opposite k₁ c₁ k₂ c₂ m = test-true (eqb (actionKind k₁) 1) (eqb (actionKind k₂) 1) (mergeable c₁ c₂) (not-repeated (eqb k₂ 4) _ m .1)
+
 not-mergeable : (a b : ℕ) → mergeable a b ≡ false → (a ≡ b → ⊥) × (a < nameCount → b < nameCount → ⊥)
 unfolding firstMerged lastMerged isBetween
 not-mergeable a b e = go (leb a lastName) refl e
@@ -208,9 +212,8 @@ module _ (K : List Frame) (d : ℕ) (level : restrictions K ≡ d) (s t : Candid
     pub is : raised K (step ((name, name) ∷ []) tauA result) ≡ step ((outer, outer) ∷ []) tauA whole
 
   module _ (left : Outlined d s k₁ c₁ o₁) (inside : c₁ < nameCount + d) (right : Outlined d t k₂ c₂ o₂) (k : k₁ ≤ 3) (l : k₂ ≤ 3) (m : mayMeet k₁ c₁ k₂ c₂ ≡ true) where
-    pub opposite : (eqb (actionKind k₂) 1 ≡ not (eqb (actionKind k₁) 1)) × (mergeable c₁ c₂ ≡ true)
-    unfolding mayMeet meetsBetween
-    opposite = test-true (eqb (actionKind k₁) 1) (eqb (actionKind k₂) 1) (mergeable c₁ c₂) (not-repeated (eqb k₂ 4) _ m .1)
+    opposite : (eqb (actionKind k₂) 1 ≡ not (eqb (actionKind k₁) 1)) × (mergeable c₁ c₂ ≡ true)
+    opposite = meets-opposite k₁ c₁ k₂ c₂ m
 
     module _ (inside₂ : c₂ < nameCount + d) where
       first-of : Visible d s k₁ (eqb (actionKind k₁) 1) c₁

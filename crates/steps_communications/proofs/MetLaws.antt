@@ -291,13 +291,13 @@ module _ (question part : List ℕ) (node : Node) (pair : Pair) (q : Question) (
 -- The two sides of a communication, where the name y is received: its slot is `new`.
 module _ (question part tally : List ℕ) (T : TallyIs question part 1 tally) (node : Node) (pair : Pair) (both : Components) (E : ComponentsAre part tally node pair both)
     (q : Question) (P : Term) (M : Cond) (W : Term) (C : Communicates question part node pair q P M W) where
-  abbrev body : ℕ → Term
+  abbrev pub body : ℕ → Term
   body = bodyOf (q .bodies)
 
-  abbrev LeftUnopens : Type 0
+  abbrev pub LeftUnopens : Type 0
   LeftUnopens = Unopens q part (node .at + 1) (node .depth) (C .left) (getD (visible body 1 (C .left)) (pair .left .number) blocked) (both .left) (C .leftAct)
 
-  abbrev RightUnopens : Type 0
+  abbrev pub RightUnopens : Type 0
   RightUnopens = Unopens q part (E .middle) (node .depth) (C .right) (getD (visible body 1 (C .right)) (pair .right .number) blocked) (both .right) (C .rightAct)
 
   -- the part's result without a restriction that [Close] puts around the sides

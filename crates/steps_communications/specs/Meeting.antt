@@ -53,6 +53,10 @@ pub record NextMetIs (rows : List ℕ) (kind channel from last r : ℕ) : Type 0
 unfoldable pub Unblocked : (d : ℕ) (c : Candidate) (kind channel object : ℕ) → Type 0
 Unblocked d c kind channel object = Outlined d c kind channel object × (channel < nameCount + d)
 
+-- The row without the match.
+abbrev pub unmatchedRow : Partner → Partner
+unmatchedRow a = record { kind = actionKind (a .kind); channel = a .channel; object = a .object; number = a .number }
+
 -- The row that sends: the right one, where the left one receives.
 unfoldable pub senderOf : Partner → Partner → Partner
 senderOf a b = cond (eqb (a .kind) 1) b a

@@ -1,15 +1,17 @@
 -- The steps of a part put into an area on one walk of its parallels and restrictions: what the functions that do so promise.
 use mathlib.Core.Path.{_≡_}
-use mathlib.Core.Bool.{not}
-use mathlib.Core.List.{List, map}
+use mathlib.Core.Bool.{Bool, true, cond, not}
+use mathlib.Core.List.{List, map, _++_}
 use Prim.Native.Nat.{ℕ, _+_, _<_, _≤_}
 use lib.Dec.{eqb}
-use lib.ListN.{length, getD}
-use Rattle.calculus.specs.Abstraction.{Act, tauA}
+use lib.ListN.{length, getD, drop}
+use Rattle.calculus.specs.Abstraction.{Act, tauA, boutA}
 use Rattle.calculus.specs.Cond.{Cond}
 use Rattle.calculus.specs.Term.{Term, par}
+use Rattle.terms.specs.Answer.{result}
+use Rattle.terms.specs.Encoding.{encode, InScope}
 use Rattle.terms.specs.Limits.{nameCount}
-use Rattle.terms.specs.Question.{Question}
+use Rattle.terms.specs.Question.{Question, checkOf}
 use Rattle.terms.specs.Question.{bodyOf}
 use Rattle.steps_conditions.specs.Labels.{actionOf, ActionBelow}
 use Rattle.steps_passing.specs.Passing.{MiddleIs}
@@ -19,6 +21,7 @@ use Rattle.steps_splicing.specs.Contexts.{Frame, raised, Placed}
 use Rattle.steps_splicing.specs.ListedParts.{Lists}
 use Rattle.steps_splicing.specs.Locating.{LocateIs, Classed}
 use Rattle.steps_splicing.specs.Ready.{Inside}
+use Rattle.steps_splicing.specs.declared.locate.Located.{Located}
 use Rattle.steps_placing.specs.Putting.{CanPut}
 use Rattle.steps_rows.specs.Rows.{rowAction, Rows}
 use Rattle.steps_communications.specs.Meeting.{mostNumbers}
@@ -47,6 +50,17 @@ pub record ComponentsAre (part tally : List ℕ) (node : Node) (pair : Pair) (r 
   pub middle : ℕ
   pub ends : MiddleIs part tally (node .at) middle
   pub right : LocateIs part tally middle (node .depth) (pair .right .number) (r .right)
+
+-- The component of the row that sends.
+unfoldable pub sendingOf : Pair → Components → Located
+sendingOf pair both = cond (eqb (pair .left .kind) 1) (both .right) (both .left)
+
+-- Whether the candidate of a component is known to send a new name of its own.
+pub record SendsNewIs (question part : List ℕ) (l : Located) (r : Bool) : Type 0 where
+  pub is : r ≡ true → (q : Question) (C : Term) (rest : List ℕ) → checkOf question ≡ result q → InScope nameCount (q .arities) (l .depth) C
+      → drop (l .at) part ≡ encode (l .depth) C ++ rest
+      → (N : Cond) (γ : Act) (A : Term) → getD (visible (bodyOf (q .bodies)) 1 C) (l .number) blocked ≡ step N γ A
+      → (a : ℕ) × (γ ≡ boutA a)
 
 -- The action of a candidate under d restrictions is that of a row which says no match.
 pub record ActsAs (d : ℕ) (row : Partner) (α : Act) : Type 0 where

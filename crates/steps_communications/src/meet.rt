@@ -1,20 +1,23 @@
 // The communications of a parallel, from the rows of its two sides (specs/Rows).
 ghost use mathlib.Core.Path.{_≡_};
-ghost use mathlib.Core.Bool.{true};
+ghost use mathlib.Core.Bool.{true, false};
 ghost use Prim.Native.Nat.{_+_, _*_, _≤_, _<_};
 ghost use lib.ListN.{length};
 ghost use Rattle.terms.specs.Limits.{nameCount, longestTerm};
 ghost use Rattle.steps_tallies.specs.Tally.{EndsInside};
-ghost use Rattle.steps_splicing.specs.Ready.{Inside};
+ghost use Rattle.steps_splicing.specs.Ready.{Tallied, Inside, FoundIn};
 ghost use Rattle.steps_splicing.specs.Locating.{tableSlot};
 ghost use Rattle.steps_placing.specs.Putting.{CanPut};
-ghost use Rattle.steps_communications.specs.Meeting.{mostNumbers, firstMerged, lastMerged, isBetween, meetsBetween, senderOf, sendsFree, NextMetIs, PairIs, MeetRowIs};
+ghost use Rattle.steps_communications.specs.Meeting.{mostNumbers, firstMerged, lastMerged, isBetween, meetsBetween, unmatchedRow, senderOf, sendsFree, NextMetIs, PairIs, MeetRowIs};
 ghost use Rattle.steps_rows.specs.Rows.{rowBytes, mostRows, actionKind};
-ghost use Rattle.steps_communications.specs.Met.{MeetsIs, ComponentsAre, CanTake, TakeMetIs};
+ghost use Rattle.steps_communications.specs.Met.{MeetsIs, ComponentsAre, sendingOf, SendsNewIs, CanTake, TakeMetIs};
+use steps_conditions::action::Label;
+use steps_conditions::action::Status;
 use steps_entries::limits::MOST_STEPS;
 use steps_entries::listed::ActionBytes;
 use steps_passing::pass::middle_of;
-use steps_placing::candidate::take_candidate;
+use steps_passing::pass::pass;
+use steps_placing::candidate::label_of;
 use steps_placing::put::Communication;
 use steps_placing::put::Step;
 use steps_placing::put::put_classed;
@@ -34,8 +37,13 @@ const INPUT: u8 = 1;
 
 const FREE_OUTPUT: u8 = 2;
 
+const NEW_OUTPUT: usize = 3;
+
 // The slot of the last free name.
 const LAST_NAME: u8 = NAME_COUNT as u8 - 1;
+
+// The slot of the new name in a table of names. In a part it stands for nothing.
+const NEW_NAME: u8 = NAME_COUNT as u8;
 
 // A term of the part on the walk: where it stands, how many restrictions are around it, and the number of its first silent candidate; and the new name.
 pub struct Node {
@@ -269,6 +277,44 @@ fn take_com(
     )
 }
 
+// The component of the row that sends.
+fn sending(pair: Pair, both: Components) -> Located
+    ensures { λ r. ⌜ r ≡ sendingOf pair both ⌝ }
+{
+    let a = pair.left;
+    if a.kind == INPUT {
+        return both.right;
+    }
+    both.left
+}
+
+// Whether the candidate of a component sends a new name of its own: then [Open] applies to no restriction around the component.
+fn sends_new(
+    question: &[u8],
+    bodies: &[u32],
+    part: &[u8],
+    tally: &[u32],
+    component: Located,
+) -> bool
+    requires { ⌜ Tallied (now question) (now bodies) (now part) (now tally) × FoundIn (now part) component ⌝ }
+    ensures { λ r. ⌜ SendsNewIs (now (question .entry)) (now (part .entry)) component r ⌝ }
+{
+    let passed = pass(
+        question,
+        bodies,
+        part,
+        tally,
+        component.at,
+        component.depth,
+        1,
+        component.number,
+    );
+    if passed.kind == NEW_OUTPUT {
+        return true;
+    }
+    false
+}
+
 // Puts a communication into the list by its number in the part.
 fn take_numbered(
     question: &[u8],
@@ -300,6 +346,52 @@ fn take_numbered(
     put_classed(question, bodies, part, tally, step, class, area, count)
 }
 
+// Puts a communication into the list where a new name is sent: [Close]. It is put together with a name that stands for nothing else; one that [Open]
+// takes from a restriction around the component is not, and the communication goes by its number.
+fn take_close(
+    question: &[u8],
+    bodies: &[u32],
+    part: &[u8],
+    tally: &[u32],
+    met: Met,
+    class: &[u8],
+    area: &mut [u8],
+    count: usize,
+) -> usize
+    requires { ⌜ CanTake (now question) (now bodies) (now part) (now tally) (now area) count met (now class) × (sendsFree (met .node .depth) (senderOf (met .pair .left) (met .pair .right)) ≡ false) ⌝ }
+    ensures { λ r. ⌜ TakeMetIs (now (question .entry)) (now (part .entry)) met (now (class .entry)) (now (area .entry)) count r (now (area .exit)) ⌝ }
+{
+    let node = met.node;
+    let pair = met.pair;
+    let both = components_of(part, tally, node, pair);
+    let from = sending(pair, both);
+    if !sends_new(question, bodies, part, tally, from) {
+        return take_numbered(question, bodies, part, tally, met, class, area, count);
+    }
+    let left = both.left;
+    let right = both.right;
+    let number = node.number + pair.number;
+    let communication = Communication {
+        left,
+        right,
+        new: NEW_NAME,
+        merges: met.merges,
+        closes: true,
+        number,
+        x: node.x,
+    };
+    put_met(
+        question,
+        bodies,
+        part,
+        tally,
+        communication,
+        class,
+        area,
+        count,
+    )
+}
+
 // Puts a communication into the list whose condition has these classes.
 fn take_met(
     question: &[u8],
@@ -322,7 +414,7 @@ fn take_met(
     if sends_free(from, node.depth) {
         return take_com(question, bodies, part, tally, met, class, area, count);
     }
-    take_numbered(question, bodies, part, tally, met, class, area, count)
+    take_close(question, bodies, part, tally, met, class, area, count)
 }
 
 // Puts the communication of two candidates on one channel into the list.
@@ -373,8 +465,82 @@ fn take_merging(
     take_met(question, bodies, part, tally, met, &class, area, count)
 }
 
-// Puts the communication of two candidates whose rows may meet into the list. Where a candidate stands beneath a match of free names it is found by
-// its number in the part.
+// The row without the match.
+fn unmatched(a: Partner) -> Partner
+    ensures { λ r. ⌜ r ≡ unmatchedRow a ⌝ }
+{
+    let kind = action_kind(a.kind);
+    Partner {
+        kind,
+        channel: a.channel,
+        object: a.object,
+        number: a.number,
+    }
+}
+
+// Puts a communication into the list whose condition is that of a label.
+fn take_labelled(
+    question: &[u8],
+    bodies: &[u32],
+    part: &[u8],
+    tally: &[u32],
+    label: Label,
+    met: Met,
+    area: &mut [u8],
+    count: usize,
+) -> usize
+    requires { ⌜ CanPut (now question) (now bodies) (now part) (now tally) (now area) count × Inside (now part) (met .node .at) (met .node .depth) × (met .node .number + met .pair .number ≤ mostNumbers + mostNumbers) ⌝ }
+    ensures { λ r. ⌜ TakeMetIs (now (question .entry)) (now (part .entry)) met (label .condition .class) (now (area .entry)) count r (now (area .exit)) ⌝ }
+{
+    let condition = label.condition;
+    let class = condition.class;
+    take_met(question, bodies, part, tally, met, &class, area, count)
+}
+
+// Puts the communication of two candidates, of which one stands beneath a match of free names, into the list. Its condition is found by its number in
+// the part.
+fn take_matched(
+    question: &[u8],
+    bodies: &[u32],
+    part: &[u8],
+    tally: &[u32],
+    node: Node,
+    pair: Pair,
+    area: &mut [u8],
+    count: usize,
+) -> usize
+    requires { ⌜ CanPut (now question) (now bodies) (now part) (now tally) (now area) count × Inside (now part) (node .at) (node .depth) × (node .number + pair .number ≤ mostNumbers + mostNumbers) ⌝ }
+    ensures { λ r. ⌜ PairIs (now (question .entry)) (now (part .entry)) (node .at) (node .depth) (node .number) (pair .left) (pair .right) (pair .number) (node .x) (now (area .entry)) count r (now (area .exit)) ⌝ }
+{
+    let number = node.number + pair.number;
+    let candidate = Selection {
+        silently: true,
+        number,
+        x: node.x,
+    };
+    let label = label_of(question, bodies, part, tally, candidate);
+    let status = label.status;
+    match status {
+        Status::Blocked => count,
+        Status::Found => {
+            let left = unmatched(pair.left);
+            let right = unmatched(pair.right);
+            let rows = Pair {
+                left,
+                right,
+                number: pair.number,
+            };
+            let met = Met {
+                node,
+                pair: rows,
+                merges: true,
+            };
+            take_labelled(question, bodies, part, tally, label, met, area, count)
+        }
+    }
+}
+
+// Puts the communication of two candidates whose rows may meet into the list.
 fn take_pair(
     question: &[u8],
     bodies: &[u32],
@@ -390,17 +556,11 @@ fn take_pair(
 {
     let a = pair.left;
     let b = pair.right;
-    let i = node.number + pair.number;
-    let candidate = Selection {
-        silently: true,
-        number: i,
-        x: node.x,
-    };
     if MATCHED <= a.kind {
-        return take_candidate(question, bodies, part, tally, candidate, area, count);
+        return take_matched(question, bodies, part, tally, node, pair, area, count);
     }
     if MATCHED <= b.kind {
-        return take_candidate(question, bodies, part, tally, candidate, area, count);
+        return take_matched(question, bodies, part, tally, node, pair, area, count);
     }
     if a.channel == b.channel {
         return take_same(question, bodies, part, tally, node, pair, area, count);

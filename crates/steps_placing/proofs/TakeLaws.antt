@@ -27,7 +27,7 @@ use Rattle.steps_splicing.specs.Collecting.{PutIs}
 use Rattle.steps_entries.specs.EntryBytes.{actionBytes}
 use Rattle.steps.specs.Limits.{mostSteps}
 use Rattle.steps_splicing.specs.ListedParts.{Lists}
-use Rattle.steps_placing.specs.Taking.{candidatesOf, NamesAre, ResultIs, PutStepIs, TakeIs}
+use Rattle.steps_placing.specs.Taking.{candidatesOf, NamesAre, ResultIs, PutStepIs, LabelIs, TakeIs}
 use Rattle.steps_placing.specs.Placing.{PutClassedIs}
 use Rattle.steps_entries.specs.declared.listed.ActionBytes.{ActionBytes}
 use Rattle.steps_placing.proofs.CollectLaws.{put-blocked}
@@ -90,20 +90,22 @@ step-put question part silently i h x area count action made r area′ p q P l M
     let classes = class-names class M (hd .classes) in
     p .is q P l M α A e classes (made ∙ ap (actionBytes class x) (hd .action) ∙ action-is class M classes x α (hd .names))
 
--- The candidate of a number over the bytes of a part, by its label.
-module _ (question part : List ℕ) (silently : Bool) (i : ℕ) (args : List ℕ) (h : Label) (label : NthIs question part 0 i silently args 0 0 1 h) (x : ℕ)
-    (area : List ℕ) (count : ℕ) where
-  label-is : (q : Question) (P : Term) → Lists question part x q P → i < length (candidatesOf silently q P)
-      → Labels 0 (getD (candidatesOf silently q P) i blocked) h
-  unfolding candidatesOf
-  label-is q P l =
+-- The label of the candidate of a number over the bytes of a part.
+pub label-is : (question part : List ℕ) (silently : Bool) (i : ℕ) (args : List ℕ) (h : Label) → NthIs question part 0 i silently args 0 0 1 h
+    → LabelIs question part silently i h
+unfolding candidatesOf
+label-is question part silently i args h label = record {
+  is = λ x q P l.
       subst (λ (Q : Term). i < length (candidates silently (bodyOf (q .bodies)) 1 Q) → Labels 0 (getD (candidates silently (bodyOf (q .bodies)) 1 Q) i blocked) h) (ren-id P)
-      (label .is q nameCount 0 (λ n. n) P [] (l .accepted) (omega arith) (slots-part 0 args) (l .scope) (l .bytes ∙ sym (append-nil (encode 0 P))))
+      (label .is q nameCount 0 (λ n. n) P [] (l .accepted) (omega arith) (slots-part 0 args) (l .scope) (l .bytes ∙ sym (append-nil (encode 0 P))));
+}
 
+-- What is put into the list, by the label.
+module _ (question part : List ℕ) (silently : Bool) (i : ℕ) (h : Label) (label : LabelIs question part silently i h) (x : ℕ) (area : List ℕ) (count : ℕ) where
   pub takes-blocked : count ≤ mostSteps → h .status ≡ Blocked
       → TakeIs question part silently i x area count count area
   unfolding TakeIs Labels PutIs
-  takes-blocked few b q P l k = go (getD (candidatesOf silently q P) i blocked) (label-is q P l k)
+  takes-blocked few b q P l k = go (getD (candidatesOf silently q P) i blocked) (label .is x q P l k)
     where
       go : (c : Candidate) → Labels 0 c h → PutIs c x area count count area
       go (step M α A) t = let f = t .found in let z : _≡_ {A = ℕ} 0 1 = cc in absurd (omega arith)
@@ -112,7 +114,7 @@ module _ (question part : List ℕ) (silently : Bool) (i : ℕ) (args : List ℕ
   pub takes-found : h .status ≡ Found → (m : ℕ) (area′ : List ℕ) → PutStepIs question part silently i h x area count m area′
       → TakeIs question part silently i x area count m area′
   unfolding TakeIs PutStepIs Labels
-  takes-found s m area′ put q P l k = go (getD (candidatesOf silently q P) i blocked) refl (label-is q P l k)
+  takes-found s m area′ put q P l k = go (getD (candidatesOf silently q P) i blocked) refl (label .is x q P l k)
     where
       go : (c : Candidate) → getD (candidatesOf silently q P) i blocked ≡ c → Labels 0 c h → PutIs c x area count m area′
       go (step M α A) d t = put q P l M α A d t

@@ -12,7 +12,7 @@ use Rattle.terms.specs.Encoding.{encode}
 use Rattle.terms.specs.Limits.{nameCount}
 use Rattle.terms_bytes.specs.Shape.{height}
 use Rattle.terms.specs.Question.{Question}
-use Rattle.steps_conditions.specs.Labels.{HeaderIs}
+use Rattle.steps_conditions.specs.Labels.{HeaderIs, Labels}
 use Rattle.terms.specs.Question.{bodyOf}
 use Rattle.steps_tallies.specs.Candidates.{candidates}
 use Rattle.steps.specs.Raw.{Candidate, step, blocked}
@@ -45,6 +45,11 @@ PutStepIs question part silently i h x area count r area′ =
     (q : Question) (P : Term) → Lists question part x q P
     → (M : Cond) (α : Act) (A : Term) → getD (candidatesOf silently q P) i blocked ≡ step M α A → HeaderIs 0 M α h
     → PutIs (step M α A) x area count r area′
+
+-- The label of one candidate by its number.
+pub record LabelIs (question part : List ℕ) (silently : Bool) (i : ℕ) (h : Label) : Type 0 where
+  pub is : (x : ℕ) (q : Question) (P : Term) → Lists question part x q P → i < length (candidatesOf silently q P)
+      → Labels 0 (getD (candidatesOf silently q P) i blocked) h
 
 -- One candidate by its number.
 unfoldable pub TakeIs : List ℕ → List ℕ → Bool → ℕ → ℕ → List ℕ → ℕ → ℕ → List ℕ → Type 0

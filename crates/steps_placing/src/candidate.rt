@@ -1,6 +1,7 @@
 // A candidate put into the list by its number.
+ghost use Rattle.steps_splicing.specs.Ready.{Tallied};
 ghost use Rattle.steps_placing.specs.Putting.{CanPut};
-ghost use Rattle.steps_placing.specs.Taking.{PutStepIs, TakeIs};
+ghost use Rattle.steps_placing.specs.Taking.{PutStepIs, LabelIs, TakeIs};
 use crate::put::Step;
 use crate::put::put_classed;
 use steps_conditions::action::Label;
@@ -36,6 +37,37 @@ fn put_step(
     put_classed(question, bodies, part, tally, step, &class, area, count)
 }
 
+// The label of a candidate of the part.
+pub fn label_of(
+    question: &[u8],
+    bodies: &[u32],
+    part: &[u8],
+    tally: &[u32],
+    candidate: Selection,
+) -> Label
+    requires { ⌜ Tallied (now question) (now bodies) (now part) (now tally) ⌝ }
+    ensures { λ r. ⌜ LabelIs (now (question .entry)) (now (part .entry)) (candidate .silently) (candidate .number) r ⌝ }
+{
+    // In a body every call is beneath a prefix (check 11), so that one call is opened.
+    let none = [0u8; GREATEST_ARITY];
+    let whole = Scope {
+        at: 0,
+        inner: 0,
+        depth: 0,
+        calls: 1,
+    };
+    nth(
+        question,
+        bodies,
+        part,
+        tally,
+        whole,
+        candidate.number,
+        candidate.silently,
+        &none,
+    )
+}
+
 // Puts a candidate of the part into the list. Answers how many steps there are then.
 pub fn take_candidate(
     question: &[u8],
@@ -49,24 +81,7 @@ pub fn take_candidate(
     requires { ⌜ CanPut (now question) (now bodies) (now part) (now tally) (now area) count ⌝ }
     ensures { λ r. ⌜ TakeIs (now (question .entry)) (now (part .entry)) (candidate .silently) (candidate .number) (candidate .x) (now (area .entry)) count r (now (area .exit)) ⌝ }
 {
-    // In a body every call is beneath a prefix (check 11), so that one call is opened.
-    let none = [0u8; GREATEST_ARITY];
-    let whole = Scope {
-        at: 0,
-        inner: 0,
-        depth: 0,
-        calls: 1,
-    };
-    let label = nth(
-        question,
-        bodies,
-        part,
-        tally,
-        whole,
-        candidate.number,
-        candidate.silently,
-        &none,
-    );
+    let label = label_of(question, bodies, part, tally, candidate);
     let status = label.status;
     match status {
         Status::Blocked => count,

@@ -17,6 +17,7 @@ middle-of-requires c κs = search needs
 locate-requires-2 : tie.Need-locate-requires-2
 locate-requires-2 c κs =
     let c6 = c .before .before .before .before .before .before in
+    let c6 = c6 in
     let v = c6 .args in
     let g = c6 .pre in (
       omega (

@@ -20,6 +20,7 @@ returns-2 : tie.Need-returns-2
 unfolding meetsBetween
 returns-2 c =
     let c3 = c .before .before .before in
+    let c3 = c3 in
     let c4 = c3 .before in
     simp (
       ne-eqb _ _ (c4 .if1 .left),
@@ -35,6 +36,7 @@ returns-3 : tie.Need-returns-3
 unfolding meetsBetween
 returns-3 c =
     let c3 = c .before .before .before in
+    let c3 = c3 in
     let c4 = c3 .before in
     let c5 = c4 .before in
     simp (
@@ -51,6 +53,7 @@ returns-4 : tie.Need-returns-4
 unfolding meetsBetween
 returns-4 c =
     let c3 = c .before .before .before in
+    let c3 = c3 in
     let c4 = c3 .before in
     let c5 = c4 .before in
     simp (
@@ -64,6 +67,7 @@ returns-5 : tie.Need-returns-5
 unfolding meetsBetween
 returns-5 c =
     let c3 = c .before .before .before in
+    let c3 = c3 in
     let c4 = c3 .before in
     simp (
       ne-eqb _ _ (c4 .if1 .left),

@@ -40,8 +40,18 @@ sub-number c = search needs
 
 meet-row-requires : tie.Need-meet-row-requires Inv-loop μ-loop
 meet-row-requires c κs =
-    let g = c .before .before .before .before .before .before .before .before .before .pre in
-    (((c .before .before .loop .inv .0, search needs), g .0 .1), g .1, search needs, g .3, g .4, g .5, search needs)
+    let g = c .before .before .before .before .before .before .before .before .before .pre in (
+      (
+        (c .before .before .loop .inv .0, search needs),
+        g .0 .1,
+      ),
+      g .1,
+      search needs,
+      g .3,
+      g .4,
+      g .5,
+      search needs,
+    )
 
 same-length : tie.Need-same-length Inv-loop μ-loop
 same-length c = search needs
@@ -49,6 +59,7 @@ same-length c = search needs
 returns : tie.Need-returns Inv-loop μ-loop
 returns c =
     let c3 = c .before .before .before in
+    let c3 = c3 in
     let c5 = c3 .before .before in
     let c6 = c5 .before in
     let c13 = c6 .before .before .before .before .before .before .before in

@@ -41,6 +41,7 @@ returns : tie.Need-returns Inv-loop μ-loop
 unfolding kindAt
 returns c =
     let c9 = c .before .before .before .before .before .before .before .before .before in
+    let c9 = c9 in
     let v = c9 .args in
     row-again (v .question .now) (v .part .now) (v .node .at) (v .node .depth) (v .node .number) (v .node .x) (v .rows .now) (v .left .row)
     (v .left .left) (v .left .middle) (v .left .last) (v .left .first) (v .area .now) (v .left .count) (c .if1 .taken)
@@ -51,12 +52,14 @@ add-if2 c = search needs
 cast-if2 : tie.Need-cast-if2 Inv-loop μ-loop
 cast-if2 c =
     let c10 = c .before .before .before .before .before .before .before .before .before .before in
+    let c10 = c10 in
     omega (arith, c .before .before .shared-slice-known7 .given (4 * (c10 .args .left .row) + 1))
 
 returns-2 : tie.Need-returns-2 Inv-loop μ-loop
 unfolding kindAt channelAt objectAt
 returns-2 c =
     let c11 = c .before .before .before .before .before .before .before .before .before .before .before in
+    let c11 = c11 in
     let v = c11 .args in
     row-inner (v .question .now) (v .part .now) (v .node .at) (v .node .depth) (v .node .number) (v .node .x) (v .rows .now) (v .left .row)
     (v .left .left) (v .left .middle) (v .left .last) (v .left .first) (v .area .now) (v .left .count) (c11 .pre .0 .0 .0)
@@ -83,11 +86,11 @@ loop-holds c =
       c .next-met .ensures .on,
       c .next-met .ensures .inside,
       pairs-skipped (v .question .now) (v .part .now) (v .node .at) (v .node .depth)
-          (v .node .number) (v .node .x) (v .rows .now) (v .left .row) (v .left .left) (v .left .middle) (v .left .last) (v .left .first)
-          (v .area .now) (v .left .count) (c .before .before .before .before .if1 .left) (c .before .before .if2 .left) (v .left .count) (v .area .now)
-          (search needs) (v .left .middle) (c .next-met .result) (search needs) (c .next-met .ensures) (paired-start (v .question .now) (v .part .now)
-          (v .node .at) (v .node .depth) (v .node .number) (v .node .x) (v .rows .now) (v .left .row) (v .left .left) (v .left .middle)
-          (v .left .last) (v .left .first) (v .area .now) (v .left .count)),
+          (v .node .number) (v .node .x) (v .rows .now) (v .left .row) (v .left .left) (v .left .middle) (v .left .last) (v .left .first) (v .area .now)
+          (v .left .count) (c .before .before .before .before .if1 .left) (c .before .before .if2 .left) (v .left .count) (v .area .now) (search needs)
+          (v .left .middle) (c .next-met .result) (search needs) (c .next-met .ensures) (paired-start (v .question .now) (v .part .now) (v .node .at)
+          (v .node .depth) (v .node .number) (v .node .x) (v .rows .now) (v .left .row) (v .left .left) (v .left .middle) (v .left .last) (v .left .first)
+          (v .area .now) (v .left .count)),
       c .next-met .ensures .meets,
     )
 
@@ -123,8 +126,9 @@ add-i c = search needs
 
 take-pair-requires : tie.Need-take-pair-requires Inv-loop μ-loop
 take-pair-requires c κs =
-    let g = c .before .before .before .before .before .before .before .before .before .before .before .before .before .before .before .before .before .before .before .pre in
-    (((c .before .before .before .before .before .loop .inv .0, search needs), g .0 .1), g .1, search needs)
+    let g =
+    c .before .before .before .before .before .before .before .before .before .before .before .before .before .before .before .before .before .before .before .pre
+    in (((c .before .before .before .before .before .loop .inv .0, search needs), g .0 .1), g .1, search needs)
 
 same-length : tie.Need-same-length Inv-loop μ-loop
 same-length c = search needs
@@ -133,6 +137,7 @@ returns-3 : tie.Need-returns-3 Inv-loop μ-loop
 unfolding kindAt channelAt objectAt
 returns-3 c =
     let c3 = c .before .before .before in
+    let c3 = c3 in
     let c8 = c3 .before .before .before .before .before in
     let c9 = c8 .before in
     let c12 = c9 .before .before .before in
@@ -166,8 +171,8 @@ loop-again c =
           (arith, c .next-met2 .ensures .on),
       c .next-met2 .ensures .inside,
       pairs-skipped (v .question .now) (v .part .now) (v .node .at) (v .node .depth)
-          (v .node .number) (v .node .x) (v .rows .now) (v .left .row) (v .left .left) (v .left .middle) (v .left .last) (v .left .first)
-          (v .area .now) (v .left .count)
+          (v .node .number) (v .node .x) (v .rows .now) (v .left .row) (v .left .left) (v .left .middle) (v .left .last) (v .left .first) (v .area .now)
+          (v .left .count)
           (c .before .before .before .before .before .before .before .before .before .before .before .before .before .before .before .if1 .left)
           (c .before .before .before .before .before .before .before .before .before .before .before .before .before .if2 .left)
           (c .before .before .before .before .take-pair .result) _ (c .before .if3 .left)

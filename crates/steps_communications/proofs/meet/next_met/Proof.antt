@@ -72,9 +72,9 @@ loop-again c =
     let v = c .before .before .before .before .before .before .before .before .before .args in (
       search needs,
       search needs,
-      apart-more (v .rows .now) (v .kind) (v .channel) (v .from) (c .before .before .before .before .before .loop .w)
-          (c .before .before .before .before .before .loop .inv .2) (next-test (v .rows .now) (v .kind) (v .channel)
-          (c .before .before .before .before .before .before .before .first-merged .result)
+      apart-more (v .rows .now)
+          (v .kind) (v .channel) (v .from) (c .before .before .before .before .before .loop .w) (c .before .before .before .before .before .loop .inv .2)
+          (next-test (v .rows .now) (v .kind) (v .channel) (c .before .before .before .before .before .before .before .first-merged .result)
           (c .before .before .before .before .before .before .last-merged .result) (c .before .before .before .before .before .loop .w)
           (c .before .before .before .before .before .before .before .first-merged .ensures)
           (c .before .before .before .before .before .before .last-merged .ensures) (c .before .may-meet .result) (c .before .may-meet .ensures) ∙

@@ -15,6 +15,7 @@ sender-requires c κs = search needs
 table-slot-requires : tie.Need-table-slot-requires
 table-slot-requires c κs =
     let c14 = c .before .before .before .before .before .before .before .before .before .before .before .before .before .before in
+    let c14 = c14 in
     let v = c14 .args in
     let g = c14 .pre in
     let o = free-slot (v .met .node .depth) (c .sender .result) (senderOf (v .met .pair .left) (v .met .pair .right)) (c .sender .ensures) (g .1) in
@@ -23,11 +24,13 @@ table-slot-requires c κs =
 add-number : tie.Need-add-number
 add-number c =
     let c17 = c .before .before .before .before .before .before .before .before .before .before .before .before .before .before .before .before .before in
+    let c17 = c17 in
     omega (arith, c17 .pre .0 .3)
 
 put-met-requires : tie.Need-put-met-requires
 put-met-requires c κs =
     let c9 = c .before .before .before .before .before .before .before .before .before in
+    let c9 = c9 in
     let c18 = c9 .before .before .before .before .before .before .before .before .before in
     let g = c18 .pre in
     let e = c9 .components-of .ensures in

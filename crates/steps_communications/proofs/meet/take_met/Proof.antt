@@ -30,8 +30,14 @@ same-length c = search needs
 returns : tie.Need-returns
 returns c = search needs
 
-take-numbered-requires : tie.Need-take-numbered-requires
-take-numbered-requires c κs = search needs
+take-close-requires : tie.Need-take-close-requires
+take-close-requires c κs =
+    let c3 = c .before .before .before in
+    let c14 = c3 .before .before .before .before .before .before .before .before .before .before .before in (
+      c14 .pre,
+      ap (sendsFree (c14 .args .met .node .depth)) (sym (c3 .sender .ensures)) ∙ sym (c .before .before .sends-free .ensures) ∙
+          c .before .if1 .left,
+    )
 
 same-length-2 : tie.Need-same-length-2
 same-length-2 c = search needs
@@ -48,6 +54,6 @@ take-met-spec =
     take-com-requires
     same-length
     returns
-    take-numbered-requires
+    take-close-requires
     same-length-2
     returns-2)

@@ -1,47 +1,33 @@
 -- `steps_communications::meet::take_pair` meets its contract. Assumes nothing.
-use Rattle.steps_communications.proofs.MeetPairs.{pair-taken}
-use native.Mathlib.Omega.{arith}
 use borrow.Author.Needs.{needs}
+use native.Mathlib.Omega.{arith}
 use Rattle.steps_communications.proofs.meet.take_pair.Statement.{statement}
 use Rattle.steps_communications.proofs.meet.take_pair.Tie as tie
 
-add-i : tie.Need-add-i
-add-i c = search needs
-
-take-candidate-requires : tie.Need-take-candidate-requires
-take-candidate-requires c κs = search needs
+take-matched-requires : tie.Need-take-matched-requires
+take-matched-requires c κs = search needs
 
 same-length : tie.Need-same-length
 same-length c = search needs
 
 returns : tie.Need-returns
-returns c =
-    let c2 = c .before .before in
-    let c15 = c2 .before .before .before .before .before .before .before .before .before .before .before .before .before in
-    let v = c15 .args in
-    pair-taken (v .question .now) (v .part .now) (v .node .at) (v .node .depth) (v .node .number) (v .pair .left) (v .pair .right) (v .pair .number)
-    (v .node .x) (v .area .now) (v .count) (c2 .take-candidate .result) _ (c2 .take-candidate .ensures)
+returns c = c .before .before .take-matched .ensures
 
-take-candidate-requires-2 : tie.Need-take-candidate-requires-2
-take-candidate-requires-2 c κs = search needs
+take-matched-requires-2 : tie.Need-take-matched-requires-2
+take-matched-requires-2 c κs = search needs
 
 same-length-2 : tie.Need-same-length-2
 same-length-2 c = search needs
 
 returns-2 : tie.Need-returns-2
-returns-2 c =
-    let c2 = c .before .before in
-    let c17 = c2 .before .before .before .before .before .before .before .before .before .before .before .before .before .before .before in
-    let v = c17 .args in
-    pair-taken (v .question .now) (v .part .now) (v .node .at) (v .node .depth) (v .node .number) (v .pair .left) (v .pair .right) (v .pair .number)
-    (v .node .x) (v .area .now) (v .count) (c2 .take-candidate2 .result) _ (c2 .take-candidate2 .ensures)
+returns-2 c = c .before .before .take-matched2 .ensures
 
 take-same-requires : tie.Need-take-same-requires
 take-same-requires c κs =
     let c4 = c .before .before .before .before in
     let c6 = c4 .before .before in
-    let c17 = c6 .before .before .before .before .before .before .before .before .before .before .before in
-    (c17 .pre .0, c17 .pre .1, omega (arith, c6 .if1 .left), omega (arith, c4 .if2 .left), c .before .if3 .taken, c17 .pre .2)
+    let c15 = c6 .before .before .before .before .before .before .before .before .before in
+    (c15 .pre .0, c15 .pre .1, omega (arith, c6 .if1 .left), omega (arith, c4 .if2 .left), c .before .if3 .taken, c15 .pre .2)
 
 same-length-3 : tie.Need-same-length-3
 same-length-3 c = search needs
@@ -53,8 +39,8 @@ take-merging-requires : tie.Need-take-merging-requires
 take-merging-requires c κs =
     let c4 = c .before .before .before .before in
     let c6 = c4 .before .before in
-    let c17 = c6 .before .before .before .before .before .before .before .before .before .before .before in
-    (c17 .pre .0, c17 .pre .1, c17 .pre .2, omega (arith, c6 .if1 .left), omega (arith, c4 .if2 .left), c .before .if3 .left)
+    let c15 = c6 .before .before .before .before .before .before .before .before .before in
+    (c15 .pre .0, c15 .pre .1, c15 .pre .2, omega (arith, c6 .if1 .left), omega (arith, c4 .if2 .left), c .before .if3 .left)
 
 same-length-4 : tie.Need-same-length-4
 same-length-4 c = search needs
@@ -66,11 +52,10 @@ pub take-pair-spec : {M : Type 1} → statement M
 take-pair-spec =
     tie.close
     (tie.spec
-    add-i
-    take-candidate-requires
+    take-matched-requires
     same-length
     returns
-    take-candidate-requires-2
+    take-matched-requires-2
     same-length-2
     returns-2
     take-same-requires
