@@ -19,13 +19,13 @@ pub fn has_tidied_bodies(question: &[u8]) -> bool
     let list = arities(question);
     let last = definitions(question);
     let mut at = field_place(question, 0);
-    let mut k = 0;
-    while k < last {
+    let mut definition = 0;
+    while definition < last {
         if !is_tidied(field_at(question, at), list) {
             return false;
         }
         at = after_field(question, at);
-        k += 1;
+        definition += 1;
     }
     true
 }

@@ -9,7 +9,7 @@ use Rattle.steps_lister.proofs.list.is_tidied_part.Statement.{statement
 use Rattle.steps_lister.proofs.list.is_tidied_part.Tie as tie
 
 returns : tie.Need-returns
-returns c = λ e. plain-tidied _ _ (subst (Restricted _ _) (not-true _ (c .if1 .taken)) (c .before .pre))
+returns c = λ e. plain-tidied _ _ (subst (Restricted _ _) (not-true _ (c .if1 .taken)) (c .before .before .before .pre))
 
 arities-of-requires : tie.Need-arities-of-requires
 arities-of-requires c κs = search needs

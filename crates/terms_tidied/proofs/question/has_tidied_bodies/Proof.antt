@@ -42,8 +42,8 @@ returns c = λ e. absurd (true≢false (sym e))
 after-field-requires : tie.Need-after-field-requires Inv-loop μ-loop
 after-field-requires c κs = search needs
 
-add-k : tie.Need-add-k Inv-loop μ-loop
-add-k c = search needs
+add-definition : tie.Need-add-definition Inv-loop μ-loop
+add-definition c = search needs
 
 loop-less : tie.Need-loop-less Inv-loop μ-loop
 loop-less c = search needs
@@ -57,7 +57,7 @@ loop-again c =
     let c7 = c5 .before .before in
     let c8 = c7 .before in
     let c10 = c8 .before .before in (
-      one-more (c10 .args .question .now) (c5 .loop .k) (c5 .loop .inv .0) (c5 .loop .at) (c5 .loop .inv .1) (c3 .field-at .result .now)
+      one-more (c10 .args .question .now) (c5 .loop .definition) (c5 .loop .inv .0) (c5 .loop .at) (c5 .loop .inv .1) (c3 .field-at .result .now)
           (c3 .field-at .ensures) (c8 .arities .result .now) (c8 .arities .ensures) (omega (arith, c4 .loop-test .taken, c7 .definitions .ensures .0))
           (subst (IsTidiedIs (c3 .field-at .result .now) (c8 .arities .result .now)) (not-false _ (c .before .if1 .left))
           (c .before .before .is-tidied .ensures)),
@@ -70,7 +70,7 @@ returns-2 c =
     let c1 = c .before in
     let c3 = c1 .before .before in
     let c6 = c3 .before .before .before in
-    λ e. all-looked-at (c6 .args .question .now) (c1 .loop .k) (c1 .loop .inv .0) (omega (arith, c .loop-test .left, c3 .definitions .ensures .0))
+    λ e. all-looked-at (c6 .args .question .now) (c1 .loop .definition) (c1 .loop .inv .0) (omega (arith, c .loop-test .left, c3 .definitions .ensures .0))
 
 pub has-tidied-bodies-spec : {M : Type 1} → statement M
 has-tidied-bodies-spec =
@@ -86,7 +86,7 @@ has-tidied-bodies-spec =
     is-tidied-requires
     returns
     after-field-requires
-    add-k
+    add-definition
     loop-less
     loop-again
     returns-2)
