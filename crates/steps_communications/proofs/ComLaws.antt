@@ -29,12 +29,12 @@ use Rattle.steps_placing.specs.Placing.{StandsFor, PutClassedIs, PutMetIs}
 use Rattle.steps_rows.specs.Rows.{rowAction}
 use Rattle.steps_rows.proofs.RowLaws.{row-act}
 use Rattle.steps_communications.specs.Meeting.{senderOf, sendsFree}
-use Rattle.steps_communications.specs.Met.{ComponentsAre, ActsAs, Communicates, TakeMetIs}
+use Rattle.steps_communications.specs.Met.{ComponentsAre, ActsAs, TakeMetIs}
 use Rattle.steps_communications.specs.declared.meet.Components.{Components}
 use Rattle.steps_communications.specs.declared.meet.Node.{Node}
 use Rattle.steps_communications.specs.declared.meet.Pair.{Pair}
 use Rattle.steps_communications.specs.declared.meet.Partner.{Partner}
-use Rattle.steps_communications.proofs.MetLaws.{raised-from, new-sent, unextruded-unopens, metTerm, met-holes, met-numbered, met-scope}
+use Rattle.steps_communications.proofs.MetLaws.{raised-from, new-sent, unextruded-unopens, met-holes, met-numbered, met-scope}
 
 -- [Com]: both results, where y is the name that is sent.
 record Com (d : ℕ) (α : Act) (A : Term) (β : Act) (B : Term) (object : ℕ) : Type 0 where

@@ -3,7 +3,7 @@ ghost use mathlib.Core.Path.{_≡_};
 ghost use mathlib.Core.Bool.{true, false};
 ghost use Prim.Native.Nat.{_+_, _*_, _≤_, _<_};
 ghost use lib.ListN.{length};
-ghost use Rattle.terms.specs.Limits.{nameCount, longestTerm};
+ghost use Rattle.terms.specs.Limits.{longestTerm};
 ghost use Rattle.steps_tallies.specs.Tally.{EndsInside};
 ghost use Rattle.steps_splicing.specs.Ready.{Tallied, Inside, FoundIn};
 ghost use Rattle.steps_splicing.specs.Locating.{tableSlot};

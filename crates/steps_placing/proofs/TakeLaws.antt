@@ -11,7 +11,6 @@ use Rattle.calculus.proofs.Renaming.{ren-id}
 use Rattle.terms.specs.Encoding.{encode}
 use Rattle.terms.specs.Limits.{nameCount}
 use Rattle.terms_bytes.specs.NameTable.{tableNames}
-use Rattle.terms.specs.Question.{Question}
 use Rattle.terms_bytes.specs.Shape.{height}
 use Rattle.steps_labels.specs.LabelWalk.{NthIs}
 use Rattle.steps_conditions.specs.Labels.{Labels}
@@ -26,7 +25,6 @@ use Rattle.steps_labels.proofs.ArgumentSlots.{slots-part}
 use Rattle.steps_splicing.specs.Collecting.{PutIs}
 use Rattle.steps_entries.specs.EntryBytes.{actionBytes}
 use Rattle.steps.specs.Limits.{mostSteps}
-use Rattle.steps_splicing.specs.ListedParts.{Lists}
 use Rattle.steps_placing.specs.Taking.{candidatesOf, NamesAre, ResultIs, PutStepIs, LabelIs, TakeIs}
 use Rattle.steps_placing.specs.Placing.{PutClassedIs}
 use Rattle.steps_entries.specs.declared.listed.ActionBytes.{ActionBytes}
