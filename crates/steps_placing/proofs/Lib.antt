@@ -1,7 +1,7 @@
 mod CanonBytes
 pub mod CollectLaws
 pub mod DecidingLaws
-pub mod PlainResults
+mod PlainResults
 mod PutLaws
 mod RawBounds
 pub mod RawRoom

@@ -128,8 +128,8 @@ fn is_raw(restricted: bool, n: usize) -> bool
     false
 }
 
-// Puts a step of the part into the list whose result is tidied first, since there are restrictions (request 2026-04): order, duplicates and the limit of
-// its bytes go by the tidied result.
+// Puts a step of the part into the list whose result is too long as it is, but has restrictions, so that its tidied form need not be (request 2026-04): it
+// is written where there is room for it, and tidied from there.
 fn put_tidied(
     question: &[u8],
     bodies: &[u32],
