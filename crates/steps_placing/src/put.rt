@@ -225,16 +225,19 @@ pub fn put_placed(
         };
         return put_tidied(question, bodies, part, tally, numbered, &class, area, count);
     }
-    put_written(
-        question,
-        &class,
-        action,
-        &result,
-        n,
-        restricted,
-        area,
-        count,
-    )
+    if restricted {
+        return put_written(
+            question,
+            &class,
+            action,
+            &result,
+            n,
+            restricted,
+            area,
+            count,
+        );
+    }
+    put_result(&class, action, &result, n, area, count)
 }
 
 // Whether what was written for a communication up to `n` does not stand for its result: there was no room for it, or the restriction of [Close] binds a name in it.
@@ -314,14 +317,22 @@ pub fn put_met(
             return put_numbered(question, bodies, part, tally, met, class, area, count);
         }
     }
-    put_silent(
-        question,
-        class,
-        &mut result,
-        n,
-        met.merges,
-        restricted,
-        area,
-        count,
-    )
+    if restricted | met.merges {
+        return put_silent(
+            question,
+            class,
+            &mut result,
+            n,
+            met.merges,
+            restricted,
+            area,
+            count,
+        );
+    }
+    let silent = ActionBytes {
+        kind: 0,
+        channel: 0,
+        object: 0,
+    };
+    put_result(class, silent, &result, n, area, count)
 }

@@ -38,15 +38,15 @@ struct Seam {
     put: usize,
 }
 
-// The table where each name stands for itself.
+// The table where each name stands for itself, the new one and those of so many binders among them. All places are filled, whatever their number: it is
+// a constant, and the loop takes a few instructions.
 pub fn own_names(binders: usize) -> [u8; NAME_SLOTS]
     requires { ⌜ binders ≤ mostBinders ⌝ }
     ensures { λ r. ⌜ OwnNames binders r ⌝ }
 {
-    let n = TABLE_NAMES + binders;
     let mut names = [0u8; NAME_SLOTS];
     let mut i = 0;
-    while i < n {
+    while i < NAME_SLOTS {
         names[i] = i as u8;
         i += 1;
     }

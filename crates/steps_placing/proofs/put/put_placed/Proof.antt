@@ -3,6 +3,7 @@ use lib.ListN.{replicate}
 use mathlib.Core.Path.{refl}
 use Rattle.terms.specs.Limits.{longestTerm}
 use Rattle.steps_placing.proofs.PutLaws.{placed-put, placed-tidied}
+use Rattle.steps_placing.proofs.WrittenLaws.{written-plain}
 use borrow.Author.Needs.{needs}
 use Rattle.steps_placing.proofs.put.put_placed.Statement.{statement}
 use Rattle.steps_placing.proofs.put.put_placed.Tie as tie
@@ -52,7 +53,7 @@ slice-aggregate-put-written-2 c = search needs
 
 put-written-requires : tie.Need-put-written-requires
 put-written-requires c κs =
-    (search needs, search needs, search needs, c .before .before .before .before .is-raw .ensures (c .before .before .before .if1 .left))
+    (search needs, search needs, search needs, c .before .before .before .before .before .is-raw .ensures (c .before .before .before .before .if1 .left))
 
 same-length-2 : tie.Need-same-length-2
 same-length-2 c = search needs
@@ -60,7 +61,7 @@ same-length-2 c = search needs
 returns-2 : tie.Need-returns-2
 returns-2 c =
     let c2 = c .before .before in
-    let c8 = c2 .before .before .before .before .before .before in
+    let c8 = c2 .before .before .before .before .before .before .before in
     let c10 = c8 .before .before in
     let c12 = c10 .before .before in
     let c20 = c12 .before .before .before .before .before .before .before .before in
@@ -69,6 +70,33 @@ returns-2 c =
     (a .step .candidate .number) (a .step .action) (a .step .candidate .x) (a .area .now) (a .count) (c2 .put-written .result) _
     (c8 .own-names .result) (c8 .own-names .ensures) (c12 .is-restricted .result) (λ f. c20 .pre .0 .1 .3 .plain (c12 .is-restricted .ensures f))
     (replicate longestTerm 0) refl _ (c10 .write-placed .result) (c10 .write-placed .ensures) (c2 .put-written .ensures)
+
+slice-aggregate-put-result : tie.Need-slice-aggregate-put-result
+slice-aggregate-put-result c = search needs
+
+slice-aggregate-put-result-2 : tie.Need-slice-aggregate-put-result-2
+slice-aggregate-put-result-2 c = search needs
+
+put-result-requires : tie.Need-put-result-requires
+put-result-requires c κs = search needs
+
+same-length-3 : tie.Need-same-length-3
+same-length-3 c = search needs
+
+returns-3 : tie.Need-returns-3
+returns-3 c =
+    let c2 = c .before .before in
+    let c6 = c2 .before .before .before .before in
+    let c9 = c6 .before .before .before in
+    let c11 = c9 .before .before in
+    let c13 = c11 .before .before in
+    let c21 = c13 .before .before .before .before .before .before .before .before in
+    let a = c21 .args in
+    placed-put (a .question .now) (a .part .now) (a .place .at) (a .place .depth) (a .place .first) (a .step .candidate .silently)
+    (a .step .candidate .number) (a .step .action) (a .step .candidate .x) (a .area .now) (a .count) (c2 .put-result .result) _
+    (c9 .own-names .result) (c9 .own-names .ensures) (c13 .is-restricted .result) (λ f. c21 .pre .0 .1 .3 .plain (c13 .is-restricted .ensures f))
+    (replicate longestTerm 0) refl _ (c11 .write-placed .result) (c11 .write-placed .ensures)
+    (written-plain _ _ _ _ _ _ _ _ _ _ (c6 .if2 .left) (c2 .put-result .ensures))
 
 pub put-placed-spec : {M : Type 1} → statement M
 put-placed-spec =
@@ -88,4 +116,9 @@ put-placed-spec =
     slice-aggregate-put-written-2
     put-written-requires
     same-length-2
-    returns-2)
+    returns-2
+    slice-aggregate-put-result
+    slice-aggregate-put-result-2
+    put-result-requires
+    same-length-3
+    returns-3)

@@ -11,16 +11,13 @@ use Rattle.steps_splicing.proofs.splice.own_names.Statement.{statement}
 use Rattle.steps_splicing.proofs.splice.own_names.Tie as tie
 
 abbrev Inv-loop : tie.InvT-loop
-Inv-loop binders n names₀ i₀ names i = Filling (λ k. k) names₀ names i × (i ≤ n) × (n ≡ tableNames + binders) × (length names₀ ≡ nameSlots)
+Inv-loop binders names₀ i₀ names i = Filling (λ k. k) names₀ names i × (i ≤ nameSlots) × (length names₀ ≡ nameSlots)
 
 abbrev μ-loop : tie.MeasureT-loop
-μ-loop binders n names₀ i₀ names i = n - i
-
-add-n : tie.Need-add-n Inv-loop μ-loop
-add-n c = search needs
+μ-loop binders names₀ i₀ names i = nameSlots - i
 
 loop-holds : tie.Need-loop-holds Inv-loop μ-loop
-loop-holds c = (fill-start _ _, search needs, refl, refl)
+loop-holds c = (fill-start _ _, search needs, refl)
 
 cast-names : tie.Need-cast-names Inv-loop μ-loop
 cast-names c = search needs
@@ -35,7 +32,7 @@ loop-less : tie.Need-loop-less Inv-loop μ-loop
 loop-less c = search needs
 
 loop-again : tie.Need-loop-again Inv-loop μ-loop
-loop-again c = (fill-step _ _ _ _ _ (omega arith) refl (c .before .loop .inv .0), search needs, search needs, refl)
+loop-again c = (fill-step _ _ _ _ _ (omega arith) refl (c .before .loop .inv .0), search needs, search needs)
 
 returns : tie.Need-returns Inv-loop μ-loop
 unfolding OwnNames
@@ -47,7 +44,6 @@ own-names-spec =
     (tie.spec
     Inv-loop
     μ-loop
-    add-n
     loop-holds
     cast-names
     array-write-names
