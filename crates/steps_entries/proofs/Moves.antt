@@ -2,12 +2,12 @@
 use borrow.Rule.Slice.PartMut.{midOf, postOf, putMid, post-is}
 use mathlib.Core.Path.{_≡_, refl, sym, _∙_, ap, ap₂}
 use mathlib.Core.List.{List, [], _∷_, _++_, append-nil}
-use native.Mathlib.Nat.{add-zero}
 use native.Mathlib.Omega.{arith}
 use Prim.Native.Nat.{ℕ, zero, suc, _+_, _-_, _<_, _≤_}
 use lib.ListN.{length, getD, set, take, drop, length-set, length-drop, drop-of-length-le}
-use lib.Seq.{sets, length-sets, set-comm, getD-set-same, getD-set-other, drop-cons, take-all}
+use lib.Seq.{sets, length-sets, set-comm, drop-cons, take-all}
 use Rattle.terms_bytes.proofs.Stores.{span}
+pub use Rattle.terms_bytes.proofs.Stores.{getD-before, getD-behind, getD-stored}
 
 -- a store before a run
 pub set-before : (l : List ℕ) (p q v : ℕ) (xs : List ℕ) → p < q → set (sets l q xs) p v ≡ sets (set l p v) q xs
@@ -15,22 +15,6 @@ set-before l p q v [] h = refl
 set-before l p q v (x ∷ xs) h =
     set-before (set l q x) p (suc q) v xs (omega arith)
     ∙ ap (λ m. sets m (suc q) xs) (set-comm l q p x v (λ e. omega arith))
-
-pub getD-before : (l : List ℕ) (p q : ℕ) (xs : List ℕ) → p < q → getD (sets l q xs) p 0 ≡ getD l p 0
-getD-before l p q [] h = refl
-getD-before l p q (x ∷ xs) h = getD-before (set l q x) p (suc q) xs (omega arith) ∙ getD-set-other l q p x 0 (λ e. omega arith)
-
--- what is behind a run, and what was stored by it
-pub getD-behind : (l : List ℕ) (p k : ℕ) (xs : List ℕ) → p + length xs ≤ k → getD (sets l p xs) k 0 ≡ getD l k 0
-getD-behind l p k [] h = refl
-getD-behind l p k (x ∷ xs) h = getD-behind (set l p x) (suc p) k xs (omega arith) ∙ getD-set-other l p k x 0 (λ z. omega arith)
-
-pub getD-stored : (l : List ℕ) (p : ℕ) (xs : List ℕ) → p + length xs ≤ length l → (k : ℕ) → k < length xs → getD (sets l p xs) (p + k) 0 ≡ getD xs k 0
-getD-stored l p [] h k m = absurd (omega arith)
-getD-stored l p (x ∷ xs) h zero m = rw add-zero (getD-before (set l p x) p (suc p) xs (omega arith) ∙ getD-set-same l p x 0 (omega arith))
-getD-stored l p (x ∷ xs) h (suc k) m =
-    let e : p + suc k ≡ suc p + k = omega arith in
-    rw e (getD-stored (set l p x) (suc p) xs (omega (arith, length-set l p x)) k (omega arith))
 
 span-cons : (l : List ℕ) (j n : ℕ) → j < length l → span l j (suc n) ≡ getD l j 0 ∷ span l (suc j) n
 span-cons l j n h = rw (drop-cons l j 0 h) refl

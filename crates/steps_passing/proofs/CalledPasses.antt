@@ -1,22 +1,21 @@
 -- A call and the body that it opens: where its names stand, what they stand for in the body, and its candidates. Assumes nothing.
 use mathlib.Core.Path.{_≡_, sym, ap, subst, _∙_}
 use mathlib.Core.Bool.{Bool}
-use mathlib.Core.List.{List, [], _∷_, _++_, map, reverse, reverseAux, append-nil}
-use mathlib.Core.Logic.{⊎-elim}
-use Prim.Native.Nat.{ℕ, zero, suc, _+_, _-_, _<_, _≤_}
-use native.Mathlib.Nat.{eq-or-lt-of-le, not-suc-le-zero, le-of-suc-le-suc}
+use mathlib.Core.List.{List, [], _++_, map, reverse, append-nil}
+use Prim.Native.Nat.{ℕ, suc, _+_, _-_, _<_, _≤_}
 use native.Mathlib.Omega.{arith}
 use lib.ListN.{length, getD, drop, length-map}
 use lib.Seq.{drop-drop}
 use Rattle.calculus.specs.Abstraction.{Act, tauA, inpA, outA, boutA}
 use Rattle.calculus.specs.Definitions.{at}
 use Rattle.calculus.specs.Term.{Term, call, ren}
+pub use Rattle.terms.proofs.ScopeLaws.{name-within}
 use Rattle.terms.specs.Answer.{result}
 use Rattle.terms.specs.Encoding.{nameByte, encode, InScope, NamesInScope}
 use Rattle.terms.specs.Limits.{nameCount}
 use Rattle.terms_bytes.specs.NameTable.{tableNames}
 use Rattle.terms.specs.Question.{Question, checkOf}
-use Rattle.terms_bytes.proofs.Stores.{getD-front, getD-map}
+use Rattle.terms_bytes.proofs.Stores.{getD-front, getD-map, getD-reverse}
 use Rattle.steps_tallies.specs.Bodies.{BodyIs}
 use Rattle.terms.specs.Question.{bodyOf}
 use Rattle.steps_conditions.specs.Names.{turn, HasNames, CalledIs}
@@ -34,36 +33,11 @@ use Rattle.steps_tallies.proofs.CallLaws.{body-scope}
 abbrev pub params : (ℕ → ℕ) → List ℕ → ℕ → ℕ
 params σ xs = at (reverse (map σ xs))
 
--- Index m is the m-th from the end.
-past-reversed : (xs ys : List ℕ) (m : ℕ) → getD (reverseAux xs ys) (length xs + m) 0 ≡ getD ys m 0
-past-reversed [] ys m = ap (λ (k : ℕ). getD ys k 0) (omega arith)
-past-reversed (x ∷ xs) ys m =
-    let e : suc (length xs) + m ≡ length xs + suc m = omega arith in
-    ap (λ (k : ℕ). getD (reverseAux xs (x ∷ ys)) k 0) e ∙ past-reversed xs (x ∷ ys) (suc m)
-
-reversed-onto : (xs ys : List ℕ) (m : ℕ) → m < length xs → getD (reverseAux xs ys) m 0 ≡ getD xs (length xs - 1 - m) 0
-reversed-onto [] ys m h = absurd (not-suc-le-zero h)
-reversed-onto (x ∷ xs) ys m h = ⊎-elim
-    (λ (q : m ≡ length xs).
-    let e : m ≡ length xs + 0 = omega arith in
-    let z : suc (length xs) - 1 - m ≡ 0 = omega arith in
-    ap (λ (k : ℕ). getD (reverseAux xs (x ∷ ys)) k 0) e ∙ past-reversed xs (x ∷ ys) 0 ∙ ap (λ (k : ℕ). getD (x ∷ xs) k 0) (sym z))
-    (λ (q : m < length xs).
-    let e : suc (length xs) - 1 - m ≡ suc (length xs - 1 - m) = omega arith in
-    reversed-onto xs (x ∷ ys) m q ∙ ap (λ (k : ℕ). getD (x ∷ xs) k 0) (sym e))
-    (eq-or-lt-of-le {n = m} {m = length xs} (omega arith))
-
 pub parameter-is : (σ : ℕ → ℕ) (xs : List ℕ) (m : ℕ) → m < length xs → params σ xs m ≡ σ (getD xs (length xs - 1 - m) 0)
 parameter-is σ xs m h =
     let l = length-map xs σ in
-    reversed-onto (map σ xs) [] m (omega arith) ∙ ap (λ (n : ℕ). getD (map σ xs) (n - 1 - m) 0) l
+    getD-reverse (map σ xs) m (omega arith) ∙ ap (λ (n : ℕ). getD (map σ xs) (n - 1 - m) 0) l
     ∙ getD-map σ xs (length xs - 1 - m) (omega arith)
-
-pub name-within : (free d : ℕ) (ns : List ℕ) → NamesInScope free d ns → (j : ℕ) → j < length ns → getD ns j 0 < d + free
-unfolding NamesInScope
-name-within free d [] h j l = absurd (not-suc-le-zero l)
-name-within free d (n ∷ ns) h zero l = h .0
-name-within free d (n ∷ ns) h (suc j) l = name-within free d ns (h .1) j (le-of-suc-le-suc l)
 
 -- What stands in the slot of a parameter.
 parameter-slot : (n m : ℕ) → m < n → slotOf tableNames n m - tableNames ≡ n - 1 - m

@@ -2,7 +2,7 @@
 -- communications. A tally says how many they are. Assumes nothing.
 use mathlib.Core.Path.{_≡_, refl, sym, ap, _∙_}
 use mathlib.Core.Bool.{Bool, true, false}
-use mathlib.Core.List.{List, [], _∷_, _++_, map, append-assoc, append-nil}
+use mathlib.Core.List.{List, [], _++_, map, append-nil}
 use Prim.Native.Nat.{ℕ, _+_, _-_, _<_, _≤_}
 use native.Mathlib.Omega.{arith}
 use lib.Dec.{leb, ltb}
@@ -17,6 +17,7 @@ use Rattle.terms.specs.Encoding.{encode, InScope}
 use Rattle.terms.specs.Question.{Question, checkOf}
 use Rattle.terms.proofs.ReadEncoded.{encode-some}
 use Rattle.terms.specs.Question.{bodyOf}
+pub use Rattle.steps_tallies.proofs.FrontLaws.{at-left, at-right}
 use Rattle.steps_tallies.specs.Candidates.{candidates}
 use Rattle.steps_passing.specs.Passing.{Acts, PassIs, MiddleIs}
 use Rattle.steps.specs.Raw.{Candidate, step, blocked, leftSteps, rightSteps}
@@ -87,14 +88,6 @@ keeps-left Q c M α A e = let b = left-of Q c M α A e in record { result = b .r
 
 keeps-right : (P : Term) → Keeps (rightSteps P)
 keeps-right P c M α A e = let b = right-of P c M α A e in record { result = b .result; premise = b .premise }
-
--- Where the sides of a form stand: behind one byte, one after the other.
-module _ (D : ℕ) (s : List ℕ) (at : ℕ) (P Q : Term) (rest : List ℕ) (h : ℕ) (st : drop at s ≡ (h ∷ (encode D P ++ encode D Q)) ++ rest) where
-  pub at-left : drop (at + 1) s ≡ encode D P ++ (encode D Q ++ rest)
-  at-left = sym (drop-drop 1 at s) ∙ ap (drop 1) st ∙ append-assoc (encode D P) (encode D Q) rest
-
-  pub at-right : (e : ℕ) → e ≡ at + 1 + length (encode D P) → drop e s ≡ encode D Q ++ rest
-  at-right e q = rw (q, ← drop-drop, at-left, drop-append-seam)
 
 -- What the tally says of the sides.
 pub number-is : (question s : List ℕ) (calls : ℕ) (t : List ℕ) → TallyIs question s calls t → (silently : Bool) (q : Question) (at free D : ℕ) (σ : ℕ → ℕ) (P : Term)

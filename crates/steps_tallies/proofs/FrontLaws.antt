@@ -1,6 +1,6 @@
 -- Where a term stands, and its front. Assumes nothing.
-use mathlib.Core.Path.{_≡_, ap, _∙_}
-use mathlib.Core.List.{List, _++_}
+use mathlib.Core.Path.{_≡_, sym, ap, _∙_}
+use mathlib.Core.List.{List, _∷_, _++_, append-assoc}
 use Prim.Native.Nat.{ℕ, _+_, _<_, _≤_}
 use native.Mathlib.Omega.{arith}
 use lib.ListN.{length, getD, drop, length-append, length-drop}
@@ -23,6 +23,14 @@ stands s at D P rest e =
 -- What stands behind a front of n bytes.
 pub behind : (s : List ℕ) (at n : ℕ) (f more : List ℕ) → drop at s ≡ f ++ more → n ≡ length f → drop (at + n) s ≡ more
 behind s at n f more e h = rw (h, ← drop-drop, e, drop-append-seam)
+
+-- Where the sides of a form stand: behind one byte, one after the other.
+module _ (D : ℕ) (s : List ℕ) (at : ℕ) (P Q : Term) (rest : List ℕ) (h : ℕ) (st : drop at s ≡ (h ∷ (encode D P ++ encode D Q)) ++ rest) where
+  pub at-left : drop (at + 1) s ≡ encode D P ++ (encode D Q ++ rest)
+  at-left = sym (drop-drop 1 at s) ∙ ap (drop 1) st ∙ append-assoc (encode D P) (encode D Q) rest
+
+  pub at-right : (e : ℕ) → e ≡ at + 1 + length (encode D P) → drop e s ≡ encode D Q ++ rest
+  at-right e q = rw (q, ← drop-drop, at-left, drop-append-seam)
 
 -- The front.
 module _ (s : List ℕ) (at : ℕ) (arities : List ℕ) (r : TermFront) where

@@ -2,7 +2,8 @@
 use mathlib.Core.Path.{_≡_, sym, ap, _∙_}
 use mathlib.Core.List.{List, [], _∷_}
 use mathlib.Core.Logic.{_⊎_, inl, inr}
-use Prim.Native.Nat.{ℕ, suc, _+_, _<_}
+use Prim.Native.Nat.{ℕ, zero, suc, _+_, _<_}
+use native.Mathlib.Nat.{not-suc-le-zero, le-of-suc-le-suc}
 use native.Mathlib.Omega.{arith}
 use lib.ListN.{length, getD}
 use lib.Dec.{ltb}
@@ -82,3 +83,10 @@ free-below free ar d (par P Q) s n (inl h) = free-below free ar d P (s .0) n h
 free-below free ar d (par P Q) s n (inr h) = free-below free ar d Q (s .1) n h
 free-below free ar d (res P) s n h = omega (arith, free-below free ar (1 + d) P s (suc n) h)
 free-below free ar d (call k ns) s n h = names-below free d ns (s .2) n h
+
+-- Each name of a list in scope.
+pub name-within : (free d : ℕ) (ns : List ℕ) → NamesInScope free d ns → (j : ℕ) → j < length ns → getD ns j 0 < d + free
+unfolding NamesInScope
+name-within free d [] h j l = absurd (not-suc-le-zero l)
+name-within free d (n ∷ ns) h zero l = h .0
+name-within free d (n ∷ ns) h (suc j) l = name-within free d ns (h .1) j (le-of-suc-le-suc l)

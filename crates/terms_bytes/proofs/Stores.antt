@@ -1,12 +1,13 @@
 -- Pieces of lists, and runs of stores `sets l p xs`: the algebra of functions that write into a lent area. Assumes nothing.
 use mathlib.Core.Path.{_≡_, refl, sym, ap, _∙_}
-use mathlib.Core.List.{List, [], _∷_, _++_, map, append-assoc}
-use Prim.Native.Nat.{ℕ, zero, suc, _+_, _<_, _≤_}
-use native.Mathlib.Nat.{add-zero, zero-add, not-suc-le-zero, le-of-suc-le-suc}
+use mathlib.Core.List.{List, [], _∷_, _++_, map, append-assoc, reverse, reverseAux}
+use mathlib.Core.Logic.{⊎-elim}
+use Prim.Native.Nat.{ℕ, zero, suc, _+_, _-_, _<_, _≤_}
+use native.Mathlib.Nat.{add-zero, zero-add, not-suc-le-zero, le-of-suc-le-suc, eq-or-lt-of-le}
 use native.Mathlib.Numerals.{add-one}
 use native.Mathlib.Omega.{arith}
-use lib.ListN.{length, getD, take, drop, set, length-append, length-take, length-drop, List·getD-append}
-use lib.Seq.{sets, sets-eq, drop-drop, drop-append-seam, take-append-seam, take-suc, getD-take, getD-drop, length-take-le, take-all}
+use lib.ListN.{length, getD, take, drop, set, length-append, length-take, length-drop, length-set, List·getD-append}
+use lib.Seq.{sets, sets-eq, drop-drop, drop-append-seam, take-append-seam, take-suc, getD-take, getD-drop, length-take-le, take-all, getD-set-same, getD-set-other}
 
 -- Two runs, one after the other, are one.
 pub sets-append : (l : List ℕ) (p : ℕ) (xs ys : List ℕ) → sets l p (xs ++ ys) ≡ sets (sets l p xs) (p + length xs) ys
@@ -59,3 +60,41 @@ sets-middle A B C B′ p e n =
 -- A run from the start of an area that holds it.
 pub sets-start : (l xs : List ℕ) → length xs ≤ length l → sets l 0 xs ≡ xs ++ drop (length xs) l
 sets-start l xs h = sets-eq xs l 0 (rw zero-add h) ∙ rw zero-add
+
+-- What stands before a run, behind it, and in it.
+pub getD-before : (l : List ℕ) (p q : ℕ) (xs : List ℕ) → p < q → getD (sets l q xs) p 0 ≡ getD l p 0
+getD-before l p q [] h = refl
+getD-before l p q (x ∷ xs) h = getD-before (set l q x) p (suc q) xs (omega arith) ∙ getD-set-other l q p x 0 (λ e. omega arith)
+
+pub getD-behind : (l : List ℕ) (p k : ℕ) (xs : List ℕ) → p + length xs ≤ k → getD (sets l p xs) k 0 ≡ getD l k 0
+getD-behind l p k [] h = refl
+getD-behind l p k (x ∷ xs) h = getD-behind (set l p x) (suc p) k xs (omega arith) ∙ getD-set-other l p k x 0 (λ z. omega arith)
+
+pub getD-stored : (l : List ℕ) (p : ℕ) (xs : List ℕ) → p + length xs ≤ length l → (k : ℕ) → k < length xs → getD (sets l p xs) (p + k) 0 ≡ getD xs k 0
+getD-stored l p [] h k m = absurd (omega arith)
+getD-stored l p (x ∷ xs) h zero m = rw add-zero (getD-before (set l p x) p (suc p) xs (omega arith) ∙ getD-set-same l p x 0 (omega arith))
+getD-stored l p (x ∷ xs) h (suc k) m =
+    let e : p + suc k ≡ suc p + k = omega arith in
+    rw e (getD-stored (set l p x) (suc p) xs (omega (arith, length-set l p x)) k (omega arith))
+
+-- Index m of a list that is turned round is the m-th from the end.
+past-reversed : (xs ys : List ℕ) (m : ℕ) → getD (reverseAux xs ys) (length xs + m) 0 ≡ getD ys m 0
+past-reversed [] ys m = ap (λ (k : ℕ). getD ys k 0) (omega arith)
+past-reversed (x ∷ xs) ys m =
+    let e : suc (length xs) + m ≡ length xs + suc m = omega arith in
+    ap (λ (k : ℕ). getD (reverseAux xs (x ∷ ys)) k 0) e ∙ past-reversed xs (x ∷ ys) (suc m)
+
+reversed-onto : (xs ys : List ℕ) (m : ℕ) → m < length xs → getD (reverseAux xs ys) m 0 ≡ getD xs (length xs - 1 - m) 0
+reversed-onto [] ys m h = absurd (not-suc-le-zero h)
+reversed-onto (x ∷ xs) ys m h = ⊎-elim
+    (λ (q : m ≡ length xs).
+    let e : m ≡ length xs + 0 = omega arith in
+    let z : suc (length xs) - 1 - m ≡ 0 = omega arith in
+    ap (λ (k : ℕ). getD (reverseAux xs (x ∷ ys)) k 0) e ∙ past-reversed xs (x ∷ ys) 0 ∙ ap (λ (k : ℕ). getD (x ∷ xs) k 0) (sym z))
+    (λ (q : m < length xs).
+    let e : suc (length xs) - 1 - m ≡ suc (length xs - 1 - m) = omega arith in
+    reversed-onto xs (x ∷ ys) m q ∙ ap (λ (k : ℕ). getD (x ∷ xs) k 0) (sym e))
+    (eq-or-lt-of-le {n = m} {m = length xs} (omega arith))
+
+pub getD-reverse : (xs : List ℕ) (m : ℕ) → m < length xs → getD (reverse xs) m 0 ≡ getD xs (length xs - 1 - m) 0
+getD-reverse xs m h = reversed-onto xs [] m h

@@ -1,0 +1,3 @@
+// What opening a call reaches.
+pub mod reach;
+pub mod table;
