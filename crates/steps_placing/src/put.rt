@@ -36,8 +36,8 @@ pub struct Step {
     pub action: ActionBytes,
 }
 
-// A communication of two components, the silent candidate of this number of the part, where `x` is the new name. What is received is the name in the slot `new`: [Com];
-// or, if it closes, a new restriction: [Close]. Whether its condition merges names.
+// A communication of two components, the silent candidate of this number of the part, where `x` is the new name. What is received is the name in the
+// slot `new`: [Com]; or, if it closes, a new restriction: [Close]. Whether its condition merges names.
 pub struct Communication {
     pub left: Located,
     pub right: Located,
@@ -67,7 +67,8 @@ fn put_result(
     insert(area, count, &entry)
 }
 
-// Puts a step into the list whose result was written up to `n`, where it may have restrictions: it is tidied first, unless it is so as it stands (request 2026-04).
+// Puts a step into the list whose result was written up to `n`, where it may have restrictions: it is tidied first, unless it is so as it stands
+// (request 2026-04).
 fn put_written(
     question: &[u8],
     class: &[u8],
@@ -240,7 +241,8 @@ pub fn put_placed(
     put_result(&class, action, &result, n, area, count)
 }
 
-// Whether what was written for a communication up to `n` does not stand for its result: there was no room for it, or the restriction of [Close] binds a name in it.
+// Whether what was written for a communication up to `n` does not stand for its result: there was no room for it, or the restriction of [Close] binds a
+// name in it.
 fn falls_short(result: &[u8], n: usize, closes: bool) -> bool
     requires { ⌜ longestTerm ≤ length (now result) ⌝ }
     ensures { λ r. ⌜ (r ≡ false → (n ≤ longestTerm) × (closes ≡ true → among (take n (now (result .entry))) nameCount ≡ false)) ⌝ }

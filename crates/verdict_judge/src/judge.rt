@@ -53,7 +53,8 @@ fn clear(work: &mut [u8], n: usize)
     }
 }
 
-// The verdict on an accepted question of edition one. The tallies of the bodies, the lister's tables and the lists of the two sides serve exploration and passes.
+// The verdict on an accepted question of edition one. The tallies of the bodies, the lister's tables and the lists of the two sides serve exploration
+// and passes.
 fn decide(question: &[u8], capacity: usize, work: &mut [u8], manner: Manner) -> Judged
     requires { ⌜ (1 ≤ capacity) × (capacity ≤ greatestCapacity) × (slotBytes * capacity ≤ length (now work)) × BodiesTidied (now question) ⌝ }
     ensures { λ r. ⌜ DecidesIs (mannerOf manner) (now (question .entry)) capacity (now (work .entry)) r (now (work .exit)) ⌝ }

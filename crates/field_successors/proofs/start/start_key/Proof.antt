@@ -78,7 +78,22 @@ complete-requires c κs = search needs
 
 -- src/start.rt:62:1
 returns : tie.Need-returns
-returns c = start-is (c .before .before .before .before .before .before .before .before .before .before .before .before .before .before .before .before .before .before .before .before .args .question .now) _ _ _ (c .before .before .before .before .before .before .before .before .before .before .before .before .before .before .before .before .before .field-place .ensures ∙ ap (fieldPlace (c .before .before .before .before .before .before .before .before .before .before .before .before .before .before .before .before .before .before .before .before .args .question .now)) (c .before .before .before .before .before .before .before .before .before .before .before .before .before .before .before .before .before .before .definitions .ensures .0)) (c .before .before .before .before .before .before .before .before .before .before .before .before .before .before .before .before .after-field .ensures) (c .before .before .before .before .before .before .after-field2 .ensures) _ _ _ _ (c .before .before .before .before .before .before .before .before .before .before .before .before .before .before .field-at .ensures) (c .before .before .before .before .before .before .before .before .before .before .field-at2 .ensures) (c .before .before .before .before .before .field-at3 .ensures) (c .before .before .before .before .before .before .before .before .before .before .before .before .before .before .before .arities .ensures) _ _ _ _ _ (c .before .before .before .before .before .before .before .before .before .before .before .before .put-part .ensures) (c .before .before .before .before .before .before .before .before .put-part2 .ensures) (c .before .before .before .before .start-pairs .ensures) (c .before .complete .ensures)
+returns c =
+    let c4 = c .before .before .before .before in
+    let c5 = c4 .before in
+    let c6 = c5 .before in
+    let c8 = c6 .before .before in
+    let c10 = c8 .before .before in
+    let c12 = c10 .before .before in
+    let c14 = c12 .before .before in
+    let c15 = c14 .before in
+    let c16 = c15 .before in
+    let c17 = c16 .before in
+    let c18 = c17 .before in
+    let c20 = c18 .before .before in
+    start-is (c20 .args .question .now) _ _ _ (c17 .field-place .ensures ∙ ap (fieldPlace (c20 .args .question .now)) (c18 .definitions .ensures .0))
+    (c16 .after-field .ensures) (c6 .after-field2 .ensures) _ _ _ _ (c14 .field-at .ensures) (c10 .field-at2 .ensures) (c5 .field-at3 .ensures)
+    (c15 .arities .ensures) _ _ _ _ _ (c12 .put-part .ensures) (c8 .put-part2 .ensures) (c4 .start-pairs .ensures) (c .before .complete .ensures)
 
 pub start-key-spec : {M : Type 1} → statement M
 start-key-spec =

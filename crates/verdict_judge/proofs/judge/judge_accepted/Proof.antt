@@ -23,7 +23,9 @@ has-tidied-bodies-requires c κs = search needs
 
 -- src/judge.rt:118:9
 judge-tidied-requires : tie.Need-judge-tidied-requires
-judge-tidied-requires c κs = (c .before .before .before .before .before .pre .0, c .before .before .before .before .before .pre .1, c .before .before .before .before .before .pre .2, c .before .before .has-tidied-bodies .ensures (c .before .if1 .taken))
+judge-tidied-requires c κs =
+    let c5 = c .before .before .before .before .before in
+    (c5 .pre .0, c5 .pre .1, c5 .pre .2, c .before .before .has-tidied-bodies .ensures (c .before .if1 .taken))
 
 -- src/judge.rt:118:9
 same-length : tie.Need-same-length
@@ -40,21 +42,30 @@ slice-aggregate-tidy-bodies c = search needs
 -- src/judge.rt:121:9
 tidy-bodies-requires : tie.Need-tidy-bodies-requires
 unfolding Plain checkOf
-tidy-bodies-requires c κs = record { accepted = c .before .before .before .before .before .pre .3; room = omega (arith, accepted-length-in one (c .before .before .before .before .before .args .question .now) (c .before .before .before .before .before .pre .3 .0) (c .before .before .before .before .before .pre .3 .1)) }
+tidy-bodies-requires c κs =
+    let c5 = c .before .before .before .before .before in
+    record { accepted = c5 .pre .3; room = omega (arith, accepted-length-in one (c5 .args .question .now) (c5 .pre .3 .0) (c5 .pre .3 .1)) }
 
 -- src/judge.rt:122:18
 array-share-prefix-tidied : tie.Need-array-share-prefix-tidied
 unfolding Plain
-array-share-prefix-tidied c = omega (arith, tidied-fits _ (c .before .before .before .before .before .before .before .pre .3 .0) (c .before .before .before .before .before .before .before .pre .3 .1) _ _ _ (c .before .tidy-bodies .ensures))
+array-share-prefix-tidied c =
+    let c7 = c .before .before .before .before .before .before .before in
+    omega (arith, tidied-fits _ (c7 .pre .3 .0) (c7 .pre .3 .1) _ _ _ (c .before .tidy-bodies .ensures))
 
 -- src/judge.rt:122:18
 slice-aggregate-judge-tidied : tie.Need-slice-aggregate-judge-tidied
 unfolding Plain
-slice-aggregate-judge-tidied c = sym (length-take-le _ _ (omega (arith, tidied-fits _ (c .before .before .before .before .before .before .before .before .pre .3 .0) (c .before .before .before .before .before .before .before .before .pre .3 .1) _ _ _ (c .before .before .tidy-bodies .ensures))))
+slice-aggregate-judge-tidied c =
+    let c8 = c .before .before .before .before .before .before .before .before in
+    sym (length-take-le _ _ (omega (arith, tidied-fits _ (c8 .pre .3 .0) (c8 .pre .3 .1) _ _ _ (c .before .before .tidy-bodies .ensures))))
 
 -- src/judge.rt:122:5
 judge-tidied-requires-2 : tie.Need-judge-tidied-requires-2
-judge-tidied-requires-2 c κs = (c .before .before .before .before .before .before .before .before .before .pre .0, c .before .before .before .before .before .before .before .before .before .pre .1, c .before .before .before .before .before .before .before .before .before .pre .2, bodies-are-tidied _ _ _ _ (c .before .before .before .before .before .before .before .before .before .pre .3) (c .before .before .before .tidy-bodies .ensures))
+judge-tidied-requires-2 c κs =
+    let c3 = c .before .before .before in
+    let c9 = c3 .before .before .before .before .before .before in
+    (c9 .pre .0, c9 .pre .1, c9 .pre .2, bodies-are-tidied _ _ _ _ (c9 .pre .3) (c3 .tidy-bodies .ensures))
 
 -- src/judge.rt:113:1
 same-length-2 : tie.Need-same-length-2
@@ -62,7 +73,9 @@ same-length-2 c = search needs
 
 -- src/judge.rt:113:1
 returns-2 : tie.Need-returns-2
-returns-2 c = judged-tidied _ _ _ _ _ (c .before .before .before .before .before .before .tidy-bodies .ensures) _ _ _ _ (c .before .before .judge-tidied2 .ensures)
+returns-2 c =
+    let c6 = c .before .before .before .before .before .before in
+    judged-tidied _ _ _ _ _ (c6 .tidy-bodies .ensures) _ _ _ _ (c .before .before .judge-tidied2 .ensures)
 
 pub judge-accepted-spec : {M : Type 1} → statement M
 judge-accepted-spec =
