@@ -10,8 +10,8 @@ use Prim.Native.Nat.{ℕ, zero, suc, _+_, _<_, _≤_}
 use lib.ListN.{length}
 use Rattle.calculus.specs.Cond.{Pairs}
 use Rattle.terms.specs.Question.{pairBytes}
-use Rattle.steps.specs.Lists.{_∈_, All}
-use Rattle.steps.proofs.Membership.{∈-left, ∈-right, ∈-either, ∈-map, ∈-mapped, ∈-all, all-∈, all-++, all-map}
+use Rattle.calculus.specs.Lists.{_∈_, All}
+use Rattle.calculus.proofs.Membership.{∈-left, ∈-right, ∈-either, ∈-map, ∈-mapped, ∈-all, all-∈, all-++, all-map}
 use Rattle.steps.proofs.ByteOrder.{Before}
 use Rattle.verdict.specs.Verdict.{Verdict, unsettled, same, different}
 use Rattle.fewest.specs.Choices.{Choice, empty, take-it, leave-it, choices, choicesFrom, allChoices}

@@ -8,8 +8,8 @@ use Prim.Native.Nat.{ℕ, zero, suc, _<_, _≤_, Ordering, Ordering·lt, Orderin
 use Rattle.calculus.specs.Cond.{Pairs}
 use Rattle.calculus.specs.Distinction.{keep}
 use Rattle.terms.specs.Question.{pairBytes}
-use Rattle.steps.specs.Lists.{_∈_, All}
-use Rattle.steps.proofs.Membership.{∈-all, ∈-either, ∈-mapped, all-++, all-map}
+use Rattle.calculus.specs.Lists.{_∈_, All}
+use Rattle.calculus.proofs.Membership.{∈-all, ∈-either, ∈-mapped, all-++, all-map}
 use Rattle.steps.proofs.ByteOrder.{Before, Says, ordered, before-irreflexive, before-trans}
 use Rattle.steps.specs.Listed.{namesFrom}
 use Rattle.steps.specs.Listing.{order}

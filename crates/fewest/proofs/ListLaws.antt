@@ -16,9 +16,9 @@ use Rattle.terms.specs.Question.{Question, editionOf, questionOf, pairBytes, wr
 use Rattle.terms.proofs.Answers.{Every}
 use Rattle.terms.proofs.OwnEdition.{own-well-formed, own-fits, written-accepted}
 use Rattle.terms.proofs.WellFormed.{WellFormed, PairAllowed}
-use Rattle.steps.specs.Lists.{_∈_}
+use Rattle.calculus.specs.Lists.{_∈_}
 use Rattle.steps.specs.Listed.{namesFrom}
-use Rattle.steps.proofs.Membership.{∈-either, ∈-mapped}
+use Rattle.calculus.proofs.Membership.{∈-either, ∈-mapped}
 use Rattle.field.specs.Situation.{pairsOf, allPairs}
 use Rattle.fewest.specs.Choices.{inOrder, underList}
 

@@ -5,8 +5,8 @@ use mathlib.Core.Path.{_≡_, refl, sym, _∙_, ap, ap₂}
 use Prim.Native.Nat.{ℕ, zero, suc}
 use Rattle.calculus.specs.Term.{Term}
 use Rattle.steps.specs.Listing.{Listing, unsettled, listed}
-use Rattle.steps.specs.Lists.{All}
-use Rattle.steps.proofs.Membership.{all-++}
+use Rattle.calculus.specs.Lists.{All}
+use Rattle.calculus.proofs.Membership.{all-++}
 use Rattle.field.specs.Setting.{Setting, stepsIn}
 use Rattle.field.specs.Situation.{Situation, newName}
 use Rattle.field.specs.Successors.{Outcome, pastLimit, leads, ledTo, withSteps, successors}

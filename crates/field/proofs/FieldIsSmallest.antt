@@ -6,8 +6,8 @@ use mathlib.Core.Path.{_≡_, refl}
 use native.Mathlib.Omega.{arith}
 use Prim.Native.Nat.{ℕ}
 use Rattle.calculus.specs.Definitions.{Defs}
-use Rattle.steps.specs.Lists.{_∈_, Distinct}
-use Rattle.steps.proofs.Membership.{all-imp}
+use Rattle.calculus.specs.Lists.{_∈_, Distinct}
+use Rattle.calculus.proofs.Membership.{all-imp}
 use Rattle.field.specs.Setting.{Setting}
 use Rattle.field.specs.Situation.{Situation}
 use Rattle.field.specs.Successors.{Outcome, pastLimit, leads, successors}

@@ -10,7 +10,7 @@ use Rattle.calculus.specs.Cond.{Pairs, cls}
 use Rattle.calculus.specs.Distinction.{Resp}
 use Rattle.calculus.specs.Definitions.{Defs}
 use Rattle.calculus.specs.OpenBisimulation.{update}
-use Rattle.steps.specs.Lists.{_∈_}
+use Rattle.calculus.specs.Lists.{_∈_}
 use Rattle.steps.proofs.Calls.{Opens}
 use Rattle.steps.proofs.FormLaws.{Form}
 use Rattle.steps.proofs.Scope.{CallsInScope}

@@ -5,7 +5,7 @@ use mathlib.Core.Path.{_≡_, refl}
 use native.Mathlib.Omega.{arith}
 use Prim.Native.Nat.{ℕ, zero, suc, _<_}
 use lib.ListN.{length, getD}
-use Rattle.steps.specs.Lists.{_∈_, Distinct}
+use Rattle.calculus.specs.Lists.{_∈_, Distinct}
 
 module _ {A : Type 0} where
   pub ∈-either : (x : A) (xs ys : List A) → x ∈ (xs ++ ys) → (x ∈ xs) ⊎ (x ∈ ys)

@@ -19,12 +19,12 @@ use Rattle.calculus.proofs.UpToRenaming.{Either, fn→either}
 use Rattle.terms.specs.Encoding.{InScope}
 use Rattle.terms.specs.Operations.{holdsApart}
 use Rattle.terms.proofs.ScopeLaws.{free-below}
-use Rattle.steps.specs.Lists.{All, Distinct}
+use Rattle.calculus.specs.Lists.{All, Distinct}
 use Rattle.steps.specs.Derived.{Derived, TooMany, TooLong}
 use Rattle.steps.specs.Listed.{ListedStep, namesFrom, classesOf, classIn, kindOf, channelOf, objectOf, listedAs, resultBytes}
 use Rattle.steps.proofs.ClassLists.{Within, class-list}
 use Rattle.steps.proofs.DerivedLaws.{transition-names}
-use Rattle.steps.proofs.Membership.{∈-map}
+use Rattle.calculus.proofs.Membership.{∈-map}
 use Rattle.steps.proofs.Scope.{scope-calls, in-scope}
 use Rattle.field.specs.Setting.{Setting}
 use Rattle.field.specs.Situation.{Situation, freeFrom, freeIn, pairsOf, situation, missing, newName, Proper}

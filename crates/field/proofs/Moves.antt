@@ -9,9 +9,9 @@ use Rattle.calculus.specs.Cond.{Pairs}
 use Rattle.calculus.specs.Term.{Term, ren, put}
 use Rattle.calculus.proofs.Binding.{put-self, put-other}
 use Rattle.calculus.proofs.Renaming.{ren-id}
-use Rattle.steps.specs.Lists.{_∈_}
+use Rattle.calculus.specs.Lists.{_∈_}
 use Rattle.steps.specs.Listed.{ListedStep, classIn}
-use Rattle.steps.proofs.Membership.{∈-map, ∈-left, ∈-right}
+use Rattle.calculus.proofs.Membership.{∈-map, ∈-left, ∈-right}
 use Rattle.field.specs.Situation.{Situation}
 use Rattle.field.specs.Successors.{select, permitted, answers, updatedBy, allowed, received, led, joinAll, answersTo, movesOf, moves}
 use Rattle.field.proofs.Members.{map-∈, ∈-either}

@@ -10,7 +10,7 @@ use Rattle.calculus.specs.Free.{In}
 use Rattle.calculus.specs.Cond.{Cond}
 use Rattle.calculus.specs.Definitions.{Defs}
 use Rattle.calculus.specs.Published.{Action, silent, input, output, newOutput, boundNames}
-use Rattle.steps.specs.Lists.{_∈_}
+use Rattle.calculus.specs.Lists.{_∈_}
 use Rattle.steps.specs.Derived.{Derived}
 use Rattle.steps.specs.Listed.{ListedStep, kindOf, listedAs}
 use Rattle.field.specs.Setting.{Setting}

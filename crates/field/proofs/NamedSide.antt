@@ -19,7 +19,7 @@ use Rattle.calculus.proofs.Conditions.{E2, Unif-ext}
 use Rattle.late_early.proofs.ConcreteSteps.{Trivial, nil-trivial, concrete-transition, transition-concrete, transition-nil, action-id}
 use Rattle.terms.specs.Encoding.{InScope}
 use Rattle.terms.proofs.Answers.{true-both}
-use Rattle.steps.specs.Lists.{_∈_}
+use Rattle.calculus.specs.Lists.{_∈_}
 use Rattle.steps.specs.Derived.{Derived}
 use Rattle.steps.specs.Listed.{ListedStep, namesFrom, classesOf, classIn, ownClasses, kindOf, objectOf, listedAs}
 use Rattle.steps.proofs.ClassLists.{Within, unmatched, class-list, all-own}

@@ -15,8 +15,8 @@ use Rattle.calculus.specs.OpenBisimulation.{times, update}
 use Rattle.calculus.proofs.Distinctions.{apart-at, apart-sym, apart-map, of-apart-map, apart-left, apart-right, of-apart-++}
 use Rattle.calculus.proofs.UpToRenaming.{Either, either→fn, fn→either}
 use Rattle.terms.specs.Encoding.{InScope}
-use Rattle.steps.specs.Lists.{_∈_}
-use Rattle.steps.proofs.Membership.{∈-map}
+use Rattle.calculus.specs.Lists.{_∈_}
+use Rattle.calculus.proofs.Membership.{∈-map}
 use Rattle.steps.specs.Derived.{Derived}
 use Rattle.steps.specs.Listed.{ListedStep, classIn, kindOf, objectOf, listedAs}
 use Rattle.steps.proofs.ClassLists.{Within}

@@ -28,7 +28,7 @@ use Rattle.terms.proofs.Answers.{result-injective, both-true}
 use Rattle.terms.proofs.ApartLaws.{holds-apart, apart-holds}
 use Rattle.terms.proofs.EditionOne.{read-whole-first}
 use Rattle.terms.proofs.ScopeLaws.{free-below}
-use Rattle.steps.specs.Lists.{_∈_}
+use Rattle.calculus.specs.Lists.{_∈_}
 pub use Rattle.field.specs.Situation.{Proper}
 use Rattle.field.specs.Situation.{Situation, freeFrom, freeIn, pairsOf, situation, sameBytes, sameSituation}
 use Rattle.field.proofs.Selections.{∈-select, select-∈, select-same, keep-select}

@@ -9,7 +9,7 @@ use mathlib.Core.Logic.{_⊎_}
 use mathlib.Core.Path.{_≡_}
 use Prim.Native.Nat.{ℕ, _<_}
 use lib.ListN.{length}
-use Rattle.steps.specs.Lists.{_∈_, All, Distinct}
+use Rattle.calculus.specs.Lists.{_∈_, All, Distinct}
 use Rattle.field.specs.Setting.{Setting}
 use Rattle.field.specs.Situation.{Situation, sameSituation}
 use Rattle.field.specs.Successors.{pastLimit, leads, successors}

@@ -7,7 +7,7 @@ use native.Mathlib.Omega.{arith}
 use Prim.Native.Nat.{ℕ}
 use Rattle.calculus.specs.Cond.{Pairs}
 use Rattle.calculus.specs.Distinction.{keep}
-use Rattle.steps.specs.Lists.{_∈_}
+use Rattle.calculus.specs.Lists.{_∈_}
 use Rattle.field.specs.Successors.{select}
 
 module _ {A : Type 0} where

@@ -16,9 +16,9 @@ use Rattle.terms.specs.Encoding.{encode}
 use Rattle.steps.specs.Derived.{Derived}
 use Rattle.steps.specs.Forms.{asItIs}
 use Rattle.steps.specs.Listed.{ListedStep, listedAs, resultBytes}
-use Rattle.steps.specs.Lists.{All, Distinct}
+use Rattle.calculus.specs.Lists.{All, Distinct}
 use Rattle.steps.proofs.FormLaws.{Form, SoMoves, free-form}
-use Rattle.steps.proofs.Membership.{∈-map, ∈-all, all-∈, distinct-length}
+use Rattle.calculus.proofs.Membership.{∈-map, ∈-all, all-∈, distinct-length}
 use Rattle.field.specs.Field.{fresh, Move, Successor, first-moves, second-moves, both-do, both-receive, PartPast, too-many, too-long, no-name, Past, InField, at-start, successor, PastLimit, FieldSize}
 use Rattle.field.specs.Setting.{Setting}
 use Rattle.field.specs.Situation.{Situation, situation}

@@ -26,8 +26,8 @@ use Rattle.calculus.proofs.UpToRenaming.{Either}
 use Rattle.terms.specs.Encoding.{InScope}
 use Rattle.terms.proofs.Answers.{both-true, true-both}
 use Rattle.terms.proofs.ScopeLaws.{free-below}
-use Rattle.steps.specs.Lists.{_∈_}
-use Rattle.steps.proofs.Membership.{∈-left, ∈-right}
+use Rattle.calculus.specs.Lists.{_∈_}
+use Rattle.calculus.proofs.Membership.{∈-left, ∈-right}
 use Rattle.steps.proofs.Scope.{scope-calls, in-scope, calls-ren}
 use Rattle.steps.specs.Derived.{Derived, TooMany, TooLong, ListsExactly}
 use Rattle.steps.specs.Listed.{ListedStep, kindOf, objectOf, listedAs}

@@ -9,8 +9,8 @@ use Prim.Native.Nat.{ℕ}
 use borrow.Author.Tests.{eq-eqb}
 use Rattle.terms.specs.Encoding.{encode}
 use Rattle.terms.specs.Question.{pairBytes}
-use Rattle.steps.specs.Lists.{_∈_, All, Distinct}
-use Rattle.steps.proofs.Membership.{∈-left, ∈-right}
+use Rattle.calculus.specs.Lists.{_∈_, All, Distinct}
+use Rattle.calculus.proofs.Membership.{∈-left, ∈-right}
 use Rattle.field.specs.Situation.{Situation, sameBytes, sameSituation}
 use Rattle.field.specs.Exploration.{found, unseen, together}
 use Rattle.field.proofs.Members.{∈-either, distinct-++}

@@ -12,7 +12,7 @@ use Rattle.calculus.specs.Distinction.{Resp}
 use Rattle.calculus.specs.Definitions.{Defs}
 use Rattle.calculus.specs.Published.{Action, input, boundNames, renAction, Transition}
 use Rattle.calculus.specs.OpenBisimulation.{update}
-use Rattle.steps.specs.Lists.{_∈_, All, Distinct}
+use Rattle.calculus.specs.Lists.{_∈_, All, Distinct}
 use Rattle.steps.specs.Derived.{TooMany, TooLong}
 use Rattle.field.specs.Setting.{Setting}
 use Rattle.field.specs.Situation.{Situation, situation, newName}

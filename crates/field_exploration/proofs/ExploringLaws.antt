@@ -16,8 +16,8 @@ use Rattle.terms.specs.Limits.{nameCount}
 use Rattle.terms.specs.Question.{Question, checkOf}
 use Rattle.terms.proofs.WellFormed.{WellFormed, accepted-well-formed}
 use Rattle.steps_tallies.specs.Bodies.{AritiesIs}
-use Rattle.steps.specs.Lists.{_∈_, All}
-use Rattle.steps.proofs.Membership.{∈-all, all-∈, all-imp}
+use Rattle.calculus.specs.Lists.{_∈_, All}
+use Rattle.calculus.proofs.Membership.{∈-all, all-∈, all-imp}
 use Rattle.steps.proofs.QuestionDefinitions.{definitions}
 use Rattle.field_slots.specs.Chains.{LinkIs}
 use Rattle.field_slots.specs.Key.{slotWith}

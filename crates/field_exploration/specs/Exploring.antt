@@ -6,7 +6,7 @@ use Prim.Native.Nat.{ℕ, _*_, _<_, _≤_}
 use lib.ListN.{length, getD, drop}
 use Rattle.terms.specs.Answer.{result}
 use Rattle.terms.specs.Question.{Question, checkOf}
-use Rattle.steps.specs.Lists.{_∈_, All}
+use Rattle.calculus.specs.Lists.{_∈_, All}
 use Rattle.field_slots.specs.Chains.{Chained}
 use Rattle.field.specs.Exploration.{Row, Exploration, incomplete, explored, fieldOf}
 use Rattle.field_slots.specs.Noted.{notedCount, noteAt, SoleIn}

@@ -15,8 +15,8 @@ use Rattle.calculus.specs.Distinction.{among}
 use Rattle.calculus.proofs.Renaming.{map-++}
 use Rattle.terms.specs.Encoding.{InScope}
 use Rattle.terms.specs.Limits.{nameCount}
-use Rattle.steps.specs.Lists.{_∈_, All}
-use Rattle.steps.proofs.Membership.{∈-map, ∈-left, ∈-right, all-imp, all-++, all-∈, ∈-all}
+use Rattle.calculus.specs.Lists.{_∈_, All}
+use Rattle.calculus.proofs.Membership.{∈-map, ∈-left, ∈-right, all-imp, all-++, all-∈, ∈-all}
 use Rattle.steps.specs.Limits.{stepBytes}
 use Rattle.steps.specs.Listed.{ListedStep, namesFrom}
 use Rattle.field_slots.specs.Chains.{LinkIs, FindsIn}

@@ -9,7 +9,7 @@ use Prim.Native.Nat.{ℕ, zero, suc, _+_, _-_, _<_, _≤_}
 use lib.ListN.{length, getD, take, drop, length-append, length-drop, List·getD-append}
 use lib.Seq.{take-suc, drop-cons, drop-length, take-append-le, drop-append-le}
 use Rattle.calculus.proofs.Renaming.{map-++}
-use Rattle.steps.proofs.Membership.{∈-right, all-imp}
+use Rattle.calculus.proofs.Membership.{∈-right, all-imp}
 use native.Mathlib.Nat.{sub-zero}
 use Rattle.field.specs.Setting.{Setting}
 use Rattle.field.specs.Situation.{Situation, sameSituation}

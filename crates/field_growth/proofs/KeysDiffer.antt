@@ -17,8 +17,8 @@ use Rattle.terms.specs.Encoding.{encode, InScope}
 use Rattle.terms.specs.Limits.{nameCount, longestTerm}
 use Rattle.terms.specs.Operations.{holdsApart}
 use Rattle.terms.proofs.ApartLaws.{holds-apart, apart-holds}
-use Rattle.steps.specs.Lists.{_∈_, All}
-use Rattle.steps.proofs.Membership.{all-∈}
+use Rattle.calculus.specs.Lists.{_∈_, All}
+use Rattle.calculus.proofs.Membership.{all-∈}
 use Rattle.field.specs.Exploration.{found}
 pub use Rattle.field_successors.specs.Fits.{Fits}
 use Rattle.field_growth.specs.Holding.{SlotsHold}

@@ -13,7 +13,7 @@ use Rattle.calculus.specs.Free.{In}
 use Rattle.calculus.proofs.Renaming.{map-++}
 use Rattle.calculus.proofs.Selection.{among-in}
 use Rattle.terms.specs.Limits.{nameCount}
-use Rattle.steps.specs.Lists.{_∈_}
+use Rattle.calculus.specs.Lists.{_∈_}
 use Rattle.steps.specs.Listed.{ListedStep}
 use Rattle.field.specs.Exploration.{together}
 use Rattle.field.specs.Situation.{Situation, freeFrom}

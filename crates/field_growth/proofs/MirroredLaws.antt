@@ -11,7 +11,7 @@ use Rattle.calculus.specs.Cond.{Pairs, mapP}
 use Rattle.calculus.specs.OpenBisimulation.{times}
 use Rattle.calculus.specs.Term.{ren, put}
 use Rattle.terms.specs.Limits.{nameCount}
-use Rattle.steps.specs.Lists.{_∈_}
+use Rattle.calculus.specs.Lists.{_∈_}
 use Rattle.steps.specs.Listed.{ListedStep, namesFrom, classIn, implies, ownClasses}
 use Rattle.field_pairs.specs.Entry.{Rewritten, SameHeader}
 use Rattle.field.specs.Exploration.{together}

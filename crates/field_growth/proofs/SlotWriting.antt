@@ -7,7 +7,7 @@ use borrow.Author.Count.{below-more}
 use lib.ListN.{length, getD, take, drop, set, length-append, take-append-drop, List·getD-append}
 use lib.Seq.{sets, sets-eq, length-sets, length-take-le, drop-at, take-at, getD-at, drop-set-lt, take-set-le, take-add}
 use Rattle.terms_bytes.proofs.Stores.{getD-front}
-use Rattle.steps.proofs.Membership.{all-++}
+use Rattle.calculus.proofs.Membership.{all-++}
 use Rattle.steps_entries.proofs.Moves.{getD-before}
 use Rattle.field_slots.specs.Chains.{Chained, LinkIs}
 use Rattle.field_successors.specs.Fits.{Fits}

@@ -14,7 +14,7 @@ use Rattle.terms.specs.Answer.{result}
 use Rattle.terms.specs.Encoding.{InScope}
 use Rattle.terms.specs.Limits.{nameCount}
 use Rattle.steps.specs.Limits.{stepBytes, mostSteps}
-use Rattle.steps.specs.Lists.{_∈_, All}
+use Rattle.calculus.specs.Lists.{_∈_, All}
 use Rattle.steps.specs.Listed.{ListedStep}
 use Rattle.field_slots.specs.Chains.{Chained}
 use Rattle.field_pairs.specs.Entry.{EntryAt, Rewritten, SameHeader}

@@ -12,7 +12,7 @@ use borrow.Author.Tests.{eq-eqb, ne-eqb}
 use Rattle.calculus.specs.Distinction.{among}
 use Rattle.calculus.proofs.Selection.{in-among, among-in}
 use Rattle.terms.specs.Limits.{nameCount}
-use Rattle.steps.specs.Lists.{_∈_}
+use Rattle.calculus.specs.Lists.{_∈_}
 use Rattle.steps.specs.Listed.{ListedStep, namesFrom}
 use Rattle.field.specs.Situation.{freeFrom}
 use Rattle.field.specs.Successors.{select, received}

@@ -25,8 +25,8 @@ use Rattle.terms.proofs.ScopeLaws.{free-below}
 use Rattle.terms.proofs.WellFormed.{WellFormed, accepted-well-formed}
 use Rattle.steps.specs.Forms.{resultForm}
 use Rattle.steps.proofs.FormLaws.{Form, result-form, form-scope}
-use Rattle.steps.specs.Lists.{_∈_}
-use Rattle.steps.proofs.Membership.{∈-all}
+use Rattle.calculus.specs.Lists.{_∈_}
+use Rattle.calculus.proofs.Membership.{∈-all}
 use Rattle.steps.proofs.QuestionDefinitions.{definitions, bodies-in-scope, opens-one}
 use Rattle.steps.proofs.Scope.{CallsInScope, scope-calls}
 use Rattle.steps.specs.Derived.{Derived, ListsExactly}

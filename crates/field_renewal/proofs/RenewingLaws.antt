@@ -24,7 +24,7 @@ use Rattle.terms_bytes.proofs.NameTables.{represents-free}
 use Rattle.terms.proofs.RenamingKeeps.{length-ren}
 use Rattle.terms_bytes.proofs.Stores.{length-span, sets-append, sets-start}
 use Rattle.steps_tallies.specs.Bodies.{AritiesIs}
-use Rattle.steps.proofs.Membership.{all-map, all-∈, ∈-nth}
+use Rattle.calculus.proofs.Membership.{all-map, all-∈, ∈-nth}
 use Rattle.steps_entries.specs.Entries.{Sized, entryFrom, comesBefore}
 use Rattle.steps.specs.Limits.{stepBytes}
 use Rattle.steps.specs.Listed.{ListedStep, resultBytes, bytes}

@@ -6,7 +6,7 @@ use mathlib.Core.Path.{_≡_}
 use Prim.Native.Nat.{ℕ, _+_, _*_, _<_, _≤_}
 use lib.ListN.{length, getD, drop}
 use Rattle.terms_bytes.specs.FieldPlaces.{sizeAt}
-use Rattle.steps.specs.Lists.{_∈_, All}
+use Rattle.calculus.specs.Lists.{_∈_, All}
 use Rattle.field.specs.Situation.{Situation}
 use Rattle.field_pairs.specs.Slot.{slotBytes, noteByte}
 

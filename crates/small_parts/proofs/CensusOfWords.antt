@@ -19,7 +19,7 @@ use Rattle.terms.proofs.EncodeRead.{whole-read}
 use Rattle.terms.proofs.EditionOne.{encode-first}
 use Rattle.terms.proofs.ScopeLaws.{scope-from, free-below}
 use Rattle.terms.proofs.WellFormed.{PartAllowed, BodiesAllowed, well-formed-accepted}
-use Rattle.steps.specs.Lists.{_∈_, Distinct}
+use Rattle.calculus.specs.Lists.{_∈_, Distinct}
 use Rattle.steps.proofs.Scope.{scope-calls, in-scope}
 use Rattle.field.specs.Successors.{select}
 use Rattle.field.proofs.Selections.{∈-select, select-∈}

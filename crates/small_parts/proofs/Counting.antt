@@ -7,8 +7,8 @@ use Prim.Native.Nat.{ℕ, _+_, _*_}
 use native.Mathlib.Omega.{arith}
 use native.Mathlib.Nat.{suc-mul, zero-mul}
 use lib.ListN.{length, length-append, length-map}
-use Rattle.steps.specs.Lists.{_∈_, Distinct}
-use Rattle.steps.proofs.Membership.{∈-left, ∈-right, ∈-either, ∈-map, ∈-mapped, distinct-length}
+use Rattle.calculus.specs.Lists.{_∈_, Distinct}
+use Rattle.calculus.proofs.Membership.{∈-left, ∈-right, ∈-either, ∈-map, ∈-mapped, distinct-length}
 use Rattle.field.specs.Successors.{select}
 use Rattle.field.proofs.Members.{distinct-++}
 use Rattle.field.proofs.Selections.{select-∈}

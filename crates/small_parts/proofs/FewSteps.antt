@@ -15,13 +15,13 @@ use Rattle.terms.specs.Limits.{nameCount, longestTerm}
 use Rattle.terms.specs.Encoding.{encode}
 use Rattle.terms.specs.Question.{bodyOf}
 use Rattle.steps.specs.Forms.{resultForm}
-use Rattle.steps.specs.Lists.{All}
+use Rattle.calculus.specs.Lists.{All}
 use Rattle.steps.specs.Raw.{Candidate, step, blocked, matching, leftSteps, rightSteps, meet, communication, communications, restrictedAlone, outside, restrictedAction, restricted, visibleOf, silentOf, visibleCalls, silentCalls, visible, silent}
 use Rattle.steps.specs.Limits.{mostSteps}
 use Rattle.steps.specs.Listed.{ListedStep, listedAs, canonStep, resultBytes, bytes}
 use Rattle.steps.specs.Listing.{listed, order, insert, allFit, collect, limited, listing}
 use Rattle.steps.proofs.FormLaws.{Form, result-form}
-use Rattle.steps.proofs.Membership.{all-++, all-imp, all-map}
+use Rattle.calculus.proofs.Membership.{all-++, all-imp, all-map}
 use Rattle.field.specs.Setting.{settingOf, stepsIn}
 use Rattle.field.specs.Exploration.{found}
 use Rattle.small_parts.proofs.Size.{size, size-encode, some, size-ren, size-weak}

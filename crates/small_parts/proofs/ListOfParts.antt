@@ -12,9 +12,9 @@ use Rattle.calculus.specs.Term.{Term, nil, tau, inp, out, bout, mat, sum, par, 
 use Rattle.terms.specs.Encoding.{InScope}
 use Rattle.terms.specs.Grammar.{sequential, parallelOutermost}
 use Rattle.terms.proofs.Answers.{both-true}
-use Rattle.steps.specs.Lists.{_∈_}
+use Rattle.calculus.specs.Lists.{_∈_}
 use Rattle.steps.specs.Listed.{namesFrom}
-use Rattle.steps.proofs.Membership.{∈-map}
+use Rattle.calculus.proofs.Membership.{∈-map}
 use Rattle.small_parts.proofs.Counting.{joinAll, ∈-join, crossed, ∈-crossed}
 use Rattle.small_parts.proofs.Size.{size, some}
 

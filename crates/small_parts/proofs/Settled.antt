@@ -17,9 +17,9 @@ use Rattle.calculus.specs.Distinction.{among}
 use Rattle.terms.specs.Limits.{nameCount}
 use Rattle.terms.specs.Encoding.{encode}
 use Rattle.terms.specs.Question.{Question}
-use Rattle.steps.specs.Lists.{_∈_, All, Distinct}
+use Rattle.calculus.specs.Lists.{_∈_, All, Distinct}
 use Rattle.steps.specs.Listed.{ListedStep, namesFrom, classIn}
-use Rattle.steps.proofs.Membership.{all-++, all-imp, all-map, distinct-length}
+use Rattle.calculus.proofs.Membership.{all-++, all-imp, all-map, distinct-length}
 use Rattle.field.specs.Setting.{settingOf}
 use Rattle.field.proofs.Moves.{moves-open}
 use Rattle.field.specs.Situation.{Situation, freeIn, situation, startOf, missing, newName}

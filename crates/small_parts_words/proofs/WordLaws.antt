@@ -13,8 +13,8 @@ use Rattle.terms.specs.Answer.{Answer, refused, result}
 use Rattle.terms.specs.Encoding.{nameByte, encode, InScope}
 use Rattle.terms.specs.Edition.{one}
 use Rattle.terms.specs.Reading.{numbered, readWhole}
-use Rattle.steps.specs.Lists.{_∈_, All, Distinct}
-use Rattle.steps.proofs.Membership.{all-++, ∈-left, ∈-right, ∈-either, ∈-map, ∈-mapped, distinct-length}
+use Rattle.calculus.specs.Lists.{_∈_, All, Distinct}
+use Rattle.calculus.proofs.Membership.{all-++, ∈-left, ∈-right, ∈-either, ∈-map, ∈-mapped, distinct-length}
 use Rattle.field.proofs.Members.{distinct-++}
 use Rattle.small_parts.specs.Census.{freeNames, SmallPart}
 use Rattle.small_parts.proofs.CensusOfWords.{part-bytes, part-scope}

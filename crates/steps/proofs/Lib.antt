@@ -10,7 +10,6 @@ pub mod Limited
 pub mod ListedBytes
 pub mod ListedIffDerived
 pub mod ListingLaws
-pub mod Membership
 pub mod QuestionDefinitions
 pub mod RawComplete
 pub mod RawSound

@@ -1,6 +1,4 @@
 -- The steps of a part and their list, in reading order.
--- members of a list, from crate calculus
-pub mod Lists
 -- the most steps, and the bytes of one
 pub mod Limits
 -- the candidates of a term by Table 4.1

@@ -17,10 +17,10 @@ use Rattle.terms.specs.Limits.{nameCount, longestTerm}
 use Rattle.terms.specs.Question.{Question}
 use Rattle.terms.specs.Question.{bodyOf}
 use Rattle.steps.specs.Forms.{resultForm}
-use Rattle.steps.specs.Lists.{_∈_, Among}
+use Rattle.calculus.specs.Lists.{_∈_, Among}
 use Rattle.steps_tallies.specs.Candidates.{candidates}
 use Rattle.steps.specs.Raw.{Candidate, blocked, communication, communications, visible, silent}
-use Rattle.steps.proofs.Membership.{∈-left, ∈-right, ∈-map, ∈-mapped, take-map}
+use Rattle.calculus.proofs.Membership.{∈-left, ∈-right, ∈-map, ∈-mapped, take-map}
 use Rattle.steps_tallies.proofs.Numbering.{nth-by, not-met, length-communications, nth-communication}
 use Rattle.steps_passing.proofs.TwoSides.{sides-par}
 use Rattle.steps_splicing.specs.Collecting.{Found, PutIs, CollectIs}

@@ -445,7 +445,7 @@ fn take_same(
     requires { ⌜ CanPut (now question) (now bodies) (now part) (now tally) (now area) count × Inside (now part) (node .at) (node .depth) × (pair .left .kind ≤ 3) × (pair .right .kind ≤ 3) × (pair .left .channel ≡ pair .right .channel) × (node .number + pair .number ≤ mostNumbers + mostNumbers) ⌝ }
     ensures { λ r. ⌜ PairIs (now (question .entry)) (now (part .entry)) (node .at) (node .depth) (node .number) (pair .left) (pair .right) (pair .number) (node .x) (now (area .entry)) count r (now (area .exit)) ⌝ }
 {
-    let class = own_names(0);
+    let class = own_names();
     let met = Met {
         node,
         pair,

@@ -9,7 +9,7 @@ use lib.ListN.{length, getD, set, take, drop, length-append, length-drop, length
 use lib.Seq.{sets, length-sets, getD-set-same, getD-set-other, ext-getD, take-all, length-take-le}
 use Rattle.terms.specs.Limits.{longestTerm}
 use Rattle.terms_bytes.proofs.Stores.{span, length-span, getD-span}
-use Rattle.steps.specs.Lists.{All}
+use Rattle.calculus.specs.Lists.{All}
 use Rattle.steps.specs.Derived.{Ascending}
 use Rattle.steps_entries.specs.Entries.{entryFrom, placeAt, entryAt, isBefore, comesBefore, Alike, EntriesAscend, PlaceIs, stepAt, Indexed, InsertIs}
 use Rattle.steps.specs.Limits.{mostSteps, stepBytes}

@@ -17,12 +17,12 @@ use Rattle.terms.specs.Encoding.{nameByte, encode, InScope}
 use Rattle.terms.specs.Limits.{nameCount}
 use Rattle.steps_conditions.specs.Conditions.{MergedIs}
 use Rattle.steps_labels.specs.LabelWalk.{slotAt, HasSlots}
-use Rattle.steps.specs.Lists.{_∈_}
+use Rattle.calculus.specs.Lists.{_∈_}
 use Rattle.steps.specs.Raw.{Candidate, step, blocked, matching, visible, visibleOf}
 use Rattle.steps_conditions.specs.Slots.{slotOf, slotCount, HasSlotClasses, Below}
 use Rattle.steps_tallies.proofs.CandidateForms.{tag-at, only-mat}
 use Rattle.steps_tallies.proofs.FrontLaws.{behind}
-use Rattle.steps.proofs.Membership.{∈-map, ∈-mapped}
+use Rattle.calculus.proofs.Membership.{∈-map, ∈-mapped}
 use Rattle.steps_conditions.proofs.NameSlots.{slot-bound, slot-free}
 use Rattle.steps_placing.specs.Deciding.{decided}
 use Rattle.steps_equal_branches.specs.Same.{SameIs, ChainIs, chain, HoldsIs, SameBranchIs}

@@ -17,14 +17,14 @@ use Rattle.terms_bytes.proofs.Stores.{getD-front}
 use Rattle.steps_labels.specs.LabelWalk.{slotAt, HasSlots}
 use Rattle.steps_tallies.specs.Bodies.{AritiesIs}
 use Rattle.terms.specs.Question.{bodyOf}
-use Rattle.steps.specs.Lists.{_∈_, Among}
+use Rattle.calculus.specs.Lists.{_∈_, Among}
 use Rattle.steps.specs.Raw.{Candidate, matching, visible, visibleOf}
 use Rattle.steps_conditions.specs.Slots.{slotOf}
 use Rattle.steps_tallies.specs.Tally.{endAt, EndsInside, EndsTallied}
 use Rattle.steps_labels.proofs.ArgumentSlots.{slot-read}
 use Rattle.steps_tallies.proofs.CandidateForms.{tag, tag-at, only-mat}
 use Rattle.steps_tallies.proofs.FrontLaws.{stands, behind}
-use Rattle.steps.proofs.Membership.{∈-left, ∈-right, ∈-map, ∈-mapped}
+use Rattle.calculus.proofs.Membership.{∈-left, ∈-right, ∈-map, ∈-mapped}
 use Rattle.steps_passing.proofs.TwoSides.{at-left, at-right}
 use Rattle.steps_placing.specs.Deciding.{decided, Again}
 use Rattle.steps_equal_branches.specs.BranchRows.{isTrivial, isFailing, Piece, plus, match, branch, Pieces, Offers, behindPiece, RepeatedIs}

@@ -13,7 +13,7 @@ use Rattle.terms.specs.Encoding.{encode, InScope}
 use Rattle.terms.specs.Limits.{nameCount}
 use Rattle.terms.specs.Question.{Question, checkOf}
 use Rattle.steps_labels.specs.LabelWalk.{slotAt, HasSlots}
-use Rattle.steps.specs.Lists.{_∈_}
+use Rattle.calculus.specs.Lists.{_∈_}
 use Rattle.terms.specs.Question.{bodyOf}
 use Rattle.steps.specs.Raw.{Candidate, visible}
 use Rattle.steps_tallies.specs.Tally.{endAt}

@@ -9,7 +9,7 @@ use Rattle.calculus.specs.Term.{Term, ren}
 use Rattle.terms.specs.Encoding.{encode, InScope}
 use Rattle.terms.specs.Limits.{nameCount}
 use Rattle.steps_labels.specs.LabelWalk.{slotAt, HasSlots}
-use Rattle.steps.specs.Lists.{_∈_}
+use Rattle.calculus.specs.Lists.{_∈_}
 use Rattle.steps.specs.Raw.{Candidate, visible}
 use Rattle.steps_conditions.specs.Slots.{HasSlotClasses}
 use Rattle.steps_placing.specs.Deciding.{decided}

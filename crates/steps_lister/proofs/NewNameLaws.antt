@@ -27,10 +27,10 @@ use Rattle.terms.proofs.RenamingKeeps.{length-ren}
 use Rattle.terms.proofs.WellFormed.{accepted-well-formed}
 use Rattle.steps.specs.Forms.{resultForm}
 use Rattle.steps.proofs.FormLaws.{Form, result-form}
-use Rattle.steps.specs.Lists.{_∈_, Among, All}
+use Rattle.calculus.specs.Lists.{_∈_, Among, All}
 use Rattle.steps.specs.Raw.{Candidate, step, blocked}
 use Rattle.steps.proofs.Calls.{Opens}
-use Rattle.steps.proofs.Membership.{all-∈, all-imp, all-map, ∈-all, ∈-map, ∈-mapped}
+use Rattle.calculus.proofs.Membership.{all-∈, all-imp, all-map, ∈-all, ∈-map, ∈-mapped}
 use Rattle.steps.proofs.QuestionDefinitions.{definitions, bodies-in-scope, opens-one}
 use Rattle.steps.proofs.Scope.{CallsInScope, scope-calls}
 use Rattle.steps.specs.Limits.{mostSteps}

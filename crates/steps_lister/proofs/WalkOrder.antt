@@ -6,9 +6,9 @@ use mathlib.Core.Path.{_≡_, refl, sym, _∙_, ap₂, subst}
 use Prim.Native.Nat.{ℕ}
 use Rattle.calculus.specs.Term.{Term, nil, tau, inp, out, bout, mat, sum, par, res, call}
 use Rattle.steps.specs.Forms.{resultForm}
-use Rattle.steps.specs.Lists.{_∈_, Among, All}
+use Rattle.calculus.specs.Lists.{_∈_, Among, All}
 use Rattle.steps.specs.Raw.{Candidate, step, blocked, leftSteps, rightSteps, restricted, communications, visibleOf, silentOf, visible, silent}
-use Rattle.steps.proofs.Membership.{∈-left, ∈-right, ∈-either, ∈-map, ∈-mapped, within-either, within-map, all-map, all-∈, ∈-all}
+use Rattle.calculus.proofs.Membership.{∈-left, ∈-right, ∈-either, ∈-map, ∈-mapped, within-either, within-map, all-map, all-∈, ∈-all}
 use Rattle.steps.specs.Listed.{ListedStep, bytes}
 use Rattle.steps.specs.Listing.{collect}
 use Rattle.steps_walk.specs.Walking.{ownOf, walked}

@@ -10,9 +10,9 @@ use Rattle.terms.specs.Limits.{nameCount, longestTerm}
 use Rattle.terms.specs.Question.{Question}
 use Rattle.terms.specs.Question.{bodyOf}
 use Rattle.steps.specs.Forms.{resultForm}
-use Rattle.steps.specs.Lists.{_∈_, All}
+use Rattle.calculus.specs.Lists.{_∈_, All}
 use Rattle.steps.specs.Raw.{Candidate, step, blocked, visible, silent}
-use Rattle.steps.proofs.Membership.{∈-map, ∈-mapped, ∈-all, all-∈}
+use Rattle.calculus.proofs.Membership.{∈-map, ∈-mapped, ∈-all, all-∈}
 use Rattle.steps_entries.specs.Arranging.{ArrangeIs}
 use Rattle.steps_splicing.specs.Collecting.{Stands, Found, CollectIs}
 use Rattle.steps.specs.Limits.{mostSteps, stepBytes}

@@ -13,9 +13,9 @@ use Rattle.calculus.specs.Cond.{Cond}
 use Rattle.calculus.specs.Term.{Term}
 use Rattle.terms.specs.Limits.{nameCount, longestTerm}
 use Rattle.steps.specs.Forms.{resultForm}
-use Rattle.steps.specs.Lists.{_∈_, All}
+use Rattle.calculus.specs.Lists.{_∈_, All}
 use Rattle.steps.specs.Raw.{Candidate, step, blocked}
-use Rattle.steps.proofs.Membership.{all-∈, all-imp}
+use Rattle.calculus.proofs.Membership.{all-∈, all-imp}
 use Rattle.steps_splicing.specs.Collecting.{Stands, Found, PutInto, PutIs, CollectIs}
 use Rattle.steps_placing.specs.Deciding.{Again}
 use Rattle.steps_entries.specs.Entries.{InsertIs}

@@ -14,9 +14,9 @@ use Rattle.calculus.specs.Term.{Term, ren, _•_}
 use Rattle.calculus.proofs.Canonical.{canonical-~, canonical-cls, canonical-same}
 use Rattle.calculus.proofs.Conditions.{_~_, E2, ▷-all, ~-sym, mapP-~, Unif-++, Unif-left, Unif-right}
 use Rattle.steps.specs.Forms.{resultForm}
-use Rattle.steps.specs.Lists.{_∈_, Among}
+use Rattle.calculus.specs.Lists.{_∈_, Among}
 use Rattle.steps.specs.Raw.{Candidate, step, blocked, matching, leftSteps, rightSteps, meet, communication, leavesAlone, restrictedAlone, outside, restrictedAction, restricted}
-use Rattle.steps.proofs.Membership.{∈-left, ∈-right, ∈-either, ∈-map}
+use Rattle.calculus.proofs.Membership.{∈-left, ∈-right, ∈-either, ∈-map}
 use Rattle.steps_tallies.proofs.Numbering.{not-met}
 use Rattle.steps_tallies.proofs.Premises.{never}
 use Rattle.steps_splicing.specs.Contexts.{Frame, leftOf, rightOf, beneath, raised, restrictions, levelIn}

@@ -15,7 +15,7 @@ use Rattle.terms.specs.Question.{Question, bodyOf}
 use Rattle.terms_tidying.specs.Restrictions.{Unrestricted}
 use Rattle.steps.specs.Forms.{resultForm}
 use Rattle.steps.specs.Listed.{listedAs, canonStep, resultBytes}
-use Rattle.steps.specs.Lists.{All}
+use Rattle.calculus.specs.Lists.{All}
 use Rattle.steps.specs.Raw.{Candidate, step, blocked, visible, silent}
 use Rattle.steps_plans.specs.Plans.{receiving}
 use Rattle.steps_tallies.specs.Candidates.{candidates}

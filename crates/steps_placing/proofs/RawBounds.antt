@@ -16,9 +16,9 @@ use Rattle.terms.proofs.RenamingKeeps.{length-ren}
 use Rattle.terms_bytes.specs.Shape.{height}
 use Rattle.terms_bytes.proofs.Heights.{height-ren}
 use Rattle.terms_tidying.proofs.TidyCounts.{restrictions, restrictions-ren}
-use Rattle.steps.specs.Lists.{All}
+use Rattle.calculus.specs.Lists.{All}
 use Rattle.steps.specs.Raw.{Candidate, step, blocked, matching, leftSteps, rightSteps, meet, communication, communications, restrictedAlone, outside, restrictedAction, restricted, visibleOf, silentOf, visibleCalls, silentCalls, visible, silent}
-use Rattle.steps.proofs.Membership.{all-++, all-imp, all-map}
+use Rattle.calculus.proofs.Membership.{all-++, all-imp, all-map}
 
 -- The bytes of a term, whatever stands around it.
 abbrev pub size : Term → ℕ

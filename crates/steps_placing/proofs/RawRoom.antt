@@ -18,9 +18,9 @@ use Rattle.terms.specs.WellFormed.{Every, BodiesAllowed, WellFormed}
 use Rattle.terms_bytes.specs.Shape.{height}
 use Rattle.terms_tidying.specs.Tidying.{longestRaw}
 use Rattle.terms_tidying.proofs.TidyCounts.{restrictions, FewNames, few-restrictions, low}
-use Rattle.steps.specs.Lists.{All}
+use Rattle.calculus.specs.Lists.{All}
 use Rattle.steps.specs.Raw.{Candidate, step, blocked, visible, silent}
-use Rattle.steps.proofs.Membership.{all-imp}
+use Rattle.calculus.proofs.Membership.{all-imp}
 use Rattle.steps_tallies.specs.Candidates.{candidates}
 use Rattle.steps_placing.specs.Taking.{candidatesOf}
 use Rattle.steps_placing.proofs.ResultScope.{all-at, within}

@@ -5,7 +5,7 @@ use mathlib.Core.Path.{_≡_, refl, sym, _∙_, ap, subst}
 use Prim.Native.Nat.{ℕ}
 use Rattle.steps.specs.Forms.{resultForm}
 use Rattle.steps.specs.Raw.{Candidate, step, blocked}
-use Rattle.steps.specs.Lists.{_∈_}
+use Rattle.calculus.specs.Lists.{_∈_}
 use Rattle.steps_tallies.proofs.Premises.{never}
 use Rattle.steps_placing.specs.Deciding.{decided, Again}
 use Rattle.steps.specs.Listed.{ListedStep, canonStep}

@@ -17,7 +17,7 @@ use Rattle.terms.specs.Question.{Question, checkOf}
 use Rattle.terms.proofs.ScopeLaws.{free-below}
 use Rattle.terms.proofs.WellFormed.{accepted-well-formed}
 use Rattle.terms.specs.Question.{bodyOf}
-use Rattle.steps.specs.Lists.{All}
+use Rattle.calculus.specs.Lists.{All}
 use Rattle.steps.specs.Raw.{Candidate, step, blocked, silent}
 use Rattle.steps_tallies.proofs.Premises.{never}
 use Rattle.steps.proofs.QuestionDefinitions.{definitions, bodies-in-scope, opens-one}

@@ -24,7 +24,7 @@ use Rattle.terms_bytes.proofs.Stores.{sets-start}
 use Rattle.terms_tidying.specs.Tidying.{longestRaw, Tidied, TidiedIs}
 use Rattle.terms_tidying.specs.declared.tidy.Ends.{Ends}
 use Rattle.steps.specs.Forms.{asItIs}
-use Rattle.steps.specs.Lists.{All}
+use Rattle.calculus.specs.Lists.{All}
 use Rattle.steps.specs.Listed.{listedAs, canonStep}
 use Rattle.steps.specs.Raw.{Candidate, step, blocked, visible, silent}
 use Rattle.steps.proofs.Calls.{Opens}

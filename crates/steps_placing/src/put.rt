@@ -171,7 +171,7 @@ pub fn put_classed(
     let restricted = is_restricted(tally);
     let mut result = [0u8; LONGEST_TERM];
     if candidate.silently {
-        let own = own_names(0);
+        let own = own_names();
         let m = write_result(question, bodies, part, tally, candidate, &own, &mut result);
         if is_raw(restricted, m) {
             return put_tidied(question, bodies, part, tally, step, class, area, count);
@@ -213,7 +213,7 @@ pub fn put_placed(
     let restricted = is_restricted(tally);
     let mut result = [0u8; LONGEST_TERM];
     let n = write_placed(question, bodies, part, tally, place, candidate, &mut result);
-    let class = own_names(0);
+    let class = own_names();
     if is_raw(restricted, n) {
         let whole = Selection {
             silently: candidate.silently,

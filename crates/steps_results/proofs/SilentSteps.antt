@@ -10,11 +10,11 @@ use Rattle.calculus.specs.Cond.{Cond, mapP}
 use Rattle.calculus.specs.Definitions.{opened}
 use Rattle.calculus.specs.Term.{Term, nil, tau, inp, out, bout, mat, sum, par, res, call, ren}
 use Rattle.terms.specs.Question.{bodyOf}
-use Rattle.steps.specs.Lists.{All}
+use Rattle.calculus.specs.Lists.{All}
 use Rattle.steps_tallies.specs.Candidates.{candidates}
 use Rattle.steps_passing.specs.Passing.{Acts, PassIs, nothingSent}
 use Rattle.steps.specs.Raw.{Candidate, step, blocked, matching, leftSteps, rightSteps, communication, communications, restrictedAlone, outside, restrictedAction, restricted, visibleOf, silentOf, visibleCalls, silentCalls, silent}
-use Rattle.steps.proofs.Membership.{all-++, all-map}
+use Rattle.calculus.proofs.Membership.{all-++, all-map}
 use Rattle.steps_tallies.proofs.Premises.{meeting-of}
 
 abbrev Silent : Candidate → Type 0

@@ -15,11 +15,11 @@ use Rattle.calculus.specs.Term.{Term, par, res, ren}
 use Rattle.terms.specs.Limits.{nameCount}
 use Rattle.steps_conditions.specs.Labels.{inputOn, newOutputOn, actionOf, ActionBelow}
 use Rattle.steps.specs.Raw.{Candidate, step, blocked, matching, leftSteps, rightSteps, restrictedAlone, outside, restrictedAction, restricted, visible, visibleOf}
-use Rattle.steps.specs.Lists.{_∈_, Among}
+use Rattle.calculus.specs.Lists.{_∈_, Among}
 use Rattle.steps_conditions.specs.Slots.{slotOf}
 use Rattle.steps_conditions.specs.declared.action.Action.{Action}
 use Rattle.steps_conditions.specs.declared.action.Action.the-variants.{Silent, Output}
-use Rattle.steps.proofs.Membership.{∈-left, ∈-right, ∈-nth, take-map, within-either}
+use Rattle.calculus.proofs.Membership.{∈-left, ∈-right, ∈-nth, take-map, within-either}
 use Rattle.steps_conditions.proofs.NameSlots.{slot-inner}
 use Rattle.steps_tallies.proofs.Numbering.{nth-matching, nth-leftSteps, nth-rightSteps, nth-restricted}
 use Rattle.steps_conditions.proofs.SlotLaws.{slot-restricted, slot-outside}

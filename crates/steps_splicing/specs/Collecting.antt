@@ -5,7 +5,7 @@ use Prim.Native.Nat.{ℕ, _<_, _≤_}
 use lib.ListN.{length}
 use Rattle.terms.specs.Limits.{nameCount, longestTerm}
 use Rattle.steps.specs.Forms.{resultForm}
-use Rattle.steps.specs.Lists.{All}
+use Rattle.calculus.specs.Lists.{All}
 use Rattle.steps.specs.Raw.{Candidate}
 use Rattle.steps.specs.Derived.{Ascending}
 use Rattle.steps_entries.specs.Entries.{Sized, Indexed}

@@ -2,7 +2,7 @@
 use mathlib.Core.Path.{_≡_}
 use mathlib.Core.Bool.{Bool}
 use mathlib.Core.List.{List}
-use Prim.Native.Nat.{ℕ}
+use Prim.Native.Nat.{ℕ, _≤_}
 use lib.ListN.{getD}
 use Rattle.calculus.specs.Abstraction.{Act, tauA, inpA, outA, boutA}
 use Rattle.calculus.specs.Cond.{Cond, cls}
@@ -13,10 +13,15 @@ use Rattle.terms.specs.Question.{bodyOf}
 use Rattle.steps_tallies.specs.Candidates.{candidates}
 use Rattle.steps.specs.Forms.{asItIs}
 use Rattle.steps.specs.Raw.{step, blocked}
+use Rattle.steps_conditions.specs.Names.{mostBinders, OwnNames}
 use Rattle.steps_plans.specs.Plans.{Written}
 use Rattle.steps_splicing.specs.Contexts.{Frame, raised, Placed}
 use Rattle.steps.specs.Listed.{canonStep, resultBytes}
 use Rattle.steps_splicing.specs.ListedParts.{Lists}
+
+-- Each name stands for itself in the table, beneath however many binders.
+abbrev pub OwnTable : List ℕ → Type 0
+OwnTable names = (binders : ℕ) → binders ≤ mostBinders → OwnNames binders names
 
 -- [Open] did not apply on the way from the action α to the action β.
 unfoldable pub Unopened : Act → Act → Type 0

@@ -3,9 +3,8 @@ ghost use mathlib.Core.Path.{_≡_};
 ghost use Prim.Native.Nat.{_≤_};
 ghost use lib.ListN.{length};
 ghost use Rattle.terms.specs.Limits.{longestTerm};
-ghost use Rattle.steps_conditions.specs.Names.{mostBinders, OwnNames};
 ghost use Rattle.steps_splicing.specs.Locating.{HoleIs, MetResultIs};
-ghost use Rattle.steps_splicing.specs.PlacedResults.{PlacedResultIs};
+ghost use Rattle.steps_splicing.specs.PlacedResults.{OwnTable, PlacedResultIs};
 ghost use Rattle.steps_splicing.specs.Ready.{Tallied, Inside, FoundIn};
 use crate::locate::Located;
 use steps_passing::names::NAME_SLOTS;
@@ -38,11 +37,9 @@ struct Seam {
     put: usize,
 }
 
-// The table where each name stands for itself, the new one and those of so many binders among them. All places are filled, whatever their number: it is
-// a constant, and the loop takes a few instructions.
-pub fn own_names(binders: usize) -> [u8; NAME_SLOTS]
-    requires { ⌜ binders ≤ mostBinders ⌝ }
-    ensures { λ r. ⌜ OwnNames binders r ⌝ }
+// The table where each name stands for itself, the new one and those of all binders among them.
+pub fn own_names() -> [u8; NAME_SLOTS]
+    ensures { λ r. ⌜ OwnTable r ⌝ }
 {
     let mut names = [0u8; NAME_SLOTS];
     let mut i = 0;
@@ -77,7 +74,7 @@ pub fn write_placed(
         silently: candidate.silently,
         number: candidate.number,
     };
-    let mut names = own_names(depth);
+    let mut names = own_names();
     copy(part, 0, at, out, 0);
     let cursor = Cursor {
         at,
@@ -133,7 +130,7 @@ fn write_hole(
         silently: false,
         number: hole.number,
     };
-    let mut names = own_names(levels);
+    let mut names = own_names();
     let cursor = Cursor {
         at,
         binders: levels,

@@ -9,9 +9,9 @@ use Rattle.calculus.specs.Term.{Term, nil, tau, inp, out, bout, mat, sum, par, 
 use Rattle.calculus.specs.Tidy.{tidy}
 use Rattle.terms.specs.Question.{bodyOf}
 use Rattle.terms_tidying.specs.Restrictions.{Unrestricted}
-use Rattle.steps.specs.Lists.{All}
+use Rattle.calculus.specs.Lists.{All}
 use Rattle.steps.specs.Raw.{Candidate, step, blocked, matching, leftSteps, rightSteps, meet, communication, communications, visibleOf, silentOf, visibleCalls, silentCalls, visible, silent}
-use Rattle.steps.proofs.Membership.{all-++, all-map}
+use Rattle.calculus.proofs.Membership.{all-++, all-map}
 
 pub unrestricted-tidied : (P : Term) → Unrestricted P → tidy P ≡ P
 unfolding tidy

@@ -20,7 +20,7 @@ use Rattle.steps_conditions.specs.Names.{OwnNames}
 use Rattle.steps_tallies.specs.Candidates.{candidates}
 use Rattle.steps.specs.Raw.{Candidate, step, blocked, leftSteps, rightSteps, restrictedAlone, restrictedAction, restricted, visible, silent}
 use Rattle.steps_tallies.specs.Tally.{silentAt, TallyIs}
-use Rattle.steps.proofs.Membership.{take-map}
+use Rattle.calculus.proofs.Membership.{take-map}
 use Rattle.steps_tallies.proofs.Numbering.{nth-by}
 use Rattle.steps_splicing.specs.Collecting.{PutIs, CollectIs}
 use Rattle.steps_splicing.specs.Contexts.{Frame, leftOf, rightOf, beneath, raised, restrictions, Placed, levelIn}

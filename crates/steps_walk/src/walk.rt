@@ -114,7 +114,7 @@ fn take_row(
     }
     if row_opens(kind, object) {
         // No name is merged with another.
-        let class = own_names(0);
+        let class = own_names();
         let extruding = ActionBytes {
             kind: 3,
             channel,

@@ -21,8 +21,8 @@ use Rattle.terms_bytes.specs.Shape.{ownNames, binders, subterms, frontBytes, fi
 use Rattle.terms_bytes.specs.declared.shape.Shape.{Shape}
 use Rattle.terms_bytes.proofs.Shapes.{all-at, encodeAll, AllInScope, names-scope, subterms-scope, front-of, shape-binds, shape-parts, span-names, length-front, front-inside, at-most-two}
 use Rattle.terms_bytes.proofs.Stores.{span, length-span, getD-span}
-use Rattle.terms_tidying.specs.TidiedTerms.{Keeps, KeepsBytes, FrontOf, MetFrontIs, FollowIs, IsTidiedIs}
-use Rattle.terms_tidying.specs.declared.tidied.MetFront.{MetFront}
+use Rattle.terms_tidying.specs.TidiedTerms.{Keeps, KeepsBytes, FrontOf, NextFrontIs, FollowIs, IsTidiedIs}
+use Rattle.terms_tidying.specs.declared.tidied.NextFront.{NextFront}
 use Rattle.terms_tidying.specs.declared.tidied.Place.{Place}
 use Rattle.terms_tidying.proofs.UnusedWalk.{or-false, or-neither, among-append, among-bytes, among-parts, usedBy, none-short, first-byte, behind}
 
@@ -57,22 +57,22 @@ keeps-more s at n depth i u v w fit l a b =
     more : take (i + 1) (span s at n) ≡ take i (span s at n) ++ (getD s (at + i) 0 ∷ [])
     more = rw (add-one, take-suc (span s at n) i 0 (omega (arith, length-span s at n fit)), getD-span s at n i l)
 
--- The front by its first byte, and what was met of the names that the bytes have room for.
-pub front-none : (s : List ℕ) (at : ℕ) (arities : List ℕ) (depth : ℕ) (waits : List ℕ) (h : MetFront) → FrontOf 0 0 0 h
+-- The front by its first byte, and what was used of the names that the bytes have room for.
+pub front-none : (s : List ℕ) (at : ℕ) (arities : List ℕ) (depth : ℕ) (waits : List ℕ) (h : NextFront) → FrontOf 0 0 0 h
     → ((free d : ℕ) (P : Term) (rest : List ℕ) → InScope free arities d P → drop at s ≡ encode d P ++ rest → ⊥)
-    → MetFrontIs s at arities depth waits h waits
+    → NextFrontIs s at arities depth waits h waits
 front-none s at arities depth waits h of never = record {
   few = omega (arith, of .len);
   one = omega (arith, of .binds);
   is = λ free d P rest few scope e h. absurd (never free d P rest scope e);
 }
 
-front-met : (s : List ℕ) (at : ℕ) (arities : List ℕ) (depth : ℕ) (waits : List ℕ) (sh : Shape) (waits′ : List ℕ) (h : MetFront) → at < length s
+front-used : (s : List ℕ) (at : ℕ) (arities : List ℕ) (depth : ℕ) (waits : List ℕ) (sh : Shape) (waits′ : List ℕ) (h : NextFront) → at < length s
     → ShapeIs s at arities sh → FrontOf (sh .fixed + sh .names) (sh .binds) (sh .subterms) h
     → (at + (sh .fixed + sh .names) ≤ length s → KeepsBytes depth (span s (at + sh .fixed) (sh .names)) waits waits′)
-    → MetFrontIs s at arities depth waits h waits′
+    → NextFrontIs s at arities depth waits h waits′
 unfolding Keeps
-front-met s at arities depth waits sh waits′ h inside is of met = record {
+front-used s at arities depth waits sh waits′ h inside is of used = record {
   few = omega (arith, of .len, is .few);
   one = omega (arith, of .binds, is .one);
   is = λ free d P rest few scope e low.
@@ -80,7 +80,7 @@ front-met s at arities depth waits sh waits′ h inside is of met = record {
         of .len ∙ length-front s at arities sh is d P f rest e,
         of .binds ∙ shape-binds s at arities sh is d P f rest e,
         of .subterms ∙ shape-parts s at arities sh is d P f rest e,
-        λ l x t. met (front-inside s at arities sh is d P f rest e inside) l x
+        λ l x t. used (front-inside s at arities sh is d P f rest e inside) l x
             (λ i q. ap (λ (xs : List ℕ). among xs (128 + i)) (span-names s at arities sh is d P f rest e)
             ∙ among-bytes free d i few (omega arith) (ownNames P) (names-scope free arities d P scope) ∙ t i q),
       );
@@ -113,10 +113,10 @@ module _ (s : List ℕ) (at : ℕ) (arities : List ℕ) (inside : at < length s)
   pub call-none : length s < at + (2 + n) → (free d : ℕ) (P : Term) (rest : List ℕ) → InScope free arities d P → drop at s ≡ encode d P ++ rest → ⊥
   call-none short = none-short s at arities (record { fixed = 2; names = n; binds = 0; subterms = 0 }) call-shape inside short
 
-  pub call-met : (depth : ℕ) (waits waits′ : List ℕ) (h : MetFront) → FrontOf (2 + n) 0 0 h → KeepsBytes depth (span s (at + 2) n) waits waits′
-      → MetFrontIs s at arities depth waits h waits′
-  call-met depth waits waits′ h of met =
-      front-met s at arities depth waits (record { fixed = 2; names = n; binds = 0; subterms = 0 }) waits′ h inside call-shape of (λ fit. met)
+  pub call-used : (depth : ℕ) (waits waits′ : List ℕ) (h : NextFront) → FrontOf (2 + n) 0 0 h → KeepsBytes depth (span s (at + 2) n) waits waits′
+      → NextFrontIs s at arities depth waits h waits′
+  call-used depth waits waits′ h of used =
+      front-used s at arities depth waits (record { fixed = 2; names = n; binds = 0; subterms = 0 }) waits′ h inside call-shape of (λ fit. used)
 
 above : (t : ℕ) → ¬ (t ≡ 0) → ¬ (t ≡ 1) → ¬ (t ≡ 2) → 3 ≤ t
 above t a b c = omega arith
@@ -128,12 +128,12 @@ only-match : (t : ℕ) → 3 ≤ t → t ≤ 5 → ¬ (t ≡ 3) → ¬ (t ≡ 4)
 only-match t l h a b = omega arith
 
 -- A prefix, or what has no names.
-module _ (s : List ℕ) (at : ℕ) (arities : List ℕ) (depth : ℕ) (waits waits′ : List ℕ) (h : MetFront) (inside : at < length s) where
+module _ (s : List ℕ) (at : ℕ) (arities : List ℕ) (depth : ℕ) (waits waits′ : List ℕ) (h : NextFront) (inside : at < length s) where
   front-at : (t : ℕ) → getD s at 0 ≡ t → ¬ (t ≡ 9) → FrontOf (1 + namesBehind t) (bindersAt t) (subtermsAt t) h
-      → (at + (1 + namesBehind t) ≤ length s → KeepsBytes depth (span s (at + 1) (namesBehind t)) waits waits′) → MetFrontIs s at arities depth waits h waits′
+      → (at + (1 + namesBehind t) ≤ length s → KeepsBytes depth (span s (at + 1) (namesBehind t)) waits waits′) → NextFrontIs s at arities depth waits h waits′
   unfolding fixedAt namesAt bindersAt
-  front-at t e n of met =
-      front-met s at arities depth waits (record { fixed = 1; names = namesBehind t; binds = bindersAt t; subterms = subtermsAt t }) waits′ h inside
+  front-at t e n of used =
+      front-used s at arities depth waits (record { fixed = 1; names = namesBehind t; binds = bindersAt t; subterms = subtermsAt t }) waits′ h inside
       (record {
         fixed = rw (e, ne-eqb t 9 n);
         names = rw (e, ne-eqb t 9 n);
@@ -142,11 +142,11 @@ module _ (s : List ℕ) (at : ℕ) (arities : List ℕ) (depth : ℕ) (waits wai
         some = omega arith;
         few = omega (arith, all-at 2 (0 ∷ 0 ∷ 1 ∷ 2 ∷ 1 ∷ 2 ∷ 0 ∷ 0 ∷ 0 ∷ []) t refl);
         one = all-at 1 (0 ∷ 0 ∷ 1 ∷ 0 ∷ 1 ∷ 0 ∷ 0 ∷ 0 ∷ 1 ∷ []) t refl;
-      }) of met
+      }) of used
 
   pub front-one : (t : ℕ) → getD s at 0 ≡ t → ¬ (t ≡ 9) → namesBehind t ≡ 1 → FrontOf 2 (bindersAt t) (subtermsAt t) h → (x : ℕ) → x ≡ getD s (at + 1) 0
-      → KeepsBytes depth (x ∷ []) waits waits′ → MetFrontIs s at arities depth waits h waits′
-  front-one t e n z of x q met = front-at t e n (rw z of) (λ fit. rw (z, span-one s (at + 1) (omega (arith, z)), ← q) met)
+      → KeepsBytes depth (x ∷ []) waits waits′ → NextFrontIs s at arities depth waits h waits′
+  front-one t e n z of x q used = front-at t e n (rw z of) (λ fit. rw (z, span-one s (at + 1) (omega (arith, z)), ← q) used)
 
   module _ (x y : ℕ) (first : x ≡ getD s (at + 1) 0) (second : y ≡ getD s (at + 2) 0) (u : List ℕ) (a : KeepsBytes depth (x ∷ []) waits u)
       (b : KeepsBytes depth (y ∷ []) u waits′) where
@@ -156,21 +156,21 @@ module _ (s : List ℕ) (at : ℕ) (arities : List ℕ) (depth : ℕ) (waits wai
         keeps-then depth (λ k. among (x ∷ []) (128 + k)) (λ k. among (y ∷ []) (128 + k)) (λ k. among (x ∷ y ∷ []) (128 + k)) waits u waits′ a b
         (λ k q. let (g, r) = or-neither (eqb (128 + k) x) (eqb (128 + k) y || false) q in (or-false (eqb (128 + k) x) ∙ g, r))
 
-    front-two : (t : ℕ) → getD s at 0 ≡ t → ¬ (t ≡ 9) → namesBehind t ≡ 2 → FrontOf 3 (bindersAt t) (subtermsAt t) h → MetFrontIs s at arities depth waits h waits′
+    front-two : (t : ℕ) → getD s at 0 ≡ t → ¬ (t ≡ 9) → namesBehind t ≡ 2 → FrontOf 3 (bindersAt t) (subtermsAt t) h → NextFrontIs s at arities depth waits h waits′
     front-two t e n z of = front-at t e n (rw z of) (λ fit. rw (z, span-two s at (omega (arith, z)), ← first, ← second) both)
 
     -- an output or a match: no other byte is left
     pub front-last : (t : ℕ) → getD s at 0 ≡ t → ¬ (t ≡ 0) → ¬ (t ≡ 1) → ¬ (t ≡ 2) → ¬ (t ≡ 4) → ¬ (t ≡ 6) → ¬ (t ≡ 7) → ¬ (t ≡ 8) → ¬ (t ≡ 9) → t ≤ 9
-        → FrontOf 3 0 1 h → MetFrontIs s at arities depth waits h waits′
+        → FrontOf 3 0 1 h → NextFrontIs s at arities depth waits h waits′
     unfolding bindersAt subtermsAt
     front-last t e n0 n1 n2 n4 n6 n7 n8 n9 l of = go (eqb t 3) refl
       where
-        go : (q : Bool) → eqb t 3 ≡ q → MetFrontIs s at arities depth waits h waits′
+        go : (q : Bool) → eqb t 3 ≡ q → NextFrontIs s at arities depth waits h waits′
         go true q = front-two 3 (e ∙ eqb-true t 3 q) (λ z. omega arith) refl of
         go false q = front-two 5 (e ∙ only-match t (above t n0 n1 n2) (below t n6 n7 n8 n9 l) (eqb-false t 3 q) n4) (λ z. omega arith) refl of
 
-pub front-plain : (s : List ℕ) (at : ℕ) (arities : List ℕ) (depth : ℕ) (waits : List ℕ) (h : MetFront) → at < length s → (t : ℕ) → getD s at 0 ≡ t → ¬ (t ≡ 9)
-    → namesBehind t ≡ 0 → FrontOf 1 (bindersAt t) (subtermsAt t) h → MetFrontIs s at arities depth waits h waits
+pub front-plain : (s : List ℕ) (at : ℕ) (arities : List ℕ) (depth : ℕ) (waits : List ℕ) (h : NextFront) → at < length s → (t : ℕ) → getD s at 0 ≡ t → ¬ (t ≡ 9)
+    → namesBehind t ≡ 0 → FrontOf 1 (bindersAt t) (subtermsAt t) h → NextFrontIs s at arities depth waits h waits
 front-plain s at arities depth waits h inside t e n z of =
     front-at s at arities depth waits waits h inside t e n (rw z of) (λ fit. keeps-none depth (λ i. among (span s (at + 1) (namesBehind t)) (128 + i)) waits)
 
@@ -434,7 +434,7 @@ module _ (s arities : List ℕ) where
           ))
 
   module _ (at depth pending : ℕ) (depths waits : List ℕ) (inside : at < length s) (W : Walking at depth pending depths waits)
-      (h : MetFront) (waits₁ : List ℕ) (F : MetFrontIs s at arities depth waits h waits₁) (room : depth < length waits₁) (idle : ¬ (getD waits₁ depth 0 ≡ 1))
+      (h : NextFront) (waits₁ : List ℕ) (F : NextFrontIs s at arities depth waits h waits₁) (room : depth < length waits₁) (idle : ¬ (getD waits₁ depth 0 ≡ 1))
       (r : Place) (depths₁ : List ℕ) (N : FollowIs (h .subterms) (depth + h .binds) pending depths r depths₁) (fits : pending < length depths) where
     next : (free d : ℕ) (P : Term) → free ≤ tableNames → (w : WalksOn free d P at depth pending depths waits) (p : Ahead) (ps : List Ahead) → w .ahead ≡ p ∷ ps
         → WalksOn free d P (at + h .len) (r .depth) (r .pending) depths₁ (set waits₁ depth (cond (eqb (getD s at 0) 8) 1 0))

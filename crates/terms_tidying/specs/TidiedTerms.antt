@@ -10,10 +10,10 @@ use Rattle.calculus.specs.Tidy.{tidy}
 use Rattle.terms.specs.Encoding.{encode, InScope}
 use Rattle.terms_bytes.specs.NameTable.{tableNames}
 use Rattle.terms_bytes.specs.Shape.{ownNames, binders, subterms, frontBytes}
-use Rattle.terms_tidying.specs.declared.tidied.MetFront.{MetFront}
+use Rattle.terms_tidying.specs.declared.tidied.NextFront.{NextFront}
 use Rattle.terms_tidying.specs.declared.tidied.Place.{Place}
 
--- A restriction waits until its name is met: the list has 1 at as many as stand around it. Of the `depth` around a term only such are met as pass
+-- A restriction waits until its name is used: the list has 1 at as many as stand around it. Of the `depth` around a term only such are used as pass
 -- the test by their index, which counts outward.
 unfoldable pub Keeps : ℕ → (ℕ → Bool) → List ℕ → List ℕ → Type 0
 Keeps depth test waits waits′ = (l : ℕ) → getD waits l 0 ≡ 1 → ((i : ℕ) → 1 + i + l ≡ depth → test i ≡ false) → getD waits′ l 0 ≡ 1
@@ -22,13 +22,13 @@ Keeps depth test waits waits′ = (l : ℕ) → getD waits l 0 ≡ 1 → ((i : �
 abbrev pub KeepsBytes : ℕ → List ℕ → List ℕ → List ℕ → Type 0
 KeepsBytes depth bytes = Keeps depth (λ i. among bytes (128 + i))
 
-pub record FrontOf (n b k : ℕ) (h : MetFront) : Type 0 where
+pub record FrontOf (n b k : ℕ) (h : NextFront) : Type 0 where
   pub len : h .len ≡ n
   pub binds : h .binds ≡ b
   pub subterms : h .subterms ≡ k
 
 -- such as the front of a term names; no front has no length
-pub record MetFrontIs (s : List ℕ) (at : ℕ) (arities : List ℕ) (depth : ℕ) (waits : List ℕ) (h : MetFront) (waits′ : List ℕ) : Type 0 where
+pub record NextFrontIs (s : List ℕ) (at : ℕ) (arities : List ℕ) (depth : ℕ) (waits : List ℕ) (h : NextFront) (waits′ : List ℕ) : Type 0 where
   pub few : h .len < 512
   pub one : h .binds ≤ 1
   pub is : (free d : ℕ) (P : Term) (rest : List ℕ)

@@ -5,7 +5,7 @@ ghost use mathlib.Core.Path.{_≡_};
 ghost use Prim.Native.Nat.{_+_, _<_, _≤_};
 ghost use lib.Dec.{eqb};
 ghost use lib.ListN.{length, getD, take, drop};
-ghost use Rattle.terms_tidying.specs.TidiedTerms.{KeepsBytes, FrontOf, MetFrontIs, FollowIs, IsTidiedIs};
+ghost use Rattle.terms_tidying.specs.TidiedTerms.{KeepsBytes, FrontOf, NextFrontIs, FollowIs, IsTidiedIs};
 use crate::occurs::occurs;
 use terms_bytes::bytes::get;
 use terms_bytes::bytes::room;
@@ -21,8 +21,8 @@ use terms_bytes::tags::SILENT;
 // How many binders have a byte; no term of a question is longer.
 const BINDERS: usize = 128;
 
-// Meets the name `b` beneath `depth` binders: if a restriction's, that waits no more. An index counts outward, `waits` from outside.
-fn meet(b: u8, depth: usize, waits: &mut [u8])
+// Uses the name `b` beneath `depth` binders: if a restriction's, that waits no more. An index counts outward, `waits` from outside.
+fn use_name(b: u8, depth: usize, waits: &mut [u8])
     requires { ⌜ depth ≤ length (now waits) ⌝ }
     ensures { λ _. ⌜ KeepsBytes depth (b ∷ []) (now (waits .entry)) (now (waits .exit)) ⌝ }
 {
@@ -37,52 +37,52 @@ fn meet(b: u8, depth: usize, waits: &mut [u8])
 }
 
 // The same of `n` names.
-fn meet_names(src: &[u8], at: usize, n: usize, depth: usize, waits: &mut [u8])
+fn use_names(src: &[u8], at: usize, n: usize, depth: usize, waits: &mut [u8])
     requires { ⌜ (at + n ≤ length (now src)) × (depth ≤ length (now waits)) ⌝ }
     ensures { λ _. ⌜ KeepsBytes depth (take n (drop at (now (src .entry)))) (now (waits .entry)) (now (waits .exit)) ⌝ }
 {
     let mut i = 0;
     while i < n {
-        meet(src[at + i], depth, waits);
+        use_name(src[at + i], depth, waits);
         i += 1;
     }
 }
 
 // What the walk needs to know of a front: its length, binders and subterms.
-pub struct MetFront {
+pub struct NextFront {
     pub len: usize,
     pub binds: usize,
     pub subterms: usize,
 }
 
-fn front(len: usize, binds: usize, subterms: usize) -> MetFront
+fn front(len: usize, binds: usize, subterms: usize) -> NextFront
     ensures { λ r. ⌜ FrontOf len binds subterms r ⌝ }
 {
-    MetFront {
+    NextFront {
         len,
         binds,
         subterms,
     }
 }
 
-// The call at `at`, whose names are met.
-fn meet_call(src: &[u8], at: usize, arities: &[u8], depth: usize, waits: &mut [u8]) -> MetFront
+// The call at `at`, whose names are used.
+fn use_call(src: &[u8], at: usize, arities: &[u8], depth: usize, waits: &mut [u8]) -> NextFront
     requires { ⌜ (at < length (now src)) × (getD (now src) at 0 ≡ 9) × (depth ≤ length (now waits)) ⌝ }
-    ensures { λ r. ⌜ MetFrontIs (now (src .entry)) at (now (arities .entry)) depth (now (waits .entry)) r (now (waits .exit)) ⌝ }
+    ensures { λ r. ⌜ NextFrontIs (now (src .entry)) at (now (arities .entry)) depth (now (waits .entry)) r (now (waits .exit)) ⌝ }
 {
     let k = get(src, at + 1) as usize;
     let n = get(arities, k) as usize;
     if !room(src.len(), at, 2 + n) {
         return front(0, 0, 0);
     }
-    meet_names(src, at + 2, n, depth, waits);
+    use_names(src, at + 2, n, depth, waits);
     front(2 + n, 0, 0)
 }
 
-// The front of the term at `at`, whose names are met. The tests are its own: by `shape_at` the walk takes 1.4 times the instructions.
-fn meet_front(src: &[u8], at: usize, arities: &[u8], depth: usize, waits: &mut [u8]) -> MetFront
+// The front of the term at `at`, whose names are used. The tests are its own: by `shape_at` the walk takes 1.4 times the instructions.
+fn next_front(src: &[u8], at: usize, arities: &[u8], depth: usize, waits: &mut [u8]) -> NextFront
     requires { ⌜ (at < length (now src)) × (depth ≤ length (now waits)) ⌝ }
-    ensures { λ r. ⌜ MetFrontIs (now (src .entry)) at (now (arities .entry)) depth (now (waits .entry)) r (now (waits .exit)) ⌝ }
+    ensures { λ r. ⌜ NextFrontIs (now (src .entry)) at (now (arities .entry)) depth (now (waits .entry)) r (now (waits .exit)) ⌝ }
 {
     let t = get(src, at);
     if t == INACTION {
@@ -101,19 +101,19 @@ fn meet_front(src: &[u8], at: usize, arities: &[u8], depth: usize, waits: &mut [
         return front(1, 1, 1);
     }
     if t == CALL {
-        return meet_call(src, at, arities, depth, waits);
+        return use_call(src, at, arities, depth, waits);
     }
     if CALL < t {
         return front(0, 0, 0);
     }
-    meet(get(src, at + 1), depth, waits);
+    use_name(get(src, at + 1), depth, waits);
     if t == INPUT {
         return front(2, 1, 1);
     }
     if t == NEW_OUTPUT {
         return front(2, 1, 1);
     }
-    meet(get(src, at + 2), depth, waits);
+    use_name(get(src, at + 2), depth, waits);
     front(3, 0, 1)
 }
 
@@ -158,8 +158,8 @@ fn waiting(t: u8) -> u8
     0
 }
 
-// Whether each restriction of the term that `src` is meets its name. One that waits at the depth of a further front has come to its end.
-fn all_met(src: &[u8], arities: &[u8]) -> bool
+// Whether the name of each restriction of the term that `src` is is used. One that waits at the depth of a further front has come to its end.
+fn all_used(src: &[u8], arities: &[u8]) -> bool
     requires { ⌜ length (now src) ≤ 128 ⌝ }
     ensures { λ r. ⌜ IsTidiedIs (now (src .entry)) (now (arities .entry)) r ⌝ }
 {
@@ -172,7 +172,7 @@ fn all_met(src: &[u8], arities: &[u8]) -> bool
         if BINDERS <= depth {
             return false;
         }
-        let h = meet_front(src, at, arities, depth, &mut waits);
+        let h = next_front(src, at, arities, depth, &mut waits);
         let n = h.len;
         if n == 0 {
             return false;
@@ -199,5 +199,5 @@ pub fn is_tidied(src: &[u8], arities: &[u8]) -> bool
     if BINDERS < src.len() {
         return false;
     }
-    all_met(src, arities)
+    all_used(src, arities)
 }

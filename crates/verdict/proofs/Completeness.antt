@@ -14,7 +14,7 @@ use Rattle.calculus.specs.OpenBisimulation.{update, Related}
 use Rattle.calculus.proofs.Distinctions.{apart-at}
 use Rattle.calculus.proofs.PublishedBisimulation.{AwayFrom, bound-ren}
 use Rattle.calculus.proofs.Theorems.{related-sym, related-trans, related-answered}
-use Rattle.steps.specs.Lists.{_∈_}
+use Rattle.calculus.specs.Lists.{_∈_}
 use Rattle.steps.proofs.FormLaws.{Form, form-related}
 use Rattle.field.specs.Setting.{Setting}
 use Rattle.field.specs.Situation.{Situation, situation}

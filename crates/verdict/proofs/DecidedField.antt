@@ -9,7 +9,7 @@ use lib.ListN.{length, length-map}
 use Rattle.calculus.specs.Definitions.{Defs}
 use Rattle.calculus.specs.OpenBisimulation.{Related}
 use Rattle.calculus.specs.Term.{Term}
-use Rattle.steps.specs.Lists.{_∈_, Distinct}
+use Rattle.calculus.specs.Lists.{_∈_, Distinct}
 use Rattle.field.specs.Setting.{Setting}
 use Rattle.field.specs.Situation.{Situation}
 use Rattle.field.specs.Exploration.{found, Row, Exploration, incomplete, explored, fieldOf}

@@ -17,8 +17,8 @@ use Rattle.late_early.specs.LateEarly.{Kind, late, early, ReceivedAs, AnsweredA
 use Rattle.calculus.proofs.PublishedSteps.{named}
 use Rattle.late_early.proofs.ReceivedNames.{Offered, FoundAny, Found}
 use Rattle.terms.specs.Encoding.{InScope}
-use Rattle.steps.specs.Lists.{_∈_}
-use Rattle.steps.proofs.Membership.{∈-map}
+use Rattle.calculus.specs.Lists.{_∈_}
+use Rattle.calculus.proofs.Membership.{∈-map}
 use Rattle.steps.specs.Derived.{Derived}
 use Rattle.steps.proofs.FormLaws.{Form}
 use Rattle.steps.specs.Listed.{ListedStep, kindOf, objectOf, listedAs}

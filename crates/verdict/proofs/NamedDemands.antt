@@ -8,9 +8,9 @@ use Rattle.calculus.specs.Cond.{Pairs}
 use Rattle.calculus.specs.Definitions.{Defs}
 use Rattle.late_early.specs.LateEarly.{Kind, late, early}
 use Rattle.calculus.specs.Term.{Term}
-use Rattle.steps.specs.Lists.{_∈_}
+use Rattle.calculus.specs.Lists.{_∈_}
 use Rattle.steps.specs.Listed.{ListedStep}
-use Rattle.steps.proofs.Membership.{∈-map, ∈-left, ∈-right}
+use Rattle.calculus.proofs.Membership.{∈-map, ∈-left, ∈-right}
 use Rattle.field.specs.Setting.{Setting}
 use Rattle.field.specs.Situation.{Situation, freeIn}
 use Rattle.field.specs.Successors.{select, answers, allowed, received, led, answersTo, moves}

@@ -19,10 +19,10 @@ use Rattle.calculus.proofs.PublishedBisimulation.{AwayFrom}
 use Rattle.calculus.proofs.PublishedSteps.{named}
 use Rattle.late_early.proofs.ReceivedNames.{Offered, Found, FoundAnswers, found-bisimilar}
 use Rattle.calculus.proofs.UpToRenaming.{Either}
-use Rattle.steps.specs.Lists.{_∈_}
+use Rattle.calculus.specs.Lists.{_∈_}
 use Rattle.steps.specs.Listed.{ListedStep, kindOf, objectOf, listedAs}
 use Rattle.steps.proofs.FormLaws.{Form, form-free}
-use Rattle.steps.proofs.Membership.{∈-left, ∈-right}
+use Rattle.calculus.proofs.Membership.{∈-left, ∈-right}
 use Rattle.field.specs.Exploration.{Row}
 use Rattle.field.specs.Field.{fresh}
 use Rattle.field.specs.Setting.{Setting}

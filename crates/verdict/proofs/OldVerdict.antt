@@ -15,7 +15,7 @@ use Rattle.terms.specs.Question.{Question, editionOf, questionWith}
 use Rattle.terms.proofs.Answers.{result-injective, bind-result, bind-to}
 use Rattle.terms.proofs.MoreNames.{question-more}
 use Rattle.terms.proofs.WellFormed.{WellFormedWith, accepted-with}
-use Rattle.steps.proofs.Membership.{all-∈, distinct-length}
+use Rattle.calculus.proofs.Membership.{all-∈, distinct-length}
 use Rattle.steps.specs.Forms.{resultForm}
 use Rattle.steps.proofs.FormLaws.{result-form}
 use Rattle.steps.proofs.QuestionDefinitions.{definitions}

@@ -10,8 +10,8 @@ use lib.ListN.{length}
 use lib.Dec.{eqb}
 use borrow.Author.Tests.{eqb-true, eqb-false}
 use Rattle.terms.proofs.Answers.{both-true}
-use Rattle.steps.specs.Lists.{_∈_, Distinct}
-use Rattle.steps.proofs.Membership.{∈-map, ∈-all}
+use Rattle.calculus.specs.Lists.{_∈_, Distinct}
+use Rattle.calculus.proofs.Membership.{∈-map, ∈-all}
 use Rattle.field.specs.Situation.{Situation, sameSituation}
 use Rattle.field.specs.Successors.{select}
 use Rattle.field.specs.Exploration.{found, Row}

@@ -7,8 +7,8 @@ use Rattle.calculus.specs.Term.{Term}
 use Rattle.calculus.specs.Cond.{Pairs}
 use Rattle.calculus.specs.Definitions.{Defs}
 use Rattle.calculus.specs.OpenBisimulation.{Related}
-use Rattle.steps.specs.Lists.{_∈_}
-use Rattle.steps.proofs.Membership.{∈-map}
+use Rattle.calculus.specs.Lists.{_∈_}
+use Rattle.calculus.proofs.Membership.{∈-map}
 use Rattle.steps.proofs.FormLaws.{Form}
 use Rattle.field.specs.Setting.{Setting}
 use Rattle.field.specs.Situation.{Situation, Proper}

@@ -15,7 +15,7 @@ use Rattle.terms.specs.Limits.{nameCount}
 use Rattle.terms.specs.Question.{Question, bodyOf}
 use Rattle.terms.proofs.WellFormed.{WellFormed}
 use Rattle.steps.specs.Listing.{Listing, unsettled, listed}
-use Rattle.steps.specs.Lists.{_∈_}
+use Rattle.calculus.specs.Lists.{_∈_}
 use Rattle.steps.proofs.FormLaws.{tidied-form}
 use Rattle.steps.proofs.QuestionDefinitions.{definitions}
 use Rattle.steps.proofs.TidiedQuestions.{TidiedAlike, bodiesTidied, allTidied, bodies-alike, all-alike, bodies-well, all-well, bodies-over}

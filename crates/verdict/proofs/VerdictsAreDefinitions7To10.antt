@@ -17,9 +17,9 @@ use Rattle.terms.specs.Limits.{nameCount}
 use Rattle.terms.specs.Question.{Question, questionOf}
 use Rattle.terms.proofs.OwnEdition.{own-well-formed}
 use Rattle.terms.proofs.WellFormed.{WellFormed}
-use Rattle.steps.specs.Lists.{_∈_}
+use Rattle.calculus.specs.Lists.{_∈_}
 use Rattle.steps.proofs.FormLaws.{Form, result-form}
-use Rattle.steps.proofs.Membership.{distinct-length}
+use Rattle.calculus.proofs.Membership.{distinct-length}
 use Rattle.field.specs.Exploration.{Row, fieldOf}
 use Rattle.field.specs.Field.{PastLimit, FieldSize}
 use Rattle.field.specs.Setting.{Setting, settingIn, settingOf}

@@ -4,7 +4,7 @@ use mathlib.Core.Path.{_≡_, refl, sym, ap, subst}
 use native.Mathlib.Omega.{arith}
 use Prim.Native.Nat.{ℕ, zero, suc, _<_}
 use lib.ListN.{length, getD}
-use Rattle.steps.specs.Lists.{_∈_, Distinct}
+use Rattle.calculus.specs.Lists.{_∈_, Distinct}
 use Rattle.field.proofs.Members.{getD-∈}
 
 module _ {A : Type 0} where

@@ -3,7 +3,7 @@ use mathlib.Core.Path.{_≡_, sym, subst}
 use mathlib.Core.Bool.{true, false}
 use mathlib.Core.List.{List}
 use mathlib.Core.Logic.{_⊎_, ⊎-elim, _↔_}
-use Rattle.steps.specs.Lists.{_∈_, Distinct}
+use Rattle.calculus.specs.Lists.{_∈_, Distinct}
 use Rattle.field.specs.Situation.{Situation, sameSituation}
 use Rattle.field.specs.Exploration.{found, Row}
 use Rattle.field.proofs.Run.{selves}

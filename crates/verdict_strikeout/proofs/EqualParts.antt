@@ -23,7 +23,7 @@ use Rattle.terms.specs.Limits.{nameCount}
 use Rattle.terms.specs.Question.{Question, checkOf}
 use Rattle.steps.specs.Derived.{Derived}
 use Rattle.steps.specs.Listed.{ListedStep}
-use Rattle.steps.specs.Lists.{_∈_}
+use Rattle.calculus.specs.Lists.{_∈_}
 use Rattle.field.specs.Field.{fresh, Move, Matches}
 use Rattle.field.specs.Exploration.{found}
 use Rattle.field.specs.Setting.{Setting, settingOf, stepsIn}

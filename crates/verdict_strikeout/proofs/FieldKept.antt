@@ -8,8 +8,8 @@ use Prim.Native.Nat.{ℕ, _+_, _-_, _*_, _<_, _≤_}
 use lib.ListN.{length, getD, set}
 use lib.Seq.{getD-set-other}
 use borrow.Author.Tests.{eq-eqb, ne-eqb}
-use Rattle.steps.specs.Lists.{_∈_}
-use Rattle.steps.proofs.Membership.{all-∈}
+use Rattle.calculus.specs.Lists.{_∈_}
+use Rattle.calculus.proofs.Membership.{all-∈}
 use Rattle.field_slots.specs.Key.{keyAt}
 use Rattle.field_slots.specs.Noted.{notedCount, noteAt, SpareOnly, SoleIn}
 use Rattle.field.specs.Exploration.{found}

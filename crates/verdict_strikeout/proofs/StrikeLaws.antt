@@ -10,8 +10,8 @@ use lib.ListN.{length, getD, set, drop, replicate, length-set, length-map, lengt
 use lib.Seq.{drop-set-lt, getD-set-other, ext-getD}
 use borrow.Author.Tests.{eqb-false}
 use Rattle.calculus.specs.Term.{nil}
-use Rattle.steps.specs.Lists.{_∈_}
-use Rattle.steps.proofs.Membership.{all-imp}
+use Rattle.calculus.specs.Lists.{_∈_}
+use Rattle.calculus.proofs.Membership.{all-imp}
 use Rattle.field.specs.Exploration.{found, Row}
 use Rattle.field_growth.specs.Holding.{unanswered}
 use Rattle.field_exploration.specs.Exploring.{StruckFirst}

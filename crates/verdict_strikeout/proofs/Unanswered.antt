@@ -11,8 +11,8 @@ use lib.Dec.{eqb}
 use lib.ListN.{length, getD, set, replicate, length-map, length-set, length-replicate, getD-replicate, List·getD-map}
 use lib.Seq.{getD-set-same, getD-set-other}
 use borrow.Author.Tests.{eq-eqb, ne-eqb}
-use Rattle.steps.specs.Lists.{_∈_, All}
-use Rattle.steps.proofs.Membership.{all-∈}
+use Rattle.calculus.specs.Lists.{_∈_, All}
+use Rattle.calculus.proofs.Membership.{all-∈}
 use Rattle.field.specs.Exploration.{found, Row}
 use Rattle.field.specs.Situation.{Situation, sameSituation}
 use Rattle.field.proofs.Members.{getD-∈, getD-within}

@@ -18,10 +18,10 @@ use Rattle.terms.specs.Answer.{result}
 use Rattle.terms.specs.Limits.{nameCount}
 use Rattle.terms.specs.Question.{Question, checkOf}
 use Rattle.terms.proofs.WellFormed.{WellFormed, accepted-well-formed}
-use Rattle.steps.specs.Lists.{_∈_}
+use Rattle.calculus.specs.Lists.{_∈_}
 use Rattle.steps.specs.Derived.{Derived}
 use Rattle.steps.specs.Listed.{ListedStep, kindOf, objectOf, listedAs}
-use Rattle.steps.proofs.Membership.{∈-map, ∈-left, ∈-right}
+use Rattle.calculus.proofs.Membership.{∈-map, ∈-left, ∈-right}
 use Rattle.steps.proofs.QuestionDefinitions.{definitions}
 use Rattle.field.specs.Field.{fresh}
 use Rattle.field.specs.Setting.{Setting, settingOf}

@@ -7,8 +7,8 @@ use Prim.Native.Nat.{ℕ, _<_}
 use lib.Dec.{eqb}
 use lib.ListN.{length, getD, take}
 use borrow.Author.Tests.{eqb-true, eqb-false}
-use Rattle.steps.specs.Lists.{_∈_}
-use Rattle.steps.proofs.Membership.{∈-all}
+use Rattle.calculus.specs.Lists.{_∈_}
+use Rattle.calculus.proofs.Membership.{∈-all}
 use Rattle.field_slots.specs.Chains.{Chained, FindsIn}
 use Rattle.field.specs.Exploration.{found}
 use Rattle.field_slots.specs.Key.{keyAt, FoundIs}

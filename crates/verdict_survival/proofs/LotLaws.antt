@@ -15,8 +15,8 @@ use Rattle.calculus.specs.Distinction.{among}
 use Rattle.calculus.specs.Term.{Term}
 use Rattle.calculus.proofs.Selection.{among-in}
 use Rattle.terms.specs.Limits.{nameCount}
-use Rattle.steps.specs.Lists.{_∈_}
-use Rattle.steps.proofs.Membership.{∈-map}
+use Rattle.calculus.specs.Lists.{_∈_}
+use Rattle.calculus.proofs.Membership.{∈-map}
 use Rattle.steps.specs.Listed.{ListedStep, namesFrom}
 use Rattle.field.specs.Exploration.{found}
 use Rattle.field.specs.Situation.{Situation, freeFrom}

@@ -13,8 +13,8 @@ use Rattle.calculus.proofs.Selection.{among-in, in-among}
 use Rattle.late_early.specs.LateEarly.{late, early}
 use Rattle.terms.specs.Limits.{nameCount}
 use Rattle.terms.proofs.Answers.{both-true, true-both}
-use Rattle.steps.specs.Lists.{_∈_}
-use Rattle.steps.proofs.Membership.{∈-map}
+use Rattle.calculus.specs.Lists.{_∈_}
+use Rattle.calculus.proofs.Membership.{∈-map}
 use Rattle.steps.specs.Listed.{ListedStep, namesFrom}
 use Rattle.field.specs.Situation.{Situation, freeFrom}
 use Rattle.field.specs.Successors.{select, permitted, answers, allowed, received, led}

@@ -10,8 +10,8 @@ use lib.ListN.{getD}
 use Rattle.calculus.specs.Term.{nil}
 use Rattle.terms.specs.Limits.{nameCount}
 use Rattle.terms.proofs.Answers.{both-true}
-use Rattle.steps.specs.Lists.{_∈_}
-use Rattle.steps.proofs.Membership.{∈-map}
+use Rattle.calculus.specs.Lists.{_∈_}
+use Rattle.calculus.proofs.Membership.{∈-map}
 use Rattle.steps.specs.Limits.{stepBytes}
 use Rattle.steps.specs.Listed.{ListedStep}
 use Rattle.field.specs.Situation.{Situation, freeFrom}

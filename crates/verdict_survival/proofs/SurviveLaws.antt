@@ -12,8 +12,8 @@ use Rattle.steps_tallies.specs.Bodies.{AritiesIs}
 use Rattle.terms.specs.Question.{Question}
 use Rattle.steps.specs.Listed.{ListedStep}
 use Rattle.steps.specs.Listing.{listed, stepsOf}
-use Rattle.steps.specs.Lists.{_∈_}
-use Rattle.steps.proofs.Membership.{∈-left, ∈-right, ∈-either}
+use Rattle.calculus.specs.Lists.{_∈_}
+use Rattle.calculus.proofs.Membership.{∈-left, ∈-right, ∈-either}
 use Rattle.field_successors.specs.Leading.{placed}
 use Rattle.field.specs.Setting.{settingOf, stepsIn}
 use Rattle.field.specs.Situation.{Situation, freeFrom, freeIn, newName}

@@ -5,7 +5,7 @@ use mathlib.Core.Path.{_≡_, refl, sym, ap, _∙_, subst}
 use native.Mathlib.Omega.{arith}
 use Prim.Native.Nat.{ℕ, _+_, _<_}
 use borrow.Author.Count.{below-more}
-use Rattle.steps.specs.Lists.{_∈_}
+use Rattle.calculus.specs.Lists.{_∈_}
 use Rattle.field.specs.Situation.{Situation}
 use Rattle.verdict.specs.Verdict.{allAnswered}
 use Rattle.verdict.proofs.Rounds.{true-not-false}

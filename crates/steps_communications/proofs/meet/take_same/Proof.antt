@@ -24,7 +24,7 @@ returns c =
     let v = c11 .args in
     pair-met (v .question .now) (v .part .now) (v .node .at) (v .node .depth) (v .node .number) (v .pair .left) (v .pair .right) (v .pair .number)
     (v .node .x) (v .area .now) (v .count) (c2 .take-met .result) _ (c11 .pre .2) (c11 .pre .3) (c11 .pre .4) (c5 .own-names .result)
-    (c5 .own-names .ensures) (c2 .take-met .ensures)
+    (c5 .own-names .ensures 0 (omega arith)) (c2 .take-met .ensures)
 
 pub take-same-spec : {M : Type 1} → statement M
 take-same-spec =

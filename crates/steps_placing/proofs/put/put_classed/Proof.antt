@@ -55,7 +55,7 @@ returns-2 c =
     classed-silent (a .question .now) (a .part .now) (c14 .is-restricted .result) (λ f. c23 .pre .0 .1 .3 .plain (c14 .is-restricted .ensures f))
     (a .step .candidate .silently) (a .step .candidate .number) (a .class .now) (a .step .action) (a .step .candidate .x) (a .area .now) (a .count)
     (c3 .put-silent .result) _ (replicate longestTerm 0) refl _ (c9 .write-result .result) (c13 .if1 .taken) (c12 .own-names .result)
-    (c12 .own-names .ensures) (c9 .write-result .ensures) (c3 .put-silent .ensures)
+    (c12 .own-names .ensures 0 (omega arith)) (c9 .write-result .ensures) (c3 .put-silent .ensures)
 
 slice-aggregate-write-result-3 : tie.Need-slice-aggregate-write-result-3
 slice-aggregate-write-result-3 c = search needs

@@ -43,7 +43,7 @@ returns c =
     let a = c21 .args in
     placed-tidied (a .question .now) (a .part .now) (a .place .at) (a .place .depth) (a .place .first) (a .step .candidate .silently)
     (a .step .candidate .number) (a .step .action) (a .step .candidate .x) (a .area .now) (a .count) (c2 .put-tidied .result) _
-    (c9 .own-names .result) (c9 .own-names .ensures) (c2 .put-tidied .ensures)
+    (c9 .own-names .result) (c9 .own-names .ensures 0 (omega arith)) (c2 .put-tidied .ensures)
 
 slice-aggregate-put-written : tie.Need-slice-aggregate-put-written
 slice-aggregate-put-written c = search needs
@@ -68,7 +68,7 @@ returns-2 c =
     let a = c20 .args in
     placed-put (a .question .now) (a .part .now) (a .place .at) (a .place .depth) (a .place .first) (a .step .candidate .silently)
     (a .step .candidate .number) (a .step .action) (a .step .candidate .x) (a .area .now) (a .count) (c2 .put-written .result) _
-    (c8 .own-names .result) (c8 .own-names .ensures) (c12 .is-restricted .result) (λ f. c20 .pre .0 .1 .3 .plain (c12 .is-restricted .ensures f))
+    (c8 .own-names .result) (c8 .own-names .ensures 0 (omega arith)) (c12 .is-restricted .result) (λ f. c20 .pre .0 .1 .3 .plain (c12 .is-restricted .ensures f))
     (replicate longestTerm 0) refl _ (c10 .write-placed .result) (c10 .write-placed .ensures) (c2 .put-written .ensures)
 
 slice-aggregate-put-result : tie.Need-slice-aggregate-put-result
@@ -94,7 +94,7 @@ returns-3 c =
     let a = c21 .args in
     placed-put (a .question .now) (a .part .now) (a .place .at) (a .place .depth) (a .place .first) (a .step .candidate .silently)
     (a .step .candidate .number) (a .step .action) (a .step .candidate .x) (a .area .now) (a .count) (c2 .put-result .result) _
-    (c9 .own-names .result) (c9 .own-names .ensures) (c13 .is-restricted .result) (λ f. c21 .pre .0 .1 .3 .plain (c13 .is-restricted .ensures f))
+    (c9 .own-names .result) (c9 .own-names .ensures 0 (omega arith)) (c13 .is-restricted .result) (λ f. c21 .pre .0 .1 .3 .plain (c13 .is-restricted .ensures f))
     (replicate longestTerm 0) refl _ (c11 .write-placed .result) (c11 .write-placed .ensures)
     (written-plain _ _ _ _ _ _ _ _ _ _ (c6 .if2 .left) (c2 .put-result .ensures))
 

@@ -11,10 +11,10 @@ use Rattle.steps_splicing.proofs.splice.own_names.Statement.{statement}
 use Rattle.steps_splicing.proofs.splice.own_names.Tie as tie
 
 abbrev Inv-loop : tie.InvT-loop
-Inv-loop binders names₀ i₀ names i = Filling (λ k. k) names₀ names i × (i ≤ nameSlots) × (length names₀ ≡ nameSlots)
+Inv-loop names₀ i₀ names i = Filling (λ k. k) names₀ names i × (i ≤ nameSlots) × (length names₀ ≡ nameSlots)
 
 abbrev μ-loop : tie.MeasureT-loop
-μ-loop binders names₀ i₀ names i = nameSlots - i
+μ-loop names₀ i₀ names i = nameSlots - i
 
 loop-holds : tie.Need-loop-holds Inv-loop μ-loop
 loop-holds c = (fill-start _ _, search needs, refl)
@@ -36,7 +36,7 @@ loop-again c = (fill-step _ _ _ _ _ (omega arith) refl (c .before .loop .inv .0)
 
 returns : tie.Need-returns Inv-loop μ-loop
 unfolding OwnNames
-returns c = λ k h. c .before .loop .inv .0 .done k (omega arith)
+returns c = λ binders few k h. c .before .loop .inv .0 .done k (omega arith)
 
 pub own-names-spec : {M : Type 1} → statement M
 own-names-spec =

@@ -99,7 +99,7 @@ returns-4 c =
     let v = c20 .args in
     let h : v .seam .put + (v .hole .at - v .seam .from) ≤ longestTerm = leb-true _ _ (sym (c13 .room .ensures) ∙ not-false _ (c12 .if2 .left)) in
     hole-written (v .question .now) (v .part .now) (v .seam .from) (v .hole) (v .new) (v .out .now) (v .seam .put)
-    (omega (arith, c20 .pre .2)) (omega (arith, c20 .pre .2)) (c6 .own-names .result) (c6 .own-names .ensures) _ (c9 .copy .ensures) (c3 .write .result) _ (c3 .write .ensures .0)
+    (omega (arith, c20 .pre .2)) (omega (arith, c20 .pre .2)) (c6 .own-names .result) (c6 .own-names .ensures _ (search needs)) _ (c9 .copy .ensures) (c3 .write .result) _ (c3 .write .ensures .0)
 
 pub write-hole-spec : {M : Type 1} → statement M
 write-hole-spec =

@@ -70,7 +70,7 @@ returns c =
     let h : c10 .write .result + (length (c23 .args .part .now) - c6 .end-at .result) ≤ longestTerm = leb-true _ _ (sym (c5 .room .ensures) ∙
     c4 .if1 .taken) in
     placed-stored (a .question .now) (a .part .now) (a .tally .now) (c23 .pre .0 .1) (a .place .at) (a .place .depth) (a .candidate .silently)
-    (a .candidate .number) (a .candidate .x) (a .out .now) (c17 .own-names .result) (c17 .own-names .ensures) (c10 .write .result) _ _
+    (a .candidate .number) (a .candidate .x) (a .out .now) (c17 .own-names .result) (c17 .own-names .ensures _ (search needs)) (c10 .write .result) _ _
     (c15 .copy .ensures) (c10 .write .ensures .0) (omega (arith, c23 .pre .2)) (c23 .pre .1 .0)
     (c6 .end-at .result) (c6 .end-at .ensures) (omega (arith, c23 .pre .2)) _ (c .before .before .copy2 .ensures)
 
@@ -91,7 +91,7 @@ returns-2 c =
     let h : longestTerm < c6 .write .result + (length (c19 .args .part .now) - c2 .end-at .result) = leb-false _ _ (sym (c .before .room .ensures) ∙
     c .if1 .left) in
     placed-over (a .question .now) (a .part .now) (a .tally .now) (c19 .pre .0 .1) (a .place .at) (a .place .depth) (a .candidate .silently)
-    (a .candidate .number) (a .candidate .x) (a .out .now) (c13 .own-names .result) (c13 .own-names .ensures) (c6 .write .result) _ _
+    (a .candidate .number) (a .candidate .x) (a .out .now) (c13 .own-names .result) (c13 .own-names .ensures _ (search needs)) (c6 .write .result) _ _
     (c11 .copy .ensures) (c6 .write .ensures .0) (omega (arith, c19 .pre .2)) (c19 .pre .1 .0)
     (c2 .end-at .result) (c2 .end-at .ensures) (omega arith) _ (omega arith)
 

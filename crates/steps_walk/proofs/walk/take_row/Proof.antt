@@ -102,7 +102,7 @@ returns-4 c =
     row-opened (v .question .now) (v .part .now) (v .node .at) (v .node .depth) (v .rows .now) (v .own .first) (v .own .number) (v .node .x)
     (v .area .now) (v .own .count) (c13 .get .result) (c12 .get2 .result) (c11 .get3 .result) (c13 .get .ensures) (c12 .get2 .ensures)
     (c11 .get3 .ensures) (c10 .if1 .left) (c9 .if2 .left) (omega (arith, c8 .if3 .left)) (c2 .put-classed .result) _ (sym (c7 .row-opens .ensures) ∙
-    c6 .if4 .taken) _ (c5 .own-names .ensures) (c2 .put-classed .ensures)
+    c6 .if4 .taken) _ (c5 .own-names .ensures 0 (omega arith)) (c2 .put-classed .ensures)
 
 row-object-requires : tie.Need-row-object-requires
 row-object-requires c κs = search needs

@@ -8,7 +8,7 @@ use Rattle.terms_tidying.proofs.tidied.is_tidied.Tie as tie
 use Rattle.terms_tidying.proofs.tidied.is_tidied.Reads as reads
 use Rattle.terms_tidying.proofs.tidied.is_tidied.Lts as lts
 use Rattle.terms_tidying.proofs.occurs.occurs.Reads as occurs-reads
-use Rattle.terms_tidying.proofs.tidied.all_met.Reads as all-met-reads
+use Rattle.terms_tidying.proofs.tidied.all_used.Reads as all-used-reads
 
 -- src/tidied.rt:148:9
 occurs-requires : tie.Need-occurs-requires
@@ -27,12 +27,12 @@ returns-2 : tie.Need-returns-2
 returns-2 c = untold _ _
 
 -- src/tidied.rt:154:5
-all-met-requires : tie.Need-all-met-requires
-all-met-requires c κs = search needs
+all-used-requires : tie.Need-all-used-requires
+all-used-requires c κs = search needs
 
 -- src/tidied.rt:145:1
 returns-3 : tie.Need-returns-3
 returns-3 c = search needs
 
 pub is-tidied-spec : {M : Type 1} → statement M
-is-tidied-spec = tie.close (tie.spec occurs-requires returns returns-2 all-met-requires returns-3)
+is-tidied-spec = tie.close (tie.spec occurs-requires returns returns-2 all-used-requires returns-3)

@@ -1,19 +1,19 @@
--- `terms_tidying::tidied::meet_call` meets its contract. Assumes nothing.
+-- `terms_tidying::tidied::use_call` meets its contract. Assumes nothing.
 use mathlib.Core.Path.{_≡_, sym, ap, _∙_}
 use Prim.Native.Nat.{ℕ, _+_, _<_}
 use native.Mathlib.Omega.{arith}
 use lib.ListN.{length, getD}
 use borrow.Author.Tests.{leb-true, leb-false, not-true, not-false}
-use Rattle.terms_tidying.proofs.TidiedWalk.{front-none, call-none, call-met}
+use Rattle.terms_tidying.proofs.TidiedWalk.{front-none, call-none, call-used}
 use borrow.Author.Needs.{needs}
-use Rattle.terms_tidying.proofs.tidied.meet_call.Statement.{statement}
-use Rattle.terms_tidying.proofs.tidied.meet_call.Tie as tie
-use Rattle.terms_tidying.proofs.tidied.meet_call.Reads as reads
-use Rattle.terms_tidying.proofs.tidied.meet_call.Lts as lts
+use Rattle.terms_tidying.proofs.tidied.use_call.Statement.{statement}
+use Rattle.terms_tidying.proofs.tidied.use_call.Tie as tie
+use Rattle.terms_tidying.proofs.tidied.use_call.Reads as reads
+use Rattle.terms_tidying.proofs.tidied.use_call.Lts as lts
 use Rattle.terms_bytes.proofs.bytes.get.Reads as get-reads
 use Rattle.terms_bytes.proofs.bytes.room.Reads as room-reads
 use Rattle.terms_tidying.proofs.tidied.front.Reads as front-reads
-use Rattle.terms_tidying.proofs.tidied.meet_names.Reads as meet-names-reads
+use Rattle.terms_tidying.proofs.tidied.use_names.Reads as use-names-reads
 
 -- src/tidied.rt:69:22
 add-get : tie.Need-add-get
@@ -59,12 +59,12 @@ returns c =
     (c .before .before .room .ensures) ∙ not-true _ (c .before .if1 .taken))))
 
 -- src/tidied.rt:74:21
-add-meet-names : tie.Need-add-meet-names
-add-meet-names c = search needs
+add-use-names : tie.Need-add-use-names
+add-use-names c = search needs
 
 -- src/tidied.rt:74:5
-meet-names-requires : tie.Need-meet-names-requires
-meet-names-requires c κs =
+use-names-requires : tie.Need-use-names-requires
+use-names-requires c κs =
     let c3 = c .before .before .before in
     let c3 = c3 in
     let c8 = c3 .before .before .before .before .before in
@@ -92,14 +92,14 @@ returns-2 c =
     c .before .before .before .before .before .before .before .get2 .result ≡ getD (a .arities .now) (getD (a .src .now) (a .at + 1) 0) 0 =
     c .before .before .before .before .before .before .before .get2 .ensures ∙ ap (λ (k : ℕ). getD (a .arities .now) k 0)
     (c .before .before .before .before .before .before .before .before .get .ensures) in let small :
-    c .before .before .before .before .before .before .before .get2 .result < 256 = search needs in call-met (a .src .now) (a .at) (a .arities .now)
+    c .before .before .before .before .before .before .before .get2 .result < 256 = search needs in call-used (a .src .now) (a .at) (a .arities .now)
     (c .before .before .before .before .before .before .before .before .before .before .before .before .pre .0)
     (c .before .before .before .before .before .before .before .before .before .before .before .before .pre .1)
     (c .before .before .before .before .before .before .before .get2 .result) e small (a .depth) (a .waits .now) _ (c .front2 .result)
-    (c .front2 .ensures) (c .before .before .before .meet-names .ensures)
+    (c .front2 .ensures) (c .before .before .before .use-names .ensures)
 
-pub meet-call-spec : {M : Type 1} → statement M
-meet-call-spec =
+pub use-call-spec : {M : Type 1} → statement M
+use-call-spec =
     tie.close
     (tie.spec
     add-get
@@ -111,8 +111,8 @@ meet-call-spec =
     room-requires
     front-requires
     returns
-    add-meet-names
-    meet-names-requires
+    add-use-names
+    use-names-requires
     add-front
     front-requires-2
     same-length

@@ -1,8 +1,8 @@
--- `terms_tidying::tidied::meet` meets its contract. Assumes nothing.
+-- `terms_tidying::tidied::use_name` meets its contract. Assumes nothing.
 use borrow.Author.Needs.{needs}
 use Rattle.terms_tidying.proofs.TidiedWalk.{keeps-none, keeps-one}
-use Rattle.terms_tidying.proofs.tidied.meet.Statement.{statement}
-use Rattle.terms_tidying.proofs.tidied.meet.Tie as tie
+use Rattle.terms_tidying.proofs.tidied.use_name.Statement.{statement}
+use Rattle.terms_tidying.proofs.tidied.use_name.Tie as tie
 
 -- src/tidied.rt:21:9
 returns : tie.Need-returns
@@ -38,8 +38,8 @@ returns-3 c =
     let v = c .before .before .args in
     keeps-one (v .depth) (v .b) (v .waits .now) (search needs) (search needs)
 
-pub meet-spec : {M : Type 1} → statement M
-meet-spec =
+pub use-name-spec : {M : Type 1} → statement M
+use-name-spec =
     tie.close
     (tie.spec
     returns

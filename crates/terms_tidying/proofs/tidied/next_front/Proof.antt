@@ -1,17 +1,17 @@
--- `terms_tidying::tidied::meet_front` meets its contract. Assumes nothing.
+-- `terms_tidying::tidied::next_front` meets its contract. Assumes nothing.
 use mathlib.Core.Path.{refl, sym, _∙_}
 use native.Mathlib.Omega.{arith}
 use Rattle.terms_bytes.specs.Shape.{bindersAt, subtermsAt}
 use Rattle.terms_tidying.proofs.TidiedWalk.{front-none, front-plain, front-one, front-last, no-term}
 use borrow.Author.Needs.{needs}
-use Rattle.terms_tidying.proofs.tidied.meet_front.Statement.{statement}
-use Rattle.terms_tidying.proofs.tidied.meet_front.Tie as tie
-use Rattle.terms_tidying.proofs.tidied.meet_front.Reads as reads
-use Rattle.terms_tidying.proofs.tidied.meet_front.Lts as lts
+use Rattle.terms_tidying.proofs.tidied.next_front.Statement.{statement}
+use Rattle.terms_tidying.proofs.tidied.next_front.Tie as tie
+use Rattle.terms_tidying.proofs.tidied.next_front.Reads as reads
+use Rattle.terms_tidying.proofs.tidied.next_front.Lts as lts
 use Rattle.terms_bytes.proofs.bytes.get.Reads as get-reads
 use Rattle.terms_tidying.proofs.tidied.front.Reads as front-reads
-use Rattle.terms_tidying.proofs.tidied.meet.Reads as meet-reads
-use Rattle.terms_tidying.proofs.tidied.meet_call.Reads as meet-call-reads
+use Rattle.terms_tidying.proofs.tidied.use_name.Reads as use-name-reads
+use Rattle.terms_tidying.proofs.tidied.use_call.Reads as use-call-reads
 
 -- src/tidied.rt:83:9
 get-requires : tie.Need-get-requires
@@ -92,8 +92,8 @@ returns-5 c =
     c .before .if5 .taken) (λ z. omega arith) refl (c .front5 .ensures)
 
 -- src/tidied.rt:100:9
-meet-call-requires : tie.Need-meet-call-requires
-meet-call-requires c κs = search needs
+use-call-requires : tie.Need-use-call-requires
+use-call-requires c κs = search needs
 
 -- src/tidied.rt:100:9
 same-length : tie.Need-same-length
@@ -126,8 +126,8 @@ get-requires-2 : tie.Need-get-requires-2
 get-requires-2 c κs = search needs
 
 -- src/tidied.rt:105:5
-meet-requires : tie.Need-meet-requires
-meet-requires c κs = search needs
+use-name-requires : tie.Need-use-name-requires
+use-name-requires c κs = search needs
 
 -- src/tidied.rt:107:9
 front-requires-7 : tie.Need-front-requires-7
@@ -148,7 +148,7 @@ returns-8 c =
     let c18 = c14 .before .before .before .before in
     let a = c18 .args in
     front-one (a .src .now) (a .at) (a .arities .now) (a .depth) (a .waits .now) _ (c .front7 .result) (c18 .pre .0) 2 (sym (c14 .get .ensures) ∙
-    c .before .if8 .taken) (λ z. omega arith) refl (c .front7 .ensures) (c6 .get2 .result) (c6 .get2 .ensures) (c4 .meet .ensures)
+    c .before .if8 .taken) (λ z. omega arith) refl (c .front7 .ensures) (c6 .get2 .result) (c6 .get2 .ensures) (c4 .use-name .ensures)
 
 -- src/tidied.rt:110:9
 front-requires-8 : tie.Need-front-requires-8
@@ -169,7 +169,7 @@ returns-9 c =
     let c19 = c15 .before .before .before .before in
     let a = c19 .args in
     front-one (a .src .now) (a .at) (a .arities .now) (a .depth) (a .waits .now) _ (c .front8 .result) (c19 .pre .0) 4 (sym (c15 .get .ensures) ∙
-    c .before .if9 .taken) (λ z. omega arith) refl (c .front8 .ensures) (c7 .get2 .result) (c7 .get2 .ensures) (c5 .meet .ensures)
+    c .before .if9 .taken) (λ z. omega arith) refl (c .front8 .ensures) (c7 .get2 .result) (c7 .get2 .ensures) (c5 .use-name .ensures)
 
 -- src/tidied.rt:112:19
 add-get-2 : tie.Need-add-get-2
@@ -180,8 +180,8 @@ get-requires-3 : tie.Need-get-requires-3
 get-requires-3 c κs = search needs
 
 -- src/tidied.rt:112:5
-meet-requires-2 : tie.Need-meet-requires-2
-meet-requires-2 c κs = search needs
+use-name-requires-2 : tie.Need-use-name-requires-2
+use-name-requires-2 c κs = search needs
 
 -- src/tidied.rt:113:5
 front-requires-9 : tie.Need-front-requires-9
@@ -212,12 +212,12 @@ returns-10 c =
     let c24 = c20 .before .before .before .before in
     let a = c24 .args in
     front-last (a .src .now) (a .at) (a .arities .now) (a .depth) (a .waits .now) _ (c .front9 .result) (c24 .pre .0) (c12 .get2 .result)
-    (c5 .get3 .result) (c12 .get2 .ensures) (c5 .get3 .ensures) _ (c10 .meet .ensures) (c3 .meet2 .ensures) (c20 .get .result) (sym
+    (c5 .get3 .result) (c12 .get2 .ensures) (c5 .get3 .ensures) _ (c10 .use-name .ensures) (c3 .use-name2 .ensures) (c20 .get .result) (sym
     (c20 .get .ensures)) (c19 .if1 .left) (c18 .if2 .left) (c7 .if8 .left) (c6 .if9 .left) (c17 .if3 .left) (c16 .if4 .left) (c15 .if5 .left)
     (c14 .if6 .left) (c13 .if7 .left) (c .front9 .ensures)
 
-pub meet-front-spec : {M : Type 1} → statement M
-meet-front-spec =
+pub next-front-spec : {M : Type 1} → statement M
+next-front-spec =
     tie.close
     (tie.spec
     get-requires
@@ -231,14 +231,14 @@ meet-front-spec =
     returns-4
     front-requires-5
     returns-5
-    meet-call-requires
+    use-call-requires
     same-length
     returns-6
     front-requires-6
     returns-7
     add-get
     get-requires-2
-    meet-requires
+    use-name-requires
     front-requires-7
     same-length-2
     returns-8
@@ -247,7 +247,7 @@ meet-front-spec =
     returns-9
     add-get-2
     get-requires-3
-    meet-requires-2
+    use-name-requires-2
     front-requires-9
     same-length-4
     returns-10)

@@ -1,17 +1,17 @@
--- `terms_tidying::tidied::all_met` meets its contract. Assumes nothing.
+-- `terms_tidying::tidied::all_used` meets its contract. Assumes nothing.
 use mathlib.Core.Path.{_≡_, refl, _∙_}
 use Prim.Native.Nat.{ℕ, _-_, _≤_}
 use native.Mathlib.Omega.{arith}
 use lib.ListN.{length, length-set}
 use borrow.Author.Needs.{needs}
 use Rattle.terms_tidying.proofs.TidiedWalk.{Walking, walking-start, walking-again, walking-done, untold}
-use Rattle.terms_tidying.proofs.tidied.all_met.Statement.{statement}
-use Rattle.terms_tidying.proofs.tidied.all_met.Tie as tie
-use Rattle.terms_tidying.proofs.tidied.all_met.Reads as reads
-use Rattle.terms_tidying.proofs.tidied.all_met.Lts as lts
+use Rattle.terms_tidying.proofs.tidied.all_used.Statement.{statement}
+use Rattle.terms_tidying.proofs.tidied.all_used.Tie as tie
+use Rattle.terms_tidying.proofs.tidied.all_used.Reads as reads
+use Rattle.terms_tidying.proofs.tidied.all_used.Lts as lts
 use Rattle.terms_tidying.proofs.occurs.occurs.Reads as occurs-reads
 use Rattle.terms_tidying.proofs.tidied.follow.Reads as follow-reads
-use Rattle.terms_tidying.proofs.tidied.meet_front.Reads as meet-front-reads
+use Rattle.terms_tidying.proofs.tidied.next_front.Reads as next-front-reads
 use Rattle.terms_tidying.proofs.tidied.waiting.Reads as waiting-reads
 
 abbrev Inv-loop : tie.InvT-loop
@@ -29,12 +29,12 @@ returns : tie.Need-returns Inv-loop μ-loop
 returns c = untold _ _
 
 -- src/tidied.rt:127:53
-slice-aggregate-meet-front : tie.Need-slice-aggregate-meet-front Inv-loop μ-loop
-slice-aggregate-meet-front c = search needs
+slice-aggregate-next-front : tie.Need-slice-aggregate-next-front Inv-loop μ-loop
+slice-aggregate-next-front c = search needs
 
 -- src/tidied.rt:127:13
-meet-front-requires : tie.Need-meet-front-requires Inv-loop μ-loop
-meet-front-requires c κs = search needs
+next-front-requires : tie.Need-next-front-requires Inv-loop μ-loop
+next-front-requires c κs = search needs
 
 -- src/tidied.rt:130:13
 returns-2 : tie.Need-returns-2 Inv-loop μ-loop
@@ -94,13 +94,13 @@ loop-again c =
     let c16 = c13 .before .before .before in
     let a = c16 .args in
     let v = c13 .loop in
-    let l = c9 .meet-front .kept .1 .1 .1 .1 .0 ∙ v .inv .0 in (
-      length-set {A = ℕ} (c9 .meet-front .last .1 .1 .1 .1 .0) (v .depth) (c4 .waiting .result) ∙ l,
+    let l = c9 .next-front .kept .1 .1 .1 .1 .0 ∙ v .inv .0 in (
+      length-set {A = ℕ} (c9 .next-front .last .1 .1 .1 .1 .0) (v .depth) (c4 .waiting .result) ∙ l,
       c1 .follow .kept .1 .1 .1 .0 ∙ v .inv .1,
       omega
           (arith, c1 .follow .ensures .few, v .inv .2, c7 .if2 .left),
       walking-again (a .src .now) (a .arities .now) (v .at) (v .depth) (v .pending)
-          (v .depths) (v .waits) (c12 .loop-test .taken) (v .inv .3) (c9 .meet-front .result) _ (c9 .meet-front .ensures) (omega (arith, l, c11 .if1 .left))
+          (v .depths) (v .waits) (c12 .loop-test .taken) (v .inv .3) (c9 .next-front .result) _ (c9 .next-front .ensures) (omega (arith, l, c11 .if1 .left))
           (c6 .if3 .left) (c1 .follow .result) _ (c1 .follow .ensures) (omega (arith, v .inv .1, v .inv .2, c12 .loop-test .taken, c16 .pre))
           (c4 .waiting .result) (c4 .waiting .ensures),
     )
@@ -125,16 +125,16 @@ returns-4 c =
     walking-done (a .src .now) (a .arities .now) (v .at) (v .depth) (v .pending) (v .depths) (v .waits) (c .occurs .result)
     (c .before .before .loop-test .left) (v .inv .3) (c .occurs .ensures)
 
-pub all-met-spec : {M : Type 1} → statement M
-all-met-spec =
+pub all-used-spec : {M : Type 1} → statement M
+all-used-spec =
     tie.close
     (tie.spec
     Inv-loop
     μ-loop
     loop-holds
     returns
-    slice-aggregate-meet-front
-    meet-front-requires
+    slice-aggregate-next-front
+    next-front-requires
     returns-2
     array-read-if3
     returns-3

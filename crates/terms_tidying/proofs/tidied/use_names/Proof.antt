@@ -1,4 +1,4 @@
--- `terms_tidying::tidied::meet_names` meets its contract. Assumes nothing.
+-- `terms_tidying::tidied::use_names` meets its contract. Assumes nothing.
 use mathlib.Core.Path.{_≡_, refl, subst, _∙_}
 use mathlib.Core.List.{List}
 use Prim.Native.Nat.{ℕ, _-_, _≤_}
@@ -9,8 +9,8 @@ use borrow.Author.Needs.{needs}
 use Rattle.terms_bytes.proofs.Stores.{span, length-span}
 use Rattle.terms_tidying.specs.TidiedTerms.{KeepsBytes}
 use Rattle.terms_tidying.proofs.TidiedWalk.{keeps-none, keeps-more}
-use Rattle.terms_tidying.proofs.tidied.meet_names.Statement.{statement}
-use Rattle.terms_tidying.proofs.tidied.meet_names.Tie as tie
+use Rattle.terms_tidying.proofs.tidied.use_names.Statement.{statement}
+use Rattle.terms_tidying.proofs.tidied.use_names.Tie as tie
 
 abbrev Inv-loop : tie.InvT-loop
 Inv-loop src at n depth waits₀ i₀ waits i = (i ≤ n) × (length waits ≡ length waits₀) × KeepsBytes depth (take i (span src at n)) waits₀ waits
@@ -23,16 +23,16 @@ loop-holds : tie.Need-loop-holds Inv-loop μ-loop
 loop-holds c = (search needs, refl, keeps-none _ _ _)
 
 -- src/tidied.rt:37:18
-add-meet : tie.Need-add-meet Inv-loop μ-loop
-add-meet c = search needs
+add-use-name : tie.Need-add-use-name Inv-loop μ-loop
+add-use-name c = search needs
 
 -- src/tidied.rt:37:14
-shared-slice-read-meet : tie.Need-shared-slice-read-meet Inv-loop μ-loop
-shared-slice-read-meet c = search needs
+shared-slice-read-use-name : tie.Need-shared-slice-read-use-name Inv-loop μ-loop
+shared-slice-read-use-name c = search needs
 
 -- src/tidied.rt:37:9
-meet-requires : tie.Need-meet-requires Inv-loop μ-loop
-meet-requires c κs = search needs
+use-name-requires : tie.Need-use-name-requires Inv-loop μ-loop
+use-name-requires c κs = search needs
 
 -- src/tidied.rt:38:9
 add-i : tie.Need-add-i Inv-loop μ-loop
@@ -48,12 +48,12 @@ loop-again c =
     let a = c .before .before .before .before .before .before .before .before .before .args in let v =
     c .before .before .before .before .before .before .loop .inv in (
       search needs,
-      c .before .before .meet .kept .1 .1 .0 ∙ v .1,
+      c .before .before .use-name .kept .1 .1 .0 ∙ v .1,
       keeps-more
           (a .src .now) (a .at) (a .n) (a .depth) (c .before .before .before .before .before .before .loop .i) (a .waits .now)
           (c .before .before .before .before .before .before .loop .waits) _
           (c .before .before .before .before .before .before .before .before .before .pre .0) (c .before .before .before .before .before .loop-test .taken)
-          (v .2) (c .before .before .meet .ensures),
+          (v .2) (c .before .before .use-name .ensures),
     )
 
 -- src/tidied.rt:31:1
@@ -69,16 +69,16 @@ returns c =
     subst (λ (xs : List ℕ). KeepsBytes (a .depth) xs (a .waits .now) (c1 .loop .waits)) (take-all (c1 .loop .i) (span (a .src .now) (a .at) (a .n))
     (omega (arith, length-span (a .src .now) (a .at) (a .n) (c4 .pre .0), c .loop-test .left))) (c1 .loop .inv .2)
 
-pub meet-names-spec : {M : Type 1} → statement M
-meet-names-spec =
+pub use-names-spec : {M : Type 1} → statement M
+use-names-spec =
     tie.close
     (tie.spec
     Inv-loop
     μ-loop
     loop-holds
-    add-meet
-    shared-slice-read-meet
-    meet-requires
+    add-use-name
+    shared-slice-read-use-name
+    use-name-requires
     add-i
     loop-less
     loop-again
