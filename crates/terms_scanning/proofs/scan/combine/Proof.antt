@@ -1,8 +1,8 @@
--- `terms_checks::scan::combine` meets its contract. Assumes nothing.
-use Rattle.terms_checks.proofs.ControlLaws.{combined-parallel, combined-restriction, combined-call, combined-prefix, combined-inaction, combined-other}
+-- `terms_scanning::scan::combine` meets its contract. Assumes nothing.
+use Rattle.terms_scanning.proofs.ControlLaws.{combined-parallel, combined-restriction, combined-call, combined-prefix, combined-inaction, combined-other}
 use borrow.Author.Needs.{needs}
-use Rattle.terms_checks.proofs.scan.combine.Statement.{statement}
-use Rattle.terms_checks.proofs.scan.combine.Tie as tie
+use Rattle.terms_scanning.proofs.scan.combine.Statement.{statement}
+use Rattle.terms_scanning.proofs.scan.combine.Tie as tie
 
 both-requires : tie.Need-both-requires
 both-requires c κs = search needs

@@ -11,15 +11,15 @@ use Rattle.calculus.specs.Term.{Term}
 use Rattle.terms.specs.Edition.{Edition}
 use Rattle.terms.specs.Answer.{Answer, refused, result, _>>=_, _>>_, need}
 use Rattle.terms.specs.Reading.{byte, numbered, readTerm, readWhole}
-use Rattle.terms_checks.specs.Scanning.{behindFront, frontAnswer, NextWithin, FrontIs, controlOf, passing, combined, scanned, scanAnswer, EndWithin, ScanIs, scannedWhole, wholeAnswer}
+use Rattle.terms_scanning.specs.Scanning.{behindFront, frontAnswer, NextWithin, FrontIs, controlOf, passing, combined, scanned, scanAnswer, EndWithin, ScanIs, scannedWhole, wholeAnswer}
 use Rattle.terms_bytes.specs.Shape.{bindersAt, subtermsAt}
-use Rattle.terms_checks.specs.declared.scan.Control.{Control}
-use Rattle.terms_checks.specs.declared.scan.Front.the-variants.{Next, Wrong}
-use Rattle.terms_checks.specs.declared.scan.Scan.{Scan}
-use Rattle.terms_checks.specs.declared.scan.Scan.the-variants.{End, Fault}
+use Rattle.terms_scanning.specs.declared.scan.Control.{Control}
+use Rattle.terms_scanning.specs.declared.scan.Front.the-variants.{Next, Wrong}
+use Rattle.terms_scanning.specs.declared.scan.Scan.{Scan}
+use Rattle.terms_scanning.specs.declared.scan.Scan.the-variants.{End, Fault}
 use Rattle.terms.proofs.Answers.{bind-to, bind-refused}
-use Rattle.terms_checks.proofs.ScanLaws.{drop-here}
-use Rattle.terms_checks.proofs.ScanShapes.{kept, subtermsScanned, scanned-by-shape}
+use Rattle.terms_scanning.proofs.ScanLaws.{drop-here}
+use Rattle.terms_scanning.proofs.ScanShapes.{kept, subtermsScanned, scanned-by-shape}
 
 pub end-within : (low high e : ℕ) (c : Control) (r : Scan) → EndWithin low high r → r ≡ End e c → (low ≤ e) × (e ≤ high)
 unfolding EndWithin

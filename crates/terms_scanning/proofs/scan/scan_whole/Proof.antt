@@ -1,9 +1,9 @@
--- `terms_checks::scan::scan_whole` meets its contract. Assumes nothing.
-use Rattle.terms_checks.proofs.ScanTerms.{whole-wrong, whole-more, whole-term}
+-- `terms_scanning::scan::scan_whole` meets its contract. Assumes nothing.
+use Rattle.terms_scanning.proofs.ScanTerms.{whole-wrong, whole-more, whole-term}
 use Rattle.terms_bytes.specs.Counted.{editionFrom}
 use borrow.Author.Needs.{needs}
-use Rattle.terms_checks.proofs.scan.scan_whole.Statement.{statement}
-use Rattle.terms_checks.proofs.scan.scan_whole.Tie as tie
+use Rattle.terms_scanning.proofs.scan.scan_whole.Statement.{statement}
+use Rattle.terms_scanning.proofs.scan.scan_whole.Tie as tie
 
 scan-term-requires : tie.Need-scan-term-requires
 scan-term-requires c κs = search needs

@@ -1,17 +1,17 @@
--- `terms_checks::scan::scan_front` meets its contract. Assumes nothing.
+-- `terms_scanning::scan::scan_front` meets its contract. Assumes nothing.
 use mathlib.Core.Path.{_≡_, refl, sym, ap, subst, _∙_}
 use native.Mathlib.Omega.{arith}
 use Rattle.terms_bytes.specs.Counted.{editionFrom}
-use Rattle.terms_checks.proofs.ScanLaws.{front-short, front-unknown, front-call, front-names}
+use Rattle.terms_scanning.proofs.ScanLaws.{front-short, front-unknown, front-call, front-names}
 use borrow.Author.Needs.{needs}
-use Rattle.terms_checks.proofs.scan.scan_front.Statement.{statement}
-use Rattle.terms_checks.proofs.scan.scan_front.Tie as tie
-use Rattle.terms_checks.proofs.scan.scan_front.Reads as reads
-use Rattle.terms_checks.proofs.scan.scan_front.Lts as lts
+use Rattle.terms_scanning.proofs.scan.scan_front.Statement.{statement}
+use Rattle.terms_scanning.proofs.scan.scan_front.Tie as tie
+use Rattle.terms_scanning.proofs.scan.scan_front.Reads as reads
+use Rattle.terms_scanning.proofs.scan.scan_front.Lts as lts
 use Rattle.terms_bytes.proofs.bytes.get.Reads as get-reads
 use Rattle.terms_bytes.proofs.shape.shape_at.Reads as shape-at-reads
-use Rattle.terms_checks.proofs.scan.scan_call.Reads as scan-call-reads
-use Rattle.terms_checks.proofs.scan.scan_names.Reads as scan-names-reads
+use Rattle.terms_scanning.proofs.scan.scan_call.Reads as scan-call-reads
+use Rattle.terms_scanning.proofs.scan.scan_names.Reads as scan-names-reads
 
 -- src/scan.rt:109:9
 returns : tie.Need-returns

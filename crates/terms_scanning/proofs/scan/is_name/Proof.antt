@@ -1,8 +1,8 @@
--- `terms_checks::scan::is_name` meets its contract. Assumes nothing.
+-- `terms_scanning::scan::is_name` meets its contract. Assumes nothing.
 use mathlib.Core.Path.{sym}
-use Rattle.terms_checks.proofs.ScanLaws.{name-free, name-none, name-bound, name-far}
-use Rattle.terms_checks.proofs.scan.is_name.Statement.{statement}
-use Rattle.terms_checks.proofs.scan.is_name.Tie as tie
+use Rattle.terms_scanning.proofs.ScanLaws.{name-free, name-none, name-bound, name-far}
+use Rattle.terms_scanning.proofs.scan.is_name.Statement.{statement}
+use Rattle.terms_scanning.proofs.scan.is_name.Tie as tie
 
 returns : tie.Need-returns
 returns c = sym (name-free _ _ _ (c .if1 .taken))

@@ -1,25 +1,25 @@
--- `terms_checks::scan::scan_term` meets its contract. Assumes nothing.
+-- `terms_scanning::scan::scan_term` meets its contract. Assumes nothing.
 use mathlib.Core.Path.{sym, ap, _∙_}
 use native.Mathlib.Omega.{arith}
 use lib.ListN.{length}
 use Rattle.terms_bytes.specs.Counted.{editionFrom}
 use borrow.Author.Needs.{needs}
-use Rattle.terms_checks.proofs.ScanLaws.{next-within}
-use Rattle.terms_checks.proofs.ScanTerms.{end-within, scan-wrong, scan-leaf, scan-first-wrong, scan-one, scan-second-wrong, scan-two}
+use Rattle.terms_scanning.proofs.ScanLaws.{next-within}
+use Rattle.terms_scanning.proofs.ScanTerms.{end-within, scan-wrong, scan-leaf, scan-first-wrong, scan-one, scan-second-wrong, scan-two}
 use Prim.Native.Nat.{_+_, _-_}
 use Prim.Native.Nat.{ℕ, _<_}
 use borrow.Fn.Kinds.{In}
 use borrow.Fn.PlainCycle.{Measures, is, falls, and}
-use Rattle.terms_checks.proofs.scan.scan_term.Reads as scan-term
-use Rattle.terms_checks.proofs.scan.scan_term.Kinds as scan-term-kinds
-use Rattle.terms_checks.proofs.scan.+scan_term.Lts-scan_term as scan-term-lts
+use Rattle.terms_scanning.proofs.scan.scan_term.Reads as scan-term
+use Rattle.terms_scanning.proofs.scan.scan_term.Kinds as scan-term-kinds
+use Rattle.terms_scanning.proofs.scan.+scan_term.Lts-scan_term as scan-term-lts
 use Rattle.terms_bytes.proofs.bytes.get.Reads as get-reads
-use Rattle.terms_checks.proofs.scan.combine.Reads as combine-reads
-use Rattle.terms_checks.proofs.scan.passed.Reads as passed-reads
-use Rattle.terms_checks.proofs.scan.scan_front.Reads as scan-front-reads
+use Rattle.terms_scanning.proofs.scan.combine.Reads as combine-reads
+use Rattle.terms_scanning.proofs.scan.passed.Reads as passed-reads
+use Rattle.terms_scanning.proofs.scan.scan_front.Reads as scan-front-reads
 use Rattle.terms_bytes.proofs.shape.shape_at.Reads as shape-at-reads
-use Rattle.terms_checks.proofs.scan.+scan_term.{statement}
-use Rattle.terms_checks.proofs.scan.+scan_term.Tie.{close}
+use Rattle.terms_scanning.proofs.scan.+scan_term.{statement}
+use Rattle.terms_scanning.proofs.scan.+scan_term.Tie.{close}
 
 abbrev μ-scan-term : Measures 2 scan-term-kinds.ps ℕ
 μ-scan-term κs a = length (a .0 .now) - a .1 .0

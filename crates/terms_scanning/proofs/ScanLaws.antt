@@ -12,11 +12,11 @@ use borrow.Author.Tests.{ltb-true, ltb-false, lt-ltb, le-ltb, le-leb, lt-leb, eq
 use Rattle.terms.specs.Edition.{Edition, one, two}
 use Rattle.terms.specs.Answer.{Answer, refused, result, _>>=_, _>>_, need}
 use Rattle.terms.specs.Reading.{byte, readName, readNames, numbered, readCount}
-use Rattle.terms_checks.specs.Scanning.{nameAllowed, behindNames, behindCall, behindFront, frontAnswer, NextWithin, NamesIs, CallIs, FrontIs}
+use Rattle.terms_scanning.specs.Scanning.{nameAllowed, behindNames, behindCall, behindFront, frontAnswer, NextWithin, NamesIs, CallIs, FrontIs}
 use Rattle.terms_bytes.specs.Shape.{namesAt}
 use Rattle.terms.proofs.Answers.{bind-assoc}
-use Rattle.terms_checks.specs.declared.scan.Front.{Front}
-use Rattle.terms_checks.specs.declared.scan.Front.the-variants.{Next, Wrong}
+use Rattle.terms_scanning.specs.declared.scan.Front.{Front}
+use Rattle.terms_scanning.specs.declared.scan.Front.the-variants.{Next, Wrong}
 
 pub drop-here : (s : List ℕ) (at : ℕ) → at < length s → drop at s ≡ getD s at 0 ∷ drop (at + 1) s
 drop-here s at h = rw (add-one, drop-cons s at 0)

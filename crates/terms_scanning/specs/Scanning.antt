@@ -11,11 +11,11 @@ use Rattle.terms.specs.Edition.{Edition}
 use Rattle.terms.specs.Grammar.{sequential, parallelOutermost, guarded}
 use Rattle.terms.specs.Reading.{byte, readNames, numbered, readCount, readTerm, readWhole}
 use Rattle.terms_bytes.specs.Shape.{namesAt}
-use Rattle.terms_checks.specs.declared.scan.Control.{Control}
-use Rattle.terms_checks.specs.declared.scan.Front.{Front}
-use Rattle.terms_checks.specs.declared.scan.Front.the-variants.{Next, Wrong}
-use Rattle.terms_checks.specs.declared.scan.Scan.{Scan}
-use Rattle.terms_checks.specs.declared.scan.Scan.the-variants.{End, Fault}
+use Rattle.terms_scanning.specs.declared.scan.Control.{Control}
+use Rattle.terms_scanning.specs.declared.scan.Front.{Front}
+use Rattle.terms_scanning.specs.declared.scan.Front.the-variants.{Next, Wrong}
+use Rattle.terms_scanning.specs.declared.scan.Scan.{Scan}
+use Rattle.terms_scanning.specs.declared.scan.Scan.the-variants.{End, Fault}
 
 -- Check 9 of one byte.
 unfoldable pub nameAllowed : ℕ → ℕ → ℕ → Bool

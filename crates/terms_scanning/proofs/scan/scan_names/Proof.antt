@@ -1,14 +1,14 @@
--- `terms_checks::scan::scan_names` meets its contract. Assumes nothing.
+-- `terms_scanning::scan::scan_names` meets its contract. Assumes nothing.
 use mathlib.Core.Path.{_≡_, refl, sym, _∙_}
 use Prim.Native.Nat.{_≤_, max}
 use native.Mathlib.Omega.{arith}
 use lib.ListN.{length, drop}
 use borrow.Author.Needs.{needs}
 use borrow.Author.Tests.{not-true, not-false}
-use Rattle.terms_checks.specs.Scanning.{behindNames}
-use Rattle.terms_checks.proofs.ScanLaws.{names-step, names-out-short, names-out-wrong, names-out}
-use Rattle.terms_checks.proofs.scan.scan_names.Statement.{statement}
-use Rattle.terms_checks.proofs.scan.scan_names.Tie as tie
+use Rattle.terms_scanning.specs.Scanning.{behindNames}
+use Rattle.terms_scanning.proofs.ScanLaws.{names-step, names-out-short, names-out-wrong, names-out}
+use Rattle.terms_scanning.proofs.scan.scan_names.Statement.{statement}
+use Rattle.terms_scanning.proofs.scan.scan_names.Tie as tie
 
 abbrev Inv-loop : tie.InvT-loop
 Inv-loop src from count depth free at₀ left₀ at left = (from ≤ at) × (at ≤ max from (length src)) × (behindNames free depth count (drop from src) ≡ behindNames free depth left (drop at src))

@@ -4,7 +4,7 @@ ghost use mathlib.Core.Path.{_≡_};
 ghost use mathlib.Core.Bool.{_&&_};
 ghost use Prim.Native.Nat.{_+_, _≤_};
 ghost use Rattle.terms_bytes.specs.Counted.{editionFrom};
-ghost use Rattle.terms_checks.specs.Scanning.{nameAllowed, NamesIs, CallIs, FrontIs, passing, combined, ScanIs, scannedWhole, wholeAnswer};
+ghost use Rattle.terms_scanning.specs.Scanning.{nameAllowed, NamesIs, CallIs, FrontIs, passing, combined, ScanIs, scannedWhole, wholeAnswer};
 use terms_bytes::bytes::get;
 use terms_bytes::shape::shape_at;
 use terms_bytes::tags::CALL;

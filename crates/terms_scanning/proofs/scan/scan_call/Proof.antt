@@ -1,17 +1,17 @@
--- `terms_checks::scan::scan_call` meets its contract. Assumes nothing.
+-- `terms_scanning::scan::scan_call` meets its contract. Assumes nothing.
 use mathlib.Core.Path.{_≡_, refl, sym, ap, subst, _∙_}
 use native.Mathlib.Omega.{arith}
 use lib.ListN.{getD}
 use Rattle.terms_bytes.proofs.CountedLaws.{is-two, is-one}
 use Rattle.terms_bytes.specs.Counted.{editionFrom}
-use Rattle.terms_checks.proofs.ScanLaws.{call-short, call-unknown, count-missing, count-wrong, counted-names, call-names}
+use Rattle.terms_scanning.proofs.ScanLaws.{call-short, call-unknown, count-missing, count-wrong, counted-names, call-names}
 use borrow.Author.Needs.{needs}
-use Rattle.terms_checks.proofs.scan.scan_call.Statement.{statement}
-use Rattle.terms_checks.proofs.scan.scan_call.Tie as tie
-use Rattle.terms_checks.proofs.scan.scan_call.Reads as reads
-use Rattle.terms_checks.proofs.scan.scan_call.Lts as lts
+use Rattle.terms_scanning.proofs.scan.scan_call.Statement.{statement}
+use Rattle.terms_scanning.proofs.scan.scan_call.Tie as tie
+use Rattle.terms_scanning.proofs.scan.scan_call.Reads as reads
+use Rattle.terms_scanning.proofs.scan.scan_call.Lts as lts
 use Rattle.terms_bytes.proofs.bytes.get.Reads as get-reads
-use Rattle.terms_checks.proofs.scan.scan_names.Reads as scan-names-reads
+use Rattle.terms_scanning.proofs.scan.scan_names.Reads as scan-names-reads
 
 -- src/scan.rt:78:9
 returns : tie.Need-returns

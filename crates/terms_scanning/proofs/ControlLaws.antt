@@ -8,8 +8,8 @@ use lib.Dec.{leb, eqb}
 use borrow.Author.Tests.{le-leb, lt-leb, ne-eqb}
 use Rattle.calculus.specs.Term.{Term, nil, tau, inp, out, bout, mat, sum, par, res, call}
 use Rattle.terms.specs.Grammar.{sequential, parallelOutermost, guarded}
-use Rattle.terms_checks.specs.Scanning.{controlOf, passing, combined}
-use Rattle.terms_checks.specs.declared.scan.Control.{Control}
+use Rattle.terms_scanning.specs.Scanning.{controlOf, passing, combined}
+use Rattle.terms_scanning.specs.declared.scan.Control.{Control}
 
 -- By the first byte, as the code tells them apart.
 module _ (t : ℕ) (p q : Control) (s o g : Bool) (es : s ≡ (p .sequential && q .sequential)) (eo : o ≡ (p .outermost && q .outermost))

@@ -12,10 +12,10 @@ use Rattle.calculus.specs.Term.{Term, nil, tau, inp, out, bout, mat, sum, par, 
 use Rattle.terms.specs.Edition.{Edition}
 use Rattle.terms.specs.Answer.{Answer, refused, result, _>>=_, _>>_, need}
 use Rattle.terms.specs.Reading.{byte, readName, readNames, tagOf, numbered, readCount, readTerm}
-use Rattle.terms_checks.specs.Scanning.{behindNames, behindCall, behindFront, controlOf, passing, combined, scanned}
+use Rattle.terms_scanning.specs.Scanning.{behindNames, behindCall, behindFront, controlOf, passing, combined, scanned}
 use Rattle.terms_bytes.specs.Shape.{namesAt, bindersAt, subtermsAt}
-use Rattle.terms_checks.specs.declared.scan.Control.{Control}
-use Rattle.terms_checks.proofs.ControlLaws.{control-nil, control-tau, control-inp, control-out, control-bout, control-mat, control-sum, control-par, control-res, control-call}
+use Rattle.terms_scanning.specs.declared.scan.Control.{Control}
+use Rattle.terms_scanning.proofs.ControlLaws.{control-nil, control-tau, control-inp, control-out, control-bout, control-mat, control-sum, control-par, control-res, control-call}
 
 -- The subterms under d binders of a term that begins with t.
 module _ (ed : Edition) (free : ℕ) (arities : List ℕ) where
