@@ -4,7 +4,7 @@ use Rattle.terms.specs.Answer.{Answer, refused, result}
 use Rattle.steps_lister.specs.Answering.{stepsAnswer}
 use Rattle.steps.specs.Listing.{Listing, unsettled, listed}
 use Rattle.verdict.specs.Outcome.{ofListing}
-use Rattle.exchange.specs.Listed.{ofSteps}
+use Rattle.exchange_codes.specs.Listed.{ofSteps}
 
 pub of-steps : (m : Answer Listing) → ofSteps (stepsAnswer m) ≡ ofListing m
 unfolding ofSteps stepsAnswer ofListing

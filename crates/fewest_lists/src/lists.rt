@@ -13,7 +13,7 @@ use terms_bytes::bytes::copy;
 use terms_bytes::frame::after_field;
 use terms_bytes::frame::definitions;
 use terms_bytes::frame::field_place;
-use terms_rewriting::merge::holds_apart;
+use terms_merging::merge::holds_apart;
 
 // The flag of pair `k`: whether the list holds it apart.
 fn apart_flag(list: &[u8], k: usize) -> u8

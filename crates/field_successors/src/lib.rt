@@ -1,4 +1,3 @@
 // The start and the successors of a situation.
 pub mod results;
 pub mod start;
-pub mod update;

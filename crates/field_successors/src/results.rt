@@ -7,8 +7,8 @@ ghost use Rattle.field_successors.specs.Resulting.{CopiesResult, Rewrite
 ghost use Rattle.field_pairs.specs.Slot.{keyBytes};
 ghost use Rattle.terms.specs.Limits.{nameCount};
 ghost use Rattle.steps.specs.Limits.{stepBytes};
-use crate::update::keeps_pairs;
-use crate::update::updated;
+use field_distinctions::update::keeps_pairs;
+use field_distinctions::update::updated;
 use field_pairs::entries::OBJECT;
 use field_pairs::entries::same_classes;
 use field_pairs::names::free_in_either;

@@ -20,11 +20,11 @@ use Rattle.terms.proofs.TidyShorter.{tidy-shorter}
 use Rattle.terms.proofs.WellFormed.{accepted-well-formed}
 use Rattle.terms_bytes.proofs.Heights.{height-bytes}
 use Rattle.terms_bytes.proofs.Stores.{sets-middle}
-use Rattle.terms_tidying.specs.Restrictions.{HasRestrictionIs}
+use Rattle.terms_restrictions.specs.Restrictions.{HasRestrictionIs}
 use Rattle.terms_tidying.specs.TidiedTerms.{IsTidiedIs}
 use Rattle.terms_tidying.specs.Tidying.{Tidied, TidiedIs}
 use Rattle.terms_tidying.specs.declared.tidy.Ends.{Ends}
-use Rattle.terms_tidying.proofs.RestrictionWalk.{unrestricted}
+use Rattle.terms_restrictions.proofs.RestrictionWalk.{unrestricted}
 use Rattle.terms_tidied.specs.TidiedBodies.{tidiedBodies, WritesTidied}
 use Rattle.steps.specs.Forms.{resultForm}
 use Rattle.steps.specs.Listing.{stepsOf}

@@ -21,9 +21,9 @@ use steps_walk::walk::Walked;
 use steps_walk::walk::walk;
 use terms_bytes::limits::LONGEST_QUESTION;
 use terms_bytes::limits::LONGEST_TERM;
+use terms_restrictions::restriction::has_restriction;
 use terms_tidied::question::has_tidied_bodies;
 use terms_tidied::question::tidy_bodies;
-use terms_tidying::restriction::has_restriction;
 use terms_tidying::tidied::is_tidied;
 use terms_tidying::tidy::tidy;
 

@@ -12,7 +12,7 @@ use Rattle.calculus.specs.Tidy.{tidy}
 use Rattle.terms.specs.Encoding.{encode}
 use Rattle.terms.specs.Limits.{nameCount}
 use Rattle.terms.specs.Question.{Question, bodyOf}
-use Rattle.terms_tidying.specs.Restrictions.{Unrestricted}
+use Rattle.terms_restrictions.specs.Restrictions.{Unrestricted}
 use Rattle.steps.specs.Forms.{resultForm}
 use Rattle.steps.specs.Listed.{listedAs, canonStep, resultBytes}
 use Rattle.calculus.specs.Lists.{All}

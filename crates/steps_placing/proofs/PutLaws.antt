@@ -21,7 +21,7 @@ use Rattle.terms.specs.Question.{Question, bodyOf}
 use Rattle.terms.proofs.RenamingKeeps.{length-ren}
 use Rattle.terms.proofs.WellFormed.{accepted-well-formed}
 use Rattle.terms_tidying.specs.Tidying.{longestRaw}
-use Rattle.terms_tidying.proofs.Mentions.{unmentioned, narrowed}
+use Rattle.terms_restrictions.proofs.Mentions.{unmentioned, narrowed}
 use Rattle.steps.specs.Forms.{resultForm}
 use Rattle.steps.specs.Limits.{mostSteps}
 use Rattle.steps.specs.Listed.{kindOf, channelOf, objectOf, listedAs, canonStep, resultBytes}

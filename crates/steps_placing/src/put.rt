@@ -25,7 +25,7 @@ use steps_tallies::bodies::arities_of;
 use steps_tallies::tally::is_restricted;
 use terms_bytes::limits::LONGEST_TERM;
 use terms_bytes::limits::NAME_COUNT;
-use terms_tidying::occurs::occurs;
+use terms_restrictions::occurs::occurs;
 use terms_tidying::tidied::is_tidied;
 use terms_tidying::tidy::LONGEST_RAW;
 use terms_tidying::tidy::tidy;

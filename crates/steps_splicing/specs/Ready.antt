@@ -8,7 +8,7 @@ use Rattle.terms.specs.Answer.{result}
 use Rattle.terms.specs.Encoding.{encode, InScope}
 use Rattle.terms.specs.Limits.{nameCount, longestTerm}
 use Rattle.terms.specs.Question.{Question, checkOf}
-use Rattle.terms_tidying.specs.Restrictions.{Unrestricted}
+use Rattle.terms_restrictions.specs.Restrictions.{Unrestricted}
 use Rattle.steps_tallies.specs.Tally.{restrictedAt, TallyIs, BodiesUnrestricted, BodiesTallied}
 use Rattle.steps_splicing.specs.declared.locate.Located.{Located}
 

@@ -19,8 +19,8 @@ use Rattle.terms.specs.Question.{Question, checkOf, bodyOf}
 use Rattle.terms.specs.WellFormed.{BodiesAllowed}
 use Rattle.terms.proofs.WellFormed.{accepted-well-formed}
 use Rattle.terms_bytes.specs.FieldPlaces.{fieldAt, fieldPlace}
-use Rattle.terms_tidying.specs.Restrictions.{Unrestricted, HasRestrictionIs}
-use Rattle.terms_tidying.proofs.RestrictionWalk.{unrestricted}
+use Rattle.terms_restrictions.specs.Restrictions.{Unrestricted, HasRestrictionIs}
+use Rattle.terms_restrictions.proofs.RestrictionWalk.{unrestricted}
 use Rattle.steps_tallies.specs.Bodies.{AritiesIs, BodyIs}
 use Rattle.steps_tallies.specs.Tally.{tallySize, visibleAt, silentAt, bodyTally, visibleCall, silentCall, Few, FewCalls, placeIn, restrictedBodies, TalliedBelow, PlacesBelow, BodiesTidied, BodiesUnrestricted, BodiesTallied}
 use Rattle.steps_tallies.proofs.CallLaws.{body-scope}

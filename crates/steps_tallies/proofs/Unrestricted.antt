@@ -8,7 +8,7 @@ use Rattle.calculus.specs.Definitions.{at, opened}
 use Rattle.calculus.specs.Term.{Term, nil, tau, inp, out, bout, mat, sum, par, res, call, lift, ren, inst, _•_}
 use Rattle.calculus.specs.Tidy.{tidy}
 use Rattle.terms.specs.Question.{bodyOf}
-use Rattle.terms_tidying.specs.Restrictions.{Unrestricted}
+use Rattle.terms_restrictions.specs.Restrictions.{Unrestricted}
 use Rattle.calculus.specs.Lists.{All}
 use Rattle.steps.specs.Raw.{Candidate, step, blocked, matching, leftSteps, rightSteps, meet, communication, communications, visibleOf, silentOf, visibleCalls, silentCalls, visible, silent}
 use Rattle.calculus.proofs.Membership.{all-++, all-map}

@@ -12,7 +12,7 @@ use Rattle.terms_bytes.specs.FieldPlaces.{fieldAt, fieldPlace}
 use Rattle.terms.specs.Limits.{longestTerm, mostDefinitions}
 use Rattle.terms.specs.Question.{Question, checkOf}
 use Rattle.terms.specs.Question.{bodyOf}
-use Rattle.terms_tidying.specs.Restrictions.{Unrestricted}
+use Rattle.terms_restrictions.specs.Restrictions.{Unrestricted}
 use Rattle.steps.specs.Raw.{visible, silent}
 
 -- Three numbers for each place, and one more; and the tallies of all bodies one behind the other, and one number more.

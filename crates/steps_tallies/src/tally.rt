@@ -21,7 +21,7 @@ use terms_bytes::tags::INACTION;
 use terms_bytes::tags::MATCH;
 use terms_bytes::tags::PARALLEL;
 use terms_bytes::tags::SILENT;
-use terms_tidying::restriction::has_restriction;
+use terms_restrictions::restriction::has_restriction;
 
 // Three times the longest term, at each place the visible candidates, the silent ones, and the end; and one number more.
 pub const TALLY: usize = 337;

@@ -3,3 +3,4 @@ pub mod FittingLaws
 pub mod FrontLaws
 pub mod PlainForm
 pub mod QuestionLaws
+pub mod TurnedBack

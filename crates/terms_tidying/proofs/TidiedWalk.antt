@@ -24,7 +24,7 @@ use Rattle.terms_bytes.proofs.Stores.{span, length-span, getD-span}
 use Rattle.terms_tidying.specs.TidiedTerms.{Keeps, KeepsBytes, FrontOf, NextFrontIs, FollowIs, IsTidiedIs}
 use Rattle.terms_tidying.specs.declared.tidied.NextFront.{NextFront}
 use Rattle.terms_tidying.specs.declared.tidied.Place.{Place}
-use Rattle.terms_tidying.proofs.UnusedWalk.{or-false, or-neither, among-append, among-bytes, among-parts, usedBy, none-short, first-byte, behind}
+use Rattle.terms_restrictions.proofs.UnusedWalk.{or-false, or-neither, among-append, among-bytes, among-parts, usedBy, none-short, first-byte, behind}
 
 -- The names of a front.
 pub keeps-none : (depth : ℕ) (test : ℕ → Bool) (waits : List ℕ) → Keeps depth test waits waits

@@ -27,10 +27,10 @@ use Rattle.terms_bytes.proofs.Shapes.{encodeAll, encode-parts, AllInScope, subt
 use Rattle.terms_bytes.proofs.Stores.{span, sets-join, sets-start}
 use Rattle.terms_renaming.specs.Renaming.{RenameIs}
 use Rattle.terms_tidying.specs.Tidying.{longestRaw, CopiedFrontIs, Tidied, TidiedBeneath}
-use Rattle.terms_tidying.specs.Unused.{bindsNothing, BindsNothing}
+use Rattle.terms_restrictions.specs.Unused.{bindsNothing, BindsNothing}
 use Rattle.terms_tidying.specs.declared.tidy.CopiedFront.{CopiedFront}
 use Rattle.terms_tidying.specs.declared.tidy.Ends.{Ends}
-use Rattle.terms_tidying.proofs.UnusedWalk.{behind, size-behind}
+use Rattle.terms_restrictions.proofs.UnusedWalk.{behind, size-behind}
 
 -- The name of a restriction that binds nothing becomes the first free name; the others are as they are outside of it.
 outsideOf : ℕ → ℕ → ℕ

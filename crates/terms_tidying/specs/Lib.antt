@@ -1,4 +1,2 @@
-pub mod Restrictions
 pub mod TidiedTerms
 pub mod Tidying
-pub mod Unused

@@ -1,6 +1,3 @@
 // Restrictions that bind nothing go from the bytes of a term (request 2026-04).
-pub mod occurs;
-pub mod restriction;
 pub mod tidied;
 pub mod tidy;
-pub mod unused;

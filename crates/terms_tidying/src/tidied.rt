@@ -6,7 +6,6 @@ ghost use Prim.Native.Nat.{_+_, _<_, _≤_};
 ghost use lib.Dec.{eqb};
 ghost use lib.ListN.{length, getD, take, drop};
 ghost use Rattle.terms_tidying.specs.TidiedTerms.{KeepsBytes, FrontOf, NextFrontIs, FollowIs, IsTidiedIs};
-use crate::occurs::occurs;
 use terms_bytes::bytes::get;
 use terms_bytes::bytes::room;
 use terms_bytes::tags::CALL;
@@ -17,6 +16,7 @@ use terms_bytes::tags::NEW_OUTPUT;
 use terms_bytes::tags::PARALLEL;
 use terms_bytes::tags::RESTRICTION;
 use terms_bytes::tags::SILENT;
+use terms_restrictions::occurs::occurs;
 
 // How many binders have a byte; no term of a question is longer.
 const BINDERS: usize = 128;

@@ -2,12 +2,12 @@
 ghost use Prim.Native.Nat.{_≤_};
 ghost use lib.ListN.{length};
 ghost use Rattle.terms_tidying.specs.Tidying.{CopiedFrontIs, TidiedIs, TidiedBeneathIs};
-use crate::unused::binds_nothing;
 use terms_bytes::bytes::copy;
 use terms_bytes::bytes::room;
 use terms_bytes::limits::TABLE_NAMES;
 use terms_bytes::shape::shape_at;
 use terms_renaming::rename::rename;
+use terms_restrictions::unused::binds_nothing;
 
 // The bytes of a result before it is tidied are fewer than this: 112, less two calls of 2 bytes, plus two results of 111 and one restriction.
 pub const LONGEST_RAW: usize = 336;

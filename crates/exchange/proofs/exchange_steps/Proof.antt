@@ -1,7 +1,7 @@
 -- `exchange::exchange_steps` meets its contract. Assumes nothing.
 use mathlib.Core.Path.{_∙_, ap}
 use Rattle.verdict.specs.Outcome.{codeOf}
-use Rattle.exchange.specs.Listed.{ofSteps}
+use Rattle.exchange_codes.specs.Listed.{ofSteps}
 use Rattle.exchange.proofs.ListedLaws.{of-steps}
 use Rattle.verdict.proofs.SmallOutcomes.{list-small}
 use borrow.Author.Needs.{needs}

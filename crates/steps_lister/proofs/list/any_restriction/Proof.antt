@@ -7,7 +7,7 @@ use Rattle.steps_lister.proofs.list.any_restriction.Reads as reads
 use Rattle.steps_lister.proofs.list.any_restriction.Lts as lts
 use Rattle.steps_tallies.proofs.bodies.arities_of.Reads as arities-of-reads
 use Rattle.steps_tallies.proofs.tally.bodies_restricted.Reads as bodies-restricted-reads
-use Rattle.terms_tidying.proofs.restriction.has_restriction.Reads as has-restriction-reads
+use Rattle.terms_restrictions.proofs.restriction.has_restriction.Reads as has-restriction-reads
 
 -- src/list.rt:42:8
 bodies-restricted-requires : tie.Need-bodies-restricted-requires

@@ -6,7 +6,7 @@ use native.Mathlib.Numerals.{add-one}
 use lib.ListN.{length}
 use borrow.Author.Needs.{needs}
 use Rattle.terms_bytes.specs.FieldPlaces.{afterField, fieldPlace}
-use Rattle.terms_tidying.specs.Restrictions.{HasRestrictionIs}
+use Rattle.terms_restrictions.specs.Restrictions.{HasRestrictionIs}
 use Rattle.steps_tallies.proofs.RestrictedBodies.{UnrestrictedBelow, none-restricted, one-more, all-looked-at}
 -- `steps_tallies::tally::has_restricted_body` meets its contract. Assumes nothing.
 use Rattle.steps_tallies.proofs.tally.has_restricted_body.Statement.{statement}

@@ -9,7 +9,7 @@ use Rattle.terms_tidying.proofs.tidied.all_used.Statement.{statement}
 use Rattle.terms_tidying.proofs.tidied.all_used.Tie as tie
 use Rattle.terms_tidying.proofs.tidied.all_used.Reads as reads
 use Rattle.terms_tidying.proofs.tidied.all_used.Lts as lts
-use Rattle.terms_tidying.proofs.occurs.occurs.Reads as occurs-reads
+use Rattle.terms_restrictions.proofs.occurs.occurs.Reads as occurs-reads
 use Rattle.terms_tidying.proofs.tidied.follow.Reads as follow-reads
 use Rattle.terms_tidying.proofs.tidied.next_front.Reads as next-front-reads
 use Rattle.terms_tidying.proofs.tidied.waiting.Reads as waiting-reads

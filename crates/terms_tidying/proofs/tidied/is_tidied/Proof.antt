@@ -7,7 +7,7 @@ use Rattle.terms_tidying.proofs.tidied.is_tidied.Statement.{statement}
 use Rattle.terms_tidying.proofs.tidied.is_tidied.Tie as tie
 use Rattle.terms_tidying.proofs.tidied.is_tidied.Reads as reads
 use Rattle.terms_tidying.proofs.tidied.is_tidied.Lts as lts
-use Rattle.terms_tidying.proofs.occurs.occurs.Reads as occurs-reads
+use Rattle.terms_restrictions.proofs.occurs.occurs.Reads as occurs-reads
 use Rattle.terms_tidying.proofs.tidied.all_used.Reads as all-used-reads
 
 -- src/tidied.rt:148:9

@@ -5,7 +5,7 @@ use native.Mathlib.Omega.{arith}
 use lib.ListN.{length, take}
 use borrow.Author.Needs.{needs}
 use borrow.Author.Tests.{leb-true, leb-false, not-true, not-false}
-use Rattle.terms_tidying.specs.Unused.{BindsNothing}
+use Rattle.terms_restrictions.specs.Unused.{BindsNothing}
 use Rattle.terms_tidying.proofs.TidyWalk.{agrees, outsideByte, stays, goes, tidied-none, tidied-one, tidied-two, beneath-inside, beneath-fits, beneath-tidied, beneath-place, first-place, second-place, taken, lowered-place}
 use Prim.Native.Nat.{ℕ, _<_}
 use borrow.Fn.Kinds.{In}
@@ -19,7 +19,7 @@ use Rattle.terms_tidying.proofs.tidy.+tidy+tidy_unrestricted.Lts-tidy_u
 use Rattle.terms_bytes.proofs.bytes.room.Reads as room-reads
 use Rattle.terms_renaming.proofs.rename.rename.Reads as rename-reads
 use Rattle.terms_tidying.proofs.tidy.copy_front.Reads as copy-front-reads
-use Rattle.terms_tidying.proofs.unused.binds_nothing.Reads as binds-nothing-reads
+use Rattle.terms_restrictions.proofs.unused.binds_nothing.Reads as binds-nothing-reads
 use Rattle.terms_tidying.proofs.tidy.+tidy+tidy_unrestricted.{statement}
 use Rattle.terms_tidying.proofs.tidy.+tidy+tidy_unrestricted.Tie.{close}
 

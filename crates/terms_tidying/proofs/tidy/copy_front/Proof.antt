@@ -6,7 +6,7 @@ use lib.ListN.{length}
 use borrow.Author.Needs.{needs}
 use borrow.Author.Tests.{leb-true, leb-false, not-true, not-false}
 use Rattle.terms_tidying.proofs.TidyWalk.{front-none, none-full, front-copied}
-use Rattle.terms_tidying.proofs.UnusedWalk.{none-past, none-short}
+use Rattle.terms_restrictions.proofs.UnusedWalk.{none-past, none-short}
 use Rattle.terms_tidying.proofs.tidy.copy_front.Statement.{statement}
 use Rattle.terms_tidying.proofs.tidy.copy_front.Tie as tie
 

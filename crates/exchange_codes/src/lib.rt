@@ -1,0 +1,2 @@
+// The numbers that the operations answer.
+pub mod codes;

@@ -1,0 +1,2 @@
+// The apart pairs after a step.
+pub mod update;

@@ -1,0 +1,2 @@
+mod BesideChecks
+mod BesideWriting

@@ -1,0 +1,2 @@
+// A third part beside both sides.
+pub mod beside;

@@ -1,0 +1,3 @@
+mod MergeChecks
+mod MergeCounted
+mod MergeWriting

@@ -1,0 +1,2 @@
+// Merge of two names.
+pub mod merge;

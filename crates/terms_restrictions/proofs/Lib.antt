@@ -1,0 +1,3 @@
+pub mod Mentions
+pub mod RestrictionWalk
+pub mod UnusedWalk

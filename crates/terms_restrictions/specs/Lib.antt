@@ -1,0 +1,2 @@
+pub mod Restrictions
+pub mod Unused

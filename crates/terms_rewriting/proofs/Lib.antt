@@ -1,6 +1,0 @@
-mod BesideChecks
-mod BesideWriting
-mod MergeChecks
-mod MergeCounted
-mod MergeWriting
-mod TurnedBack

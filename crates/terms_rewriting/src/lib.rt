@@ -1,3 +1,0 @@
-// Merge and beside.
-pub mod beside;
-pub mod merge;
