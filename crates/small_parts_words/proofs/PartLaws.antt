@@ -12,10 +12,10 @@ use Rattle.terms.specs.Edition.{one, versionByte}
 use Rattle.terms.specs.Reading.{numbered, readWhole}
 use Rattle.terms.proofs.Answers.{result-injective, refused-not-result}
 use Rattle.terms_bytes.proofs.Stores.{sets-join, sets-start}
-use Rattle.terms_checks.specs.Scanning.{controlOf, scannedWhole, wholeAnswer}
-use Rattle.terms_checks.specs.declared.scan.Control.{Control}
-use Rattle.terms_checks.specs.declared.scan.Scan.{Scan}
-use Rattle.terms_checks.specs.declared.scan.Scan.the-variants.{End, Fault}
+use Rattle.terms_scanning.specs.Scanning.{controlOf, scannedWhole, wholeAnswer}
+use Rattle.terms_scanning.specs.declared.scan.Control.{Control}
+use Rattle.terms_scanning.specs.declared.scan.Scan.{Scan}
+use Rattle.terms_scanning.specs.declared.scan.Scan.the-variants.{End, Fault}
 use Rattle.calculus.specs.Term.{Term}
 use Rattle.small_parts.specs.Census.{freeNames, asked}
 use Rattle.small_parts_words.specs.Words.{wordOf, wordCount, hasOutermost, isPart, partsBelow, partNumbers, MayKeep, KeepsIs, CollectsIs}

@@ -6,8 +6,8 @@ ghost use Rattle.small_parts.specs.Census.{greatestLength};
 ghost use Rattle.small_parts_words.specs.Words.{wordOf, isPart, partNumbers, MayKeep, KeepsIs, CollectsIs};
 use crate::words::word_count;
 use crate::words::write_word;
-use terms_checks::scan::Scan;
-use terms_checks::scan::scan_whole;
+use terms_scanning::scan::Scan;
+use terms_scanning::scan::scan_whole;
 
 pub const GREATEST_LENGTH: usize = 5;
 

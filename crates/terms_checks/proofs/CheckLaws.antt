@@ -16,11 +16,11 @@ use Rattle.terms_bytes.specs.FieldPlaces.{afterField, fieldAt}
 use Rattle.terms.specs.Limits.{nameCount, longestTerm, longestApart}
 use Rattle.terms.specs.Question.{every, fits, differentNames, differentNamesWith, readBodies, readPairs, readPairsWith, readApart, readApartWith}
 use Rattle.terms.specs.Reading.{numbered, readWhole}
-use Rattle.terms_checks.specs.Scanning.{controlOf, passing, scannedWhole, wholeAnswer}
-use Rattle.terms_checks.specs.declared.scan.Control.{Control}
-use Rattle.terms_checks.specs.declared.scan.Scan.the-variants.{End, Fault}
+use Rattle.terms_scanning.specs.Scanning.{controlOf, passing, scannedWhole, wholeAnswer}
+use Rattle.terms_scanning.specs.declared.scan.Control.{Control}
+use Rattle.terms_scanning.specs.declared.scan.Scan.the-variants.{End, Fault}
 use Rattle.terms.proofs.Answers.{bind-to, bind-refused}
-use Rattle.terms_checks.proofs.ScanLaws.{drop-here}
+use Rattle.terms_scanning.proofs.ScanLaws.{drop-here}
 
 -- A test over a list, from a position on.
 module _ (p : ℕ → Bool) (s : List ℕ) (i : ℕ) where

@@ -8,8 +8,8 @@ use Rattle.terms_checks.specs.Checking.{fieldsFrom, firstPlace, secondPl
 use Rattle.terms_bytes.specs.FieldPlaces.{aritiesOf, afterField, fieldAt, fieldPlace}
 use Rattle.terms.specs.Edition.{Edition}
 use Rattle.terms.specs.Question.{every, fits}
-use Rattle.terms_checks.specs.Scanning.{wholeAnswer}
-use Rattle.terms_checks.specs.declared.scan.Scan.{Scan}
+use Rattle.terms_scanning.specs.Scanning.{wholeAnswer}
+use Rattle.terms_scanning.specs.declared.scan.Scan.{Scan}
 
 module _ (ed : Edition) (s list : List ℕ) (is : list ≡ aritiesOf s) where
   pub bodies-at : (at : ℕ) (r : Scan) → at ≡ fieldPlace s 0 →

@@ -16,10 +16,10 @@ use Rattle.terms.specs.Grammar.{sequential, parallelOutermost, guarded}
 use Rattle.terms.specs.Limits.{nameCount, mostDefinitions, greatestArity}
 use Rattle.terms.specs.Question.{Question, every, fits, readBodies, readPart, readPartWith, readApart, checkTerms, checkTermsWith, checkFields, checkFieldsWith}
 use Rattle.terms.specs.Reading.{numbered, readWhole}
-use Rattle.terms_checks.specs.Scanning.{controlOf, passing, scannedWhole, wholeAnswer}
+use Rattle.terms_scanning.specs.Scanning.{controlOf, passing, scannedWhole, wholeAnswer}
 use Rattle.terms_checks.specs.declared.check.Checked.the-variants.{Accepted, Refused}
-use Rattle.terms_checks.specs.declared.scan.Control.{Control}
-use Rattle.terms_checks.specs.declared.scan.Scan.the-variants.{End, Fault}
+use Rattle.terms_scanning.specs.declared.scan.Control.{Control}
+use Rattle.terms_scanning.specs.declared.scan.Scan.the-variants.{End, Fault}
 use Rattle.terms.proofs.Answers.{bind-to, bind-refused}
 
 -- Both parts.

@@ -17,7 +17,7 @@ use Rattle.terms_bytes.specs.FieldPlaces.{definitionsOf, aritiesOf, sizeAt, aft
 use Rattle.terms.specs.Framing.{cut, field, fields, Fields, framed}
 use Rattle.terms.proofs.Answers.{bind-to, bind-refused, need-passed}
 use Rattle.terms_bytes.proofs.Places.{after-held, after-past, field-held, held-of-after, past-of-after}
-use Rattle.terms_checks.proofs.ScanLaws.{drop-here}
+use Rattle.terms_scanning.proofs.ScanLaws.{drop-here}
 
 -- The places that the code finds one after another.
 module _ (s : List ℕ) (n first second apart : ℕ) (count : n ≡ definitionsOf s) (one : first ≡ fieldPlace s n) where

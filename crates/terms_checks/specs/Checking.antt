@@ -10,10 +10,10 @@ use Rattle.terms.specs.Edition.{Edition}
 use Rattle.terms.specs.Framing.{Fields}
 use Rattle.terms.specs.Question.{every, fits, readBodies, readPart}
 use Rattle.terms.specs.Reading.{numbered}
-use Rattle.terms_checks.specs.Scanning.{controlOf, passing}
+use Rattle.terms_scanning.specs.Scanning.{controlOf, passing}
 use Rattle.terms_checks.specs.declared.check.Checked.{Checked}
 use Rattle.terms_checks.specs.declared.check.Checked.the-variants.{Accepted, Refused}
-use Rattle.terms_checks.specs.declared.scan.Control.{Control}
+use Rattle.terms_scanning.specs.declared.scan.Control.{Control}
 
 -- Check answers 0, or the number of the check that turns the question back.
 unfoldable pub checkedAnswer : Checked → Answer ℕ

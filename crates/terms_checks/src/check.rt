@@ -10,12 +10,7 @@ ghost use Rattle.terms.specs.Edition.{versionByte};
 ghost use Rattle.terms.specs.Limits.{greatestArity};
 ghost use Rattle.terms.specs.Operations.{checkAnswer};
 ghost use Rattle.terms.specs.Question.{every, fits, differentNames, readApart, checkTerms, checkFields, checkIn, editionOf};
-ghost use Rattle.terms_checks.specs.Scanning.{wholeAnswer};
-use crate::scan::Control;
-use crate::scan::Scan;
-use crate::scan::both;
-use crate::scan::passed;
-use crate::scan::scan_whole;
+ghost use Rattle.terms_scanning.specs.Scanning.{wholeAnswer};
 use terms_bytes::bytes::get;
 use terms_bytes::frame::after_field;
 use terms_bytes::frame::arities;
@@ -28,6 +23,11 @@ use terms_bytes::limits::LONGEST_QUESTION;
 use terms_bytes::limits::LONGEST_TERM;
 use terms_bytes::limits::MOST_DEFINITIONS;
 use terms_bytes::limits::NAME_COUNT;
+use terms_scanning::scan::Control;
+use terms_scanning::scan::Scan;
+use terms_scanning::scan::both;
+use terms_scanning::scan::passed;
+use terms_scanning::scan::scan_whole;
 
 // Whether no check turns the question back, or the number of the first that does.
 pub enum Checked {

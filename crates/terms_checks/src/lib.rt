@@ -1,3 +1,2 @@
 // Checks 3 to 12 of a question.
 pub mod check;
-pub mod scan;

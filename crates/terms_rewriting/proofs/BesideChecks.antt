@@ -15,8 +15,8 @@ use Rattle.terms.specs.Grammar.{parallelOutermost}
 use Rattle.terms.specs.Operations.{besideQuestion, fitsBeside, placedBeside, writtenWithin, besideOf}
 use Rattle.terms.specs.Question.{Question, fits, readPart, readPartWith, editionOf, questionOf, writeIn}
 use Rattle.terms.specs.Reading.{numbered, readWhole}
-use Rattle.terms_checks.specs.Scanning.{controlOf, scannedWhole}
-use Rattle.terms_checks.specs.declared.scan.Control.{Control}
+use Rattle.terms_scanning.specs.Scanning.{controlOf, scannedWhole}
+use Rattle.terms_scanning.specs.declared.scan.Control.{Control}
 use Rattle.terms_rewriting.proofs.BesideWriting.{beside-length}
 use Rattle.terms.proofs.EncodeRead.{whole-read}
 use Rattle.terms.proofs.OwnEdition.{own-written}

@@ -24,8 +24,8 @@ use terms_bytes::tags::PARALLEL;
 use terms_checks::check::Checked;
 use terms_checks::check::check;
 use terms_checks::check::is_counted;
-use terms_checks::scan::Scan;
-use terms_checks::scan::scan_whole;
+use terms_scanning::scan::Scan;
+use terms_scanning::scan::scan_whole;
 
 // Writes one side as a field: its length, byte 07, the `size` bytes of the side at `at`, the third part. Answers where the field ends.
 fn write_side(

@@ -39,7 +39,7 @@ use Rattle.field.proofs.Unseen.{∈-found}
 use Rattle.field.proofs.Members.{getD-∈}
 use Rattle.field_growth.proofs.KeysDiffer.{key-equal, slot-key}
 use Rattle.verdict_judge.specs.Judging.{judgedAnswer, DecidesIs}
-use Rattle.verdict_survival.specs.Striking.{leftOf, marks, Standing, EqualParts, demandsAt, LeadsToEqual, FieldIn, Searching, SurvivesIs, AllSole, Strikes, AllSurvive, StartSurvivesIs}
+use Rattle.verdict_answers.specs.Striking.{leftOf, marks, Standing, EqualParts, demandsAt, LeadsToEqual, FieldIn, Searching, SurvivesIs, AllSole, Strikes, AllSurvive, StartSurvivesIs}
 use Rattle.verdict.specs.Verdict.{Manner, differs, demandsOf, allAnswered, same, different, decided, verdictBy}
 use Rattle.verdict_judge.specs.declared.judge.Judged.{Judged}
 use Rattle.verdict_judge.specs.declared.judge.Judged.the-variants.{Unsettled, Same, Different}
@@ -48,11 +48,11 @@ use Rattle.verdict_judge.proofs.ByNumber.{distinct-number}
 use Rattle.verdict_strikeout.proofs.EqualParts.{equal-answered}
 use Rattle.verdict_strikeout.proofs.FieldKept.{field-kept}
 use Rattle.verdict.proofs.FieldRows.{FieldRows, explored-rows, rows-field}
-use Rattle.verdict_survival.proofs.LeftLaws.{left-found}
-use Rattle.verdict_survival.proofs.Living.{living-at}
-use Rattle.verdict_survival.proofs.Marks.{marks-at}
+use Rattle.verdict_answers.proofs.LeftLaws.{left-found}
+use Rattle.verdict_answers.proofs.Living.{living-at}
+use Rattle.verdict_answers.proofs.Marks.{marks-at}
 use Rattle.verdict.proofs.Rounds.{true-not-false, self-in, survivors, GoodRows, found-survives}
-use Rattle.verdict_survival.proofs.DemandedMoves.{well, Δ, setting, move-demanded, demand-followed}
+use Rattle.verdict_answers.proofs.DemandedMoves.{well, Δ, setting, move-demanded, demand-followed}
 use Rattle.verdict_strikeout.proofs.StrikeLaws.{still, still-with, strikes-rest, strikes-to}
 
 -- The explored field of an accepted question in the slots.

@@ -7,7 +7,7 @@ ghost use lib.ListN.{length, drop, replicate};
 ghost use Rattle.verdict.specs.Judge.{slotBytes, greatestCapacity};
 ghost use Rattle.late_early.specs.LateEarly.{late, early};
 ghost use Rattle.verdict.specs.Verdict.{openly, named};
-ghost use Rattle.verdict_survival.specs.Manners.{mannerOf};
+ghost use Rattle.verdict_answers.specs.Manners.{mannerOf};
 ghost use Rattle.terms_bytes.specs.Writing.{IsAccepted, Plain};
 ghost use Rattle.steps_tallies.specs.Tally.{BodiesTidied};
 ghost use Rattle.terms_converting.specs.Questions.{AcceptedFrom};
@@ -27,11 +27,11 @@ use terms_checks::check::is_counted;
 use terms_converting::question::convert_question;
 use terms_tidied::question::has_tidied_bodies;
 use terms_tidied::question::tidy_bodies;
+use verdict_answers::answered::Search;
+use verdict_answers::manner::Manner;
+use verdict_answers::manner::names_differ;
 use verdict_capacity::capacity::capacity_check;
 use verdict_start::passes::start_survives;
-use verdict_survival::manner::Manner;
-use verdict_survival::manner::names_differ;
-use verdict_survival::survive::Search;
 
 // The number of the check that turns back, or the verdict and the size of the field.
 pub enum Judged {

@@ -2,16 +2,16 @@
 ghost use Prim.Native.Nat.{_*_, _≤_};
 ghost use lib.ListN.{length};
 ghost use Rattle.field_pairs.specs.Slot.{slotBytes};
-ghost use Rattle.verdict_survival.specs.Manners.{mannerOf};
-ghost use Rattle.verdict_survival.specs.Striking.{Slots, Listing, AllSole, FirstStruckIs, StartSurvivesIs};
+ghost use Rattle.verdict_answers.specs.Manners.{mannerOf};
+ghost use Rattle.verdict_answers.specs.Striking.{Slots, Listing, AllSole, FirstStruckIs, StartSurvivesIs};
 use field_slots::find::Found;
 use field_slots::slot::left_at;
+use verdict_answers::answered::Search;
+use verdict_notes::relied::clear_notes;
 use verdict_strikeout::strike::LARGEST_BLOCKS;
 use verdict_strikeout::strike::Pass;
 use verdict_strikeout::strike::strike_blocks;
 use verdict_strikeout::strike::strike_until_stable;
-use verdict_survival::relied::clear_notes;
-use verdict_survival::survive::Search;
 
 // Passes over the whole field, of which the first goes up or down.
 pub struct Passes {

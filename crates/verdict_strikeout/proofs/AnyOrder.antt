@@ -9,7 +9,7 @@ use Rattle.field.specs.Exploration.{found, Row}
 use Rattle.field.proofs.Run.{selves}
 use Rattle.field.proofs.Unseen.{∈-found}
 use Rattle.verdict.specs.Verdict.{allAnswered}
-use Rattle.verdict_survival.proofs.Demands.{same-test}
+use Rattle.verdict_answers.proofs.Demands.{same-test}
 use Rattle.verdict.proofs.Rounds.{true-not-false, of-selves, same-row, survivors, survivor-row, survivor-in, EachSome, each-imp, GoodRows, each-answered, closed-survives, member-found, answered-each, selves-good, survivors-answer, found-survives}
 
 module _ (d : Row → List (List (List Situation))) (rs : List Row) where

@@ -6,7 +6,7 @@ use native.Mathlib.Omega.{arith}
 use Prim.Native.Nat.{ℕ, _+_, _-_, _*_, _/_, _<_, _≤_, min}
 use lib.Dec.{eqb}
 use borrow.Author.Tests.{ne-eqb}
-use Rattle.verdict_survival.specs.Striking.{Run, blockSlots}
+use Rattle.verdict_answers.specs.Striking.{Run, blockSlots}
 
 Width : ℕ → Type 0
 Width b = (b ≡ 1) ⊎ ((b ≡ 16) ⊎ (b ≡ 256))

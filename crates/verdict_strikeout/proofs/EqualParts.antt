@@ -36,10 +36,10 @@ use Rattle.field.proofs.MoveLaws.{move-rewritten}
 use Rattle.field.proofs.NamedSide.{listed-performs, answers-own}
 use Rattle.field.proofs.NewNames.{new-away}
 use Rattle.field.proofs.Proper.{encode-same}
-use Rattle.verdict_survival.specs.Striking.{leftOf, SomeAnswer, EqualParts, demandsAt, LeadsTo, Searching, EqualPartsIs}
-use Rattle.verdict_survival.proofs.LeftLaws.{left-found}
-use Rattle.verdict_survival.proofs.DemandedMoves.{Δ, linked, lists, demand-followed}
-use Rattle.verdict_survival.proofs.Demands.{all-answer, each-single}
+use Rattle.verdict_answers.specs.Striking.{leftOf, SomeAnswer, EqualParts, demandsAt, LeadsTo, Searching, EqualPartsIs}
+use Rattle.verdict_answers.proofs.LeftLaws.{left-found}
+use Rattle.verdict_answers.proofs.DemandedMoves.{Δ, linked, lists, demand-followed}
+use Rattle.verdict_answers.proofs.Demands.{all-answer, each-single}
 use Rattle.verdict.specs.Received.{namedMoves, namedDemands}
 use Rattle.verdict.proofs.NamedDemands.{of-demands, in-demand, firstDemands, secondDemands, demands-are}
 use Rattle.verdict.specs.Verdict.{Manner, openly, named, differs, demandsOf, allAnswered}

@@ -19,13 +19,13 @@ use Rattle.field_pairs.specs.Slot.{slotBytes, struckAt, keyBytes, headByte, not
 use Rattle.field_slots.proofs.ChainLaws.{key-flag, keeps-key, chained-kept}
 use Rattle.field_slots.proofs.NotedLaws.{note-flag}
 use Rattle.field_growth.proofs.SlotWriting.{situation-kept}
-use Rattle.verdict_survival.specs.Notes.{NotedIn, Has, NoteIs, ClearsNotes, ReliesOnLeftIs, SoleStruckIs}
-use Rattle.verdict_survival.specs.Striking.{living, leftOf, Standing, SomeAnswer, ReliesOn, demandsAt, FieldIn, Searching, SurvivesIs, Relies, ExaminedIs, AllNoted, AllSole, NotesHold}
-use Rattle.verdict_survival.specs.declared.survive.Answered.{Answered}
-use Rattle.verdict_survival.proofs.LeftLaws.{left-found}
-use Rattle.verdict_survival.proofs.Marks.{marks-kept}
-use Rattle.verdict_survival.proofs.DemandedMoves.{move-demanded}
-use Rattle.verdict_survival.proofs.Demands.{all-answer, one-fails}
+use Rattle.verdict_notes.specs.Notes.{NotedIn, Has, NoteIs, ClearsNotes, ReliesOnLeftIs, SoleStruckIs}
+use Rattle.verdict_answers.specs.Striking.{living, leftOf, Standing, SomeAnswer, ReliesOn, demandsAt, FieldIn, Searching, SurvivesIs, Relies, ExaminedIs, AllNoted, AllSole, NotesHold}
+use Rattle.verdict_answers.specs.declared.answered.Answered.{Answered}
+use Rattle.verdict_answers.proofs.LeftLaws.{left-found}
+use Rattle.verdict_answers.proofs.Marks.{marks-kept}
+use Rattle.verdict_answers.proofs.DemandedMoves.{move-demanded}
+use Rattle.verdict_answers.proofs.Demands.{all-answer, one-fails}
 use Rattle.verdict.specs.Verdict.{Manner, allAnswered}
 
 -- Keys and chains are as they were.

@@ -27,23 +27,23 @@ use Rattle.field_slots.proofs.NotedLaws.{spare-none, spare-then}
 use Rattle.field.proofs.Run.{selves}
 use Rattle.field.proofs.Unseen.{∈-found}
 use Rattle.field.proofs.Members.{getD-∈}
-use Rattle.verdict_survival.specs.Notes.{NoteIs, ReliesOnLeftIs, SoleStruckIs}
-use Rattle.verdict_survival.specs.Striking.{demandsAt, marks, living, zeros, leftOf, EqualParts, Searching, AllAnsweredIs, SurvivesIs, ExaminedIs, AllNoted, NotesHold}
-use Rattle.verdict_survival.specs.Striking.{EqualPartsIs, Strikes, none-struck, one-struck, notes-changed, StrikesSole, StrikesOne, AllSurvive, Run}
-use Rattle.verdict_survival.specs.Striking.{PassIs, FirstStruckIs, StartSurvivesIs, blockSlots, turned}
+use Rattle.verdict_notes.specs.Notes.{NoteIs, ReliesOnLeftIs, SoleStruckIs}
+use Rattle.verdict_answers.specs.Striking.{demandsAt, marks, living, zeros, leftOf, EqualParts, Searching, AllAnsweredIs, SurvivesIs, ExaminedIs, AllNoted, NotesHold}
+use Rattle.verdict_answers.specs.Striking.{EqualPartsIs, Strikes, none-struck, one-struck, notes-changed, StrikesSole, StrikesOne, AllSurvive, Run}
+use Rattle.verdict_answers.specs.Striking.{PassIs, FirstStruckIs, StartSurvivesIs, blockSlots, turned}
 use Rattle.verdict.specs.Verdict.{Manner, differs, demandsOf, allAnswered}
-use Rattle.verdict_survival.specs.declared.survive.Answered.{Answered}
+use Rattle.verdict_answers.specs.declared.answered.Answered.{Answered}
 use Rattle.verdict_strikeout.proofs.AnyOrder.{StrikesTo}
 use Rattle.verdict_strikeout.proofs.AnyOrder as order
 use Rattle.verdict_strikeout.proofs.BlockLaws.{Blocks, block-of, in-block}
 use Rattle.verdict_strikeout.proofs.EqualParts.{equal-survives, equal-bytes}
 use Rattle.verdict_strikeout.proofs.FieldKept.{SameField, same-none, same-then, struck-same, spare-same, field-kept, notes-struck, noted-one, relying-survives, sole-fails, spare-mark, spare-left, survives-kept}
-use Rattle.verdict_survival.proofs.Living.{struck-either, struck-within, all-living}
-use Rattle.verdict_survival.proofs.Marks.{length-marks, marks-at, marks-kept, marks-set, zeros-fewer}
+use Rattle.verdict_answers.proofs.Living.{struck-either, struck-within, all-living}
+use Rattle.verdict_answers.proofs.Marks.{length-marks, marks-at, marks-kept, marks-set, zeros-fewer}
 use Rattle.verdict.proofs.Rounds.{true-not-false, self-in}
 use Rattle.verdict_strikeout.proofs.Unanswered.{strikes-flagged}
-use Rattle.verdict_survival.proofs.DemandedMoves.{move-demanded, demand-followed, demand-answered}
-use Rattle.verdict_survival.proofs.Demands.{all-answer, one-fails}
+use Rattle.verdict_answers.proofs.DemandedMoves.{move-demanded, demand-followed, demand-answered}
+use Rattle.verdict_answers.proofs.Demands.{all-answer, one-fails}
 
 -- What holds of every field holds of one that is being searched.
 answered-survives : (manner : Manner) (question : List ℕ) (capacity : ℕ) (work : List ℕ) (count i : ℕ) (r : Bool) → AllAnsweredIs manner question capacity work count i r

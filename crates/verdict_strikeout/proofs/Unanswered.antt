@@ -17,9 +17,9 @@ use Rattle.field.specs.Exploration.{found, Row}
 use Rattle.field.specs.Situation.{Situation, sameSituation}
 use Rattle.field.proofs.Members.{getD-∈, getD-within}
 use Rattle.field.proofs.Run.{selves}
-use Rattle.verdict_survival.specs.Striking.{living}
+use Rattle.verdict_answers.specs.Striking.{living}
 use Rattle.verdict_strikeout.proofs.AnyOrder.{StrikesTo, all-left, one-struck}
-use Rattle.verdict_survival.proofs.Living.{living-at, struck-either, struck-within, all-living}
+use Rattle.verdict_answers.proofs.Living.{living-at, struck-either, struck-within, all-living}
 use Rattle.verdict.specs.Verdict.{allAnswered}
 use Rattle.verdict.proofs.Rounds.{member-found}
 

@@ -5,20 +5,20 @@ ghost use lib.ListN.{length};
 ghost use Rattle.field_kept_lists.specs.ListArea.{Labelled};
 ghost use Rattle.field_pairs.specs.Slot.{slotBytes};
 ghost use Rattle.verdict.specs.Judge.{greatestCapacity};
-ghost use Rattle.verdict_survival.specs.Manners.{mannerOf};
-ghost use Rattle.verdict_survival.specs.Striking.{Slots, Listing, NotesHold, EqualPartsIs, StrikesSole, StrikesOne, Run, PassIs, blockSlots, turned};
+ghost use Rattle.verdict_answers.specs.Manners.{mannerOf};
+ghost use Rattle.verdict_answers.specs.Striking.{Slots, Listing, NotesHold, EqualPartsIs, StrikesSole, StrikesOne, Run, PassIs, blockSlots, turned};
 use field_kept_lists::list_area::same_part;
 use field_slots::slot::SLOT_BYTES;
 use field_slots::slot::left_at;
 use field_slots::slot::strike;
 use field_slots::slots::first_part;
 use field_slots::slots::second_part;
-use verdict_survival::relied::Relied;
-use verdict_survival::relied::note;
-use verdict_survival::relied::relies_on_left;
-use verdict_survival::relied::sole_struck;
+use verdict_answers::answered::Search;
+use verdict_notes::relied::Relied;
+use verdict_notes::relied::note;
+use verdict_notes::relied::relies_on_left;
+use verdict_notes::relied::sole_struck;
 use verdict_survival::survive::Candidate;
-use verdict_survival::survive::Search;
 use verdict_survival::survive::survives;
 
 // The level of the largest blocks.

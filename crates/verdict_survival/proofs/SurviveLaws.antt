@@ -24,13 +24,13 @@ use Rattle.field_taking_up.specs.TakingUp.{SidesListed, ListsAre, TakenAs, Take
 use Rattle.field_taking_up.specs.declared.taking.Lists.the-variants.{Past, Listed}
 use Rattle.field_taking_up.specs.declared.taking.TakenUp.{TakenUp}
 use Rattle.field.proofs.Members.{getD-∈}
-use Rattle.verdict_survival.specs.Notes.{Has, Few, Numbers}
-use Rattle.verdict_survival.specs.Striking.{leftOf, sideDemands, Side, ReliesOn, SideAnsweredIs, demandsAt, FieldIn, LeadsTo, AllAnsweredIs, Relies, ExaminedIs}
-use Rattle.verdict_survival.specs.declared.relied.Relied.{Relied}
-use Rattle.verdict_survival.specs.declared.survive.Answered.{Answered}
+use Rattle.verdict_notes.specs.Notes.{Has, Few, Numbers}
+use Rattle.verdict_answers.specs.Striking.{leftOf, sideDemands, Side, ReliesOn, SideAnsweredIs, demandsAt, FieldIn, LeadsTo, AllAnsweredIs, Relies, ExaminedIs}
+use Rattle.verdict_notes.specs.declared.relied.Relied.{Relied}
+use Rattle.verdict_answers.specs.declared.answered.Answered.{Answered}
 use Rattle.verdict.specs.Received.{namedDemands, sidesDemand}
 use Rattle.verdict.specs.Verdict.{Manner, openly, named, differs, demandsOf, allAnswered}
-use Rattle.verdict_survival.proofs.Demands.{all-both}
+use Rattle.verdict_answers.proofs.Demands.{all-both}
 use Rattle.verdict.proofs.Rounds.{true-not-false, single}
 
 -- The demands on a situation are those of its sides.

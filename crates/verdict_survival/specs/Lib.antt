@@ -1,3 +1,0 @@
-pub mod Manners
-pub mod Notes
-pub mod Striking

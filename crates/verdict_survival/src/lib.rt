@@ -1,4 +1,2 @@
 // Whether a situation survives.
-pub mod manner;
-pub mod relied;
 pub mod survive;

@@ -1,4 +1,5 @@
 -- `steps_communications::meet::take_same` meets its contract. Assumes nothing.
+use native.Mathlib.Omega.{arith}
 use Rattle.steps_communications.proofs.MeetPairs.{pair-met}
 use borrow.Author.Needs.{needs}
 use Rattle.steps_communications.proofs.meet.take_same.Statement.{statement}

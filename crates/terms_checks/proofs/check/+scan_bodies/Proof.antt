@@ -15,8 +15,8 @@ use Rattle.terms_bytes.proofs.bytes.get.Reads as get-reads
 use Rattle.terms_checks.proofs.check.joint.Reads as joint-reads
 use Rattle.terms_bytes.proofs.frame.after_field.Reads as after-field-reads
 use Rattle.terms_bytes.proofs.frame.field_at.Reads as field-at-reads
-use Rattle.terms_checks.proofs.scan.passed.Reads as passed-reads
-use Rattle.terms_checks.proofs.scan.scan_whole.Reads as scan-whole-reads
+use Rattle.terms_scanning.proofs.scan.passed.Reads as passed-reads
+use Rattle.terms_scanning.proofs.scan.scan_whole.Reads as scan-whole-reads
 use Rattle.terms_checks.proofs.check.+scan_bodies.{statement}
 use Rattle.terms_checks.proofs.check.+scan_bodies.Tie.{close}
 

@@ -11,7 +11,7 @@ use Rattle.terms.specs.Question.{editionOf, questionWith}
 use Rattle.terms_bytes.specs.FieldPlaces.{fieldPlace}
 use Rattle.terms_bytes.specs.Writing.{IsAccepted}
 use Rattle.terms_bytes.proofs.QuestionPlaces.{arities-in, sizes-in}
-use Rattle.terms_checks.specs.Scanning.{scannedWhole, wholeAnswer}
+use Rattle.terms_scanning.specs.Scanning.{scannedWhole, wholeAnswer}
 use Rattle.terms_converting.proofs.FittingLaws.{does-refused}
 use Rattle.terms_rewriting.proofs.BesideChecks.{scanned-fault, scanned-end, sides-too-long, third-faulty, third-parallel, sides-test}
 use borrow.Author.Needs.{needs}
@@ -25,7 +25,7 @@ use Rattle.terms_bytes.proofs.frame.definitions.Reads as definitions-reads
 use Rattle.terms_bytes.proofs.frame.field_place.Reads as field-place-reads
 use Rattle.terms_bytes.proofs.frame.size_at.Reads as size-at-reads
 use Rattle.terms_checks.proofs.check.is_counted.Reads as is-counted-reads
-use Rattle.terms_checks.proofs.scan.scan_whole.Reads as scan-whole-reads
+use Rattle.terms_scanning.proofs.scan.scan_whole.Reads as scan-whole-reads
 use Rattle.terms_rewriting.proofs.beside.beside_allowed.Reads as beside-allowed-reads
 use Rattle.terms_rewriting.proofs.beside.sides_fit.Reads as sides-fit-reads
 

@@ -1,5 +1,5 @@
 -- `verdict_judge::judge::judge` meets its contract. Assumes nothing.
-use Rattle.verdict_survival.specs.Manners.{mannerOf}
+use Rattle.verdict_answers.specs.Manners.{mannerOf}
 use borrow.Author.Needs.{needs}
 use Rattle.verdict_judge.proofs.judge.judge.Statement.{statement}
 use Rattle.verdict_judge.proofs.judge.judge.Tie as tie

@@ -1,7 +1,7 @@
 -- `verdict_judge::judge::judge_as` meets its contract. Assumes nothing.
 use native.Mathlib.Omega.{arith}
 use Rattle.verdict_judge.proofs.JudgeLaws.{not-within, within, question-refused, question-accepted, accepted-either}
-use Rattle.verdict_survival.specs.Manners.{mannerOf}
+use Rattle.verdict_answers.specs.Manners.{mannerOf}
 use borrow.Author.Needs.{needs}
 use Rattle.verdict_judge.proofs.judge.judge_as.Statement.{statement}
 use Rattle.verdict_judge.proofs.judge.judge_as.Tie as tie

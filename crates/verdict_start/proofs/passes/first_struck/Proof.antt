@@ -7,7 +7,7 @@ use mathlib.Core.Path.{_≡_}
 use Prim.Native.Nat.{ℕ, _-_, _<_, _≤_}
 use lib.ListN.{getD}
 use Rattle.field_pairs.specs.Slot.{struckAt}
-use Rattle.verdict_survival.proofs.Marks.{left-zero}
+use Rattle.verdict_notes.proofs.NoteLaws.{left-zero}
 use Rattle.verdict_strikeout.proofs.StrikeLaws.{first-gone, none-gone}
 use Rattle.verdict_start.proofs.passes.first_struck.Statement.{statement}
 use Rattle.verdict_start.proofs.passes.first_struck.Tie as tie

@@ -1,6 +1,6 @@
 -- `verdict_start::passes::survives_passes` meets its contract. Assumes nothing.
 use native.Mathlib.Omega.{arith}
-use Rattle.verdict_survival.specs.Manners.{mannerOf}
+use Rattle.verdict_answers.specs.Manners.{mannerOf}
 use borrow.Author.Needs.{needs}
 use borrow.Author.Tests.{not-true, not-false}
 use mathlib.Core.Bool.{true, false, cond}
@@ -11,9 +11,9 @@ use Rattle.steps_tallies.specs.Tally.{tallySize}
 use Rattle.steps_rows.specs.Rows.{rowBytes, mostRows}
 use Rattle.field_kept_lists.specs.ListArea.{Labelled}
 use Rattle.field_pairs.specs.Slot.{struckAt}
-use Rattle.verdict_survival.specs.Striking.{marks, zeros, NotesHold, Strikes, none-struck, notes-changed, AllSurvive}
+use Rattle.verdict_answers.specs.Striking.{marks, zeros, NotesHold, Strikes, none-struck, notes-changed, AllSurvive}
 use Rattle.verdict_strikeout.proofs.FieldKept.{noted-none}
-use Rattle.verdict_survival.proofs.Marks.{left-zero}
+use Rattle.verdict_notes.proofs.NoteLaws.{left-zero}
 use Rattle.verdict.proofs.Rounds.{true-not-false}
 use Rattle.verdict_strikeout.proofs.StrikeLaws.{strikes-then, pass-all, pass-less, start-goes, start-stays}
 use Rattle.verdict_start.proofs.passes.survives_passes.Statement.{statement}

@@ -1,7 +1,7 @@
 -- `verdict_start::passes::survives_struck` meets its contract. Assumes nothing.
 use native.Mathlib.Omega.{arith}
 use borrow.Author.Tests.{not-true}
-use Rattle.verdict_survival.specs.Striking.{NotesHold, none-struck}
+use Rattle.verdict_answers.specs.Striking.{NotesHold, none-struck}
 use Rattle.verdict_strikeout.proofs.StrikeLaws.{start-goes, then-survives}
 use borrow.Author.Needs.{needs}
 use Rattle.verdict_start.proofs.passes.survives_struck.Statement.{statement}

@@ -1,6 +1,6 @@
 -- `verdict_strikeout::strike::strike_blocks` and `strike_until_stable` meet their contracts. The measure: the level of the blocks. Assumes nothing.
 use native.Mathlib.Omega.{arith}
-use Rattle.verdict_survival.specs.Manners.{mannerOf}
+use Rattle.verdict_answers.specs.Manners.{mannerOf}
 use borrow.Author.Needs.{needs}
 use borrow.Author.Tests.{not-true, not-false}
 use mathlib.Core.Logic.{inr}
@@ -10,7 +10,7 @@ use borrow.Fn.Kinds.{In}
 use borrow.Fn.PlainCycle.{Measures, is, falls, and}
 use lib.ListN.{length}
 use Rattle.field_kept_lists.specs.ListArea.{Labelled}
-use Rattle.verdict_survival.specs.Striking.{marks, zeros, Run, PassIs}
+use Rattle.verdict_answers.specs.Striking.{marks, zeros, Run, PassIs}
 use Rattle.verdict_strikeout.proofs.BlockLaws.{Blocks, width-none, width-some, width-most, block-begins}
 use Rattle.verdict_strikeout.proofs.StrikeLaws.{turned-below, TakenUp, one-pass, pass-none, pass-within, pass-strikes, pass-keeps, parts-none, part-strikes, part-keeps, blocks-passed}
 use Rattle.verdict_strikeout.proofs.strike.strike_until_stable.Reads as strike-until-stable

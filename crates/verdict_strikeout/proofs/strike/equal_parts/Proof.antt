@@ -1,7 +1,7 @@
 -- `verdict_strikeout::strike::equal_parts` meets its contract. Assumes nothing.
 use mathlib.Core.Path.{sym, _∙_}
 use Rattle.field_slots.specs.Key.{FirstPartIs, SecondPartIs}
-use Rattle.verdict_survival.specs.Striking.{EqualPartsIs}
+use Rattle.verdict_answers.specs.Striking.{EqualPartsIs}
 use borrow.Author.Needs.{needs}
 use Rattle.verdict_strikeout.proofs.strike.equal_parts.Statement.{statement}
 use Rattle.verdict_strikeout.proofs.strike.equal_parts.Tie as tie

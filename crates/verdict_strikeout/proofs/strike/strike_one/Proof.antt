@@ -1,7 +1,7 @@
 -- `verdict_strikeout::strike::strike_one` meets its contract. Assumes nothing.
 use native.Mathlib.Omega.{arith}
 use borrow.Author.Tests.{not-true, not-false}
-use Rattle.verdict_survival.proofs.Marks.{left-zero}
+use Rattle.verdict_notes.proofs.NoteLaws.{left-zero}
 use Rattle.verdict_strikeout.proofs.StrikeLaws.{gone-kept, sole-strikes, relying-kept, equal-stays, survivor-noted, one-strikes}
 use borrow.Author.Needs.{needs}
 use Rattle.verdict_strikeout.proofs.strike.strike_one.Statement.{statement}

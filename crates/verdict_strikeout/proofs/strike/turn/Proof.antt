@@ -1,6 +1,6 @@
 -- `verdict_strikeout::strike::turn` meets its contract. Assumes nothing.
 use mathlib.Core.Path.{refl}
-use Rattle.verdict_survival.specs.Striking.{turned}
+use Rattle.verdict_answers.specs.Striking.{turned}
 use borrow.Author.Needs.{needs}
 use Rattle.verdict_strikeout.proofs.strike.turn.Statement.{statement}
 use Rattle.verdict_strikeout.proofs.strike.turn.Tie as tie

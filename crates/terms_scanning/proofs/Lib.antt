@@ -1,0 +1,4 @@
+mod ControlLaws
+pub mod ScanLaws
+mod ScanShapes
+mod ScanTerms

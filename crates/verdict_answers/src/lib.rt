@@ -1,0 +1,3 @@
+// Whether the situations that are left answer each demand.
+pub mod answered;
+pub mod manner;
