@@ -90,10 +90,13 @@ pub record WriteIs (question s : List ℕ) (at D : ℕ) (names : List ℕ) (task
       → (low ≡ true → top ≤ 128)
       → Writes low out put bs r out′
 
--- Room: the restrictions that are written stand in the part before `at`, or one was added by [Close]; in the body of a call, in both. So a slot of
--- each has a byte.
+-- Room: for each byte before `at`, in the part and in the body of a call, one restriction is written at most, its own or that of a [Close]. So a slot
+-- of each has a byte.
+abbrev pub mostLevels : ℕ
+mostLevels = 222
+
 abbrev pub Room : ℕ → ℕ → ℕ → List ℕ → ℕ → Type 0
-Room calls levels at out put = (levels + calls * 112 ≤ at + 113) × (put ≤ length out)
+Room calls levels at out put = (levels + calls * 111 ≤ at + 111) × (put ≤ length out)
 
 -- The tasks that the code makes of a task.
 abbrev pub numbered : ℕ → Task → Task
