@@ -28,8 +28,8 @@ use Rattle.steps_tallies.specs.Tallying.{CallsAre, EntryIs, entryAt, Fil
 use Rattle.steps_tallies.specs.declared.bodies.Opening.{Opening}
 use Rattle.steps_tallies.specs.declared.tally.Entry.{Entry}
 use Rattle.steps_tallies.proofs.BodyPlaces.{body-is}
-use Rattle.steps_tallies.proofs.CallLaws.{body-scope, body-size}
-use Rattle.steps_tallies.proofs.CandidateForms.{candidates-call, candidates-no-call}
+use Rattle.steps_tallies.proofs.CallLaws.{body-scope, body-size, opened-candidates}
+use Rattle.steps_tallies.proofs.CandidateForms.{candidates-no-call}
 use Rattle.steps_tallies.proofs.OwnNames.{own-body}
 use Rattle.steps_tallies.proofs.FrontLaws.{stands}
 
@@ -345,8 +345,8 @@ calls-are question t N q c k xs l =
     (λ (n : ℕ). getD (reverse xs) n 0) (own-body 1 (λ (n : ℕ). getD (reverse xs) n 0) (omega arith)) P [] c (body-scope question q c k) (e ∙ sym (append-nil (encode a P))) in
     let at : (j : ℕ) → j < tallySize → getD t (tallySize * k + j) 0 ≡ getD (take tallySize (drop (tallySize * k) t)) j 0 =
     λ j h. sym (getD-take tallySize (drop (tallySize * k) t) j 0 h ∙ getD-drop (tallySize * k) t j 0) in (
-      ap (λ (n : ℕ). getD t n 0) (omega arith) ∙ at 0 (omega arith) ∙ w .0 ∙ sym (ap length (candidates-call (bodyOf (q .bodies)) false 0 k xs)),
-      ap (λ (n : ℕ). getD t n 0) (omega arith) ∙ at (longestTerm + 0) (omega arith) ∙ w .1 ∙ sym (ap length (candidates-call (bodyOf (q .bodies)) true 0 k xs)),
+      ap (λ (n : ℕ). getD t n 0) (omega arith) ∙ at 0 (omega arith) ∙ w .0 ∙ sym (ap length (opened-candidates question q c k 1 0 (omega arith) refl false xs)),
+      ap (λ (n : ℕ). getD t n 0) (omega arith) ∙ at (longestTerm + 0) (omega arith) ∙ w .1 ∙ sym (ap length (opened-candidates question q c k 1 0 (omega arith) refl true xs)),
     )
 
 -- The tally of the body of a call that is opened.
