@@ -1,4 +1,5 @@
 pub mod ByteOrder
+pub mod CallCandidates
 pub mod Calls
 pub mod CanonSteps
 pub mod ClassLists

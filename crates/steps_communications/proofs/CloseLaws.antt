@@ -32,6 +32,7 @@ use Rattle.steps_passing.specs.Passing.{Acts, PassIs}
 use Rattle.steps_passing.specs.declared.pass.Passed.{Passed}
 use Rattle.steps.specs.Raw.{Candidate, step, blocked, meet, communication}
 use Rattle.steps_plans.specs.Plans.{receiving}
+use Rattle.steps_tallies.proofs.OwnNames.{own-part}
 use Rattle.steps_tallies.specs.Candidates.{candidates}
 use Rattle.steps_tallies.specs.Tally.{TallyIs}
 use Rattle.steps_splicing.specs.Contexts.{Frame, leftOf, rightOf, beneath, fill, raised, restrictions, levelIn}
@@ -215,7 +216,7 @@ pub sends-new : (question part : List ℕ) (l : Located) (p : Passed) → PassIs
 unfolding candidates Acts
 sends-new question part l p passed k = record {
   is = λ _ q C rest ok scope stands N γ A own.
-      go γ (passed .does q nameCount (λ n. n) C rest ok (omega arith) scope stands N γ A (ap (λ (R : Term). getD (candidates false (bodyOf (q .bodies)) 1 R) (l .number) blocked) (ren-id C) ∙ own));
+      go γ (passed .does q nameCount (λ n. n) (own-part 1) C rest ok (omega arith) scope stands N γ A (ap (λ (R : Term). getD (candidates false (bodyOf (q .bodies)) 1 R) (l .number) blocked) (ren-id C) ∙ own));
 }
   where
     go : (γ : Act) → Acts nameCount (l .depth) (λ n. n) γ (p .kind) (p .object) → (a : ℕ) × (γ ≡ boutA a)

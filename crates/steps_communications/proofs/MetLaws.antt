@@ -22,6 +22,7 @@ use Rattle.steps_plans.specs.Plans.{receiving}
 use Rattle.steps_conditions.specs.Slots.{slotOf}
 use Rattle.steps_tallies.specs.Candidates.{candidates}
 use Rattle.steps_tallies.specs.Tally.{TallyIs}
+use Rattle.steps_tallies.proofs.OwnNames.{own-part}
 use Rattle.steps_tallies.proofs.FrontLaws.{stands}
 use Rattle.steps_conditions.proofs.NameSlots.{slot-bound, slot-free, new-beneath}
 use Rattle.steps_splicing.specs.Contexts.{Frame, leftOf, rightOf, beneath, fill, raised, levelIn, restrictions, beforeIn, behindIn, bytesBefore, bytesBehind, Placed}
@@ -319,7 +320,7 @@ module _ (question part tally : List ℕ) (T : TallyIs question part 1 tally) (n
       let br = placed-bytes (C .lists) pr in
       let ends : E .middle ≡ at + 1 + length (encode d L) =
       E .ends .is (omega (arith, stands part (at + 1) d L (bytesBehind (leftOf R ∷ K)) bl))
-      ∙ T .is q (at + 1) nameCount d (λ n. n) L (bytesBehind (leftOf R ∷ K)) (C .lists .accepted) (pl .scope) bl .2 in
+      ∙ T .is q (at + 1) nameCount d (λ n. n) (own-part 1) L (bytesBehind (leftOf R ∷ K)) (C .lists .accepted) (pl .scope) bl .2 in
       let cl = E .left .is question T q L (bytesBehind (leftOf R ∷ K)) (C .lists .accepted) (pl .scope) bl (C .leftInside) in
       let cr = E .right .is question T q R (bytesBehind (rightOf L ∷ K)) (C .lists .accepted) (pr .scope) (ap (λ (k : ℕ). drop k part) ends ∙ br) (C .rightInside) in
       let l = sided q part (at + 1) d L (getD (visible body 1 L) (pair .left .number) blocked) (both .left) cl (C .leftCond) (C .leftAct) (C .leftResult) (C .leftStep) ul y new h in

@@ -17,7 +17,7 @@ use Rattle.steps_tallies.specs.Bodies.{BodyIs, OpeningIs}
 use Rattle.terms.specs.Question.{bodyOf}
 use Rattle.steps_conditions.specs.Labels.{inputOn, newOutputOn, actionOf, ActionBelow, HeaderIs, Labels, MatchingIs, RestrictedIs, CommunicationIs}
 use Rattle.steps_labels.specs.LabelWalk.{slotAt, HasSlots, ArgumentsIs, prefixAction, PrefixLabelIs, Within, NthIs, MeetingIs}
-use Rattle.steps_tallies.specs.Candidates.{candidates}
+use Rattle.steps_tallies.specs.Candidates.{candidates, OwnNamesIf}
 use Rattle.steps_passing.specs.Passing.{MiddleIs}
 use Rattle.steps.specs.Raw.{Candidate, step, blocked, matching, leftSteps, rightSteps, communications, restricted, visible, silent, visibleOf, silentOf}
 use Rattle.steps_conditions.specs.Slots.{slotCount, HasSlotClasses, HasClasses, Below}
@@ -33,6 +33,7 @@ use Rattle.steps_tallies.proofs.CandidateForms.{candidates-mat, candidates-res,
 use Rattle.steps_tallies.proofs.FrontLaws.{stands, behind}
 use Rattle.steps_labels.proofs.LabelNumbers.{left-label, right-label, label-met}
 use Rattle.steps_tallies.proofs.Numbering.{nth-matching, nth-restricted, length-communications}
+use Rattle.steps_tallies.proofs.OwnNames.{own-under, own-body}
 use Rattle.steps_passing.proofs.TwoSides.{Sides, sides-sum, sides-par, at-left, number-is, right-number}
 use Rattle.steps_passing.proofs.TwoSides as two
 
@@ -85,7 +86,7 @@ module _ (question s : List ℕ) (at i : ℕ) (t : Bool) (args : List ℕ) (inne
 
   -- no term stands past the end
   pub nth-none : (r : Label) → length s ≤ at → NthIs question s at i t args inner depth calls r
-  nth-none r h = record { is = λ q free D σ P rest ok few has scope st. let z = stands s at D P rest st in absurd (omega arith) }
+  nth-none r h = record { is = λ q free D σ own P rest ok few has scope st. let z = stands s at D P rest st in absurd (omega arith) }
 
   -- A rule with one premise keeps the number.
   by-rule : (cs ds : List Candidate) (f : Candidate → Candidate) (d : ℕ) (p r : Label) → ds ≡ map f cs → getD (map f cs) i blocked ≡ f (getD cs i blocked)
@@ -128,7 +129,7 @@ module _ (question s : List ℕ) (at i : ℕ) (t : Bool) (args : List ℕ) (inne
     pub nth-prefix : NthIs question s at i t args inner depth calls r
     unfolding HasClasses HasSlotClasses Below Labels
     nth-prefix = record {
-      is = λ q free D σ P rest ok few has scope st h.
+      is = λ q free D σ own P rest ok few has scope st h.
           let k = tag-at s at D P rest st in
           let (one, nz) = one-step (bodyOf (q .bodies)) calls σ i t P (omega arith) h in
           let w = doing free D σ P rest (q .arities) (omega arith) few has scope st nz in
@@ -149,7 +150,7 @@ module _ (question s : List ℕ) (at i : ℕ) (t : Bool) (args : List ℕ) (inne
       → NthIs question s (at + 3) i t args inner depth calls p → MatchingIs p a b r → NthIs question s at i t args inner depth calls r
   unfolding InScope encode
   nth-mat g p r a b ea eb N M = record {
-    is = λ q free D σ P rest ok few has scope st. only-mat (Stands q free D σ rest r)
+    is = λ q free D σ own P rest ok few has scope st. only-mat (Stands q free D σ rest r)
         (λ x y P scope st.
         let read = slot-read free D args inner depth σ few has s at in
         let u = read 1 x (scope .0) (getD-front s at (encode D (mat x y P)) rest 1 st (omega arith)) a ea in
@@ -157,7 +158,7 @@ module _ (question s : List ℕ) (at i : ℕ) (t : Bool) (args : List ℕ) (inne
         let cs = candidates t (bodyOf (q .bodies)) calls (ren σ P) in
         by-rule cs _ (matching (σ x) (σ y)) depth p r (candidates-mat (bodyOf (q .bodies)) t calls (σ x) (σ y) (ren σ P)) (nth-matching (σ x) (σ y) cs i)
         (λ c. M .is depth (σ x) (σ y) c (u .0) (v .0) (u .1) (v .1))
-        (N .is q free D σ P rest ok few has (scope .2) (behind s at 3 (5 ∷ nameByte D x ∷ nameByte D y ∷ []) (encode D P ++ rest) st refl)))
+        (N .is q free D σ own P rest ok few has (scope .2) (behind s at 3 (5 ∷ nameByte D x ∷ nameByte D y ∷ []) (encode D P ++ rest) st refl)))
         P (sym (tag-at s at D P rest st) ∙ g) scope st;
   }
 
@@ -166,13 +167,13 @@ module _ (question s : List ℕ) (at i : ℕ) (t : Bool) (args : List ℕ) (inne
       → NthIs question s at i t args inner depth calls r
   unfolding InScope encode
   nth-res g p r N R = record {
-    is = λ q free D σ P rest ok few has scope st. only-res (Stands q free D σ rest r)
+    is = λ q free D σ own P rest ok few has scope st. only-res (Stands q free D σ rest r)
         (λ P scope st.
         let cs = candidates t (bodyOf (q .bodies)) calls (ren (lift σ) P) in
         let d : depth + 1 ≡ 1 + depth = omega arith in
         by-rule cs _ restricted (1 + depth) p r (candidates-res (bodyOf (q .bodies)) t calls (ren (lift σ) P)) (nth-restricted cs i) (R .is)
         (λ h. subst (λ (k : ℕ). Labels k (getD cs i blocked) p) d
-        (N .is q free (1 + D) (lift σ) P rest ok few (slots-lift free D args inner depth σ few has) scope (behind s at 1 (8 ∷ []) (encode (1 + D) P ++ rest) st refl) h)))
+        (N .is q free (1 + D) (lift σ) (own-under calls σ own) P rest ok few (slots-lift free D args inner depth σ few has) scope (behind s at 1 (8 ∷ []) (encode (1 + D) P ++ rest) st refl) h)))
         P (sym (tag-at s at D P rest st) ∙ g) scope st;
   }
 
@@ -236,76 +237,76 @@ module _ (question s : List ℕ) (at i : ℕ) (t : Bool) (args : List ℕ) (inne
       number-fst : lefts ≡ length (candidates t (bodyOf (q .bodies)) calls (ren σ P))
       number-snd : rights ≡ length (candidates t (bodyOf (q .bodies)) calls (ren σ Q))
 
-    placed : (h : ℕ) (q : Question) (free D : ℕ) (σ : ℕ → ℕ) (P Q : Term) (rest : List ℕ) → checkOf question ≡ result q → InScope free (q .arities) D P
-        → InScope free (q .arities) D Q → drop at s ≡ (h ∷ (encode D P ++ encode D Q)) ++ rest → Placed q free D σ P Q rest
-    placed h q free D σ P Q rest ok k l st =
+    placed : (h : ℕ) (q : Question) (free D : ℕ) (σ : ℕ → ℕ) → OwnNamesIf calls σ → (P Q : Term) (rest : List ℕ) → checkOf question ≡ result q
+        → InScope free (q .arities) D P → InScope free (q .arities) D Q → drop at s ≡ (h ∷ (encode D P ++ encode D Q)) ++ rest → Placed q free D σ P Q rest
+    placed h q free D σ own P Q rest ok k l st =
         let u = at-left D s at P Q rest h st in
         record {
           scope-fst = k;
           scope-snd = l;
           at-fst = u;
-          at-snd = two.behind question s calls numbers T at middle N q free D σ P Q rest ok k l u;
-          number-fst = number-is question s calls numbers T t q (at + 1) free D σ P (encode D Q ++ rest) ok k u;
-          number-snd = right-number question s calls numbers T at middle N q free D σ P Q rest ok k l u t;
+          at-snd = two.behind question s calls numbers T at middle N q free D σ own P Q rest ok k l u;
+          number-fst = number-is question s calls numbers T t q (at + 1) free D σ own P (encode D Q ++ rest) ok k u;
+          number-snd = right-number question s calls numbers T at middle N q free D σ own P Q rest ok k l u t;
         }
 
     -- To show something of the label, show it from what is known of the sides.
     by-sides : (r : Label)
-        → ((q : Question) (free D : ℕ) (σ : ℕ → ℕ) (P Q : Term) (rest : List ℕ) (cs : List Candidate) → checkOf question ≡ result q → free ≤ nameCount
+        → ((q : Question) (free D : ℕ) (σ : ℕ → ℕ) → OwnNamesIf calls σ → (P Q : Term) (rest : List ℕ) (cs : List Candidate) → checkOf question ≡ result q → free ≤ nameCount
         → HasSlots free D args inner depth σ → Formed q σ P Q cs → Placed q free D σ P Q rest → i < length cs → Labels depth (getD cs i blocked) r)
         → NthIs question s at i t args inner depth calls r
     unfolding InScope encode
     by-sides r f = record {
-      is = λ q free D σ P rest ok few has scope st.
+      is = λ q free D σ own P rest ok few has scope st.
           let k = tag-at s at D P rest st in
           only-two (Stands q free D σ rest r)
-          (λ P Q scope st. f q free D σ P Q rest _ ok few has (formed-sum q σ P Q) (placed 6 q free D σ P Q rest ok (scope .0) (scope .1) st))
-          (λ P Q scope st. f q free D σ P Q rest _ ok few has (formed-par q σ P Q) (placed 7 q free D σ P Q rest ok (scope .0) (scope .1) st))
+          (λ P Q scope st. f q free D σ own P Q rest _ ok few has (formed-sum q σ P Q) (placed 6 q free D σ own P Q rest ok (scope .0) (scope .1) st))
+          (λ P Q scope st. f q free D σ own P Q rest _ ok few has (formed-par q σ P Q) (placed 7 q free D σ own P Q rest ok (scope .0) (scope .1) st))
           P (omega arith) (omega arith) scope st;
     }
 
     pub nth-left : i < lefts → (r : Label) → NthIs question s (at + 1) i t args inner depth calls r → NthIs question s at i t args inner depth calls r
-    nth-left h r N = by-sides r (λ q free D σ P Q rest cs ok few has F B m.
+    nth-left h r N = by-sides r (λ q free D σ own P Q rest cs ok few has F B m.
         let n = B .number-fst in
         let k : i < length (candidates t (bodyOf (q .bodies)) calls (ren σ P)) = omega arith in
         subst (λ (c : Candidate). Labels depth c r) (sym (F .sides .first i k))
-        (F .keeps-fst r _ (N .is q free D σ P (encode D Q ++ rest) ok few has (B .scope-fst) (B .at-fst) k)))
+        (F .keeps-fst r _ (N .is q free D σ own P (encode D Q ++ rest) ok few has (B .scope-fst) (B .at-fst) k)))
 
     module _ (past : lefts ≤ i) (r : Label) where
       pub nth-right : i - lefts < rights → NthIs question s middle (i - lefts) t args inner depth calls r → NthIs question s at i t args inner depth calls r
-      nth-right h N = by-sides r (λ q free D σ P Q rest cs ok few has F B m.
+      nth-right h N = by-sides r (λ q free D σ own P Q rest cs ok few has F B m.
           let n = B .number-fst in
           let n₂ = B .number-snd in
           let k : i - lefts < length (candidates t (bodyOf (q .bodies)) calls (ren σ Q)) = omega arith in
           let e : length (candidates t (bodyOf (q .bodies)) calls (ren σ P)) + (i - lefts) ≡ i = omega arith in
           subst (λ (c : Candidate). Labels depth c r) (sym (F .sides .second (i - lefts) k) ∙ ap (λ (j : ℕ). getD cs j blocked) e)
-          (F .keeps-snd r _ (N .is q free D σ Q rest ok few has (B .scope-snd) (B .at-snd) k)))
+          (F .keeps-snd r _ (N .is q free D σ own Q rest ok few has (B .scope-snd) (B .at-snd) k)))
 
       pub nth-met : rights ≤ i - lefts → MeetingIs question s at middle (i - lefts - rights) args inner depth calls r → NthIs question s at i t args inner depth calls r
-      nth-met h R = by-sides r (λ q free D σ P Q rest cs ok few has F B m.
+      nth-met h R = by-sides r (λ q free D σ own P Q rest cs ok few has F B m.
           let n = B .number-fst in
           let n₂ = B .number-snd in
           let j = i - lefts - rights in
           let e : length (candidates t (bodyOf (q .bodies)) calls (ren σ P)) + (length (candidates t (bodyOf (q .bodies)) calls (ren σ Q)) + j) ≡ i = omega arith in
           subst (λ (c : Candidate). Labels depth c r) (sym (F .sides .third j) ∙ ap (λ (j : ℕ). getD cs j blocked) e)
-          (F .meets r j (R .is q free D σ P Q rest (encode D Q ++ rest) ok few has (B .scope-fst) (B .scope-snd) (B .at-fst) (B .at-snd))
+          (F .meets r j (R .is q free D σ own P Q rest (encode D Q ++ rest) ok few has (B .scope-fst) (B .scope-snd) (B .at-fst) (B .at-snd))
           (omega (arith, F .sides .len))))
 
   -- [Con]
   module _ (g : 8 < getD s at 0) (o : Opening) (O : OpeningIs question s at calls o) (r : Label) where
-    calling : ((q : Question) (free D : ℕ) (σ : ℕ → ℕ) (xs rest : List ℕ) → checkOf question ≡ result q → free ≤ nameCount → HasSlots free D args inner depth σ
+    calling : ((q : Question) (free D : ℕ) (σ : ℕ → ℕ) → OwnNamesIf calls σ → (xs rest : List ℕ) → checkOf question ≡ result q → free ≤ nameCount → HasSlots free D args inner depth σ
         → o .arity ≡ length xs → o .arity ≡ getD (q .arities) (o .definition) 0 → o .definition < length (q .arities) → NamesInScope free D xs
         → drop (at + 2) s ≡ map (nameByte D) xs ++ rest → Shows q σ r (call (o .definition) xs))
         → NthIs question s at i t args inner depth calls r
     calling f = record {
-      is = λ q free D σ P rest ok few has scope st.
+      is = λ q free D σ own P rest ok few has scope st.
           at-call question s at D calls t i g (o .definition) (o .arity) (O .definition) (O .arity) (Shows q σ r) q free P rest ok scope st
-          (λ xs m a k names st. f q free D σ xs rest ok few has m a k names st);
+          (λ xs m a k names st. f q free D σ own xs rest ok few has m a k names st);
     }
 
     -- no call is left to open, or the question is not accepted
     pub nth-closed : o .allowed ≡ false → NthIs question s at i t args inner depth calls r
-    nth-closed z = calling (λ q free D σ xs rest ok few has m a k names st h.
+    nth-closed z = calling (λ q free D σ own xs rest ok few has m a k names st h.
         let none = ap (λ (c : ℕ). candidates t (bodyOf (q .bodies)) c (call (o .definition) (map σ xs))) (O .not z q ok k)
         ∙ candidates-no-call (bodyOf (q .bodies)) t (o .definition) (map σ xs) in
         absurd (omega (arith, ap length none)))
@@ -314,37 +315,37 @@ module _ (question s : List ℕ) (at i : ℕ) (t : Bool) (args : List ℕ) (inne
     pub nth-cut : length s < o .end → NthIs question s at i t args inner depth calls r
     unfolding encode
     nth-cut h = record {
-      is = λ q free D σ P rest ok few has scope st.
+      is = λ q free D σ own P rest ok few has scope st.
           at-call question s at D calls t i g (o .definition) (o .arity) (O .definition) (O .arity) (λ (P : Term). at + length (encode D P) ≤ length s → Shows q σ r P)
           q free P rest ok scope st (λ xs m a k names st whole. absurd (omega (arith, O .end, length-map xs (nameByte D)))) (stands s at D P rest st .1);
     }
 
-    pub nth-called : 0 < calls → (bytes : List ℕ) → BodyIs question (o .definition) bytes → (given : List ℕ) → ArgumentsIs s (at + 2) (o .arity) args inner depth given
+    pub nth-called : 0 < calls → calls ≤ 1 → (bytes : List ℕ) → BodyIs question (o .definition) bytes → (given : List ℕ) → ArgumentsIs s (at + 2) (o .arity) args inner depth given
         → NthIs question bytes 0 i t given 0 depth (calls - 1) r → NthIs question s at i t args inner depth calls r
-    nth-called z bytes B given G X = calling (λ q free D σ xs rest ok few has m a k names st.
+    nth-called z once bytes B given G X = calling (λ q free D σ own xs rest ok few has m a k names st.
         let body = bodyOf (q .bodies) in
         let n = o .arity in
         let c : calls ≡ suc (calls - 1) = omega arith in
         let opens : candidates t body calls (call (o .definition) (map σ xs)) ≡ candidates t body (calls - 1) (ren (params σ xs) (body (o .definition))) =
         ap (λ (c : ℕ). candidates t body c (call (o .definition) (map σ xs))) c ∙ candidates-call body t (calls - 1) (o .definition) (map σ xs) in
         subst (λ (l : List Candidate). i < length l → Labels depth (getD l i blocked) r) (sym opens)
-        (X .is q 0 n (params σ xs) (body (o .definition)) [] ok (omega arith) (slots-call free D args inner depth σ few has s (at + 2) xs rest n given names st m G)
+        (X .is q 0 n (params σ xs) (own-body calls (params σ xs) once) (body (o .definition)) [] ok (omega arith) (slots-call free D args inner depth σ few has s (at + 2) xs rest n given names st m G)
         (subst (λ (n : ℕ). InScope 0 (q .arities) n (body (o .definition))) (sym a) (body-scope question q ok (o .definition)))
         (B .is q ok k ∙ ap (λ (n : ℕ). encode n (body (o .definition))) (sym a) ∙ sym (append-nil (encode n (body (o .definition)))))))
 
 -- The communications of two terms, of which the right one has n visible candidates.
 module _ (question s : List ℕ) (at middle i : ℕ) (args : List ℕ) (inner depth calls : ℕ) (numbers : List ℕ) (T : TallyIs question s calls numbers) (r : Label) (n : ℕ)
     (N : n ≡ visibleAt numbers middle) where
-  many-right : (q : Question) (free D : ℕ) (σ : ℕ → ℕ) (Q : Term) (rest : List ℕ) → checkOf question ≡ result q → InScope free (q .arities) D Q
+  many-right : (q : Question) (free D : ℕ) (σ : ℕ → ℕ) → OwnNamesIf calls σ → (Q : Term) (rest : List ℕ) → checkOf question ≡ result q → InScope free (q .arities) D Q
       → drop middle s ≡ encode D Q ++ rest → n ≡ length (visible (bodyOf (q .bodies)) calls (ren σ Q))
-  many-right q free D σ Q rest ok scope st = N ∙ T .is q middle free D σ Q rest ok scope st .0
+  many-right q free D σ own Q rest ok scope st = N ∙ T .is q middle free D σ own Q rest ok scope st .0
 
   pub meet-none : n ≡ 0 → MeetingIs question s at middle i args inner depth calls r
   meet-none z = record {
-    is = λ q free D σ P Q rest more ok few has k l st st₂ h.
+    is = λ q free D σ own P Q rest more ok few has k l st st₂ h.
         let ps = visible (bodyOf (q .bodies)) calls (ren σ P) in
         let qs = visible (bodyOf (q .bodies)) calls (ren σ Q) in
-        let e : length qs ≡ 0 = sym (many-right q free D σ Q rest ok l st₂) ∙ z in
+        let e : length qs ≡ 0 = sym (many-right q free D σ own Q rest ok l st₂) ∙ z in
         absurd (omega (arith, length-communications ps qs, ap (λ (k : ℕ). length ps * k) e, mul-zero (length ps)));
   }
 
@@ -352,8 +353,8 @@ module _ (question s : List ℕ) (at middle i : ℕ) (args : List ℕ) (inner de
       → NthIs question s middle (i % n) false args inner depth calls m → CommunicationIs p m r → MeetingIs question s at middle i args inner depth calls r
   unfolding candidates
   meet-both z room p m X Y K = record {
-    is = λ q free D σ P Q rest more ok few has k l st st₂.
-        label-met depth _ _ i n (many-right q free D σ Q rest ok l st₂) z p m r room (X .is q free D σ P more ok few has k st) (Y .is q free D σ Q rest ok few has l st₂) K;
+    is = λ q free D σ own P Q rest more ok few has k l st st₂.
+        label-met depth _ _ i n (many-right q free D σ own Q rest ok l st₂) z p m r room (X .is q free D σ own P more ok few has k st) (Y .is q free D σ own Q rest ok few has l st₂) K;
   }
 
 -- The walk's measure falls: where the bytes left and the calls left weigh x, a walk weighs 4 x + 3, its parts a little less.

@@ -13,7 +13,7 @@ use Rattle.terms.specs.Limits.{nameCount, longestTerm}
 use Rattle.terms.specs.Question.{Question, checkOf}
 use Rattle.steps_conditions.specs.Labels.{inputOn, newOutputOn, FirstIs, Labels}
 use Rattle.terms.specs.Question.{bodyOf}
-use Rattle.steps_tallies.specs.Candidates.{candidates}
+use Rattle.steps_tallies.specs.Candidates.{candidates, OwnNamesIf}
 use Rattle.steps.specs.Raw.{blocked, communications, visible}
 use Rattle.steps_conditions.specs.Slots.{slotOf, slotCount}
 use Rattle.steps_tallies.specs.Tally.{TallyIs}
@@ -56,7 +56,7 @@ pub record Within (s : List ℕ) (at inner depth calls : ℕ) : Type 0 where
 
 -- The i-th candidate, silent or visible, of the term at `at`. Nothing is said of numbers past the last.
 pub record NthIs (question s : List ℕ) (at i : ℕ) (silently : Bool) (args : List ℕ) (inner depth calls : ℕ) (r : Label) : Type 0 where
-  pub is : (q : Question) (free D : ℕ) (σ : ℕ → ℕ) (P : Term) (rest : List ℕ)
+  pub is : (q : Question) (free D : ℕ) (σ : ℕ → ℕ) → OwnNamesIf calls σ → (P : Term) (rest : List ℕ)
       → checkOf question ≡ result q
       → free ≤ nameCount
       → HasSlots free D args inner depth σ
@@ -67,7 +67,7 @@ pub record NthIs (question s : List ℕ) (at i : ℕ) (silently : Bool) (args : 
 
 -- The i-th communication of the term that stands behind `at` and the one that stands at `middle`.
 pub record MeetingIs (question s : List ℕ) (at middle i : ℕ) (args : List ℕ) (inner depth calls : ℕ) (r : Label) : Type 0 where
-  pub is : (q : Question) (free D : ℕ) (σ : ℕ → ℕ) (P Q : Term) (rest more : List ℕ)
+  pub is : (q : Question) (free D : ℕ) (σ : ℕ → ℕ) → OwnNamesIf calls σ → (P Q : Term) (rest more : List ℕ)
       → checkOf question ≡ result q
       → free ≤ nameCount
       → HasSlots free D args inner depth σ

@@ -112,7 +112,7 @@ module _ (question s : List ℕ) (at D calls : ℕ) (t : Bool) (i : ℕ) (g : 8 
   pub pass-closed : ((q : Question) → checkOf question ≡ result q → k < length (q .arities) → calls ≡ 0) → PassIs question s at D calls t i nothingSent
   pass-closed z = record {
     slot = omega arith;
-    does = λ q free σ P rest ok few scope st M α A e. at-call
+    does = λ q free σ own P rest ok few scope st M α A e. at-call
         (λ (P : Term). getD (candidates t (bodyOf (q .bodies)) calls (ren σ P)) i blocked ≡ step M α A → Acts free D σ α 0 0)
         q free P rest ok scope st
         (λ xs m a l names st e.
@@ -124,12 +124,12 @@ module _ (question s : List ℕ) (at D calls : ℕ) (t : Bool) (i : ℕ) (g : 8 
 
   module _ (bytes : List ℕ) (B : BodyIs question k bytes) where
     -- [Con]: the candidates are those of the body.
-    pub pass-opened : D + 128 ≤ 256 → (c : ℕ) → calls ≡ suc c → (r : Passed) → PassIs question bytes 0 n c t i r
+    pub pass-opened : D + 128 ≤ 256 → calls ≤ 1 → (c : ℕ) → calls ≡ suc c → (r : Passed) → PassIs question bytes 0 n c t i r
         → PassIs question s at D calls t i (returnedAt s (at + 2) D r)
     unfolding returnedAt
-    pass-opened deep c z r R = record {
+    pass-opened deep once c z r R = record {
       slot = turn-small 128 tableNames D (getD s (at + 2 + (r .object - tableNames)) 0) (omega arith) (omega arith);
-      does = λ q free σ P rest ok few scope st M α A w. at-call
+      does = λ q free σ own P rest ok few scope st M α A w. at-call
           (λ (P : Term). getD (candidates t (bodyOf (q .bodies)) calls (ren σ P)) i blocked ≡ step M α A
           → Acts free D σ α (r .kind) (turn 128 tableNames D (getD s (at + 2 + (r .object - tableNames)) 0)))
           q free P rest ok scope st
@@ -138,7 +138,7 @@ module _ (question s : List ℕ) (at D calls : ℕ) (t : Bool) (i : ℕ) (g : 8 
           let e : candidates t body calls (call k (map σ xs)) ≡ candidates t body c (ren (params σ xs) (body k)) =
           ap (λ (c : ℕ). candidates t body c (call k (map σ xs))) z ∙ candidates-call body t c k (map σ xs) in
           does-called free D s (at + 2) xs rest few names st σ n m α (r .kind) (r .object)
-          (R .does q 0 (params σ xs) (body k) [] ok (omega arith) (subst (λ (n : ℕ). InScope 0 (q .arities) n (body k)) (sym a) (body-scope question q ok k))
+          (R .does q 0 (params σ xs) (λ h. absurd (omega arith)) (body k) [] ok (omega arith) (subst (λ (n : ℕ). InScope 0 (q .arities) n (body k)) (sym a) (body-scope question q ok k))
           (B .is q ok l ∙ ap (λ (n : ℕ). encode n (body k)) (sym a) ∙ sym (append-nil (encode n (body k))))
           M α A (ap (λ (l : List Candidate). getD l i blocked) (sym e) ∙ w)))
           w;

@@ -28,13 +28,14 @@ use Rattle.steps_passing.specs.declared.pass.Passed.{Passed}
 use Rattle.steps_tallies.proofs.CandidateForms.{candidates-mat, candidates-res, tag, tag-at, only-mat, only-res}
 use Rattle.steps_conditions.proofs.NameSlots.{slot-of-byte, slot-bound, slot-inner, below-level}
 use Rattle.steps_tallies.proofs.Numbering.{nth-matching, nth-restricted}
+use Rattle.steps_tallies.proofs.OwnNames.{own-under}
 use Rattle.steps_tallies.proofs.Premises.{never, Restricts, matching-of, under-of}
 
 -- No term stands past the end.
 pub pass-none : (question s : List ℕ) (at D calls : ℕ) (t : Bool) (i : ℕ) → length s ≤ at → PassIs question s at D calls t i nothingSent
 pass-none question s at D calls t i past = record {
   slot = omega arith;
-  does = λ q free σ P rest ok few scope st. absurd (omega (arith, encode-some D P, simp (length-append, length-drop) at (ap length st)));
+  does = λ q free σ own P rest ok few scope st. absurd (omega (arith, encode-some D P, simp (length-append, length-drop) at (ap length st)));
 }
 
 -- A prefix has one candidate, or none of this kind.
@@ -105,7 +106,7 @@ module _ (question s : List ℕ) (at D calls : ℕ) (t : Bool) (i : ℕ) (low : 
   unfolding prefixStep Acts InScope encode
   pass-prefix = record {
     slot = R .slot;
-    does = λ q free σ P rest ok few scope st M α A e.
+    does = λ q free σ own P rest ok few scope st M α A e.
         let g = tag-at s at D P rest st in
         let c = prefix-candidates (bodyOf (q .bodies)) t calls (ren σ P) (omega (arith, tag-ren σ P)) in
         acts q free σ P rest few scope st (R .kind ∙ ap (λ (k : ℕ). k - 1) g) M α A
@@ -143,7 +144,7 @@ pub pass-mat : (question s : List ℕ) (at D calls : ℕ) (t : Bool) (i : ℕ) (
 unfolding encode InScope
 pass-mat question s at D calls t i r g R = record {
   slot = R .slot;
-  does = λ q free σ P rest ok few scope st M α A e. only-mat
+  does = λ q free σ own P rest ok few scope st M α A e. only-mat
       (λ (P : Term). InScope free (q .arities) D P → drop at s ≡ encode D P ++ rest
       → getD (candidates t (bodyOf (q .bodies)) calls (ren σ P)) i blocked ≡ step M α A → Acts free D σ α (r .kind) (r .object))
       (λ a b Q scope st e.
@@ -151,7 +152,7 @@ pass-mat question s at D calls t i r g R = record {
       let c = candidates-mat body t calls (σ a) (σ b) (ren σ Q) in
       let p = matching-of (σ a) (σ b) (getD (candidates t body calls (ren σ Q)) i blocked) M α A
       (sym (nth-matching (σ a) (σ b) (candidates t body calls (ren σ Q)) i) ∙ ap (λ (l : List Candidate). getD l i blocked) (sym c) ∙ e) in
-      R .does q free σ Q rest ok few (scope .2) (sym (drop-drop 3 at s) ∙ ap (drop 3) st) (p .condition) α A (p .is))
+      R .does q free σ own Q rest ok few (scope .2) (sym (drop-drop 3 at s) ∙ ap (drop 3) st) (p .condition) α A (p .is))
       P (sym (tag-at s at D P rest st) ∙ g) scope st e;
 }
 
@@ -194,7 +195,7 @@ pub pass-res : (question s : List ℕ) (at D calls : ℕ) (t : Bool) (i : ℕ) (
 unfolding encode InScope leavingAt
 pass-res question s at D calls t i r g R = record {
   slot = R .slot;
-  does = λ q free σ P rest ok few scope st M α A e. only-res
+  does = λ q free σ own P rest ok few scope st M α A e. only-res
       (λ (P : Term). InScope free (q .arities) D P → drop at s ≡ encode D P ++ rest
       → getD (candidates t (bodyOf (q .bodies)) calls (ren σ P)) i blocked ≡ step M α A
       → Acts free D σ α (cond (opensAt D (r .kind) (r .object)) 3 (r .kind)) (r .object))
@@ -206,6 +207,6 @@ pass-res question s at D calls t i r g R = record {
       let p = under-of (getD (candidates t body calls (ren (lift σ) Q)) i blocked) M α A
       (sym (nth-restricted (candidates t body calls (ren (lift σ) Q)) i) ∙ ap (λ (l : List Candidate). getD l i blocked) (sym c) ∙ e) in
       does-outside free D σ (p .action) (p .result) α A (r .kind) (r .object) (omega arith) (p .restricts)
-      (R′ .does q free (lift σ) Q rest ok few scope (sym (drop-drop 1 at s) ∙ ap (drop 1) st) (p .premise .condition) (p .action) (p .result) (p .premise .is)))
+      (R′ .does q free (lift σ) (own-under calls σ own) Q rest ok few scope (sym (drop-drop 1 at s) ∙ ap (drop 1) st) (p .premise .condition) (p .action) (p .result) (p .premise .is)))
       P (sym (tag-at s at D P rest st) ∙ g) scope st e;
 }

@@ -18,7 +18,7 @@ use Rattle.terms.specs.Question.{Question, checkOf}
 use Rattle.terms.proofs.ReadEncoded.{encode-some}
 use Rattle.terms.specs.Question.{bodyOf}
 pub use Rattle.steps_tallies.proofs.FrontLaws.{at-left, at-right}
-use Rattle.steps_tallies.specs.Candidates.{candidates}
+use Rattle.steps_tallies.specs.Candidates.{candidates, OwnNamesIf}
 use Rattle.steps_passing.specs.Passing.{Acts, PassIs, MiddleIs}
 use Rattle.steps.specs.Raw.{Candidate, step, blocked, leftSteps, rightSteps}
 use Rattle.steps_tallies.specs.Tally.{EndsInside, TallyIs}
@@ -90,12 +90,12 @@ keeps-right : (P : Term) → Keeps (rightSteps P)
 keeps-right P c M α A e = let b = right-of P c M α A e in record { result = b .result; premise = b .premise }
 
 -- What the tally says of the sides.
-pub number-is : (question s : List ℕ) (calls : ℕ) (t : List ℕ) → TallyIs question s calls t → (silently : Bool) (q : Question) (at free D : ℕ) (σ : ℕ → ℕ) (P : Term)
-    (rest : List ℕ) → checkOf question ≡ result q → InScope free (q .arities) D P → drop at s ≡ encode D P ++ rest
+pub number-is : (question s : List ℕ) (calls : ℕ) (t : List ℕ) → TallyIs question s calls t → (silently : Bool) (q : Question) (at free D : ℕ) (σ : ℕ → ℕ)
+    → OwnNamesIf calls σ → (P : Term) (rest : List ℕ) → checkOf question ≡ result q → InScope free (q .arities) D P → drop at s ≡ encode D P ++ rest
     → numberAt t at silently ≡ length (candidates silently (bodyOf (q .bodies)) calls (ren σ P))
 unfolding numberAt candidates
-number-is question s calls t T true q at free D σ P rest ok scope st = T .is q at free D σ P rest ok scope st .1
-number-is question s calls t T false q at free D σ P rest ok scope st = T .is q at free D σ P rest ok scope st .0
+number-is question s calls t T true q at free D σ own P rest ok scope st = T .is q at free D σ own P rest ok scope st .1
+number-is question s calls t T false q at free D σ own P rest ok scope st = T .is q at free D σ own P rest ok scope st .0
 
 -- The right side stands behind the form's first byte, whatever the bytes are.
 pub middle-past : (s tally : List ℕ) → EndsInside s tally → (at m : ℕ) → MiddleIs s tally at m → at < length s → at < m
@@ -116,18 +116,18 @@ module _ (question s : List ℕ) (calls : ℕ) (tally : List ℕ) (T : TallyIs q
   pub middle-on : at < length s → at < m
   middle-on = middle-past s tally (T .on) at m N
 
-  module _ (q : Question) (free D : ℕ) (σ : ℕ → ℕ) (P Q : Term) (rest : List ℕ) (ok : checkOf question ≡ result q) (sp : InScope free (q .arities) D P)
+  module _ (q : Question) (free D : ℕ) (σ : ℕ → ℕ) (own : OwnNamesIf calls σ) (P Q : Term) (rest : List ℕ) (ok : checkOf question ≡ result q) (sp : InScope free (q .arities) D P)
       (sq : InScope free (q .arities) D Q) (st : drop (at + 1) s ≡ encode D P ++ (encode D Q ++ rest)) where
     pub middle-is : m ≡ at + 1 + length (encode D P)
     middle-is =
         N .is (omega (arith, encode-some D P, simp (length-append, length-drop) at (ap length st)))
-        ∙ T .is q (at + 1) free D σ P (encode D Q ++ rest) ok sp st .2
+        ∙ T .is q (at + 1) free D σ own P (encode D Q ++ rest) ok sp st .2
 
     pub behind : drop m s ≡ encode D Q ++ rest
     behind = rw (middle-is, ← drop-drop, st, drop-append-seam)
 
     pub right-number : (silently : Bool) → numberAt tally m silently ≡ length (candidates silently (bodyOf (q .bodies)) calls (ren σ Q))
-    right-number silently = number-is question s calls tally T silently q m free D σ Q rest ok sq behind
+    right-number silently = number-is question s calls tally T silently q m free D σ own Q rest ok sq behind
 
 -- No visible candidate is a communication.
 unmet : (body : ℕ → Term) (t : Bool) → t ≡ false → (n : ℕ) (P Q : Term) (k : ℕ) (M : Cond) (α : Act) (A : Term)
@@ -147,16 +147,16 @@ module _ (question s : List ℕ) (at D calls : ℕ) (t : Bool) (i : ℕ) (tally 
   unfolding encode InScope
   pass-left l r R = record {
     slot = R .slot;
-    does = λ q free σ P rest ok few scope st M α A e.
+    does = λ q free σ own P rest ok few scope st M α A e.
         let b = tag-at s at D P rest st in
         let side : (f g : Candidate → Candidate) → Keeps f → (P Q : Term) (cs more : List Candidate)
         → Sides f g cs (candidates t (bodyOf (q .bodies)) calls (ren σ P)) (candidates t (bodyOf (q .bodies)) calls (ren σ Q)) more
         → InScope free (q .arities) D P → InScope free (q .arities) D Q → drop (at + 1) s ≡ encode D P ++ (encode D Q ++ rest)
         → getD cs i blocked ≡ step M α A → Acts free D σ α (r .kind) (r .object) =
         λ f g keep P Q cs more S sp sq st e.
-        let n = number-is question s calls tally T t q (at + 1) free D σ P (encode D Q ++ rest) ok sp st in
+        let n = number-is question s calls tally T t q (at + 1) free D σ own P (encode D Q ++ rest) ok sp st in
         let d = keep (getD (candidates t (bodyOf (q .bodies)) calls (ren σ P)) i blocked) M α A (sym (S .first i (omega arith)) ∙ e) in
-        R .does q free σ P (encode D Q ++ rest) ok few sp st (d .premise .condition) α (d .result) (d .premise .is) in
+        R .does q free σ own P (encode D Q ++ rest) ok few sp st (d .premise .condition) α (d .result) (d .premise .is) in
         only-two (Shows M α A q free σ rest r)
         (λ P Q scope st e. side (λ c. c) (λ c. c) keeps-id P Q _ _ (sides-sum (bodyOf (q .bodies)) t calls (ren σ P) (ren σ Q)) (scope .0) (scope .1) (at-left D s at P Q rest 6 st) e)
         (λ P Q scope st e. side (leftSteps (ren σ Q)) (rightSteps (ren σ P)) (keeps-left (ren σ Q)) P Q _ _ (sides-par (bodyOf (q .bodies)) t calls (ren σ P) (ren σ Q)) (scope .0) (scope .1) (at-left D s at P Q rest 7 st) e)
@@ -168,19 +168,19 @@ module _ (question s : List ℕ) (at D calls : ℕ) (t : Bool) (i : ℕ) (tally 
     unfolding encode InScope
     pass-right h r R = record {
       slot = R .slot;
-      does = λ q free σ P rest ok few scope st M α A e.
+      does = λ q free σ own P rest ok few scope st M α A e.
           let b = tag-at s at D P rest st in
           let side : (f g : Candidate → Candidate) → Keeps g → (P Q : Term) (cs more : List Candidate)
           → Sides f g cs (candidates t (bodyOf (q .bodies)) calls (ren σ P)) (candidates t (bodyOf (q .bodies)) calls (ren σ Q)) more
           → InScope free (q .arities) D P → InScope free (q .arities) D Q → drop (at + 1) s ≡ encode D P ++ (encode D Q ++ rest)
           → getD cs i blocked ≡ step M α A → Acts free D σ α (r .kind) (r .object) =
           λ f g keep P Q cs more S sp sq st e.
-          let n = number-is question s calls tally T t q (at + 1) free D σ P (encode D Q ++ rest) ok sp st in
-          let k = right-number question s calls tally T at m N q free D σ P Q rest ok sp sq st t in
+          let n = number-is question s calls tally T t q (at + 1) free D σ own P (encode D Q ++ rest) ok sp st in
+          let k = right-number question s calls tally T at m N q free D σ own P Q rest ok sp sq st t in
           let w : i ≡ length (candidates t (bodyOf (q .bodies)) calls (ren σ P)) + j = omega arith in
           let d = keep (getD (candidates t (bodyOf (q .bodies)) calls (ren σ Q)) j blocked) M α A
           (sym (S .second j (omega arith)) ∙ ap (λ (k : ℕ). getD cs k blocked) (sym w) ∙ e) in
-          R .does q free σ Q rest ok few sq (behind question s calls tally T at m N q free D σ P Q rest ok sp sq st) (d .premise .condition) α (d .result) (d .premise .is) in
+          R .does q free σ own Q rest ok few sq (behind question s calls tally T at m N q free D σ own P Q rest ok sp sq st) (d .premise .condition) α (d .result) (d .premise .is) in
           only-two (Shows M α A q free σ rest r)
           (λ P Q scope st e. side (λ c. c) (λ c. c) keeps-id P Q _ _ (sides-sum (bodyOf (q .bodies)) t calls (ren σ P) (ren σ Q)) (scope .0) (scope .1) (at-left D s at P Q rest 6 st) e)
           (λ P Q scope st e. side (leftSteps (ren σ Q)) (rightSteps (ren σ P)) (keeps-right (ren σ P)) P Q _ _ (sides-par (bodyOf (q .bodies)) t calls (ren σ P) (ren σ Q)) (scope .0) (scope .1) (at-left D s at P Q rest 7 st) e)
@@ -192,15 +192,15 @@ module _ (question s : List ℕ) (at D calls : ℕ) (t : Bool) (i : ℕ) (tally 
     unfolding encode InScope
     pass-over v h r slot = record {
       slot = slot;
-      does = λ q free σ P rest ok few scope st M α A e.
+      does = λ q free σ own P rest ok few scope st M α A e.
           let b = tag-at s at D P rest st in
           let past : (f g : Candidate → Candidate) (P Q : Term) (cs more : List Candidate)
           → Sides f g cs (candidates t (bodyOf (q .bodies)) calls (ren σ P)) (candidates t (bodyOf (q .bodies)) calls (ren σ Q)) more
           → InScope free (q .arities) D P → InScope free (q .arities) D Q → drop (at + 1) s ≡ encode D P ++ (encode D Q ++ rest)
           → getD cs i blocked ≡ step M α A → getD more (j - numberAt tally m t) blocked ≡ step M α A =
           λ f g P Q cs more S sp sq st e.
-          let n = number-is question s calls tally T t q (at + 1) free D σ P (encode D Q ++ rest) ok sp st in
-          let k = right-number question s calls tally T at m N q free D σ P Q rest ok sp sq st t in
+          let n = number-is question s calls tally T t q (at + 1) free D σ own P (encode D Q ++ rest) ok sp st in
+          let k = right-number question s calls tally T at m N q free D σ own P Q rest ok sp sq st t in
           let w : i ≡ length (candidates t (bodyOf (q .bodies)) calls (ren σ P)) + (length (candidates t (bodyOf (q .bodies)) calls (ren σ Q)) + (j - numberAt tally m t)) = omega arith in
           sym (S .third (j - numberAt tally m t)) ∙ ap (λ (k : ℕ). getD cs k blocked) (sym w) ∙ e in
           only-two (Shows M α A q free σ rest r)

@@ -9,7 +9,7 @@ use Rattle.terms.specs.Answer.{result}
 use Rattle.terms.specs.Encoding.{encode, InScope}
 use Rattle.terms.specs.Question.{Question, checkOf}
 use Rattle.terms.specs.Question.{bodyOf}
-use Rattle.steps_tallies.specs.Candidates.{candidates}
+use Rattle.steps_tallies.specs.Candidates.{candidates, OwnNamesIf}
 use Rattle.steps_passing.specs.Passing.{PassIs}
 use Rattle.steps.specs.Raw.{Candidate, blocked}
 use Rattle.steps_tallies.specs.Tally.{TallyIs}
@@ -28,7 +28,7 @@ pub record HasAt (q : Question) (s : List ℕ) (silently : Bool) (calls free D :
 unfoldable pub Reaches : (s t : List ℕ) (at : ℕ) (silently : Bool) (number b n : ℕ) → Type 0
 Reaches s t at silently number b n =
     (question : List ℕ) (calls : ℕ) → TallyIs question s calls t
-    → (q : Question) (free D : ℕ) (σ : ℕ → ℕ) (P : Term) (rest : List ℕ)
+    → (q : Question) (free D : ℕ) (σ : ℕ → ℕ) → OwnNamesIf calls σ → (P : Term) (rest : List ℕ)
     → checkOf question ≡ result q
     → InScope free (q .arities) D P
     → drop at s ≡ encode D P ++ rest

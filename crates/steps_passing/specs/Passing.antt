@@ -20,7 +20,7 @@ use Rattle.steps.specs.Raw.{step, blocked}
 use Rattle.steps_conditions.specs.Slots.{slotOf}
 use Rattle.steps_tallies.specs.Tally.{endAt}
 use Rattle.steps_passing.specs.declared.pass.Passed.{Passed}
-use Rattle.steps_tallies.specs.Candidates.{candidates}
+use Rattle.steps_tallies.specs.Candidates.{candidates, OwnNamesIf}
 
 -- b is what σ puts for the name in this slot
 pub record Sent (free D : ℕ) (σ : ℕ → ℕ) (b object : ℕ) : Type 0 where
@@ -39,7 +39,7 @@ Acts free D σ (boutA a) kind object = kind ≡ 3
 -- What the action of the candidate number i does, if there is such a candidate.
 pub record PassIs (question s : List ℕ) (at D calls : ℕ) (silently : Bool) (i : ℕ) (r : Passed) : Type 0 where
   pub slot : r .object < 256
-  pub does : (q : Question) (free : ℕ) (σ : ℕ → ℕ) (P : Term) (rest : List ℕ)
+  pub does : (q : Question) (free : ℕ) (σ : ℕ → ℕ) → OwnNamesIf calls σ → (P : Term) (rest : List ℕ)
       → checkOf question ≡ result q
       → free ≤ nameCount
       → InScope free (q .arities) D P

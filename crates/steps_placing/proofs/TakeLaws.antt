@@ -16,6 +16,7 @@ use Rattle.steps_labels.specs.LabelWalk.{NthIs}
 use Rattle.steps_conditions.specs.Labels.{Labels}
 use Rattle.terms.specs.Question.{bodyOf}
 use Rattle.steps_conditions.specs.Names.{nameSlots, HasNames, HasNew}
+use Rattle.steps_tallies.proofs.OwnNames.{own-part}
 use Rattle.steps_tallies.specs.Candidates.{candidates}
 use Rattle.steps.specs.Raw.{Candidate, step, blocked}
 use Rattle.steps_plans.specs.Plans.{receiving, chosen, WriteIs}
@@ -66,6 +67,7 @@ result-written question part silently i class x names has out r out′ w low q P
     w .is low q nameCount (λ n. n) P [] (encode 0 (ren (receiving x ρ α) A)) (height A) (l .accepted) (omega arith) (l .scope)
     (l .bytes ∙ sym (append-nil (encode 0 P)))
     (record {
+      own-names = own-part 1;
       ρ = ρ;
       x = x;
       has = has-names names class has ρ is;
@@ -95,7 +97,7 @@ unfolding candidatesOf
 label-is question part silently i args h label = record {
   is = λ x q P l.
       subst (λ (Q : Term). i < length (candidates silently (bodyOf (q .bodies)) 1 Q) → Labels 0 (getD (candidates silently (bodyOf (q .bodies)) 1 Q) i blocked) h) (ren-id P)
-      (label .is q nameCount 0 (λ n. n) P [] (l .accepted) (omega arith) (slots-part 0 args) (l .scope) (l .bytes ∙ sym (append-nil (encode 0 P))));
+      (label .is q nameCount 0 (λ n. n) (own-part 1) P [] (l .accepted) (omega arith) (slots-part 0 args) (l .scope) (l .bytes ∙ sym (append-nil (encode 0 P))));
 }
 
 -- What is put into the list, by the label.

@@ -30,6 +30,7 @@ use Rattle.steps_conditions.specs.Slots.{slotOf}
 use Rattle.steps_plans.specs.declared.plan.Task.{Task}
 use Rattle.steps_tallies.proofs.CandidateForms.{tag, tag-at, only-prefix}
 use Rattle.steps_conditions.proofs.NameSlots.{names-enter, names-beneath, new-beneath, slot-bound, slot-inner, below-level}
+use Rattle.steps_tallies.proofs.OwnNames.{own-under}
 use Rattle.steps_passing.proofs.PassLaws.{prefixStep, prefix-candidates, only-one}
 use Rattle.steps_tallies.proofs.Premises.{never, Step, Restricts}
 
@@ -209,6 +210,7 @@ module _ (names : List ℕ) (task : Task) (walks : task .still ≡ false) (D k o
   ask-open room t body free σ Q bs top few K β B S r d =
       let (a, eβ, eα, eA) = open-sends t free (omega arith) σ β d B (K .action) (K .result) r in
       record {
+        own-names = own-under (task .calls) σ (K .own-names);
         ρ = K .x • K .ρ;
         x = K .x;
         has = names-same free (1 + D) (task .levels) (entering D (task .new) names) (K .x • (λ n. K .ρ (σ n))) (λ n. (K .x • K .ρ) (lift σ n)) same
@@ -286,6 +288,7 @@ module _ (names : List ℕ) (task : Task) (walks : task .still ≡ false) (D k o
       let L = task .levels in
       let e : L + 1 ≡ 1 + L = omega arith in
       record {
+        own-names = own-under (task .calls) σ (K .own-names);
         ρ = lift (K .ρ);
         x = suc (K .x);
         has = rw e

@@ -150,8 +150,8 @@ module _ (question s tally : List ℕ) (at D : ℕ) (names : List ℕ) (task : T
         let both : Writes low out put (A .before ++ A .own) e out₂ =
         written-then low out put (A .before) (put + (b - at)) out₁ first (A .own) e out₂ room same₁
         (W .is low q free σ (A .term) (A .behind ++ rest) (A .own) top ok few (A .scope) st₁ (A .asks) shallow) in
-        let end : endAt tally at ≡ at + length (encode D P) = T .is q at free D σ P rest ok scope st .2 in
-        let inner : endAt tally b ≡ b + length (encode D (A .term)) = T .is q b free D σ (A .term) (A .behind ++ rest) ok (A .scope) st₁ .2 in
+        let end : endAt tally at ≡ at + length (encode D P) = T .is q at free D σ (K .own-names) P rest ok scope st .2 in
+        let inner : endAt tally b ≡ b + length (encode D (A .term)) = T .is q b free D σ (K .own-names) (A .term) (A .behind ++ rest) ok (A .scope) st₁ .2 in
         let size : length (encode D P) ≡ length (A .before) + (length (encode D (A .term)) + length (A .behind)) =
         ap length (A .whole) ∙ simp length-append in
         let d : take (endAt tally at - endAt tally b) (drop (endAt tally b) s) ≡ A .behind =

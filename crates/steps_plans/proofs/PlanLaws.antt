@@ -20,7 +20,7 @@ use Rattle.terms.specs.Question.{bodyOf}
 use Rattle.terms_bytes.specs.Shape.{height}
 use Rattle.terms_bytes.proofs.Heights.{height-ren}
 use Rattle.steps_conditions.specs.Names.{HasNames, HasNew}
-use Rattle.steps_tallies.specs.Candidates.{candidates}
+use Rattle.steps_tallies.specs.Candidates.{candidates, OwnNamesIf}
 use Rattle.steps_passing.specs.Passing.{Sent, Acts, PassIs, MiddleIs}
 use Rattle.steps.specs.Raw.{Candidate, step, blocked}
 use Rattle.steps_plans.specs.Plans.{receiving, chosen, Asks, resting, numbered, visibly, sending, closing, SplitIs, meetingPlan, Parts, PlanIs}
@@ -46,10 +46,11 @@ weak-received x ρ (outA a b) Q = refl
 weak-received x ρ (boutA a) Q = ren-triangle (x • ρ) suc ρ Q (λ n. refl)
 
 -- What a side that makes no step is asked for.
-rests : (names : List ℕ) (task : Task) (body : ℕ → Term) (free D : ℕ) (σ ρ : ℕ → ℕ) (x : ℕ) (Q : Term) (top : ℕ) → HasNames free D (task .levels) names (λ n. ρ (σ n))
-    → HasNew (task .levels) (task .new) x → task .levels + height (ren σ Q) ≤ top → Asks names (resting task) body free D σ Q (encode (task .levels) (ren ρ (ren σ Q))) top
+rests : (names : List ℕ) (task : Task) (body : ℕ → Term) (free D : ℕ) (σ ρ : ℕ → ℕ) (x : ℕ) (Q : Term) (top : ℕ) → OwnNamesIf (task .calls) σ
+    → HasNames free D (task .levels) names (λ n. ρ (σ n)) → HasNew (task .levels) (task .new) x → task .levels + height (ren σ Q) ≤ top → Asks names (resting task) body free D σ Q (encode (task .levels) (ren ρ (ren σ Q))) top
 unfolding chosen receiving
-rests names task body free D σ ρ x Q top has new bounded = record {
+rests names task body free D σ ρ x Q top own has new bounded = record {
+  own-names = own;
   ρ = ρ;
   x = x;
   has = has;
@@ -83,16 +84,17 @@ module _ (question s : List ℕ) (at D : ℕ) (names : List ℕ) (task : Task) (
     rightCalls = refl;
     is = λ q free σ P Q rest bs top ok few sp sq st K.
         let body = bodyOf (q .bodies) in
-        let n = number-is question s (task .calls) tally T (task .silently) q (at + 1) free D σ P (encode D Q ++ rest) ok sp st in
+        let n = number-is question s (task .calls) tally T (task .silently) q (at + 1) free D σ (K .own-names) P (encode D Q ++ rest) ok sp st in
         let cs = candidates (task .silently) body (task .calls) (ren σ P) in
         let S = sides-par body (task .silently) (task .calls) (ren σ P) (ren σ Q) in
         let b = left-of (ren σ Q) (getD cs (task .number) blocked) (K .condition) (K .action) (K .result)
         (sym (S .first (task .number) (omega arith)) ∙ sym (chosen-is task body (par (ren σ P) (ren σ Q)) walks) ∙ K .candidate) in
         record {
-          middle = middle-is question s (task .calls) tally T at m N q free D σ P Q rest ok sp sq st;
+          middle = middle-is question s (task .calls) tally T at m N q free D σ (K .own-names) P Q rest ok sp sq st;
           first = encode (task .levels) (ren (receiving (K .x) (K .ρ) (K .action)) (b .result));
           second = encode (task .levels) (ren (K .ρ) (ren σ Q));
           left = record {
+            own-names = K .own-names;
             ρ = K .ρ;
             x = K .x;
             has = K .has;
@@ -104,7 +106,7 @@ module _ (question s : List ℕ) (at D : ℕ) (names : List ℕ) (task : Task) (
             bytes = refl;
             bounded = omega (arith, K .bounded, ap height (b .is));
           };
-          right = rests names task body free D σ (K .ρ) (K .x) Q top (K .has) (K .new) (omega (arith, K .bounded, ap height (b .is), side-height (K .action) (ren σ Q)));
+          right = rests names task body free D σ (K .ρ) (K .x) Q top (K .own-names) (K .has) (K .new) (omega (arith, K .bounded, ap height (b .is), side-height (K .action) (ren σ Q)));
           bytes =
               K .bytes ∙ ap (λ (A : Term). encode (task .levels) (ren (receiving (K .x) (K .ρ) (K .action)) A)) (b .is)
               ∙ ap (λ (T : Term). 7 ∷ (encode (task .levels) (ren (receiving (K .x) (K .ρ) (K .action)) (b .result)) ++ encode (task .levels) T))
@@ -124,8 +126,8 @@ module _ (question s : List ℕ) (at D : ℕ) (names : List ℕ) (task : Task) (
     rightCalls = refl;
     is = λ q free σ P Q rest bs top ok few sp sq st K.
         let body = bodyOf (q .bodies) in
-        let n = number-is question s (task .calls) tally T (task .silently) q (at + 1) free D σ P (encode D Q ++ rest) ok sp st in
-        let k = right-number question s (task .calls) tally T at m N q free D σ P Q rest ok sp sq st (task .silently) in
+        let n = number-is question s (task .calls) tally T (task .silently) q (at + 1) free D σ (K .own-names) P (encode D Q ++ rest) ok sp st in
+        let k = right-number question s (task .calls) tally T at m N q free D σ (K .own-names) P Q rest ok sp sq st (task .silently) in
         let cs = candidates (task .silently) body (task .calls) (ren σ Q) in
         let S = sides-par body (task .silently) (task .calls) (ren σ P) (ren σ Q) in
         let i : task .number ≡ length (candidates (task .silently) body (task .calls) (ren σ P)) + j = omega arith in
@@ -134,11 +136,12 @@ module _ (question s : List ℕ) (at D : ℕ) (names : List ℕ) (task : Task) (
         ∙ ap (λ (j : ℕ). getD (candidates (task .silently) body (task .calls) (par (ren σ P) (ren σ Q))) j blocked) (sym i)
         ∙ sym (chosen-is task body (par (ren σ P) (ren σ Q)) walks) ∙ K .candidate) in
         record {
-          middle = middle-is question s (task .calls) tally T at m N q free D σ P Q rest ok sp sq st;
+          middle = middle-is question s (task .calls) tally T at m N q free D σ (K .own-names) P Q rest ok sp sq st;
           first = encode (task .levels) (ren (K .ρ) (ren σ P));
           second = encode (task .levels) (ren (receiving (K .x) (K .ρ) (K .action)) (b .result));
-          left = rests names task body free D σ (K .ρ) (K .x) P top (K .has) (K .new) (omega (arith, K .bounded, ap height (b .is), side-height (K .action) (ren σ P)));
+          left = rests names task body free D σ (K .ρ) (K .x) P top (K .own-names) (K .has) (K .new) (omega (arith, K .bounded, ap height (b .is), side-height (K .action) (ren σ P)));
           right = record {
+            own-names = K .own-names;
             ρ = K .ρ;
             x = K .x;
             has = K .has;
@@ -232,7 +235,7 @@ module _ (question s : List ℕ) (at D : ℕ) (names : List ℕ) (task : Task) (
     (h : numberAt tally (at + 1) (task .silently) ≤ task .number) (i : ℕ) (I : i ≡ task .number - numberAt tally (at + 1) (task .silently))
     (l : numberAt tally m₀ (task .silently) ≤ i) (j : ℕ) (J : j ≡ i - numberAt tally m₀ (task .silently)) (u : Numbers) (U : SplitIs j (visibleAt tally m₀) u)
     (x : Passed) (W : PassIs question s (at + 1) D (task .calls) false (u .left) x) (z : Passed) (Z : PassIs question s m₀ D (task .calls) false (u .right) z) where
-  module _ (q : Question) (free : ℕ) (σ : ℕ → ℕ) (P Q : Term) (rest : List ℕ) (ok : checkOf question ≡ result q) (few : free ≤ nameCount)
+  module _ (q : Question) (free : ℕ) (σ : ℕ → ℕ) (own : OwnNamesIf (task .calls) σ) (P Q : Term) (rest : List ℕ) (ok : checkOf question ≡ result q) (few : free ≤ nameCount)
       (sp : InScope free (q .arities) D P) (sq : InScope free (q .arities) D Q) (st : drop (at + 1) s ≡ encode D P ++ (encode D Q ++ rest)) where
     abbrev body : ℕ → Term
     body = bodyOf (q .bodies)
@@ -244,14 +247,14 @@ module _ (question s : List ℕ) (at D : ℕ) (names : List ℕ) (task : Task) (
     ts = candidates false body (task .calls) (ren σ Q)
 
     ends : m₀ ≡ at + 1 + length (encode D P)
-    ends = middle-is question s (task .calls) tally T at m₀ N q free D σ P Q rest ok sp sq st
+    ends = middle-is question s (task .calls) tally T at m₀ N q free D σ own P Q rest ok sp sq st
 
     third : (M : Cond) (α : Act) (A : Term) → chosen task body (par (ren σ P) (ren σ Q)) ≡ step M α A
         → getD (meetings body (task .silently) (task .calls) (ren σ P) (ren σ Q)) j blocked ≡ step M α A
     third M α A e =
         let S = sides-par body (task .silently) (task .calls) (ren σ P) (ren σ Q) in
-        let a = number-is question s (task .calls) tally T (task .silently) q (at + 1) free D σ P (encode D Q ++ rest) ok sp st in
-        let b = right-number question s (task .calls) tally T at m₀ N q free D σ P Q rest ok sp sq st (task .silently) in
+        let a = number-is question s (task .calls) tally T (task .silently) q (at + 1) free D σ own P (encode D Q ++ rest) ok sp st in
+        let b = right-number question s (task .calls) tally T at m₀ N q free D σ own P Q rest ok sp sq st (task .silently) in
         let k : task .number ≡ length (candidates (task .silently) body (task .calls) (ren σ P)) + (length (candidates (task .silently) body (task .calls) (ren σ Q)) + j) =
         omega arith in
         sym (S .third j)
@@ -262,7 +265,7 @@ module _ (question s : List ℕ) (at D : ℕ) (names : List ℕ) (task : Task) (
     unfolding numberAt
     numbers =
         subst (λ (n : ℕ). 0 < n → (j ≡ u .left * n + u .right) × (u .right < n))
-        (right-number question s (task .calls) tally T at m₀ N q free D σ P Q rest ok sp sq st false) (U .is)
+        (right-number question s (task .calls) tally T at m₀ N q free D σ own P Q rest ok sp sq st false) (U .is)
 
     met : (M : Cond) (α : Act) (A : Term) → chosen task body (par (ren σ P) (ren σ Q)) ≡ step M α A
         → Met free D σ (getD ss (u .left) blocked) (getD ts (u .right) blocked) α A x z
@@ -276,8 +279,8 @@ module _ (question s : List ℕ) (at D : ℕ) (names : List ℕ) (task : Task) (
             (sym (ap (λ (b : Bool). getD (meetings body b (task .calls) (ren σ P) (ren σ Q)) j blocked) b) ∙ third M α A e) in
             record {
               meeting = g;
-              leftDoes = W .does q free σ P (encode D Q ++ rest) ok few sp st (g .left .condition) (g .leftAction) (g .leftResult) (g .left .is);
-              rightDoes = Z .does q free σ Q rest ok few sq (behind question s (task .calls) tally T at m₀ N q free D σ P Q rest ok sp sq st)
+              leftDoes = W .does q free σ own P (encode D Q ++ rest) ok few sp st (g .left .condition) (g .leftAction) (g .leftResult) (g .left .is);
+              rightDoes = Z .does q free σ own Q rest ok few sq (behind question s (task .calls) tally T at m₀ N q free D σ own P Q rest ok sp sq st)
                   (g .right .condition) (g .rightAction) (g .rightResult) (g .right .is);
             }
 
@@ -294,6 +297,7 @@ module _ (question s : List ℕ) (at D : ℕ) (names : List ℕ) (task : Task) (
           → HasNames free D (t .levels) names (λ n. ρ (σ n)) → HasNew (t .levels) (t .new) y
           → Asks names t body free D σ P (encode (t .levels) (ren (receiving y ρ (m .meeting .leftAction)) (m .meeting .leftResult))) top
       left-asks t bounded still sil calls number ρ y has new = record {
+        own-names = λ z. own (omega arith);
         ρ = ρ;
         x = y;
         has = has;
@@ -310,6 +314,7 @@ module _ (question s : List ℕ) (at D : ℕ) (names : List ℕ) (task : Task) (
           → HasNames free D (t .levels) names (λ n. ρ (σ n)) → HasNew (t .levels) (t .new) y
           → Asks names t body free D σ Q (encode (t .levels) (ren (receiving y ρ (m .meeting .rightAction)) (m .meeting .rightResult))) top
       right-asks t bounded still sil calls number ρ y has new = record {
+        own-names = λ z. own (omega arith);
         ρ = ρ;
         x = y;
         has = has;
@@ -424,7 +429,7 @@ module _ (question s : List ℕ) (at D : ℕ) (names : List ℕ) (task : Task) (
         rightLevels = omega arith;
         leftCalls = refl;
         rightCalls = refl;
-        is = λ q free σ P Q rest bs top ok few sp sq st K. com-right q free σ P Q rest ok few sp sq st bs top K (eqb-true (x .kind) 2 b);
+        is = λ q free σ P Q rest bs top ok few sp sq st K. com-right q free σ (K .own-names) P Q rest ok few sp sq st bs top K (eqb-true (x .kind) 2 b);
       }
       go false b true d = rw (b, d) record {
         on = middle-on question s (task .calls) tally T at m₀ N some;
@@ -432,7 +437,7 @@ module _ (question s : List ℕ) (at D : ℕ) (names : List ℕ) (task : Task) (
         rightLevels = omega arith;
         leftCalls = refl;
         rightCalls = refl;
-        is = λ q free σ P Q rest bs top ok few sp sq st K. com-left q free σ P Q rest ok few sp sq st bs top K (eqb-true (z .kind) 2 d);
+        is = λ q free σ P Q rest bs top ok few sp sq st K. com-left q free σ (K .own-names) P Q rest ok few sp sq st bs top K (eqb-true (z .kind) 2 d);
       }
       go false b false d = rw (b, d) record {
         on = middle-on question s (task .calls) tally T at m₀ N some;
@@ -440,5 +445,5 @@ module _ (question s : List ℕ) (at D : ℕ) (names : List ℕ) (task : Task) (
         rightLevels = omega arith;
         leftCalls = refl;
         rightCalls = refl;
-        is = λ q free σ P Q rest bs top ok few sp sq st K. closes q free σ P Q rest ok few sp sq st bs top K (eqb-false (x .kind) 2 b) (eqb-false (z .kind) 2 d);
+        is = λ q free σ P Q rest bs top ok few sp sq st K. closes q free σ (K .own-names) P Q rest ok few sp sq st bs top K (eqb-false (x .kind) 2 b) (eqb-false (z .kind) 2 d);
       }

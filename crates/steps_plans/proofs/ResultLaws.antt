@@ -37,6 +37,7 @@ use Rattle.steps_plans.specs.declared.plan.Plan.{Plan}
 use Rattle.steps_plans.specs.declared.plan.Task.{Task}
 use Rattle.steps_passing.proofs.CalledPasses.{params, names-call, at-call}
 use Rattle.steps_tallies.proofs.CallLaws.{body-scope}
+use Rattle.steps_tallies.proofs.OwnNames.{own-part, own-under, own-body}
 use Rattle.steps_plans.proofs.AskLaws.{chosen-is, asks-still, ask-open, res-part, ask-res}
 use Rattle.steps_tallies.proofs.CandidateForms.{candidates-mat, candidates-res, candidates-call, candidates-no-call, tag-at, only-mat, only-par, only-res}
 use Rattle.steps_tallies.proofs.FrontLaws.{stands}
@@ -146,7 +147,7 @@ plan-same c m l l′ r r′ p q = ap₂ (λ (x y : Task). record { close = c; mi
 -- The ends of a tally, whatever its numbers.
 pub ends-tallied : (question s : List ℕ) (calls : ℕ) (t : List ℕ) → TallyIs question s calls t → EndsTallied question s t
 ends-tallied question s calls t T =
-    record { on = T .on; is = λ q at free D P rest ok scope st. T .is q at free D (λ (n : ℕ). n) P rest ok scope st .2 }
+    record { on = T .on; is = λ q at free D P rest ok scope st. T .is q at free D (λ (n : ℕ). n) (own-part calls) P rest ok scope st .2 }
 
 -- A term, renamed by the table.
 module _ (question s : List ℕ) (at D : ℕ) (names : List ℕ) (levels : ℕ) (out : List ℕ) (put : ℕ) where
@@ -212,6 +213,7 @@ module _ (question s : List ℕ) (at D : ℕ) (names : List ℕ) (levels : ℕ) 
 asks-kept : (names names′ : List ℕ) (task : Task) (body : ℕ → Term) (free D : ℕ) (σ : ℕ → ℕ) (P : Term) (bs : List ℕ) (top : ℕ) → free ≤ nameCount → Kept D names names′
     → Asks names task body free D σ P bs top → Asks names′ task body free D σ P bs top
 asks-kept names names′ task body free D σ P bs top few kept K = record {
+  own-names = K .own-names;
   ρ = K .ρ;
   x = K .x;
   has = names-kept free D (task .levels) names (λ n. K .ρ (σ n)) (K .has) names′ (omega arith) kept;
@@ -268,6 +270,7 @@ module _ (question s : List ℕ) (at D : ℕ) (names : List ℕ) (task : Task) (
         (sym (nth-matching (σ a) (σ b) cs (task .number))
         ∙ picked body free σ (mat a b Q) bs top K _ (candidates-mat body (task .silently) (task .calls) (σ a) (σ b) (ren σ Q))) in
         R .is low q free σ Q rest bs top ok few (scope .2) (sym (drop-drop 3 at s) ∙ ap (drop 3) st) (record {
+          own-names = K .own-names;
           ρ = K .ρ;
           x = K .x;
           has = K .has;
@@ -292,8 +295,9 @@ module _ (question s : List ℕ) (at D : ℕ) (names : List ℕ) (task : Task) (
     is = λ low q free σ P rest bs top ok few scope st K shallow.
         let body = bodyOf (q .bodies) in
         let R = subst (λ (t : Task). WriteIs question s (b .at) D names t out put r out′) e R₀ in
-        let A = B .is question (task .calls) T q free D σ P rest ok scope st in
+        let A = B .is question (task .calls) T q free D σ (K .own-names) P rest ok scope st in
         R .is low q free σ (A .term) (A .rest) bs top ok few (A .scope) (A .stands) (record {
+          own-names = K .own-names;
           ρ = K .ρ;
           x = K .x;
           has = K .has;
@@ -322,7 +326,7 @@ module _ (question s : List ℕ) (at D : ℕ) (names : List ℕ) (task : Task) (
         let cs = candidates (task .silently) body (task .calls) (ren (lift σ) Q) in
         let v = under-of (getD cs (task .number) blocked) (K .condition) (K .action) (K .result)
         (sym (nth-restricted cs (task .number)) ∙ picked body free σ (res Q) bs top K _ (candidates-res body (task .silently) (task .calls) (ren (lift σ) Q))) in
-        (v, X′ .does q free (lift σ) Q rest ok few scope st (v .premise .condition) (v .action) (v .result) (v .premise .is))
+        (v, X′ .does q free (lift σ) (own-under (task .calls) σ (K .own-names)) Q rest ok few scope st (v .premise .condition) (v .action) (v .result) (v .premise .is))
 
     pub write-open : tableNames + D < length names → opensAt D (p .kind) (p .object) ≡ true → (r : ℕ) (out′ : List ℕ)
         → WriteIs question s (at + 1) (D + 1) (entering D (task .new) names) task out put r out′ → WriteIs question s at D names task out put r out′
@@ -392,10 +396,10 @@ module _ (question s : List ℕ) (at D : ℕ) (names : List ℕ) (task : Task) (
           K;
     }
 
-    pub write-opened : (bytes : List ℕ) → BodyIs question (o .definition) bytes → (c : ℕ) → task .calls ≡ suc c → (t : Task) → t ≡ inside task
+    pub write-opened : (bytes : List ℕ) → BodyIs question (o .definition) bytes → task .calls ≤ 1 → (c : ℕ) → task .calls ≡ suc c → (t : Task) → t ≡ inside task
         → (given : List ℕ) → CalledIs s (at + 2) (o .arity) D names given
         → (r : ℕ) (out′ : List ℕ) → WriteIs question bytes 0 (o .arity) given t out put r out′ → WriteIs question s at D names task out put r out′
-    write-opened bytes B c z t e given C r out′ R₀ = record {
+    write-opened bytes B once c z t e given C r out′ R₀ = record {
       on = R₀ .on;
       is = λ low q free σ P rest bs top ok few scope st K shallow. at-call question s at D (task .calls) (task .silently) (task .number) g (o .definition) (o .arity) (O .definition) (O .arity)
           (λ (P : Term). Asks names task (bodyOf (q .bodies)) free D σ P bs top → Writes low out put bs r out′) q free P rest ok scope st
@@ -410,6 +414,7 @@ module _ (question s : List ℕ) (at D : ℕ) (names : List ℕ) (task : Task) (
           (subst (λ (n : ℕ). InScope 0 (q .arities) n (body (o .definition))) (sym a) (body-scope question q ok (o .definition)))
           (B .is q ok l ∙ ap (λ (n : ℕ). encode n (body (o .definition))) (sym a) ∙ sym (append-nil (encode (o .arity) (body (o .definition)))))
           (record {
+            own-names = own-body (task .calls) (params σ xs) once;
             ρ = K .ρ;
             x = K .x;
             has = names-call free D s (at + 2) xs rest few scoped st (task .levels) names given σ (K .ρ) (K .has) (o .arity) m C;

@@ -20,7 +20,7 @@ use Rattle.terms_bytes.specs.Shape.{height}
 use Rattle.terms.specs.Question.{Question, checkOf}
 use Rattle.terms.specs.Question.{bodyOf}
 use Rattle.steps_conditions.specs.Names.{HasNames, HasNew}
-use Rattle.steps_tallies.specs.Candidates.{candidates}
+use Rattle.steps_tallies.specs.Candidates.{candidates, OwnNamesIf}
 use Rattle.steps.specs.Raw.{Candidate, step, blocked}
 use Rattle.steps_plans.specs.declared.plan.Numbers.{Numbers}
 use Rattle.steps_passing.specs.declared.pass.Passed.{Passed}
@@ -41,6 +41,7 @@ chosen task body P =
 
 -- The bytes that a task asks for of the term `ren σ P`, by the table of its names; at most `top` binders stand one within the other in the whole.
 pub record Asks (names : List ℕ) (task : Task) (body : ℕ → Term) (free D : ℕ) (σ : ℕ → ℕ) (P : Term) (bs : List ℕ) (top : ℕ) : Type 0 where
+  pub own-names : OwnNamesIf (task .calls) σ
   pub ρ : ℕ → ℕ
   pub x : ℕ
   pub has : HasNames free D (task .levels) names (λ n. ρ (σ n))

@@ -14,6 +14,7 @@ use Rattle.terms.specs.Encoding.{encode, InScope}
 use Rattle.terms.specs.Question.{Question}
 use Rattle.terms.proofs.ReadEncoded.{encode-some}
 use Rattle.steps_tallies.specs.Tally.{TallyIs, endAt}
+use Rattle.steps_tallies.proofs.OwnNames.{own-part}
 use Rattle.steps_tallies.proofs.CallLaws.{few-parameters}
 use Rattle.steps_tallies.proofs.CandidateForms.{tag, tag-at, only-mat, only-sum}
 use Rattle.steps_tallies.proofs.FrontLaws.{stands, at-left, at-right}
@@ -156,7 +157,7 @@ module _ (question s : List ℕ) (at row : ℕ) (t : List ℕ) (size : ℕ) (g :
     unfolding encode InScope
     right-stands q Δ d xs P Q cs S U =
         let b = at-left (length xs) s at P Q (S .rest) 6 (S .bytes) in
-        let l = T .is q (at + 1) 0 (length xs) (λ i. i) P (encode (length xs) Q ++ S .rest) (d .accepted) (S .scope .0) b .2 in
+        let l = T .is q (at + 1) 0 (length xs) (λ i. i) (own-part 0) P (encode (length xs) Q ++ S .rest) (d .accepted) (S .scope .0) b .2 in
         record {
           scope = S .scope .1;
           rest = S .rest;

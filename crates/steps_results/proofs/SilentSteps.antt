@@ -106,5 +106,5 @@ pub pass-silent : (question s : List ℕ) (at D calls i : ℕ) → PassIs questi
 unfolding candidates
 pass-silent question s at D calls i = record {
   slot = omega arith;
-  does = λ q free σ P rest ok few scope st M α A e. nothing free D σ α (silent-action (bodyOf (q .bodies)) calls (ren σ P) i M α A e);
+  does = λ q free σ own P rest ok few scope st M α A e. nothing free D σ α (silent-action (bodyOf (q .bodies)) calls (ren σ P) i M α A e);
 }

@@ -22,6 +22,7 @@ use Rattle.steps_tallies.specs.declared.bodies.Opening.{Opening}
 use Rattle.steps_passing.proofs.CalledPasses.{params, at-call}
 use Rattle.steps_tallies.proofs.CallLaws.{body-scope}
 use Rattle.steps_tallies.proofs.CandidateForms.{candidates-call, tag-at, only-sum, only-res, only-prefix}
+use Rattle.steps_tallies.proofs.OwnNames.{own-under, own-body}
 use Rattle.steps_tallies.proofs.FrontLaws.{stands, behind}
 use Rattle.steps_tallies.proofs.Numbering.{nth-restricted}
 use Rattle.steps_passing.proofs.TwoSides.{at-left}
@@ -67,23 +68,23 @@ module _ (question s : List ℕ) (at calls : ℕ) where
 
   -- nothing is said
   pub unconditional-not : (r : Bool) → r ≡ false → UnconditionalIs question s at calls r
-  unconditional-not r f = record { is = λ q free D σ P rest t. let z : _≡_ {A = ℕ} 0 1 = cc in absurd (omega arith) }
+  unconditional-not r f = record { is = λ q free D σ own P rest t. let z : _≡_ {A = ℕ} 0 1 = cc in absurd (omega arith) }
 
   module _ (r : Bool) where
     -- no term stands past the end
     pub unconditional-none : length s ≤ at → UnconditionalIs question s at calls r
-    unconditional-none h = record { is = λ q free D σ P rest t ok scope st. let z = stands s at D P rest st in absurd (omega arith) }
+    unconditional-none h = record { is = λ q free D σ own P rest t ok scope st. let z = stands s at D P rest st in absurd (omega arith) }
 
     -- the term has no silent candidate
     pub unconditional-idle : (numbers : List ℕ) → TallyIs question s calls numbers → silentAt numbers at ≡ 0 → UnconditionalIs question s at calls r
     unconditional-idle numbers T z = record {
-      is = λ q free D σ P rest t ok scope st. no-condition (silent (bodyOf (q .bodies)) calls (ren σ P)) (sym (T .is q at free D σ P rest ok scope st .1) ∙ z);
+      is = λ q free D σ own P rest t ok scope st. no-condition (silent (bodyOf (q .bodies)) calls (ren σ P)) (sym (T .is q at free D σ own P rest ok scope st .1) ∙ z);
     }
 
     pub unconditional-prefix : getD s at 0 < 5 → UnconditionalIs question s at calls r
     unfolding silent silentOf
     unconditional-prefix g = record {
-      is = λ q free D σ P rest t ok scope st.
+      is = λ q free D σ own P rest t ok scope st.
           let k = tag-at s at D P rest st in
           only-prefix (Shows q σ) (no-condition [] refl) (λ P. one-unconditional (ren σ P)) (λ a P. no-condition [] refl) (λ a b P. no-condition [] refl) (λ a P. no-condition [] refl)
           P (omega arith);
@@ -93,9 +94,9 @@ module _ (question s : List ℕ) (at calls : ℕ) where
     pub unconditional-res : getD s at 0 ≡ 8 → UnconditionalIs question s (at + 1) calls r → UnconditionalIs question s at calls r
     unfolding silent silentOf InScope encode
     unconditional-res g X = record {
-      is = λ q free D σ P rest t ok scope st. only-res (Stands q free D σ rest)
+      is = λ q free D σ own P rest t ok scope st. only-res (Stands q free D σ rest)
           (λ P scope st. restricted-unconditional (silent (bodyOf (q .bodies)) calls (ren (lift σ) P))
-          (X .is q free (1 + D) (lift σ) P rest t ok scope (behind s at 1 (8 ∷ []) (encode (1 + D) P ++ rest) st refl)))
+          (X .is q free (1 + D) (lift σ) (own-under calls σ own) P rest t ok scope (behind s at 1 (8 ∷ []) (encode (1 + D) P ++ rest) st refl)))
           P (sym (tag-at s at D P rest st) ∙ g) scope st;
     }
 
@@ -104,12 +105,12 @@ module _ (question s : List ℕ) (at calls : ℕ) where
         → (r₁ : Bool) → r₁ ≡ true → UnconditionalIs question s (at + 1) calls r₁ → UnconditionalIs question s middle calls r → UnconditionalIs question s at calls r
     unfolding silent silentOf InScope encode
     unconditional-sum g numbers T middle N r₁ t₁ X Y = record {
-      is = λ q free D σ P rest t ok scope st. only-sum (Stands q free D σ rest)
+      is = λ q free D σ own P rest t ok scope st. only-sum (Stands q free D σ rest)
           (λ P Q scope st.
           let u = at-left D s at P Q rest 6 st in
           both-unconditional (silent (bodyOf (q .bodies)) calls (ren σ P)) (silent (bodyOf (q .bodies)) calls (ren σ Q))
-          (X .is q free D σ P (encode D Q ++ rest) t₁ ok (scope .0) u)
-          (Y .is q free D σ Q rest t ok (scope .1) (two.behind question s calls numbers T at middle N q free D σ P Q rest ok (scope .0) (scope .1) u)))
+          (X .is q free D σ own P (encode D Q ++ rest) t₁ ok (scope .0) u)
+          (Y .is q free D σ own Q rest t ok (scope .1) (two.behind question s calls numbers T at middle N q free D σ own P Q rest ok (scope .0) (scope .1) u)))
           P (sym (tag-at s at D P rest st) ∙ g) scope st;
     }
 
@@ -119,15 +120,15 @@ module _ (question s : List ℕ) (at calls : ℕ) where
       pub unconditional-closed : o .allowed ≡ false → UnconditionalIs question s at calls r
       unfolding silent silentOf silentCalls
       unconditional-closed z = record {
-        is = λ q free D σ P rest t ok scope st.
+        is = λ q free D σ own P rest t ok scope st.
             at-call question s at D calls true 0 g (o .definition) (o .arity) (O .definition) (O .arity) (Shows q σ) q free P rest ok scope st
             (λ xs e a k names st. subst (λ (c : ℕ). Unconditional (silent (bodyOf (q .bodies)) c (call (o .definition) (map σ xs)))) (sym (O .not z q ok k)) (no-condition [] refl));
       }
 
-      pub unconditional-called : 0 < calls → (bytes : List ℕ) → BodyIs question (o .definition) bytes → UnconditionalIs question bytes 0 (calls - 1) r → UnconditionalIs question s at calls r
+      pub unconditional-called : 0 < calls → calls ≤ 1 → (bytes : List ℕ) → BodyIs question (o .definition) bytes → UnconditionalIs question bytes 0 (calls - 1) r → UnconditionalIs question s at calls r
       unfolding candidates
-      unconditional-called z bytes B X = record {
-        is = λ q free D σ P rest t ok scope st.
+      unconditional-called z once bytes B X = record {
+        is = λ q free D σ own P rest t ok scope st.
             let body = bodyOf (q .bodies) in
             let k = o .definition in
             let m = o .arity in
@@ -135,7 +136,7 @@ module _ (question s : List ℕ) (at calls : ℕ) where
             at-call question s at D calls true 0 g k m (O .definition) (O .arity) (Shows q σ) q free P rest ok scope st
             (λ xs e a j names st.
             subst Unconditional (sym (ap (λ (c : ℕ). silent body c (call k (map σ xs))) more ∙ candidates-call body true (calls - 1) k (map σ xs)))
-            (X .is q 0 m (params σ xs) (body k) [] t ok
+            (X .is q 0 m (params σ xs) (own-body calls (params σ xs) once) (body k) [] t ok
             (subst (λ (n : ℕ). InScope 0 (q .arities) n (body k)) (sym a) (body-scope question q ok k))
             (B .is q ok j ∙ ap (λ (n : ℕ). encode n (body k)) (sym a) ∙ sym (append-nil (encode m (body k))))));
       }

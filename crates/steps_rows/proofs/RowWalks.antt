@@ -22,7 +22,7 @@ use Rattle.steps_tallies.specs.Bodies.{BodyIs, OpeningIs}
 use Rattle.terms.specs.Question.{bodyOf}
 use Rattle.steps_conditions.specs.Labels.{inputOn, newOutputOn, actionOf, ActionBelow}
 use Rattle.steps_labels.specs.LabelWalk.{slotAt, HasSlots, ArgumentsIs}
-use Rattle.steps_tallies.specs.Candidates.{candidates}
+use Rattle.steps_tallies.specs.Candidates.{candidates, OwnNamesIf}
 use Rattle.steps_passing.specs.Passing.{MiddleIs}
 use Rattle.steps.specs.Raw.{Candidate, step, blocked, matching, leftSteps, rightSteps, restricted, visible, visibleOf, visibleCalls}
 use Rattle.steps_conditions.specs.Slots.{slotOf}
@@ -33,6 +33,7 @@ use Rattle.steps_labels.proofs.ArgumentSlots.{slots-lift, slot-read, slots-call
 use Rattle.steps_passing.proofs.CalledPasses.{params, at-call}
 use Rattle.steps_tallies.proofs.CallLaws.{body-scope}
 use Rattle.steps_tallies.proofs.CandidateForms.{candidates-call, tag, tag-at, only-mat, only-res, only-two, only-prefix}
+use Rattle.steps_tallies.proofs.OwnNames.{own-under, own-body}
 use Rattle.steps_tallies.proofs.FrontLaws.{stands, behind}
 use Rattle.steps_conditions.proofs.SlotLaws.{slot-below}
 use Rattle.steps_passing.proofs.TwoSides.{at-left}
@@ -234,7 +235,7 @@ module _ (question s : List ℕ) (root at : ℕ) (asked : Bool) (args : List ℕ
     on = omega arith;
     inside = m;
     kept = kept-all n rows;
-    is = λ q free D σ P rest before ok few has scope st o. let z = stands s at D P rest st in absurd (omega arith);
+    is = λ q free D σ own P rest before ok few has scope st o. let z = stands s at D P rest st in absurd (omega arith);
   }
 
   -- inaction and the silent prefix
@@ -244,7 +245,7 @@ module _ (question s : List ℕ) (root at : ℕ) (asked : Bool) (args : List ℕ
     on = omega arith;
     inside = m;
     kept = kept-all n rows;
-    is = λ q free D σ P rest before ok few has scope st o.
+    is = λ q free D σ own P rest before ok few has scope st o.
         let k = tag-at s at D P rest st in
         only-prefix (λ (P : Term). tag P < 2 → Shows before q σ n rows P)
         (λ h l. has-none before) (λ P h l. has-none before) (λ a P h l. absurd (omega arith)) (λ a b P h l. absurd (omega arith)) (λ a P h l. absurd (omega arith))
@@ -258,7 +259,7 @@ module _ (question s : List ℕ) (root at : ℕ) (asked : Bool) (args : List ℕ
       on = R .on;
       inside = R .inside;
       kept = R .kept;
-      is = λ q free D σ P rest before ok few has scope st o.
+      is = λ q free D σ own P rest before ok few has scope st o.
           let read = slot-read free D args inner depth σ few has s at in
           let t = tag-at s at D P rest st in
           let channel = slotAt args inner depth (getD s (at + 1) 0) in
@@ -304,9 +305,9 @@ module _ (question s : List ℕ) (root at : ℕ) (asked : Bool) (args : List ℕ
     on = R .on;
     inside = R .inside;
     kept = R .kept;
-    is = λ q free D σ P rest before ok few has scope st o h.
+    is = λ q free D σ own P rest before ok few has scope st o h.
         let cs = seen q σ P in
-        let many : m ≡ length (seen q σ P) = c ∙ T .is q at free D σ P rest ok scope st .0 in
+        let many : m ≡ length (seen q σ P) = c ∙ T .is q at free D σ own P rest ok scope st .0 in
         let (e, u) = R .is (omega arith) in
         let u′ : (j : ℕ) → j < length (seen q σ P) → kindAt rows′ (n + j) ≡ 4 = λ j l. u j (omega arith) in
         (e ∙ ap (λ (k : ℕ). n + k) many, rows-again rows′ n depth before cs (again .is q calls free D σ P rest before refl ok few has scope st g t o) u′, λ _ j l. omega (arith, u′ j l));
@@ -320,12 +321,12 @@ module _ (question s : List ℕ) (root at : ℕ) (asked : Bool) (args : List ℕ
     on = X .on;
     inside = X .inside;
     kept = X .kept;
-    is = λ q free D σ P rest before ok few has scope st o. only-mat (Stands before q free D σ rest r rows′)
+    is = λ q free D σ own P rest before ok few has scope st o. only-mat (Stands before q free D σ rest r rows′)
         (λ a b P scope st h.
         let cs = seen q σ P in
         let m : length (map (matching (σ a) (σ b)) cs) ≡ length cs = length-map cs (matching (σ a) (σ b)) in
         let same = trivial-names free D σ s args inner depth few has (q .arities) a b P at rest scope st t in
-        let w = X .is q free D σ P rest before ok few has (scope .2) (behind s at 3 (5 ∷ nameByte D a ∷ nameByte D b ∷ []) (encode D P ++ rest) st refl)
+        let w = X .is q free D σ own P rest before ok few has (scope .2) (behind s at 3 (5 ∷ nameByte D a ∷ nameByte D b ∷ []) (encode D P ++ rest) st refl)
         (subst (λ (i : ℕ). Offers (bodyOf (q .bodies)) calls (q .arities) free D σ s args inner depth before i (at + 3)) (sym begins)
         (offers-behind (bodyOf (q .bodies)) calls (q .arities) free D σ s args inner depth before root at (at + 3)
         (offers-beneath (bodyOf (q .bodies)) calls (q .arities) free D σ s args inner depth before root at o t))) (omega arith) in
@@ -340,11 +341,11 @@ module _ (question s : List ℕ) (root at : ℕ) (asked : Bool) (args : List ℕ
     on = X .on;
     inside = X .inside;
     kept = X .kept;
-    is = λ q free D σ P rest before ok few has scope st o. only-mat (Stands before q free D σ rest r rows′)
+    is = λ q free D σ own P rest before ok few has scope st o. only-mat (Stands before q free D σ rest r rows′)
         (λ a b P scope st h.
         let cs = seen q σ P in
         let m : length (map (matching (σ a) (σ b)) cs) ≡ length cs = length-map cs (matching (σ a) (σ b)) in
-        let w = X .is q free D σ P rest [] ok few has (scope .2) (behind s at 3 (5 ∷ nameByte D a ∷ nameByte D b ∷ []) (encode D P ++ rest) st refl) (offers-alone (bodyOf (q .bodies)) calls (q .arities) free D σ s args inner depth [] (at + 3)) (omega arith) in
+        let w = X .is q free D σ own P rest [] ok few has (scope .2) (behind s at 3 (5 ∷ nameByte D a ∷ nameByte D b ∷ []) (encode D P ++ rest) st refl) (offers-alone (bodyOf (q .bodies)) calls (q .arities) free D σ s args inner depth [] (at + 3)) (omega arith) in
         let u : Matched (length (map (matching (σ a) (σ b)) cs)) rows′ n = rw m (w .2 refl) in
         (w .0 ∙ omega arith, behind-all before rows′ _ (rows-matching rows′ n depth (σ a) (σ b) cs (w .2 refl) (w .1)), λ e. u))
         P (sym (tag-at s at D P rest st) ∙ g) scope st;
@@ -358,12 +359,12 @@ module _ (question s : List ℕ) (root at : ℕ) (asked : Bool) (args : List ℕ
     on = X .on;
     inside = X .inside;
     kept = X .kept;
-    is = λ q free D σ P rest before ok few has scope st o. only-res (Stands before q free D σ rest r rows′)
+    is = λ q free D σ own P rest before ok few has scope st o. only-res (Stands before q free D σ rest r rows′)
         (λ P scope st h.
         let cs = seen q (lift σ) P in
         let d : depth + 1 ≡ 1 + depth = omega arith in
         let m = many-res (bodyOf (q .bodies)) calls (ren (lift σ) P) in
-        let w = X .is q free (1 + D) (lift σ) P rest [] ok few (slots-lift free D args inner depth σ few has) scope
+        let w = X .is q free (1 + D) (lift σ) (own-under calls σ own) P rest [] ok few (slots-lift free D args inner depth σ few has) scope
         (behind s at 1 (8 ∷ []) (encode (1 + D) P ++ rest) st refl)
         (offers-alone (bodyOf (q .bodies)) calls (q .arities) free (1 + D) (lift σ) s args (inner + 1) (depth + 1) [] (at + 1)) (omega arith) in
         (w .0 ∙ omega arith, behind-all before rows′ _ (rows-res (bodyOf (q .bodies)) calls rows′ n depth (ren (lift σ) P) (subst (λ (d : ℕ). Rows d cs rows′ n) d (w .1))), λ e. rw m (w .2 e)))
@@ -375,18 +376,18 @@ module _ (question s : List ℕ) (root at : ℕ) (asked : Bool) (args : List ℕ
       (begin : ℕ) (behinds : begin ≡ behindRoot root at (at + 1)) (left : ℕ) (begins : left ≡ rootOf (getD s at 0) begin (at + 1)) (right : ℕ) (begins₂ : right ≡ rootOf (getD s at 0) begin middle) (r₁ : ℕ) (rows₁ : List ℕ)
       (X : ScanIs question s left (at + 1) asked args inner depth calls n rows r₁ rows₁) (r : ℕ) (rows′ : List ℕ)
       (Y : ScanIs question s right middle asked args inner depth calls r₁ rows₁ r rows′) where
-    sides : (q : Question) (free D : ℕ) (σ : ℕ → ℕ) (P Q : Term) (rest : List ℕ) (before before₁ before₂ : List Candidate) → checkOf question ≡ result q → free ≤ nameCount
-        → HasSlots free D args inner depth σ → InScope free (q .arities) D P → InScope free (q .arities) D Q → drop (at + 1) s ≡ encode D P ++ (encode D Q ++ rest)
+    sides : (q : Question) (free D : ℕ) (σ : ℕ → ℕ) → OwnNamesIf calls σ → (P Q : Term) (rest : List ℕ) (before before₁ before₂ : List Candidate) → checkOf question ≡ result q
+        → free ≤ nameCount → HasSlots free D args inner depth σ → InScope free (q .arities) D P → InScope free (q .arities) D Q → drop (at + 1) s ≡ encode D P ++ (encode D Q ++ rest)
         → Offers (bodyOf (q .bodies)) calls (q .arities) free D σ s args inner depth before₁ left (at + 1)
         → Offers (bodyOf (q .bodies)) calls (q .arities) free D σ s args inner depth before₂ right middle
         → (cs : List Candidate) → length cs ≡ length (seen q σ P) + length (seen q σ Q)
         → (RowsBehind before₁ depth (seen q σ P) rows′ n → RowsBehind before₂ depth (seen q σ Q) rows′ (n + length (seen q σ P)) → RowsBehind before depth cs rows′ n)
         → n + length cs ≤ mostRows → Has before r rows′ cs
-    sides q free D σ P Q rest before before₁ before₂ ok few has sp sq st o₁ o₂ cs m join h =
+    sides q free D σ own P Q rest before before₁ before₂ ok few has sp sq st o₁ o₂ cs m join h =
         let ps = seen q σ P in
         let qs = seen q σ Q in
-        let (e, f, u) = X .is q free D σ P (encode D Q ++ rest) before₁ ok few has sp st o₁ (omega arith) in
-        let (e₂, f₂, u₂) = Y .is q free D σ Q rest before₂ ok few has sq (two.behind question s calls numbers T at middle N q free D σ P Q rest ok sp sq st) o₂ (omega arith) in (
+        let (e, f, u) = X .is q free D σ own P (encode D Q ++ rest) before₁ ok few has sp st o₁ (omega arith) in
+        let (e₂, f₂, u₂) = Y .is q free D σ own Q rest before₂ ok few has sq (two.behind question s calls numbers T at middle N q free D σ own P Q rest ok sp sq st) o₂ (omega arith) in (
           omega arith,
           join (rows-kept r₁ rows₁ rows′ (Y .kept) before₁ depth n ps (omega arith) f) (subst (RowsBehind before₂ depth qs rows′) e f₂),
           λ t. rw m (matched-both rows′ n (length ps) (length qs) (matched-kept r₁ rows₁ rows′ (Y .kept) (length ps) n (omega arith) (u t)) (subst (Matched (length qs) rows′) e (u₂ t))),
@@ -406,20 +407,20 @@ module _ (question s : List ℕ) (root at : ℕ) (asked : Bool) (args : List ℕ
       on = let x = X .on in let y = Y .on in omega arith;
       inside = Y .inside;
       kept = kept-then n r₁ rows rows₁ rows′ (X .on) (X .kept) (Y .kept);
-      is = λ q free D σ P rest before ok few has scope st o.
+      is = λ q free D σ own P rest before ok few has scope st o.
           let k = tag-at s at D P rest st in
           let body = bodyOf (q .bodies) in
           only-two (λ (P : Term). getD s at 0 ≡ tag P → Stands before q free D σ rest r rows′ P)
           (λ P Q t scope st.
           let sl = at-left D s at P Q rest 6 st in
-          let m = two.middle-is question s calls numbers T at middle N q free D σ P Q rest ok (scope .0) (scope .1) sl in
-          sides q free D σ P Q rest before before (before ++ seen q σ P) ok few has (scope .0) (scope .1) sl
+          let m = two.middle-is question s calls numbers T at middle N q free D σ own P Q rest ok (scope .0) (scope .1) sl in
+          sides q free D σ own P Q rest before before (before ++ seen q σ P) ok few has (scope .0) (scope .1) sl
           (subst (λ (i : ℕ). Offers body calls (q .arities) free D σ s args inner depth before i (at + 1)) (sym (begins ∙ root-choice (getD s at 0) begin (at + 1) t)) (ahead q free D σ before o t))
           (subst (λ (i : ℕ). Offers body calls (q .arities) free D σ s args inner depth (before ++ seen q σ P) i middle) (sym (begins₂ ∙ root-choice (getD s at 0) begin middle t))
           (offers-right body calls (q .arities) free D σ s args inner depth few has before begin (at + 1) (ahead q free D σ before o t) P (encode D Q ++ rest) (scope .0) sl middle m))
           _ (many-sum body calls (ren σ P) (ren σ Q)) (rows-sum body calls rows′ n depth before (ren σ P) (ren σ Q)))
           (λ P Q t scope st.
-          sides q free D σ P Q rest before [] [] ok few has (scope .0) (scope .1) (at-left D s at P Q rest 7 st)
+          sides q free D σ own P Q rest before [] [] ok few has (scope .0) (scope .1) (at-left D s at P Q rest 7 st)
           (subst (λ (i : ℕ). Offers body calls (q .arities) free D σ s args inner depth [] i (at + 1)) (sym (begins ∙ root-other (getD s at 0) begin (at + 1) (λ z. omega arith)))
           (offers-alone body calls (q .arities) free D σ s args inner depth [] (at + 1)))
           (subst (λ (i : ℕ). Offers body calls (q .arities) free D σ s args inner depth [] i middle) (sym (begins₂ ∙ root-other (getD s at 0) begin middle (λ z. omega arith)))
@@ -437,7 +438,7 @@ module _ (question s : List ℕ) (root at : ℕ) (asked : Bool) (args : List ℕ
       on = omega arith;
       inside = m;
       kept = kept-all n rows;
-      is = λ q free D σ P rest before ok few has scope st _.
+      is = λ q free D σ own P rest before ok few has scope st _.
           at-call question s at D calls false 0 g (o .definition) (o .arity) (O .definition) (O .arity) (Shows before q σ n rows) q free P rest ok scope st
           (λ xs e a k names st h. subst (λ (c : ℕ). Has before n rows (visible (bodyOf (q .bodies)) c (call (o .definition) (map σ xs)))) (sym (O .not z q ok k)) (has-none before));
     }
@@ -449,19 +450,19 @@ module _ (question s : List ℕ) (root at : ℕ) (asked : Bool) (args : List ℕ
       on = omega arith;
       inside = m;
       kept = kept-all n rows;
-      is = λ q free D σ P rest before ok few has scope st _.
+      is = λ q free D σ own P rest before ok few has scope st _.
           at-call question s at D calls false 0 g (o .definition) (o .arity) (O .definition) (O .arity) (λ (P : Term). at + length (encode D P) ≤ length s → Shows before q σ n rows P)
           q free P rest ok scope st (λ xs m a k names st whole. absurd (omega (arith, O .end, length-map xs (nameByte D)))) (stands s at D P rest st .1);
     }
 
-    pub scan-called : 0 < calls → (bytes : List ℕ) → BodyIs question (o .definition) bytes → (given : List ℕ) → ArgumentsIs s (at + 2) (o .arity) args inner depth given
+    pub scan-called : 0 < calls → calls ≤ 1 → (bytes : List ℕ) → BodyIs question (o .definition) bytes → (given : List ℕ) → ArgumentsIs s (at + 2) (o .arity) args inner depth given
         → (r : ℕ) (rows′ : List ℕ) → ScanIs question bytes 0 0 asked given 0 depth (calls - 1) n rows r rows′ → ScanIs question s root at asked args inner depth calls n rows r rows′
     unfolding candidates
-    scan-called z bytes B given G r rows′ X = record {
+    scan-called z once bytes B given G r rows′ X = record {
       on = X .on;
       inside = X .inside;
       kept = X .kept;
-      is = λ q free D σ P rest before ok few has scope st _.
+      is = λ q free D σ own P rest before ok few has scope st _.
           let body = bodyOf (q .bodies) in
           let k = o .definition in
           let m = o .arity in
@@ -470,7 +471,7 @@ module _ (question s : List ℕ) (root at : ℕ) (asked : Bool) (args : List ℕ
           (λ xs e a j names st.
           subst (λ (l : List Candidate). n + length l ≤ mostRows → Has before r rows′ l) (sym (ap (λ (c : ℕ). visible body c (call k (map σ xs))) more ∙ candidates-call body false (calls - 1) k (map σ xs)))
           (λ h.
-          let w = X .is q 0 m (params σ xs) (body k) [] [] ok (omega arith) (slots-call free D args inner depth σ few has s (at + 2) xs rest m given names st e G)
+          let w = X .is q 0 m (params σ xs) (own-body calls (params σ xs) once) (body k) [] [] ok (omega arith) (slots-call free D args inner depth σ few has s (at + 2) xs rest m given names st e G)
           (subst (λ (n : ℕ). InScope 0 (q .arities) n (body k)) (sym a) (body-scope question q ok k))
           (B .is q ok j ∙ ap (λ (n : ℕ). encode n (body k)) (sym a) ∙ sym (append-nil (encode m (body k))))
           (offers-alone body (calls - 1) (q .arities) 0 m (params σ xs) bytes given 0 depth [] 0) h in

@@ -19,6 +19,7 @@ use Rattle.steps_labels.specs.LabelWalk.{slotAt, HasSlots}
 use Rattle.steps_conditions.specs.Labels.{inputOn, newOutputOn, actionOf, ActionBelow}
 use Rattle.terms.specs.Question.{bodyOf}
 use Rattle.steps.specs.Raw.{Candidate, step, blocked, visible, silent}
+use Rattle.steps_tallies.specs.Candidates.{OwnNamesIf}
 use Rattle.steps_conditions.specs.declared.action.Action.{Action}
 use Rattle.steps_conditions.specs.declared.action.Action.the-variants.{Output}
 use Rattle.steps_placing.specs.Deciding.{decided, Again}
@@ -134,7 +135,7 @@ pub record ScanIs (question s : List ℕ) (root at : ℕ) (asked : Bool) (args :
   pub on : n ≤ r
   pub inside : r ≤ mostRows + 1
   pub kept : RowsKept n rows rows′
-  pub is : (q : Question) (free D : ℕ) (σ : ℕ → ℕ) (P : Term) (rest : List ℕ) (before : List Candidate)
+  pub is : (q : Question) (free D : ℕ) (σ : ℕ → ℕ) → OwnNamesIf calls σ → (P : Term) (rest : List ℕ) (before : List Candidate)
       → checkOf question ≡ result q
       → free ≤ nameCount
       → HasSlots free D args inner depth σ
@@ -153,7 +154,7 @@ Unconditional cs = (j : ℕ) → j < length cs → (A : Term) × (getD cs j bloc
 -- Whether the term at `at` has neither a match nor a parallel above its silent prefixes, in a called body either: then its silent candidates have no
 -- condition.
 pub record UnconditionalIs (question s : List ℕ) (at calls : ℕ) (r : Bool) : Type 0 where
-  pub is : (q : Question) (free D : ℕ) (σ : ℕ → ℕ) (P : Term) (rest : List ℕ)
+  pub is : (q : Question) (free D : ℕ) (σ : ℕ → ℕ) → OwnNamesIf calls σ → (P : Term) (rest : List ℕ)
       → r ≡ true
       → checkOf question ≡ result q
       → InScope free (q .arities) D P

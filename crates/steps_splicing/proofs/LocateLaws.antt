@@ -17,6 +17,7 @@ use Rattle.steps_tallies.specs.Candidates.{candidates}
 use Rattle.steps_passing.specs.Passing.{MiddleIs}
 use Rattle.steps.specs.Raw.{Candidate, blocked, restricted, visible}
 use Rattle.steps_tallies.specs.Tally.{visibleAt, TallyIs}
+use Rattle.steps_tallies.proofs.OwnNames.{own-part}
 use Rattle.steps_tallies.proofs.CandidateForms.{candidates-res, tag-at, only-par, only-res}
 use Rattle.steps_tallies.proofs.Numbering.{nth-restricted}
 use Rattle.steps_passing.proofs.TwoSides.{sides-par, at-left, middle-is, behind}
@@ -61,7 +62,7 @@ module _ (s t : List ℕ) (at depth i : ℕ) where
     counts : (question : List ℕ) → TallyIs question s 1 t → (q : Question) (b : ℕ) (A : Term) (rest : List ℕ) → checkOf question ≡ result q
         → InScope nameCount (q .arities) d A → drop b s ≡ encode d A ++ rest → visibleAt t b ≡ length (visible (bodyOf (q .bodies)) 1 A)
     counts question T q b A rest ok scope st =
-        T .is q b nameCount d (λ n. n) A rest ok scope st .0 ∙ ap (λ (B : Term). length (visible (bodyOf (q .bodies)) 1 B)) (ren-id A)
+        T .is q b nameCount d (λ n. n) (own-part 1) A rest ok scope st .0 ∙ ap (λ (B : Term). length (visible (bodyOf (q .bodies)) 1 B)) (ren-id A)
 
     module _ (g : getD s a 0 ≡ 7) where
       pub lead-left : n < visibleAt t (a + 1) → Leads s t at depth i (a + 1) d n
@@ -108,7 +109,7 @@ module _ (s t : List ℕ) (at depth i : ℕ) where
           let i : n ≡ length (visible body 1 A) + j = omega arith in
           let f : j < length (visible body 1 B) = omega (arith, S .len) in
           let x : length (encode (levelIn depth K) A) ≡ length (encode d A) = ap (λ (v : ℕ). length (encode v A)) (E .level) in
-          let y = middle-is question s 1 t T a m N q nameCount d (λ n. n) A B (E .rest) ok (sc .0) (sc .1) st₁ in
+          let y = middle-is question s 1 t T a m N q nameCount d (λ n. n) (own-part 1) A B (E .rest) ok (sc .0) (sc .1) st₁ in
           record {
             frames = rightOf A ∷ K;
             term = B;
@@ -117,7 +118,7 @@ module _ (s t : List ℕ) (at depth i : ℕ) where
             level = E .level;
             place = omega (arith, E .place, length-append (beforeIn depth K) (7 ∷ encode (levelIn depth K) A));
             scope = sc .1;
-            stands = behind question s 1 t T a m N q nameCount d (λ n. n) A B (E .rest) ok (sc .0) (sc .1) st₁;
+            stands = behind question s 1 t T a m N q nameCount d (λ n. n) (own-part 1) A B (E .rest) ok (sc .0) (sc .1) st₁;
             within = f;
             candidate = e ∙ ap (λ (v : ℕ). raised K (getD (visible body 1 (par A B)) v blocked)) i ∙ ap (raised K) (S .second j f);
           })

@@ -19,6 +19,7 @@ use Rattle.steps_tallies.specs.Candidates.{candidates}
 use Rattle.steps.specs.Raw.{blocked}
 use Rattle.steps_plans.specs.Plans.{receiving, chosen, Written, WriteIs}
 use Rattle.steps_tallies.specs.Tally.{endAt, TallyIs}
+use Rattle.steps_tallies.proofs.OwnNames.{own-part}
 use Rattle.steps_tallies.proofs.FrontLaws.{stands, behind}
 use Rattle.steps_conditions.proofs.NameSlots.{names-own}
 use Rattle.steps_plans.proofs.ResultLaws.{stored-to, stored-then, stored-stop, written-of}
@@ -65,6 +66,7 @@ module _ (question part : List ℕ) (from : ℕ) (l : Located) (new : ℕ) (out 
         (ap length (H .is) ∙ length-ren (l .depth) (l .depth) (receiving (H .name) (λ n. n) (H .action)) (H .result))
         (λ low shallow. w .is low q nameCount (λ m. m) (H .term) after bs (l .depth + height (H .result)) ok (omega arith) (H .scope) (hole-stands q part from l new before bs after H)
         (record {
+          own-names = own-part 1;
           ρ = λ m. m;
           x = H .name;
           has = names-own nameCount (l .depth) names (omega arith) own;
@@ -97,7 +99,7 @@ module _ (question part tally : List ℕ) (T : TallyIs question part 1 tally) (l
     from-is : (q : Question) (bytes : List ℕ) → checkOf question ≡ result q → (H : Holes q part left right new bytes) → from ≡ H .end
     from-is q bytes ok H =
         at-from
-        ∙ T .is q (left .at) nameCount (left .depth) (λ n. n) (H .leftHole .term) (H .rest) ok (H .leftHole .scope)
+        ∙ T .is q (left .at) nameCount (left .depth) (λ n. n) (own-part 1) (H .leftHole .term) (H .rest) ok (H .leftHole .scope)
         (hole-stands q part 0 left new (H .first) (H .one) (H .rest) (H .leftHole)) .2
         ∙ H .ends
 
@@ -128,7 +130,7 @@ module _ (question part tally : List ℕ) (T : TallyIs question part 1 tally) (l
           → end ≡ right .at + length (encode (right .depth) (right-hole q bytes ok H .term))
       end-is q bytes ok H =
           let R = right-hole q bytes ok H in
-          at-end ∙ T .is q (right .at) nameCount (right .depth) (λ n. n) (R .term) (H .last) ok (R .scope)
+          at-end ∙ T .is q (right .at) nameCount (right .depth) (λ n. n) (own-part 1) (R .term) (H .last) ok (R .scope)
           (hole-stands q part from right new (H .between) (H .two) (H .last) R) .2
 
       last-is : (q : Question) (bytes : List ℕ) (ok : checkOf question ≡ result q) (H : Holes q part left right new bytes) → drop end part ≡ H .last

@@ -28,6 +28,7 @@ use Rattle.steps_plans.specs.Plans.{receiving, chosen, Written, WriteIs}
 use Rattle.steps_tallies.specs.Tally.{endAt, TallyIs}
 use Rattle.steps_conditions.proofs.NameSlots.{names-own, new-own}
 use Rattle.steps_plans.proofs.PlanLaws.{weak-received}
+use Rattle.steps_tallies.proofs.OwnNames.{own-part}
 use Rattle.steps_tallies.proofs.Premises.{never}
 use Rattle.steps_splicing.specs.Contexts.{Frame, leftOf, rightOf, beneath, fill, raised, restrictions, bytesBefore, bytesBehind, levelIn}
 use Rattle.steps.specs.Listed.{canonStep, resultBytes}
@@ -208,6 +209,7 @@ module _ (question part tally : List ℕ) (T : TallyIs question part 1 tally) (a
         written-of depth (r .result) out₁ at own-result m out₂ (omega arith) (length-ren depth depth (receiving (depth + x) (λ n. n) (r .action)) (r .result))
         (λ low shallow. w .is low q nameCount (λ n. n) C (bytesBehind K) own-result (depth + height (r .result)) (l .accepted) (omega arith) (r .placed .scope) (placed-bytes l (r .placed))
         (record {
+          own-names = own-part 1;
           ρ = λ n. n;
           x = depth + x;
           has = names-own nameCount depth names (omega arith) own;
@@ -224,7 +226,7 @@ module _ (question part tally : List ℕ) (T : TallyIs question part 1 tally) (a
     before = ap (take at) (placed-split l (r .placed)) ∙ take-at (bytesBefore K) (encode depth C ++ bytesBehind K) at (r .placed .place)
 
     end-is : end ≡ at + length (encode depth C)
-    end-is = ends ∙ T .is q at nameCount depth (λ n. n) C (bytesBehind K) (l .accepted) (r .placed .scope) (placed-bytes l (r .placed)) .2
+    end-is = ends ∙ T .is q at nameCount depth (λ n. n) (own-part 1) C (bytesBehind K) (l .accepted) (r .placed .scope) (placed-bytes l (r .placed)) .2
 
     behind : drop end part ≡ bytesBehind K
     behind =

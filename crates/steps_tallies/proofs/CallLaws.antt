@@ -1,18 +1,22 @@
 -- A call and the body that it opens: where its names stand, what they stand for in the body, and its candidates. Assumes nothing.
 use mathlib.Core.Path.{_≡_, refl, ap, subst, _∙_}
-use mathlib.Core.Bool.{Bool, false}
+use mathlib.Core.Bool.{Bool, true, false}
 use mathlib.Core.List.{List, [], _∷_}
 use Prim.Native.Nat.{ℕ, zero, suc, _+_, _<_, _≤_}
 use native.Mathlib.Omega.{arith}
 use lib.ListN.{length, getD}
-use Rattle.calculus.specs.Definitions.{at}
+use Rattle.calculus.specs.Definitions.{opened}
+use Rattle.calculus.specs.Term.{call}
 use Rattle.terms.specs.Answer.{result}
 use Rattle.terms.specs.Encoding.{encode, InScope}
+use Rattle.terms.specs.Grammar.{guarded}
 use Rattle.terms_bytes.specs.FieldPlaces.{fieldPlace}
 use Rattle.terms.specs.Limits.{greatestArity, longestTerm}
 use Rattle.terms.specs.Question.{Question, checkOf}
 use Rattle.terms.proofs.Answers.{Every}
 use Rattle.terms.proofs.WellFormed.{WellFormed, accepted-well-formed}
+use Rattle.steps_tallies.specs.Candidates.{candidates}
+use Rattle.steps_tallies.proofs.CandidateForms.{candidates-call}
 use Rattle.steps_tallies.specs.Bodies.{AritiesIs, BodyIs, MayOpenIs, OpeningIs}
 use Rattle.terms.specs.Question.{bodyOf}
 use Rattle.steps.proofs.QuestionDefinitions.{body-at}
@@ -38,6 +42,20 @@ module _ (question : List ℕ) (q : Question) (ok : checkOf question ≡ result 
 
   pub few-parameters : getD (q .arities) k 0 ≤ greatestArity
   few-parameters = each-below greatestArity (q .arities) (well .parameters) k
+
+  body-guarded : guarded (bodyOf (q .bodies) k) ≡ true
+  unfolding guarded
+  body-guarded = body-at (λ a P. guarded P ≡ true) (q .arities) (q .arities) (q .bodies) (well .bodies) (λ a P b. b .callsGuarded) refl k
+
+  -- [Con]: the candidates of a call are those of its body, where no call is opened.
+  pub opened-candidates : (calls c : ℕ) → calls ≤ 1 → calls ≡ suc c → (t : Bool) (xs : List ℕ)
+      → candidates t (bodyOf (q .bodies)) calls (call k xs) ≡ candidates t (bodyOf (q .bodies)) c (opened xs (bodyOf (q .bodies) k))
+  opened-candidates calls c once z t xs =
+      let body = bodyOf (q .bodies) in
+      let one : calls ≡ 1 = omega arith in
+      let none : 0 ≡ c = omega arith in
+      ap (λ (n : ℕ). candidates t body n (call k xs)) one ∙ candidates-call body t k xs body-guarded
+      ∙ ap (λ (n : ℕ). candidates t body n (opened xs (body k))) none
 
 -- A call, and whether it may be opened.
 pub opening-is : (question s : List ℕ) (at calls : ℕ) (arities body : List ℕ) (k n place : ℕ) (may : Bool) → AritiesIs question arities → BodyIs question k body

@@ -2,17 +2,19 @@
 use mathlib.Core.Path.{_≡_, refl, sym, ap, _∙_}
 use mathlib.Core.Bool.{Bool, true, false}
 use mathlib.Core.List.{List, [], _∷_, _++_, map, append-nil}
-use Prim.Native.Nat.{ℕ, zero, suc, _+_, _<_}
+use Prim.Native.Nat.{ℕ, zero, _+_, _<_}
 use native.Mathlib.Nat.{add-zero}
 use native.Mathlib.Omega.{arith}
 use lib.ListN.{length, getD, drop}
 use Rattle.calculus.specs.Definitions.{opened}
 use Rattle.calculus.specs.Term.{Term, nil, tau, inp, out, bout, mat, sum, par, res, call}
 use Rattle.terms.specs.Encoding.{encode}
+use Rattle.terms.specs.Grammar.{guarded}
 use Rattle.terms.proofs.ReadEncoded.{encode-some}
 use Rattle.terms_bytes.proofs.Stores.{getD-front}
 use Rattle.steps_tallies.specs.Candidates.{candidates}
 use Rattle.steps.specs.Raw.{Candidate, matching, leftSteps, rightSteps, communications, restricted, visible, silent, visibleOf, silentOf, visibleCalls, silentCalls}
+use Rattle.steps.proofs.CallCandidates.{visible-opened, silent-opened}
 
 module _ (body : ℕ → Term) where
   pub candidates-mat : (t : Bool) (n a b : ℕ) (P : Term) → candidates t body n (mat a b P) ≡ map (matching a b) (candidates t body n P)
@@ -41,10 +43,11 @@ module _ (body : ℕ → Term) where
   candidates-par true n P Q = refl
   candidates-par false n P Q = ap (λ (l : List Candidate). map (leftSteps Q) (visible body n P) ++ l) (sym (append-nil (map (rightSteps P) (visible body n Q))))
 
-  pub candidates-call : (t : Bool) (n k : ℕ) (xs : List ℕ) → candidates t body (suc n) (call k xs) ≡ candidates t body n (opened xs (body k))
-  unfolding candidates visible silent visibleOf silentOf visibleCalls silentCalls
-  candidates-call true n k xs = refl
-  candidates-call false n k xs = refl
+  -- one call is opened, whose body is guarded
+  pub candidates-call : (t : Bool) (k : ℕ) (xs : List ℕ) → guarded (body k) ≡ true → candidates t body 1 (call k xs) ≡ candidates t body 0 (opened xs (body k))
+  unfolding candidates visible silent visibleOf silentOf
+  candidates-call true k xs g = silent-opened body k xs g
+  candidates-call false k xs g = visible-opened body k xs g
 
   pub candidates-no-call : (t : Bool) (k : ℕ) (xs : List ℕ) → candidates t body 0 (call k xs) ≡ []
   unfolding candidates visible silent visibleOf silentOf visibleCalls silentCalls

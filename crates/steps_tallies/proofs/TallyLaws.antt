@@ -16,7 +16,7 @@ use Rattle.terms.specs.Limits.{longestTerm}
 use Rattle.terms_bytes.specs.Shape.{frontBytes, fixedBytes, ownNames}
 use Rattle.terms_bytes.proofs.Stores.{getD-front}
 use Rattle.steps_tallies.specs.Fronts.{TermFrontIs}
-use Rattle.steps_tallies.specs.Candidates.{candidates}
+use Rattle.steps_tallies.specs.Candidates.{candidates, OwnNamesIf}
 use Rattle.steps.specs.Raw.{matching, leftSteps, rightSteps, restricted, visible, silent, visibleOf, silentOf}
 use Rattle.steps_tallies.specs.Tally.{visibleCall, silentCall, Few, FewCalls}
 use Rattle.steps_tallies.specs.Tallying.{CallsAre, EntryIs, nothingAt, entryAt, talliedEntry, prefixEntry, callEntry, choiceEntry, parallelEntry, Small, Filled}
@@ -25,6 +25,7 @@ use Rattle.steps_tallies.specs.declared.tally.Entry.{Entry}
 use Rattle.steps_tallies.proofs.CandidateForms.{candidates-mat, candidates-res, candidates-sum, candidates-par, meetings, tag, tag-at, only-prefix, only-call, only-sum, only-par}
 use Rattle.steps_tallies.proofs.FrontLaws.{stands, behind}
 use Rattle.steps_tallies.proofs.Numbering.{length-communications}
+use Rattle.steps_tallies.proofs.OwnNames.{own-under}
 
 -- Two squares and a product are within the square of the sum.
 squares : (p q s : ℕ) → p + q ≤ s → p * p + q * q + p * q ≤ s * s
@@ -144,7 +145,7 @@ module _ (s arities called : List ℕ) (at : ℕ) where
     on = omega arith;
     inside = omega arith;
     few = λ B c. few-none B (at - at);
-    is = λ body n free D σ P rest c g e. let z = stands s at D P rest e in absurd (omega arith);
+    is = λ body n free D σ own P rest c g e. let z = stands s at D P rest e in absurd (omega arith);
   }
 
   -- No entry has more candidates than the longest term may have.
@@ -179,7 +180,7 @@ module _ (s arities called : List ℕ) (at : ℕ) where
         on = omega arith;
         inside = omega arith;
         few = λ B c. few-none B (at + 1 - at);
-        is = λ body n free D σ P rest c g e.
+        is = λ body n free D σ own P rest c g e.
             let f = front free D P rest g e in
             only-prefix (λ (P : Term). tag P ≡ 0 → Here body n D σ P (nothingAt (at + 1))) (λ y. (refl, refl, refl))
             (λ P y. absurd (omega arith)) (λ a P y. absurd (omega arith)) (λ a b P y. absurd (omega arith)) (λ a P y. absurd (omega arith))
@@ -197,7 +198,7 @@ module _ (s arities called : List ℕ) (at : ℕ) where
             on = omega arith;
             inside = omega arith;
             few = λ B c. few-more B 1 (h .next - at) (visibleCall called k) (silentCall called k) (omega arith) (c .1 k);
-            is = λ body n free D σ P rest c g e.
+            is = λ body n free D σ own P rest c g e.
                 let f = front free D P rest g e in
                 only-call (λ (P : Term). InScope free arities D P → drop at s ≡ encode D P ++ rest → h .next ≡ at + length (frontBytes D P) → Here body n D σ P (callEntry called k (h .next)))
                 (λ k′ xs g e m.
@@ -210,16 +211,16 @@ module _ (s arities called : List ℕ) (at : ℕ) where
 
     module _ (p : Entry) (C : EntryIs s arities called (h .next) p) where
       -- A prefix has one candidate, and ends where its continuation ends.
-      prefix-is : (body : ℕ → Term) (n free D : ℕ) (σ : ℕ → ℕ) (P : Term) (rest : List ℕ) → CallsAre arities body n called → InScope free arities D P
+      prefix-is : (body : ℕ → Term) (n free D : ℕ) (σ : ℕ → ℕ) → OwnNamesIf n σ → (P : Term) (rest : List ℕ) → CallsAre arities body n called → InScope free arities D P
           → drop at s ≡ encode D P ++ rest → h .next ≡ at + length (frontBytes D P) → tag P < 5 → (tag P ≡ 0 → ⊥) → Here body n D σ P (prefixEntry (tag P) (p .end))
       unfolding prefixEntry encode frontBytes fixedBytes ownNames InScope visible silent visibleOf silentOf
-      prefix-is body n free D σ P rest c g e m l z =
+      prefix-is body n free D σ own P rest c g e m l z =
           only-prefix (λ (P : Term). (tag P ≡ 0 → ⊥) → InScope free arities D P → drop at s ≡ encode D P ++ rest → h .next ≡ at + length (frontBytes D P) → Here body n D σ P (prefixEntry (tag P) (p .end)))
           (λ z g e m. absurd (z refl))
-          (λ P z g e m. (refl, refl, C .is body n free D σ P rest c g (ap (λ (k : ℕ). drop k s) m ∙ behind s at 1 (1 ∷ []) (encode D P ++ rest) e refl) .2 ∙ omega arith))
-          (λ a P z g e m. (refl, refl, C .is body n free (1 + D) (lift σ) P rest c (g .1) (ap (λ (k : ℕ). drop k s) m ∙ behind s at 2 (2 ∷ nameByte D a ∷ []) (encode (1 + D) P ++ rest) e refl) .2 ∙ omega arith))
-          (λ a b P z g e m. (refl, refl, C .is body n free D σ P rest c (g .2) (ap (λ (k : ℕ). drop k s) m ∙ behind s at 3 (3 ∷ nameByte D a ∷ nameByte D b ∷ []) (encode D P ++ rest) e refl) .2 ∙ omega arith))
-          (λ a P z g e m. (refl, refl, C .is body n free (1 + D) (lift σ) P rest c (g .1) (ap (λ (k : ℕ). drop k s) m ∙ behind s at 2 (4 ∷ nameByte D a ∷ []) (encode (1 + D) P ++ rest) e refl) .2 ∙ omega arith))
+          (λ P z g e m. (refl, refl, C .is body n free D σ own P rest c g (ap (λ (k : ℕ). drop k s) m ∙ behind s at 1 (1 ∷ []) (encode D P ++ rest) e refl) .2 ∙ omega arith))
+          (λ a P z g e m. (refl, refl, C .is body n free (1 + D) (lift σ) (own-under n σ own) P rest c (g .1) (ap (λ (k : ℕ). drop k s) m ∙ behind s at 2 (2 ∷ nameByte D a ∷ []) (encode (1 + D) P ++ rest) e refl) .2 ∙ omega arith))
+          (λ a b P z g e m. (refl, refl, C .is body n free D σ own P rest c (g .2) (ap (λ (k : ℕ). drop k s) m ∙ behind s at 3 (3 ∷ nameByte D a ∷ nameByte D b ∷ []) (encode D P ++ rest) e refl) .2 ∙ omega arith))
+          (λ a P z g e m. (refl, refl, C .is body n free (1 + D) (lift σ) (own-under n σ own) P rest c (g .1) (ap (λ (k : ℕ). drop k s) m ∙ behind s at 2 (4 ∷ nameByte D a ∷ []) (encode (1 + D) P ++ rest) e refl) .2 ∙ omega arith))
           P l z g e m
 
       pub entry-prefix : (h .tag ≡ 0 → ⊥) → h .tag < 5 → (at < prefixEntry (h .tag) (p .end) .end) × EntryIs s arities called at (prefixEntry (h .tag) (p .end))
@@ -234,30 +235,30 @@ module _ (s arities called : List ℕ) (at : ℕ) where
               on = omega arith;
               inside = omega arith;
               few = λ B c. prefix-few called at (h .tag) (p .end) B c (omega arith);
-              is = λ body n free D σ P rest c g st.
+              is = λ body n free D σ own P rest c g st.
                   let f = front free D P rest g st in
                   subst (λ (t : ℕ). Here body n D σ P (prefixEntry t (p .end))) (sym (f .0))
-                  (prefix-is body n free D σ P rest c g st (f .1) (omega (arith, f .0)) (λ y. z (f .0 ∙ y)));
+                  (prefix-is body n free D σ own P rest c g st (f .1) (omega (arith, f .0)) (λ y. z (f .0 ∙ y)));
             },
           )
 
-      one-is : (body : ℕ → Term) (n free D : ℕ) (σ : ℕ → ℕ) (P : Term) (rest : List ℕ) → CallsAre arities body n called → InScope free arities D P
+      one-is : (body : ℕ → Term) (n free D : ℕ) (σ : ℕ → ℕ) → OwnNamesIf n σ → (P : Term) (rest : List ℕ) → CallsAre arities body n called → InScope free arities D P
           → drop at s ≡ encode D P ++ rest → h .next ≡ at + length (frontBytes D P) → 5 ≤ tag P → (tag P ≡ 6 → ⊥) → (tag P ≡ 7 → ⊥) → (tag P ≡ 9 → ⊥) → Here body n D σ P p
       unfolding encode frontBytes fixedBytes ownNames InScope candidates
-      one-is body n free D σ nil rest c g e m l x y z = absurd (omega arith)
-      one-is body n free D σ (tau P) rest c g e m l x y z = absurd (omega arith)
-      one-is body n free D σ (inp a P) rest c g e m l x y z = absurd (omega arith)
-      one-is body n free D σ (out a b P) rest c g e m l x y z = absurd (omega arith)
-      one-is body n free D σ (bout a P) rest c g e m l x y z = absurd (omega arith)
-      one-is body n free D σ (mat a b P) rest c g e m l x y z =
-          let w = C .is body n free D σ P rest c (g .2) (ap (λ (k : ℕ). drop k s) m ∙ behind s at 3 (5 ∷ nameByte D a ∷ nameByte D b ∷ []) (encode D P ++ rest) e refl) in
+      one-is body n free D σ own nil rest c g e m l x y z = absurd (omega arith)
+      one-is body n free D σ own (tau P) rest c g e m l x y z = absurd (omega arith)
+      one-is body n free D σ own (inp a P) rest c g e m l x y z = absurd (omega arith)
+      one-is body n free D σ own (out a b P) rest c g e m l x y z = absurd (omega arith)
+      one-is body n free D σ own (bout a P) rest c g e m l x y z = absurd (omega arith)
+      one-is body n free D σ own (mat a b P) rest c g e m l x y z =
+          let w = C .is body n free D σ own P rest c (g .2) (ap (λ (k : ℕ). drop k s) m ∙ behind s at 3 (5 ∷ nameByte D a ∷ nameByte D b ∷ []) (encode D P ++ rest) e refl) in
           (w .0 ∙ sym (number-mat body false n (σ a) (σ b) (ren σ P)), w .1 ∙ sym (number-mat body true n (σ a) (σ b) (ren σ P)), w .2 ∙ omega arith)
-      one-is body n free D σ (sum P Q) rest c g e m l x y z = absurd (x refl)
-      one-is body n free D σ (par P Q) rest c g e m l x y z = absurd (y refl)
-      one-is body n free D σ (res P) rest c g e m l x y z =
-          let w = C .is body n free (1 + D) (lift σ) P rest c g (ap (λ (k : ℕ). drop k s) m ∙ behind s at 1 (8 ∷ []) (encode (1 + D) P ++ rest) e refl) in
+      one-is body n free D σ own (sum P Q) rest c g e m l x y z = absurd (x refl)
+      one-is body n free D σ own (par P Q) rest c g e m l x y z = absurd (y refl)
+      one-is body n free D σ own (res P) rest c g e m l x y z =
+          let w = C .is body n free (1 + D) (lift σ) (own-under n σ own) P rest c g (ap (λ (k : ℕ). drop k s) m ∙ behind s at 1 (8 ∷ []) (encode (1 + D) P ++ rest) e refl) in
           (w .0 ∙ sym (number-res body false n (ren (lift σ) P)), w .1 ∙ sym (number-res body true n (ren (lift σ) P)), w .2 ∙ omega arith)
-      one-is body n free D σ (call k xs) rest c g e m l x y z = absurd (z refl)
+      one-is body n free D σ own (call k xs) rest c g e m l x y z = absurd (z refl)
 
       -- A match or a restriction.
       pub entry-one : 5 ≤ h .tag → (h .tag ≡ 6 → ⊥) → (h .tag ≡ 7 → ⊥) → (h .tag ≡ 9 → ⊥) → (at < p .end) × EntryIs s arities called at p
@@ -271,23 +272,23 @@ module _ (s arities called : List ℕ) (at : ℕ) where
               on = omega arith;
               inside = omega arith;
               few = λ B c. few-more B (p .end - h .next) (p .end - at) (p .visible) (p .silent) (closer at (h .next) (p .end) (omega arith)) (C .few B c);
-              is = λ body n free D σ P rest c g e.
+              is = λ body n free D σ own P rest c g e.
                   let f = front free D P rest g e in
-                  one-is body n free D σ P rest c g e (f .1) (omega (arith, f .0)) (λ q. x (f .0 ∙ q)) (λ q. y (f .0 ∙ q)) (λ q. z (f .0 ∙ q));
+                  one-is body n free D σ own P rest c g e (f .1) (omega (arith, f .0)) (λ q. x (f .0 ∙ q)) (λ q. y (f .0 ∙ q)) (λ q. z (f .0 ∙ q));
             },
           )
 
       module _ (x : Entry) (X : EntryIs s arities called (p .end) x) where
         -- The second subterm stands where the first ends.
-        both-are : (body : ℕ → Term) (n free D : ℕ) (σ : ℕ → ℕ) (P Q : Term) (rest : List ℕ) → CallsAre arities body n called → InScope free arities D P
+        both-are : (body : ℕ → Term) (n free D : ℕ) (σ : ℕ → ℕ) → OwnNamesIf n σ → (P Q : Term) (rest : List ℕ) → CallsAre arities body n called → InScope free arities D P
             → InScope free arities D Q → drop (h .next) s ≡ encode D P ++ (encode D Q ++ rest)
             → ((p .visible ≡ length (visible body n (ren σ P))) × (x .visible ≡ length (visible body n (ren σ Q))))
             × ((p .silent ≡ length (silent body n (ren σ P))) × (x .silent ≡ length (silent body n (ren σ Q))))
             × (x .end ≡ h .next + (length (encode D P) + length (encode D Q)))
-        both-are body n free D σ P Q rest c g k e =
-            let v = C .is body n free D σ P (encode D Q ++ rest) c g e in
+        both-are body n free D σ own P Q rest c g k e =
+            let v = C .is body n free D σ own P (encode D Q ++ rest) c g e in
             let st : drop (p .end) s ≡ encode D Q ++ rest = ap (λ (n : ℕ). drop n s) (v .2) ∙ behind s (h .next) (length (encode D P)) (encode D P) (encode D Q ++ rest) e refl in
-            let w = X .is body n free D σ Q rest c k st in
+            let w = X .is body n free D σ own Q rest c k st in
             ((v .0, w .0), (v .1, w .1), omega (arith, v .2, w .2))
 
         between : (h .tag ≡ 0 → ⊥) → (at < x .end) × (x .end ≤ max at (length s)) × (p .end - h .next + (x .end - p .end) ≤ x .end - at)
@@ -309,12 +310,12 @@ module _ (s arities called : List ℕ) (at : ℕ) where
                 on = omega (arith, b .0);
                 inside = b .1;
                 few = λ B c. few-sum B (p .end - h .next) (x .end - p .end) (x .end - at) (p .visible) (p .silent) (x .visible) (x .silent) (b .2) (C .few B c) (X .few B c);
-                is = λ body n free D σ P rest c g e.
+                is = λ body n free D σ own P rest c g e.
                     let f = front free D P rest g e in
                     only-sum (λ (P : Term). InScope free arities D P → drop at s ≡ encode D P ++ rest → h .next ≡ at + length (frontBytes D P) → Here body n D σ P (choiceEntry p x))
                     (λ P Q g e m.
                     let st = ap (λ (k : ℕ). drop k s) m ∙ behind s at 1 (6 ∷ []) ((encode D P ++ encode D Q) ++ rest) e refl ∙ append-assoc (encode D P) (encode D Q) rest in
-                    let w = both-are body n free D σ P Q rest c (g .0) (g .1) st in (
+                    let w = both-are body n free D σ own P Q rest c (g .0) (g .1) st in (
                       ap₂ _+_ (w .0 .0) (w .0 .1) ∙ sym (number-sum body false n (ren σ P) (ren σ Q)),
                       ap₂ _+_ (w .1 .0) (w .1 .1) ∙ sym (number-sum body true n (ren σ P) (ren σ Q)),
                       w .2 ∙ omega (arith, length-append (encode D P) (encode D Q)),
@@ -332,12 +333,12 @@ module _ (s arities called : List ℕ) (at : ℕ) where
                 on = omega (arith, b .0);
                 inside = b .1;
                 few = λ B c. few-both B (p .end - h .next) (x .end - p .end) (x .end - at) (p .visible) (p .silent) (x .visible) (x .silent) (b .2) (C .few B c) (X .few B c);
-                is = λ body n free D σ P rest c g e.
+                is = λ body n free D σ own P rest c g e.
                     let f = front free D P rest g e in
                     only-par (λ (P : Term). InScope free arities D P → drop at s ≡ encode D P ++ rest → h .next ≡ at + length (frontBytes D P) → Here body n D σ P (parallelEntry p x))
                     (λ P Q g e m.
                     let st = ap (λ (k : ℕ). drop k s) m ∙ behind s at 1 (7 ∷ []) ((encode D P ++ encode D Q) ++ rest) e refl ∙ append-assoc (encode D P) (encode D Q) rest in
-                    let w = both-are body n free D σ P Q rest c (g .0) (g .1) st in (
+                    let w = both-are body n free D σ own P Q rest c (g .0) (g .1) st in (
                       ap₂ _+_ (w .0 .0) (w .0 .1) ∙ sym (visible-par body n (ren σ P) (ren σ Q)),
                       ap₂ _+_ (ap₂ _+_ (w .1 .0) (w .1 .1)) (ap₂ _*_ (w .0 .0) (w .0 .1)) ∙ sym (silent-par body n (ren σ P) (ren σ Q)),
                       w .2 ∙ omega (arith, length-append (encode D P) (encode D Q)),

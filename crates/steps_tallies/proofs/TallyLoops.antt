@@ -28,8 +28,9 @@ use Rattle.steps_tallies.specs.Tallying.{CallsAre, EntryIs, entryAt, Fil
 use Rattle.steps_tallies.specs.declared.bodies.Opening.{Opening}
 use Rattle.steps_tallies.specs.declared.tally.Entry.{Entry}
 use Rattle.steps_tallies.proofs.BodyPlaces.{body-is}
-use Rattle.steps_tallies.proofs.CallLaws.{body-scope, body-size}
-use Rattle.steps_tallies.proofs.CandidateForms.{candidates-call, candidates-no-call}
+use Rattle.steps_tallies.proofs.CallLaws.{body-scope, body-size, opened-candidates}
+use Rattle.steps_tallies.proofs.CandidateForms.{candidates-no-call}
+use Rattle.steps_tallies.proofs.OwnNames.{own-body}
 use Rattle.steps_tallies.proofs.FrontLaws.{stands}
 
 pub filled-none : (s arities called t : List ℕ) → Filled s arities called (length s) t
@@ -94,9 +95,9 @@ pub tally-is : (question s arities called t : List ℕ) (calls : ℕ) → Aritie
 unfolding AritiesIs Filled entryAt
 tally-is question s arities called t calls A N F = record {
   on = λ i h. let e = F i (omega arith) h in let k = e .1 .inside in (e .0, omega arith);
-  is = λ q i free D σ P rest c g e.
+  is = λ q i free D σ own P rest c g e.
       let z = stands s i D P rest e in
-      F i (omega arith) (omega arith) .1 .is (bodyOf (q .bodies)) calls free D σ P rest
+      F i (omega arith) (omega arith) .1 .is (bodyOf (q .bodies)) calls free D σ own P rest
       (subst (λ (as′ : List ℕ). CallsAre as′ (bodyOf (q .bodies)) calls called) (sym (A q c)) (N q c))
       (subst (λ (as′ : List ℕ). InScope free as′ D P) (sym (A q c)) g) e;
 }
@@ -125,7 +126,7 @@ none-are n arities body k xs h =
 nothing-tallied : (question s t : List ℕ) → length s ≡ 0 → TallyIs question s 0 t
 nothing-tallied question s t z = record {
   on = λ i h. absurd (omega arith);
-  is = λ q i free D σ P rest c g e. let h = stands s i D P rest e in absurd (omega arith);
+  is = λ q i free D σ own P rest c g e. let h = stands s i D P rest e in absurd (omega arith);
 }
 
 -- The tally of one body.
@@ -275,9 +276,9 @@ pub tally-same : (question s : List ℕ) (calls : ℕ) (t t′ : List ℕ) → l
 unfolding visibleAt silentAt endAt
 tally-same question s calls t t′ few same T = record {
   on = λ i h. rw (same (longestTerm + longestTerm + i) (omega arith)) (T .on i h);
-  is = λ q i free D σ P rest c g e.
+  is = λ q i free D σ own P rest c g e.
       let h = stands s i D P rest e in
-      let (a, b, d) = T .is q i free D σ P rest c g e in
+      let (a, b, d) = T .is q i free D σ own P rest c g e in
       (same i (omega arith) ∙ a, same (longestTerm + i) (omega arith) ∙ b, same (longestTerm + longestTerm + i) (omega arith) ∙ d);
 }
 
@@ -341,11 +342,11 @@ calls-are question t N q c k xs l =
     let a = getD (q .arities) k 0 in
     let e = body-is question k .is q c l in
     let w = N .are k (omega (arith, accepted-well-formed question q c .definitions)) (omega (arith, ap length e, body-size question q c k)) .is q 0 0 a
-    (λ (n : ℕ). getD (reverse xs) n 0) P [] c (body-scope question q c k) (e ∙ sym (append-nil (encode a P))) in
+    (λ (n : ℕ). getD (reverse xs) n 0) (own-body 1 (λ (n : ℕ). getD (reverse xs) n 0) (omega arith)) P [] c (body-scope question q c k) (e ∙ sym (append-nil (encode a P))) in
     let at : (j : ℕ) → j < tallySize → getD t (tallySize * k + j) 0 ≡ getD (take tallySize (drop (tallySize * k) t)) j 0 =
     λ j h. sym (getD-take tallySize (drop (tallySize * k) t) j 0 h ∙ getD-drop (tallySize * k) t j 0) in (
-      ap (λ (n : ℕ). getD t n 0) (omega arith) ∙ at 0 (omega arith) ∙ w .0 ∙ sym (ap length (candidates-call (bodyOf (q .bodies)) false 0 k xs)),
-      ap (λ (n : ℕ). getD t n 0) (omega arith) ∙ at (longestTerm + 0) (omega arith) ∙ w .1 ∙ sym (ap length (candidates-call (bodyOf (q .bodies)) true 0 k xs)),
+      ap (λ (n : ℕ). getD t n 0) (omega arith) ∙ at 0 (omega arith) ∙ w .0 ∙ sym (ap length (opened-candidates question q c k 1 0 (omega arith) refl false xs)),
+      ap (λ (n : ℕ). getD t n 0) (omega arith) ∙ at (longestTerm + 0) (omega arith) ∙ w .1 ∙ sym (ap length (opened-candidates question q c k 1 0 (omega arith) refl true xs)),
     )
 
 -- The tally of the body of a call that is opened.

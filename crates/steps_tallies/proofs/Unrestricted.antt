@@ -1,7 +1,8 @@
 -- A term without restrictions and new-name outputs, whose calls' bodies have none, steps to such terms alone; they are tidied as they are. Assumes nothing.
 use mathlib.Core.List.{List, [], _∷_, _++_, map, reverse}
 use mathlib.Core.Path.{_≡_, refl, sym, _∙_, ap, ap₂}
-use Prim.Native.Nat.{ℕ, zero, suc}
+use native.Mathlib.Omega.{arith}
+use Prim.Native.Nat.{ℕ, suc}
 use Rattle.calculus.specs.Abstraction.{Act, tauA, inpA, outA, boutA, weak}
 use Rattle.calculus.specs.Cond.{Cond, cls}
 use Rattle.calculus.specs.Definitions.{at, opened}
@@ -11,6 +12,7 @@ use Rattle.terms.specs.Question.{bodyOf}
 use Rattle.terms_restrictions.specs.Restrictions.{Unrestricted}
 use Rattle.calculus.specs.Lists.{All}
 use Rattle.steps.specs.Raw.{Candidate, step, blocked, matching, leftSteps, rightSteps, meet, communication, communications, visibleOf, silentOf, visibleCalls, silentCalls, visible, silent}
+use Rattle.steps.proofs.CallCandidates.{visible-each, silent-each}
 use Rattle.calculus.proofs.Membership.{all-++, all-map}
 
 pub unrestricted-tidied : (P : Term) → Unrestricted P → tidy P ≡ P
@@ -117,23 +119,20 @@ module _ (vc sc : ℕ → List ℕ → List Candidate) (calls : (k : ℕ) (xs : 
   plain-silent (call k xs) u = calls′ k xs
 
 module _ (body : ℕ → Term) (bodies : (k : ℕ) → Unrestricted (body k)) where
-  plain-calls : (n k : ℕ) (xs : List ℕ) → All Plain (visibleCalls body n k xs) × All Plain (silentCalls body n k xs)
-  unfolding visibleCalls silentCalls
-  plain-calls zero k xs = (tt, tt)
-  plain-calls (suc n) k xs =
+  plain-bodies : (k : ℕ) (xs : List ℕ) → All Plain (visible body 0 (opened xs (body k))) × All Plain (silent body 0 (opened xs (body k)))
+  unfolding visible silent visibleCalls silentCalls
+  plain-bodies k xs =
       let B : Term = opened xs (body k) in
       let u : Unrestricted B = unrestricted-ren (at (reverse xs)) (body k) (bodies k) in
-      let v : (k : ℕ) (xs : List ℕ) → All Plain (visibleCalls body n k xs) = λ k xs. plain-calls n k xs .0 in
-      let s : (k : ℕ) (xs : List ℕ) → All Plain (silentCalls body n k xs) = λ k xs. plain-calls n k xs .1 in
-      (plain-visible (visibleCalls body n) (silentCalls body n) v s B u, plain-silent (visibleCalls body n) (silentCalls body n) v s B u)
+      (plain-visible (visibleCalls body 0) (silentCalls body 0) (λ k xs. tt) (λ k xs. tt) B u, plain-silent (visibleCalls body 0) (silentCalls body 0) (λ k xs. tt) (λ k xs. tt) B u)
 
-  pub plain-candidates : (n : ℕ) (P : Term) → Unrestricted P → All Plain (visible body n P ++ silent body n P)
+  pub plain-candidates : (P : Term) → Unrestricted P → All Plain (visible body 1 P ++ silent body 1 P)
   unfolding visible silent
-  plain-candidates n P u =
-      let v : (k : ℕ) (xs : List ℕ) → All Plain (visibleCalls body n k xs) = λ k xs. plain-calls n k xs .0 in
-      let s : (k : ℕ) (xs : List ℕ) → All Plain (silentCalls body n k xs) = λ k xs. plain-calls n k xs .1 in
-      all-++ Plain (visibleOf (visibleCalls body n) P) (silentOf (visibleCalls body n) (silentCalls body n) P)
-      (plain-visible (visibleCalls body n) (silentCalls body n) v s P u) (plain-silent (visibleCalls body n) (silentCalls body n) v s P u)
+  plain-candidates P u =
+      let v : (k : ℕ) (xs : List ℕ) → All Plain (visibleCalls body 1 k xs) = λ k xs. visible-each body Plain plain-match (λ k xs. plain-bodies k xs .0) 1 k xs (omega arith) in
+      let s : (k : ℕ) (xs : List ℕ) → All Plain (silentCalls body 1 k xs) = λ k xs. silent-each body Plain plain-match (λ k xs. plain-bodies k xs .1) 1 k xs (omega arith) in
+      all-++ Plain (visibleOf (visibleCalls body 1) P) (silentOf (visibleCalls body 1) (silentCalls body 1) P)
+      (plain-visible (visibleCalls body 1) (silentCalls body 1) v s P u) (plain-silent (visibleCalls body 1) (silentCalls body 1) v s P u)
 
 -- A plain step's result, and so is what becomes of it when its names are rewritten.
 plain-result : (M : Cond) (α : Act) (A : Term) → Plain (step M α A) → Unrestricted A

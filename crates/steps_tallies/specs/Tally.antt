@@ -14,6 +14,7 @@ use Rattle.terms.specs.Question.{Question, checkOf}
 use Rattle.terms.specs.Question.{bodyOf}
 use Rattle.terms_restrictions.specs.Restrictions.{Unrestricted}
 use Rattle.steps.specs.Raw.{visible, silent}
+use Rattle.steps_tallies.specs.Candidates.{OwnNamesIf}
 
 -- Three numbers for each place, and one more; and the tallies of all bodies one behind the other, and one number more.
 abbrev pub tallySize : ℕ
@@ -49,11 +50,11 @@ endAt t at = getD t (longestTerm + longestTerm + at) 0
 abbrev pub EndsInside : List ℕ → List ℕ → Type 0
 EndsInside s t = (at : ℕ) → at < length s → (at < endAt t at) × (endAt t at ≤ length s)
 
--- The tally of the bytes s, where so many calls may be opened one within the other. Its numbers are those of ren σ P, whatever σ, where P is what
--- the bytes code.
+-- The tally of the bytes s, where so many calls may be opened one within the other. Its numbers are those of ren σ P, where P is what the bytes code:
+-- whatever σ if no call is opened.
 pub record TallyIs (question s : List ℕ) (calls : ℕ) (t : List ℕ) : Type 0 where
   pub on : EndsInside s t
-  pub is : (q : Question) (at free D : ℕ) (σ : ℕ → ℕ) (P : Term) (rest : List ℕ)
+  pub is : (q : Question) (at free D : ℕ) (σ : ℕ → ℕ) → OwnNamesIf calls σ → (P : Term) (rest : List ℕ)
       → checkOf question ≡ result q
       → InScope free (q .arities) D P
       → drop at s ≡ encode D P ++ rest

@@ -9,6 +9,7 @@ use Rattle.calculus.specs.Term.{Term, call, ren}
 use Rattle.terms.specs.Encoding.{encode, InScope}
 use Rattle.terms.specs.Limits.{longestTerm}
 use Rattle.steps.specs.Raw.{visible, silent}
+use Rattle.steps_tallies.specs.Candidates.{OwnNamesIf}
 use Rattle.steps_tallies.specs.Tally.{visibleAt, silentAt, endAt, visibleCall, silentCall, Few, FewCalls}
 use Rattle.steps_tallies.specs.declared.tally.Entry.{Entry}
 
@@ -31,7 +32,7 @@ pub record EntryIs (s arities called : List ℕ) (at : ℕ) (r : Entry) : Type 0
   pub on : at ≤ r .end
   pub inside : r .end ≤ max at (length s)
   pub few : (B : ℕ) → FewCalls B called → Few B (r .end - at) (r .visible) (r .silent)
-  pub is : (body : ℕ → Term) (n free D : ℕ) (σ : ℕ → ℕ) (P : Term) (rest : List ℕ)
+  pub is : (body : ℕ → Term) (n free D : ℕ) (σ : ℕ → ℕ) → OwnNamesIf n σ → (P : Term) (rest : List ℕ)
       → CallsAre arities body n called
       → InScope free arities D P
       → drop at s ≡ encode D P ++ rest

@@ -21,6 +21,7 @@ use Rattle.steps_tallies.specs.Candidates.{candidates}
 use Rattle.steps.specs.Raw.{Candidate, step, blocked, leftSteps, rightSteps, restrictedAlone, restrictedAction, restricted, visible, silent}
 use Rattle.steps_tallies.specs.Tally.{silentAt, TallyIs}
 use Rattle.calculus.proofs.Membership.{take-map}
+use Rattle.steps_tallies.proofs.OwnNames.{own-part}
 use Rattle.steps_tallies.proofs.Numbering.{nth-by}
 use Rattle.steps_splicing.specs.Collecting.{PutIs, CollectIs}
 use Rattle.steps_splicing.specs.Contexts.{Frame, leftOf, rightOf, beneath, raised, restrictions, Placed, levelIn}
@@ -289,7 +290,7 @@ pub silent-count : (question part tally : List ℕ) → TallyIs question part 1 
     → (K : List Frame) (C : Term) (at depth first number : ℕ) → Placed (q .arities) (bodyOf (q .bodies)) P K C at depth first number
     → silentAt tally at ≡ length (silent (bodyOf (q .bodies)) 1 C)
 silent-count question part tally T x q P l K C at depth first number p =
-    T .is q at nameCount depth (λ n. n) C _ (l .accepted) (p .scope) (placed-bytes l p) .1
+    T .is q at nameCount depth (λ n. n) (own-part 1) C _ (l .accepted) (p .scope) (placed-bytes l p) .1
     ∙ ap (λ (Q : Term). length (silent (bodyOf (q .bodies)) 1 Q)) (ren-id C)
 
 -- and one of them, without a condition or by its number.
@@ -307,7 +308,7 @@ module _ (question part : List ℕ) (at depth number j x : ℕ) (area : List ℕ
       let cs : List Candidate = silent (bodyOf (q .bodies)) 1 C in
       let plain : Unconditional cs =
       subst (λ (Q : Term). Unconditional (silent (bodyOf (q .bodies)) 1 Q)) (ren-id C)
-      (unconditional .is q nameCount depth (λ n. n) C _ refl (l .accepted) (p .scope) (placed-bytes l p)) in
+      (unconditional .is q nameCount depth (λ n. n) (own-part 1) C _ refl (l .accepted) (p .scope) (placed-bytes l p)) in
       let (A, e) = plain j h in
       let (B, d) = raised-silent K A in
       subst (λ c. PutIs c x area n m area′) (sym (ap (raised K) e ∙ d))

@@ -17,6 +17,7 @@ use Rattle.steps_passing.specs.Passing.{MiddleIs}
 use Rattle.steps.specs.Raw.{Candidate, leftSteps, rightSteps, restricted, communications, visibleOf, visible, silent}
 use Rattle.steps_tallies.specs.Tally.{silentAt, TallyIs}
 use Rattle.steps_labels.proofs.ArgumentSlots.{slots-part}
+use Rattle.steps_tallies.proofs.OwnNames.{own-part}
 use Rattle.steps_tallies.proofs.CandidateForms.{tag, tag-at, only-par, only-res}
 use Rattle.steps_splicing.specs.Collecting.{CollectIs}
 use Rattle.steps_splicing.specs.Contexts.{Frame, leftOf, rightOf, beneath, raised, Placed}
@@ -114,7 +115,7 @@ module _ (question part : List ℕ) (at depth number x : ℕ) (rows : List ℕ) 
       scanned =
           let s : n + length (visible body 1 (ren (λ n. n) C)) ≤ mostRows
           → (last ≡ n + length (visible body 1 (ren (λ n. n) C))) × Rows depth (visible body 1 (ren (λ n. n) C)) rows′ n =
-          λ h. let r = scan .is q nameCount depth (λ n. n) C _ [] (l .accepted) (omega arith) (slots-part depth args) (p .scope) (placed-bytes l p)
+          λ h. let r = scan .is q nameCount depth (λ n. n) (own-part 1) C _ [] (l .accepted) (omega arith) (slots-part depth args) (p .scope) (placed-bytes l p)
           (offers-alone body 1 (q .arities) nameCount depth (λ n. n) part args depth depth [] at) h in
           (r .0, r .1) in
           subst (λ (Q : Term). n + length (visible body 1 Q) ≤ mostRows → (last ≡ n + length (visible body 1 Q)) × Rows depth (visible body 1 Q) rows′ n)
@@ -225,7 +226,7 @@ module _ (question part : List ℕ) (at depth number x : ℕ) (rows : List ℕ) 
         middle-place : middle ≡ at + 1 + length (encode depth S)
         middle-place =
             m .is (omega (arith, placed-length l (placed-left p), encode-some depth S))
-            ∙ t .is q (at + 1) nameCount depth (λ n. n) S _ (l .accepted) (placed-left p .scope) (placed-bytes l (placed-left p)) .2
+            ∙ t .is q (at + 1) nameCount depth (λ n. n) (own-part 1) S _ (l .accepted) (placed-left p .scope) (placed-bytes l (placed-left p)) .2
 
         right-placed : Placed (q .arities) sbody P (rightOf S ∷ K) T middle depth (L .rows) (number + before)
         right-placed =

@@ -394,7 +394,7 @@ nth-call-returns-3 t c =
     let a = c14 .args in
     let m = c9 .call-at .ensures .may (not-false _ (c7 .if1 .left)) in
     nth-called (a .question .now) (a .src .now) (a .scope .at) (a .i) (a .silent) (a .args .now) (a .scope .inner) (a .scope .depth) (a .scope .calls)
-    (c14 .pre .1 .1) (c9 .call-at .result) (c9 .call-at .ensures) _ (m .0) (c3 .body-at .result .now) (c3 .body-at .ensures
+    (c14 .pre .1 .1) (c9 .call-at .result) (c9 .call-at .ensures) _ (m .0) (c14 .pre .1 .2 .once) (c3 .body-at .result .now) (c3 .body-at .ensures
     (c9 .call-at .result .definition) (c9 .call-at .ensures .place)) (c4 .arguments .result) (c4 .arguments .ensures) (c .nth .ensures)
 
 nth-meeting-visible-at-requires : (t : ℕ) → nth-meeting-lts.Need-visible-at-requires (nth-meeting-claims t) (nth-meeting-at t) nth-meeting.Post

@@ -256,7 +256,7 @@ pass-call-returns-2 t c =
       c10 .pre .1 .0,
       c10 .pre .1 .2,
       c10 .pre .1 .3,
-    )) (a .calls - 1) (omega (arith, m)) (c1 .pass .result) (c1 .pass .ensures))
+    )) (c10 .pre .1 .4) (a .calls - 1) (omega (arith, m)) (c1 .pass .result) (c1 .pass .ensures))
 
 pub +pass+pass-call-spec : {M : Type 1} → statement M
 +pass+pass-call-spec = close μ-pass μ-pass-call (λ t. pass-lts.spec (pass-claims t)

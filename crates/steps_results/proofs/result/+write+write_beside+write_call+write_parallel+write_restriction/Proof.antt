@@ -635,7 +635,7 @@ write-call-returns-2 t c =
     let m = c12 .call-at .ensures .may (not-false _ (c10 .if1 .left)) in
     write-opened (a .question .now) (a .src .now) (a .cursor .at) (a .cursor .binders) (a .names .now) (a .task) (c18 .pre .1 .2) (a .out .now)
     (a .cursor .put) (c18 .pre .1 .1) (c12 .call-at .result) (c12 .call-at .ensures) (c8 .body-at .result .now) (c8 .body-at .ensures
-    (c12 .call-at .result .definition) (c12 .call-at .ensures .place)) (a .task .calls - 1) (omega (arith, m)) (c9 .enter .result)
+    (c12 .call-at .result .definition) (c12 .call-at .ensures .place)) (c18 .pre .1 .3) (a .task .calls - 1) (omega (arith, m)) (c9 .enter .result)
     (c9 .enter .ensures) (c6 .called .result) (c6 .called .ensures) (c3 .write .result) _ (c3 .write .ensures .0)
 
 write-parallel-plan-of-requires : (t : ℕ) → write-parallel-lts.Need-plan-of-requires (write-parallel-claims t) (write-parallel-at t) write-parallel.Post

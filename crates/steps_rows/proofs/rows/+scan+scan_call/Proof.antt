@@ -491,7 +491,7 @@ scan-call-returns-3 t c =
     let c18 = c12 .before .before .before .before .before .before in
     let a = c18 .args in let p = c18 .pre in let m = c12 .call-at .ensures .may (not-false _ (c10 .if1 .left)) in scan-called
     (a .question .now) (a .src .now) (a .branch .root) (a .scope .at) (a .branch .asked) (a .args .now) (a .scope .inner) (a .scope .depth) (a .scope .calls)
-    (a .branch .row) (a .rows .now) (p .1 .1) (c12 .call-at .result) (c12 .call-at .ensures) (m .0) (c6 .body-at .result .now) (c6 .body-at .ensures
+    (a .branch .row) (a .rows .now) (p .1 .1) (c12 .call-at .result) (c12 .call-at .ensures) (m .0) (p .1 .2 .once) (c6 .body-at .result .now) (c6 .body-at .ensures
     (c12 .call-at .result .definition) (c12 .call-at .ensures .place)) (c7 .arguments .result) (c7 .arguments .ensures) _ _
     (c .before .before .scan .ensures)
 

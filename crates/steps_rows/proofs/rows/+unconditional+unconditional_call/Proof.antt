@@ -251,7 +251,7 @@ unconditional-call-returns-2 t c =
     let a = c9 .args in
     let p = c9 .pre in
     let m = c5 .call-at .ensures .may (not-false _ (c3 .if1 .left)) in
-    unconditional-called (a .question .now) (a .src .now) (a .at) (a .calls) _ (p .1 .1) (c5 .call-at .result) (c5 .call-at .ensures) (m .0)
+    unconditional-called (a .question .now) (a .src .now) (a .at) (a .calls) _ (p .1 .1) (c5 .call-at .result) (c5 .call-at .ensures) (m .0) (p .1 .2)
     (c2 .body-at .result .now) (c2 .body-at .ensures (c5 .call-at .result .definition) (c5 .call-at .ensures .place)) (c .unconditional .ensures)
 
 pub +unconditional+unconditional-call-spec : {M : Type 1} → statement M
