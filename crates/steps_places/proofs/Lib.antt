@@ -1,0 +1,4 @@
+pub mod BitLaws
+pub mod SlotLaws
+pub mod WalkLaws
+pub mod PutLaws
