@@ -88,6 +88,10 @@ rank-below m (c ∷ v) g = ⊎-elim
         → c * continuations (length v) m + rankFrom (max m (suc c)) v < m * continuations (length v) m + continuations (length v) (suc m)
     go e h = omega (arith, h, ap (λ i. i * continuations (length v) m) e)
 
+pub tail-below : (m c : ℕ) (v : List ℕ) → Growing m (c ∷ v) → c < m → rankFrom (max m (suc c)) v < continuations (length v) m
+tail-below m c v g l = let x : max m (suc c) ≡ m = omega arith in
+    subst (λ i. rankFrom (max m (suc c)) v < continuations (length v) i) x (rank-below (max m (suc c)) v (g .1))
+
 -- The partition with every place in a class of its own is the last one.
 apart-size : (r m : ℕ) → length (apartFrom m r) ≡ r
 unfolding apartFrom
@@ -212,6 +216,58 @@ module _ (a b : ℕ) (n : a ≢ b) where
 map-same : (f : ℕ → ℕ) → ((c : ℕ) → f c ≡ c) → (v : List ℕ) → map f v ≡ v
 map-same f h [] = refl
 map-same f h (c ∷ v) = ap (_∷ map f v) (h c) ∙ ap (c ∷_) (map-same f h v)
+
+-- Two classes become one exactly if they are one or the two that are merged.
+module _ (a b : ℕ) where
+  pub merged-both : mergedClass a b a ≡ mergedClass a b b
+  merged-both = go (ℕ-discrete a b)
+    where
+      go : Dec (a ≡ b) → mergedClass a b a ≡ mergedClass a b b
+      go (yes e) = ap (mergedClass a b) e
+      go (no n) = both n (merged-cases a b n a) (merged-cases a b n b)
+        where
+          both : a ≢ b → Cases a b a (mergedClass a b a) → Cases a b b (mergedClass a b b) → mergedClass a b a ≡ mergedClass a b b
+          both n (inl (x, y)) (inl (z, w)) = y ∙ sym w
+          both n (inl (x, y)) (inr (inl (z, w))) = absurd (omega arith)
+          both n (inl (x, y)) (inr (inr (z, w))) = omega arith
+          both n (inr (inl (x, y))) c = absurd (omega arith)
+          both n (inr (inr (x, y))) (inl (z, w)) = omega arith
+          both n (inr (inr (x, y))) (inr (inl (z, w))) = absurd (omega arith)
+          both n (inr (inr (x, y))) (inr (inr (z, w))) = absurd (omega arith)
+
+  -- c and d are one class once a and b are
+  abbrev pub OneOf : ℕ → ℕ → Type 0
+  OneOf c d = (c ≡ d) ⊎ ((c ≡ a) × (d ≡ b)) ⊎ ((c ≡ b) × (d ≡ a))
+
+  two : (c d : ℕ) → c ≡ max a b → d ≡ min a b → OneOf c d
+  two c d x y = go (decLe a b)
+    where
+      go : Dec (a ≤ b) → OneOf c d
+      go (yes l) = inr (inr (omega arith, omega arith))
+      go (no l) = inr (inl (omega arith, omega arith))
+
+  turned : (c d : ℕ) → OneOf c d → OneOf d c
+  turned c d (inl e) = inl (sym e)
+  turned c d (inr (inl (x, y))) = inr (inr (y, x))
+  turned c d (inr (inr (x, y))) = inr (inl (y, x))
+
+  pub merged-one : (c d : ℕ) → mergedClass a b c ≡ mergedClass a b d → OneOf c d
+  merged-one c d e = go (ℕ-discrete a b)
+    where
+      each : a ≢ b → Cases a b c (mergedClass a b c) → Cases a b d (mergedClass a b d) → OneOf c d
+      each n (inl (x, y)) (inl (z, w)) = inl (x ∙ sym z)
+      each n (inl (x, y)) (inr (inl (z, w))) = absurd (omega (arith, n))
+      each n (inl (x, y)) (inr (inr (z, w))) = two c d x (sym w ∙ sym e ∙ y)
+      each n (inr (inl (x, y))) (inl (z, w)) = absurd (omega (arith, n))
+      each n (inr (inl (x, y))) (inr (inl (z, w))) = inl (omega arith)
+      each n (inr (inl (x, y))) (inr (inr (z, w))) = absurd (omega arith)
+      each n (inr (inr (x, y))) (inl (z, w)) = turned d c (two d c z (sym y ∙ e ∙ w))
+      each n (inr (inr (x, y))) (inr (inl (z, w))) = absurd (omega arith)
+      each n (inr (inr (x, y))) (inr (inr (z, w))) = inl (sym y ∙ e ∙ w)
+
+      go : Dec (a ≡ b) → OneOf c d
+      go (yes x) = inl (sym (merged-none a b x c) ∙ e ∙ merged-none a b x d)
+      go (no n) = each n (merged-cases a b n c) (merged-cases a b n d)
 
 module _ (n : ℕ) (v : List ℕ) (i j : ℕ) where
   -- Nothing is merged within a class.

@@ -1,5 +1,5 @@
 -- The number of a partition, place by place, and the partition of a number. Assumes nothing.
-use mathlib.Core.List.{List, map}
+use mathlib.Core.List.{List, [], _∷_, map}
 use mathlib.Core.Logic.{_≢_, inl, inr, ⊎-elim}
 use mathlib.Core.Path.{_≡_, refl, sym, ap, subst, _∙_}
 use native.Mathlib.Nat.{eq-or-lt-of-le, not-suc-le-zero, le-trans, mul-le-mul, mul-le-mul-right, div-mul-le-self, mul-add-div-right, div-eq-of-lt}
@@ -10,7 +10,7 @@ use lib.ListN.{length, getD, drop, set}
 use lib.Seq.{getD-set-same, getD-set-other, ext-getD, drop-length}
 use Rattle.terms_bytes.proofs.Stores.{getD-map}
 use Rattle.steps_partitions.specs.Partition.{mostPlaces, mostPartitions, continuations, Growing, rankFrom, rank, Partition, mergedClass, Cases, mergedAt, Begins, PartIs, ClassIs, RankIs, UnrankIs, MergeIs, MergedRowIs}
-use Rattle.steps_partitions.proofs.PartitionLaws.{way-at, grown, ranked, ranked-below, merged-none, merged-greater, merged-behind, merged-before, merged-same, merged-partition}
+use Rattle.steps_partitions.proofs.PartitionLaws.{way-at, some-way, tail-below, grown, ranked, ranked-below, merged-none, merged-greater, merged-behind, merged-before, merged-same, merged-partition}
 
 -- What a class adds is small.
 pub part-is : (c rest m w r : ℕ) → c ≤ 255 → rest + m ≤ mostPlaces → w ≡ continuations rest m → r ≡ c * w → PartIs c rest m r
@@ -63,6 +63,21 @@ class-is left size m r pos e = record {
       let q : left / size ≡ c + y / size = ap (λ k. k / size) x ∙ mul-add-div-right pos c y in
       ⊎-elim (λ (f : c ≡ m). omega (arith, q)) (λ (f : c < m). omega (arith, q, div-eq-of-lt (h f))) (eq-or-lt-of-le {n = c} {m = m} l);
 }
+
+-- Two partitions do not have one number.
+pub rank-once : (m : ℕ) (v w : List ℕ) → Growing m v → Growing m w → length v ≡ length w → rankFrom m v ≡ rankFrom m w → v ≡ w
+unfolding rankFrom
+rank-once m [] [] g h l e = refl
+rank-once m [] (d ∷ w) g h l e = absurd (omega arith)
+rank-once m (c ∷ v) [] g h l e = absurd (omega arith)
+rank-once m (c ∷ v) (d ∷ w) g h l e =
+    let n : length w ≡ length v = omega arith in
+    let f : rankFrom m (c ∷ v) ≡ d * continuations (length v) m + rankFrom (max m (suc d)) w = e ∙ ap (λ k. d * continuations k m + rankFrom (max m (suc d)) w) n in
+    let C = class-is (rankFrom m (c ∷ v)) (continuations (length v) m) m _ (some-way (length v) m) refl in
+    let x : c ≡ d = sym (C .is c (rankFrom (max m (suc c)) v) refl (g .0) (λ o. tail-below m c v g o))
+    ∙ C .is d (rankFrom (max m (suc d)) w) f (h .0) (λ o. subst (λ k. rankFrom (max m (suc d)) w < continuations k m) n (tail-below m d w h o)) in
+    let y : rankFrom (max m (suc c)) v ≡ rankFrom (max m (suc c)) w = omega (arith, f, ap (λ k. k * continuations (length v) m) x, ap (λ k. rankFrom (max m (suc k)) w) x) in
+    ap (_∷ v) x ∙ ap (d ∷_) (rank-once (max m (suc c)) v w (g .1) (subst (λ k. Growing (max m (suc k)) w) (sym x) (h .1)) (sym n) y)
 
 module _ (row n : ℕ) where
   -- the classes so far, and the number left for the places from i on

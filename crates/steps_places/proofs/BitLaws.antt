@@ -3,12 +3,12 @@ use mathlib.Core.Bool.{Bool, true, false, true≢false, false≢true}
 use mathlib.Core.Logic.{_⊎_, _≢_, inl, inr, ⊎-elim}
 use mathlib.Core.Path.{_≡_, refl, sym, ap, subst, _∙_}
 use native.Mathlib.Decide.{ℕ-discrete, decLe}
-use native.Mathlib.Nat.{eq-or-lt-of-le, not-suc-le-zero, div-eq-of-lt, div-self, mod-lt, mul-div-cancel, pow-suc, one-le-pow}
+use native.Mathlib.Nat.{eq-or-lt-of-le, not-suc-le-zero, div-eq-of-lt, div-self, zero-div, zero-mod, mod-lt, mul-div-cancel, pow-suc, one-le-pow}
 use native.Mathlib.Omega.{arith}
 use borrow.Author.Count.{below-more}
 use Prim.Native.Nat.{ℕ, suc, max, _+_, _-_, _*_, _/_, _%_, _^_, _<_, _≤_}
 use lib.Arith.{digits-mod}
-use lib.Bits.{bitOr, bitAnd, or-step, or-shr, or-add-and, and-le-r}
+use lib.Bits.{bitOr, bitAnd, or-step, or-shr, or-lt, or-add-and, and-le-r}
 use lib.Pow.{pow-lt, pow-add}
 use Rattle.steps_reach.specs.CallTable.{mostCalls}
 use Rattle.steps_places.specs.PlaceTable.{bit}
@@ -47,14 +47,19 @@ pow-other j i n = go (decLe i j)
         sum : (x : ℕ) → x * 2 ≡ x * 2 + 0
         sum x = omega arith
 
-pub with-bit-is : (x j : ℕ) → WithBit x j (bitOr x (2 ^ j))
-with-bit-is x j = record {
+pub no-bit : (i : ℕ) → ¬ (bit 0 i ≡ 1)
+unfolding bit
+no-bit i e = absurd (omega (arith, e, ap (λ x. x % 2) (zero-div (2 ^ i)), zero-mod 2))
+
+pub with-bit-is : (x j : ℕ) → j < mostCalls → WithBit x j (bitOr x (2 ^ j))
+with-bit-is x j small = record {
   set = omega (arith, bit-or x (2 ^ j) j, pow-bit j, bit-small x j);
   kept = λ i h. omega (arith, bit-or x (2 ^ j) i, bit-small (2 ^ j) i);
   only = λ i h. go i h (ℕ-discrete i j);
   grows = grown;
   more = λ h. ⊎-elim (λ (e : x ≡ bitOr x (2 ^ j)). absurd (h (ap (λ y. bit y j) e ∙ omega (arith, bit-or x (2 ^ j) j, pow-bit j, bit-small x j))))
       (λ (l : x < bitOr x (2 ^ j)). l) (eq-or-lt-of-le grown);
+  fits = λ l. or-lt 64 x (2 ^ j) l (pow-lt {i = j} {j = 64} small);
 }
   where
     grown : x ≤ bitOr x (2 ^ j)

@@ -30,7 +30,7 @@ use Rattle.steps_places.proofs.SlotLaws.{name-read}
 
 -- A bit set in a row.
 module _ (f : List ℕ) (row i w : ℕ) (W : WithBit (getD f row 0) i w) (l : row < length f) where
-  set-there : Has (set f row w) row i
+  pub set-there : Has (set f row w) row i
   set-there = ap (λ x. bit x i) (getD-set-same f row w 0 l) ∙ W .set
 
   set-kept : (r x : ℕ) → Has f r x → Has (set f row w) r x
@@ -40,7 +40,7 @@ module _ (f : List ℕ) (row i w : ℕ) (W : WithBit (getD f row 0) i w) (l : ro
       go (yes e) = ap (λ y. bit y x) (ap (λ z. getD (set f row w) z 0) e ∙ getD-set-same f row w 0 l) ∙ W .kept x (ap (λ z. bit (getD f z 0) x) (sym e) ∙ h)
       go (no n) = ap (λ y. bit y x) (getD-set-other f row r w 0 n) ∙ h
 
-  set-only : (r x : ℕ) → Has (set f row w) r x → Has f r x ⊎ ((r ≡ row) × (x ≡ i))
+  pub set-only : (r x : ℕ) → Has (set f row w) r x → Has f r x ⊎ ((r ≡ row) × (x ≡ i))
   set-only r x h = go (ℕ-discrete r row)
     where
       go : Dec (r ≡ row) → Has f r x ⊎ ((r ≡ row) × (x ≡ i))
@@ -101,8 +101,11 @@ module _ (question s : List ℕ) (at j row count : ℕ) (t f : List ℕ) (k : �
       unfolding Named
       put-unlisted o = each-call far f (λ r i x. x) (λ q Δ d xs ys v l ns S p e.
           let (y, h, R) = S .listed [] l (given ys ns) b-call in
-          absurd (C .absent o y h (R .definition ∙ same-definition q Δ d xs ys l ns S, λ z u. R .names z (omega (arith, given-length q Δ d xs ys l ns S))
-          ∙ sym (given-names q Δ d xs ys l ns S z u))))
+          absurd (C .absent o y h (
+            R .definition ∙ same-definition q Δ d xs ys l ns S,
+            λ z u. R .names z (omega (arith, given-length q Δ d xs ys l ns S))
+                ∙ sym (given-names q Δ d xs ys l ns S z u),
+          )))
 
       pub put-outside : count ≤ greatestArity → length f ≡ mostPartitions → length f ≤ row → FindTermIs question s at j row count t f f
       put-outside few whole o = each-call far f (λ r i x. x) (λ q Δ d xs ys v l ns S p e.
