@@ -14,7 +14,7 @@ use Rattle.steps_reach.specs.CallTable.{mostCalls}
 use Rattle.steps_places.specs.PlaceTable.{bit}
 use Rattle.steps_places.specs.PlaceWalks.{WithBit, PendingIs, NextIs}
 
-bit-small : (x i : ℕ) → bit x i < 2
+pub bit-small : (x i : ℕ) → bit x i < 2
 unfolding bit
 bit-small x i = mod-lt (x / 2 ^ i) (omega arith)
 

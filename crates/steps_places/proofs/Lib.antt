@@ -6,3 +6,5 @@ pub mod Meanings
 pub mod OpenLaws
 pub mod CloseLaws
 pub mod FindLaws
+pub mod PlaceTheorems
+pub mod NumberLaws

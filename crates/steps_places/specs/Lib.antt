@@ -3,3 +3,5 @@
 pub mod PlaceTable
 -- what the walk of a body puts into it
 pub mod PlaceWalks
+-- the places by number
+pub mod PlaceNumbers

@@ -2,3 +2,4 @@
 pub mod bits;
 pub mod places;
 pub mod walk;
+pub mod numbers;
