@@ -35,7 +35,7 @@ called-names-are question s at count t row arities k arity r A e a N q ok =
     subst (λ n. NamesIs s at count t row n r) (a ∙ ap (λ l. getD l k 0) (A q ok) ∙ ap (λ j. getD (q .arities) j 0) e) N
 
 -- The byte of a parameter stands for the name that the call gives it.
-parameter-byte : (t : List ℕ) (row k : ℕ) (xs : List ℕ) (m : ℕ) → RowIs t row (k, xs) → m < length xs
+pub parameter-byte : (t : List ℕ) (row k : ℕ) (xs : List ℕ) (m : ℕ) → RowIs t row (k, xs) → m < length xs
     → nameIn t row (length xs) (nameByte (length xs) m) ≡ getD (reverse xs) m 0
 unfolding nameByte
 parameter-byte t row k xs m R l =
@@ -58,7 +58,7 @@ module _ (question : List ℕ) (q : Question) (Δ : Defs) (d : Defines question 
       ∙ sym (append-nil _)
 
 -- the names of a call in the body of a call with the names xs
-abbrev given : List ℕ → List ℕ → List ℕ
+abbrev pub given : List ℕ → List ℕ → List ℕ
 given xs ns = map (λ i. getD (reverse xs) i 0) ns
 
 -- The call l⟨ns⟩ in the body of the call in row `row`, as the code finds it: definition k,

@@ -15,7 +15,7 @@ use Rattle.steps_tallies.proofs.CallLaws.{body-size}
 use Rattle.steps_reach.specs.CallTable.{tableBytes, RowIs}
 use Rattle.steps_reach.specs.Walks.{Defines, Sized, Answers, Stands, ReachTermIs, ReachCallsIs}
 use Rattle.steps_reach.proofs.CallWalks.{body-in-scope, body-bytes}
-use Rattle.steps_reach.proofs.Rows.{putInto, put-row}
+use Rattle.steps_reach.proofs.Rows.{row-kept, putInto, put-row}
 use Rattle.steps_reach.proofs.Walking.{opened-walked, opened-exceeded, reached-only, reached-all, reached-many}
 
 -- The tally of a body.
@@ -74,6 +74,8 @@ module _ (question : List ℕ) (k : ℕ) (xs : List ℕ) (body : List ℕ) (B : 
             list = T .list;
             size = T .size;
             table = T .table;
+            first = row-kept t₁ t₂ 1 0 (k, xs) (omega arith) few (R .kept) first;
+            sized = T .sized;
             distinct = T .walked .distinct;
             sound = reached-only Δ k xs (T .list) w;
             all = reached-all Δ k xs (T .list) w;

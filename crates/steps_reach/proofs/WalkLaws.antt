@@ -24,7 +24,7 @@ use Rattle.steps_reach.proofs.Rows.{row-kept}
 use Rattle.steps_reach.proofs.Walking.{quiet-walked, mat-walked, sum-walked, mat-exceeded, left-exceeded, right-exceeded}
 
 -- Only matches, choices and calls have unprefixed calls that a walk goes on to.
-no-bare : (σ : ℕ → ℕ) (P : Term) → (tag P ≡ 5 → ⊥) → (tag P ≡ 6 → ⊥) → (tag P ≡ 9 → ⊥) → (C : Cond) (l : ℕ) (ys : List ℕ) → ¬ Bare (ren σ P) C l ys
+pub no-bare : (σ : ℕ → ℕ) (P : Term) → (tag P ≡ 5 → ⊥) → (tag P ≡ 6 → ⊥) → (tag P ≡ 9 → ⊥) → (C : Cond) (l : ℕ) (ys : List ℕ) → ¬ Bare (ren σ P) C l ys
 no-bare σ nil m s c C l ys b = elim b [ ]
 no-bare σ (tau P) m s c C l ys b = elim b [ ]
 no-bare σ (inp a P) m s c C l ys b = elim b [ ]

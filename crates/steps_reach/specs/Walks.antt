@@ -91,11 +91,13 @@ pub record ReachTermIs (question s : List ℕ) (at row : ℕ) (t : List ℕ) (si
   pub is : (q : Question) (Δ : Defs) → Defines question q Δ → (xs : List ℕ) (P : Term) (cs : List Call)
       → Stands q Δ s at row t size xs P cs → Answers Δ (opened xs P) cs t′ r
 
--- The calls that k⟨xs⟩ reaches: exactly those in the table, each once; or more than it holds.
+-- The calls that k⟨xs⟩ reaches: exactly those in the table, each once, itself first; or more than it holds.
 pub record Reaches (Δ : Defs) (k : ℕ) (xs : List ℕ) (t : List ℕ) (r : ℕ) : Type 0 where
   pub list : List Call
   pub size : length list ≡ r
   pub table : TableIs t list
+  pub first : RowIs t 0 (k, xs)
+  pub sized : Sized Δ list
   pub distinct : Distinct list
   pub sound : (c : Call) → c ∈ list → (C : Cond) × Reached Δ k xs C (c .0) (c .1)
   pub all : (C : Cond) (l : ℕ) (ys : List ℕ) → Reached Δ k xs C l ys → _∈_ {A = Call} (l, ys) list

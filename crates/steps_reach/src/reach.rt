@@ -26,7 +26,7 @@ use terms_bytes::tags::CHOICE;
 use terms_bytes::tags::MATCH;
 
 // The names of the call whose name bytes stand at `at` in the body of the call in row `row`.
-fn called_names(
+pub fn called_names(
     question: &[u8],
     src: &[u8],
     at: usize,

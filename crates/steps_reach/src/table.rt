@@ -67,7 +67,7 @@ fn same_names(table: &[u8], row: usize, names: &[u8], count: usize) -> bool
 }
 
 // Whether row `row` has this call.
-fn is_call(table: &[u8], row: usize, definition: usize, names: &[u8], count: usize) -> bool
+pub fn is_call(table: &[u8], row: usize, definition: usize, names: &[u8], count: usize) -> bool
     requires { ⌜ (row < mostCalls) × (count ≤ greatestArity) ⌝ }
     ensures { λ r. ⌜ HeldIs (now (table .entry)) row definition (now (names .entry)) count r ⌝ }
 {

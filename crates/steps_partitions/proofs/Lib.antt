@@ -1,0 +1,2 @@
+pub mod PartitionLaws
+pub mod RankLaws

@@ -1,0 +1,81 @@
+-- `steps_partitions::partition::rank` meets its contract. Assumes nothing.
+use Rattle.steps_partitions.proofs.RankLaws.{Ranked, rank-start, rank-more, rank-all, rank-none}
+use Prim.Native.Nat.{_≤_, _+_, _-_, _*_}
+use mathlib.Core.Path.{sym, subst}
+use native.Mathlib.Omega.{arith}
+use borrow.Author.Needs.{needs}
+use Rattle.steps_partitions.proofs.partition.rank.Statement.{statement}
+use Rattle.steps_partitions.proofs.partition.rank.Tie as tie
+
+abbrev Inv-loop : tie.InvT-loop
+Inv-loop classes count i₀ m₀ number₀ i m number = (i ≤ count) × (number ≤ i * 1055700) × Ranked classes count i m number
+
+abbrev μ-loop : tie.MeasureT-loop
+μ-loop classes count i₀ m₀ number₀ i m number = count - i
+
+loop-holds : tie.Need-loop-holds Inv-loop μ-loop
+loop-holds c = (search needs, omega arith, rank-start _ _)
+
+returns : tie.Need-returns Inv-loop μ-loop
+returns c = rank-none (c .before .before .before .before .args .classes .now) (c .before .before .before .before .args .count) (c .before .before .loop .i) (c .before .before .loop .m) (c .before .before .loop .number) (c .if1 .taken) (c .before .before .loop .inv .2)
+
+get-requires : tie.Need-get-requires Inv-loop μ-loop
+get-requires c κs = search needs
+
+sub-part : tie.Need-sub-part Inv-loop μ-loop
+sub-part c = search needs
+
+sub-part-2 : tie.Need-sub-part-2 Inv-loop μ-loop
+sub-part-2 c = search needs
+
+part-requires : tie.Need-part-requires Inv-loop μ-loop
+part-requires c κs = omega arith
+
+add-number : tie.Need-add-number Inv-loop μ-loop
+add-number c = omega (arith, c .part .ensures .few)
+
+cast-larger : tie.Need-cast-larger Inv-loop μ-loop
+cast-larger c = search needs
+
+add-larger : tie.Need-add-larger Inv-loop μ-loop
+add-larger c = search needs
+
+larger-requires : tie.Need-larger-requires Inv-loop μ-loop
+larger-requires c κs = search needs
+
+add-i : tie.Need-add-i Inv-loop μ-loop
+add-i c = search needs
+
+loop-less : tie.Need-loop-less Inv-loop μ-loop
+loop-less c = search needs
+
+loop-again : tie.Need-loop-again Inv-loop μ-loop
+loop-again c = (
+  search needs,
+  omega (arith, c .before .part .ensures .few),
+  subst (λ k. Ranked (c .before .before .before .before .before .before .before .args .classes .now) (c .before .before .before .before .before .before .before .args .count) (c .before .before .before .before .before .loop .i + 1) k (c .before .before .before .before .before .loop .number + c .before .part .result)) (sym (c .larger .ensures)) (rank-more (c .before .before .before .before .before .before .before .args .classes .now) (c .before .before .before .before .before .before .before .args .count) (c .before .before .before .before .before .loop .i) (c .before .before .before .before .before .loop .m) (c .before .before .before .before .before .loop .number) (c .before .before .get .result) (c .before .part .result) (c .before .before .before .before .loop-test .taken) (c .before .before .get .ensures) (c .before .part .ensures .is) (c .before .before .before .before .before .loop .inv .2)),
+)
+
+returns-2 : tie.Need-returns-2 Inv-loop μ-loop
+returns-2 c = rank-all (c .before .before .before .args .classes .now) (c .before .before .before .args .count) (c .before .loop .i) (c .before .loop .m) (c .before .loop .number) (c .loop-test .left) (c .before .loop .inv .0) (c .before .loop .inv .2)
+
+pub rank-spec : {M : Type 1} → statement M
+rank-spec =
+    tie.close
+    (tie.spec
+    Inv-loop
+    μ-loop
+    loop-holds
+    returns
+    get-requires
+    sub-part
+    sub-part-2
+    part-requires
+    add-number
+    cast-larger
+    add-larger
+    larger-requires
+    add-i
+    loop-less
+    loop-again
+    returns-2)

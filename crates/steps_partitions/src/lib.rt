@@ -1,0 +1,2 @@
+// The conditions on the names of a call, numbered.
+pub mod partition;

@@ -1,0 +1,58 @@
+-- `steps_places::numbers::table_weight` meets its contract. Assumes nothing.
+use Rattle.steps_places.proofs.NumberLaws.{table-start, table-more}
+use Rattle.steps_places.specs.PlaceNumbers.{TableWeightIs}
+use mathlib.Core.Path.{_≡_, subst}
+use Prim.Native.Nat.{_≤_, _-_}
+use native.Mathlib.Omega.{arith}
+use borrow.Author.Needs.{needs}
+use Rattle.steps_places.proofs.numbers.table_weight.Statement.{statement}
+use Rattle.steps_places.proofs.numbers.table_weight.Tie as tie
+
+abbrev Inv-loop : tie.InvT-loop
+Inv-loop found rows weights sum₀ r₀ sum r = (r ≤ rows) × TableWeightIs found weights r sum
+
+abbrev μ-loop : tie.MeasureT-loop
+μ-loop found rows weights sum₀ r₀ sum r = rows - r
+
+loop-holds : tie.Need-loop-holds Inv-loop μ-loop
+loop-holds c = (search needs, table-start _ _)
+
+mul-row-weight : tie.Need-mul-row-weight Inv-loop μ-loop
+mul-row-weight c = search needs
+
+shared-slice-read-row-weight : tie.Need-shared-slice-read-row-weight Inv-loop μ-loop
+shared-slice-read-row-weight c = search needs
+
+row-weight-requires : tie.Need-row-weight-requires Inv-loop μ-loop
+row-weight-requires c κs = search needs
+
+add-sum : tie.Need-add-sum Inv-loop μ-loop
+add-sum c = omega (arith, c .row-weight .ensures .few, c .before .before .before .loop .inv .1 .few, c .before .before .before .before .before .before .pre .0)
+
+add-r : tie.Need-add-r Inv-loop μ-loop
+add-r c = search needs
+
+loop-less : tie.Need-loop-less Inv-loop μ-loop
+loop-less c = search needs
+
+loop-again : tie.Need-loop-again Inv-loop μ-loop
+loop-again c = (search needs, table-more (c .before .before .before .before .before .before .args .found .now) (c .before .before .before .before .before .before .args .weights .now) (c .before .before .before .loop .r) (c .before .before .before .loop .sum) (c .row-weight .result) (c .row-weight .ensures) (c .before .before .before .loop .inv .1))
+
+returns : tie.Need-returns Inv-loop μ-loop
+returns c = let e : c .before .loop .r ≡ c .before .before .before .before .args .rows = omega (arith, c .before .loop .inv .0, c .loop-test .left) in subst (λ k. TableWeightIs (c .before .before .before .before .args .found .now) (c .before .before .before .before .args .weights .now) k (c .before .loop .sum)) e (c .before .loop .inv .1)
+
+pub table-weight-spec : {M : Type 1} → statement M
+table-weight-spec =
+    tie.close
+    (tie.spec
+    Inv-loop
+    μ-loop
+    loop-holds
+    mul-row-weight
+    shared-slice-read-row-weight
+    row-weight-requires
+    add-sum
+    add-r
+    loop-less
+    loop-again
+    returns)
