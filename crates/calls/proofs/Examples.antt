@@ -13,7 +13,7 @@ use Rattle.calculus.specs.Cond.{join, cls, above, matchesTo, matchesBelow, cano
 use Rattle.calculus.specs.Definitions.{Defs}
 use Rattle.calculus.specs.Free.{In, Free, fn, lowerL}
 use Rattle.calculus.specs.Term.{Term, nil, tau, out, mat, sum, call}
-use Rattle.calls.specs.ReachSearch.{sameNames, samePairs, sameCall, samePlace, isKnown, isCalled, differing, Search, many, spent, found, reachTerm, reachCall, placesOf}
+use Rattle.calls.specs.ReachSearch.{sameNames, samePairs, sameCall, samePlace, isKnown, isCalled, differing, Search, many, spent, found, reachTerm, reachFrom, placesOf}
 use Rattle.calculus.proofs.FreeNames.{free→fn}
 use Rattle.calculus.proofs.Selection.{and-cases}
 
@@ -42,13 +42,13 @@ matched-closed n f = below 2 (fn matched) refl n (free→fn n matched f)
 -- Its call has two places: itself, and itself under [b=a], so that both of its outputs are found.
 pub two-places : placesOf (alone 2 matched matched-closed) 64 577 0 (0 ∷ 1 ∷ [])
     ≡ found (record { condition = (1, 0) ∷ []; definition = 0; names = 0 ∷ 1 ∷ [] } ∷ record { condition = []; definition = 0; names = 0 ∷ 1 ∷ [] } ∷ [])
-unfolding placesOf reachCall reachTerm isKnown isCalled differing samePlace sameCall samePairs sameNames canonical cls join above matchesTo matchesBelow
+unfolding placesOf reachFrom reachTerm isKnown isCalled differing samePlace sameCall samePairs sameNames canonical cls join above matchesTo matchesBelow
 two-places = refl
 
 -- They are one call, so that the limit 1 is kept.
 pub one-call : placesOf (alone 2 matched matched-closed) 1 4 0 (0 ∷ 1 ∷ [])
     ≡ found (record { condition = (1, 0) ∷ []; definition = 0; names = 0 ∷ 1 ∷ [] } ∷ record { condition = []; definition = 0; names = 0 ∷ 1 ∷ [] } ∷ [])
-unfolding placesOf reachCall reachTerm isKnown isCalled differing samePlace sameCall samePairs sameNames canonical cls join above matchesTo matchesBelow
+unfolding placesOf reachFrom reachTerm isKnown isCalled differing samePlace sameCall samePairs sameNames canonical cls join above matchesTo matchesBelow
 one-call = refl
 
 -- K⟨a⟩ = K⟨a⟩
@@ -62,7 +62,7 @@ again-closed n f = below 1 (fn again) refl n (free→fn n again f)
 -- A call to itself has one place.
 pub one-place : placesOf (alone 1 again again-closed) 64 577 0 (0 ∷ [])
     ≡ found (record { condition = []; definition = 0; names = 0 ∷ [] } ∷ [])
-unfolding placesOf reachCall reachTerm isKnown isCalled differing samePlace sameCall samePairs sameNames canonical cls join above matchesTo matchesBelow
+unfolding placesOf reachFrom reachTerm isKnown isCalled differing samePlace sameCall samePairs sameNames canonical cls join above matchesTo matchesBelow
 one-place = refl
 
 -- K⟨a,b⟩ = K⟨b,a⟩ + āb.0
@@ -76,19 +76,19 @@ turned-closed n f = below 2 (fn turned) refl n (free→fn n turned f)
 -- Its call reaches two calls that differ in names: the limit 2 is kept,
 pub limit-kept : placesOf (alone 2 turned turned-closed) 2 7 0 (0 ∷ 1 ∷ [])
     ≡ found (record { condition = []; definition = 0; names = 1 ∷ 0 ∷ [] } ∷ record { condition = []; definition = 0; names = 0 ∷ 1 ∷ [] } ∷ [])
-unfolding placesOf reachCall reachTerm isKnown isCalled differing samePlace sameCall samePairs sameNames canonical cls join above matchesTo matchesBelow
+unfolding placesOf reachFrom reachTerm isKnown isCalled differing samePlace sameCall samePairs sameNames canonical cls join above matchesTo matchesBelow
 limit-kept = refl
 
 -- and the limit 1 is passed.
 pub limit-passed : placesOf (alone 2 turned turned-closed) 1 4 0 (0 ∷ 1 ∷ [])
     ≡ many
-unfolding placesOf reachCall reachTerm isKnown isCalled differing samePlace sameCall samePairs sameNames canonical cls join above matchesTo matchesBelow
+unfolding placesOf reachFrom reachTerm isKnown isCalled differing samePlace sameCall samePairs sameNames canonical cls join above matchesTo matchesBelow
 limit-passed = refl
 
 -- With one name for both it reaches itself alone.
 pub names-alike : placesOf (alone 2 turned turned-closed) 1 4 0 (0 ∷ 0 ∷ [])
     ≡ found (record { condition = []; definition = 0; names = 0 ∷ 0 ∷ [] } ∷ [])
-unfolding placesOf reachCall reachTerm isKnown isCalled differing samePlace sameCall samePairs sameNames canonical cls join above matchesTo matchesBelow
+unfolding placesOf reachFrom reachTerm isKnown isCalled differing samePlace sameCall samePairs sameNames canonical cls join above matchesTo matchesBelow
 names-alike = refl
 
 -- Eight definitions of eight parameters, each of which calls itself with its parameters turned by one, and the next one; the last ends in P.
@@ -122,7 +122,7 @@ howMany (found K) = length K
 -- The first call reaches eight turns of eight definitions: 64 are not more than 64.
 pub sixty-four : howMany (placesOf (rotations (tau nil) (λ n f. f)) 64 577 0 (0 ∷ 1 ∷ 2 ∷ 3 ∷ 4 ∷ 5 ∷ 6 ∷ 7 ∷ []))
     ≡ 64
-unfolding placesOf reachCall reachTerm isKnown isCalled differing samePlace sameCall samePairs sameNames canonical cls join above matchesTo matchesBelow
+unfolding placesOf reachFrom reachTerm isKnown isCalled differing samePlace sameCall samePairs sameNames canonical cls join above matchesTo matchesBelow
 sixty-four = refl
 
 -- One call more at the end, and the limit is passed.
@@ -132,5 +132,5 @@ none n (inr h) = h
 
 pub sixty-five : placesOf (rotations (sum (call 8 []) (tau nil)) (λ n f. none n f)) 64 577 0 (0 ∷ 1 ∷ 2 ∷ 3 ∷ 4 ∷ 5 ∷ 6 ∷ 7 ∷ [])
     ≡ many
-unfolding placesOf reachCall reachTerm isKnown isCalled differing samePlace sameCall samePairs sameNames canonical cls join above matchesTo matchesBelow
+unfolding placesOf reachFrom reachTerm isKnown isCalled differing samePlace sameCall samePairs sameNames canonical cls join above matchesTo matchesBelow
 sixty-five = refl

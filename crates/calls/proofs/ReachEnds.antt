@@ -17,7 +17,7 @@ use Rattle.calculus.specs.Free.{In, Free}
 use Rattle.calculus.specs.Lists.{_∈_, Distinct}
 use Rattle.calculus.specs.Term.{Term, nil, tau, inp, out, bout, mat, sum, par, res, call}
 use Rattle.calls.specs.Reach.{Bare, b-call, b-mat, b-sumL, b-sumR}
-use Rattle.calls.specs.ReachSearch.{Place, placeOf, samePairs, samePlace, isKnown, differing, Search, many, spent, found, reachTerm, reachCall, placesOf, callOf}
+use Rattle.calls.specs.ReachSearch.{Place, placeOf, samePairs, samePlace, isKnown, differing, Search, many, spent, found, reachTerm, reachFrom, reachCall, placesOf, callOf}
 use Rattle.calls.specs.ReachLimit.{Call}
 use Rattle.calculus.proofs.Canonical.{canonical-same}
 use Rattle.calculus.proofs.Conditions.{E1, E2, E4-names, cls-le, ▷-cls, ▷-trans, Unif-left}
@@ -376,7 +376,7 @@ module _ (root : List ℕ) where
 
     call-spent : (n k : ℕ) (xs : List ℕ) (C : Cond) (K ps : List Place) → ((m : ℕ) → In m xs → In m root) → On root C → Path C K ps
         → reachCall Δ limit n k xs C K ≡ spent → Long (n + length ps)
-    unfolding reachCall
+    unfolding reachFrom
     call-spent zero k xs C K ps h o p e = record { cond = C; known = K; places = ps; path = p; many = sym (zero-add (length ps)) }
     call-spent (suc n) k xs C K ps h o p e =
         go (isKnown (placeOf C k xs) K) refl (leb (length (differing (placeOf C k xs ∷ K))) limit) refl (eqb (length xs) (Δ .arity k)) refl e

@@ -13,7 +13,7 @@ use Rattle.calculus.specs.Definitions.{Defs, opened}
 use Rattle.calculus.specs.Lists.{_∈_, Distinct}
 use Rattle.calculus.specs.Term.{Term, nil, tau, inp, out, bout, mat, sum, par, res, call}
 use Rattle.calls.specs.Reach.{Bare, b-call, Reached}
-use Rattle.calls.specs.ReachSearch.{Place, placeOf, sameNames, sameCall, isKnown, isCalled, differing, Search, many, spent, found, reachTerm, reachCall, placesOf, callOf}
+use Rattle.calls.specs.ReachSearch.{Place, placeOf, sameNames, sameCall, isKnown, isCalled, differing, Search, many, spent, found, reachTerm, reachFrom, reachCall, placesOf, callOf}
 use Rattle.calls.specs.ReachLimit.{Call, ManyCalls}
 use Rattle.calls.proofs.Reaching.{held}
 use Rattle.calls.proofs.ReachSearching.{Member, names-same, From, from-mat, from-left, from-right, from-call, Went, call-went, term-went, places-closed, self-from, found-inj, no-found, no-found′}
@@ -127,7 +127,7 @@ module _ (Δ : Defs) (limit : ℕ) where
     term-few (call k xs) C K K′ e f = opens k xs C K K′ e f
 
   pub call-few : (n k : ℕ) (xs : List ℕ) (C : Cond) (K K′ : List Place) → reachCall Δ limit n k xs C K ≡ found K′ → Few K → Few K′
-  unfolding reachCall
+  unfolding reachFrom
   call-few zero k xs C K K′ e f = go (isKnown (placeOf C k xs) K) e
     where
       go : (b : Bool) → cond b (found K) spent ≡ found K′ → Few K′
@@ -198,7 +198,7 @@ module _ (Δ : Defs) (limit : ℕ) where
     term-over (call k xs) C K e = opens k xs C K e
 
   call-over : (n k : ℕ) (xs : List ℕ) (C : Cond) (K : List Place) → reachCall Δ limit n k xs C K ≡ many → Over (call k xs) C K
-  unfolding reachCall
+  unfolding reachFrom
   call-over zero k xs C K e = go (isKnown (placeOf C k xs) K) e
     where
       go : (b : Bool) → cond b (found K) spent ≡ many → Over (call k xs) C K

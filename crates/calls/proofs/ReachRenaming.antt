@@ -17,7 +17,7 @@ use Rattle.calculus.specs.Term.{Term, nil, tau, inp, out, bout, mat, sum, par, 
 use Rattle.calculus.specs.Tidy.{outside, restrictUsed, tidy}
 use Rattle.calls.specs.Reach.{Guarded, Bare, b-call, b-mat, b-sumL, b-sumR, Reached, here, through}
 use Rattle.calls.specs.ReachLimit.{Call, ManyCalls, PastCalls}
-use Rattle.calls.specs.ReachSearch.{Place, placeOf, isKnown, isCalled, differing, Search, many, spent, found, reachTerm, reachCall, placesOf}
+use Rattle.calls.specs.ReachSearch.{Place, placeOf, isKnown, isCalled, differing, Search, many, spent, found, reachTerm, reachFrom}
 use Rattle.calculus.proofs.FreeNames.{of-in-map}
 use Rattle.calls.proofs.ReachEnds.{bare-free}
 use Rattle.calculus.proofs.Membership.{∈-mapped}
@@ -203,12 +203,13 @@ guarded-ren (par P Q) σ g = (guarded-ren P σ (g .0), guarded-ren Q σ (g .1))
 guarded-ren (res P) σ g = guarded-ren P (lift σ) g
 
 -- So a call whose body is guarded, as check 11 had it, has itself for its only place.
-pub guarded-places : (Δ : Defs) (limit n k : ℕ) (xs : List ℕ) → 1 ≤ limit → Guarded (Δ .body k) → placesOf Δ limit (suc n) k xs ≡ found (placeOf [] k xs ∷ [])
-unfolding placesOf reachCall isKnown differing isCalled
-guarded-places Δ limit n k xs l g = go (leb 1 limit) refl (eqb (length xs) (Δ .arity k))
+pub guarded-from : (opens : ℕ → List ℕ → Bool) (body : ℕ → Term) (limit n k : ℕ) (xs : List ℕ) → 1 ≤ limit → Guarded (body k)
+    → reachFrom opens body limit (suc n) k xs [] [] ≡ found (placeOf [] k xs ∷ [])
+unfolding reachFrom isKnown differing isCalled
+guarded-from opens body limit n k xs l g = go (leb 1 limit) refl (opens k xs)
   where
     go : (b : Bool) → leb 1 limit ≡ b → (c : Bool)
-        → cond b (cond c (reachTerm (reachCall Δ limit n) (opened xs (Δ .body k)) [] (placeOf [] k xs ∷ [])) (found (placeOf [] k xs ∷ []))) many ≡ found (placeOf [] k xs ∷ [])
-    go true h true = guarded-quiet (reachCall Δ limit n) (opened xs (Δ .body k)) [] (placeOf [] k xs ∷ []) (guarded-ren (Δ .body k) _ g)
+        → cond b (cond c (reachTerm (reachFrom opens body limit n) (opened xs (body k)) [] (placeOf [] k xs ∷ [])) (found (placeOf [] k xs ∷ []))) many ≡ found (placeOf [] k xs ∷ [])
+    go true h true = guarded-quiet (reachFrom opens body limit n) (opened xs (body k)) [] (placeOf [] k xs ∷ []) (guarded-ren (body k) _ g)
     go true h false = refl
     go false h c = absurd (omega (arith, leb-false 1 limit h))

@@ -15,7 +15,7 @@ use Rattle.calculus.specs.Definitions.{Defs, opened}
 use Rattle.calculus.specs.Lists.{_∈_}
 use Rattle.calculus.specs.Term.{Term, nil, tau, inp, out, bout, mat, sum, par, res, call}
 use Rattle.calls.specs.Reach.{Bare, b-call, b-mat, b-sumL, b-sumR, Reached, here, through}
-use Rattle.calls.specs.ReachSearch.{Place, placeOf, sameNames, samePairs, sameCall, samePlace, isKnown, differing, Search, many, spent, found, reachTerm, reachCall, placesOf}
+use Rattle.calls.specs.ReachSearch.{Place, placeOf, sameNames, samePairs, sameCall, samePlace, isKnown, differing, Search, many, spent, found, reachTerm, reachFrom, reachCall, placesOf}
 use Rattle.calculus.proofs.Canonical.{canonical-~}
 use Rattle.calculus.proofs.Conditions.{_~_, ~-refl, ~-sym, ~-trans}
 use Rattle.calculus.proofs.PublishedSteps.{++-~}
@@ -272,7 +272,7 @@ module _ (Δ : Defs) where
 
   module _ (limit : ℕ) where
     pub call-went : (n k : ℕ) (xs : List ℕ) (C : Cond) (K K′ : List Place) → reachCall Δ limit n k xs C K ≡ found K′ → Went (call k xs) C K K′
-    unfolding reachCall
+    unfolding reachFrom
     call-went zero k xs C K K′ e = go (isKnown (placeOf C k xs) K) refl e
       where
         go : (b : Bool) → isKnown (placeOf C k xs) K ≡ b → cond b (found K) spent ≡ found K′ → Went (call k xs) C K K′

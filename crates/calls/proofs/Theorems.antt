@@ -5,6 +5,7 @@ use mathlib.Core.List.{List, [], _∷_, _++_}
 use mathlib.Core.Logic.{_↔_}
 use mathlib.Core.Path.{_≡_, refl}
 use Prim.Native.Nat.{ℕ, suc, _+_, _*_, _<_, _≤_}
+use lib.Dec.{eqb}
 use lib.ListN.{length}
 use Rattle.calculus.specs.Abstraction.{Act}
 use Rattle.calculus.specs.Cond.{Cond}
@@ -20,7 +21,7 @@ use Rattle.calls.proofs.Reaching.{Own, Sound, held}
 use Rattle.calls.proofs.ReachSearching.{places-closed, places-sound, call-given, given-call}
 use Rattle.calls.proofs.ReachLimits.{found-within, many-past}
 use Rattle.calls.proofs.ReachEnds.{never-spent}
-use Rattle.calls.proofs.ReachRenaming.{guarded-places}
+pub use Rattle.calls.proofs.ReachRenaming.{guarded-from}
 
 module _ (Δ : Defs) where
   -- A step that one of the places gives: a step that the body of its call has of its own, under the place's condition and its own.
@@ -68,4 +69,5 @@ module _ (Δ : Defs) where
   -- A call whose body is guarded, as check 11 asked before, has itself for its only place: questions accepted before have the steps they had.
   pub guarded-alone : (limit n k : ℕ) (xs : List ℕ) → 1 ≤ limit → Guarded (Δ .body k)
       → placesOf Δ limit (suc n) k xs ≡ found (placeOf [] k xs ∷ [])
-  guarded-alone limit n k xs l g = guarded-places Δ limit n k xs l g
+  unfolding placesOf
+  guarded-alone limit n k xs l g = guarded-from (λ k xs. eqb (length xs) (Δ .arity k)) (Δ .body) limit n k xs l g

@@ -81,15 +81,20 @@ module _ (opening : ℕ → List ℕ → Cond → List Place → Search) where
   reachTerm (res P) C K = found K
   reachTerm (call k xs) C K = opening k xs C K
 
--- The places that a call reaches: one that is not known is opened, while those that differ keep within the limit.
-module _ (Δ : Defs) (limit : ℕ) where
-  unfoldable pub reachCall : ℕ → ℕ → List ℕ → Cond → List Place → Search
-  reachCall zero k xs C K = cond (isKnown (placeOf C k xs) K) (found K) spent
-  reachCall (suc n) k xs C K =
+-- The places that a call reaches: one that is not known is opened, if it may be, while those that differ keep within the limit.
+module _ (opens : ℕ → List ℕ → Bool) (body : ℕ → Term) (limit : ℕ) where
+  unfoldable pub reachFrom : ℕ → ℕ → List ℕ → Cond → List Place → Search
+  reachFrom zero k xs C K = cond (isKnown (placeOf C k xs) K) (found K) spent
+  reachFrom (suc n) k xs C K =
       cond (isKnown (placeOf C k xs) K) (found K)
       (cond (leb (length (differing (placeOf C k xs ∷ K))) limit)
-      (cond (eqb (length xs) (Δ .arity k)) (reachTerm (reachCall n) (opened xs (Δ .body k)) C (placeOf C k xs ∷ K)) (found (placeOf C k xs ∷ K)))
+      (cond (opens k xs) (reachTerm (reachFrom n) (opened xs (body k)) C (placeOf C k xs ∷ K)) (found (placeOf C k xs ∷ K)))
       many)
+
+module _ (Δ : Defs) (limit : ℕ) where
+  -- by rule [Con] a call with another number of names than its definition has opens nothing
+  abbrev pub reachCall : ℕ → ℕ → List ℕ → Cond → List Place → Search
+  reachCall = reachFrom (λ k xs. eqb (length xs) (Δ .arity k)) (Δ .body) limit
 
   -- the places of a call, with n calls to open one within the other
   unfoldable pub placesOf : ℕ → ℕ → List ℕ → Search

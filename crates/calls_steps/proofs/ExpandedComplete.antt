@@ -13,11 +13,11 @@ use Rattle.calculus.proofs.Conditions.{_~_, ~-refl, ~-sym, ~-trans}
 use Rattle.calculus.proofs.PublishedSteps.{++-~}
 use Rattle.calculus.proofs.Working.{Trans}
 use Rattle.calculus.specs.Lists.{_∈_}
-use Rattle.steps.specs.Raw.{Candidate, step, matching, visibleOf, silentOf, visibleCalls, silentCalls, visible, silent}
+use Rattle.steps.specs.Raw.{Candidate, step, matching, visibleOf, silentOf, visibleCalls, silentCalls, visible, silent, beneath, ofPlaces, placesIn}
 use Rattle.steps.proofs.Calls.{EachCall, Opens}
 use Rattle.calculus.proofs.Membership.{∈-left, ∈-right, ∈-map}
 use Rattle.steps.proofs.RawComplete.{Yielded, isSilent, candidates, raw-complete}
-use Rattle.calls_steps.specs.Expanding.{beneath, ofPlaces, placesIn, visibleReached, silentReached}
+use Rattle.calls_steps.specs.Expanding.{visibleReached, silentReached}
 use Rattle.calls.specs.Reach.{Guarded, GuardedBelow, stripped}
 use Rattle.calls.specs.ReachSearch.{Place, found, placesOf}
 use Rattle.steps.proofs.CompleteOver.{calledOf, candidatesOf, complete-over}

@@ -12,11 +12,11 @@ use Rattle.calculus.proofs.Conditions.{_~_, ~-refl, ~-trans}
 use Rattle.calculus.proofs.PublishedSteps.{cons-~, ++-~}
 use Rattle.calculus.proofs.Working.{renA, cross, Trans, t-tau, t-inp, t-out, t-bout, t-mat, t-sumL, t-sumR, t-parL, t-parR, t-comL, t-comR, t-closeL, t-closeR, t-res, t-open}
 use Rattle.calculus.specs.Lists.{All}
-use Rattle.steps.specs.Raw.{Candidate, step, blocked, matching, visible, silent}
+use Rattle.steps.specs.Raw.{Candidate, step, blocked, matching, visible, silent, beneath, ofPlaces, placesIn}
 use Rattle.steps.proofs.Calls.{EachCall}
 use Rattle.calculus.proofs.Membership.{all-++, all-map}
 use Rattle.steps.proofs.RawSound.{Sound, visible-sound, silent-sound}
-use Rattle.calls_steps.specs.Expanding.{beneath, ofPlaces, placesIn, visibleReached, silentReached, visibleFull, silentFull}
+use Rattle.calls_steps.specs.Expanding.{visibleReached, silentReached, visibleFull, silentFull}
 use Rattle.calls.specs.Reach.{GuardedBelow, stripped}
 use Rattle.calls.specs.ReachSearch.{Place, found, placesOf}
 use Rattle.calls_steps.proofs.ExpandedComplete.{below-ren, beneath-step, stripped-opens, visible-stripped, silent-stripped}

@@ -1,28 +1,11 @@
 -- The candidates of a term whose calls are opened with all that they reach (document 02, request 2026-01): for each place of a call the own
 -- candidates of its body, beneath the place's condition. A body's own candidates are those with no call opened.
-use mathlib.Core.List.{List, [], _∷_, _++_, map}
+use mathlib.Core.List.{List}
 use Prim.Native.Nat.{ℕ}
-use Rattle.calculus.specs.Cond.{Cond}
-use Rattle.calculus.specs.Definitions.{Defs, opened}
+use Rattle.calculus.specs.Definitions.{Defs}
 use Rattle.calculus.specs.Term.{Term}
-use Rattle.steps.specs.Raw.{Candidate, matching, visibleOf, silentOf, visible, silent}
-use Rattle.calls.specs.ReachSearch.{Place, Search, many, spent, found, placesOf}
-
--- [Match], for each match of a condition
-unfoldable pub beneath : Cond → Candidate → Candidate
-beneath [] c = c
-beneath (p ∷ C) c = matching (p .0) (p .1) (beneath C c)
-
--- the own candidates of the bodies of all places
-unfoldable pub ofPlaces : (Term → List Candidate) → (ℕ → Term) → List Place → List Candidate
-ofPlaces own body [] = []
-ofPlaces own body (p ∷ K) = map (beneath (p .condition)) (own (opened (p .names) (body (p .definition)))) ++ ofPlaces own body K
-
--- the places found; past the limit a situation has no successors
-unfoldable pub placesIn : Search → List Place
-placesIn many = []
-placesIn spent = []
-placesIn (found K) = K
+use Rattle.steps.specs.Raw.{Candidate, ofPlaces, placesIn, visibleOf, silentOf, visible, silent}
+use Rattle.calls.specs.ReachSearch.{placesOf}
 
 module _ (Δ : Defs) (limit depth : ℕ) where
   -- [Con]: what a call gives, with all that it reaches

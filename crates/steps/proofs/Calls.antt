@@ -34,12 +34,12 @@ each-call-ren C h (res P) σ c = each-call-ren C h P (lift σ) c
 each-call-ren C h (call k xs) σ c = h k xs σ c
 
 module _ (Δ : Defs) where
-  -- The call has as many names as its definition has parameters, and its steps open at most n calls, its own counted.
+  -- The call has as many names as its definition has parameters, may be opened, and reaches itself alone.
   abbrev pub CallOpens : ℕ → ℕ → List ℕ → Type 0
   CallOpens zero k xs = ⊥
-  CallOpens (suc n) k xs = (length xs ≡ Δ .arity k) × EachCall (CallOpens n) (Δ .body k)
+  CallOpens (suc n) k xs = (length xs ≡ Δ .arity k) × EachCall (λ l ys. ⊥) (Δ .body k)
 
-  -- The term's steps open at most n calls one within the other, each with the right number of names.
+  -- So it is for every call that the term's steps open.
   abbrev pub Opens : ℕ → Term → Type 0
   Opens n = EachCall (CallOpens n)
 

@@ -3,13 +3,14 @@ use mathlib.Core.List.{List, [], _∷_, map}
 use mathlib.Core.Path.{_≡_, refl}
 use Prim.Native.Nat.{ℕ, zero, suc}
 use lib.ListN.{length}
-use Rattle.calculus.specs.Cond.{join, cls}
+use Rattle.calculus.specs.Cond.{join, cls, above, matchesTo, matchesBelow, canonical}
+use Rattle.calls.specs.ReachSearch.{sameNames, samePairs, sameCall, samePlace, isKnown, isCalled, differing, reachTerm, reachFrom}
 use Rattle.calculus.specs.Distinction.{among}
 use Rattle.calculus.specs.Free.{fn, lowerL}
 use Rattle.calculus.specs.Term.{Term, nil, tau, inp, out, bout, mat, sum, par, res, call}
 use Rattle.calculus.specs.Tidy.{restrictUsed, tidy}
 use Rattle.terms.specs.Encoding.{encode, nameByte}
-use Rattle.steps.specs.Raw.{matching, leftSteps, rightSteps, meet, communication, communications, leavesAlone, restrictedAlone, outside, restrictedAction, restricted, visibleOf, silentOf, visibleCalls, silentCalls, visible, silent}
+use Rattle.steps.specs.Raw.{matching, leftSteps, rightSteps, meet, communication, communications, leavesAlone, restrictedAlone, outside, restrictedAction, restricted, visibleOf, silentOf, visibleCalls, silentCalls, visible, silent, beneath, ofPlaces, placesIn, placesOfCall}
 use Rattle.steps.specs.Forms.{asItIs}
 use Rattle.steps.specs.Listed.{ListedStep, namesFrom, classesOf, kindOf, channelOf, objectOf, listedAs, canonStep, resultBytes, bytes}
 use Rattle.steps.specs.Listing.{order, insert, allFit, collect, Listing, unsettled, listed, limited, listing}
@@ -48,7 +49,8 @@ rows =
 
 pub exchanges : map (λ r. r .0) rows ≡ map (λ r. r .1) rows
 unfolding listing limited collect insert order allFit bytes resultBytes canonStep listedAs kindOf channelOf objectOf classesOf namesFrom visible
-    silent visibleCalls silentCalls visibleOf silentOf restricted restrictedAction outside restrictedAlone leavesAlone communications communication meet
+    silent visibleCalls silentCalls placesOfCall placesIn ofPlaces beneath reachFrom reachTerm isKnown isCalled differing samePlace sameCall samePairs
+    sameNames canonical above matchesTo matchesBelow visibleOf silentOf restricted restrictedAction outside restrictedAlone leavesAlone communications communication meet
     leftSteps rightSteps matching encode nameByte cls join
 exchanges = refl
 
@@ -85,7 +87,8 @@ more =
 
 pub turnings : map (λ r. r .0) more ≡ map (λ r. r .1) more
 unfolding listing limited collect insert order allFit bytes resultBytes canonStep listedAs kindOf channelOf objectOf classesOf namesFrom visible
-    silent visibleCalls silentCalls visibleOf silentOf restricted restrictedAction outside restrictedAlone leavesAlone communications communication meet
+    silent visibleCalls silentCalls placesOfCall placesIn ofPlaces beneath reachFrom reachTerm isKnown isCalled differing samePlace sameCall samePairs
+    sameNames canonical above matchesTo matchesBelow visibleOf silentOf restricted restrictedAction outside restrictedAlone leavesAlone communications communication meet
     leftSteps rightSteps matching encode nameByte cls join
 turnings = refl
 
@@ -112,7 +115,8 @@ unused =
 
 pub tidied-exchanges : map (λ r. r .0) unused ≡ map (λ r. r .1) unused
 unfolding listing limited collect insert order allFit bytes resultBytes canonStep listedAs kindOf channelOf objectOf classesOf namesFrom visible
-    silent visibleCalls silentCalls visibleOf silentOf restricted restrictedAction outside restrictedAlone leavesAlone communications communication meet
+    silent visibleCalls silentCalls placesOfCall placesIn ofPlaces beneath reachFrom reachTerm isKnown isCalled differing samePlace sameCall samePairs
+    sameNames canonical above matchesTo matchesBelow visibleOf silentOf restricted restrictedAction outside restrictedAlone leavesAlone communications communication meet
     leftSteps rightSteps matching encode nameByte cls join tidy restrictUsed among fn lowerL
 tidied-exchanges = refl
 
@@ -127,6 +131,7 @@ many (listed ss) = length ss
 
 pub wide : many (steps nil (silents 36)) ≡ 37
 unfolding listing limited collect insert order allFit bytes resultBytes canonStep listedAs kindOf channelOf objectOf classesOf namesFrom visible
-    silent visibleCalls silentCalls visibleOf silentOf restricted restrictedAction outside restrictedAlone leavesAlone communications communication meet
+    silent visibleCalls silentCalls placesOfCall placesIn ofPlaces beneath reachFrom reachTerm isKnown isCalled differing samePlace sameCall samePairs
+    sameNames canonical above matchesTo matchesBelow visibleOf silentOf restricted restrictedAction outside restrictedAlone leavesAlone communications communication meet
     leftSteps rightSteps matching encode nameByte cls join
 wide = refl

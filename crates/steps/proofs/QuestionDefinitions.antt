@@ -18,7 +18,7 @@ use Rattle.steps.proofs.Calls.{EachCall, CallOpens, Opens}
 use Rattle.steps.proofs.Scope.{CallsInScope, scope-calls}
 
 -- In a guarded term every call is beneath a prefix.
-guarded-each : (C : ℕ → List ℕ → Type 0) (P : Term) → guarded P ≡ true → EachCall C P
+pub guarded-each : (C : ℕ → List ℕ → Type 0) (P : Term) → guarded P ≡ true → EachCall C P
 unfolding guarded
 guarded-each C nil g = tt
 guarded-each C (tau P) g = tt

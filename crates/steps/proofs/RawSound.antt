@@ -1,5 +1,6 @@
 -- Every candidate that is not blocked is a transition of the working presentation. Assumes nothing.
 use mathlib.Core.List.{List}
+use mathlib.Core.Path.{sym, subst}
 use Prim.Native.Nat.{ℕ, suc}
 use Rattle.calculus.specs.Term.{Term, call}
 use Rattle.calculus.specs.Definitions.{Defs, opened}
@@ -7,6 +8,7 @@ use Rattle.calculus.proofs.Working.{Trans, t-tau, t-inp, t-out, t-bout, t-mat, 
 use Rattle.steps.specs.Raw.{Candidate, step, blocked, visibleOf, silentOf, visibleCalls, silentCalls, visible, silent}
 use Rattle.calculus.specs.Lists.{All}
 use Rattle.calculus.proofs.Membership.{all-imp}
+use Rattle.steps.proofs.CallCandidates.{each-guarded, visible-alone, silent-alone}
 use Rattle.steps.proofs.Calls.{CallOpens, Opens, opens-ren}
 use Rattle.steps.proofs.SoundOver.{Rules, SoundBy, visibleOf-sound, silentOf-sound}
 
@@ -37,24 +39,26 @@ module _ (Δ : Defs) where
   sound-call n k xs (step M α P′) h t = t-call (h .0) t
   sound-call n k xs blocked h t = tt
 
-  pub body-opens : (n k : ℕ) (xs : List ℕ) → CallOpens Δ (suc n) k xs → Opens Δ n (opened xs (Δ .body k))
-  body-opens n k xs c = opens-ren Δ n (Δ .body k) _ (c .1)
+  pub body-opens : (n k : ℕ) (xs : List ℕ) → CallOpens Δ (suc n) k xs → Opens Δ 0 (opened xs (Δ .body k))
+  body-opens n k xs c = opens-ren Δ 0 (Δ .body k) _ (c .1)
 
   visible-call-sound : (n k : ℕ) (xs : List ℕ) → CallOpens Δ n k xs → All (Sound (call k xs)) (visibleCalls (Δ .body) n k xs)
-  unfolding visibleCalls
+  unfolding visible
   visible-call-sound (suc n) k xs c =
-      all-imp (Sound (opened xs (Δ .body k))) (Sound (call k xs)) (visibleOf (visibleCalls (Δ .body) n) (opened xs (Δ .body k)))
+      subst (All (Sound (call k xs))) (sym (visible-alone (Δ .body) n k xs (each-guarded (Δ .body k) (c .1))))
+      (all-imp (Sound (opened xs (Δ .body k))) (Sound (call k xs)) (visibleOf (visibleCalls (Δ .body) 0) (opened xs (Δ .body k)))
       (λ d t. sound-call n k xs d c t)
-      (visibleOf-sound (Trans Δ) rules (CallOpens Δ n) (visibleCalls (Δ .body) n) (visible-call-sound n) (opened xs (Δ .body k)) (body-opens n k xs c))
+      (visibleOf-sound (Trans Δ) rules (CallOpens Δ 0) (visibleCalls (Δ .body) 0) (λ l ys o. absurd o) (opened xs (Δ .body k)) (body-opens n k xs c)))
 
   silent-call-sound : (n k : ℕ) (xs : List ℕ) → CallOpens Δ n k xs → All (Sound (call k xs)) (silentCalls (Δ .body) n k xs)
-  unfolding silentCalls
+  unfolding silent
   silent-call-sound (suc n) k xs c =
-      all-imp (Sound (opened xs (Δ .body k))) (Sound (call k xs))
-      (silentOf (visibleCalls (Δ .body) n) (silentCalls (Δ .body) n) (opened xs (Δ .body k)))
+      subst (All (Sound (call k xs))) (sym (silent-alone (Δ .body) n k xs (each-guarded (Δ .body k) (c .1))))
+      (all-imp (Sound (opened xs (Δ .body k))) (Sound (call k xs))
+      (silentOf (visibleCalls (Δ .body) 0) (silentCalls (Δ .body) 0) (opened xs (Δ .body k)))
       (λ d t. sound-call n k xs d c t)
-      (silentOf-sound (Trans Δ) rules (CallOpens Δ n) (visibleCalls (Δ .body) n) (visible-call-sound n) (silentCalls (Δ .body) n) (silent-call-sound n)
-      (opened xs (Δ .body k)) (body-opens n k xs c))
+      (silentOf-sound (Trans Δ) rules (CallOpens Δ 0) (visibleCalls (Δ .body) 0) (λ l ys o. absurd o) (silentCalls (Δ .body) 0) (λ l ys o. absurd o)
+      (opened xs (Δ .body k)) (body-opens n k xs c)))
 
   pub visible-sound : (n : ℕ) (P : Term) → Opens Δ n P → All (Sound P) (visible (Δ .body) n P)
   unfolding visible

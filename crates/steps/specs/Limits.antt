@@ -9,3 +9,11 @@ mostSteps = 256
 -- the bytes of a listed step: a class for each name, the action's three, the result behind its length
 abbrev pub stepBytes : ℕ
 stepBytes = nameCount + 4 + longestTerm
+
+-- Opening a call that reaches more than so many calls is unsettled (document 02, request 2026-01); with so many to open one within the other, of at most
+-- eight names each, the search for them always ends.
+abbrev pub mostReached : ℕ
+mostReached = 64
+
+abbrev pub deepestCalls : ℕ
+deepestCalls = 577

@@ -9,6 +9,8 @@ use Rattle.calculus.specs.Abstraction.{swap, Act, tauA, inpA, outA, boutA, weak
 use Rattle.calculus.specs.Term.{Term, nil, tau, inp, out, bout, mat, sum, par, res, call, ren, inst}
 use Rattle.calculus.specs.Cond.{Cond, mapP}
 use Rattle.calculus.specs.Definitions.{opened}
+use Rattle.calls.specs.ReachSearch.{Place, Search, many, spent, found, reachFrom}
+use Rattle.steps.specs.Limits.{mostReached, deepestCalls}
 unfoldable pub use Rattle.calculus.specs.Tidy.{outside}
 
 -- A step: its condition, its action and its result. The result of an input or a new-name output is an abstraction, in which index 0 is the
@@ -113,15 +115,35 @@ module _ (visibleCall : ℕ → List ℕ → List Candidate) where
     silentOf (res P) = map restricted (silentOf P)
     silentOf (call k xs) = silentCall k xs
 
--- [Con]: a call opens its body, while calls are left to open. One is enough where every call in a body is beneath a prefix (check 11).
+-- [Match], for each match of a condition
+unfoldable pub beneath : Cond → Candidate → Candidate
+beneath [] c = c
+beneath (p ∷ C) c = matching (p .0) (p .1) (beneath C c)
+
+-- the own candidates of the bodies of all places
+unfoldable pub ofPlaces : (Term → List Candidate) → (ℕ → Term) → List Place → List Candidate
+ofPlaces own body [] = []
+ofPlaces own body (p ∷ K) = map (beneath (p .condition)) (own (opened (p .names) (body (p .definition)))) ++ ofPlaces own body K
+
+-- the places found; past the limit a situation has no successors
+unfoldable pub placesIn : Search → List Place
+placesIn many = []
+placesIn spent = []
+placesIn (found K) = K
+
+-- [Con]: a call, while one is left to open, is opened with all that it reaches through unprefixed calls (document 02, request 2026-01): for each place
+-- the own candidates of its body, those with no call opened, beneath the place's condition.
 module _ (body : ℕ → Term) where
+  unfoldable pub placesOfCall : ℕ → List ℕ → List Place
+  placesOfCall k xs = placesIn (reachFrom (λ l ys. true) body mostReached deepestCalls k xs [] [])
+
   unfoldable pub visibleCalls : ℕ → ℕ → List ℕ → List Candidate
   visibleCalls zero k xs = []
-  visibleCalls (suc n) k xs = visibleOf (visibleCalls n) (opened xs (body k))
+  visibleCalls (suc n) k xs = ofPlaces (visibleOf (λ l ys. [])) body (placesOfCall k xs)
 
   unfoldable pub silentCalls : ℕ → ℕ → List ℕ → List Candidate
   silentCalls zero k xs = []
-  silentCalls (suc n) k xs = silentOf (visibleCalls n) (silentCalls n) (opened xs (body k))
+  silentCalls (suc n) k xs = ofPlaces (silentOf (λ l ys. []) (λ l ys. [])) body (placesOfCall k xs)
 
   unfoldable pub visible : ℕ → Term → List Candidate
   visible n = visibleOf (visibleCalls n)

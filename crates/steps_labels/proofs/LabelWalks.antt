@@ -28,8 +28,8 @@ use Rattle.steps_conditions.specs.declared.action.Label.{Label}
 use Rattle.steps_tallies.specs.declared.bodies.Opening.{Opening}
 use Rattle.steps_labels.proofs.ArgumentSlots.{slots-lift, slot-read, slots-call}
 use Rattle.steps_passing.proofs.CalledPasses.{params, at-call}
-use Rattle.steps_tallies.proofs.CallLaws.{body-scope}
-use Rattle.steps_tallies.proofs.CandidateForms.{candidates-mat, candidates-res, candidates-call, candidates-no-call, meetings, tag, tag-at, only-mat, only-res, only-two, only-prefix}
+use Rattle.steps_tallies.proofs.CallLaws.{body-scope, opened-candidates}
+use Rattle.steps_tallies.proofs.CandidateForms.{candidates-mat, candidates-res, candidates-no-call, meetings, tag, tag-at, only-mat, only-res, only-two, only-prefix}
 use Rattle.steps_tallies.proofs.FrontLaws.{stands, behind}
 use Rattle.steps_labels.proofs.LabelNumbers.{left-label, right-label, label-met}
 use Rattle.steps_tallies.proofs.Numbering.{nth-matching, nth-restricted, length-communications}
@@ -327,7 +327,7 @@ module _ (question s : List ℕ) (at i : ℕ) (t : Bool) (args : List ℕ) (inne
         let n = o .arity in
         let c : calls ≡ suc (calls - 1) = omega arith in
         let opens : candidates t body calls (call (o .definition) (map σ xs)) ≡ candidates t body (calls - 1) (ren (params σ xs) (body (o .definition))) =
-        ap (λ (c : ℕ). candidates t body c (call (o .definition) (map σ xs))) c ∙ candidates-call body t (calls - 1) (o .definition) (map σ xs) in
+        opened-candidates question q ok (o .definition) calls (calls - 1) once c t (map σ xs) in
         subst (λ (l : List Candidate). i < length l → Labels depth (getD l i blocked) r) (sym opens)
         (X .is q 0 n (params σ xs) (own-body calls (params σ xs) once) (body (o .definition)) [] ok (omega arith) (slots-call free D args inner depth σ few has s (at + 2) xs rest n given names st m G)
         (subst (λ (n : ℕ). InScope 0 (q .arities) n (body (o .definition))) (sym a) (body-scope question q ok (o .definition)))

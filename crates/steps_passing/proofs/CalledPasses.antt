@@ -24,10 +24,10 @@ use Rattle.steps_passing.specs.Passing.{Acts, PassIs, nothingSent, retur
 use Rattle.steps.specs.Raw.{Candidate, step, blocked}
 use Rattle.steps_conditions.specs.Slots.{slotOf}
 use Rattle.steps_passing.specs.declared.pass.Passed.{Passed}
-use Rattle.steps_tallies.proofs.CandidateForms.{candidates-call, candidates-no-call, tag-at, only-call}
+use Rattle.steps_tallies.proofs.CandidateForms.{candidates-no-call, tag-at, only-call}
 use Rattle.steps_conditions.proofs.NameSlots.{slot-of-byte, slot-bound, turn-small}
 use Rattle.steps_tallies.proofs.Premises.{never}
-use Rattle.steps_tallies.proofs.CallLaws.{body-scope}
+use Rattle.steps_tallies.proofs.CallLaws.{body-scope, opened-candidates}
 
 -- What the parameters of a body stand for: the last is index 0.
 abbrev pub params : (ℕ → ℕ) → List ℕ → ℕ → ℕ
@@ -136,7 +136,7 @@ module _ (question s : List ℕ) (at D calls : ℕ) (t : Bool) (i : ℕ) (g : 8 
           (λ xs m a l names st w.
           let body = bodyOf (q .bodies) in
           let e : candidates t body calls (call k (map σ xs)) ≡ candidates t body c (ren (params σ xs) (body k)) =
-          ap (λ (c : ℕ). candidates t body c (call k (map σ xs))) z ∙ candidates-call body t c k (map σ xs) in
+          opened-candidates question q ok k calls c once z t (map σ xs) in
           does-called free D s (at + 2) xs rest few names st σ n m α (r .kind) (r .object)
           (R .does q 0 (params σ xs) (λ h. absurd (omega arith)) (body k) [] ok (omega arith) (subst (λ (n : ℕ). InScope 0 (q .arities) n (body k)) (sym a) (body-scope question q ok k))
           (B .is q ok l ∙ ap (λ (n : ℕ). encode n (body k)) (sym a) ∙ sym (append-nil (encode n (body k))))

@@ -44,10 +44,10 @@ plain-term : (body : ℕ → Term) → ((k : ℕ) → Unrestricted (body k)) →
 unfolding candidates
 plain-term body bodies C u true i M α A e =
     let cs : List Candidate = silent body 1 C in
-    subst Plain e (all-at Plain cs (all-split Plain (visible body 1 C) cs (plain-candidates body bodies 1 C u) .1) i (within cs i M α A e))
+    subst Plain e (all-at Plain cs (all-split Plain (visible body 1 C) cs (plain-candidates body bodies C u) .1) i (within cs i M α A e))
 plain-term body bodies C u false i M α A e =
     let cs : List Candidate = visible body 1 C in
-    subst Plain e (all-at Plain cs (all-split Plain cs (silent body 1 C) (plain-candidates body bodies 1 C u) .0) i (within cs i M α A e))
+    subst Plain e (all-at Plain cs (all-split Plain cs (silent body 1 C) (plain-candidates body bodies C u) .0) i (within cs i M α A e))
 
 module _ (question part : List ℕ) (U : PartUnrestricted question part) (x : ℕ) (q : Question) (P : Term) (l : Lists question part x q P) where
   plain-part : Unrestricted P

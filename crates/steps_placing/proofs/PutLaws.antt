@@ -130,7 +130,7 @@ module _ (question part : List ℕ) (restricted : Bool) (U : restricted ≡ fals
   classed-silent quiet own owns w p = record {
     is = λ q P l M α A e classes acts.
         let e₀ : getD (silent (bodyOf (q .bodies)) 1 P) i blocked ≡ step M α A = subst (λ (b : Bool). getD (candidates b (bodyOf (q .bodies)) 1 P) i blocked ≡ step M α A) quiet e in
-        let t : α ≡ tauA = silent-action (bodyOf (q .bodies)) 1 P i M α A e₀ in
+        let t : α ≡ tauA = silent-action (bodyOf (q .bodies)) 1 (omega arith) P i M α A e₀ in
         let e₁ = e ∙ ap (λ (α : Act). step M α A) t in
         let w₁ : Written out 0 (encode 0 A) n written =
         subst (λ (B : Term). Written out 0 (encode 0 B) n written) (ren-id A)

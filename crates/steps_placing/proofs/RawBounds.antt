@@ -18,6 +18,7 @@ use Rattle.terms_bytes.proofs.Heights.{height-ren}
 use Rattle.terms_tidying.proofs.TidyCounts.{restrictions, restrictions-ren}
 use Rattle.calculus.specs.Lists.{All}
 use Rattle.steps.specs.Raw.{Candidate, step, blocked, matching, leftSteps, rightSteps, meet, communication, communications, restrictedAlone, outside, restrictedAction, restricted, visibleOf, silentOf, visibleCalls, silentCalls, visible, silent}
+use Rattle.steps.proofs.CallCandidates.{visible-each, silent-each}
 use Rattle.calculus.proofs.Membership.{all-++, all-imp, all-map}
 
 -- The bytes of a term, whatever stands around it.
@@ -239,24 +240,28 @@ module _ (body : ℕ → Term) (h : ℕ) (short : (k : ℕ) → size (body k) �
   call-size k xs = omega arith
 
   visible-call : (k : ℕ) (xs : List ℕ) → All (Visibly 110 h (call k xs)) (visibleCalls body 1 k xs)
-  unfolding visibleCalls silentCalls height restrictions
-  visible-call k xs =
-      let B : Term = opened xs (body k) in
-      let σ : ℕ → ℕ = at (reverse xs) in
+  unfolding visible visibleCalls silentCalls height restrictions
+  visible-call k xs = visible-each body (Visibly 110 h (call k xs)) (λ a b. within-match a b (size (call k xs) + 110) (max 0 (0 + h)))
+      (λ l ys.
+      let B : Term = opened ys (body l) in
+      let σ : ℕ → ℕ = at (reverse ys) in
       all-imp (Visibly 0 0 B) (Visibly 110 h (call k xs)) (visibleOf (visibleCalls body 0) B)
       (within-more (size B + 0) (size (call k xs) + 110) (max (height B) (restrictions B + 0)) (max 0 (0 + h))
-      (omega (arith, size-ren σ (body k), short k, call-size k xs)) (omega (arith, height-ren σ (body k), restrictions-ren σ (body k), low k, few k)))
-      (visibly 0 0 (visibleCalls body 0) (silentCalls body 0) (λ k xs. tt) (λ k xs. tt) B)
+      (omega (arith, size-ren σ (body l), short l, call-size k xs)) (omega (arith, height-ren σ (body l), restrictions-ren σ (body l), low l, few l)))
+      (visibly 0 0 (visibleCalls body 0) (silentCalls body 0) (λ k xs. tt) (λ k xs. tt) B))
+      1 k xs (omega arith)
 
   silent-call : (k : ℕ) (xs : List ℕ) → All (Silently 110 h (call k xs)) (silentCalls body 1 k xs)
-  unfolding visibleCalls silentCalls height restrictions
-  silent-call k xs =
-      let B : Term = opened xs (body k) in
-      let σ : ℕ → ℕ = at (reverse xs) in
+  unfolding silent visibleCalls silentCalls height restrictions
+  silent-call k xs = silent-each body (Silently 110 h (call k xs)) (λ a b. within-match a b (size (call k xs) + 221) (1 + max 0 (0 + h)))
+      (λ l ys.
+      let B : Term = opened ys (body l) in
+      let σ : ℕ → ℕ = at (reverse ys) in
       all-imp (Silently 0 0 B) (Silently 110 h (call k xs)) (silentOf (visibleCalls body 0) (silentCalls body 0) B)
       (within-more (size B + 1) (size (call k xs) + 221) (1 + max (height B) (restrictions B + 0)) (1 + max 0 (0 + h))
-      (omega (arith, size-ren σ (body k), short k, call-size k xs)) (omega (arith, height-ren σ (body k), restrictions-ren σ (body k), low k, few k)))
-      (silently 0 0 (visibleCalls body 0) (silentCalls body 0) (λ k xs. tt) (λ k xs. tt) B)
+      (omega (arith, size-ren σ (body l), short l, call-size k xs)) (omega (arith, height-ren σ (body l), restrictions-ren σ (body l), low l, few l)))
+      (silently 0 0 (visibleCalls body 0) (silentCalls body 0) (λ k xs. tt) (λ k xs. tt) B))
+      1 k xs (omega arith)
 
   pub visible-within : (P : Term) → All (Visibly 110 h P) (visible body 1 P)
   unfolding visible

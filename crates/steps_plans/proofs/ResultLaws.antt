@@ -36,10 +36,10 @@ use Rattle.steps_passing.specs.declared.pass.Passed.{Passed}
 use Rattle.steps_plans.specs.declared.plan.Plan.{Plan}
 use Rattle.steps_plans.specs.declared.plan.Task.{Task}
 use Rattle.steps_passing.proofs.CalledPasses.{params, names-call, at-call}
-use Rattle.steps_tallies.proofs.CallLaws.{body-scope}
+use Rattle.steps_tallies.proofs.CallLaws.{body-scope, opened-candidates}
 use Rattle.steps_tallies.proofs.OwnNames.{own-part, own-under, own-body}
 use Rattle.steps_plans.proofs.AskLaws.{chosen-is, asks-still, ask-open, res-part, ask-res}
-use Rattle.steps_tallies.proofs.CandidateForms.{candidates-mat, candidates-res, candidates-call, candidates-no-call, tag-at, only-mat, only-par, only-res}
+use Rattle.steps_tallies.proofs.CandidateForms.{candidates-mat, candidates-res, candidates-no-call, tag-at, only-mat, only-par, only-res}
 use Rattle.steps_tallies.proofs.FrontLaws.{stands}
 use Rattle.steps_conditions.proofs.NameSlots.{names-represent, names-kept}
 use Rattle.steps_tallies.proofs.Numbering.{nth-matching, nth-restricted}
@@ -407,7 +407,7 @@ module _ (question s : List ℕ) (at D : ℕ) (names : List ℕ) (task : Task) (
           let body = bodyOf (q .bodies) in
           let R = subst (λ (t : Task). WriteIs question bytes 0 (o .arity) given t out put r out′) e R₀ in
           let e : candidates (task .silently) body (task .calls) (call (o .definition) (map σ xs)) ≡ candidates (task .silently) body c (ren (params σ xs) (body (o .definition))) =
-          ap (λ (c : ℕ). candidates (task .silently) body c (call (o .definition) (map σ xs))) z ∙ candidates-call body (task .silently) c (o .definition) (map σ xs) in
+          opened-candidates question q ok (o .definition) (task .calls) c once z (task .silently) (map σ xs) in
           let f = picked body free σ (call (o .definition) xs) bs top K _ e in
           let tc : task .calls - 1 ≡ c = omega arith in
           R .is low q 0 (params σ xs) (body (o .definition)) [] bs top ok (omega arith)

@@ -2,7 +2,7 @@
 use mathlib.Core.Bool.{Bool, true, false, cond}
 use mathlib.Core.List.{List, [], _∷_, _++_, map}
 use mathlib.Core.Path.{_≡_, refl, sym, subst}
-use Prim.Native.Nat.{ℕ, zero, suc}
+use Prim.Native.Nat.{ℕ, zero, suc, _≤_}
 use native.Mathlib.Omega.{arith}
 use lib.ListN.{getD}
 use Rattle.calculus.specs.Abstraction.{Act, tauA}
@@ -14,6 +14,7 @@ use Rattle.calculus.specs.Lists.{All}
 use Rattle.steps_tallies.specs.Candidates.{candidates}
 use Rattle.steps_passing.specs.Passing.{Acts, PassIs, nothingSent}
 use Rattle.steps.specs.Raw.{Candidate, step, blocked, matching, leftSteps, rightSteps, communication, communications, restrictedAlone, outside, restrictedAction, restricted, visibleOf, silentOf, visibleCalls, silentCalls, silent}
+use Rattle.steps.proofs.CallCandidates.{silent-each}
 use Rattle.calculus.proofs.Membership.{all-++, all-map}
 use Rattle.steps_tallies.proofs.Premises.{meeting-of}
 
@@ -80,10 +81,9 @@ module _ (vs ss : ℕ → List ℕ → List Candidate) (s : (k : ℕ) (xs : List
   silents (res P) = all-map restricted Silent Silent (silentOf vs ss P) silent-restricted (silents P)
   silents (call k xs) = s k xs
 
-silent-calls : (body : ℕ → Term) (n k : ℕ) (xs : List ℕ) → All Silent (silentCalls body n k xs)
-unfolding silentCalls
-silent-calls body zero k xs = tt
-silent-calls body (suc n) k xs = silents (visibleCalls body n) (silentCalls body n) (silent-calls body n) (opened xs (body k))
+silent-calls : (body : ℕ → Term) (n k : ℕ) (xs : List ℕ) → n ≤ 1 → All Silent (silentCalls body n k xs)
+unfolding silent silentCalls
+silent-calls body = silent-each body Silent silent-matching (λ k xs. silents (visibleCalls body 0) (silentCalls body 0) (λ k xs. tt) (opened xs (body k)))
 
 nth-silent : (cs : List Candidate) → All Silent cs → (i : ℕ) → Silent (getD cs i blocked)
 nth-silent [] a i = tt
@@ -94,17 +94,17 @@ nothing : (free D : ℕ) (σ : ℕ → ℕ) (α : Act) → α ≡ tauA → Acts 
 unfolding Acts
 nothing free D σ α z = subst (λ (α : Act). Acts free D σ α 0 0) (sym z) refl
 
-pub silent-action : (body : ℕ → Term) (calls : ℕ) (P : Term) (i : ℕ) (M : Cond) (α : Act) (A : Term) → getD (silent body calls P) i blocked ≡ step M α A → α ≡ tauA
+pub silent-action : (body : ℕ → Term) (calls : ℕ) → calls ≤ 1 → (P : Term) (i : ℕ) (M : Cond) (α : Act) (A : Term) → getD (silent body calls P) i blocked ≡ step M α A → α ≡ tauA
 unfolding silent
-silent-action body calls P i M α A e =
+silent-action body calls once P i M α A e =
     let z : Silent (step M α A) = subst Silent e
-    (nth-silent (silentOf (visibleCalls body calls) (silentCalls body calls) P) (silents (visibleCalls body calls) (silentCalls body calls) (silent-calls body calls) P) i) in
+    (nth-silent (silentOf (visibleCalls body calls) (silentCalls body calls) P) (silents (visibleCalls body calls) (silentCalls body calls) (λ k xs. silent-calls body calls k xs once) P) i) in
     z
 
 -- So it sends no name.
-pub pass-silent : (question s : List ℕ) (at D calls i : ℕ) → PassIs question s at D calls true i nothingSent
+pub pass-silent : (question s : List ℕ) (at D calls i : ℕ) → calls ≤ 1 → PassIs question s at D calls true i nothingSent
 unfolding candidates
-pass-silent question s at D calls i = record {
+pass-silent question s at D calls i once = record {
   slot = omega arith;
-  does = λ q free σ own P rest ok few scope st M α A e. nothing free D σ α (silent-action (bodyOf (q .bodies)) calls (ren σ P) i M α A e);
+  does = λ q free σ own P rest ok few scope st M α A e. nothing free D σ α (silent-action (bodyOf (q .bodies)) calls once (ren σ P) i M α A e);
 }

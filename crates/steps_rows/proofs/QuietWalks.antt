@@ -20,8 +20,8 @@ use Rattle.steps.specs.Raw.{Candidate, step, blocked, restrictedAlone, restrict
 use Rattle.steps_tallies.specs.Tally.{silentAt, TallyIs}
 use Rattle.steps_tallies.specs.declared.bodies.Opening.{Opening}
 use Rattle.steps_passing.proofs.CalledPasses.{params, at-call}
-use Rattle.steps_tallies.proofs.CallLaws.{body-scope}
-use Rattle.steps_tallies.proofs.CandidateForms.{candidates-call, tag-at, only-sum, only-res, only-prefix}
+use Rattle.steps_tallies.proofs.CallLaws.{body-scope, opened-candidates}
+use Rattle.steps_tallies.proofs.CandidateForms.{tag-at, only-sum, only-res, only-prefix}
 use Rattle.steps_tallies.proofs.OwnNames.{own-under, own-body}
 use Rattle.steps_tallies.proofs.FrontLaws.{stands, behind}
 use Rattle.steps_tallies.proofs.Numbering.{nth-restricted}
@@ -135,7 +135,7 @@ module _ (question s : List ℕ) (at calls : ℕ) where
             let more : calls ≡ suc (calls - 1) = omega arith in
             at-call question s at D calls true 0 g k m (O .definition) (O .arity) (Shows q σ) q free P rest ok scope st
             (λ xs e a j names st.
-            subst Unconditional (sym (ap (λ (c : ℕ). silent body c (call k (map σ xs))) more ∙ candidates-call body true (calls - 1) k (map σ xs)))
+            subst Unconditional (sym (opened-candidates question q ok k calls (calls - 1) once more true (map σ xs)))
             (X .is q 0 m (params σ xs) (own-body calls (params σ xs) once) (body k) [] t ok
             (subst (λ (n : ℕ). InScope 0 (q .arities) n (body k)) (sym a) (body-scope question q ok k))
             (B .is q ok j ∙ ap (λ (n : ℕ). encode n (body k)) (sym a) ∙ sym (append-nil (encode m (body k))))));

@@ -31,8 +31,8 @@ use Rattle.steps_conditions.specs.declared.action.Action.the-variants.{Output}
 use Rattle.steps_tallies.specs.declared.bodies.Opening.{Opening}
 use Rattle.steps_labels.proofs.ArgumentSlots.{slots-lift, slot-read, slots-call}
 use Rattle.steps_passing.proofs.CalledPasses.{params, at-call}
-use Rattle.steps_tallies.proofs.CallLaws.{body-scope}
-use Rattle.steps_tallies.proofs.CandidateForms.{candidates-call, tag, tag-at, only-mat, only-res, only-two, only-prefix}
+use Rattle.steps_tallies.proofs.CallLaws.{body-scope, opened-candidates}
+use Rattle.steps_tallies.proofs.CandidateForms.{tag, tag-at, only-mat, only-res, only-two, only-prefix}
 use Rattle.steps_tallies.proofs.OwnNames.{own-under, own-body}
 use Rattle.steps_tallies.proofs.FrontLaws.{stands, behind}
 use Rattle.steps_conditions.proofs.SlotLaws.{slot-below}
@@ -469,7 +469,7 @@ module _ (question s : List ℕ) (root at : ℕ) (asked : Bool) (args : List ℕ
           let more : calls ≡ suc (calls - 1) = omega arith in
           at-call question s at D calls false 0 g k m (O .definition) (O .arity) (Shows before q σ r rows′) q free P rest ok scope st
           (λ xs e a j names st.
-          subst (λ (l : List Candidate). n + length l ≤ mostRows → Has before r rows′ l) (sym (ap (λ (c : ℕ). visible body c (call k (map σ xs))) more ∙ candidates-call body false (calls - 1) k (map σ xs)))
+          subst (λ (l : List Candidate). n + length l ≤ mostRows → Has before r rows′ l) (sym (opened-candidates question q ok k calls (calls - 1) once more false (map σ xs)))
           (λ h.
           let w = X .is q 0 m (params σ xs) (own-body calls (params σ xs) once) (body k) [] [] ok (omega arith) (slots-call free D args inner depth σ few has s (at + 2) xs rest m given names st e G)
           (subst (λ (n : ℕ). InScope 0 (q .arities) n (body k)) (sym a) (body-scope question q ok k))

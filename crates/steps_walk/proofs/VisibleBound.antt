@@ -1,10 +1,11 @@
 -- How many visible candidates a part may have, so that each has a row. Assumes nothing.
-use mathlib.Core.Path.{_≡_, ap, subst}
+use mathlib.Core.Path.{_≡_, refl, ap, subst}
+use mathlib.Core.Bool.{false}
 use mathlib.Core.List.{List, map, reverse}
 use Prim.Native.Nat.{ℕ, _+_, _*_, _≤_}
 use native.Mathlib.Omega.{arith}
 use lib.ListN.{length, getD, length-append, length-map}
-use Rattle.calculus.specs.Definitions.{at}
+use Rattle.calculus.specs.Definitions.{at, opened}
 use Rattle.calculus.specs.Term.{Term, nil, tau, inp, out, bout, mat, sum, par, res, call, lift, ren}
 use Rattle.terms.specs.Encoding.{encode}
 use Rattle.terms.specs.Question.{Question}
@@ -12,7 +13,8 @@ use Rattle.terms.proofs.ReadEncoded.{encode-some}
 use Rattle.calculus.proofs.Renaming.{ren-id}
 use Rattle.terms.specs.Question.{bodyOf}
 use Rattle.steps.specs.Raw.{matching, leftSteps, rightSteps, restricted, visible, visibleOf, visibleCalls}
-use Rattle.steps_tallies.proofs.CallLaws.{body-size}
+use Rattle.steps_tallies.specs.Candidates.{candidates}
+use Rattle.steps_tallies.proofs.CallLaws.{body-size, opened-candidates}
 use Rattle.steps_splicing.specs.ListedParts.{Lists}
 use Rattle.steps_rows.specs.Rows.{mostRows}
 
@@ -60,8 +62,10 @@ module _ (question part : List ℕ) (x : ℕ) (q : Question) (P : Term) (L : Lis
   body = bodyOf (q .bodies)
 
   opens : (k : ℕ) (xs : List ℕ) (b : ℕ) → 2 ≤ b → 3 * length (visible body 1 (call k xs)) ≤ 28 * (b + 1)
-  unfolding visible visibleOf visibleCalls
-  opens k xs b h = omega (arith, body-size question q (L .accepted) k, body-visible body (getD (q .arities) k 0) (at (reverse xs)) (body k))
+  unfolding candidates
+  opens k xs b h =
+      let own : length (visible body 1 (call k xs)) ≡ length (visible body 0 (opened xs (body k))) = ap length (opened-candidates question q (L .accepted) k 1 0 (omega arith) refl false xs) in
+      omega (arith, body-size question q (L .accepted) k, body-visible body (getD (q .arities) k 0) (at (reverse xs)) (body k))
 
   pub visible-rows : length (visible body 1 P) ≤ mostRows
   visible-rows =

@@ -17,7 +17,7 @@ returns c =
       passed = nothingSent;
       does = subst (λ (b : Bool). PassIs (v .question .now) (v .src .now) (v .at + 1) (v .binders + 1) (v .task .calls) b
           (v .task .number) nothingSent) (sym (c .if1 .taken)) (pass-silent (v .question .now) (v .src .now) (v .at + 1) (v .binders + 1) (v .task .calls)
-          (v .task .number));
+          (v .task .number) (c5 .pre .3));
       is = refl;
     }
 
