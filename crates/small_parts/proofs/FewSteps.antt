@@ -13,6 +13,7 @@ use Rattle.calculus.specs.Term.{Term, nil, tau, inp, out, bout, mat, sum, par, 
 use Rattle.calculus.specs.Cond.{Cond, mapP, cls}
 use Rattle.terms.specs.Limits.{nameCount, longestTerm}
 use Rattle.terms.specs.Encoding.{encode}
+use Rattle.terms.specs.Grammar.{guarded}
 use Rattle.terms.specs.Question.{bodyOf}
 use Rattle.steps.specs.Forms.{resultForm}
 use Rattle.calculus.specs.Lists.{All}
@@ -20,6 +21,7 @@ use Rattle.steps.specs.Raw.{Candidate, step, blocked, matching, leftSteps, righ
 use Rattle.steps.specs.Limits.{mostSteps}
 use Rattle.steps.specs.Listed.{ListedStep, listedAs, canonStep, resultBytes, bytes}
 use Rattle.steps.specs.Listing.{listed, order, insert, allFit, collect, limited, listing}
+use Rattle.steps.proofs.CallCandidates.{visible-opened, silent-opened}
 use Rattle.steps.proofs.FormLaws.{Form, result-form}
 use Rattle.calculus.proofs.Membership.{all-++, all-imp, all-map}
 use Rattle.field.specs.Setting.{settingOf, stepsIn}
@@ -268,12 +270,12 @@ fit n longest (s ∷ ss) l h =
     rw (le-leb (length (encode 0 (s .result))) longest (omega (arith, size-encode 0 (s .result), h .0)), fit n longest ss l (h .1)) refl
 
 no-visible : (k : ℕ) (xs : List ℕ) → visibleCalls (λ k. getD [] k nil) 1 k xs ≡ []
-unfolding visibleCalls visibleOf
-no-visible k xs = refl
+unfolding visible visibleOf guarded
+no-visible k xs = visible-opened (λ k. getD [] k nil) k xs refl
 
 no-silent : (k : ℕ) (xs : List ℕ) → silentCalls (λ k. getD [] k nil) 1 k xs ≡ []
-unfolding silentCalls silentOf
-no-silent k xs = refl
+unfolding silent silentOf guarded
+no-silent k xs = silent-opened (λ k. getD [] k nil) k xs refl
 
 -- A short part's list.
 pub record FewSteps (x : ℕ) (P : Term) : Type 0 where

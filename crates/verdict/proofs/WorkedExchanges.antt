@@ -3,7 +3,8 @@
 use mathlib.Core.Path.{_≡_, refl}
 use mathlib.Core.List.{List, [], _∷_, _++_}
 use Prim.Native.Nat.{ℕ, _*_}
-use Rattle.calculus.specs.Cond.{Pairs, join, cls}
+use Rattle.calculus.specs.Cond.{Pairs, join, cls, above, matchesTo, matchesBelow, canonical}
+use Rattle.calls.specs.ReachSearch.{sameNames, samePairs, sameCall, samePlace, isKnown, isCalled, differing, reachTerm, reachFrom}
 use Rattle.calculus.specs.Distinction.{among, keep}
 use Rattle.calculus.specs.Free.{lowerL, fn}
 use Rattle.calculus.specs.Term.{Term, nil, tau, inp, out, bout, mat, sum, par, res, call, put}
@@ -19,7 +20,7 @@ use Rattle.terms.specs.Edition.{versionByte}
 use Rattle.terms.specs.Reading.{byte, readName, readNames, tagOf, readTerm, readWhole, numbered, readCount}
 use Rattle.terms.specs.Question.{bodyOf}
 use Rattle.steps.specs.Forms.{resultForm}
-use Rattle.steps.specs.Raw.{matching, leftSteps, rightSteps, meet, communication, communications, leavesAlone, restrictedAlone, outside, restrictedAction, restricted, visibleOf, silentOf, visibleCalls, silentCalls, visible, silent}
+use Rattle.steps.specs.Raw.{matching, leftSteps, rightSteps, meet, communication, communications, leavesAlone, restrictedAlone, outside, restrictedAction, restricted, visibleOf, silentOf, visibleCalls, silentCalls, visible, silent, beneath, ofPlaces, placesIn, placesOfCall}
 use Rattle.steps.specs.Listed.{namesFrom, classesOf, classIn, implies, ownClasses, kindOf, channelOf, objectOf, listedAs, canonStep, resultBytes, bytes}
 use Rattle.steps.specs.Listing.{order, insert, allFit, collect, limited, listing}
 use Rattle.field.specs.Setting.{settingOf, stepsIn}
@@ -107,7 +108,8 @@ unfolding judged expected exchanges turnings named-exchanges ask askWith judgeBy
     updatedBy extrudedBy answers implies permitted select freeFrom freeIn pairsOf situation missing newName sameBytes sameSituation settingOf stepsIn
     holdsApart among keep fn lowerL bodyOf listing limited collect insert order allFit bytes resultBytes resultForm tidy restrictUsed canonStep listedAs kindOf channelOf objectOf
     classesOf classIn namesFrom visible silent visibleCalls silentCalls visibleOf silentOf restricted restrictedAction outside restrictedAlone
-    leavesAlone communications communication meet leftSteps rightSteps matching cls join questionWith editionOf checkWith versionByte numbered readCount
+    leavesAlone communications communication meet leftSteps rightSteps matching placesOfCall placesIn ofPlaces beneath reachFrom reachTerm isKnown
+    isCalled differing samePlace sameCall samePairs sameNames canonical above matchesTo matchesBelow cls join questionWith editionOf checkWith versionByte numbered readCount
 computed = (refl, refl, refl)
 
 pub worked-exchanges : judged openly (exchanges ++ turnings) ≡ expected (exchanges ++ turnings)
