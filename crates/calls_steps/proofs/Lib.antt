@@ -1,4 +1,5 @@
 pub mod Examples
 pub mod ExpandedComplete
 pub mod ExpandedSound
+pub mod LimitExact
 pub mod Unchanged

@@ -41,6 +41,7 @@ use Rattle.field.specs.Field.{
   PartPast,
   too-many,
   too-long,
+  too-many-calls,
   no-name,
   Past,
   InField,
@@ -278,6 +279,7 @@ module _ (Δ : Defs) (S : Setting) (extra : ℕ) (arities : List ℕ) (setting :
   unfolding move-from
   part-from x P below l (too-many h) = too-many (many-narrow (S .form) Δ (S .names) extra x P below (S .most) h)
   part-from x P below l (too-long h) = too-long (long-narrow (S .form) Δ (S .names) extra x P below (S .longest) h)
+  part-from x P below l (too-many-calls h) = too-many-calls h
   part-from x P below l (no-name e m y i) = no-name (omega (arith, e)) (move-from m) y i
 
   past-from : (s : Situation) → Good s → Past Δ T s → Past Δ S s

@@ -17,9 +17,10 @@ use Rattle.steps.specs.Derived.{Derived}
 use Rattle.steps.specs.Forms.{asItIs}
 use Rattle.steps.specs.Listed.{ListedStep, listedAs, resultBytes}
 use Rattle.calculus.specs.Lists.{All, Distinct}
-use Rattle.steps.proofs.FormLaws.{Form, SoMoves, free-form}
+use Rattle.steps.specs.Limits.{mostReached}
+use Rattle.steps.proofs.FormLaws.{Form, SoMoves, free-form, past-formed}
 use Rattle.calculus.proofs.Membership.{∈-map, ∈-all, all-∈, distinct-length}
-use Rattle.field.specs.Field.{fresh, Move, Successor, first-moves, second-moves, both-do, both-receive, PartPast, too-many, too-long, no-name, Past, InField, at-start, successor, PastLimit, FieldSize}
+use Rattle.field.specs.Field.{fresh, Move, Successor, first-moves, second-moves, both-do, both-receive, PartPast, too-many, too-long, too-many-calls, no-name, Past, InField, at-start, successor, PastLimit, FieldSize}
 use Rattle.field.specs.Setting.{Setting}
 use Rattle.field.specs.Situation.{Situation, situation}
 use Rattle.field.proofs.FormedParts.{new-formed, formSituation, situation-formed, update-formed, formed-update}
@@ -178,6 +179,7 @@ module _ {form : Term → Term} (formed : Form form) (Δ : Defs) (S : Setting) w
   part-back x y e P (too-long h) =
       let (t, d, k) = derived-back (S .names) x y e P (h .step) (h .derived) in
       too-long (record { step = t; derived = d; long = longer (S .longest) t (h .step) k (h .long) })
+  part-back x y e P (too-many-calls h) = too-many-calls (past-formed formed Δ mostReached P h)
   part-back x y e P (no-name f m z i) = no-name (sym e ∙ f) (move-back x y e P m) z i
 
   past-back : (s : Situation) → Past Δ now (formOf s) → Past Δ before s

@@ -29,6 +29,8 @@ use Rattle.terms.proofs.ScopeLaws.{free-below}
 use Rattle.calculus.specs.Lists.{_∈_}
 use Rattle.calculus.proofs.Membership.{∈-left, ∈-right}
 use Rattle.steps.proofs.Scope.{scope-calls, in-scope, calls-ren}
+use Rattle.calls.specs.ReachLimit.{PastCalls}
+use Rattle.steps.specs.Limits.{mostReached}
 use Rattle.steps.specs.Derived.{Derived, TooMany, TooLong, ListsExactly}
 use Rattle.steps.specs.Listed.{ListedStep, kindOf, objectOf, listedAs}
 use Rattle.steps.specs.Listing.{Listing, unsettled, listed, listing}
@@ -38,7 +40,7 @@ use Rattle.field.specs.Setting.{Setting, stepsIn}
 use Rattle.field.specs.Situation.{Situation, freeIn}
 use Rattle.field.specs.Successors.{bindsName, someBinds, received, moves, pastLimit, leads, ledTo, withSteps, successors}
 use Rattle.field.specs.Exploration.{together}
-use Rattle.field.specs.Field.{fresh, Move, Successor, first-moves, second-moves, both-do, both-receive, PartPast, too-many, too-long, no-name, Past}
+use Rattle.field.specs.Field.{fresh, Move, Successor, first-moves, second-moves, both-do, both-receive, PartPast, too-many, too-long, too-many-calls, no-name, Past}
 use Rattle.field.proofs.Link.{SettingFor, firstMoves, secondMoves, ListOf, ListOfSome, of-first, of-second, LeadsWithin, LeadsExactly, ListedFor, Linked}
 use Rattle.field.proofs.Members.{∈-either}
 use Rattle.field.proofs.MoveLaws.{move-scope}
@@ -160,9 +162,11 @@ module _ (Δ : Defs) (S : Setting) (arities : List ℕ) (set : SettingFor Δ S a
       go false h = h
 
   -- The limits.
-  part-past : {P : Term} → TooMany (S .form) Δ (S .names) (S .most) x P ⊎ TooLong (S .form) Δ (S .names) (S .longest) x P → PartPast Δ S x P
+  part-past : {P : Term} → TooMany (S .form) Δ (S .names) (S .most) x P ⊎ TooLong (S .form) Δ (S .names) (S .longest) x P ⊎ PastCalls Δ mostReached P
+      → PartPast Δ S x P
   part-past (inl h) = too-many h
-  part-past (inr h) = too-long h
+  part-past (inr (inl h)) = too-long h
+  part-past (inr (inr h)) = too-many-calls h
 
   past-limit : (l k : Listing) → Exact (s .first) l → Exact (s .second) k → withSteps S s l k ≡ pastLimit → Past Δ S s
   unfolding withSteps ledTo
@@ -189,10 +193,12 @@ module _ (Δ : Defs) (S : Setting) (arities : List ℕ) (set : SettingFor Δ S a
 
       go : Past Δ S s → test ps qs ≡ true
       go (inl (too-many k)) = settled (e .limits .1 (inl k))
-      go (inl (too-long k)) = settled (e .limits .1 (inr k))
+      go (inl (too-long k)) = settled (e .limits .1 (inr (inl k)))
+      go (inl (too-many-calls k)) = settled (e .limits .1 (inr (inr k)))
       go (inl (no-name d m y i)) = first-test ps qs (e .members ps refl) d m y i
       go (inr (too-many k)) = settled (f .limits .1 (inl k))
-      go (inr (too-long k)) = settled (f .limits .1 (inr k))
+      go (inr (too-long k)) = settled (f .limits .1 (inr (inl k)))
+      go (inr (too-many-calls k)) = settled (f .limits .1 (inr (inr k)))
       go (inr (no-name d m y i)) = second-test ps qs (f .members qs refl) d m y i
 
   -- Within the limits.

@@ -13,7 +13,9 @@ use Rattle.calculus.specs.Definitions.{Defs}
 use Rattle.calculus.specs.Published.{Action, input, boundNames, renAction, Transition}
 use Rattle.calculus.specs.OpenBisimulation.{update}
 use Rattle.calculus.specs.Lists.{_∈_, All, Distinct}
+use Rattle.calls.specs.ReachLimit.{PastCalls}
 use Rattle.steps.specs.Derived.{TooMany, TooLong}
+use Rattle.steps.specs.Limits.{mostReached}
 use Rattle.field.specs.Setting.{Setting}
 use Rattle.field.specs.Situation.{Situation, situation, newName}
 
@@ -52,10 +54,12 @@ module _ (Δ : Defs) (S : Setting) where
         → Transition Δ (s .first) [] (input a (fresh s)) P → Transition Δ (s .second) [] (input a (fresh s)) Q
         → t ≡ situation (S .names) (S .form (ren (put (fresh s) y) P)) (S .form (ren (put (fresh s) y) Q)) [] → Successor s t
 
-  -- The limits of one part of a situation whose new name is x: steps, a result, and names, where all of them are free and a step binds one.
+  -- The limits of one part of a situation whose new name is x: steps, a result, the calls that one call reaches (request 2026-01), and names, where all of
+  -- them are free and a step binds one.
   pub data PartPast (x : ℕ) (P : Term) : Type 0 where
     too-many : TooMany (S .form) Δ (S .names) (S .most) x P → PartPast x P
     too-long : TooLong (S .form) Δ (S .names) (S .longest) x P → PartPast x P
+    too-many-calls : PastCalls Δ mostReached P → PartPast x P
     no-name : x ≡ S .names → (m : Move x P) (y : ℕ) → In y (boundNames (m .action)) → PartPast x P
 
   abbrev pub Past : Situation → Type 0

@@ -126,7 +126,7 @@ module _ (question part : List ℕ) (x : ℕ) (q : Question) (P : Term) (l : Lis
         go : Dec (length (resultBytes s) ≤ longestTerm) → length (resultBytes s) ≤ longestTerm
         go (yes h) = h
         go (no h) =
-            let u = exact .limits .1 (inr (record { step = s; derived = d; long = omega arith })) in
+            let u = exact .limits .1 (inr (inl (record { step = s; derived = d; long = omega arith }))) in
             let z : _≡_ {A = ℕ} 0 1 = cc in absurd (omega arith)
 
     pub sized : Sized ss

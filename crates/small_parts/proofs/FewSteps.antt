@@ -22,6 +22,9 @@ use Rattle.steps.specs.Limits.{mostSteps}
 use Rattle.steps.specs.Listed.{ListedStep, listedAs, canonStep, resultBytes, bytes}
 use Rattle.steps.specs.Listing.{listed, order, insert, allFit, collect, limited, listing}
 use Rattle.steps.proofs.CallCandidates.{visible-opened, silent-opened}
+use Rattle.terms.specs.WellFormed.{BodiesAllowed}
+use Rattle.steps.specs.CallLimit.{pastCalls}
+use Rattle.steps.proofs.CallLimitLaws.{never-past-calls}
 use Rattle.steps.proofs.FormLaws.{Form, result-form}
 use Rattle.calculus.proofs.Membership.{all-++, all-imp, all-map}
 use Rattle.field.specs.Setting.{settingOf, stepsIn}
@@ -277,6 +280,10 @@ no-silent : (k : ℕ) (xs : List ℕ) → silentCalls (λ k. getD [] k nil) 1 k 
 unfolding silent silentOf guarded
 no-silent k xs = silent-opened (λ k. getD [] k nil) k xs refl
 
+no-call-past : (P : Term) → pastCalls (λ k. getD [] k nil) P ≡ false
+unfolding BodiesAllowed bodyOf
+no-call-past P = never-past-calls [] [] tt P
+
 -- A short part's list.
 pub record FewSteps (x : ℕ) (P : Term) : Type 0 where
   pub steps : List ListedStep
@@ -288,7 +295,7 @@ pub few-listed : (x : ℕ) (P : Term) → size P ≤ 6 → FewSteps x P
 unfolding stepsIn settingOf listing limited visible silent bodyOf
 few-listed x P h = record {
   steps = ss;
-  is = rw (le-leb (length ss) mostSteps (omega (arith, few)), fit (size P) longestTerm ss (omega arith) short) refl;
+  is = rw (no-call-past P, le-leb (length ss) mostSteps (omega (arith, few)), fit (size P) longestTerm ss (omega arith) short) refl;
   few = few;
   short = short;
 }

@@ -13,6 +13,7 @@ use Rattle.terms.specs.Encoding.{encode, nameByte}
 use Rattle.steps.specs.Raw.{matching, leftSteps, rightSteps, meet, communication, communications, leavesAlone, restrictedAlone, outside, restrictedAction, restricted, visibleOf, silentOf, visibleCalls, silentCalls, visible, silent, beneath, ofPlaces, placesIn, placesOfCall}
 use Rattle.steps.specs.Forms.{asItIs}
 use Rattle.steps.specs.Listed.{ListedStep, namesFrom, classesOf, kindOf, channelOf, objectOf, listedAs, canonStep, resultBytes, bytes}
+use Rattle.steps.specs.CallLimit.{isMany, pastCalls}
 use Rattle.steps.specs.Listing.{order, insert, allFit, collect, Listing, unsettled, listed, limited, listing}
 
 -- the classes of the empty condition, and of [a = b]
@@ -49,7 +50,7 @@ rows =
 
 pub exchanges : map (λ r. r .0) rows ≡ map (λ r. r .1) rows
 unfolding listing limited collect insert order allFit bytes resultBytes canonStep listedAs kindOf channelOf objectOf classesOf namesFrom visible
-    silent visibleCalls silentCalls placesOfCall placesIn ofPlaces beneath reachFrom reachTerm isKnown isCalled differing samePlace sameCall samePairs
+    silent visibleCalls silentCalls placesOfCall placesIn pastCalls isMany ofPlaces beneath reachFrom reachTerm isKnown isCalled differing samePlace sameCall samePairs
     sameNames canonical above matchesTo matchesBelow visibleOf silentOf restricted restrictedAction outside restrictedAlone leavesAlone communications communication meet
     leftSteps rightSteps matching encode nameByte cls join
 exchanges = refl
@@ -87,7 +88,7 @@ more =
 
 pub turnings : map (λ r. r .0) more ≡ map (λ r. r .1) more
 unfolding listing limited collect insert order allFit bytes resultBytes canonStep listedAs kindOf channelOf objectOf classesOf namesFrom visible
-    silent visibleCalls silentCalls placesOfCall placesIn ofPlaces beneath reachFrom reachTerm isKnown isCalled differing samePlace sameCall samePairs
+    silent visibleCalls silentCalls placesOfCall placesIn pastCalls isMany ofPlaces beneath reachFrom reachTerm isKnown isCalled differing samePlace sameCall samePairs
     sameNames canonical above matchesTo matchesBelow visibleOf silentOf restricted restrictedAction outside restrictedAlone leavesAlone communications communication meet
     leftSteps rightSteps matching encode nameByte cls join
 turnings = refl
@@ -115,7 +116,7 @@ unused =
 
 pub tidied-exchanges : map (λ r. r .0) unused ≡ map (λ r. r .1) unused
 unfolding listing limited collect insert order allFit bytes resultBytes canonStep listedAs kindOf channelOf objectOf classesOf namesFrom visible
-    silent visibleCalls silentCalls placesOfCall placesIn ofPlaces beneath reachFrom reachTerm isKnown isCalled differing samePlace sameCall samePairs
+    silent visibleCalls silentCalls placesOfCall placesIn pastCalls isMany ofPlaces beneath reachFrom reachTerm isKnown isCalled differing samePlace sameCall samePairs
     sameNames canonical above matchesTo matchesBelow visibleOf silentOf restricted restrictedAction outside restrictedAlone leavesAlone communications communication meet
     leftSteps rightSteps matching encode nameByte cls join tidy restrictUsed among fn lowerL
 tidied-exchanges = refl
@@ -131,7 +132,7 @@ many (listed ss) = length ss
 
 pub wide : many (steps nil (silents 36)) ≡ 37
 unfolding listing limited collect insert order allFit bytes resultBytes canonStep listedAs kindOf channelOf objectOf classesOf namesFrom visible
-    silent visibleCalls silentCalls placesOfCall placesIn ofPlaces beneath reachFrom reachTerm isKnown isCalled differing samePlace sameCall samePairs
+    silent visibleCalls silentCalls placesOfCall placesIn pastCalls isMany ofPlaces beneath reachFrom reachTerm isKnown isCalled differing samePlace sameCall samePairs
     sameNames canonical above matchesTo matchesBelow visibleOf silentOf restricted restrictedAction outside restrictedAlone leavesAlone communications communication meet
     leftSteps rightSteps matching encode nameByte cls join
 wide = refl

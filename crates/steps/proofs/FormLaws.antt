@@ -17,6 +17,8 @@ use Rattle.calculus.specs.Tidy.{outside, restrictUsed, tidy}
 use Rattle.calculus.proofs.Tidying.{tidy-ren, tidy-tidy}
 use Rattle.calculus.proofs.TidySteps.{related-same-tidied}
 use Rattle.calculus.proofs.TidyTransitions.{alike-free, also-moves}
+use Rattle.calls.specs.ReachLimit.{PastCalls}
+use Rattle.calls.proofs.ReachRenaming.{past-tidy, tidy-past}
 use Rattle.terms.specs.Encoding.{encode, InScope}
 use Rattle.terms.proofs.ScopeLaws.{free-below}
 use Rattle.terms.proofs.TidyShorter.{tidy-shorter}
@@ -100,3 +102,7 @@ module _ {form : Term → Term} (f : Form form) where
   -- a term and its form are related
   pub form-related : (Δ : Defs) (D : Pairs) → Irr D → (P : Term) → Related Δ D P (form P)
   form-related Δ D irr P = related-same-tidied Δ D irr P (form P) (sym (f .tidied P))
+
+  -- the same limit on calls (request 2026-01)
+  pub past-formed : (Δ : Defs) (limit : ℕ) (P : Term) → PastCalls Δ limit (form P) → PastCalls Δ limit P
+  past-formed Δ limit P h = tidy-past Δ limit P (subst (PastCalls Δ limit) (f .tidied P) (past-tidy Δ limit (form P) h))

@@ -1,5 +1,6 @@
 pub mod ByteOrder
 pub mod CallCandidates
+pub mod CallLimitLaws
 pub mod Calls
 pub mod CanonSteps
 pub mod ClassLists

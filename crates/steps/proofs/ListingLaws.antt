@@ -1,5 +1,6 @@
 -- The list of the steps of a term in scope holds exactly what Table 4.1 with rule Canon derives, for any number of names and any limits.
 -- Assumes nothing.
+use mathlib.Core.Bool.{cond}
 use mathlib.Core.List.{List, [], _∷_, _++_}
 use mathlib.Core.Logic.{_⊎_, inl, inr, _↔_}
 use mathlib.Core.Path.{_≡_, sym, _∙_, ap, subst}
@@ -12,6 +13,7 @@ use Rattle.calculus.specs.Free.{Free}
 use Rattle.calculus.specs.Cond.{Cond, cls}
 use Rattle.calculus.specs.Definitions.{Defs}
 use Rattle.calculus.specs.Published.{Action}
+use Rattle.calls.specs.ReachLimit.{PastCalls}
 use Rattle.calculus.proofs.Conditions.{cls-le}
 use Rattle.calculus.proofs.FreeNames.{From, of-free-ren}
 use Rattle.calculus.proofs.Working.{Trans}
@@ -21,9 +23,11 @@ use Rattle.terms.proofs.ScopeLaws.{free-below}
 use Rattle.steps.specs.Raw.{Candidate, step, blocked, visible, silent}
 use Rattle.calculus.specs.Lists.{_∈_, All, Distinct}
 use Rattle.calculus.proofs.Membership.{all-++, all-imp, all-∈, distinct-length}
+use Rattle.steps.proofs.CallLimitLaws.{never-past, within-calls, opens-guarded}
 use Rattle.steps.proofs.Calls.{Opens}
 use Rattle.steps.proofs.FormLaws.{Form, form-scope}
 use Rattle.steps.proofs.Scope.{CallsInScope, scope-calls, in-scope, calls-ren, calls-residual}
+use Rattle.steps.specs.Limits.{mostReached}
 use Rattle.steps.specs.Listed.{ListedStep, listedAs, canonStep, resultBytes, bytes}
 use Rattle.steps.specs.Listing.{collect, unsettled, listed, limited, listing}
 use Rattle.steps.specs.Derived.{Ascending, Derived, TooMany, TooLong, ListsExactly}
@@ -100,11 +104,16 @@ module _ {form : Term → Term} (formed : Form form) (Δ : Defs) (names wide : �
     pub found-sorted : Sorted longest found
     found-sorted = collect-sorted form names longest x raw [] tt
 
+    -- no call reaches too many
+    pub listing-unlimited : (most : ℕ) → listing form names longest most (Δ .body) n x P ≡ limited longest most found
+    unfolding listing
+    listing-unlimited most = ap (λ b. cond b unsettled (limited longest most found)) (never-past (Δ .body) P (opens-guarded Δ n P opens))
+
     -- every listed step takes the same number of bytes
     pub listing-sizes : (most : ℕ) (ss : List ListedStep) → listing form names longest most (Δ .body) n x P ≡ listed ss
         → All (λ s. length (bytes longest s) ≡ names + (4 + longest)) ss
-    unfolding listing
-    listing-sizes most ss e =
+    listing-sizes most ss d =
+        let e = sym (listing-unlimited most) ∙ d in
         subst (All (λ s. length (bytes longest s) ≡ names + (4 + longest))) (limited-given longest most found ss e)
         (all-both found (found-all (WellListed names wide arities) well-listed) (limited-fits longest most found ss e))
       where
@@ -135,22 +144,25 @@ module _ {form : Term → Term} (formed : Form form) (Δ : Defs) (names wide : �
       found-iff s = (all-∈ (Derived form Δ names x P) found found-derived s, derived-found s)
 
       module _ (most : ℕ) where
-        passed : (most < length found) ⊎ Long longest found → TooMany form Δ names most x P ⊎ TooLong form Δ names longest x P
+        passed : (most < length found) ⊎ Long longest found → TooMany form Δ names most x P ⊎ TooLong form Δ names longest x P ⊎ PastCalls Δ mostReached P
         passed (inl h) =
             inl (record { steps = found; distinct = sorted-distinct longest found found-sorted; derived = found-derived; many = h })
-        passed (inr (s, m, l)) = inr (record { step = s; derived = found-iff s .0 m; long = l })
+        passed (inr (s, m, l)) = inr (inl (record { step = s; derived = found-iff s .0 m; long = l }))
 
-        not-within : TooMany form Δ names most x P ⊎ TooLong form Δ names longest x P → limited longest most found ≡ unsettled
+        not-within : TooMany form Δ names most x P ⊎ TooLong form Δ names longest x P ⊎ PastCalls Δ mostReached P → limited longest most found ≡ unsettled
         not-within (inl h) =
             let l : length (h .steps) ≤ length found =
             distinct-length (h .steps) found (h .distinct) (λ s m. derived-found s (all-∈ (Derived form Δ names x P) (h .steps) (h .derived) s m)) in
             limited-many longest most found (omega (arith, h .many))
-        not-within (inr h) = limited-long longest most found (h .step, derived-found (h .step) (h .derived), h .long)
+        not-within (inr (inl h)) = limited-long longest most found (h .step, derived-found (h .step) (h .derived), h .long)
+        not-within (inr (inr h)) = absurd (within-calls Δ P (opens-guarded Δ n P opens) h)
 
-        pub listing-exact : ListsExactly form Δ names longest most x P (listing form names longest most (Δ .body) n x P)
-        unfolding listing
-        listing-exact = record {
+        limited-exact : ListsExactly form Δ names longest most x P (limited longest most found)
+        limited-exact = record {
           members = λ ss e s. subst (λ l. (s ∈ l) ↔ Derived form Δ names x P s) (limited-given longest most found ss e) (found-iff s);
           ascending = λ ss e. subst (λ l. Ascending longest l) (limited-given longest most found ss e) (sorted-ascending longest found found-sorted);
           limits = (λ e. passed (limited-passed longest most found e), not-within);
         }
+
+        pub listing-exact : ListsExactly form Δ names longest most x P (listing form names longest most (Δ .body) n x P)
+        listing-exact = subst (ListsExactly form Δ names longest most x P) (sym (listing-unlimited most)) limited-exact

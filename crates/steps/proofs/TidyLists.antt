@@ -21,10 +21,13 @@ use Rattle.terms.specs.Question.{bodyOf}
 use Rattle.terms.specs.WellFormed.{BodyAllowed, BodiesAllowed, PartAllowedWith, PartAllowed}
 use Rattle.terms.proofs.TidyShorter.{tidy-shorter}
 use Rattle.steps.specs.Derived.{Ascending, Derived, TooMany, TooLong, ListsExactly}
-use Rattle.steps.specs.Limits.{mostSteps}
+use Rattle.calls.specs.ReachLimit.{PastCalls}
+use Rattle.steps.specs.Limits.{mostSteps, mostReached}
 use Rattle.steps.specs.Listed.{ListedStep, listedAs}
 use Rattle.steps.specs.Listing.{Listing, unsettled, listed, listing}
 use Rattle.calculus.specs.Lists.{_∈_, All}
+use Rattle.steps.proofs.CallLimitLaws.{within-calls, opens-guarded}
+use Rattle.steps.proofs.Calls.{Opens}
 use Rattle.steps.proofs.FormLaws.{Form, tidied-form, form-scope}
 use Rattle.steps.proofs.ListingLaws.{listing-exact}
 use Rattle.calculus.proofs.Membership.{all-imp}
@@ -162,22 +165,26 @@ body-tidied (P ∷ Ps) zero = refl
 body-tidied (P ∷ Ps) (suc k) = body-tidied Ps k
 
 -- Lists that are exact for the same steps are the same.
-module _ (names longest most x : ℕ) (Δ Δ₁ : Defs) (P Q : Term) (same : (s : ListedStep) → Derived tidy Δ names x P s ↔ Derived tidy Δ₁ names x Q s) where
-  limits-same : TooMany tidy Δ names most x P ⊎ TooLong tidy Δ names longest x P → TooMany tidy Δ₁ names most x Q ⊎ TooLong tidy Δ₁ names longest x Q
+module _ (names longest most x : ℕ) (Δ Δ₁ : Defs) (P Q : Term) (same : (s : ListedStep) → Derived tidy Δ names x P s ↔ Derived tidy Δ₁ names x Q s)
+    (reach : PastCalls Δ mostReached P → PastCalls Δ₁ mostReached Q) where
+  limits-same : TooMany tidy Δ names most x P ⊎ TooLong tidy Δ names longest x P ⊎ PastCalls Δ mostReached P
+      → TooMany tidy Δ₁ names most x Q ⊎ TooLong tidy Δ₁ names longest x Q ⊎ PastCalls Δ₁ mostReached Q
   limits-same (inl h) = inl (record {
     steps = h .steps;
     distinct = h .distinct;
     derived = all-imp (Derived tidy Δ names x P) (Derived tidy Δ₁ names x Q) (h .steps) (λ s d. same s .0 d) (h .derived);
     many = h .many;
   })
-  limits-same (inr h) = inr (record { step = h .step; derived = same (h .step) .0 (h .derived); long = h .long })
+  limits-same (inr (inl h)) = inr (inl (record { step = h .step; derived = same (h .step) .0 (h .derived); long = h .long }))
+  limits-same (inr (inr h)) = inr (inr (reach h))
 
-module _ (names longest most x : ℕ) (Δ Δ₁ : Defs) (P Q : Term) (same : (s : ListedStep) → Derived tidy Δ names x P s ↔ Derived tidy Δ₁ names x Q s) where
+module _ (names longest most x : ℕ) (Δ Δ₁ : Defs) (P Q : Term) (same : (s : ListedStep) → Derived tidy Δ names x P s ↔ Derived tidy Δ₁ names x Q s)
+    (reach : PastCalls Δ mostReached P ↔ PastCalls Δ₁ mostReached Q) where
   exact-same : (l k : Listing) → ListsExactly tidy Δ names longest most x P l → ListsExactly tidy Δ₁ names longest most x Q k → l ≡ k
   exact-same unsettled unsettled e f = refl
-  exact-same unsettled (listed ts) e f = sym (f .limits .1 (limits-same names longest most x Δ Δ₁ P Q same (e .limits .0 refl)))
+  exact-same unsettled (listed ts) e f = sym (f .limits .1 (limits-same names longest most x Δ Δ₁ P Q same (reach .0) (e .limits .0 refl)))
   exact-same (listed ss) unsettled e f =
-      e .limits .1 (limits-same names longest most x Δ₁ Δ Q P (λ s. (same s .1, same s .0)) (f .limits .0 refl))
+      e .limits .1 (limits-same names longest most x Δ₁ Δ Q P (λ s. (same s .1, same s .0)) (reach .1) (f .limits .0 refl))
   exact-same (listed ss) (listed ts) e f =
       ap listed
       (sorted-same longest ss ts (ascending-sorted longest ss (e .ascending ss refl)) (ascending-sorted longest ts (f .ascending ts refl))
@@ -220,23 +227,42 @@ module _ (arities : List ℕ) (bodies : List Term) (allowed : BodiesAllowed arit
     derived-alike Δ₁ Δ (λ k. sym (one-arity k)) (λ k. sym (alike k)) nameCount x (tidy P) P (tidy-tidy P) s,
   )
 
+  opens : Opens Δ 1 P
+  unfolding Δ definitions
+  opens = opens-one arities bodies allowed Δ (λ k. refl) refl P (scope-calls nameCount arities 0 P scope)
+
+  scope₁ : InScope nameCount arities 0 (tidy P)
+  scope₁ = form-scope tidied-form nameCount arities 0 P scope
+
+  opens₁ : Opens Δ₁ 1 (tidy P)
+  unfolding Δ₁ definitions
+  opens₁ =
+      opens-one arities (map tidy bodies) (bodies-tidied arities arities bodies allowed) Δ₁ (λ k. refl) refl (tidy P)
+      (scope-calls nameCount arities 0 (tidy P) scope₁)
+
+  -- neither is past the limit on calls
+  reach : PastCalls Δ mostReached P ↔ PastCalls Δ₁ mostReached (tidy P)
+  reach = (
+    λ h. absurd (within-calls Δ P (opens-guarded Δ 1 P opens) h),
+    λ h. absurd (within-calls Δ₁ (tidy P) (opens-guarded Δ₁ 1 (tidy P) opens₁) h),
+  )
+
   exact : ListsExactly tidy Δ nameCount longestTerm mostSteps x P (listing tidy nameCount longestTerm mostSteps (bodyOf bodies) 1 x P)
   unfolding Δ definitions
   exact =
       listing-exact tidied-form Δ nameCount (suc nameCount) (omega arith) arities (bodies-in-scope arities bodies allowed Δ (λ k. refl) refl) x (omega arith) P scope longestTerm 1
-      (opens-one arities bodies allowed Δ (λ k. refl) refl P (scope-calls nameCount arities 0 P scope)) fresh (omega arith) mostSteps
+      opens fresh (omega arith) mostSteps
 
   exact₁ : ListsExactly tidy Δ₁ nameCount longestTerm mostSteps x (tidy P) (listing tidy nameCount longestTerm mostSteps (bodyOf (map tidy bodies)) 1 x (tidy P))
   unfolding Δ₁ definitions
   exact₁ =
       let allowed₁ = bodies-tidied arities arities bodies allowed in
-      let scope₁ : InScope nameCount arities 0 (tidy P) = form-scope tidied-form nameCount arities 0 P scope in
       listing-exact tidied-form Δ₁ nameCount (suc nameCount) (omega arith) arities (bodies-in-scope arities (map tidy bodies) allowed₁ Δ₁ (λ k. refl) refl) x (omega arith) (tidy P) scope₁ longestTerm 1
-      (opens-one arities (map tidy bodies) allowed₁ Δ₁ (λ k. refl) refl (tidy P) (scope-calls nameCount arities 0 (tidy P) scope₁)) (λ f. fresh (of-free-tidy x P f)) (omega arith) mostSteps
+      opens₁ (λ f. fresh (of-free-tidy x P f)) (omega arith) mostSteps
 
   pub tidied-list : listing tidy nameCount longestTerm mostSteps (bodyOf bodies) 1 x P
       ≡ listing tidy nameCount longestTerm mostSteps (bodyOf (map tidy bodies)) 1 x (tidy P)
-  tidied-list = exact-same nameCount longestTerm mostSteps x Δ Δ₁ P (tidy P) same _ _ exact exact₁
+  tidied-list = exact-same nameCount longestTerm mostSteps x Δ Δ₁ P (tidy P) same reach _ _ exact exact₁
 
 -- Parts of one tidied form have one list under definitions whose bodies have one tidied form each.
 module _ (arities : List ℕ) (bodies bodies₁ : List Term) (allowed : BodiesAllowed arities arities bodies) (allowed₁ : BodiesAllowed arities arities bodies₁)

@@ -10,6 +10,8 @@ use Rattle.calculus.specs.Cond.{Cond}
 use Rattle.calculus.specs.Definitions.{Defs}
 use Rattle.calculus.specs.Published.{Action, boundNames, Transition}
 use Rattle.calculus.specs.Lists.{_∈_, All, Distinct}
+use Rattle.calls.specs.ReachLimit.{PastCalls}
+use Rattle.steps.specs.Limits.{mostReached}
 use Rattle.steps.specs.Listed.{ListedStep, listedAs, resultBytes, bytes}
 use Rattle.steps.specs.Listing.{order, Listing, unsettled, listed}
 
@@ -46,4 +48,5 @@ module _ (form : Term → Term) (Δ : Defs) where
     -- a step stands in the list exactly if it is derived
     pub members : (ss : List ListedStep) → r ≡ listed ss → (s : ListedStep) → (s ∈ ss) ↔ Derived names x P s
     pub ascending : (ss : List ListedStep) → r ≡ listed ss → Ascending longest ss
-    pub limits : (r ≡ unsettled) ↔ (TooMany names most x P ⊎ TooLong names longest x P)
+    -- past a limit: too many steps, a long result, or a call that reaches too many (request 2026-01)
+    pub limits : (r ≡ unsettled) ↔ (TooMany names most x P ⊎ TooLong names longest x P ⊎ PastCalls Δ mostReached P)

@@ -3,6 +3,8 @@
 pub mod Limits
 -- the candidates of a term by Table 4.1
 pub mod Raw
+-- the test of the limit on what a call reaches
+pub mod CallLimit
 -- the form of a result
 pub mod Forms
 -- a step as it is listed

@@ -8,6 +8,7 @@ use Rattle.calculus.specs.Term.{Term}
 use Rattle.terms.specs.Limits.{nameCount, longestTerm}
 use Rattle.terms.specs.Question.{bodyOf}
 use Rattle.steps.specs.Raw.{Candidate, step, blocked, visible, silent}
+use Rattle.steps.specs.CallLimit.{pastCalls}
 use Rattle.steps.specs.Forms.{resultForm}
 use Rattle.steps.specs.Limits.{mostSteps}
 use Rattle.steps.specs.Listed.{ListedStep, canonStep, resultBytes, bytes}
@@ -48,10 +49,11 @@ pub data Listing : Type 0 where
 unfoldable pub limited : (longest most : ℕ) → List ListedStep → Listing
 limited longest most found = cond (leb (length found) most && allFit longest found) (listed found) unsettled
 
--- the steps of P, for the new name x, which open at most `calls` calls one within the other, their results in the form given
+-- The steps of P, for the new name x, which open at most `calls` calls one within the other, their results in the form given; unsettled also if a call
+-- of P reaches too many (request 2026-01).
 unfoldable pub listing : (Term → Term) → (names longest most : ℕ) (body : ℕ → Term) (calls x : ℕ) → Term → Listing
 listing form names longest most body calls x P =
-    limited longest most (collect form names longest x (visible body calls P ++ silent body calls P) [])
+    cond (pastCalls body P) unsettled (limited longest most (collect form names longest x (visible body calls P ++ silent body calls P) []))
 
 -- The steps of a part of a question with these definitions. In a body every call is beneath a prefix (check 11): one call is opened.
 unfoldable pub stepsOf : List Term → ℕ → Term → Listing

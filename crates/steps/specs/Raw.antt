@@ -134,8 +134,11 @@ placesIn (found K) = K
 -- [Con]: a call, while one is left to open, is opened with all that it reaches through unprefixed calls (document 02, request 2026-01): for each place
 -- the own candidates of its body, those with no call opened, beneath the place's condition.
 module _ (body : ℕ → Term) where
+  abbrev pub searchOf : ℕ → List ℕ → Search
+  searchOf k xs = reachFrom (λ l ys. true) body mostReached deepestCalls k xs [] []
+
   unfoldable pub placesOfCall : ℕ → List ℕ → List Place
-  placesOfCall k xs = placesIn (reachFrom (λ l ys. true) body mostReached deepestCalls k xs [] [])
+  placesOfCall k xs = placesIn (searchOf k xs)
 
   unfoldable pub visibleCalls : ℕ → ℕ → List ℕ → List Candidate
   visibleCalls zero k xs = []

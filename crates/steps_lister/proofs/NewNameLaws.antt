@@ -42,7 +42,7 @@ use Rattle.steps.proofs.ByteOrder.{before-trans}
 use Rattle.steps.proofs.ClassLists.{unmatched}
 use Rattle.steps.proofs.Limited.{limited-given, limited-fits, limited-within, limited-many}
 use Rattle.steps.proofs.ListedBytes.{WellListed, bytes-determine}
-use Rattle.steps.proofs.ListingLaws.{raw, found, raw-sound, found-all, found-sorted, well-listed}
+use Rattle.steps.proofs.ListingLaws.{raw, found, raw-sound, found-all, found-sorted, listing-unlimited, well-listed}
 use Rattle.steps.proofs.Sorted.{Precedes, Sorted, OfCandidate, collect-all, collect-new, sorted-same}
 
 -- A list in which each step's bytes come before those of the next ascends.
@@ -106,6 +106,10 @@ module _ (Δ : Defs) (names wide : ℕ) (within : names ≤ wide) (few : wide �
     abbrev candidates : List Candidate
     candidates = raw result-form Δ names wide within arities bodies x below P scope longest n opens
 
+    -- no call reaches too many
+    unlimited : (most : ℕ) → listing resultForm names longest most (Δ .body) n x P ≡ limited longest most all
+    unlimited most = listing-unlimited result-form Δ names wide within arities bodies x below P scope longest n opens most
+
     well : All (WellListed names wide arities) all
     well =
         found-all result-form Δ names wide within arities bodies x below P scope longest n opens (WellListed names wide arities)
@@ -160,15 +164,15 @@ module _ (Δ : Defs) (names wide : ℕ) (within : names ≤ wide) (few : wide �
 
     pub renewed-listing : (most : ℕ) (ss : List ListedStep) → listing resultForm names longest most (Δ .body) n y P ≡ listed ss
         → Sorted longest (map (renewed y x) ss) → listing resultForm names longest most (Δ .body) n x P ≡ listed (map (renewed y x) ss)
-    unfolding listing
-    renewed-listing most ss e sorted =
+    renewed-listing most ss given sorted =
+        let e : limited longest most (all y y-below) ≡ listed ss = sym (unlimited y y-below most) ∙ given in
         let g : all y y-below ≡ ss = limited-given longest most (all y y-below) ss e in
         let f : all x x-below ≡ map (renewed y x) ss =
         renewed-found (subst (λ l. Sorted longest (map (renewed y x) l)) (sym g) sorted) ∙ ap (map (renewed y x)) g in
         let size : length ss ≤ most = within-limit (decLe (length (all y y-below)) most) g in
         let fits : All (λ s. length (resultBytes s) ≤ longest) ss =
         subst (All (λ s. length (resultBytes s) ≤ longest)) g (limited-fits longest most (all y y-below) ss e) in
-        ap (limited longest most) f
+        unlimited x x-below most ∙ ap (limited longest most) f
         ∙ limited-within longest most (map (renewed y x) ss) (omega (arith, length-map ss (renewed y x)))
         (all-map (renewed y x) (λ s. length (resultBytes s) ≤ longest) (λ s. length (resultBytes s) ≤ longest) ss
         (λ s h. omega (arith, renewed-length y x s)) fits)

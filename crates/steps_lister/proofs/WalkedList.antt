@@ -1,4 +1,5 @@
 -- The candidates of the walk, put into the list, are the steps of the part. Assumes nothing.
+use mathlib.Core.Bool.{cond}
 use mathlib.Core.List.{List, [], _∷_, _++_, map}
 use mathlib.Core.Logic.{_⊎_, inl, inr}
 use mathlib.Core.Path.{_≡_, refl, sym, _∙_, ap, ap₂, subst}
@@ -9,6 +10,7 @@ use Rattle.calculus.specs.Term.{Term}
 use Rattle.terms.specs.Limits.{nameCount, longestTerm}
 use Rattle.terms.specs.Question.{Question}
 use Rattle.terms.specs.Question.{bodyOf}
+use Rattle.terms.proofs.WellFormed.{accepted-well-formed}
 use Rattle.steps.specs.Forms.{resultForm}
 use Rattle.calculus.specs.Lists.{_∈_, All}
 use Rattle.steps.specs.Raw.{Candidate, step, blocked, visible, silent}
@@ -24,6 +26,7 @@ use Rattle.steps_lister.specs.PartLister.{AnswersListing, ListTidiedIs}
 use Rattle.steps_walk.specs.Walking.{walked}
 use Rattle.steps_lister.specs.declared.list.ListAnswer.the-variants.{Unsettled, Count}
 use Rattle.steps_placing.proofs.CollectLaws.{canon-classes}
+use Rattle.steps.proofs.CallLimitLaws.{never-past-calls}
 use Rattle.steps.proofs.Limited.{Long, limited-given, limited-passed, limited-within, limited-many, limited-long}
 use Rattle.steps.proofs.ListedBytes.{step-length}
 use Rattle.steps.proofs.Sorted.{OfCandidate, collect-all}
@@ -105,7 +108,9 @@ module _ (question part : List ℕ) (x : ℕ) (area : List ℕ) (n : ℕ) (area�
 
     steps-are : stepsOf (q .bodies) x P ≡ limited longestTerm mostSteps whole
     unfolding stepsOf listing
-    steps-are = refl
+    steps-are =
+        ap (λ past. cond past unsettled (limited longestTerm mostSteps whole))
+        (never-past-calls (q .arities) (q .bodies) (accepted-well-formed question q (l .accepted) .bodies) P)
 
     both : (f g : List ListedStep) → All (Classed nameCount longestTerm x) f → All (Classed nameCount longestTerm x) g
         → map (bytes longestTerm) f ≡ map (bytes longestTerm) g → limited longestTerm mostSteps f ≡ unsettled → limited longestTerm mostSteps g ≡ unsettled

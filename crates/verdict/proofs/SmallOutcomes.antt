@@ -14,7 +14,7 @@ use Rattle.calculus.specs.Term.{Term}
 use Rattle.terms.specs.Answer.{Answer, refused, result, _>>=_, _>>_}
 use Rattle.terms.specs.Limits.{nameCount, longestQuestion, longestTerm}
 use Rattle.terms.specs.Operations.{checkAnswer, merged, placedBeside, mergeOf, besideOf, convertOf, lengthWritten}
-use Rattle.terms.specs.Question.{Question, editionOf, questionOf}
+use Rattle.terms.specs.Question.{Question, bodyOf, editionOf, questionOf}
 use Rattle.terms.proofs.Answers.{result-injective, bind-result, need-result, both-true}
 use Rattle.terms.proofs.BesideLaws.{beside-accepted}
 use Rattle.terms.proofs.MergeLaws.{merge-accepted}
@@ -26,6 +26,8 @@ use Rattle.steps.specs.Limits.{mostSteps, stepBytes}
 use Rattle.steps.specs.Listed.{ListedStep}
 use Rattle.steps.specs.Listing.{Listing, unsettled, listed, stepsOf, listing}
 use Rattle.steps.specs.Operations.{sideOf, isNew, listOf}
+use Rattle.steps.specs.CallLimit.{pastCalls}
+use Rattle.steps.proofs.CallLimitLaws.{listed-within}
 use Rattle.steps.proofs.Limited.{limited-few}
 use Rattle.verdict.specs.Judge.{greatestCapacity, slotBytes, judgeBy}
 use Rattle.verdict.specs.Outcome.{Small, ofNumber, ofListing, ofVerdict}
@@ -83,7 +85,7 @@ list-numbered question side x room =
 
 steps-few : (bodies : List Term) (x : ℕ) (P : Term) (ss : List ListedStep) → stepsOf bodies x P ≡ listed ss → length ss ≤ mostSteps
 unfolding stepsOf listing
-steps-few bodies x P ss e = limited-few longestTerm mostSteps _ ss e
+steps-few bodies x P ss e = limited-few longestTerm mostSteps _ ss (listed-within (pastCalls (bodyOf bodies) P) _ ss e)
 
 pub list-small : (question : List ℕ) (side x room : ℕ) → Small (ofListing (listOf question side x room))
 unfolding listOf isNew ofListing Small Numbered

@@ -22,6 +22,7 @@ use Rattle.terms.specs.Question.{bodyOf}
 use Rattle.steps.specs.Forms.{resultForm}
 use Rattle.steps.specs.Raw.{matching, leftSteps, rightSteps, meet, communication, communications, leavesAlone, restrictedAlone, outside, restrictedAction, restricted, visibleOf, silentOf, visibleCalls, silentCalls, visible, silent, beneath, ofPlaces, placesIn, placesOfCall}
 use Rattle.steps.specs.Listed.{namesFrom, classesOf, classIn, implies, ownClasses, kindOf, channelOf, objectOf, listedAs, canonStep, resultBytes, bytes}
+use Rattle.steps.specs.CallLimit.{isMany, pastCalls}
 use Rattle.steps.specs.Listing.{order, insert, allFit, collect, limited, listing}
 use Rattle.field.specs.Setting.{settingOf, stepsIn}
 use Rattle.field.specs.Situation.{freeFrom, freeIn, pairsOf, situation, startOf, missing, newName, sameBytes, sameSituation}
@@ -108,7 +109,7 @@ unfolding judged expected exchanges turnings named-exchanges ask askWith judgeBy
     updatedBy extrudedBy answers implies permitted select freeFrom freeIn pairsOf situation missing newName sameBytes sameSituation settingOf stepsIn
     holdsApart among keep fn lowerL bodyOf listing limited collect insert order allFit bytes resultBytes resultForm tidy restrictUsed canonStep listedAs kindOf channelOf objectOf
     classesOf classIn namesFrom visible silent visibleCalls silentCalls visibleOf silentOf restricted restrictedAction outside restrictedAlone
-    leavesAlone communications communication meet leftSteps rightSteps matching placesOfCall placesIn ofPlaces beneath reachFrom reachTerm isKnown
+    leavesAlone communications communication meet leftSteps rightSteps matching pastCalls isMany placesOfCall placesIn ofPlaces beneath reachFrom reachTerm isKnown
     isCalled differing samePlace sameCall samePairs sameNames canonical above matchesTo matchesBelow cls join questionWith editionOf checkWith versionByte numbered readCount
 computed = (refl, refl, refl)
 
