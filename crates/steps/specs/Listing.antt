@@ -49,12 +49,12 @@ pub data Listing : Type 0 where
 unfoldable pub limited : (longest most : ℕ) → List ListedStep → Listing
 limited longest most found = cond (leb (length found) most && allFit longest found) (listed found) unsettled
 
--- The steps of P, for the new name x, which open at most `calls` calls one within the other, their results in the form given; unsettled also if a call
--- of P reaches too many (request 2026-01).
+-- The steps of P, for the new name x, their results in the form given: no call is opened, or, if `calls` is not 0, each with all that it reaches.
+-- Unsettled also if a call of P reaches too many (request 2026-01).
 unfoldable pub listing : (Term → Term) → (names longest most : ℕ) (body : ℕ → Term) (calls x : ℕ) → Term → Listing
 listing form names longest most body calls x P =
     cond (pastCalls body P) unsettled (limited longest most (collect form names longest x (visible body calls P ++ silent body calls P) []))
 
--- The steps of a part of a question with these definitions. In a body every call is beneath a prefix (check 11): one call is opened.
+-- The steps of a part of a question with these definitions. While check 11 refuses unprefixed calls in bodies, a call reaches itself alone.
 unfoldable pub stepsOf : List Term → ℕ → Term → Listing
 stepsOf bodies x P = listing resultForm nameCount longestTerm mostSteps (bodyOf bodies) 1 x P
