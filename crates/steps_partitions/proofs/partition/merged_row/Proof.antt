@@ -1,6 +1,5 @@
 -- `steps_partitions::partition::merged_row` meets its contract. Assumes nothing.
 use Rattle.steps_partitions.proofs.RankLaws.{row-kept, row-merged}
-use native.Mathlib.Omega.{arith}
 use borrow.Author.Needs.{needs}
 use Rattle.steps_partitions.proofs.partition.merged_row.Statement.{statement}
 use Rattle.steps_partitions.proofs.partition.merged_row.Tie as tie
