@@ -1,5 +1,5 @@
 -- The number of a partition, place by place, and the partition of a number. Assumes nothing.
-use mathlib.Core.List.{List, [], _∷_, map}
+use mathlib.Core.List.{List, [], _∷_}
 use mathlib.Core.Logic.{_≢_, inl, inr, ⊎-elim}
 use mathlib.Core.Path.{_≡_, refl, sym, ap, subst, _∙_}
 use native.Mathlib.Nat.{eq-or-lt-of-le, not-suc-le-zero, le-trans, mul-le-mul, mul-le-mul-right, div-mul-le-self, mul-add-div-right, div-eq-of-lt}
@@ -7,10 +7,10 @@ use native.Mathlib.Omega.{arith}
 use borrow.Author.Count.{below-more}
 use Prim.Native.Nat.{ℕ, suc, min, max, _+_, _-_, _*_, _/_, _<_, _≤_}
 use lib.ListN.{length, getD, drop, set}
-use lib.Seq.{getD-set-same, getD-set-other, ext-getD, drop-length}
+use lib.Seq.{getD-set-same, getD-set-other, drop-length}
 use Rattle.terms_bytes.proofs.Stores.{getD-map}
-use Rattle.steps_partitions.specs.Partition.{mostPlaces, mostPartitions, continuations, Growing, rankFrom, rank, Partition, mergedClass, Cases, mergedAt, Begins, PartIs, ClassIs, RankIs, UnrankIs, MergeIs, MergedRowIs}
-use Rattle.steps_partitions.proofs.PartitionLaws.{way-at, some-way, tail-below, grown, ranked, ranked-below, merged-none, merged-greater, merged-behind, merged-before, merged-same, merged-partition}
+use Rattle.steps_partitions.specs.Partition.{mostPlaces, continuations, Growing, rankFrom, rank, Partition, mergedClass, Cases, mergedAt, Begins, PartIs, ClassIs, RankIs, UnrankIs, MergeIs, MergedRowIs}
+use Rattle.steps_partitions.proofs.PartitionLaws.{way-at, some-way, tail-below, grown, ranked, ranked-below, merged-greater, merged-behind, merged-before, merged-same, merged-partition}
 
 -- What a class adds is small.
 pub part-is : (c rest m w r : ℕ) → c ≤ 255 → rest + m ≤ mostPlaces → w ≡ continuations rest m → r ≡ c * w → PartIs c rest m r

@@ -1,8 +1,7 @@
 // Partitions of the places of a call's names (request 2026-01), each known by its number.
 ghost use mathlib.Core.Path.{_≡_};
 ghost use Prim.Native.Nat.{max, min, _+_, _≤_, _<_};
-ghost use lib.ListN.{length};
-ghost use Rattle.steps_partitions.specs.Partition.{mostPlaces, mostPartitions, continuations, mergedClass, PartIs, RankIs, ClassIs, Cases, UnrankIs, MergeIs, MergedRowIs};
+ghost use Rattle.steps_partitions.specs.Partition.{mostPlaces, continuations, mergedClass, PartIs, RankIs, ClassIs, Cases, UnrankIs, MergeIs, MergedRowIs};
 use terms_bytes::bytes::get;
 use terms_bytes::limits::GREATEST_ARITY;
 

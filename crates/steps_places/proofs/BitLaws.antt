@@ -1,14 +1,14 @@
 -- The bits of a number, one set and the first one that another number has not. Assumes nothing.
-use mathlib.Core.Bool.{Bool, true, false, true≢false, false≢true}
+use mathlib.Core.Bool.{true, false, true≢false, false≢true}
 use mathlib.Core.Logic.{_⊎_, _≢_, inl, inr, ⊎-elim}
-use mathlib.Core.Path.{_≡_, refl, sym, ap, subst, _∙_}
+use mathlib.Core.Path.{_≡_, refl, ap, _∙_}
 use native.Mathlib.Decide.{ℕ-discrete, decLe}
 use native.Mathlib.Nat.{eq-or-lt-of-le, not-suc-le-zero, div-eq-of-lt, div-self, zero-div, zero-mod, mod-lt, mul-div-cancel, pow-suc, one-le-pow}
 use native.Mathlib.Omega.{arith}
 use borrow.Author.Count.{below-more}
 use Prim.Native.Nat.{ℕ, suc, max, _+_, _-_, _*_, _/_, _%_, _^_, _<_, _≤_}
 use lib.Arith.{digits-mod}
-use lib.Bits.{bitOr, bitAnd, or-step, or-shr, or-lt, or-add-and, and-le-r}
+use lib.Bits.{bitOr, or-step, or-shr, or-lt, or-add-and, and-le-r}
 use lib.Pow.{pow-lt, pow-add}
 use Rattle.steps_reach.specs.CallTable.{mostCalls}
 use Rattle.steps_places.specs.PlaceTable.{bit}

@@ -1,22 +1,20 @@
 -- A row of the table of places, closed. Assumes nothing.
-use mathlib.Core.List.{List, [], _∷_, _++_}
-use mathlib.Core.Logic.{_⊎_, inl, inr, ⊎-elim}
-use mathlib.Core.Path.{_≡_, refl, sym, ap, subst, _∙_}
+use mathlib.Core.List.{List}
+use mathlib.Core.Logic.{_⊎_, ⊎-elim}
+use mathlib.Core.Path.{_≡_, sym, ap, subst, _∙_}
 use native.Mathlib.Omega.{arith}
-use Prim.Native.Nat.{ℕ, suc, _+_, _*_, _<_, _≤_}
+use Prim.Native.Nat.{ℕ, _<_, _≤_}
 use lib.ListN.{length, getD}
 use lib.Seq.{ext-getD}
-use Rattle.calculus.specs.Cond.{Cond}
 use Rattle.calculus.specs.Definitions.{Defs, opened}
 use Rattle.calls.specs.Reach.{Bare}
 use Rattle.calls.specs.ReachLimit.{Call}
 use Rattle.terms.specs.Question.{Question}
-use Rattle.steps_partitions.specs.Partition.{rank, rankFrom, Partition, continuations}
-use Rattle.steps_partitions.proofs.PartitionLaws.{partition-below}
+use Rattle.steps_partitions.specs.Partition.{rank, Partition, continuations}
 use Rattle.steps_partitions.proofs.RankLaws.{rank-once}
 use Rattle.steps_reach.specs.CallTable.{mostCalls, RowIs}
 use Rattle.steps_places.specs.PlaceTable.{bit, Has, along}
-use Rattle.steps_places.specs.PlaceWalks.{WithBit, NextIs, Onto, Adds, Scene, Reachable, SoundTable, ClosedAt, OpenPlaceIs, RowClosed, CloseRowIs}
+use Rattle.steps_places.specs.PlaceWalks.{WithBit, NextIs, Onto, Adds, Scene, Reachable, SoundTable, ClosedAt, OpenPlaceIs, CloseRowIs}
 use Rattle.steps_places.proofs.BitLaws.{no-bit}
 use Rattle.steps_places.proofs.Meanings.{along-partition, along-rank}
 use Rattle.steps_places.proofs.OpenLaws.{goes-on}

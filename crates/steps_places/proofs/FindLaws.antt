@@ -1,13 +1,12 @@
 -- The table of places, row by row from the last one. Assumes nothing.
-use mathlib.Core.List.{List, [], _∷_, _++_}
-use mathlib.Core.Logic.{_⊎_, inl, inr, ⊎-elim}
+use mathlib.Core.List.{List, [], _++_}
+use mathlib.Core.Logic.{_⊎_, ⊎-elim}
 use mathlib.Core.Path.{_≡_, refl, sym, ap, subst, _∙_}
-use native.Mathlib.Nat.{eq-or-lt-of-le}
+use native.Mathlib.Nat.{eq-or-lt-of-le, not-suc-le-zero}
 use native.Mathlib.Omega.{arith}
 use borrow.Author.Count.{below-more}
-use native.Mathlib.Nat.{not-suc-le-zero}
-use Prim.Native.Nat.{ℕ, suc, _+_, _-_, _*_, _<_, _≤_}
-use lib.ListN.{length, getD, set, length-set}
+use Prim.Native.Nat.{ℕ, _+_, _-_, _<_, _≤_}
+use lib.ListN.{length, getD, set}
 use lib.Seq.{getD-set-same, getD-set-other}
 use Rattle.calculus.specs.Cond.{Cond, _▷_}
 use Rattle.calculus.specs.Definitions.{Defs, opened}
@@ -16,8 +15,8 @@ use Rattle.calls.specs.ReachLimit.{Call}
 use Rattle.calls.specs.ReachSearch.{Place}
 use Rattle.terms.specs.Question.{Question}
 use Rattle.steps_partitions.specs.Partition.{rank, Partition, continuations, apartFrom}
-use Rattle.steps_partitions.proofs.PartitionLaws.{apart-partition, apart-last, partition-below, some-way}
-use Rattle.steps_reach.specs.CallTable.{mostCalls, RowIs}
+use Rattle.steps_partitions.proofs.PartitionLaws.{apart-partition, apart-last, partition-below}
+use Rattle.steps_reach.specs.CallTable.{mostCalls}
 use Rattle.steps_places.specs.PlaceTable.{bit, Has, along, Means, InTable, PlacesAre}
 use Rattle.steps_places.specs.PlaceWalks.{WithBit, Scene, Reachable, SoundTable, ClosedAt, CloseRowIs, Cleared, StartedIs, FindPlacesIs}
 use Rattle.steps_places.proofs.BitLaws.{no-bit}

@@ -1,14 +1,14 @@
 -- Partitions of a call's names and conditions: merging the classes of two names is gathering their match. Assumes nothing.
 use mathlib.Core.List.{List, [], _∷_, _++_, append-assoc, append-nil}
-use mathlib.Core.Logic.{_⊎_, inl, inr, ⊎-elim}
+use mathlib.Core.Logic.{inl, inr}
 use mathlib.Core.Path.{_≡_, refl, sym, ap, subst, _∙_}
 use native.Mathlib.Decide.{ℕ-discrete}
 use native.Mathlib.Nat.{not-suc-le-zero}
 use native.Mathlib.Omega.{arith}
-use Prim.Native.Nat.{ℕ, zero, suc, _+_, _<_, _≤_}
+use Prim.Native.Nat.{ℕ, suc, _+_, _<_, _≤_}
 use lib.ListN.{length, getD}
 use borrow.Author.Tests.{eq-eqb, ne-eqb}
-use Rattle.calculus.specs.Cond.{Cond, Name, Unif, cls, _▷_}
+use Rattle.calculus.specs.Cond.{Cond, Name, cls, _▷_}
 use Rattle.calculus.specs.Free.{In}
 use Rattle.calculus.proofs.Conditions.{E2, Unif-++, Unif-left, Unif-right}
 use Rattle.terms_bytes.proofs.Stores.{getD-map}

@@ -1,7 +1,7 @@
 -- The weights of rows and of the table, and the place of a number. Assumes nothing.
 use mathlib.Core.List.{List}
-use mathlib.Core.Path.{_≡_, refl, sym, ap, subst, _∙_}
-use native.Mathlib.Nat.{one-mul, zero-mul, mul-le-mul}
+use mathlib.Core.Path.{_≡_, refl, sym, ap, _∙_}
+use native.Mathlib.Nat.{one-mul, zero-mul}
 use native.Mathlib.Omega.{arith}
 use Prim.Native.Nat.{ℕ, suc, _+_, _-_, _*_, _<_, _≤_}
 use mathlib.Core.Bool.{Bool, true, false}
@@ -9,7 +9,7 @@ use lib.Dec.{leb}
 use lib.ListN.{length, getD, List·getD-eq-default}
 use borrow.Author.Tests.{leb-true, leb-false}
 use Rattle.steps_reach.specs.CallTable.{mostCalls}
-use Rattle.steps_places.specs.PlaceTable.{bit, Has}
+use Rattle.steps_places.specs.PlaceTable.{bit}
 use Rattle.steps_places.specs.PlaceNumbers.{weightBelow, tableWeight, WeightIs, RowWeightIs, TableWeightIs, RowAtIs, CallAtIs, PlaceAtIs}
 use Rattle.steps_places.specs.declared.numbers.Part.{Part}
 use Rattle.steps_places.specs.declared.numbers.Placed.{Placed}

@@ -1,35 +1,31 @@
 -- The body of a place, opened: what it goes on to. Assumes nothing.
-use mathlib.Core.List.{List, [], _∷_, _++_, reverse, append-assoc, append-nil}
-use mathlib.Core.Logic.{_⊎_, inl, inr, ⊎-elim}
+use mathlib.Core.List.{List, [], _∷_, _++_, append-assoc, append-nil}
+use mathlib.Core.Logic.{inl, inr}
 use mathlib.Core.Path.{_≡_, refl, sym, ap, subst, _∙_}
 use native.Mathlib.Nat.{not-suc-le-zero}
 use native.Mathlib.Omega.{arith}
 use Prim.Native.Nat.{ℕ, zero, suc, _+_, _-_, _*_, _<_, _≤_}
 use lib.ListN.{length, getD}
-use lib.Seq.{ext-getD}
 use Rattle.calculus.specs.Cond.{Cond, Name}
 use Rattle.calculus.specs.Definitions.{Defs, opened}
 use Rattle.calculus.specs.Free.{In}
-use Rattle.calculus.specs.Lists.{_∈_}
 use Rattle.calculus.specs.Term.{Term, nil, tau, inp, out, bout, mat, sum, par, res, call, ren}
 use Rattle.calculus.proofs.WorkingNames.{opened-free}
 use Rattle.calls.specs.Reach.{Bare, b-call, b-mat, b-sumL, b-sumR, Reached, here, through}
-use Rattle.calls.specs.ReachLimit.{Call}
 use Rattle.calls.proofs.ReachEnds.{bare-free}
 use Rattle.terms.specs.Encoding.{InScope}
 use Rattle.terms.specs.Limits.{mostDefinitions, longestTerm}
 use Rattle.terms.specs.Question.{Question}
 use Rattle.terms.proofs.WellFormed.{accepted-well-formed}
 use Rattle.terms_bytes.proofs.Stores.{getD-reverse}
-use Rattle.steps_partitions.specs.Partition.{rank, Partition}
+use Rattle.steps_partitions.specs.Partition.{Partition}
 use Rattle.steps_tallies.specs.Bodies.{BodyIs}
 use Rattle.steps_tallies.proofs.CallLaws.{body-size}
 use Rattle.steps_reach.specs.CallTable.{mostCalls, RowIs}
-use Rattle.steps_reach.specs.Walks.{Defines, Reaches}
 use Rattle.steps_reach.proofs.CallWalks.{body-in-scope, body-bytes}
 use Rattle.steps_reach.proofs.Rows.{call-row}
-use Rattle.steps_places.specs.PlaceTable.{Has, slotOf, along}
-use Rattle.steps_places.specs.PlaceWalks.{FirstNames, Standing, Onto, Adds, FindTermIs, Scene, Reachable, OpenPlaceIs}
+use Rattle.steps_places.specs.PlaceTable.{slotOf, along}
+use Rattle.steps_places.specs.PlaceWalks.{FirstNames, Standing, FindTermIs, Scene, Reachable, OpenPlaceIs}
 use Rattle.steps_places.proofs.Meanings.{slot-within, means-along}
 
 -- What is reached is gone on from.

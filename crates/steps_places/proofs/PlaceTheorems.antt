@@ -1,6 +1,5 @@
 -- The steps of a call are exactly the own steps of the places in its table, each under its condition (document 02, request 2026-01). Assumes nothing.
 use mathlib.Core.List.{List, [], _++_}
-use mathlib.Core.Path.{_≡_}
 use Prim.Native.Nat.{ℕ}
 use Rattle.calculus.specs.Abstraction.{Act}
 use Rattle.calculus.specs.Cond.{Cond}
@@ -9,7 +8,6 @@ use Rattle.calculus.specs.Term.{Term, call}
 use Rattle.calculus.proofs.Conditions.{_~_, ~-refl}
 use Rattle.calculus.proofs.Working.{Trans}
 use Rattle.calls.specs.Reach.{Reached}
-use Rattle.calls.specs.ReachSearch.{Place}
 use Rattle.calls.proofs.Reaching.{Closed, Sound, Given, given, of-given, held}
 use Rattle.steps_places.specs.PlaceTable.{InTable, PlacesAre}
 

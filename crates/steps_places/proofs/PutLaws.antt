@@ -1,10 +1,10 @@
 -- The call at a place of a body, put into the table of places. Assumes nothing.
-use mathlib.Core.List.{List, [], _∷_, _++_, map, reverse}
+use mathlib.Core.List.{List, [], reverse}
 use mathlib.Core.Logic.{_⊎_, inl, inr, ⊎-elim}
-use mathlib.Core.Path.{_≡_, refl, sym, ap, subst, _∙_}
+use mathlib.Core.Path.{_≡_, sym, ap, subst, _∙_}
 use native.Mathlib.Decide.{ℕ-discrete}
 use native.Mathlib.Omega.{arith}
-use Prim.Native.Nat.{ℕ, suc, _+_, _*_, _<_, _≤_}
+use Prim.Native.Nat.{ℕ, suc, _+_, _<_, _≤_}
 use lib.ListN.{length, getD, set, length-map}
 use lib.Seq.{getD-set-same, getD-set-other}
 use Rattle.calculus.specs.Cond.{Cond}
@@ -21,11 +21,11 @@ use Rattle.steps_partitions.proofs.PartitionLaws.{partition-below, way-at}
 use Rattle.steps_tallies.specs.Bodies.{AritiesIs}
 use Rattle.steps_tallies.proofs.CallLaws.{few-parameters}
 use Rattle.steps_tallies.proofs.CandidateForms.{tag-at, only-call}
-use Rattle.steps_reach.specs.CallTable.{mostCalls, RowIs, Named, Held}
+use Rattle.steps_reach.specs.CallTable.{mostCalls, RowIs, Named}
 use Rattle.steps_reach.specs.Walks.{Defines, CalledNamesIs}
 use Rattle.steps_reach.proofs.CallWalks.{given}
 use Rattle.steps_places.specs.PlaceTable.{bit, Has, along}
-use Rattle.steps_places.specs.PlaceWalks.{WithBit, CallNumberIs, Standing, Onto, Adds, FindTermIs}
+use Rattle.steps_places.specs.PlaceWalks.{WithBit, CallNumberIs, Standing, Adds, FindTermIs}
 use Rattle.steps_places.proofs.SlotLaws.{name-read}
 
 -- A bit set in a row.

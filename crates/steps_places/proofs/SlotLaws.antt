@@ -1,6 +1,6 @@
 -- The names of a body as places of the first call's names, and the rows behind matches. Assumes nothing.
-use mathlib.Core.List.{List, [], _∷_, _++_, reverse}
-use mathlib.Core.Path.{_≡_, refl, sym, ap, subst, _∙_}
+use mathlib.Core.List.{List, _∷_, reverse}
+use mathlib.Core.Path.{_≡_, refl, sym, ap, _∙_}
 use native.Mathlib.Omega.{arith}
 use Prim.Native.Nat.{ℕ, suc, _+_, _*_, _<_, _≤_}
 use lib.ListN.{length, getD, drop}
@@ -12,7 +12,7 @@ use Rattle.terms.specs.Encoding.{nameByte, encode, InScope}
 use Rattle.terms.specs.Question.{Question}
 use Rattle.terms.proofs.ReadEncoded.{encode-some}
 use Rattle.terms_bytes.proofs.Stores.{getD-front}
-use Rattle.steps_partitions.specs.Partition.{rank, Partition, mergedAt, MergedRowIs}
+use Rattle.steps_partitions.specs.Partition.{rank, mergedAt, MergedRowIs}
 use Rattle.steps_reach.specs.CallTable.{mostCalls, nameIn, NamesIs, Held}
 use Rattle.steps_reach.specs.Walks.{Defines, CalledNamesIs}
 use Rattle.steps_reach.proofs.CallWalks.{parameter-byte}

@@ -1,36 +1,28 @@
 -- What the walk of a body puts into the table of places, form by form. Assumes nothing.
-use mathlib.Core.List.{List, [], _∷_, _++_, map, reverse}
+use mathlib.Core.List.{List, _∷_, _++_}
 use mathlib.Core.Logic.{_⊎_, inl, inr, ⊎-elim}
-use mathlib.Core.Path.{_≡_, refl, sym, ap, subst, _∙_}
-use native.Mathlib.Decide.{ℕ-discrete}
+use mathlib.Core.Path.{_≡_, sym, ap, _∙_}
 use native.Mathlib.Omega.{arith}
-use Prim.Native.Nat.{ℕ, suc, _+_, _*_, _<_, _≤_}
-use lib.ListN.{length, getD, drop, set, length-append, length-map}
-use lib.Seq.{drop-drop, getD-set-same, getD-set-other}
+use Prim.Native.Nat.{ℕ, _+_, _<_, _≤_}
+use lib.ListN.{length, getD, drop, length-append}
+use lib.Seq.{drop-drop}
 use Rattle.calculus.specs.Cond.{Cond}
 use Rattle.calculus.specs.Definitions.{Defs, opened}
-use Rattle.calculus.specs.Term.{Term, mat, sum, call}
-use Rattle.calls.specs.Reach.{Bare, b-call, b-mat, b-sumL, b-sumR}
-use Rattle.terms.specs.Encoding.{nameByte, encode, InScope}
-use Rattle.terms.specs.Limits.{greatestArity}
+use Rattle.calculus.specs.Term.{Term, mat, sum}
+use Rattle.calls.specs.Reach.{Bare, b-mat, b-sumL, b-sumR}
+use Rattle.terms.specs.Encoding.{encode, InScope}
 use Rattle.terms.specs.Question.{Question}
 use Rattle.terms.proofs.ReadEncoded.{encode-some}
-use Rattle.terms.proofs.ScopeLaws.{name-within}
-use Rattle.terms_bytes.proofs.Stores.{getD-front, getD-map}
-use Rattle.steps_partitions.specs.Partition.{mostPartitions, rank, Partition, mergedAt, continuations}
-use Rattle.steps_partitions.proofs.PartitionLaws.{merged-partition, partition-below, way-at}
-use Rattle.steps_tallies.specs.Bodies.{AritiesIs}
+use Rattle.steps_partitions.specs.Partition.{rank, Partition, mergedAt}
+use Rattle.steps_partitions.proofs.PartitionLaws.{merged-partition}
 use Rattle.steps_tallies.specs.Tally.{TallyIs, endAt}
-use Rattle.steps_tallies.proofs.CallLaws.{few-parameters}
-use Rattle.steps_tallies.proofs.CandidateForms.{tag, tag-at, only-mat, only-sum, only-call}
+use Rattle.steps_tallies.proofs.CandidateForms.{tag, tag-at, only-mat, only-sum}
 use Rattle.steps_tallies.proofs.FrontLaws.{stands, at-left, at-right}
-use Rattle.steps_reach.specs.CallTable.{mostCalls, RowIs, Named, Held}
-use Rattle.steps_reach.specs.Walks.{Defines, CalledNamesIs}
-use Rattle.steps_reach.proofs.CallWalks.{given}
+use Rattle.steps_reach.specs.CallTable.{mostCalls, RowIs}
+use Rattle.steps_reach.specs.Walks.{Defines}
 use Rattle.steps_reach.proofs.WalkLaws.{no-bare}
-use Rattle.steps_places.specs.PlaceTable.{bit, Has, slotOf, along}
-use Rattle.steps_places.specs.PlaceWalks.{WithBit, CallNumberIs, Standing, MatchedIs, Onto, Adds, FindTermIs}
-use Rattle.steps_places.proofs.SlotLaws.{name-read}
+use Rattle.steps_places.specs.PlaceTable.{Has, slotOf, along}
+use Rattle.steps_places.specs.PlaceWalks.{Standing, MatchedIs, Onto, Adds, FindTermIs}
 
 module _ (question s : List ℕ) (at j row count : ℕ) (t f : List ℕ) where
   -- Nothing stands unprefixed there.

@@ -1,9 +1,9 @@
 -- What the walk of a body puts into the table of places (document 02, request 2026-01): its unprefixed calls, each beneath the matches above it.
 use mathlib.Core.Bool.{Bool, true, false}
-use mathlib.Core.List.{List, _∷_, _++_, reverse}
+use mathlib.Core.List.{List, _++_, reverse}
 use mathlib.Core.Logic.{_⊎_}
 use mathlib.Core.Path.{_≡_}
-use Prim.Native.Nat.{ℕ, _+_, _-_, _*_, _^_, _<_, _≤_}
+use Prim.Native.Nat.{ℕ, _+_, _-_, _^_, _<_, _≤_}
 use lib.ListN.{length, getD, drop}
 use Rattle.calculus.specs.Cond.{Cond}
 use Rattle.calculus.specs.Definitions.{Defs, opened}

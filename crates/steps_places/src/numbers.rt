@@ -1,8 +1,7 @@
 // The places of a table by number, rows ascending and calls ascending in a row, where each place counts as often as its call weighs: once, or as
 // often as its body has candidates.
-ghost use mathlib.Core.Path.{_≡_};
-ghost use Prim.Native.Nat.{_*_, _≤_, _<_};
-ghost use lib.ListN.{length, getD};
+ghost use Prim.Native.Nat.{_≤_, _<_};
+ghost use lib.ListN.{length};
 ghost use Rattle.steps_partitions.specs.Partition.{mostPartitions};
 ghost use Rattle.steps_reach.specs.CallTable.{mostCalls};
 ghost use Rattle.steps_places.specs.PlaceNumbers.{WeightIs, RowWeightIs, TableWeightIs, RowAtIs, CallAtIs, PlaceAtIs};

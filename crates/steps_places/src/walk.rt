@@ -123,15 +123,8 @@ pub fn find_term(
         let call = spot.call;
         let count = spot.count;
         let row = matched(question, src, at, spot, table);
-        find_term(
-            question,
-            src,
-            tally,
-            at + 3,
-            Spot { call, row, count },
-            table,
-            found,
-        );
+        let behind = Spot { call, row, count };
+        find_term(question, src, tally, at + 3, behind, table, found);
         return;
     }
     if t != CHOICE {
@@ -142,13 +135,6 @@ pub fn find_term(
         return;
     }
     find_term(question, src, tally, left, spot, table, found);
-    find_term(
-        question,
-        src,
-        tally,
-        end_at(tally, left),
-        spot,
-        table,
-        found,
-    );
+    let right = end_at(tally, left);
+    find_term(question, src, tally, right, spot, table, found);
 }

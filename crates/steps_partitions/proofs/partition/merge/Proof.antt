@@ -34,14 +34,22 @@ loop-less : tie.Need-loop-less Inv-loop μ-loop
 loop-less c = search needs
 
 loop-again : tie.Need-loop-again Inv-loop μ-loop
-loop-again c = (
-  search needs,
-  length-set (c .before .before .before .loop .merged) _ _ ∙ c .before .before .before .loop .inv .1,
-  merge-more (c .before .before .before .before .before .args .classes .now) (c .before .before .before .before .before .args .a) (c .before .before .before .before .before .args .b) (c .before .before .before .loop .i) (c .before .before .before .loop .merged) _ (omega arith) (c .merged-class .ensures ∙ ap (mergedClass (c .before .before .before .before .before .args .a) (c .before .before .before .before .before .args .b)) (c .before .get .ensures)) (c .before .before .before .loop .inv .2),
-)
+loop-again c =
+    let v = c .before .before .before .before .before .args in (
+      search needs,
+      length-set (c .before .before .before .loop .merged) _ _ ∙ c .before .before .before .loop .inv .1,
+      merge-more (v .classes .now)
+          (v .a) (v .b) (c .before .before .before .loop .i) (c .before .before .before .loop .merged) _ (omega arith) (c .merged-class .ensures ∙ ap
+          (mergedClass (v .a) (v .b)) (c .before .get .ensures)) (c .before .before .before .loop .inv .2),
+    )
 
 returns : tie.Need-returns Inv-loop μ-loop
-returns c = let e : c .before .loop .i ≡ c .before .before .before .args .count = omega (arith, c .before .loop .inv .0, c .loop-test .left) in subst (λ k. MergeIs (c .before .before .before .args .classes .now) k (c .before .before .before .args .a) (c .before .before .before .args .b) (c .before .loop .merged)) e (c .before .loop .inv .2)
+returns c =
+    let c1 = c .before in
+    let c3 = c1 .before .before in
+    let v = c3 .args in
+    let e : c1 .loop .i ≡ v .count = omega (arith, c1 .loop .inv .0, c .loop-test .left) in
+    subst (λ k. MergeIs (v .classes .now) k (v .a) (v .b) (c1 .loop .merged)) e (c1 .loop .inv .2)
 
 pub merge-spec : {M : Type 1} → statement M
 merge-spec =

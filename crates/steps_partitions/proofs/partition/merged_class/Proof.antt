@@ -14,13 +14,19 @@ merged-into-requires : tie.Need-merged-into-requires
 merged-into-requires c κs = search needs
 
 returns-2 : tie.Need-returns-2
-returns-2 c = merged-is (c .before .before .before .args .a) (c .before .before .before .args .b) (c .before .before .if1 .left) (c .before .before .before .args .c) _ (swapped (c .before .before .before .args .a) (c .before .before .before .args .b) (c .before .before .before .args .c) _ (c .merged-into .ensures))
+returns-2 c =
+    let c3 = c .before .before .before in
+    let v = c3 .args in
+    merged-is (v .a) (v .b) (c .before .before .if1 .left) (v .c) _ (swapped (v .a) (v .b) (v .c) _ (c .merged-into .ensures))
 
 merged-into-requires-2 : tie.Need-merged-into-requires-2
 merged-into-requires-2 c κs = omega (arith, c .before .if1 .left)
 
 returns-3 : tie.Need-returns-3
-returns-3 c = merged-is (c .before .before .before .args .a) (c .before .before .before .args .b) (c .before .before .if1 .left) (c .before .before .before .args .c) _ (c .merged-into2 .ensures)
+returns-3 c =
+    let c3 = c .before .before .before in
+    let v = c3 .args in
+    merged-is (v .a) (v .b) (c .before .before .if1 .left) (v .c) _ (c .merged-into2 .ensures)
 
 pub merged-class-spec : {M : Type 1} → statement M
 merged-class-spec =

@@ -1,6 +1,5 @@
 -- `steps_partitions::partition::merged_row` meets its contract. Assumes nothing.
 use Rattle.steps_partitions.proofs.RankLaws.{row-kept, row-merged}
-use native.Mathlib.Omega.{arith}
 use borrow.Author.Needs.{needs}
 use Rattle.steps_partitions.proofs.partition.merged_row.Statement.{statement}
 use Rattle.steps_partitions.proofs.partition.merged_row.Tie as tie
@@ -21,7 +20,14 @@ get-requires-2 : tie.Need-get-requires-2
 get-requires-2 c κs = search needs
 
 returns : tie.Need-returns
-returns c = row-kept (c .before .before .before .before .before .before .args .row) (c .before .before .before .before .before .before .args .count) (c .before .before .before .before .before .before .args .i) (c .before .before .before .before .before .before .args .j) (c .before .before .before .before .before .unrank .result) (c .before .before .before .before .before .unrank .ensures) (c .before .before .before .before .before .before .pre .1) (c .before .before .before .before .before .before .pre .2) (c .before .before .before .get .result) (c .before .get2 .result) (c .before .before .before .get .ensures) (c .before .get2 .ensures) (c .if1 .taken)
+returns c =
+    let c1 = c .before in
+    let c3 = c1 .before .before in
+    let c5 = c3 .before .before in
+    let c6 = c5 .before in
+    let v = c6 .args in
+    row-kept (v .row) (v .count) (v .i) (v .j) (c5 .unrank .result) (c5 .unrank .ensures) (c6 .pre .1) (c6 .pre .2) (c3 .get .result)
+    (c1 .get2 .result) (c3 .get .ensures) (c1 .get2 .ensures) (c .if1 .taken)
 
 slice-aggregate-merge : tie.Need-slice-aggregate-merge
 slice-aggregate-merge c = search needs
@@ -36,7 +42,15 @@ rank-requires : tie.Need-rank-requires
 rank-requires c κs = search needs
 
 returns-2 : tie.Need-returns-2
-returns-2 c = row-merged (c .before .before .before .before .before .before .before .before .before .before .args .row) (c .before .before .before .before .before .before .before .before .before .before .args .count) (c .before .before .before .before .before .before .before .before .before .before .args .i) (c .before .before .before .before .before .before .before .before .before .before .args .j) (c .before .before .before .before .before .before .before .before .before .unrank .result) (c .before .before .before .before .before .before .before .before .before .unrank .ensures) (c .before .before .before .before .before .before .before .before .before .before .pre .1) (c .before .before .before .before .before .before .before .before .before .before .pre .2) (c .before .before .before .before .before .before .before .get .result) (c .before .before .before .before .before .get2 .result) (c .before .before .before .before .before .before .before .get .ensures) (c .before .before .before .before .before .get2 .ensures) (c .before .before .merge .result) (c .before .before .merge .ensures) (c .rank .result) (c .rank .ensures)
+returns-2 c =
+    let c2 = c .before .before in
+    let c5 = c2 .before .before .before in
+    let c7 = c5 .before .before in
+    let c9 = c7 .before .before in
+    let c10 = c9 .before in
+    let v = c10 .args in
+    row-merged (v .row) (v .count) (v .i) (v .j) (c9 .unrank .result) (c9 .unrank .ensures) (c10 .pre .1) (c10 .pre .2) (c7 .get .result)
+    (c5 .get2 .result) (c7 .get .ensures) (c5 .get2 .ensures) (c2 .merge .result) (c2 .merge .ensures) (c .rank .result) (c .rank .ensures)
 
 pub merged-row-spec : {M : Type 1} → statement M
 merged-row-spec =

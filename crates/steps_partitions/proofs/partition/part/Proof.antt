@@ -10,10 +10,17 @@ ways-requires : tie.Need-ways-requires
 ways-requires c κs = search needs
 
 mul-result : tie.Need-mul-result
-mul-result c = let p = part-is (c .before .args .class) (c .before .args .rest) (c .before .args .classes) (c .ways .result) _ (omega (arith, c .before .fits)) (c .before .pre) (c .ways .ensures) refl in record { fits = omega (arith, p .few) }
+mul-result c =
+    let c1 = c .before in
+    let v = c1 .args in
+    let p = part-is (v .class) (v .rest) (v .classes) (c .ways .result) _ (omega (arith, c1 .fits)) (c1 .pre) (c .ways .ensures) refl in
+    record { fits = omega (arith, p .few) }
 
 returns : tie.Need-returns
-returns c = part-is (c .before .args .class) (c .before .args .rest) (c .before .args .classes) (c .ways .result) _ (omega (arith, c .before .fits)) (c .before .pre) (c .ways .ensures) refl
+returns c =
+    let c1 = c .before in
+    let v = c1 .args in
+    part-is (v .class) (v .rest) (v .classes) (c .ways .result) _ (omega (arith, c1 .fits)) (c1 .pre) (c .ways .ensures) refl
 
 pub part-spec : {M : Type 1} → statement M
 part-spec = tie.close (tie.spec ways-requires mul-result returns)

@@ -17,7 +17,10 @@ loop-holds : tie.Need-loop-holds Inv-loop μ-loop
 loop-holds c = (search needs, omega arith, rank-start _ _)
 
 returns : tie.Need-returns Inv-loop μ-loop
-returns c = rank-none (c .before .before .before .before .args .classes .now) (c .before .before .before .before .args .count) (c .before .before .loop .i) (c .before .before .loop .m) (c .before .before .loop .number) (c .if1 .taken) (c .before .before .loop .inv .2)
+returns c =
+    let c2 = c .before .before in
+    let c4 = c2 .before .before in
+    rank-none (c4 .args .classes .now) (c4 .args .count) (c2 .loop .i) (c2 .loop .m) (c2 .loop .number) (c .if1 .taken) (c2 .loop .inv .2)
 
 get-requires : tie.Need-get-requires Inv-loop μ-loop
 get-requires c κs = search needs
@@ -50,14 +53,24 @@ loop-less : tie.Need-loop-less Inv-loop μ-loop
 loop-less c = search needs
 
 loop-again : tie.Need-loop-again Inv-loop μ-loop
-loop-again c = (
-  search needs,
-  omega (arith, c .before .part .ensures .few),
-  subst (λ k. Ranked (c .before .before .before .before .before .before .before .args .classes .now) (c .before .before .before .before .before .before .before .args .count) (c .before .before .before .before .before .loop .i + 1) k (c .before .before .before .before .before .loop .number + c .before .part .result)) (sym (c .larger .ensures)) (rank-more (c .before .before .before .before .before .before .before .args .classes .now) (c .before .before .before .before .before .before .before .args .count) (c .before .before .before .before .before .loop .i) (c .before .before .before .before .before .loop .m) (c .before .before .before .before .before .loop .number) (c .before .before .get .result) (c .before .part .result) (c .before .before .before .before .loop-test .taken) (c .before .before .get .ensures) (c .before .part .ensures .is) (c .before .before .before .before .before .loop .inv .2)),
-)
+loop-again c =
+    let v = c .before .before .before .before .before .before .before .args in (
+      search needs,
+      omega (arith, c .before .part .ensures .few),
+      subst (λ k. Ranked (v .classes .now) (v .count)
+          (c .before .before .before .before .before .loop .i + 1) k (c .before .before .before .before .before .loop .number + c .before .part .result))
+          (sym (c .larger .ensures)) (rank-more (v .classes .now) (v .count) (c .before .before .before .before .before .loop .i)
+          (c .before .before .before .before .before .loop .m) (c .before .before .before .before .before .loop .number) (c .before .before .get .result)
+          (c .before .part .result) (c .before .before .before .before .loop-test .taken) (c .before .before .get .ensures) (c .before .part .ensures .is)
+          (c .before .before .before .before .before .loop .inv .2)),
+    )
 
 returns-2 : tie.Need-returns-2 Inv-loop μ-loop
-returns-2 c = rank-all (c .before .before .before .args .classes .now) (c .before .before .before .args .count) (c .before .loop .i) (c .before .loop .m) (c .before .loop .number) (c .loop-test .left) (c .before .loop .inv .0) (c .before .loop .inv .2)
+returns-2 c =
+    let c1 = c .before in
+    let c3 = c1 .before .before in
+    rank-all (c3 .args .classes .now) (c3 .args .count) (c1 .loop .i) (c1 .loop .m) (c1 .loop .number) (c .loop-test .left) (c1 .loop .inv .0)
+    (c1 .loop .inv .2)
 
 pub rank-spec : {M : Type 1} → statement M
 rank-spec =

@@ -28,7 +28,10 @@ ways-requires : tie.Need-ways-requires Inv-loop μ-loop
 ways-requires c κs = omega arith
 
 class-in-requires : tie.Need-class-in-requires Inv-loop μ-loop
-class-in-requires c κs = subst (λ k. 0 < k) (sym (c .ways .ensures)) (some-way (c .before .before .before .args .count - 1 - c .before .before .loop .i) (c .before .before .loop .m))
+class-in-requires c κs =
+    let c2 = c .before .before in
+    let c3 = c2 .before in
+    subst (λ k. 0 < k) (sym (c .ways .ensures)) (some-way (c3 .args .count - 1 - c2 .loop .i) (c2 .loop .m))
 
 cast-classes : tie.Need-cast-classes Inv-loop μ-loop
 cast-classes c = omega (arith, c .class-in .ensures .few)
@@ -55,16 +58,28 @@ loop-less : tie.Need-loop-less Inv-loop μ-loop
 loop-less c = search needs
 
 loop-again : tie.Need-loop-again Inv-loop μ-loop
-loop-again c = (
-  search needs,
-  omega (arith, c .before .class-in .ensures .few, c .larger .ensures),
-  omega arith,
-  length-set (c .before .before .before .before .loop .classes) _ _ ∙ c .before .before .before .before .loop .inv .3,
-  subst (λ k. Unranked (c .before .before .before .before .before .args .row) (c .before .before .before .before .before .args .count) (c .before .before .before .before .loop .i + 1) k (c .before .before .before .before .loop .left - c .before .class-in .result * c .before .before .ways .result) (set (c .before .before .before .before .loop .classes) (c .before .before .before .before .loop .i) (c .before .class-in .result))) (sym (c .larger .ensures)) (unrank-more (c .before .before .before .before .before .args .row) (c .before .before .before .before .before .args .count) (c .before .before .before .before .loop .i) (c .before .before .before .before .loop .m) (c .before .before .before .before .loop .left) (c .before .before .before .before .loop .classes) (c .before .before .ways .result) (c .before .class-in .result) (c .before .before .before .loop-test .taken) (omega arith) (c .before .before .ways .ensures) (c .before .class-in .ensures) (c .before .before .before .before .loop .inv .4)),
-)
+loop-again c =
+    let v = c .before .before .before .before .before .args in (
+      search needs,
+      omega (arith, c .before .class-in .ensures .few, c .larger .ensures),
+      omega arith,
+      length-set
+          (c .before .before .before .before .loop .classes) _ _ ∙ c .before .before .before .before .loop .inv .3,
+      subst (λ k. Unranked (v .row) (v .count)
+          (c .before .before .before .before .loop .i + 1) k (c .before .before .before .before .loop .left - c .before .class-in .result *
+          c .before .before .ways .result) (set (c .before .before .before .before .loop .classes) (c .before .before .before .before .loop .i)
+          (c .before .class-in .result))) (sym (c .larger .ensures)) (unrank-more (v .row) (v .count) (c .before .before .before .before .loop .i)
+          (c .before .before .before .before .loop .m) (c .before .before .before .before .loop .left) (c .before .before .before .before .loop .classes)
+          (c .before .before .ways .result) (c .before .class-in .result) (c .before .before .before .loop-test .taken) (omega arith)
+          (c .before .before .ways .ensures) (c .before .class-in .ensures) (c .before .before .before .before .loop .inv .4)),
+    )
 
 returns : tie.Need-returns Inv-loop μ-loop
-returns c = unrank-all (c .before .before .args .row) (c .before .before .args .count) (c .before .loop .i) (c .before .loop .m) (c .before .loop .left) (c .before .loop .classes) (c .loop-test .left) (c .before .loop .inv .4)
+returns c =
+    let c1 = c .before in
+    let c2 = c1 .before in
+    unrank-all (c2 .args .row) (c2 .args .count) (c1 .loop .i) (c1 .loop .m) (c1 .loop .left) (c1 .loop .classes) (c .loop-test .left)
+    (c1 .loop .inv .4)
 
 pub unrank-spec : {M : Type 1} → statement M
 unrank-spec =

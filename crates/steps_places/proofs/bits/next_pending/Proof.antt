@@ -21,7 +21,12 @@ is-pending-requires : tie.Need-is-pending-requires Inv-loop μ-loop
 is-pending-requires c κs = search needs
 
 returns : tie.Need-returns Inv-loop μ-loop
-returns c = next-there (c .before .before .before .before .args .set) (c .before .before .before .before .args .done) (c .before .before .before .loop .j) (c .before .before .loop-test .taken) (subst (PendingIs (c .before .before .before .before .args .set) (c .before .before .before .before .args .done) (c .before .before .before .loop .j)) (c .if1 .taken) (c .before .is-pending .ensures))
+returns c =
+    let c3 = c .before .before .before in
+    let c4 = c3 .before in
+    let v = c4 .args in
+    next-there (v .set) (v .done) (c3 .loop .j) (c .before .before .loop-test .taken) (subst (PendingIs (v .set) (v .done) (c3 .loop .j))
+    (c .if1 .taken) (c .before .is-pending .ensures))
 
 add-j : tie.Need-add-j Inv-loop μ-loop
 add-j c = search needs
@@ -30,10 +35,18 @@ loop-less : tie.Need-loop-less Inv-loop μ-loop
 loop-less c = search needs
 
 loop-again : tie.Need-loop-again Inv-loop μ-loop
-loop-again c = (search needs, done-more (c .before .before .before .before .args .set) (c .before .before .before .before .args .done) (c .before .before .before .loop .j) (subst (PendingIs (c .before .before .before .before .args .set) (c .before .before .before .before .args .done) (c .before .before .before .loop .j)) (c .if1 .left) (c .before .is-pending .ensures)) (c .before .before .before .loop .inv .1))
+loop-again c =
+    let v = c .before .before .before .before .args in (
+      search needs,
+      done-more (v .set) (v .done) (c .before .before .before .loop .j) (subst (PendingIs (v .set) (v .done)
+          (c .before .before .before .loop .j)) (c .if1 .left) (c .before .is-pending .ensures)) (c .before .before .before .loop .inv .1),
+    )
 
 returns-2 : tie.Need-returns-2 Inv-loop μ-loop
-returns-2 c = next-none (c .before .before .args .set) (c .before .before .args .done) (c .before .loop .j) (c .loop-test .left) (c .before .loop .inv .1)
+returns-2 c =
+    let c1 = c .before in
+    let c2 = c1 .before in
+    next-none (c2 .args .set) (c2 .args .done) (c1 .loop .j) (c .loop-test .left) (c1 .loop .inv .1)
 
 pub next-pending-spec : {M : Type 1} → statement M
 next-pending-spec =

@@ -15,7 +15,11 @@ shl-result : tie.Need-shl-result
 shl-result c = search needs
 
 returns : tie.Need-returns
-returns c = subst (λ y. WithBit (c .args .set) (c .args .j) (bitOr (c .args .set) y)) (sym (shl-exact {a = 1} 1 (c .args .j) 64 (omega arith) (omega (arith, c .pre)) ∙ one-mul (2 ^ c .args .j))) (with-bit-is (c .args .set) (c .args .j) (c .pre))
+returns c =
+    subst (λ y. WithBit (c .args .set) (c .args .j) (bitOr (c .args .set) y)) (sym (shl-exact {a = 1} 1 (c .args .j) 64 (omega arith) (omega (
+      arith,
+      c .pre,
+    )) ∙ one-mul (2 ^ c .args .j))) (with-bit-is (c .args .set) (c .args .j) (c .pre))
 
 pub with-bit-spec : {M : Type 1} → statement M
 with-bit-spec = tie.close (tie.spec shl-result returns)

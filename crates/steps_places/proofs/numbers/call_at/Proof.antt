@@ -19,7 +19,13 @@ weight-in-requires : tie.Need-weight-in-requires Inv-loop μ-loop
 weight-in-requires c κs = search needs
 
 returns : tie.Need-returns Inv-loop μ-loop
-returns c = call-there (c .before .before .before .before .before .args .set) (c .before .before .before .before .before .args .weights .now) (c .before .before .before .before .before .args .number) (c .before .before .before .loop .j) (c .before .before .before .loop .left) (c .before .weight-in .result) (c .before .before .loop-test .taken) (c .before .weight-in .ensures) (c .if1 .taken) (c .before .before .before .loop .inv .1)
+returns c =
+    let c1 = c .before in
+    let c3 = c1 .before .before in
+    let c5 = c3 .before .before in
+    let v = c5 .args in
+    call-there (v .set) (v .weights .now) (v .number) (c3 .loop .j) (c3 .loop .left) (c1 .weight-in .result) (c .before .before .loop-test .taken)
+    (c1 .weight-in .ensures) (c .if1 .taken) (c3 .loop .inv .1)
 
 add-j : tie.Need-add-j Inv-loop μ-loop
 add-j c = search needs
@@ -28,10 +34,19 @@ loop-less : tie.Need-loop-less Inv-loop μ-loop
 loop-less c = search needs
 
 loop-again : tie.Need-loop-again Inv-loop μ-loop
-loop-again c = (search needs, left-more (c .before .before .before .before .before .args .set) (c .before .before .before .before .before .args .weights .now) (c .before .before .before .before .before .args .number) (c .before .before .before .loop .j) (c .before .before .before .loop .left) (c .before .weight-in .result) (c .before .weight-in .ensures) (c .if1 .left) (c .before .before .before .loop .inv .1))
+loop-again c =
+    let v = c .before .before .before .before .before .args in (
+      search needs,
+      left-more (v .set) (v .weights .now) (v .number) (c .before .before .before .loop .j) (c .before .before .before .loop .left)
+          (c .before .weight-in .result) (c .before .weight-in .ensures) (c .if1 .left) (c .before .before .before .loop .inv .1),
+    )
 
 returns-2 : tie.Need-returns-2 Inv-loop μ-loop
-returns-2 c = call-none (c .before .before .before .args .set) (c .before .before .before .args .weights .now) (c .before .before .before .args .number) (c .before .loop .j) (c .before .loop .left) (c .loop-test .left) (c .before .loop .inv .0) (c .before .loop .inv .1)
+returns-2 c =
+    let c1 = c .before in
+    let c3 = c1 .before .before in
+    let v = c3 .args in
+    call-none (v .set) (v .weights .now) (v .number) (c1 .loop .j) (c1 .loop .left) (c .loop-test .left) (c1 .loop .inv .0) (c1 .loop .inv .1)
 
 pub call-at-spec : {M : Type 1} → statement M
 call-at-spec =

@@ -8,7 +8,11 @@ row-at-requires : tie.Need-row-at-requires
 row-at-requires c κs = search needs
 
 returns : tie.Need-returns
-returns c = place-none (c .before .before .before .before .args .found .now) (c .before .before .before .before .args .weights .now) (c .before .before .before .before .args .rows) (c .before .before .before .before .args .number) (c .before .row-at .result) (c .before .row-at .ensures) (c .if1 .taken) _
+returns c =
+    let c1 = c .before in
+    let c4 = c1 .before .before .before in
+    let v = c4 .args in
+    place-none (v .found .now) (v .weights .now) (v .rows) (v .number) (c1 .row-at .result) (c1 .row-at .ensures) (c .if1 .taken) _
 
 mul-call-at : tie.Need-mul-call-at
 mul-call-at c = search needs
@@ -20,7 +24,12 @@ call-at-requires : tie.Need-call-at-requires
 call-at-requires c κs = search needs
 
 returns-2 : tie.Need-returns-2
-returns-2 c = place-there (c .before .before .before .before .before .before .args .found .now) (c .before .before .before .before .before .before .args .weights .now) (c .before .before .before .before .before .before .args .rows) (c .before .before .before .before .before .before .args .number) (c .before .before .before .row-at .result) (c .before .before .before .row-at .ensures) (c .before .before .if1 .left) (c .call-at .result) (c .call-at .ensures)
+returns-2 c =
+    let c3 = c .before .before .before in
+    let c6 = c3 .before .before .before in
+    let v = c6 .args in
+    place-there (v .found .now) (v .weights .now) (v .rows) (v .number) (c3 .row-at .result) (c3 .row-at .ensures) (c .before .before .if1 .left)
+    (c .call-at .result) (c .call-at .ensures)
 
 pub place-at-spec : {M : Type 1} → statement M
 place-at-spec =

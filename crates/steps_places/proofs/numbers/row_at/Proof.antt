@@ -24,7 +24,14 @@ row-weight-requires : tie.Need-row-weight-requires Inv-loop μ-loop
 row-weight-requires c κs = search needs
 
 returns : tie.Need-returns Inv-loop μ-loop
-returns c = row-there (c .before .before .before .before .before .before .before .args .found .now) (c .before .before .before .before .before .before .before .args .weights .now) (c .before .before .before .before .before .before .before .args .rows) (c .before .before .before .before .before .before .before .args .number) (c .before .before .before .before .loop .r) (c .before .before .before .before .loop .left) (c .before .row-weight .result) (c .before .before .before .loop-test .taken) (c .before .row-weight .ensures) (c .if1 .taken) (c .before .before .before .before .loop .inv .1)
+returns c =
+    let c1 = c .before in
+    let c3 = c1 .before .before in
+    let c4 = c3 .before in
+    let c7 = c4 .before .before .before in
+    let v = c7 .args in
+    row-there (v .found .now) (v .weights .now) (v .rows) (v .number) (c4 .loop .r) (c4 .loop .left) (c1 .row-weight .result) (c3 .loop-test .taken)
+    (c1 .row-weight .ensures) (c .if1 .taken) (c4 .loop .inv .1)
 
 add-r : tie.Need-add-r Inv-loop μ-loop
 add-r c = search needs
@@ -33,10 +40,21 @@ loop-less : tie.Need-loop-less Inv-loop μ-loop
 loop-less c = search needs
 
 loop-again : tie.Need-loop-again Inv-loop μ-loop
-loop-again c = (search needs, rows-more (c .before .before .before .before .before .before .before .args .found .now) (c .before .before .before .before .before .before .before .args .weights .now) (c .before .before .before .before .before .before .before .args .number) (c .before .before .before .before .loop .r) (c .before .before .before .before .loop .left) (c .before .row-weight .result) (c .before .row-weight .ensures) (c .if1 .left) (c .before .before .before .before .loop .inv .1))
+loop-again c =
+    let v = c .before .before .before .before .before .before .before .args in (
+      search needs,
+      rows-more (v .found .now) (v .weights .now) (v .number) (c .before .before .before .before .loop .r)
+          (c .before .before .before .before .loop .left) (c .before .row-weight .result) (c .before .row-weight .ensures) (c .if1 .left)
+          (c .before .before .before .before .loop .inv .1),
+    )
 
 returns-2 : tie.Need-returns-2 Inv-loop μ-loop
-returns-2 c = row-none (c .before .before .before .before .args .found .now) (c .before .before .before .before .args .weights .now) (c .before .before .before .before .args .rows) (c .before .before .before .before .args .number) (c .before .loop .r) (c .before .loop .left) (c .loop-test .left) (c .before .loop .inv .0) (c .before .loop .inv .1)
+returns-2 c =
+    let c1 = c .before in
+    let c4 = c1 .before .before .before in
+    let v = c4 .args in
+    row-none (v .found .now) (v .weights .now) (v .rows) (v .number) (c1 .loop .r) (c1 .loop .left) (c .loop-test .left) (c1 .loop .inv .0)
+    (c1 .loop .inv .1)
 
 pub row-at-spec : {M : Type 1} → statement M
 row-at-spec =

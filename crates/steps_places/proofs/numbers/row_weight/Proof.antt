@@ -31,10 +31,18 @@ loop-less : tie.Need-loop-less Inv-loop μ-loop
 loop-less c = search needs
 
 loop-again : tie.Need-loop-again Inv-loop μ-loop
-loop-again c = (search needs, row-more (c .before .before .before .before .args .set) (c .before .before .before .before .args .weights .now) (c .before .before .loop .j) (c .before .before .loop .sum) (c .weight-in .result) (c .weight-in .ensures) (c .before .before .loop .inv .1))
+loop-again c = (
+  search needs,
+  row-more (c .before .before .before .before .args .set) (c .before .before .before .before .args .weights .now)
+      (c .before .before .loop .j) (c .before .before .loop .sum) (c .weight-in .result) (c .weight-in .ensures) (c .before .before .loop .inv .1),
+)
 
 returns : tie.Need-returns Inv-loop μ-loop
-returns c = let e : c .before .loop .j ≡ mostCalls = omega (arith, c .before .loop .inv .0, c .loop-test .left) in subst (λ k. RowWeightIs (c .before .before .before .args .set) (c .before .before .before .args .weights .now) k (c .before .loop .sum)) e (c .before .loop .inv .1)
+returns c =
+    let c1 = c .before in
+    let c3 = c1 .before .before in
+    let e : c1 .loop .j ≡ mostCalls = omega (arith, c1 .loop .inv .0, c .loop-test .left) in
+    subst (λ k. RowWeightIs (c3 .args .set) (c3 .args .weights .now) k (c1 .loop .sum)) e (c1 .loop .inv .1)
 
 pub row-weight-spec : {M : Type 1} → statement M
 row-weight-spec =

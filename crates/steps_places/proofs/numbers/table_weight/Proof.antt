@@ -27,7 +27,10 @@ row-weight-requires : tie.Need-row-weight-requires Inv-loop μ-loop
 row-weight-requires c κs = search needs
 
 add-sum : tie.Need-add-sum Inv-loop μ-loop
-add-sum c = omega (arith, c .row-weight .ensures .few, c .before .before .before .loop .inv .1 .few, c .before .before .before .before .before .before .pre .0)
+add-sum c =
+    let c3 = c .before .before .before in
+    let c6 = c3 .before .before .before in
+    omega (arith, c .row-weight .ensures .few, c3 .loop .inv .1 .few, c6 .pre .0)
 
 add-r : tie.Need-add-r Inv-loop μ-loop
 add-r c = search needs
@@ -36,10 +39,20 @@ loop-less : tie.Need-loop-less Inv-loop μ-loop
 loop-less c = search needs
 
 loop-again : tie.Need-loop-again Inv-loop μ-loop
-loop-again c = (search needs, table-more (c .before .before .before .before .before .before .args .found .now) (c .before .before .before .before .before .before .args .weights .now) (c .before .before .before .loop .r) (c .before .before .before .loop .sum) (c .row-weight .result) (c .row-weight .ensures) (c .before .before .before .loop .inv .1))
+loop-again c = (
+  search needs,
+  table-more (c .before .before .before .before .before .before .args .found .now)
+      (c .before .before .before .before .before .before .args .weights .now) (c .before .before .before .loop .r)
+      (c .before .before .before .loop .sum) (c .row-weight .result) (c .row-weight .ensures) (c .before .before .before .loop .inv .1),
+)
 
 returns : tie.Need-returns Inv-loop μ-loop
-returns c = let e : c .before .loop .r ≡ c .before .before .before .before .args .rows = omega (arith, c .before .loop .inv .0, c .loop-test .left) in subst (λ k. TableWeightIs (c .before .before .before .before .args .found .now) (c .before .before .before .before .args .weights .now) k (c .before .loop .sum)) e (c .before .loop .inv .1)
+returns c =
+    let c1 = c .before in
+    let c4 = c1 .before .before .before in
+    let v = c4 .args in
+    let e : c1 .loop .r ≡ v .rows = omega (arith, c1 .loop .inv .0, c .loop-test .left) in
+    subst (λ k. TableWeightIs (v .found .now) (v .weights .now) k (c1 .loop .sum)) e (c1 .loop .inv .1)
 
 pub table-weight-spec : {M : Type 1} → statement M
 table-weight-spec =

@@ -10,10 +10,16 @@ bit-at-requires : tie.Need-bit-at-requires
 bit-at-requires c κs = search needs
 
 returns : tie.Need-returns
-returns c = weight-none (c .before .before .before .args .set) (c .before .before .before .args .weights .now) (c .before .before .before .args .j) (λ e. c .if1 .taken (c .before .bit-at .ensures ∙ e))
+returns c =
+    let c3 = c .before .before .before in
+    let v = c3 .args in
+    weight-none (v .set) (v .weights .now) (v .j) (λ e. c .if1 .taken (c .before .bit-at .ensures ∙ e))
 
 returns-2 : tie.Need-returns-2
-returns-2 c = weight-past (c .before .before .before .before .args .set) (c .before .before .before .before .args .weights .now) (c .before .before .before .before .args .j) (c .if2 .taken)
+returns-2 c =
+    let c4 = c .before .before .before .before in
+    let v = c4 .args in
+    weight-past (v .set) (v .weights .now) (v .j) (c .if2 .taken)
 
 mul-result : tie.Need-mul-result
 mul-result c = search needs
@@ -25,7 +31,14 @@ cast-result : tie.Need-cast-result
 cast-result c = omega (arith, c .shared-slice-known2 .given (c .before .before .before .before .before .args .j))
 
 returns-3 : tie.Need-returns-3
-returns-3 c = weight-there (c .before .before .before .before .before .args .set) (c .before .before .before .before .before .args .weights .now) (c .before .before .before .before .before .args .j) (sym (c .before .before .before .bit-at .ensures) ∙ c .before .before .if1 .left) (omega (arith, c .shared-slice-known2 .given (c .before .before .before .before .before .args .j)))
+returns-3 c =
+    let c3 = c .before .before .before in
+    let c5 = c3 .before .before in
+    let v = c5 .args in
+    weight-there (v .set) (v .weights .now) (v .j) (sym (c3 .bit-at .ensures) ∙ c .before .before .if1 .left) (omega (
+      arith,
+      c .shared-slice-known2 .given (v .j),
+    ))
 
 pub weight-in-spec : {M : Type 1} → statement M
 weight-in-spec =

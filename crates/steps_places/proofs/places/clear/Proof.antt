@@ -31,13 +31,21 @@ loop-less : tie.Need-loop-less Inv-loop μ-loop
 loop-less c = search needs
 
 loop-again : tie.Need-loop-again Inv-loop μ-loop
-loop-again c = (search needs, length-set (c .before .loop .found) _ _ ∙ c .before .loop .inv .1, clear-more (c .before .loop .found) (c .before .loop .r) (omega arith) (c .before .loop .inv .2))
+loop-again c = (
+  search needs,
+  length-set (c .before .loop .found) _ _ ∙ c .before .loop .inv .1,
+  clear-more (c .before .loop .found) (c .before .loop .r) (omega
+      arith) (c .before .loop .inv .2),
+)
 
 same-length : tie.Need-same-length Inv-loop μ-loop
 same-length c = search needs
 
 returns : tie.Need-returns Inv-loop μ-loop
-returns c = let e : c .before .loop .r ≡ c .before .before .args .rows = omega (arith, c .before .loop .inv .0, c .loop-test .left) in subst (Cleared (c .before .loop .found)) e (c .before .loop .inv .2)
+returns c =
+    let c1 = c .before in
+    let e : c1 .loop .r ≡ c .before .before .args .rows = omega (arith, c1 .loop .inv .0, c .loop-test .left) in
+    subst (Cleared (c1 .loop .found)) e (c1 .loop .inv .2)
 
 pub clear-spec : {M : Type 1} → statement M
 clear-spec =

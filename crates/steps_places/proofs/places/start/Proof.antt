@@ -24,7 +24,11 @@ same-length : tie.Need-same-length
 same-length c = search needs
 
 returns : tie.Need-returns
-returns c = started (c .before .before .before .clear .last .0) (c .before .before .before .before .before .before .args .rows) (c .with-bit .result) (c .before .before .before .before .before .before .pre .0) (let l = c .before .before .before .clear .kept .0 in omega (arith, l, c .before .before .before .before .before .before .pre .1)) (c .before .before .before .clear .ensures) (c .with-bit .ensures)
+returns c =
+    let c3 = c .before .before .before in
+    let c6 = c3 .before .before .before in
+    started (c3 .clear .last .0) (c6 .args .rows) (c .with-bit .result) (c6 .pre .0) (let l = c3 .clear .kept .0 in omega (arith, l, c6 .pre .1))
+    (c3 .clear .ensures) (c .with-bit .ensures)
 
 pub start-spec : {M : Type 1} → statement M
 start-spec =

@@ -20,7 +20,12 @@ is-call-requires : tie.Need-is-call-requires Inv-loop μ-loop
 is-call-requires c κs = search needs
 
 returns : tie.Need-returns Inv-loop μ-loop
-returns c = number-there (c .before .before .before .before .before .before .args .table .now) (c .before .before .before .before .before .before .args .definition) (c .before .before .before .before .before .before .args .names .now) (c .before .before .before .before .before .before .args .count) (c .before .before .before .loop .i) (c .before .before .loop-test .taken) (c .before .is-call .ensures .held (c .if1 .taken))
+returns c =
+    let c3 = c .before .before .before in
+    let c6 = c3 .before .before .before in
+    let v = c6 .args in
+    number-there (v .table .now) (v .definition) (v .names .now) (v .count) (c3 .loop .i) (c .before .before .loop-test .taken)
+    (c .before .is-call .ensures .held (c .if1 .taken))
 
 add-i : tie.Need-add-i Inv-loop μ-loop
 add-i c = search needs
@@ -29,10 +34,19 @@ loop-less : tie.Need-loop-less Inv-loop μ-loop
 loop-less c = search needs
 
 loop-again : tie.Need-loop-again Inv-loop μ-loop
-loop-again c = (search needs, held-not (c .before .before .before .before .before .before .args .table .now) (c .before .before .before .before .before .before .args .definition) (c .before .before .before .before .before .before .args .names .now) (c .before .before .before .before .before .before .args .count) (c .before .before .before .loop .i) (c .before .before .before .loop .inv .1) (c .before .is-call .ensures .other (c .if1 .left)))
+loop-again c =
+    let v = c .before .before .before .before .before .before .args in (
+      search needs,
+      held-not (v .table .now) (v .definition) (v .names .now) (v .count) (c .before .before .before .loop .i)
+          (c .before .before .before .loop .inv .1) (c .before .is-call .ensures .other (c .if1 .left)),
+    )
 
 returns-2 : tie.Need-returns-2 Inv-loop μ-loop
-returns-2 c = number-none (c .before .before .before .before .args .table .now) (c .before .before .before .before .args .definition) (c .before .before .before .before .args .names .now) (c .before .before .before .before .args .count) (c .before .loop .i) (c .loop-test .left) (c .before .loop .inv .1)
+returns-2 c =
+    let c1 = c .before in
+    let c4 = c1 .before .before .before in
+    let v = c4 .args in
+    number-none (v .table .now) (v .definition) (v .names .now) (v .count) (c1 .loop .i) (c .loop-test .left) (c1 .loop .inv .1)
 
 pub call-number-spec : {M : Type 1} → statement M
 call-number-spec =
