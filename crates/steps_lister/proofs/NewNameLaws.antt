@@ -35,7 +35,7 @@ use Rattle.steps.proofs.QuestionDefinitions.{definitions, bodies-in-scope, open
 use Rattle.steps.proofs.Scope.{CallsInScope, scope-calls}
 use Rattle.steps.specs.Limits.{mostSteps}
 use Rattle.steps.specs.Listed.{ListedStep, listedAs, canonStep, kindOf, channelOf, objectOf, resultBytes, bytes}
-use Rattle.steps.specs.Listing.{listed, limited, listing, stepsOf}
+use Rattle.steps.specs.Listing.{unsettled, listed, limited, listing, stepsOf}
 use Rattle.steps_lister.specs.PartLister.{Lists}
 use Rattle.steps_lister.specs.Renewed.{bindsNew, renewed}
 use Rattle.steps.proofs.ByteOrder.{before-trans}
@@ -180,7 +180,7 @@ module _ (Δ : Defs) (names wide : ℕ) (within : names ≤ wide) (few : wide �
         within-limit : Dec (length (all y y-below) ≤ most) → all y y-below ≡ ss → length ss ≤ most
         within-limit (yes h) g = subst (λ l. length l ≤ most) g h
         within-limit (no h) g =
-            let u = limited-many longest most (all y y-below) (omega arith) in
+            let u : unsettled ≡ listed ss = sym (limited-many longest most (all y y-below) (omega arith)) ∙ sym (unlimited y y-below most) ∙ given in
             let z : _≡_ {A = ℕ} 0 1 = cc in absurd (omega arith)
 
 -- The same of a part of a question.
