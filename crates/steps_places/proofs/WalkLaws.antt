@@ -15,6 +15,7 @@ use Rattle.terms.specs.Question.{Question}
 use Rattle.terms.proofs.ReadEncoded.{encode-some}
 use Rattle.steps_partitions.specs.Partition.{rank, Partition, mergedAt}
 use Rattle.steps_partitions.proofs.PartitionLaws.{merged-partition}
+use Rattle.steps_tallies.proofs.OwnNames.{own-part}
 use Rattle.steps_tallies.specs.Tally.{TallyIs, endAt}
 use Rattle.steps_tallies.proofs.CandidateForms.{tag, tag-at, only-mat, only-sum}
 use Rattle.steps_tallies.proofs.FrontLaws.{stands, at-left, at-right}
@@ -123,7 +124,7 @@ find-sum question s at j row count t f f₁ f₂ tally e g T end R₁ R₂ = rec
   is = λ q Δ d xs ys v P S p k. only-sum (λ P. Standing q s at j t count xs ys P → Adds xs t v (opened ys P) f f₂)
       (λ P Q S.
       let b = at-left (length ys) s at P Q (S .rest) 6 (S .bytes) in
-      let l = T .is q (at + 1) 0 (length ys) (λ i. i) P (encode (length ys) Q ++ S .rest) (d .accepted) (S .scope .0) b .2 in
+      let l = T .is q (at + 1) 0 (length ys) (λ i. i) (own-part 0) P (encode (length ys) Q ++ S .rest) (d .accepted) (S .scope .0) b .2 in
       adds-sum xs t v (opened ys P) (opened ys Q) f f₁ f₂
       (R₁ .is q Δ d xs ys v P (record {
         scope = S .scope .0;

@@ -93,8 +93,8 @@ pub record WriteIs (question s : List ℕ) (at D : ℕ) (names : List ℕ) (task
 
 -- Room: for each byte before `at`, in the part and in the body of a call, one restriction is written at most, its own or that of a [Close]. So a slot
 -- of each has a byte.
-abbrev pub mostLevels : ℕ
-mostLevels = 222
+abbrev pub mostRestrictions : ℕ
+mostRestrictions = 222
 
 abbrev pub Room : ℕ → ℕ → ℕ → List ℕ → ℕ → Type 0
 Room calls levels at out put = (levels + calls * 111 ≤ at + 111) × (put ≤ length out)

@@ -6,7 +6,7 @@ ghost use lib.ListN.{length, getD};
 ghost use Rattle.terms.specs.Limits.{greatestArity, longestTerm};
 ghost use Rattle.steps_plans.specs.Beside.{AloneIs};
 ghost use Rattle.steps_conditions.specs.Names.{mostBinders, nameSlots};
-ghost use Rattle.steps_plans.specs.Plans.{mostLevels, numbered, resting, visibly, beneath, sending, closing, inside, SplitIs, meetingPlan, PlanIs};
+ghost use Rattle.steps_plans.specs.Plans.{mostRestrictions, numbered, resting, visibly, beneath, sending, closing, inside, SplitIs, meetingPlan, PlanIs};
 ghost use Rattle.steps_tallies.specs.Tally.{EndsInside, TallyIs, BodiesTallied};
 use crate::beside::component_of;
 use steps_passing::names::unchanged;
@@ -121,7 +121,7 @@ fn side(task: Task, n: usize) -> Task
 
 // Beneath a restriction that is written: [Res].
 pub fn restrict(task: Task) -> Task
-    requires { ⌜ task .levels ≤ mostLevels ⌝ }
+    requires { ⌜ task .levels ≤ mostRestrictions ⌝ }
     ensures { λ r. ⌜ r ≡ beneath task ⌝ }
 {
     Task {
@@ -151,7 +151,7 @@ fn receive(task: Task, names: &[u8], slot: usize) -> Task
 
 // The name received or extruded is that of a new restriction: [Close].
 pub fn close(task: Task) -> Task
-    requires { ⌜ task .levels ≤ mostLevels ⌝ }
+    requires { ⌜ task .levels ≤ mostRestrictions ⌝ }
     ensures { λ r. ⌜ r ≡ closing task ⌝ }
 {
     Task {
@@ -194,7 +194,7 @@ fn split(j: usize, n: usize) -> Numbers
 
 // The sides of a communication whose actions are those of `x` and `z`.
 fn meet(task: Task, names: &[u8], middle: usize, n: Numbers, x: Passed, z: Passed) -> Plan
-    requires { ⌜ task .levels ≤ mostLevels ⌝ }
+    requires { ⌜ task .levels ≤ mostRestrictions ⌝ }
     ensures { λ r. ⌜ r ≡ meetingPlan (now (names .entry)) task middle n x z ⌝ }
 {
     let left = side(task, n.left);
@@ -234,7 +234,7 @@ pub fn plan_of(
     task: Task,
     names: &[u8],
 ) -> Plan
-    requires { ⌜ (length (now src) ≤ longestTerm) × (at < length (now src)) × (binders ≤ at + greatestArity) × (task .levels ≤ mostLevels) × (task .still ≡ false) × (task .calls ≤ 1) × TallyIs (now question) (now src) (task .calls) (now tally) × BodiesTallied (now question) (now bodies) ⌝ }
+    requires { ⌜ (length (now src) ≤ longestTerm) × (at < length (now src)) × (binders ≤ at + greatestArity) × (task .levels ≤ mostRestrictions) × (task .still ≡ false) × (task .calls ≤ 1) × TallyIs (now question) (now src) (task .calls) (now tally) × BodiesTallied (now question) (now bodies) ⌝ }
     ensures { λ r. ⌜ PlanIs (now (question .entry)) (now (src .entry)) at binders (now (names .entry)) task r ⌝ }
 {
     let calls = task.calls;
