@@ -22,11 +22,7 @@ use Rattle.steps.proofs.CallCandidates.{each-guarded}
 use Rattle.steps.proofs.Calls.{EachCall, Opens}
 use Rattle.steps.proofs.QuestionDefinitions.{guarded-each, body-at}
 
--- Where a list is answered, the test was not met.
-pub not-past : (b : Bool) (l : Listing) (ss : List ListedStep) → cond b unsettled l ≡ listed ss → b ≡ false
-not-past true l ss e = let z : _≡_ {A = ℕ} 0 1 = cc in absurd (omega arith)
-not-past false l ss e = refl
-
+-- Where a list is answered, it is the list without the test.
 pub listed-within : (b : Bool) (l : Listing) (ss : List ListedStep) → cond b unsettled l ≡ listed ss → l ≡ listed ss
 listed-within true l ss e = let z : _≡_ {A = ℕ} 0 1 = cc in absurd (omega arith)
 listed-within false l ss e = e
