@@ -9,12 +9,12 @@ use Prim.Native.Nat.{ℕ, suc, min, max, _+_, _-_, _*_, _/_, _<_, _≤_}
 use lib.ListN.{length, getD, drop, set}
 use lib.Seq.{getD-set-same, getD-set-other, drop-length}
 use Rattle.terms_bytes.proofs.Stores.{getD-map}
-use Rattle.steps_partitions.specs.Partition.{mostPlaces, continuations, Growing, rankFrom, rank, Partition, mergedClass, Cases, mergedAt, Begins, PartIs, ClassIs, RankIs, UnrankIs, MergeIs, MergedRowIs}
+use Rattle.steps_partitions.specs.Partition.{mostPlaces, continuations, Growing, rankFrom, rank, Partition, mergedClass, Cases, mergedAt, Begins, ClassWeightIs, ClassIs, RankIs, UnrankIs, MergeIs, MergedRowIs}
 use Rattle.steps_partitions.proofs.PartitionLaws.{way-at, some-way, tail-below, grown, ranked, ranked-below, merged-greater, merged-behind, merged-before, merged-same, merged-partition}
 
 -- What a class adds is small.
-pub part-is : (c rest m w r : ℕ) → c ≤ 255 → rest + m ≤ mostPlaces → w ≡ continuations rest m → r ≡ c * w → PartIs c rest m r
-part-is c rest m w r few l e f = record {
+pub class-weight-is : (c rest m w r : ℕ) → c ≤ 255 → rest + m ≤ mostPlaces → w ≡ continuations rest m → r ≡ c * w → ClassWeightIs c rest m r
+class-weight-is c rest m w r few l e f = record {
   few = omega (arith, f, mul-le-mul {n₁ = c} {m₁ = w} {n₂ = 255} {m₂ = 4140} few (subst (λ x. x ≤ 4140) (sym e) (way-at rest m l .1)));
   is = f ∙ ap (λ x. c * x) e;
 }

@@ -61,7 +61,7 @@ unfoldable pub Begins : List ℕ → ℕ → List ℕ → Type 0
 Begins l n v = (j : ℕ) → j < n → getD l j 0 ≡ getD v j 0
 
 -- what a class adds to the number
-pub record PartIs (c rest m r : ℕ) : Type 0 where
+pub record ClassWeightIs (c rest m r : ℕ) : Type 0 where
   pub few : r ≤ 255 * mostPartitions
   pub is : r ≡ c * continuations rest m
 

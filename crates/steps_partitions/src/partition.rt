@@ -1,7 +1,7 @@
 // Partitions of the places of a call's names (request 2026-01), each known by its number.
 ghost use mathlib.Core.Path.{_≡_};
 ghost use Prim.Native.Nat.{max, min, _+_, _≤_, _<_};
-ghost use Rattle.steps_partitions.specs.Partition.{mostPlaces, continuations, mergedClass, PartIs, RankIs, ClassIs, Cases, UnrankIs, MergeIs, MergedRowIs};
+ghost use Rattle.steps_partitions.specs.Partition.{mostPlaces, continuations, mergedClass, ClassWeightIs, RankIs, ClassIs, Cases, UnrankIs, MergeIs, MergedRowIs};
 use terms_bytes::bytes::get;
 use terms_bytes::limits::GREATEST_ARITY;
 
@@ -122,9 +122,9 @@ fn smaller(a: usize, b: usize) -> usize
 }
 
 // What a place of class `class` adds to the number, behind so many classes and with `rest` places to come.
-fn part(class: u8, rest: usize, classes: usize) -> usize
+fn class_weight(class: u8, rest: usize, classes: usize) -> usize
     requires { ⌜ rest + classes ≤ mostPlaces ⌝ }
-    ensures { λ r. ⌜ PartIs class rest classes r ⌝ }
+    ensures { λ r. ⌜ ClassWeightIs class rest classes r ⌝ }
 {
     class as usize * ways(rest, classes)
 }
@@ -142,7 +142,7 @@ pub fn rank(classes: &[u8], count: usize) -> usize
             return 0;
         }
         let c = get(classes, i);
-        number += part(c, count - 1 - i, m);
+        number += class_weight(c, count - 1 - i, m);
         m = larger(m, c as usize + 1);
         i += 1;
     }

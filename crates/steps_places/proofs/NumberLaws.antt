@@ -11,7 +11,7 @@ use borrow.Author.Tests.{leb-true, leb-false}
 use Rattle.steps_reach.specs.CallTable.{mostCalls}
 use Rattle.steps_places.specs.PlaceTable.{bit}
 use Rattle.steps_places.specs.PlaceNumbers.{weightBelow, tableWeight, WeightIs, RowWeightIs, TableWeightIs, RowAtIs, CallAtIs, PlaceAtIs}
-use Rattle.steps_places.specs.declared.numbers.Part.{Part}
+use Rattle.steps_places.specs.declared.numbers.Offset.{Offset}
 use Rattle.steps_places.specs.declared.numbers.Placed.{Placed}
 use Rattle.steps_places.proofs.BitLaws.{bit-small}
 
@@ -102,13 +102,13 @@ module _ (f w : List ℕ) where
       there = λ o. absurd (omega arith);
     }
 
-    pub place-none : (p : Part) → RowAtIs f w rows number p → rows ≤ p .index → (r : Placed) → PlaceAtIs f w rows number r
+    pub place-none : (p : Offset) → RowAtIs f w rows number p → rows ≤ p .index → (r : Placed) → PlaceAtIs f w rows number r
     unfolding PlaceAtIs
     place-none p R l r h =
         let e : p .index ≡ rows = omega (arith, R .within) in
         absurd (omega (arith, R .sum, ap (tableWeight f w) e))
 
-    pub place-there : (p : Part) → RowAtIs f w rows number p → p .index < rows → (c : Part) → CallAtIs (getD f (p .index) 0) w (p .left) c
+    pub place-there : (p : Offset) → RowAtIs f w rows number p → p .index < rows → (c : Offset) → CallAtIs (getD f (p .index) 0) w (p .left) c
         → PlaceAtIs f w rows number (record { row = p .index; call = c .index; left = c .left })
     unfolding PlaceAtIs
     place-there p R l c C h =

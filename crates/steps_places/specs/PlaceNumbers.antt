@@ -5,7 +5,7 @@ use Prim.Native.Nat.{ℕ, zero, suc, _+_, _*_, _<_, _≤_}
 use lib.ListN.{getD}
 use Rattle.steps_reach.specs.CallTable.{mostCalls}
 use Rattle.steps_places.specs.PlaceTable.{bit, Has}
-use Rattle.steps_places.specs.declared.numbers.Part.{Part}
+use Rattle.steps_places.specs.declared.numbers.Offset.{Offset}
 use Rattle.steps_places.specs.declared.numbers.Placed.{Placed}
 
 -- the weight of the first calls of a row
@@ -32,13 +32,13 @@ pub record TableWeightIs (f w : List ℕ) (rows r : ℕ) : Type 0 where
   pub is : r ≡ tableWeight f w rows
 
 -- the row of a number, if there is one
-pub record RowAtIs (f w : List ℕ) (rows number : ℕ) (r : Part) : Type 0 where
+pub record RowAtIs (f w : List ℕ) (rows number : ℕ) (r : Offset) : Type 0 where
   pub sum : number ≡ tableWeight f w (r .index) + r .left
   pub within : r .index ≤ rows
   pub there : r .index < rows → r .left < weightBelow (getD f (r .index) 0) w mostCalls
 
 -- the call of a number in a row, if there is one
-pub record CallAtIs (x : ℕ) (w : List ℕ) (number : ℕ) (r : Part) : Type 0 where
+pub record CallAtIs (x : ℕ) (w : List ℕ) (number : ℕ) (r : Offset) : Type 0 where
   pub sum : number ≡ weightBelow x w (r .index) + r .left
   pub within : r .index ≤ mostCalls
   pub there : r .index < mostCalls → (bit x (r .index) ≡ 1) × (r .left < getD w (r .index) 0)

@@ -50,13 +50,13 @@ pub fn table_weight(found: &[u64], rows: usize, weights: &[u32]) -> usize
 }
 
 // A row or a call, and the number left within it.
-pub struct Part {
+pub struct Offset {
     pub index: usize,
     pub left: usize,
 }
 
 // The row of this number.
-fn row_at(found: &[u64], rows: usize, weights: &[u32], number: usize) -> Part
+fn row_at(found: &[u64], rows: usize, weights: &[u32], number: usize) -> Offset
     requires { ⌜ rows ≤ length (now found) ⌝ }
     ensures { λ r. ⌜ RowAtIs (now (found .entry)) (now (weights .entry)) rows number r ⌝ }
 {
@@ -65,16 +65,16 @@ fn row_at(found: &[u64], rows: usize, weights: &[u32], number: usize) -> Part
     while r < rows {
         let w = row_weight(found[r], weights);
         if left < w {
-            return Part { index: r, left };
+            return Offset { index: r, left };
         }
         left -= w;
         r += 1;
     }
-    Part { index: rows, left }
+    Offset { index: rows, left }
 }
 
 // The call of this number in a row.
-fn call_at(set: u64, weights: &[u32], number: usize) -> Part
+fn call_at(set: u64, weights: &[u32], number: usize) -> Offset
     ensures { λ r. ⌜ CallAtIs set (now (weights .entry)) number r ⌝ }
 {
     let mut j = 0;
@@ -82,12 +82,12 @@ fn call_at(set: u64, weights: &[u32], number: usize) -> Part
     while j < MOST_CALLS {
         let w = weight_in(set, weights, j);
         if left < w {
-            return Part { index: j, left };
+            return Offset { index: j, left };
         }
         left -= w;
         j += 1;
     }
-    Part {
+    Offset {
         index: MOST_CALLS,
         left,
     }

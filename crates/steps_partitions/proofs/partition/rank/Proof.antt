@@ -25,17 +25,17 @@ returns c =
 get-requires : tie.Need-get-requires Inv-loop μ-loop
 get-requires c κs = search needs
 
-sub-part : tie.Need-sub-part Inv-loop μ-loop
-sub-part c = search needs
+sub-class-weight : tie.Need-sub-class-weight Inv-loop μ-loop
+sub-class-weight c = search needs
 
-sub-part-2 : tie.Need-sub-part-2 Inv-loop μ-loop
-sub-part-2 c = search needs
+sub-class-weight-2 : tie.Need-sub-class-weight-2 Inv-loop μ-loop
+sub-class-weight-2 c = search needs
 
-part-requires : tie.Need-part-requires Inv-loop μ-loop
-part-requires c κs = omega arith
+class-weight-requires : tie.Need-class-weight-requires Inv-loop μ-loop
+class-weight-requires c κs = omega arith
 
 add-number : tie.Need-add-number Inv-loop μ-loop
-add-number c = omega (arith, c .part .ensures .few)
+add-number c = omega (arith, c .class-weight .ensures .few)
 
 cast-larger : tie.Need-cast-larger Inv-loop μ-loop
 cast-larger c = search needs
@@ -56,12 +56,12 @@ loop-again : tie.Need-loop-again Inv-loop μ-loop
 loop-again c =
     let v = c .before .before .before .before .before .before .before .args in (
       search needs,
-      omega (arith, c .before .part .ensures .few),
+      omega (arith, c .before .class-weight .ensures .few),
       subst (λ k. Ranked (v .classes .now) (v .count)
-          (c .before .before .before .before .before .loop .i + 1) k (c .before .before .before .before .before .loop .number + c .before .part .result))
+          (c .before .before .before .before .before .loop .i + 1) k (c .before .before .before .before .before .loop .number + c .before .class-weight .result))
           (sym (c .larger .ensures)) (rank-more (v .classes .now) (v .count) (c .before .before .before .before .before .loop .i)
           (c .before .before .before .before .before .loop .m) (c .before .before .before .before .before .loop .number) (c .before .before .get .result)
-          (c .before .part .result) (c .before .before .before .before .loop-test .taken) (c .before .before .get .ensures) (c .before .part .ensures .is)
+          (c .before .class-weight .result) (c .before .before .before .before .loop-test .taken) (c .before .before .get .ensures) (c .before .class-weight .ensures .is)
           (c .before .before .before .before .before .loop .inv .2)),
     )
 
@@ -81,9 +81,9 @@ rank-spec =
     loop-holds
     returns
     get-requires
-    sub-part
-    sub-part-2
-    part-requires
+    sub-class-weight
+    sub-class-weight-2
+    class-weight-requires
     add-number
     cast-larger
     add-larger
