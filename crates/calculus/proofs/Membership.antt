@@ -9,6 +9,7 @@ use Rattle.calculus.specs.Lists.{◌∈◌, Among, All, Distinct}
 
 module _ {A : Type 0} where
   pub ∈-left : (x : A) (xs ys : List A) → x ∈ xs → x ∈ (xs ++ ys)
+  ∈-left x [] ys x'' = elim x'' [ ]
   ∈-left x (y ∷ xs) ys (inl e) = inl e
   ∈-left x (y ∷ xs) ys (inr m) = inr (∈-left x xs ys m)
 
@@ -46,6 +47,7 @@ module _ {A : Type 0} where
   all_imp S R (x ∷ xs) h a = (h x a.0, all_imp S R xs h a.1)
 
   pub all-∈ : (S : A → Type 0) (xs : List A) → All S xs → (x : A) → x ∈ xs → S x
+  all-∈ S [] a x x4 = elim x4 [ ]
   all-∈ S (y ∷ xs) a x (inl e) = subst S (sym e) a.0
   all-∈ S (y ∷ xs) a x (inr m) = all-∈ S xs a.1 x m
 
@@ -55,16 +57,19 @@ module _ {A : Type 0} where
 
   -- a list without one member
   without : (xs : List A) (x : A) → x ∈ xs → List A
+  without [] x x3 = elim x3 [ ]
   without (y ∷ xs) x (inl e) = xs
   without (y ∷ xs) x (inr m) = y ∷ without xs x m
 
   length_without : (xs : List A) (x : A) (m : x ∈ xs) → length xs ≡ suc (length (without xs x m))
   unfolding without
+  length_without [] x m = elim m [ ]
   length_without (y ∷ xs) x (inl e) = refl
   length_without (y ∷ xs) x (inr m) = ap suc (length_without xs x m)
 
   ∈_without : (xs : List A) (x : A) (m : x ∈ xs) (y : A) → ¬ (y ≡ x) → y ∈ xs → y ∈ without xs x m
   unfolding without
+  ∈_without [] x m y h _ = elim m [ ]
   ∈_without (z ∷ xs) x (inl e) y h (inl d) = absurd (h (d ∙ sym e))
   ∈_without (z ∷ xs) x (inl e) y h (inr n) = n
   ∈_without (z ∷ xs) x (inr m) y h (inl d) = inl d
@@ -83,10 +88,12 @@ module _ {A : Type 0} where
 
 module _ {A B : Type 0} (f : A → B) where
   pub ∈-map : (x : A) (xs : List A) → x ∈ xs → f x ∈ map f xs
+  ∈-map x [] x'' = elim x'' [ ]
   ∈-map x (y ∷ xs) (inl e) = inl (ap f e)
   ∈-map x (y ∷ xs) (inr m) = inr (∈-map x xs m)
 
   pub ∈-mapped : (y : B) (xs : List A) → y ∈ map f xs → (x : A) × (x ∈ xs) × (y ≡ f x)
+  ∈-mapped y [] x' = elim x' [ ]
   ∈-mapped y (x ∷ xs) (inl e) = (x, inl refl, e)
   ∈-mapped y (x ∷ xs) (inr m) = let (z, n, e) = ∈-mapped y xs m in (z, inr n, e)
 

@@ -231,6 +231,11 @@ module _ (Δ : Defs) where
   par_assoc (t_close_r (t_par_r t) u) = by (t_par_r (t_close_r t u)) (into_assoc _ _ _)
 
   par-nil : {P : Term} {M : Cond} {α : Act} {X : Term} → Trans Δ (par P nil) M α X → LikeAnswer M α X P
+  par-nil {P = P} {M = M} {α = α} (t_par_r x6) = elim x6 [ ]
+  par-nil {P = P} (t_com_l {M = M} {N = N} {a = a} {b = b} {y = y} _ x13) = elim x13 [ ]
+  par-nil {P = P} (t_com_r {M = M} {N = N} {a = a} {b = b} {y = y} _ x14) = elim x14 [ ]
+  par-nil {P = P} (t_close_l {M = M} {N = N} {a = a} {b = b} _ x15) = elim x15 [ ]
+  par-nil {P = P} (t_close_r {M = M} {N = N} {a = a} {b = b} _ x16) = elim x16 [ ]
   par-nil (t_par_l {α = α} {P' = P'} t) = by t (l_from (ap (par P') (weak-nil α)) (l_par_nil P'))
 
   nil-par : {P : Term} {M : Cond} {α : Act} {X : Term} → Trans Δ P M α X → LikeAnswer M α X (par P nil)
@@ -255,6 +260,7 @@ module _ (Δ : Defs) where
   sum_copy (t_sum_r t) = by t l_same
 
   sum-nil : {P : Term} {M : Cond} {α : Act} {X : Term} → Trans Δ (sum P nil) M α X → LikeAnswer M α X P
+  sum-nil {P = P} {M = M} {α = α} {X = X} (t_sum_r x6) = elim x6 [ ]
   sum-nil (t_sum_l t) = by t l_same
 
   -- beside a third part, and beneath a restriction

@@ -176,6 +176,7 @@ module _ (Δ : Defs) where
   -- the term does what the tidied term does
   pub untidied_steps : (P : Term) {M : Cond} {α : Act} {X : Term} → Trans Δ (tidy P) M α X → Likewise P M α X
   unfolding tidy
+  untidied_steps nil {M = M} {α = α} {X = X} t = elim t [ ]
   untidied_steps (tau P) t_tau = record { cond = []; resid = P; step = t_tau; conds = (tt, tt); resids = sym (tidy-tidy P) }
   untidied_steps (inp a P) t_inp = record { cond = []; resid = P; step = t_inp; conds = (tt, tt); resids = sym (tidy-tidy P) }
   untidied_steps (out a b P) t_out = record { cond = []; resid = P; step = t_out; conds = (tt, tt); resids = sym (tidy-tidy P) }

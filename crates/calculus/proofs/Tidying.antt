@@ -76,6 +76,7 @@ of_free_restrict P n f = go (used? P)
 
 pub free_tidy : (n : ℕ) (P : Term) → Free n P → Free n (tidy P)
 unfolding tidy
+free_tidy n nil f = elim f [ ]
 free_tidy n (tau P) f = free_tidy n P f
 free_tidy n (inp a P) (inl e) = inl e
 free_tidy n (inp a P) (inr f) = inr (free_tidy (suc n) P f)
@@ -96,6 +97,7 @@ free_tidy n (call k xs) f = f
 
 pub of_free_tidy : (n : ℕ) (P : Term) → Free n (tidy P) → Free n P
 unfolding tidy
+of_free_tidy n nil f = elim f [ ]
 of_free_tidy n (tau P) f = of_free_tidy n P f
 of_free_tidy n (inp a P) (inl e) = inl e
 of_free_tidy n (inp a P) (inr f) = inr (of_free_tidy (suc n) P f)
