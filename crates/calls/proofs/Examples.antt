@@ -24,6 +24,7 @@ all_below a (x ∷ xs) = ltb x a && all_below a xs
 
 below : (a : ℕ) (xs : List ℕ) → all_below a xs ≡ true → (n : ℕ) → In n xs → n < a
 unfolding all_below
+below a [] e n x'' = elim x'' [ ]
 below a (x ∷ xs) e n (inl h) = let l = ltb-true x a (and_cases (ltb x a) (all_below a xs) e).0 in omega arith
 below a (x ∷ xs) e n (inr m) = below a xs (and_cases (ltb x a) (all_below a xs) e).1 n m
 
@@ -106,6 +107,7 @@ unfolding all_below
 eight_closed P c k n f = go (ltb k 8) (ltb k 7) f
   where
     go : (b d : Bool) → Free n (cond b (sum (call k (6 ∷ 5 ∷ 4 ∷ 3 ∷ 2 ∷ 1 ∷ 0 ∷ 7 ∷ [])) (cond d (call (suc k) (7 ∷ 6 ∷ 5 ∷ 4 ∷ 3 ∷ 2 ∷ 1 ∷ 0 ∷ [])) P)) nil) → n < cond b 8 0
+    go false d x' = elim x' [ ]
     go true d (inl h) = below 8 (6 ∷ 5 ∷ 4 ∷ 3 ∷ 2 ∷ 1 ∷ 0 ∷ 7 ∷ []) refl n h
     go true true (inr h) = below 8 (7 ∷ 6 ∷ 5 ∷ 4 ∷ 3 ∷ 2 ∷ 1 ∷ 0 ∷ []) refl n h
     go true false (inr h) = absurd (c n h)

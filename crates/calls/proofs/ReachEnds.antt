@@ -91,6 +91,7 @@ still C D x e k = go (eqb (cls C x) x) refl
 
 rank_same : (xs : List ℕ) (C D : Cond) → C ▷ D → rank xs C ≤ rank xs D → (x : ℕ) → In x xs → cls D x ≡ x → cls C x ≡ x
 unfolding rank
+rank_same [] C D i l x x6 e = elim x6 [ ]
 rank_same (y ∷ xs) C D i l x (inl f) e =
     still C D x e (subst (λ z. moved (cls C z) z ≤ moved (cls D z) z) (sym f) (omega (arith, moved_more C D i y, rank-more C D i xs)))
 rank_same (y ∷ xs) C D i l x (inr m) e = rank_same xs C D i (omega (arith, moved_more C D i y, rank-more C D i xs)) x m e
@@ -122,6 +123,7 @@ rank-implies xs C D g h i l = all C g (E2 C)
 
 -- Names of an unprefixed call and of the matches above it.
 pub bare_free : {P : Term} {C : Cond} {l : ℕ} {ys : List ℕ} → Bare P C l ys → (n : ℕ) → Name n C ⊎ In n ys → Free n P
+bare_free (b_call {k = k} {xs = xs}) n (inl x7) = elim x7 [ ]
 bare_free b_call n (inr m) = m
 bare_free (b_mat h) n (inl (inl e)) = inl e
 bare_free (b_mat h) n (inl (inr (inl e))) = inr (inl e)
@@ -163,6 +165,7 @@ in_levels c (suc n) r l = go (ℕ_discrete r n) (in_levels c n r)
 
 in_grid : (c : Call) (cs : List Call) (n r : ℕ) → c ∈ cs → r < n → ◌∈◌ {A = Call × ℕ} (c, r) (grid cs n)
 unfolding grid
+in_grid c [] n r x'' l = elim x'' [ ]
 in_grid c (d ∷ cs) n r (inl e) l =
     ∈-left (c, r) (levels d n) (grid cs n) (subst (λ b. ◌∈◌ {A = Call × ℕ} (c, r) (levels b n)) e (in_levels c n r l))
 in_grid c (d ∷ cs) n r (inr m) l = ∈_right (c, r) (levels d n) (grid cs n) (in_grid c cs n r m l)
@@ -188,6 +191,7 @@ same_place_lem p = ap₂ ◌&&◌ (same-call p p refl) (same-pairs p.condition)
 
 member-known : (p : Place) (K : List Place) → Member p K → is_known p K ≡ true
 unfolding is_known
+member-known p [] x' = elim x' [ ]
 member-known p (q ∷ K) (inl e) = ap (λ b. b || is_known p K) (subst (λ r. same_place p r ≡ true) e (same_place_lem p))
 member-known p (q ∷ K) (inr m) = go (same_place p q) (member-known p K m)
   where
@@ -294,6 +298,7 @@ module _ (root : List ℕ) where
         go : Name n C ⊎ Name n ((a, b) ∷ []) → In n root
         go (inl k) = h n k
         go (inr (inl e)) = subst (λ x. In x root) (sym e) i
+        go (inr (inr (inr x3))) = elim x3 [ ]
         go (inr (inr (inl e))) = subst (λ x. In x root) (sym e) j
 
     path_match : (a b : ℕ) (C : Cond) (K ps : List Place) → Path C K ps → Path (C ++ ((a, b) ∷ [])) K ps

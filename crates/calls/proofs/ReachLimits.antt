@@ -43,6 +43,7 @@ call_same p q e =
 
 member-called : (p : Place) (K : List Place) → call_of p ∈ map call_of K → is_called p K ≡ true
 unfolding is_called
+member-called p [] x' = elim x' [ ]
 member-called p (q ∷ K) (inl e) = ap (λ b. b || is_called p K) (same-call p q e)
 member-called p (q ∷ K) (inr m) = go (same_call p q) (member-called p K m)
   where
@@ -61,6 +62,7 @@ called-member p [] e = let z : ◌≡◌ {A = ℕ} 0 1 = cc in absurd (omega ari
 
 differing_sub : (c : Call) (K : List Place) → c ∈ map call_of (differing K) → c ∈ map call_of K
 unfolding differing
+differing_sub c [] m = elim m [ ]
 differing_sub c (p ∷ K) m = go (is_called p K) m (differing_sub c K)
   where
     go : (b : Bool) → c ∈ map call_of (cond b (differing K) (p ∷ differing K)) → (c ∈ map call_of (differing K) → c ∈ map call_of K) → c ∈ map call_of (p ∷ K)
@@ -70,6 +72,7 @@ differing_sub c (p ∷ K) m = go (is_called p K) m (differing_sub c K)
 
 pub differing-all : (c : Call) (K : List Place) → c ∈ map call_of K → c ∈ map call_of (differing K)
 unfolding differing
+differing-all c [] m = elim m [ ]
 differing-all c (p ∷ K) m = go (is_called p K) refl m (differing-all c K)
   where
     go : (b : Bool) → is_called p K ≡ b → c ∈ map call_of (p ∷ K) → (c ∈ map call_of K → c ∈ map call_of (differing K))

@@ -119,6 +119,11 @@ module _ (Δ : Defs) where
 
   module _ (limit : ℕ) where
     pub past-renamed : (P : Term) (σ τ : ℕ → ℕ) → ((n : ℕ) → τ (σ n) ≡ n) → PastCalls Δ limit P → PastCalls Δ limit (ren σ P)
+    past-renamed nil σ τ h p = elim p [ ]
+    past-renamed (tau _) σ τ h p = elim p [ ]
+    past-renamed (inp _ _) σ τ h p = elim p [ ]
+    past-renamed (out _ _ _) σ τ h p = elim p [ ]
+    past-renamed (bout _ _) σ τ h p = elim p [ ]
     past-renamed (mat a b P) σ τ h p = past-renamed P σ τ h p
     past-renamed (sum P Q) σ τ h (inl p) = inl (past-renamed P σ τ h p)
     past-renamed (sum P Q) σ τ h (inr p) = inr (past-renamed Q σ τ h p)
@@ -128,6 +133,11 @@ module _ (Δ : Defs) where
     past-renamed (call k xs) σ τ h p = many-renamed limit σ τ h k xs p
 
     pub past_back : (P : Term) (σ τ : ℕ → ℕ) → ((n : ℕ) → τ (σ n) ≡ n) → PastCalls Δ limit (ren σ P) → PastCalls Δ limit P
+    past_back nil σ τ h p = elim p [ ]
+    past_back (tau _) σ τ h p = elim p [ ]
+    past_back (inp _ _) σ τ h p = elim p [ ]
+    past_back (out _ _ _) σ τ h p = elim p [ ]
+    past_back (bout _ _) σ τ h p = elim p [ ]
     past_back (mat a b P) σ τ h p = past_back P σ τ h p
     past_back (sum P Q) σ τ h (inl p) = inl (past_back P σ τ h p)
     past_back (sum P Q) σ τ h (inr p) = inr (past_back Q σ τ h p)
@@ -159,6 +169,11 @@ module _ (Δ : Defs) where
     -- A term and its tidied form pass the limit alike.
     pub past-tidy : (P : Term) → PastCalls Δ limit P → PastCalls Δ limit (tidy P)
     unfolding tidy
+    past-tidy nil p = elim p [ ]
+    past-tidy (tau _) p = elim p [ ]
+    past-tidy (inp _ _) p = elim p [ ]
+    past-tidy (out _ _ _) p = elim p [ ]
+    past-tidy (bout _ _) p = elim p [ ]
     past-tidy (mat a b P) p = past-tidy P p
     past-tidy (sum P Q) (inl p) = inl (past-tidy P p)
     past-tidy (sum P Q) (inr p) = inr (past-tidy Q p)
@@ -169,6 +184,11 @@ module _ (Δ : Defs) where
 
     pub tidy-past : (P : Term) → PastCalls Δ limit (tidy P) → PastCalls Δ limit P
     unfolding tidy
+    tidy-past nil p = elim p [ ]
+    tidy-past (tau _) p = elim p [ ]
+    tidy-past (inp _ _) p = elim p [ ]
+    tidy-past (out _ _ _) p = elim p [ ]
+    tidy-past (bout _ _) p = elim p [ ]
     tidy-past (mat a b P) p = tidy-past P p
     tidy-past (sum P Q) (inl p) = inl (tidy-past P p)
     tidy-past (sum P Q) (inr p) = inr (tidy-past Q p)
@@ -180,6 +200,7 @@ module _ (Δ : Defs) where
 -- Where nothing stands unprefixed the search adds nothing.
 guarded_quiet : (opening : ℕ → List ℕ → Cond → List Place → Search) (P : Term) (C : Cond) (K : List Place) → Guarded P → reach_term opening P C K ≡ found K
 unfolding reach_term
+guarded_quiet opening (call _ _) C K g = elim g [ ]
 guarded_quiet opening nil C K g = refl
 guarded_quiet opening (tau P) C K g = refl
 guarded_quiet opening (inp a P) C K g = refl
@@ -192,6 +213,7 @@ guarded_quiet opening (par P Q) C K g = refl
 guarded_quiet opening (res P) C K g = refl
 
 pub guarded-ren : (P : Term) (σ : ℕ → ℕ) → Guarded P → Guarded (ren σ P)
+guarded-ren (call _ _) σ g = elim g [ ]
 guarded-ren nil σ g = tt
 guarded-ren (tau P) σ g = tt
 guarded-ren (inp a P) σ g = tt

@@ -69,6 +69,8 @@ module _ (Δ : Defs) where
   -- And they are steps of the term.
   own-steps : (P : Term) {M : Cond} {α : Act} {R : Term} → Trans Δ (stripped P) M α R → Trans Δ P M α R
   unfolding stripped
+  own-steps nil {M = M} {α = α} {R = R} t = elim t [ ]
+  own-steps (call _ _) {M = M} {α = α} {R = R} t = elim t [ ]
   own-steps (tau P) t = t
   own-steps (inp a P) t = t
   own-steps (out a b P) t = t

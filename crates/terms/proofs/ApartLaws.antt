@@ -45,6 +45,7 @@ holds_apart_lem (p ∷ D) a b h =
 
 pub apart_holds : (D : Pairs) (a b : ℕ) → Apart D a b → holds_apart D a b ≡ true
 unfolding holds_apart
+apart_holds [] a b x' = elim x' [ ]
 apart_holds (p ∷ D) a b (inl h) = rw (eq-eqb p.0 a h.0, eq-eqb p.1 b h.1)
 apart_holds (p ∷ D) a b (inr (inl h)) =
     left_true ((eqb p.0 a && eqb p.1 b) || (eqb p.0 b && eqb p.1 a)) (holds_apart D a b)
@@ -54,6 +55,7 @@ apart_holds (p ∷ D) a b (inr (inr h)) =
 
 pub allowed_irreflexive : (names : ℕ) (D : Pairs) → Every (PairAllowedWith names) D → Irr D
 unfolding Every
+allowed_irreflexive names [] w a b x3 e = elim x3 [ ]
 allowed_irreflexive names (p ∷ D) w a b (inl h) e = w.0.differ (h.0 ∙ e ∙ sym h.1)
 allowed_irreflexive names (p ∷ D) w a b (inr (inl h)) e = w.0.differ (h.0 ∙ sym e ∙ sym h.1)
 allowed_irreflexive names (p ∷ D) w a b (inr (inr h)) e = allowed_irreflexive names D w.1 a b h e
@@ -63,6 +65,7 @@ apart_irreflexive = allowed_irreflexive name_count
 
 pub apart_below : (D : Pairs) → Every PairAllowed D → (a b : ℕ) → Apart D a b → (a < name_count) × (b < name_count)
 unfolding Every
+apart_below [] w a b x'' = elim x'' [ ]
 apart_below (p ∷ D) w a b (inl h) = rw (← h.0, ← h.1) (w.0.left, w.0.right)
 apart_below (p ∷ D) w a b (inr (inl h)) = rw (← h.0, ← h.1) (w.0.right, w.0.left)
 apart_below (p ∷ D) w a b (inr (inr h)) = apart_below D w.1 a b h

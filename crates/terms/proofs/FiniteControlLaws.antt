@@ -33,6 +33,7 @@ sequential_is (call k ns) h = tt
 
 is_sequential : (P : Term) → Sequential P → sequential P ≡ true
 unfolding sequential
+is_sequential (par _ _) h = elim h [ ]
 is_sequential nil h = refl
 is_sequential (tau P) h = is_sequential P h
 is_sequential (inp a P) h = is_sequential P h
@@ -82,6 +83,8 @@ finite_control_iff P = (outermost_is P, is_outermost P)
 
 bodies_sequential : (arities sizes : List ℕ) (Ps : List Term) → BodiesAllowed arities sizes Ps → (k : ℕ) → Sequential (get_or Ps k nil)
 unfolding BodiesAllowed
+bodies_sequential arities [] (P ∷ Ps) h k = elim h [ ]
+bodies_sequential arities (a ∷ sizes) [] h k = elim h [ ]
 bodies_sequential arities [] [] h k = tt
 bodies_sequential arities (a ∷ sizes) (P ∷ Ps) h zero = sequential_is P h.0.no_parallel
 bodies_sequential arities (a ∷ sizes) (P ∷ Ps) h (suc k) = bodies_sequential arities sizes Ps h.1 k

@@ -4,11 +4,11 @@ use mathlib.Core.List.{List, [], ◌∷◌}
 use mathlib.Core.Bool.{Bool, true, false, ◌&&◌, ◌||◌, not}
 use mathlib.Core.Logic.{◌≢◌, ◌⊎◌, inl, inr}
 use Prim.Native.Nat.{ℕ, suc, ◌<◌, min, max}
-use native.Mathlib.Nat.{zero_add}
+use native.Mathlib.Nat.{zero-add}
 use native.Mathlib.Omega.{arith}
 use lib.ListN.{length}
 use lib.Dec.{ltb, leb, eqb}
-use borrow.Author.Tests.{ltb-true, leb-true, leb-false, eq-eqb, not_true}
+use borrow.Author.Tests.{ltb-true, leb-true, leb-false, eq-eqb, not-true}
 use Rattle.calculus.proofs.Conditions.{join_cases}
 use Rattle.calculus.specs.Cond.{Pairs, map_p, join}
 use Rattle.calculus.specs.Term.{Term, ren}
@@ -85,7 +85,7 @@ pub part_renamed : (arities : List ℕ) (ρ : ℕ → ℕ) (P : Term) → ((n : 
     PartAllowed arities (ren ρ P)
 part_renamed arities ρ P k w =
     record {
-      scope = scope_ren name_count name_count arities 0 0 ρ (λ n l. rw zero_add (k n (rw zero_add at l))) P w.scope;
+      scope = scope_ren name_count name_count arities 0 0 ρ (λ n l. rw zero-add (k n (rw zero-add at l))) P w.scope;
       size = rw (length-ren 0 0 ρ P) w.size;
       parallels_outermost = outermost_ren ρ P ∙ w.parallels_outermost;
     }
@@ -139,7 +139,7 @@ merged_is question a b r e =
         let y = both_true (ltb a name_count) (ltb b name_count) x.0 in
         let l = ltb-true a name_count y.0 in
         let m = ltb-true b name_count y.1 in
-        let n = not_true (holds_apart q.apart a b) x.1 in
+        let n = not-true (holds_apart q.apart a b) x.1 in
         let w = merged_well_formed a b q l m n (own_well_formed question q c) in
         let f = fits-merged (edition_of question) a b q ∙ own-fits question q c in
         record { old = q; accepted = c; left = l; right = m; not_apart = n; is = sym e; well_formed = rw (← e) w; fitting = rw (← e) f }

@@ -61,11 +61,13 @@ module _ (arities : List ℕ) (free : ℕ) where
 
 names-below : (free d : ℕ) (ns : List ℕ) → NamesInScope free d ns → (n : ℕ) → In n ns → n < d + free
 unfolding NamesInScope
+names-below free d [] s n x'' = elim x'' [ ]
 names-below free d (m ∷ ns) s n (inl e) = rw e s.0
 names-below free d (m ∷ ns) s n (inr h) = names-below free d ns s.1 n h
 
 pub free_below : (free : ℕ) (arities : List ℕ) (d : ℕ) (P : Term) → InScope free arities d P → (n : ℕ) → Free n P → n < d + free
 unfolding InScope
+free_below free ar d nil s n h = elim h [ ]
 free_below free ar d (tau P) s n h = free_below free ar d P s n h
 free_below free ar d (inp a P) s n (inl e) = rw e s.0
 free_below free ar d (inp a P) s n (inr h) = omega (arith, free_below free ar (1 + d) P s.1 (suc n) h)

@@ -7,7 +7,7 @@ use Prim.Native.Nat.{ℕ, zero, suc, ◌+◌, ◌*◌, ◌≤◌, ◌<◌}
 use native.Mathlib.Omega.{arith}
 use lib.ListN.{length, get_or, length-append}
 use lib.Dec.{ltb, leb, eqb}
-use borrow.Author.Tests.{leb-true, le-leb, ltb-true, lt-ltb, eqb-true, eqb-false, eq-eqb, ne_eqb, not_true}
+use borrow.Author.Tests.{leb-true, le-leb, ltb-true, lt-ltb, eqb-true, eqb-false, eq-eqb, ne_eqb, not-true}
 use Rattle.calculus.specs.Cond.{Pairs}
 use Rattle.calculus.specs.Term.{Term}
 use Rattle.terms.specs.Limits.{name_count, longest_question, most_definitions, greatest_arity, longest_term, longest_apart_of, longest_apart}
@@ -97,7 +97,7 @@ pairs-allowed names (a ∷ b ∷ bs) D e =
     let x = both_true (ltb a names && ltb b names) (not (eqb a b)) t.0 in
     let y = both_true (ltb a names) (ltb b names) x.0 in
     let ok : PairAllowedWith names (a, b) =
-    record { left = ltb-true a names y.0; right = ltb-true b names y.1; differ = eqb-false a b (not_true (eqb a b) x.1) } in
+    record { left = ltb-true a names y.0; right = ltb-true b names y.1; differ = eqb-false a b (not-true (eqb a b) x.1) } in
     rw (← q) (ap (λ l. a ∷ b ∷ l) r.0, (ok, r.1))
 
 names-differ : (p : ℕ × ℕ) → PairAllowed p → different_names p.0 p.1 ≡ true
@@ -227,6 +227,8 @@ all_fit_size (f ∷ fs) h =
 allowed_count : (e : Edition) (arities sizes : List ℕ) (Ps : List Term) → BodiesAllowed arities sizes Ps → length (body_fields_in e sizes Ps) ≡ length sizes
 unfolding BodiesAllowed body_fields_in
 allowed_count e arities (a ∷ sizes) (P ∷ Ps) h = ap suc (allowed_count e arities sizes Ps h.1)
+allowed_count e arities [] (P ∷ Ps) h = elim h [ ]
+allowed_count e arities (a ∷ sizes) [] h = elim h [ ]
 allowed_count e arities [] [] h = refl
 
 -- Each term of a question that fits the edition does.
@@ -268,11 +270,15 @@ module _ (arities : List ℕ) where
   bodies_sequential : (sizes : List ℕ) (Ps : List Term) → BodiesAllowed arities sizes Ps → every sequential Ps ≡ true
   unfolding BodiesAllowed every
   bodies_sequential (a ∷ sizes) (P ∷ Ps) h = true_both (sequential P) (every sequential Ps) h.0.no_parallel (bodies_sequential sizes Ps h.1)
+  bodies_sequential [] (P ∷ Ps) h = elim h [ ]
+  bodies_sequential (a ∷ sizes) [] h = elim h [ ]
   bodies_sequential [] [] h = refl
 
   bodies_guarded : (sizes : List ℕ) (Ps : List Term) → BodiesAllowed arities sizes Ps → every guarded Ps ≡ true
   unfolding BodiesAllowed every
   bodies_guarded (a ∷ sizes) (P ∷ Ps) h = true_both (guarded P) (every guarded Ps) h.0.calls_guarded (bodies_guarded sizes Ps h.1)
+  bodies_guarded [] (P ∷ Ps) h = elim h [ ]
+  bodies_guarded (a ∷ sizes) [] h = elim h [ ]
   bodies_guarded [] [] h = refl
 
 module _ (e : Edition) (arities : List ℕ) where
@@ -280,6 +286,8 @@ module _ (e : Edition) (arities : List ℕ) where
   unfolding BodiesAllowed body_fields_in read_bodies
   bodies_read (a ∷ sizes) (P ∷ Ps) h =
       bind_to _ (read_whole_lem 0 (omega arith) e (numbered arities) a P (scope_to arities 0 a P h.0.scope)) ∙ bind_to _ (bodies_read sizes Ps h.1)
+  bodies_read [] (P ∷ Ps) h = elim h [ ]
+  bodies_read (a ∷ sizes) [] h = elim h [ ]
   bodies_read [] [] h = refl
 
   part_read : (P : Term) → PartAllowed arities P → read_part e (numbered arities) (encode_in e 0 P) ≡ result P
@@ -382,6 +390,8 @@ bodies_fit : (arities sizes : List ℕ) (Ps : List Term) → BodiesAllowed ariti
 unfolding BodiesAllowed body_fields_in every
 bodies_fit arities (a ∷ sizes) (P ∷ Ps) h =
     true_both (fits (encode_in one a P)) (every fits (body_fields_in one sizes Ps)) (size_fits a P h.0.size) (bodies_fit arities sizes Ps h.1)
+bodies_fit arities [] (P ∷ Ps) h = elim h [ ]
+bodies_fit arities (a ∷ sizes) [] h = elim h [ ]
 bodies_fit arities [] [] h = refl
 
 pub fits-first : (q : Question) → WellFormed q → fits_in one q ≡ true
