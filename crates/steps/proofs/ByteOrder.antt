@@ -47,10 +47,15 @@ ordered (x ∷ xs) (y ∷ ys) = go (compare x y) (compared x y (compare x y) ref
     go Ordering.gt h p s = inl h
 
 pub before_irreflexive : (xs : List ℕ) → ¬ Before xs xs
+before_irreflexive [] x' = elim x' [ ]
 before_irreflexive (x ∷ xs) (inl h) = omega arith
 before_irreflexive (x ∷ xs) (inr h) = before_irreflexive xs h.1
 
 pub before_trans : (xs ys zs : List ℕ) → Before xs ys → Before ys zs → Before xs zs
+before_trans [] [] zs h k = elim h [ ]
+before_trans [] (y ∷ ys) [] h k = elim k [ ]
+before_trans (x ∷ xs) [] zs h k = elim h [ ]
+before_trans (x ∷ xs) (y ∷ ys) [] h k = elim k [ ]
 before_trans [] (y ∷ ys) (z ∷ zs) h k = tt
 before_trans (x ∷ xs) (y ∷ ys) (z ∷ zs) (inl h) (inl k) = inl (omega arith)
 before_trans (x ∷ xs) (y ∷ ys) (z ∷ zs) (inl h) (inr k) = let e = k.0 in inl (omega arith)

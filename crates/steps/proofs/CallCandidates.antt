@@ -1,7 +1,7 @@
 -- The candidates of a call, as far as code relies on them: all that is used of the rule [Con] where one call is opened. A call whose body is guarded
 -- (check 11) reaches itself alone, and so has the body's own candidates, those with no call opened. Assumes nothing.
 use mathlib.Core.Bool.{true}
-use mathlib.Core.List.{List, [], ◌∷◌, map, append-nil, map_id}
+use mathlib.Core.List.{List, [], ◌∷◌, map, append-nil, map-id}
 use mathlib.Core.Path.{◌≡◌, refl, ◌∙◌, ap}
 use native.Mathlib.Omega.{arith}
 use Prim.Native.Nat.{ℕ, zero, suc, ◌≤◌}
@@ -27,10 +27,11 @@ beneath-none = refl
 -- the candidates of a call's only place
 pub alone : (own : Term → List Candidate) (body : ℕ → Term) (k : ℕ) (xs : List ℕ) → of_places own body (place_of [] k xs ∷ []) ≡ own (opened xs (body k))
 unfolding of_places
-alone own body k xs = append-nil _ ∙ ap (λ f. map f (own (opened xs (body k)))) beneath-none ∙ map_id (own (opened xs (body k)))
+alone own body k xs = append-nil _ ∙ ap (λ f. map f (own (opened xs (body k)))) beneath-none ∙ map-id (own (opened xs (body k)))
 
 -- Where no call stands unprefixed the term is guarded.
 pub each-guarded : (P : Term) → EachCall (λ k xs. ⊥) P → Guarded P
+each-guarded (call _ _) g = elim g [ ]
 each-guarded nil g = tt
 each-guarded (tau P) g = tt
 each-guarded (inp a P) g = tt

@@ -43,6 +43,11 @@ never_past body (call k xs) g = ap is_many (guarded_from (λ l ys. true) body mo
 
 -- nor is the limit passed
 pub within_calls : (Δ : Defs) (P : Term) → EachCall (λ k xs. Guarded (Δ.body k)) P → ¬ PastCalls Δ most_reached P
+within_calls Δ nil g p = elim p [ ]
+within_calls Δ (tau _) g p = elim p [ ]
+within_calls Δ (inp _ _) g p = elim p [ ]
+within_calls Δ (out _ _ _) g p = elim p [ ]
+within_calls Δ (bout _ _) g p = elim p [ ]
 within_calls Δ (mat a b P) g p = within_calls Δ P g p
 within_calls Δ (sum P Q) g (inl p) = within_calls Δ P g.0 p
 within_calls Δ (sum P Q) g (inr p) = within_calls Δ Q g.1 p
@@ -62,6 +67,7 @@ opens_guarded Δ n (mat a b P) o = opens_guarded Δ n P o
 opens_guarded Δ n (sum P Q) o = (opens_guarded Δ n P o.0, opens_guarded Δ n Q o.1)
 opens_guarded Δ n (par P Q) o = (opens_guarded Δ n P o.0, opens_guarded Δ n Q o.1)
 opens_guarded Δ n (res P) o = opens_guarded Δ n P o
+opens_guarded Δ zero (call k xs) o = elim o [ ]
 opens_guarded Δ (suc n) (call k xs) o = each-guarded (Δ.body k) o.1
 
 every_call : (C : ℕ → List ℕ → Type 0) → ((k : ℕ) (xs : List ℕ) → C k xs) → (P : Term) → EachCall C P

@@ -44,6 +44,7 @@ module _ (Δ : Defs) where
   Opens n = EachCall (CallOpens n)
 
   call_opens_map : (n k : ℕ) (xs : List ℕ) (σ : ℕ → ℕ) → CallOpens n k xs → CallOpens n k (map σ xs)
+  call_opens_map zero k xs σ c = elim c [ ]
   call_opens_map (suc n) k xs σ c = (length-map xs σ ∙ c.0, c.1)
 
   pub opens_ren : (n : ℕ) (P : Term) (σ : ℕ → ℕ) → Opens n P → Opens n (ren σ P)

@@ -60,6 +60,10 @@ renamed x (output a b) h = refl
 renamed x (new_output a y) h = ap (new_output a) (h y (inl refl))
 
 named_binds : (x : ℕ) (α : Act) (f : ℕ → ℕ) (y : ℕ) → In y (bound_names (ren_action f (named x α))) → y ≡ x
+named_binds x tau_a f y x'' = elim x'' [ ]
+named_binds x (inp_a a) f y (mathlib.Core.Logic.inr x4) = elim x4 [ ]
+named_binds x (out_a _ _) f y x6 = elim x6 [ ]
+named_binds x (bout_a a) f y (mathlib.Core.Logic.inr x6) = elim x6 [ ]
 named_binds x (inp_a a) f y (inl e) = e
 named_binds x (bout_a a) f y (inl e) = e
 

@@ -43,6 +43,7 @@ joined-~ a b M N M₁ N₁ s r =
 
 ∈-communications : (s t : Candidate) (ss ts : List Candidate) → s ∈ ss → t ∈ ts → communication s t ∈ communications ss ts
 unfolding communications
+∈-communications s t [] ts x'' m = elim x'' [ ]
 ∈-communications s t (s₁ ∷ ss) ts (inl e) m =
     ∈-left (communication s t) (map (communication s₁) ts) (communications ss ts)
     (subst (λ c. communication s t ∈ map (communication c) ts) e (∈-map (communication s) t ts m))

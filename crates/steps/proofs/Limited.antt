@@ -29,6 +29,7 @@ fits_not longest (s ∷ ss) e = go (leb (length (result_bytes s)) longest) refl 
 
 long_not : (longest : ℕ) (ss : List ListedStep) → Long longest ss → all_fit longest ss ≡ false
 unfolding all_fit
+long_not longest [] (t, x, l) = elim x [ ]
 long_not longest (s ∷ ss) (t, inl e, l) =
     let k : longest < length (result_bytes s) = subst (λ u. longest < length (result_bytes u)) e l in
     rw (lt-leb (length (result_bytes s)) longest k) refl

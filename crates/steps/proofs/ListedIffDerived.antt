@@ -1,6 +1,6 @@
 -- Theorem `listed_iff_derived`: for each side of an accepted question and a new name not free in it, a step stands in the list exactly if
 -- Table 4.1 with rule Canon derives it with that name, and the answer is "unsettled" exactly if a limit is passed. Assumes nothing.
-use borrow.Author.Tests.{ltb-true, not_true}
+use borrow.Author.Tests.{ltb-true, not-true}
 use mathlib.Core.Bool.{Bool, true, false, cond, ◌&&◌, ◌||◌, not}
 use mathlib.Core.List.{List}
 use mathlib.Core.Path.{◌≡◌, sym, ◌∙◌, ap, subst}
@@ -84,7 +84,7 @@ listed_iff_derived question side x room r e =
     let (l, m) = both_true (ltb x name_count) (not (among (fn P) x)) n in
     let w = own_well_formed question q a in
     let h : x < name_count = ltb-true x name_count l in
-    let fresh : ¬ Free x P = λ f. not_among (fn P) x (not_true (among (fn P) x) m) (free→fn x P f) in
+    let fresh : ¬ Free x P = λ f. not_among (fn P) x (not-true (among (fn P) x) m) (free→fn x P f) in
     let s : steps_of q.bodies x P ≡ r = result_injective e₄ in
     record {
       asked = q;

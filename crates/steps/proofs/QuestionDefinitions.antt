@@ -37,6 +37,8 @@ pub body_at : (S : ℕ → Term → Type 0) (arities sizes : List ℕ) (bodies :
 unfolding BodiesAllowed body_of
 body_at S arities (a ∷ sizes) (P ∷ Ps) w h i zero = h a P w.0
 body_at S arities (a ∷ sizes) (P ∷ Ps) w h i (suc k) = body_at S arities sizes Ps w.1 h i k
+body_at S arities [] (P ∷ Ps) w h i k = elim w [ ]
+body_at S arities (a ∷ sizes) [] w h i k = elim w [ ]
 body_at S arities [] [] w h i k = i
 
 module _ (arities : List ℕ) (bodies : List Term) (allowed : BodiesAllowed arities arities bodies) where

@@ -32,6 +32,7 @@ module _ (Δ : Defs) where
 
   call_complete : (n k : ℕ) (xs : List ℕ) → CallOpens Δ n k xs → (M : Cond) (α : Act) (P' : Term) → Trans Δ (call k xs) M α P'
       → Yielded (called_of (visible_calls Δ.body n) (silent_calls Δ.body n) (is_silent α) k xs) M α P'
+  call_complete Prim.Native.Nat.zero k xs o M α P' _ = elim o [ ]
   call_complete (suc n) k xs o M α P' (t_call e t) =
       opened-candidates (is_silent α) n k xs (each-guarded (Δ.body k) o.1) M α P'
       (complete_over (visible_calls Δ.body 0) (silent_calls Δ.body 0) Δ (CallOpens Δ 0) (λ l ys o. absurd o) (body_opens Δ n k xs o) t)

@@ -44,6 +44,7 @@ module _ (Δ : Defs) where
 
   visible-call_sound : (n k : ℕ) (xs : List ℕ) → CallOpens Δ n k xs → All (Sound (call k xs)) (visible_calls Δ.body n k xs)
   unfolding visible
+  visible-call_sound Prim.Native.Nat.zero k xs c = elim c [ ]
   visible-call_sound (suc n) k xs c =
       subst (All (Sound (call k xs))) (sym (visible-alone Δ.body n k xs (each-guarded (Δ.body k) c.1)))
       (all_imp (Sound (opened xs (Δ.body k))) (Sound (call k xs)) (visible_of (visible_calls Δ.body 0) (opened xs (Δ.body k)))
@@ -52,6 +53,7 @@ module _ (Δ : Defs) where
 
   silent-call_sound : (n k : ℕ) (xs : List ℕ) → CallOpens Δ n k xs → All (Sound (call k xs)) (silent_calls Δ.body n k xs)
   unfolding silent
+  silent-call_sound Prim.Native.Nat.zero k xs c = elim c [ ]
   silent-call_sound (suc n) k xs c =
       subst (All (Sound (call k xs))) (sym (silent-alone Δ.body n k xs (each-guarded (Δ.body k) c.1)))
       (all_imp (Sound (opened xs (Δ.body k))) (Sound (call k xs))

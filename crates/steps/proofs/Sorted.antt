@@ -55,6 +55,7 @@ module _ (longest : ℕ) where
 
   pub insert-old : (s : ListedStep) (ts : List ListedStep) (u : ListedStep) → u ∈ ts → u ∈ insert longest s ts
   unfolding insert
+  insert-old s [] u m = elim m [ ]
   insert-old s (t ∷ ts) u m = go (order (bytes longest s) (bytes longest t)) m (λ l. insert-old s ts u l)
     where
       go : (o : Ordering) → u ∈ (t ∷ ts) → (u ∈ ts → u ∈ insert longest s ts) → u ∈ placed s t ts (insert longest s ts) o
@@ -82,6 +83,7 @@ module _ (longest : ℕ) where
   -- a step whose bytes are there changes nothing
   pub insert_there : (s : ListedStep) (ts : List ListedStep) → Sorted ts → HasBytes s ts → insert longest s ts ≡ ts
   unfolding insert
+  insert_there s [] a (u, x, e) = elim x [ ]
   insert_there s (t ∷ ts) a (u, m, e) =
       go (order (bytes longest s) (bytes longest t)) (ordered (bytes longest s) (bytes longest t)) m
       (λ n. insert_there s ts a.1 (u, n, e))
@@ -151,6 +153,7 @@ module _ (form : Term → Term) (names longest x : ℕ) where
   pub collect-new : (cs : List Candidate) (found : List ListedStep) (M : Cond) (α : Act) (P : Term) → step M α P ∈ cs
       → HasBytes longest (canon_step form names x M α P) (collect form names longest x cs found)
   unfolding collect
+  collect-new [] found M α P x'' = elim x'' [ ]
   collect-new (step N β Q ∷ cs) found M α P (inl e) =
       let s : ListedStep = canon_step form names x N β Q in
       let (u, m, b) = insert-new longest s found in

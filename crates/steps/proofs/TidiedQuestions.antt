@@ -1,6 +1,6 @@
 -- A question without the restrictions that bind nothing (document 02, request 2026-04): it is well-formed again, and either side has the same list of
 -- steps, their results tidied. Assumes nothing.
-use borrow.Author.Tests.{ltb-true, not_true}
+use borrow.Author.Tests.{ltb-true, not-true}
 use mathlib.Core.Bool.{Bool, true, false, cond, ◌&&◌, ◌||◌, not, false≢true}
 use mathlib.Core.List.{List, [], ◌∷◌, map}
 use mathlib.Core.Path.{◌≡◌, refl, sym, ◌∙◌, ap, ap₂, subst}
@@ -127,7 +127,7 @@ module _ (q q₁ : Question) (well : WellFormed q) (well₁ : WellFormed q₁) (
         go true h =
             let (l, n) = both_true (ltb x name_count) (not (among (fn Q) x)) h in
             ap done (tidied_side x (ltb-true x name_count l) P Q a b e
-            (λ f. false≢true (sym (free_alike x P Q e ∙ not_true (among (fn Q) x) n) ∙ in_among (fn P) x (free→fn x P f))))
+            (λ f. false≢true (sym (free_alike x P Q e ∙ not-true (among (fn Q) x) n) ∙ in_among (fn P) x (free→fn x P f))))
 
     pub tidied-listing : (side : ℕ) → (side_of q side >>= lists_for q) ≡ (side_of q₁ side >>= lists_for q₁)
     unfolding side_of need ◌>>◌ ◌>>=◌

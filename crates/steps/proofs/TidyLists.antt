@@ -140,6 +140,8 @@ guarded-tidy (call k xs) = refl
 
 pub bodies_tidied_lem : (arities sizes : List ℕ) (bodies : List Term) → BodiesAllowed arities sizes bodies → BodiesAllowed arities sizes (map tidy bodies)
 unfolding BodiesAllowed
+bodies_tidied_lem arities [] (P ∷ Ps) w = elim w [ ]
+bodies_tidied_lem arities (a ∷ sizes) [] w = elim w [ ]
 bodies_tidied_lem arities [] [] w = tt
 bodies_tidied_lem arities (a ∷ sizes) (P ∷ Ps) (b, w) = (
   record {

@@ -3,7 +3,7 @@ use mathlib.Core.Path.{◌≡◌, refl, sym, ap, ◌∙◌}
 use mathlib.Core.Bool.{Bool, true, false}
 use mathlib.Core.List.{List, [], ◌∷◌, map}
 use Prim.Native.Nat.{ℕ, zero, suc, ◌+◌, ◌-◌, ◌<◌, ◌≤◌}
-use native.Mathlib.Nat.{add-zero, zero_add, sub-zero}
+use native.Mathlib.Nat.{add-zero, zero-add, sub-zero}
 use native.Mathlib.Omega.{arith}
 use lib.ListN.{get_or}
 use lib.Dec.{ltb}
@@ -143,7 +143,7 @@ lift_by (suc b) ρ = lift (lift_by b ρ)
 
 pub represents_under : (b inner free d d' : ℕ) (table : List ℕ) (ρ : ℕ → ℕ) → free ≤ table_names → d' + b ≤ 128
     → RepresentsBeneath inner free d d' table ρ → RepresentsBeneath (inner + b) free (b + d) (b + d') table (lift_by b ρ)
-represents_under zero inner free d d' table ρ few h rep = rw (add-zero, zero_add, zero_add) rep
+represents_under zero inner free d d' table ρ few h rep = rw (add-zero, zero-add, zero-add) rep
 represents_under (suc b) inner free d d' table ρ few h rep =
     let x : inner + suc b ≡ 1 + (inner + b) = omega arith in
     let y : suc b + d ≡ 1 + (b + d) = omega arith in

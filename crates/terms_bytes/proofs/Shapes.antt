@@ -3,7 +3,7 @@ use mathlib.Core.Path.{◌≡◌, refl, sym, ap, ap₂, ◌∙◌}
 use mathlib.Core.Bool.{Bool, true, false, ◌&&◌, cond}
 use mathlib.Core.List.{List, [], ◌∷◌, ◌++◌, map, append_assoc, append-nil}
 use Prim.Native.Nat.{ℕ, zero, suc, ◌+◌, ◌<◌, ◌≤◌, zero-le}
-use native.Mathlib.Nat.{add-zero, zero_add}
+use native.Mathlib.Nat.{add-zero, zero-add}
 use native.Mathlib.Omega.{arith}
 use lib.ListN.{length, get_or, drop, length-append, length-map, length-drop}
 use lib.Seq.{take-append_seam, drop-append_seam, drop-drop, take_at}
@@ -82,13 +82,13 @@ encode_all d (P ∷ Ps) = encode d P ++ encode_all d Ps
 pub encode-parts : (d : ℕ) (P : Term) → encode d P ≡ front_bytes d P ++ encode_all (binders P + d) (subterms P)
 unfolding encode front_bytes fixed_bytes own_names binders subterms encode_all
 encode-parts d nil = refl
-encode-parts d (tau P) = rw (zero_add, append-nil)
+encode-parts d (tau P) = rw (zero-add, append-nil)
 encode-parts d (inp a P) = rw append-nil
-encode-parts d (out a b P) = rw (zero_add, append-nil)
+encode-parts d (out a b P) = rw (zero-add, append-nil)
 encode-parts d (bout a P) = rw append-nil
-encode-parts d (mat a b P) = rw (zero_add, append-nil)
-encode-parts d (sum P Q) = rw (zero_add, append-nil)
-encode-parts d (par P Q) = rw (zero_add, append-nil)
+encode-parts d (mat a b P) = rw (zero-add, append-nil)
+encode-parts d (sum P Q) = rw (zero-add, append-nil)
+encode-parts d (par P Q) = rw (zero-add, append-nil)
 encode-parts d (res P) = rw append-nil
 encode-parts d (call k ns) = sym (append-nil (9 ∷ k ∷ map (name_byte d) ns))
 
@@ -213,13 +213,13 @@ pub subterms_scope : (free : ℕ) (arities : List ℕ) (d : ℕ) (P : Term) → 
     → AllInScope free arities (binders P + d) (subterms P)
 unfolding InScope subterms binders
 subterms_scope free arities d nil h = tt
-subterms_scope free arities d (tau P) h = (rw zero_add h, tt)
+subterms_scope free arities d (tau P) h = (rw zero-add h, tt)
 subterms_scope free arities d (inp a P) h = (h.1, tt)
-subterms_scope free arities d (out a b P) h = (rw zero_add h.2, tt)
+subterms_scope free arities d (out a b P) h = (rw zero-add h.2, tt)
 subterms_scope free arities d (bout a P) h = (h.1, tt)
-subterms_scope free arities d (mat a b P) h = (rw zero_add h.2, tt)
-subterms_scope free arities d (sum P Q) h = (rw zero_add h.0, (rw zero_add h.1, tt))
-subterms_scope free arities d (par P Q) h = (rw zero_add h.0, (rw zero_add h.1, tt))
+subterms_scope free arities d (mat a b P) h = (rw zero-add h.2, tt)
+subterms_scope free arities d (sum P Q) h = (rw zero-add h.0, (rw zero-add h.1, tt))
+subterms_scope free arities d (par P Q) h = (rw zero-add h.0, (rw zero-add h.1, tt))
 subterms_scope free arities d (res P) h = (h, tt)
 subterms_scope free arities d (call k ns) h = tt
 

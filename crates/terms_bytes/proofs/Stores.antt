@@ -3,7 +3,7 @@ use mathlib.Core.Path.{◌≡◌, refl, sym, ap, ◌∙◌}
 use mathlib.Core.List.{List, [], ◌∷◌, ◌++◌, map, append_assoc, reverse, reverse_aux}
 use mathlib.Core.Logic.{⊎_elim}
 use Prim.Native.Nat.{ℕ, zero, suc, ◌+◌, ◌-◌, ◌<◌, ◌≤◌}
-use native.Mathlib.Nat.{add-zero, zero_add, not-suc-le-zero, le_of_suc-le-suc, eq-or-lt_of_le}
+use native.Mathlib.Nat.{add-zero, zero-add, not-suc-le-zero, le_of_suc-le-suc, eq-or-lt_of_le}
 use native.Mathlib.Numerals.{add-one}
 use native.Mathlib.Omega.{arith}
 use lib.ListN.{length, get_or, take, drop, set, length-append, length-take, length-drop, length-set, get_or-append}
@@ -59,7 +59,7 @@ sets_middle A B C B' p e n =
 
 -- A run from the start of an area that holds it.
 pub sets-start : (l xs : List ℕ) → length xs ≤ length l → sets l 0 xs ≡ xs ++ drop (length xs) l
-sets-start l xs h = sets-eq xs l 0 (rw zero_add h) ∙ rw zero_add
+sets-start l xs h = sets-eq xs l 0 (rw zero-add h) ∙ rw zero-add
 
 -- What stands before a run, behind it, and in it.
 pub get_d_before : (l : List ℕ) (p q : ℕ) (xs : List ℕ) → p < q → get_or (sets l q xs) p 0 ≡ get_or l p 0
