@@ -44,6 +44,7 @@ beneath-step (p ∷ C) N α R = ap (matching p.0 p.1) (beneath-step C N α R)
 
 module _ (Δ : Defs) where
   guarded_opens : (P : Term) → Guarded P → Opens Δ 0 P
+  guarded_opens (call _ _) g = elim g [ ]
   guarded_opens nil g = tt
   guarded_opens (tau P) g = tt
   guarded_opens (inp a P) g = tt
@@ -101,6 +102,7 @@ module _ (Δ : Defs) where
   in_places : (own : Term → List Candidate) (K : List Place) (p : Place) (c : Candidate) → Member p K
       → c ∈ own (opened p.names (Δ.body p.definition)) → beneath p.condition c ∈ of_places own Δ.body K
   unfolding of_places
+  in_places own [] p c x'' m = elim x'' [ ]
   in_places own (q ∷ K) p c (inl e) m =
       ∈-left (beneath p.condition c) (map (beneath q.condition) (own (opened q.names (Δ.body q.definition)))) (of_places own Δ.body K)
       (subst (λ r. beneath p.condition c ∈ map (beneath r.condition) (own (opened r.names (Δ.body r.definition)))) e

@@ -40,6 +40,7 @@ differs m n h = rw (ne_eqb m n h) refl
 permitted_apart : (D : Pairs) (s : ListedStep) → permitted D s ≡ true → (a b : ℕ) → Apart D a b
     → class_in s.classes a ≢ class_in s.classes b
 unfolding permitted
+permitted_apart [] s e a b x3 z = elim x3 [ ]
 permitted_apart (p ∷ D) s e a b (inl (h, k)) z =
     let c : ℕ → ℕ = class_in s.classes in
     differ (c p.0) (c p.1) (both_true (not (eqb (c p.0) (c p.1))) (permitted D s) e).0 (ap c h ∙ z ∙ ap c (sym k))
@@ -69,6 +70,7 @@ absorbs_implied M N h = Unif_ext (λ n. cls M (cls N n)) (cls M) N h (after N (E
 
 implies_in : (c d ns : List ℕ) → implies c d ns ≡ true → (n : ℕ) → In n ns → class_in c (class_in d n) ≡ class_in c n
 unfolding implies
+implies_in c d [] e n x'' = elim x'' [ ]
 implies_in c d (m ∷ ns) e n (inl h) =
     ap (λ k. class_in c (class_in d k)) h
     ∙ eqb-true (class_in c (class_in d m)) (class_in c m) (both_true (eqb (class_in c (class_in d m)) (class_in c m)) (implies c d ns) e).0

@@ -29,6 +29,7 @@ module _ {A : Type 0} where
   get_d_within (x ∷ xs) (suc i) d e h = get_d_within xs i d e (omega arith)
 
   pub ∈-number : (x : A) (xs : List A) → x ∈ xs → (i : ℕ) × (i < length xs) × ((d : A) → x ≡ get_or xs i d)
+  ∈-number x [] x'' = elim x'' [ ]
   ∈-number x (y ∷ xs) (inl e) = (0, omega arith, λ d. e)
   ∈-number x (y ∷ xs) (inr m) = let (i, l, e) = ∈-number x xs m in (suc i, omega arith, e)
 
@@ -42,5 +43,6 @@ module _ {A : Type 0} where
 
 module _ {A B : Type 0} (f : A → B) where
   pub map-∈ : (y : B) (xs : List A) → y ∈ map f xs → (x : A) × (x ∈ xs) × (y ≡ f x)
+  map-∈ y [] x' = elim x' [ ]
   map-∈ y (x ∷ xs) (inl e) = (x, inl refl, e)
   map-∈ y (x ∷ xs) (inr m) = let (z, n, e) = map-∈ y xs m in (z, inr n, e)

@@ -28,11 +28,13 @@ put_same x P = ap (λ f. ren f P) (fun_ext (λ n. go n (ℕ_discrete n x))) ∙ 
 module _ {A : Type 0} where
   pub ∈-join : (x : A) (xs : List A) (xss : List (List A)) → x ∈ xs → xs ∈ xss → x ∈ join_all xss
   unfolding join_all
+  ∈-join x xs [] i x3 = elim x3 [ ]
   ∈-join x xs (ys ∷ xss) i (inl e) = ∈-left x ys (join_all xss) (subst (λ zs. x ∈ zs) e i)
   ∈-join x xs (ys ∷ xss) i (inr j) = ∈_right x ys (join_all xss) (∈-join x xs xss i j)
 
   pub join-∈ : (x : A) (xss : List (List A)) → x ∈ join_all xss → (xs : List A) × (xs ∈ xss) × (x ∈ xs)
   unfolding join_all
+  join-∈ x [] i = elim i [ ]
   join-∈ x (ys ∷ xss) i = go (∈_either x ys (join_all xss) i) (join-∈ x xss)
     where
       go : (x ∈ ys) ⊎ (x ∈ join_all xss) → (x ∈ join_all xss → (xs : List A) × (xs ∈ xss) × (x ∈ xs)) → (xs : List A) × (xs ∈ (ys ∷ xss)) × (x ∈ xs)

@@ -27,6 +27,8 @@ binds_bound names M (new_output a x) R e = (x, inl refl)
 
 bound_binds : (names : ℕ) (M : Cond) (α : Action) (R : Term) (y : ℕ) → In y (bound_names α) → binds_name (listed_as names M α R) ≡ true
 unfolding binds_name listed_as kind_of
+bound_binds names M silent R y i = elim i [ ]
+bound_binds names M (output _ _) R y i = elim i [ ]
 bound_binds names M (input a x) R y i = refl
 bound_binds names M (new_output a x) R y i = refl
 
@@ -42,6 +44,7 @@ some_binds_lem (s ∷ ss) e = go (binds_name s) refl e (some_binds_lem ss)
 
 binds_some : (ss : List ListedStep) (s : ListedStep) → s ∈ ss → binds_name s ≡ true → some_binds ss ≡ true
 unfolding some_binds
+binds_some [] s x'' h = elim x'' [ ]
 binds_some (t ∷ ss) s (inl e) h = ap (λ b. b || some_binds ss) (ap binds_name (sym e) ∙ h)
 binds_some (t ∷ ss) s (inr m) h = go (binds_name t) (binds_some ss s m h)
   where

@@ -35,6 +35,7 @@ use Rattle.field.proofs.Selections.{∈-select, select-∈}
 
 -- Pairs of a name with names, by which names those are.
 row_more : (x : ℕ) (F G : List ℕ) → ((n : ℕ) → In n F → In n G) → (a b : ℕ) → Apart (map (λ y. (x, y)) F) a b → Apart (map (λ y. (x, y)) G) a b
+row_more x mathlib.Core.List.[] G h a b x3 = elim x3 [ ]
 row_more x (m ∷ F) G h a b (inl (d, e)) = apart_at (map (λ y. (x, y)) G) (sym d) (sym e) (row x G m (h m (inl refl)))
 row_more x (m ∷ F) G h a b (inr (inl (d, e))) =
     let E : Pairs = map (λ y. (x, y)) G in
@@ -42,6 +43,7 @@ row_more x (m ∷ F) G h a b (inr (inl (d, e))) =
 row_more x (m ∷ F) G h a b (inr (inr r)) = row_more x F G (λ n i. h n (inr i)) a b r
 
 times_more : (xs F G : List ℕ) → ((n : ℕ) → In n F → In n G) → (a b : ℕ) → Apart (times xs F) a b → Apart (times xs G) a b
+times_more mathlib.Core.List.[] F G h a b d = elim d [ ]
 times_more (x ∷ xs) F G h a b d = go (of_apart_++ (map (λ y. (x, y)) F) (times xs F) a b d) (times_more xs F G h a b)
   where
     go : Apart (map (λ y. (x, y)) F) a b ⊎ Apart (times xs F) a b → (Apart (times xs F) a b → Apart (times xs G) a b)

@@ -38,6 +38,7 @@ abbrev Holds : Pairs → ℕ → ℕ → Type 0
 Holds D a b = ◌∈◌ {A = ℕ × ℕ} (a, b) D
 
 apart_∈ : (D : Pairs) (a b : ℕ) → Apart D a b → Holds D a b ⊎ Holds D b a
+apart_∈ [] a b x' = elim x' [ ]
 apart_∈ (p ∷ D) a b (inl (h, k)) = inl (inl (λ i. (sym h i, sym k i)))
 apart_∈ (p ∷ D) a b (inr (inl (h, k))) = inr (inl (λ i. (sym h i, sym k i)))
 apart_∈ (p ∷ D) a b (inr (inr h)) = go (apart_∈ D a b h)
@@ -47,16 +48,19 @@ apart_∈ (p ∷ D) a b (inr (inr h)) = go (apart_∈ D a b h)
     go (inr m) = inr (inr m)
 
 ∈_apart : (D : Pairs) (a b : ℕ) → Holds D a b → Apart D a b
+∈_apart [] a b x' = elim x' [ ]
 ∈_apart (p ∷ D) a b (inl e) = inl (sym (ap (λ q. q.0) e), sym (ap (λ q. q.1) e))
 ∈_apart (p ∷ D) a b (inr m) = inr (inr (∈_apart D a b m))
 
 ∈_apart_back : (D : Pairs) (a b : ℕ) → Holds D b a → Apart D a b
+∈_apart_back [] a b x' = elim x' [ ]
 ∈_apart_back (p ∷ D) a b (inl e) = inr (inl (sym (ap (λ q. q.0) e), sym (ap (λ q. q.1) e)))
 ∈_apart_back (p ∷ D) a b (inr m) = inr (inr (∈_apart_back D a b m))
 
 -- The free names below a number.
 pub free_from_lem : (F : List ℕ) (n k m : ℕ) → In m (free_from F n k) → In m F
 unfolding free_from
+free_from_lem F n zero m i = elim i [ ]
 free_from_lem F n (suc k) m i = go (among F n) refl i (λ j. free_from_lem F (suc n) k m j)
   where
     go : (b : Bool) → among F n ≡ b → In m (cond b (n ∷ free_from F (suc n) k) (free_from F (suc n) k)) → (In m (free_from F (suc n) k) → In m F) → In m F
@@ -78,10 +82,12 @@ from_free F n (suc k) m i h l = go (among F n) refl (ℕ_discrete m n) (λ h'. f
 
 -- Every two members of a list make a pair.
 pub row : (a : ℕ) (bs : List ℕ) (b : ℕ) → In b bs → Apart (map (λ b. (a, b)) bs) a b
+row a [] b x' = elim x' [ ]
 row a (c ∷ bs) b (inl e) = inl (refl, sym e)
 row a (c ∷ bs) b (inr m) = inr (inr (row a bs b m))
 
 of_row : (c : ℕ) (bs : List ℕ) (a b : ℕ) → Apart (map (λ b. (c, b)) bs) a b → In a (c ∷ bs) × In b (c ∷ bs)
+of_row c [] a b x' = elim x' [ ]
 of_row c (d ∷ bs) a b (inl (h, k)) = (inl (sym h), inr (inl (sym k)))
 of_row c (d ∷ bs) a b (inr (inl (h, k))) = (inr (inl (sym k)), inl (sym h))
 of_row c (d ∷ bs) a b (inr (inr r)) = let (i, j) = of_row c bs a b r in (wider i, wider j)
@@ -92,6 +98,7 @@ of_row c (d ∷ bs) a b (inr (inr r)) = let (i, j) = of_row c bs a b r in (wider
 
 pairs_of_lem : (F : List ℕ) (a b : ℕ) → In a F → In b F → a ≢ b → Apart (pairs_of F) a b
 unfolding pairs_of
+pairs_of_lem [] a b x3 _ h = elim x3 [ ]
 pairs_of_lem (c ∷ F) a b (inl i) (inl j) h = absurd (h (i ∙ sym j))
 pairs_of_lem (c ∷ F) a b (inl i) (inr j) h =
     apart_left (map (λ b. (c, b)) F) (pairs_of F) a b (apart_at (map (λ b. (c, b)) F) i refl (row c F b j))
@@ -102,6 +109,7 @@ pairs_of_lem (c ∷ F) a b (inr i) (inr j) h = apart_right (map (λ b. (c, b)) F
 
 of_pairs : (F : List ℕ) (a b : ℕ) → Apart (pairs_of F) a b → In a F × In b F
 unfolding pairs_of
+of_pairs [] a b d = elim d [ ]
 of_pairs (c ∷ F) a b d = go (of_apart_++ (map (λ b. (c, b)) F) (pairs_of F) a b d) (of_pairs F a b)
   where
     go : Apart (map (λ b. (c, b)) F) a b ⊎ Apart (pairs_of F) a b → (Apart (pairs_of F) a b → In a F × In b F) → In a (c ∷ F) × In b (c ∷ F)

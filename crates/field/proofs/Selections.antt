@@ -13,6 +13,7 @@ use Rattle.field.specs.Successors.{select}
 module _ {A : Type 0} where
   pub ∈-select : (f : A → Bool) (x : A) (xs : List A) → x ∈ xs → f x ≡ true → x ∈ select f xs
   unfolding select
+  ∈-select f x [] m e = elim m [ ]
   ∈-select f x (y ∷ xs) m e = go (f y) refl m (λ n. ∈-select f x xs n e)
     where
       go : (b : Bool) → f y ≡ b → x ∈ (y ∷ xs) → (x ∈ xs → x ∈ select f xs) → x ∈ cond b (y ∷ select f xs) (select f xs)
@@ -23,6 +24,7 @@ module _ {A : Type 0} where
 
   pub select-∈ : (f : A → Bool) (x : A) (xs : List A) → x ∈ select f xs → (x ∈ xs) × (f x ≡ true)
   unfolding select
+  select-∈ f x [] m = elim m [ ]
   select-∈ f x (y ∷ xs) m = go (f y) refl m (λ n. select-∈ f x xs n)
     where
       go : (b : Bool) → f y ≡ b → x ∈ cond b (y ∷ select f xs) (select f xs) → (x ∈ select f xs → (x ∈ xs) × (f x ≡ true))

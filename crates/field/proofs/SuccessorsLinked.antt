@@ -1,6 +1,6 @@
 -- Theorem `successors_linked`: what `successors` computes of a proper situation is what the published transitions say. Assumes nothing.
 use borrow.Author.Tests.{eq-eqb, eqb-true}
-use mathlib.Core.Bool.{Bool, true, false, cond, ◌&&◌, ◌||◌, or_true}
+use mathlib.Core.Bool.{Bool, true, false, cond, ◌&&◌, ◌||◌, or-true}
 use mathlib.Core.List.{List, [], ◌∷◌, ◌++◌}
 use mathlib.Core.Logic.{◌≢◌, ◌⊎◌, inl, inr, ⊎_elim, ◌↔◌}
 use mathlib.Core.Path.{◌≡◌, refl, sym, ◌∙◌, ap, subst}
@@ -56,8 +56,9 @@ use Rattle.field.proofs.Unseen.{∈-together, together-∈}
 -- an input binds a name
 some_binds_lem : (ss : List ListedStep) (r : ListedStep) → r ∈ ss → r.kind ≡ 1 → some_binds ss ≡ true
 unfolding some_binds binds_name
+some_binds_lem [] r x'' k = elim x'' [ ]
 some_binds_lem (s ∷ ss) r (inl e) k = rw (eq-eqb s.kind 1 (ap (λ u. u.kind) (sym e) ∙ k)) refl
-some_binds_lem (s ∷ ss) r (inr i) k = rw (some_binds_lem ss r i k, or_true) refl
+some_binds_lem (s ∷ ss) r (inr i) k = rw (some_binds_lem ss r i k, or-true) refl
 
 -- Rewriting by classes keeps a term in scope.
 class_scope : (names : ℕ) (arities : List ℕ) (M : Cond) (Q : Term) → InScope names arities 0 Q → InScope names arities 0 (ren (cls M) Q)
@@ -232,6 +233,9 @@ module _ (Δ : Defs) (S : Setting) (arities : List ℕ) (set : SettingFor Δ S a
 
     offered-at : (α : Action) (R : Term) (y : ℕ) → y ∈ received true S.names F (listed_as S.names [] α R) → OfferedAt α y
     unfolding received listed_as kind_of object_of
+    offered-at silent R y (inr x3) = elim x3 [ ]
+    offered-at (output a b) R y (inr x4) = elim x4 [ ]
+    offered-at (new_output a z) R y (inr x5) = elim x5 [ ]
     offered-at silent R y (inl e) = own_name e (λ a z q. let w : ◌≡◌ {A = ℕ} 0 1 = cc in omega arith)
     offered-at (input a z) R y i = a_name a z refl (go (free_from_lem (z ∷ F) 0 S.names y i))
       where
@@ -367,6 +371,7 @@ module _ (Δ : Defs) (S : Setting) (arities : List ℕ) (set : SettingFor Δ S a
         [] (λ a c d. absurd d))
       where
         binds_new_lem : (z : ℕ) → In z (x ∷ []) → z ≡ x
+        binds_new_lem z (inr x3) = elim x3 [ ]
         binds_new_lem z (inl q) = q
 
         received-below : (y ≡ x) ⊎ Free y s.first ⊎ Free y s.second → y < S.names
@@ -415,6 +420,7 @@ module _ (Δ : Defs) (S : Setting) (arities : List ℕ) (set : SettingFor Δ S a
         (input-offered a (S.form A) y i (below_names x refl (λ d. first-test ps qs f d (record { condition = []; action = input a x; result = A; transition = u; binds = binds_new_lem }) x (inl refl)))) e
       where
         binds_new_lem : (z : ℕ) → In z (x ∷ []) → z ≡ x
+        binds_new_lem z (inr x3) = elim x3 [ ]
         binds_new_lem z (inl q) = q
 
     leads_within : LeadsWithin Δ S arities s (both S.differ)
@@ -444,7 +450,7 @@ module _ (Δ : Defs) (S : Setting) (arities : List ℕ) (set : SettingFor Δ S a
     second_binds : (r : ListedStep) → r ∈ qs → r.kind ≡ 1 → x < S.names
     second_binds r i e =
         below_names x refl
-        (λ d. true_both (eqb x S.names) (some_binds ps || some_binds qs) (eq-eqb x S.names d) (rw (some_binds_lem qs r i e, or_true) refl))
+        (λ d. true_both (eqb x S.names) (some_binds ps || some_binds qs) (eq-eqb x S.names d) (rw (some_binds_lem qs r i e, or-true) refl))
 
     listed_for : steps_in S x s.first ≡ listed ps → steps_in S x s.second ≡ listed qs → ListedFor Δ S arities s (both S.differ)
     unfolding F

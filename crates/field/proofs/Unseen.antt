@@ -26,6 +26,7 @@ same_as_itself s = rw (bytes_same (encode 0 s.first), bytes_same (encode 0 s.sec
 
 pub ∈-found : (known : List Situation) (s : Situation) → s ∈ known → found known s ≡ true
 unfolding found
+∈-found [] s x' = elim x' [ ]
 ∈-found (t ∷ known) s (inl e) = rw (subst (λ u. same_situation s u ≡ true) e (same_as_itself s)) refl
 ∈-found (t ∷ known) s (inr m) = rw (∈-found known s m) (go (same_situation s t))
   where
@@ -50,11 +51,13 @@ added known (s ∷ ss) = go (found known s) refl (added known ss) (added (s ∷ 
     go false e i j = new e j
 
 added-∈ : {known ss us : List Situation} → Added known ss us → (t : Situation) → t ∈ us → t ∈ ss
+added-∈ (none {known = known}) t m = elim m [ ]
 added-∈ (old e a) t m = inr (added-∈ a t m)
 added-∈ (new e a) t (inl d) = inl d
 added-∈ (new e a) t (inr m) = inr (added-∈ a t m)
 
 added_new : {known ss us : List Situation} → Added known ss us → (t : Situation) → t ∈ known → ¬ (t ∈ us)
+added_new (none {known = known}) t k m = elim m [ ]
 added_new (old e a) t k m = added_new a t k m
 added_new (new {known = known} {s = s} e a) t k (inl d) =
     let f = ∈-found known s (subst (λ u. u ∈ known) d k) in
@@ -86,6 +89,7 @@ module _ (Good : Situation → Type 0) (exact : (s t : Situation) → Good s →
       go false h e i = inr (i e)
 
   added-all : {known ss us : List Situation} → Added known ss us → All Good known → All Good ss → (t : Situation) → t ∈ ss → t ∈ (known ++ us)
+  added-all (none {known = known}) k g t x13 = elim x13 [ ]
   added-all (old {known = known} {us = us} {s = s} e a) k g t (inl d) =
       ∈-left t known us (subst (λ u. u ∈ known) (sym d) (found-∈ known s k g.0 e))
   added-all (old e a) k g t (inr m) = added-all a k g.1 t m
@@ -106,11 +110,13 @@ module _ (Good : Situation → Type 0) (exact : (s t : Situation) → Good s →
 -- `together` has the members of all its lists.
 pub ∈-together : (ms : List (List Situation)) (m : List Situation) (t : Situation) → m ∈ ms → t ∈ m → t ∈ together ms
 unfolding together
+∈-together [] m t x'' i = elim x'' [ ]
 ∈-together (n ∷ ms) m t (inl e) i = ∈-left t n (together ms) (subst (λ l. t ∈ l) e i)
 ∈-together (n ∷ ms) m t (inr j) i = ∈_right t n (together ms) (∈-together ms m t j i)
 
 pub together-∈ : (ms : List (List Situation)) (t : Situation) → t ∈ together ms → (m : List Situation) × (m ∈ ms) × (t ∈ m)
 unfolding together
+together-∈ [] t i = elim i [ ]
 together-∈ (m ∷ ms) t i = go (∈_either t m (together ms) i) (together-∈ ms t)
   where
     go : (t ∈ m) ⊎ (t ∈ together ms) → (t ∈ together ms → (l : List Situation) × (l ∈ ms) × (t ∈ l)) → (l : List Situation) × (l ∈ (m ∷ ms)) × (t ∈ l)
