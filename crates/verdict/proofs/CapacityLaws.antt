@@ -1,5 +1,5 @@
 -- Checks 1 and 2: what passes them, and what they turn back. Assumes nothing.
-use mathlib.Core.Bool.{Bool, true, false, ◌&&◌, and_false}
+use mathlib.Core.Bool.{Bool, true, false, ◌&&◌, and-false}
 use mathlib.Core.Path.{◌≡◌, refl, ap, ◌∙◌}
 use native.Mathlib.Omega.{arith}
 use Prim.Native.Nat.{ℕ, ◌<◌, ◌≤◌}
@@ -31,7 +31,7 @@ module _ (capacity bytes room : ℕ) where
 
   pub too_large : greatest_capacity < capacity → within_capacity capacity bytes room ≡ refused 1
   unfolding within_capacity
-  too_large h = need_failed 1 _ _ (ap (λ b. leb 1 capacity && b) (lt-leb capacity greatest_capacity h) ∙ and_false (leb 1 capacity))
+  too_large h = need_failed 1 _ _ (ap (λ b. leb 1 capacity && b) (lt-leb capacity greatest_capacity h) ∙ and-false (leb 1 capacity))
 
   pub no_room : 1 ≤ capacity → capacity ≤ greatest_capacity → room < bytes → within_capacity capacity bytes room ≡ refused 2
   unfolding within_capacity need

@@ -43,6 +43,7 @@ good_rows {S = S} {arities = arities} {rs = rs} f = record {
         only u (f.closed r m w a u b) (subst (λ l. t ∈ l) g j)
       where
         only : (u : Situation) → u ∈ selves rs → t ∈ single u → t ∈ selves rs
+        only u h (mathlib.Core.Logic.inr x') = elim x' [ ]
         only u h (inl q) = subst (λ v. v ∈ selves rs) (sym q) h
 
 module _ (Δ : Defs) (S : Setting) (arities : List ℕ) (setting : SettingFor Δ S arities)

@@ -116,6 +116,7 @@ module _ (Δ : Defs) {form : Term → Term} (formed : Form form) where
     OfForms A B = R (form A) (form B)
 
     binds_new_lem : (a : ℕ) (T : Term) → ¬ Free x T → Avoids (input a x) T
+    binds_new_lem a T h y (inr x3) f = elim x3 [ ]
     binds_new_lem a T h y (inl e) f = h (subst (λ n. Free n T) e f)
 
     same_forms : (A B A₁ B₁ : Term) → form A ≡ form A₁ → form B ≡ form B₁ → R (form A) (form B) → R (form A₁) (form B₁)

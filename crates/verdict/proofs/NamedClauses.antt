@@ -86,6 +86,7 @@ module _ (Δ : Defs) (S : Setting) (formed : Form S.form) (arities : List ℕ) (
         }
 
   binds_input : (a : ℕ) → BindsNew (input a x)
+  binds_input a y (inr x'') = elim x'' [ ]
   binds_input a y (inl e) = e
 
   -- Clause (i)
@@ -126,6 +127,7 @@ module _ (Δ : Defs) (S : Setting) (formed : Form S.form) (arities : List ℕ) (
   found-answer k L met (bout_a a) h P' t = found-other k L met (new_output a x) P' t (binds_new_lem a) (one_lot k x)
     where
       binds_new_lem : (a y : ℕ) → In y (x ∷ []) → y ≡ x
+      binds_new_lem a y (inr x4) = elim x4 [ ]
       binds_new_lem a y (inl e) = e
 
   -- Bisimilar parts meet each demand.
@@ -158,10 +160,13 @@ module _ (Δ : Defs) (S : Setting) (formed : Form S.form) (arities : List ℕ) (
         })
       where
         only : (y z : ℕ) → y ∈ (z ∷ []) → y ≡ z
+        only y z (inr x'') = elim x'' [ ]
         only y z (inl e) = e
 
   only_lot : (k : Kind) (z : ℕ) (ys : List ℕ) → ys ∈ lots k (z ∷ []) → ys ≡ z ∷ []
   unfolding lots
+  only_lot late z ys (inr x3) = elim x3 [ ]
+  only_lot early z ys (inr x4) = elim x4 [ ]
   only_lot late z ys (inl e) = e
   only_lot early z ys (inl e) = e
 
@@ -169,6 +174,7 @@ module _ (Δ : Defs) (S : Setting) (formed : Form S.form) (arities : List ℕ) (
       → (a : ℕ) (R : Term) → Concrete Δ P (input a x) R → (ys : List ℕ) → ys ∈ lots k (received true S.names F (step (input a x) R))
       → Met L (demand_of S.names make F D qs (step (input a x) R) ys)
   unfolding lots object_of
+  meets_input late L intro b a R t ys (inr x6) = elim x6 [ ]
   meets_input late L intro b a R t ys (inl e) =
       let r = b.bisimulation.received b.relates t
       (avoids Δ S arities x P Q scope scope' new new' ps qs lists lists' (input a x) P (binds_input a) new)
@@ -184,6 +190,7 @@ module _ (Δ : Defs) (S : Setting) (formed : Form S.form) (arities : List ℕ) (
       (meets_by early L intro (input a x) R r.result r.transition (binds_input a) (y ∷ []) (one y r))
     where
       one : (y : ℕ) (r : ReceivedAs Δ b.by a x y R Q) → (z : ℕ) → z ∈ (y ∷ []) → Bisimilar Δ early (ren (put x z) R) (ren (put x z) r.result)
+      one y r z (inr x6) = elim x6 [ ]
       one y r z (inl q) = record { by = b.by; bisimulation = b.bisimulation; relates = subst (λ z. b.by (ren (put x z) R) (ren (put x z) r.result)) (sym q) r.related }
 
   meets_at : (k : Kind) (L : Situation → Type 1) → ((A B : Term) → Bisimilar Δ k A B → L (make (S.form A) (S.form B) [])) → Bisimilar Δ k P Q

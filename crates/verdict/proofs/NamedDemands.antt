@@ -23,10 +23,12 @@ use Rattle.verdict.specs.Received.{lots, demand_of, named_moves, sides_demand, n
 -- every name is in some lot, and the lots have no others
 pub in_lots : (k : Kind) (zs ys : List ℕ) → ys ∈ lots k zs → (y : ℕ) → y ∈ ys → y ∈ zs
 unfolding lots
+in_lots late zs ys (inr x4) y i = elim x4 [ ]
 in_lots late zs ys (inl e) y i = subst (λ l. y ∈ l) e i
 in_lots early zs ys j y i = let (z, h, e) = map-∈ (λ y. y ∷ []) ys zs j in only z h (subst (λ l. y ∈ l) e i)
   where
     only : (z : ℕ) → z ∈ zs → y ∈ (z ∷ []) → y ∈ zs
+    only z h (inr x3) = elim x3 [ ]
     only z h (inl q) = subst (λ n. n ∈ zs) (sym q) h
 
 pub lot_of_lem : (k : Kind) (zs : List ℕ) (y : ℕ) → y ∈ zs → (ys : List ℕ) × (ys ∈ lots k zs) × (y ∈ ys)

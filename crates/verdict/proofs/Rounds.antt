@@ -1,7 +1,7 @@
 -- Striking out, in the abstract: what is left after the rounds is stable, and it is the largest set of rows in which every demand is met. Whether a
 -- situation is among others is decided by its bytes; `Good` are the situations that their bytes determine.
 use mathlib.Core.Path.{◌≡◌, refl, sym, ◌∙◌, ap, subst}
-use mathlib.Core.Bool.{Bool, true, false, cond, ◌&&◌, ◌||◌, or_true}
+use mathlib.Core.Bool.{Bool, true, false, cond, ◌&&◌, ◌||◌, or-true}
 use mathlib.Core.List.{List, [], ◌∷◌, map}
 use mathlib.Core.Logic.{inl, inr}
 use Prim.Native.Nat.{ℕ, zero, suc, ◌≤◌}
@@ -37,6 +37,7 @@ module _ {A : Type 0} (f : A → Bool) where
   -- a selection that leaves none out
   pub select-whole : (xs : List A) → length (select f xs) ≡ length xs → (x : A) → x ∈ xs → f x ≡ true
   unfolding select
+  select-whole [] e x m = elim m [ ]
   select-whole (y ∷ xs) e x m = go (f y) refl e m (select-whole xs)
     where
       go : (t : Bool) → f y ≡ t → length (cond t (y ∷ select f xs) (select f xs)) ≡ suc (length xs) → x ∈ (y ∷ xs)
@@ -54,6 +55,7 @@ self_in r rs m = ∈-map (λ r. r.self) r rs m
 
 -- a row is found by its situation, if the rows' situations are distinct
 pub same_row : (rs : List Row) → Distinct (selves rs) → (q r : Row) → q ∈ rs → r ∈ rs → q.self ≡ r.self → q ≡ r
+same_row [] d q r x4 _ k = elim x4 [ ]
 same_row (t ∷ rs) d q r (inl e) (inl f) k = e ∙ sym f
 same_row (t ∷ rs) d q r (inl e) (inr m) k =
     absurd (d.0 (subst (λ s. s ∈ selves rs) (sym k ∙ ap (λ r. r.self) e) (self_in r rs m)))
@@ -80,6 +82,7 @@ pub some-met {ℓ} : {X : Situation → Type ℓ} {m : List Situation} → Some 
 some-met {X = X} {m = m} o = record { answer = single o.there; member = ∈-map single o.there m o.member; all = only }
   where
     only : (t : Situation) → t ∈ single o.there → X t
+    only t (inr x') = elim x' [ ]
     only t (inl e) = subst X (sym e) o.holds
 
 pub met_some {ℓ} : {X : Situation → Type ℓ} {m : List Situation} → Met X (map single m) → Some X m
@@ -103,8 +106,9 @@ all_found_lem left (s ∷ m) h = rw (∈-found left s (h s (inl refl)), all_foun
 
 some-answered : (left : List Situation) (m : List (List Situation)) → (l : List Situation) → l ∈ m → ((s : Situation) → s ∈ l → s ∈ left) → answered left m ≡ true
 unfolding answered
+some-answered left [] l x'' k = elim x'' [ ]
 some-answered left (t ∷ m) l (inl e) k = rw (all_found_lem left t (λ s i. k s (subst (λ l. s ∈ l) (sym e) i)))
-some-answered left (t ∷ m) l (inr n) k = rw (some-answered left m l n k, or_true)
+some-answered left (t ∷ m) l (inr n) k = rw (some-answered left m l n k, or-true)
 
 pub each-answered : (left : List Situation) (ms : List (List (List Situation))) → EachSome (λ s. s ∈ left) ms → all_answered left ms ≡ true
 unfolding all_answered
@@ -120,6 +124,7 @@ module _ (Good : Situation → Type 0) (decides : (s t : Situation) → Good s �
   found_all : (left m : List Situation) → ((s : Situation) → s ∈ left → Good s) → ((s : Situation) → s ∈ m → Good s)
       → all_found left m ≡ true → (s : Situation) → s ∈ m → s ∈ left
   unfolding all_found
+  found_all left [] g h e s x4 = elim x4 [ ]
   found_all left (t ∷ m) g h e s (inl k) =
       subst (λ s. s ∈ left) (sym k) (member-found left g t (h t (inl refl)) (both_true (found left t) (all_found left m) e).0)
   found_all left (t ∷ m) g h e s (inr k) = found_all left m g (λ s n. h s (inr n)) (both_true (found left t) (all_found left m) e).1 s k
@@ -142,6 +147,7 @@ module _ (Good : Situation → Type 0) (decides : (s t : Situation) → Good s �
     where
       go : (ms : List (List (List Situation))) → ((m : List (List Situation)) → m ∈ ms → (l : List Situation) → l ∈ m → (s : Situation) → s ∈ l → Good s) → all_answered left ms ≡ true
           → (m : List (List Situation)) → m ∈ ms → Met (λ s. s ∈ left) m
+      go [] h e m x3 = elim x3 [ ]
       go (l ∷ ms) h e m (inl k) =
           subst (λ m. Met (λ s. s ∈ left) m) (sym k)
           (answered-some left l g (h l (inl refl)) (both_true (answered left l) (all_answered left ms) e).0)
