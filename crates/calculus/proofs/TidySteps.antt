@@ -1,28 +1,26 @@
 -- A term and its tidied form have the same transitions, up to tidying what they lead to; so they are related under every distinction.
 -- Assumes nothing.
 use Prim.Native.Nat.{ℕ, zero, suc}
-use lib.ListN.{length}
 use mathlib.Core.List.{List, [], ◌∷◌, ◌++◌, reverse}
-use mathlib.Core.Logic.{inl, inr}
+use mathlib.Core.Logic.{inr}
 use mathlib.Core.Path.{◌≡◌, refl, sym, ◌∙◌, ap, ap₂, subst}
 use native.Mathlib.Nat.{suc_inj}
 use native.Mathlib.Omega.{arith}
 use Rattle.calculus.specs.Abstraction.{swap, Act, tau_a, inp_a, out_a, bout_a, weak}
 use Rattle.calculus.specs.Cond.{Cond, Pairs, map_p, cls}
 use Rattle.calculus.specs.Definitions.{Defs, at, opened}
-use Rattle.calculus.specs.Distinction.{Irr, Resp}
-use Rattle.calculus.specs.Free.{Free}
+use Rattle.calculus.specs.Distinction.{Irr}
 use Rattle.calculus.specs.OpenBisimulation.{Rel, flip, Related}
 use Rattle.calculus.specs.Term.{Term, nil, tau, inp, out, bout, mat, sum, par, res, call, lift, ren, inst}
 use Rattle.calculus.specs.Tidy.{restrict_used, tidy}
-use Rattle.calculus.proofs.Conditions.{◌~◌, ~_refl, ~_sym, ~_trans, unsuc_~, ▷_trans, map_p-~}
+use Rattle.calculus.proofs.Conditions.{◌~◌, ~_refl, ~_sym, ~_trans, unsuc_~}
 use Rattle.calculus.proofs.PublishedSteps.{cons-~, ++-~}
-use Rattle.calculus.proofs.Renaming.{◌∘◌, ren_triangle}
+use Rattle.calculus.proofs.Renaming.{ren_triangle}
 use Rattle.calculus.proofs.Tidying.{Used, used, unused, used?, restrict-used, restrict_lifted, free_tidy, tidy-ren, tidy-tidy}
-use Rattle.calculus.proofs.Working.{ren_a, under, cross, Trans, t_tau, t_inp, t_out, t_bout, t_mat, t_sum_l, t_sum_r, t_par_l, t_par_r, t_com_l, t_com_r, t_close_l, t_close_r, t_res, t_open, t_call, under-ren_a}
-use Rattle.calculus.proofs.WorkingBisimulation.{Answer, Sim, Bisimilar}
+use Rattle.calculus.proofs.Working.{ren_a, under, cross, Trans, t_tau, t_inp, t_out, t_bout, t_mat, t_sum_l, t_sum_r, t_par_l, t_par_r, t_com_l, t_com_r, t_close_l, t_close_r, t_res, t_open, t_call}
+use Rattle.calculus.proofs.WorkingBisimulation.{Sim}
 use Rattle.calculus.proofs.WorkingNames.{act_free}
-use Rattle.calculus.proofs.WorkingRenaming.{cast, of, push, Pulled, pull}
+use Rattle.calculus.proofs.WorkingRenaming.{cast, of, push, pull}
 use Rattle.calculus.proofs.PublishedBisimulation.{to_published}
 
 -- What stands around a step.

@@ -1,13 +1,11 @@
 -- The published transitions of a term and of its tidied form: the same conditions and actions, and results with one tidied form.
 -- Assumes nothing.
 use Prim.Native.Nat.{ℕ}
-use mathlib.Core.Logic.{inl, inr}
+use mathlib.Core.Logic.{inl}
 use mathlib.Core.Path.{◌≡◌, refl, sym, ◌∙◌, ap, subst, subst₂}
-use Rattle.calculus.specs.Cond.{Cond, cls, canonical, Pairs}
+use Rattle.calculus.specs.Cond.{Cond, cls, canonical}
 use Rattle.calculus.specs.Definitions.{Defs}
-use Rattle.calculus.specs.Distinction.{Irr}
 use Rattle.calculus.specs.Free.{Free, fn}
-use Rattle.calculus.specs.OpenBisimulation.{Related}
 use Rattle.calculus.specs.Published.{Action, silent, input, output, new_output, ren_action, Avoids, Transition, Canon}
 use Rattle.calculus.specs.Term.{Term, ren, inst}
 use Rattle.calculus.specs.Tidy.{tidy}

@@ -3,7 +3,7 @@
 use Prim.Native.Nat.{ℕ}
 use mathlib.Core.List.{◌++◌}
 use mathlib.Core.Logic.{inl, inr}
-use mathlib.Core.Path.{◌≡◌, refl, sym, ◌∙◌, ap, subst, subst₂}
+use mathlib.Core.Path.{◌≡◌, sym, ◌∙◌, ap, subst, subst₂}
 use Rattle.calculus.specs.Abstraction.{Act}
 use Rattle.calculus.specs.Cond.{Cond, Pairs, cls}
 use Rattle.calculus.specs.Definitions.{Defs}

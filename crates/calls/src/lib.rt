@@ -1,1 +1,2 @@
 // No code: the calls that opening a call reaches are in specs/, their theorems are in proofs/.
+#![tactic(auto)]

@@ -1,5 +1,7 @@
 // The program `census`: a line for each length from 1 to 5, with the length and the numbers of ordered pairs of parts of that many bytes that are the
 // same, different and unsettled.
+#![tactic(auto)]
+
 use small_parts_count::count::{Counts, count};
 use small_parts_count::tally::Tally;
 use small_parts_words::parts::GREATEST_LENGTH;

@@ -1,4 +1,6 @@
 // The operations as a service calls them: byte slices and numbers in, one number out, kind × 2^32 + number.
+#![tactic(auto)]
+
 ghost use Rattle.fewest.specs.Apart.{ApartIs};
 ghost use Rattle.terms.specs.Edition.{one, two};
 ghost use Rattle.verdict.specs.Promises.{CheckIs, StepsIs, MergeIs, BesideIs, ConvertIs, JudgeIs, LateIs, EarlyIs};

@@ -1,2 +1,4 @@
 // The numbers that the operations answer.
+#![tactic(auto)]
+
 pub mod codes;

@@ -1,1 +1,2 @@
 // The fewest pairs of names to hold apart: definitions and theorems.
+#![tactic(auto)]

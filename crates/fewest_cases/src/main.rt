@@ -1,6 +1,8 @@
 // Finds the fewest pairs to hold apart for the questions of standard input, and writes one line for each. The first byte is their number; each
 // stands behind its length in two bytes: the capacity in two bytes, how many bytes the result area is short of the longest list in one (0 or 1),
 // the names behind their number, the question.
+#![tactic(auto)]
+
 use fewest_lists::best::Apart;
 use fewest_search::apart::apart;
 use report::print_line;

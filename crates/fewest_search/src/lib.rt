@@ -1,3 +1,5 @@
 // The search for the fewest pairs to hold apart.
+#![tactic(auto)]
+
 pub mod apart;
 pub mod search;

@@ -1,1 +1,2 @@
 // Situations and the field: definitions and theorems.
+#![tactic(auto)]

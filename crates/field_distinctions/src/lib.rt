@@ -1,2 +1,4 @@
 // The apart pairs after a step.
+#![tactic(auto)]
+
 pub mod update;

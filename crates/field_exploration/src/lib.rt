@@ -1,2 +1,4 @@
 // The field is explored.
+#![tactic(auto)]
+
 pub mod explore;

@@ -1,2 +1,4 @@
 // A side is listed anew.
+#![tactic(auto)]
+
 pub mod relisting;

@@ -1,2 +1,4 @@
 // A situation is taken up: both sides are listed.
+#![tactic(auto)]
+
 pub mod taking;

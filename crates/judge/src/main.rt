@@ -1,5 +1,7 @@
 // The program `judge`: a question on standard input, one line on standard output. The capacity is 256. A question that does not fit the buffer
 // is longer than document 01 allows, and so is what is read of it.
+#![tactic(auto)]
+
 use field_slots::slot::SLOT_BYTES;
 use report::print_verdict;
 use verdict_judge::judge::judge;

@@ -1,1 +1,2 @@
 // No code: Definitions 7 to 10 are in specs/, their theorems are in proofs/.
+#![tactic(auto)]

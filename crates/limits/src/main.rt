@@ -1,5 +1,7 @@
 // Runs check on the questions of standard input and writes one line for each. The first byte is their number; each stands behind its length
 // in two bytes, as the fields of a question do.
+#![tactic(auto)]
+
 use terms_bytes::bytes::get;
 use terms_bytes::frame::{after_field, field_at};
 use terms_checks::check::{Checked, check};

@@ -1,5 +1,7 @@
 // Lists steps of the questions of standard input: one line with the answer, then one line a step in hexadecimal, its filling left out. The first
 // byte is the number of questions; each stands behind its length in two bytes, and begins with the side and the new name in one byte each.
+#![tactic(auto)]
+
 ghost use Rattle.std.specs.Prelude.{◌≤◌};
 
 use report::print_line;

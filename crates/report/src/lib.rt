@@ -1,4 +1,6 @@
 // Answers as lines of standard output, as document 01 words them.
+#![tactic(auto)]
+
 use verdict_judge::judge::Judged;
 
 // A word, a number and a line feed.

@@ -21,6 +21,7 @@ module _ {A : Type 0} where
 
   pub ∈-join : (x : A) (xs : List A) (xss : List (List A)) → x ∈ xs → xs ∈ xss → x ∈ join_all xss
   unfolding join_all
+  ∈-join x xs [] i x3 = elim x3 [ ]
   ∈-join x xs (ys ∷ xss) i (inl e) = ∈-left x ys (join_all xss) (subst (λ zs. x ∈ zs) e i)
   ∈-join x xs (ys ∷ xss) i (inr j) = ∈_right x ys (join_all xss) (∈-join x xs xss i j)
 
@@ -66,6 +67,7 @@ module _ {A B C : Type 0} where
 
   pub ∈-crossed : (f : A → B → C) (xs : List A) (ys : List B) (x : A) (y : B) → x ∈ xs → y ∈ ys → f x y ∈ crossed f xs ys
   unfolding crossed
+  ∈-crossed f [] ys x y x4 j = elim x4 [ ]
   ∈-crossed f (z ∷ xs) ys x y (inl e) j =
       ∈-left (f x y) (map (f z) ys) (crossed f xs ys) (subst (λ w. f x y ∈ map (f w) ys) e (∈-map (f x) y ys j))
   ∈-crossed f (z ∷ xs) ys x y (inr i) j = ∈_right (f x y) (map (f z) ys) (crossed f xs ys) (∈-crossed f xs ys x y i j)
@@ -83,6 +85,7 @@ module _ {A B : Type 0} where
 
   pub crossed-∈ : (xs : List A) (ys : List B) (p : A × B) → p ∈ pairs xs ys → (p.0 ∈ xs) × (p.1 ∈ ys)
   unfolding crossed
+  crossed-∈ [] ys p m = elim m [ ]
   crossed-∈ (x ∷ xs) ys p m = go (∈_either p (map (λ y. (x, y)) ys) (pairs xs ys) m) (crossed-∈ xs ys p)
     where
       go : (p ∈ map (λ y. (x, y)) ys) ⊎ (p ∈ pairs xs ys) → (p ∈ pairs xs ys → (p.0 ∈ xs) × (p.1 ∈ ys)) → (p.0 ∈ (x ∷ xs)) × (p.1 ∈ ys)

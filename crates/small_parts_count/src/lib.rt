@@ -1,3 +1,5 @@
 // Counting the ordered pairs of small parts by their verdict.
+#![tactic(auto)]
+
 pub mod count;
 pub mod tally;

@@ -1,2 +1,4 @@
 // Communications between rows.
+#![tactic(auto)]
+
 pub mod meet;

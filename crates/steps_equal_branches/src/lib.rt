@@ -1,2 +1,4 @@
 // Branches that have the same steps.
+#![tactic(auto)]
+
 pub mod same;

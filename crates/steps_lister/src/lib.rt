@@ -1,3 +1,5 @@
 // The list of a part, and the listing operation.
+#![tactic(auto)]
+
 pub mod list;
 pub mod operation;

@@ -1,2 +1,4 @@
 // The conditions on the names of a call, numbered.
+#![tactic(auto)]
+
 pub mod partition;

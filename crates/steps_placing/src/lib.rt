@@ -1,4 +1,6 @@
 // A step put into the list.
+#![tactic(auto)]
+
 pub mod candidate;
 pub mod put;
 pub mod result;

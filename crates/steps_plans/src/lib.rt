@@ -1,4 +1,6 @@
 // What is written of each side of a term.
+#![tactic(auto)]
+
 pub mod beside;
 pub mod pieces;
 pub mod plan;

@@ -1,3 +1,5 @@
 // What opening a call reaches.
+#![tactic(auto)]
+
 pub mod reach;
 pub mod table;

@@ -1,2 +1,4 @@
 // The result of a candidate by its number.
+#![tactic(auto)]
+
 pub mod result;

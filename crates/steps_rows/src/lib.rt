@@ -1,2 +1,4 @@
 // The rows of a component.
+#![tactic(auto)]
+
 pub mod rows;

@@ -1,4 +1,6 @@
 // Results put together in place.
+#![tactic(auto)]
+
 pub mod locate;
 pub mod merged;
 pub mod splice;

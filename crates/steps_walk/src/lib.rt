@@ -1,2 +1,4 @@
 // The walk of a part.
+#![tactic(auto)]
+
 pub mod walk;

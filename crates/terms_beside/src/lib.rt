@@ -1,2 +1,4 @@
 // A third part beside both sides.
+#![tactic(auto)]
+
 pub mod beside;

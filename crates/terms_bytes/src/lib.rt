@@ -1,4 +1,6 @@
 // Reading bytes: the shape of a term, the fields of a question, lent areas.
+#![tactic(auto)]
+
 pub mod answer;
 pub mod bytes;
 pub mod frame;

@@ -1,2 +1,4 @@
 // Checks 3 to 12 of a question.
+#![tactic(auto)]
+
 pub mod check;

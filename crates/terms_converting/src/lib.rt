@@ -1,3 +1,5 @@
 // Questions from one edition to the other.
+#![tactic(auto)]
+
 pub mod question;
 pub mod term;

@@ -1,2 +1,4 @@
 // Merge of two names.
+#![tactic(auto)]
+
 pub mod merge;

@@ -4,7 +4,7 @@ use mathlib.Core.Bool.{Bool, true, false}
 use mathlib.Core.List.{List, [], ◌∷◌, ◌++◌, map, append_assoc, append-nil}
 use mathlib.Core.Logic.{◌⊎◌, inl, inr, ⊎_elim}
 use Prim.Native.Nat.{ℕ, suc, ◌+◌, ◌<◌, ◌≤◌}
-use native.Mathlib.Nat.{zero_add}
+use native.Mathlib.Nat.{zero-add}
 use native.Mathlib.Numerals.{add-one}
 use native.Mathlib.Omega.{arith}
 use lib.ListN.{length, get_or, take, drop, set, length-set, length-append, length-drop}
@@ -56,6 +56,7 @@ marks-out l (x ∷ xs) n h = marks-out (set l x 1) xs n (λ m. h (inr m)) ∙ ge
 
 marks_in : (l xs : List ℕ) (n : ℕ) → n < length l → In n xs → get_or (marks l xs) n 0 ≡ 1
 unfolding marks
+marks_in l [] n h m = elim m [ ]
 marks_in l (x ∷ xs) n h m = go (λ k. marks_in (set l x 1) xs n (rw length-set h) k) (in_or_not n xs) m
   where
     go : (In n xs → get_or (marks (set l x 1) xs) n 0 ≡ 1) → In n xs ⊎ (In n xs → ⊥) → In n (x ∷ xs) → get_or (marks (set l x 1) xs) n 0 ≡ 1
@@ -83,13 +84,13 @@ name_bytes_all d (P ∷ Ps) = name_bytes d P ++ name_bytes_all d Ps
 names-parts : (d : ℕ) (P : Term) → name_bytes d P ≡ map (name_byte d) (own_names P) ++ name_bytes_all (binders P + d) (subterms P)
 unfolding name_bytes name_bytes_all own_names binders subterms
 names-parts d nil = refl
-names-parts d (tau P) = rw (zero_add, append-nil)
+names-parts d (tau P) = rw (zero-add, append-nil)
 names-parts d (inp a P) = rw append-nil
-names-parts d (out a b P) = rw (zero_add, append-nil)
+names-parts d (out a b P) = rw (zero-add, append-nil)
 names-parts d (bout a P) = rw append-nil
-names-parts d (mat a b P) = rw (zero_add, append-nil)
-names-parts d (sum P Q) = rw (zero_add, append-nil)
-names-parts d (par P Q) = rw (zero_add, append-nil)
+names-parts d (mat a b P) = rw (zero-add, append-nil)
+names-parts d (sum P Q) = rw (zero-add, append-nil)
+names-parts d (par P Q) = rw (zero-add, append-nil)
 names-parts d (res P) = rw append-nil
 names-parts d (call k ns) = sym (append-nil (map (name_byte d) ns))
 
@@ -109,6 +110,7 @@ under d n = omega arith
 
 in→free : (n : ℕ) → n < 128 → (d : ℕ) (P : Term) → In n (name_bytes d P) → Free (d + n) P
 unfolding name_bytes
+in→free n h d nil m = elim m [ ]
 in→free n h d (tau P) m = in→free n h d P m
 in→free n h d (inp a P) (inl e) = inl (byte_of_free d a n h e)
 in→free n h d (inp a P) (inr m) = inr (subst (λ (k : ℕ). Free k P) (under d n) (in→free n h (1 + d) P m))
@@ -131,6 +133,7 @@ in→free n h d (call k ns) m =
 
 free→in : (n d : ℕ) (P : Term) → Free (d + n) P → In n (name_bytes d P)
 unfolding name_bytes
+free→in n d nil f = elim f [ ]
 free→in n d (tau P) f = free→in n d P f
 free→in n d (inp a P) (inl e) = inl (free_of_byte d a n e)
 free→in n d (inp a P) (inr f) = inr (free→in n (1 + d) P (subst (λ (k : ℕ). Free k P) (sym (under d n)) f))
@@ -152,14 +155,14 @@ free→in n d (call k ns) f = subst (λ (b : ℕ). In b (map (name_byte d) ns)) 
 -- So the flags set at a part's name bytes are its free names'.
 pub marks_free : (P : Term) (l : List ℕ) → length l ≡ name_count → MarksFree P l (marks l (name_bytes 0 P))
 marks_free P l e = record {
-  free = λ n h f. marks_in l (name_bytes 0 P) n (omega arith) (free→in n 0 P (subst (λ (k : ℕ). Free k P) (sym (zero_add n)) f));
-  other = λ n h f. marks-out l (name_bytes 0 P) n (λ m. f (subst (λ (k : ℕ). Free k P) (zero_add n) (in→free n (omega arith) 0 P m)));
+  free = λ n h f. marks_in l (name_bytes 0 P) n (omega arith) (free→in n 0 P (subst (λ (k : ℕ). Free k P) (sym (zero-add n)) f));
+  other = λ n h f. marks-out l (name_bytes 0 P) n (λ m. f (subst (λ (k : ℕ). Free k P) (zero-add n) (in→free n (omega arith) 0 P m)));
 }
 
 free_or_not : (P : Term) (n : ℕ) → n < name_count → Free n P ⊎ (Free n P → ⊥)
 free_or_not P n h =
-    ⊎_elim (λ m. inl (subst (λ (k : ℕ). Free k P) (zero_add n) (in→free n (omega arith) 0 P m)))
-    (λ m. inr (λ f. m (free→in n 0 P (subst (λ (k : ℕ). Free k P) (sym (zero_add n)) f)))) (in_or_not n (name_bytes 0 P))
+    ⊎_elim (λ m. inl (subst (λ (k : ℕ). Free k P) (zero-add n) (in→free n (omega arith) 0 P m)))
+    (λ m. inr (λ f. m (free→in n 0 P (subst (λ (k : ℕ). Free k P) (sym (zero-add n)) f)))) (in_or_not n (name_bytes 0 P))
 
 -- Of flags that were all 0.
 pub flags_free : (P : Term) (l l' : List ℕ) → ((n : ℕ) → n < name_count → get_or l n 0 ≡ 0) → MarksFree P l l' → FreeFlags P l'

@@ -3,7 +3,7 @@ use mathlib.Core.Path.{◌≡◌, refl, sym, ap, ap₂, subst, ◌∙◌}
 use mathlib.Core.Bool.{Bool, true, false, cond, not, ◌||◌}
 use mathlib.Core.List.{List, [], ◌∷◌, ◌++◌, map, append_assoc, append-nil}
 use Prim.Native.Nat.{ℕ, zero, suc, ◌+◌, ◌-◌, ◌<◌, ◌≤◌, min, max}
-use native.Mathlib.Nat.{zero_add}
+use native.Mathlib.Nat.{zero-add}
 use native.Mathlib.Numerals.{add-one}
 use native.Mathlib.Omega.{arith}
 use lib.ListN.{length, get_or, take, drop, length-append, length-drop}
@@ -63,13 +63,13 @@ used_by (P ∷ Ps) i = among (fn P) i || used_by Ps i
 pub among-parts : (P : Term) (i : ℕ) → among (fn P) i ≡ among (own_names P) i || used_by (subterms P) (binders P + i)
 unfolding fn among own_names used_by subterms binders
 among-parts nil i = refl
-among-parts (tau P) i = rw (or_false, zero_add)
+among-parts (tau P) i = rw (or_false, zero-add)
 among-parts (inp a P) i = rw (or_false, or_false, among_lower)
-among-parts (out a b P) i = rw (or_false, or_false, zero_add) (sym (or_assoc (eqb i a) (eqb i b) (among (fn P) i)))
+among-parts (out a b P) i = rw (or_false, or_false, zero-add) (sym (or_assoc (eqb i a) (eqb i b) (among (fn P) i)))
 among-parts (bout a P) i = rw (or_false, or_false, among_lower)
-among-parts (mat a b P) i = rw (or_false, or_false, zero_add) (sym (or_assoc (eqb i a) (eqb i b) (among (fn P) i)))
-among-parts (sum P Q) i = rw (or_false, zero_add) (among-append (fn P) (fn Q) i)
-among-parts (par P Q) i = rw (or_false, zero_add) (among-append (fn P) (fn Q) i)
+among-parts (mat a b P) i = rw (or_false, or_false, zero-add) (sym (or_assoc (eqb i a) (eqb i b) (among (fn P) i)))
+among-parts (sum P Q) i = rw (or_false, zero-add) (among-append (fn P) (fn Q) i)
+among-parts (par P Q) i = rw (or_false, zero-add) (among-append (fn P) (fn Q) i)
 among-parts (res P) i = rw (or_false, among_lower)
 among-parts (call k xs) i = rw (or_false)
 

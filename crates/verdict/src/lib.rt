@@ -1,1 +1,2 @@
 // The verdict, the promises of the operations and the three demands: definitions and theorems.
+#![tactic(auto)]

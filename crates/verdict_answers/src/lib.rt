@@ -1,3 +1,5 @@
 // Whether the situations that are left answer each demand.
+#![tactic(auto)]
+
 pub mod answered;
 pub mod manner;

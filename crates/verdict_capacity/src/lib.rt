@@ -1,2 +1,4 @@
 // Checks 1 and 2.
+#![tactic(auto)]
+
 pub mod capacity;

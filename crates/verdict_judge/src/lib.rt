@@ -1,2 +1,4 @@
 // The judge.
+#![tactic(auto)]
+
 pub mod judge;

@@ -1,2 +1,4 @@
 // Whether the start survives strike-out.
+#![tactic(auto)]
+
 pub mod passes;

@@ -1,2 +1,4 @@
 // Whether a situation survives.
+#![tactic(auto)]
+
 pub mod survive;

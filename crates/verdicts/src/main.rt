@@ -1,5 +1,7 @@
 // Judges the questions of standard input and writes one line for each. The first byte is their number; each stands behind its length in two
 // bytes, and begins with a byte for the relation, 0 open, 1 late, 2 early, and with its capacity in two bytes.
+#![tactic(auto)]
+
 use report::print_verdict;
 use terms_bytes::bytes::get;
 use terms_bytes::frame::{after_field, field_at};
