@@ -1,7 +1,7 @@
 -- The transitions of Table 3.1 are those of Table 4.1, with rule Canon, whose condition is trivial. Assumes nothing.
 use mathlib.Core.Path.{◌≡◌, refl, sym, ◌∙◌, ap, fun_ext, subst}
 use mathlib.Core.Logic.{◌↔◌}
-use mathlib.Core.List.{List, [], ◌∷◌, ◌++◌}
+use mathlib.Core.List.{[], ◌∷◌, ◌++◌}
 use Prim.Native.Nat.{ℕ}
 use Rattle.calculus.specs.Term.{Term, mat, ren}
 use Rattle.calculus.specs.Cond.{Cond, Unif, cls, ◌▷◌, Name, nontrivial, above, matches_to, matches_below, canonical}
@@ -9,9 +9,8 @@ use Rattle.calculus.specs.Definitions.{Defs}
 use Rattle.calculus.specs.Published.{Action, silent, input, output, new_output, ren_action, Avoids, Step, Pre, Con, Sum, SumR, Par, ParR, Com, ComR, Close, CloseR, Match, Res, Open, Transition, Canon}
 use Rattle.late_early.specs.Concrete.{Concrete, Pre3, Con3, Sum3, Sum3R, Par3, Par3R, Com3, Com3R, Close3, Close3R, Match3, Res3, Open3}
 use Rattle.calculus.proofs.Renaming.{ren_id}
-use Rattle.calculus.proofs.Conditions.{E2, E3, ▷-all, Unif-++, Unif-left, Unif_right}
-use Rattle.calculus.proofs.Canonical.{merges_iff_named, canonical-~, canonical-same, canonical-cls}
-use Rattle.calculus.proofs.PublishedBisimulation.{bound_ren}
+use Rattle.calculus.proofs.Conditions.{E3, ▷-all, Unif-++, Unif-left, Unif_right}
+use Rattle.calculus.proofs.Canonical.{merges_iff_named, canonical-~, canonical-same}
 
 -- every match is trivial
 abbrev pub Trivial : Cond → Type 0

@@ -1,19 +1,18 @@
 -- Late and early bisimilarity (Definitions 7 to 10): open related parts are late bisimilar, and late bisimilar ones early bisimilar.
 -- Assumes nothing.
 use mathlib.Core.Path.{◌≡◌, refl, sym, ◌∙◌, ap, subst}
-use mathlib.Core.Logic.{◌≢◌, ◌⊎◌, inl, inr, ⊎_elim}
-use mathlib.Core.List.{List, [], ◌∷◌, ◌++◌}
+use mathlib.Core.Logic.{◌⊎◌, inl, inr, ⊎_elim}
+use mathlib.Core.List.{List, [], ◌++◌}
 use Prim.Native.Nat.{ℕ}
-use native.Mathlib.Decide.{ℕ_discrete}
 use Rattle.calculus.specs.Term.{Term, ren, put}
-use Rattle.calculus.specs.Free.{In, Free, fn}
-use Rattle.calculus.specs.Cond.{Cond, Pairs, map_p, cls}
+use Rattle.calculus.specs.Free.{fn}
+use Rattle.calculus.specs.Cond.{Pairs, map_p, cls}
 use Rattle.calculus.specs.Distinction.{Apart, Irr, Resp, cut}
 use Rattle.calculus.specs.Definitions.{Defs}
-use Rattle.calculus.specs.Published.{Action, silent, input, output, new_output, bound_names, ren_action, Avoids}
-use Rattle.calculus.specs.OpenBisimulation.{Rel, flip, update, AvoidsPairs, Answered, Answers, Related}
+use Rattle.calculus.specs.Published.{Action, input, ren_action, Avoids}
+use Rattle.calculus.specs.OpenBisimulation.{Rel, flip, update, AvoidsPairs, Answers, Related}
 use Rattle.late_early.specs.Concrete.{Concrete}
-use Rattle.late_early.specs.LateEarly.{Kind, late, early, Binary, ReceivedAs, ReceivedAny, Received, AnsweredAs, Bisimulation, Bisimilar}
+use Rattle.late_early.specs.LateEarly.{late, early, Binary, ReceivedAny, AnsweredAs, Bisimulation, Bisimilar}
 use Rattle.calculus.proofs.Renaming.{ren_id}
 use Rattle.calculus.proofs.Binding.{put_other}
 use Rattle.calculus.proofs.Distinctions.{apart_at, apart_sym, of_apart_map}

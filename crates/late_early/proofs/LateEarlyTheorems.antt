@@ -1,6 +1,5 @@
 -- The theorems about late and early bisimilarity (Definitions 8 and 10) that other crates cite, each under the name by which it is known. Assumes
 -- nothing.
-use mathlib.Core.Path.{◌≡◌}
 use mathlib.Core.Logic.{◌≢◌}
 use Prim.Native.Nat.{ℕ}
 use Rattle.calculus.specs.Term.{Term, ren, put}

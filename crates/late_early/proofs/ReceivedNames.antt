@@ -1,6 +1,6 @@
 -- The free names of both sides and one new name are enough for what is received, and one new name for what is extruded: a relation that answers
 -- for these relates late, or early, bisimilar parts. What a search finds need be closed under nothing. Assumes nothing.
-use mathlib.Core.Path.{◌≡◌, refl, sym, ◌∙◌, ap, ap₂, subst, subst₂}
+use mathlib.Core.Path.{◌≡◌, refl, sym, ◌∙◌, ap, subst, subst₂}
 use mathlib.Core.Logic.{◌≢◌, ◌⊎◌, inl, inr, ⊎_elim, ⊎_swap}
 use mathlib.Core.List.{List, [], ◌∷◌, ◌++◌}
 use Prim.Native.Nat.{ℕ, zero, suc}
@@ -10,21 +10,21 @@ use native.Mathlib.Omega.{arith}
 use Rattle.calculus.specs.Abstraction.{Act, tau_a, inp_a, out_a, bout_a}
 use Rattle.calculus.specs.Term.{Term, ren, put, lift, inst, bind, ◌•◌}
 use Rattle.calculus.specs.Free.{In, Free, fn}
-use Rattle.calculus.specs.Cond.{Cond, Unif, map_p, cls, ◌▷◌}
+use Rattle.calculus.specs.Cond.{Cond, Unif, map_p, cls}
 use Rattle.calculus.specs.Definitions.{Defs}
 use Rattle.calculus.specs.Published.{Action, silent, input, output, new_output, bound_names, Avoids}
 use Rattle.late_early.specs.Concrete.{Concrete}
-use Rattle.late_early.specs.LateEarly.{Kind, late, early, Binary, ReceivedAs, ReceivedAny, Received, AnsweredAs, Bisimulation, Bisimilar}
-use Rattle.calculus.proofs.Renaming.{◌∘◌, ren_id, ren-∘, ren_triangle}
+use Rattle.late_early.specs.LateEarly.{Kind, late, early, Binary, ReceivedAs, Received, AnsweredAs, Bisimulation, Bisimilar}
+use Rattle.calculus.proofs.Renaming.{ren_id, ren-∘, ren_triangle}
 use Rattle.calculus.proofs.FreeNames.{of_free_ren, From, free_ren, free→fn}
-use Rattle.calculus.proofs.Conditions.{◌~◌, E2, E3, E4, ▷-all, Unif_of_map_p, Unif-map_p, Unif_ext}
-use Rattle.calculus.proofs.Binding.{bind_self, bind-other, put-inst, bind-inst, inst-bind, inst-lift, fresh-name}
-use Rattle.calculus.proofs.Working.{ren_a, shift, under, Trans, ren-inst, inv_out, inv_inp, inv_bout}
+use Rattle.calculus.proofs.Conditions.{E2, E3, E4, ▷-all, Unif_of_map_p, Unif-map_p, Unif_ext}
+use Rattle.calculus.proofs.Binding.{bind_self, bind-other, put-inst, bind-inst, inst-lift, fresh-name}
+use Rattle.calculus.proofs.Working.{ren_a, under, Trans, ren-inst, inv_out, inv_inp, inv_bout}
 use Rattle.calculus.proofs.WorkingNames.{free_at, cond_free, resid_free}
 use Rattle.calculus.proofs.WorkingRenaming.{cast, of, push, pull}
 use Rattle.calculus.proofs.UpToRenaming.{Either, either→fn, fn→either}
-use Rattle.calculus.proofs.PublishedSteps.{act, fill, named, Away, avoids_named, Unnamed, unname, name_it}
-use Rattle.late_early.proofs.ConcreteSteps.{Trivial, trivial_cls, trivial_▷, trivial_nil, concrete_step, step_concrete}
+use Rattle.calculus.proofs.PublishedSteps.{act, fill, named, unname, name_it}
+use Rattle.late_early.proofs.ConcreteSteps.{Trivial, trivial_▷, trivial_nil, concrete_step, step_concrete}
 
 module _ (Δ : Defs) where
   -- Concrete transitions as working ones, whose results are abstractions.

@@ -1,5 +1,5 @@
 -- Late and early bisimulation: document 000, Definitions 7 to 10, over the transitions of Table 3.1. Names are unlimited.
-use Rattle.std.specs.Prelude.{◌≡◌, ◌≢◌, ℕ}
+use Rattle.std.specs.Prelude.{◌≢◌, ℕ}
 use Rattle.calculus.specs.Term.{Term, ren, put}
 use Rattle.calculus.specs.Definitions.{Defs}
 use Rattle.calculus.specs.Published.{Action, input, Avoids}
