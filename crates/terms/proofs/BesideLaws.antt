@@ -1,8 +1,8 @@
 -- A third part set beside both sides: the question written is accepted, in the same edition, and its parts are the old ones in parallel with the
 -- third.
-use mathlib.Core.Path.{◌≡◌, refl, sym, ap, ◌∙◌}
-use mathlib.Core.List.{List, [], ◌∷◌, ◌++◌}
-use mathlib.Core.Bool.{Bool, true, false, ◌&&◌}
+use mathlib.Core.Path.{◌≡◌, sym, ap, ◌∙◌}
+use mathlib.Core.List.{List, ◌∷◌, ◌++◌}
+use mathlib.Core.Bool.{true, ◌&&◌}
 use Prim.Native.Nat.{ℕ, ◌+◌, ◌≤◌}
 use native.Mathlib.Omega.{arith}
 use lib.ListN.{length, length-append}
@@ -10,18 +10,18 @@ use lib.Dec.{leb}
 use borrow.Author.Tests.{leb-true, le-leb}
 use Rattle.calculus.specs.Term.{Term, par}
 use Rattle.terms.specs.Limits.{longest_term}
-use Rattle.terms.specs.Answer.{Answer, refused, result, ◌>>=◌, ◌>>◌, need}
+use Rattle.terms.specs.Answer.{result}
 use Rattle.terms.specs.Edition.{Edition, encode_in}
 use Rattle.terms.specs.Encoding.{encode, InScope}
 use Rattle.terms.specs.Reading.{numbered}
 use Rattle.terms.specs.Grammar.{parallel_outermost}
-use Rattle.terms.specs.Operations.{beside_question, fits_beside, placed_beside, written_within, beside_of}
+use Rattle.terms.specs.Operations.{beside_question, fits_beside, placed_beside, beside_of}
 use Rattle.terms.specs.Question.{Question, every, fits, read_part, edition_of, question_of, body_fields_in, write_in, fits_in}
 use Rattle.terms.proofs.Answers.{result_injective, bind-result, need-result, both_true, true_both}
 use Rattle.terms.proofs.EditionOne.{encode_shorter}
 use Rattle.terms.proofs.OwnEdition.{edition_written, own_well_formed, own-fits, written_accepted}
 use Rattle.terms.proofs.WellFormed.{PartAllowed, WellFormed, part_allowed}
-use Rattle.terms.proofs.WrittenLaws.{Written, written_within_lem}
+use Rattle.terms.proofs.WrittenLaws.{written_within_lem}
 
 -- Two parts in parallel, if they fit.
 pub parallel_allowed : (arities : List ℕ) (P R : Term) → PartAllowed arities P → PartAllowed arities R →

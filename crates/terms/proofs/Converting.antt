@@ -1,21 +1,21 @@
 -- The converters: down and up again, or up and down again, gives the original bytes, and both forms are one question, so that every verdict and
 -- every list of steps is the same.
 use mathlib.Core.Path.{◌≡◌, refl, sym, ap, subst, ◌∙◌}
-use mathlib.Core.List.{List, [], ◌∷◌, ◌++◌}
-use mathlib.Core.Bool.{Bool, true, false}
+use mathlib.Core.List.{List}
+use mathlib.Core.Bool.{true}
 use Prim.Native.Nat.{ℕ, ◌≤◌}
 use lib.ListN.{length}
 use lib.Dec.{leb}
 use borrow.Author.Tests.{le-leb}
-use Rattle.terms.specs.Answer.{Answer, refused, result, ◌>>=◌, ◌>>◌, need}
+use Rattle.terms.specs.Answer.{result, ◌>>=◌}
 use Rattle.terms.specs.Edition.{Edition, one, two, other}
 use Rattle.terms.specs.Operations.{written_within, convert_of}
-use Rattle.terms.specs.Question.{Question, check_in, edition_of, question_of, write_in, fits_in, write}
+use Rattle.terms.specs.Question.{Question, check_in, question_of, write_in, fits_in, write}
 use Rattle.terms.proofs.Answers.{bind-result, bind_to, need-result, need-passed}
 use Rattle.terms.proofs.EditionOne.{write-first}
 use Rattle.terms.proofs.OwnEdition.{in_own}
-use Rattle.terms.proofs.WellFormed.{WellFormed, accepted_in, written_in, in_accepted, fits-first}
-use Rattle.terms.proofs.WrittenLaws.{Written, written_within_lem}
+use Rattle.terms.proofs.WellFormed.{accepted_in, written_in, in_accepted, fits-first}
+use Rattle.terms.proofs.WrittenLaws.{written_within_lem}
 
 other-other : (e : Edition) → other (other e) ≡ e
 other-other one = refl

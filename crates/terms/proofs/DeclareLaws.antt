@@ -1,16 +1,16 @@
 -- Declaring two names apart: the question so made is accepted exactly if check 12 allows the pair, and then differs in that pair alone.
-use mathlib.Core.Path.{◌≡◌, refl, sym, ap, ◌∙◌}
-use mathlib.Core.List.{List, [], ◌∷◌, ◌++◌}
-use mathlib.Core.Bool.{Bool, true, false, ◌&&◌, not}
-use Prim.Native.Nat.{ℕ, ◌+◌, ◌≤◌}
+use mathlib.Core.Path.{◌≡◌, refl, ◌∙◌}
+use mathlib.Core.List.{[], ◌∷◌, ◌++◌}
+use mathlib.Core.Bool.{Bool, true, false}
+use Prim.Native.Nat.{ℕ, ◌+◌}
 use native.Mathlib.Omega.{arith}
 use lib.ListN.{length, length-append}
 use lib.Dec.{leb}
 use Rattle.calculus.specs.Cond.{Pairs}
 use Rattle.terms.specs.Limits.{longest_apart}
-use Rattle.terms.specs.Answer.{Answer, refused, result, ◌>>=◌, ◌>>◌, need}
+use Rattle.terms.specs.Answer.{result, ◌>>=◌, ◌>>◌, need}
 use Rattle.terms.specs.Edition.{Edition}
-use Rattle.terms.specs.Framing.{Fields, joined}
+use Rattle.terms.specs.Framing.{joined}
 use Rattle.terms.specs.Operations.{declared_fields, declared_question, may_declare}
 use Rattle.terms.specs.Question.{Question, different_names, read_pairs, read_pairs_with, read_apart_with, check_in, pair_bytes, fields_in, fits_in}
 use Rattle.terms.proofs.Answers.{Every, need-both}

@@ -3,7 +3,7 @@ use mathlib.Core.Path.{◌≡◌, refl}
 use mathlib.Core.List.{List, [], ◌∷◌, ◌++◌, map}
 use Prim.Native.Nat.{ℕ, zero, suc}
 use Rattle.terms.specs.Answer.{Answer, refused, result, ◌>>=◌, ◌>>◌, need}
-use Rattle.terms.specs.Edition.{Edition, one, two, version_byte, count_bytes, encode_in}
+use Rattle.terms.specs.Edition.{one, two, version_byte, count_bytes, encode_in}
 use Rattle.terms.specs.Encoding.{name_byte}
 use Rattle.terms.specs.Framing.{cut, field, fields, framed, sized, all_sized, joined}
 use Rattle.terms.specs.Grammar.{sequential, parallel_outermost, guarded}

@@ -1,14 +1,14 @@
 -- Edition one is what document 01 says: its bytes are those of `encode`, and never longer than those of edition two.
-use mathlib.Core.Path.{◌≡◌, refl, sym, ap, ◌∙◌}
+use mathlib.Core.Path.{◌≡◌, refl, ap}
 use mathlib.Core.List.{List, [], ◌∷◌, ◌++◌, map}
-use Prim.Native.Nat.{ℕ, ◌+◌, ◌≤◌, ◌<◌}
+use Prim.Native.Nat.{ℕ, ◌+◌, ◌≤◌}
 use native.Mathlib.Omega.{arith}
-use lib.ListN.{length, get_or, length-append}
+use lib.ListN.{length, length-append}
 use Rattle.calculus.specs.Term.{Term, nil, tau, inp, out, bout, mat, sum, par, res, call}
-use Rattle.terms.specs.Answer.{Answer, result}
-use Rattle.terms.specs.Edition.{Edition, one, two, count_bytes, encode_in}
+use Rattle.terms.specs.Answer.{result}
+use Rattle.terms.specs.Edition.{Edition, one, count_bytes, encode_in}
 use Rattle.terms.specs.Encoding.{name_byte, encode, InScope}
-use Rattle.terms.specs.Framing.{Fields, joined}
+use Rattle.terms.specs.Framing.{joined}
 use Rattle.terms.specs.Question.{Question, body_fields_in, fields_in, write_in, body_fields, fields_of, write}
 use Rattle.terms.specs.Reading.{numbered, read_term, read_whole}
 use Rattle.terms.proofs.ReadEncoded.{read_encoded, read_whole_lem}

@@ -1,14 +1,14 @@
 -- What reading takes is what `encode_in` writes of the term read, in either edition and whatever may be called, and that term is in scope.
 use mathlib.Core.Path.{◌≡◌, refl, sym, ap, ◌∙◌}
 use mathlib.Core.List.{List, [], ◌∷◌, ◌++◌, map, append_assoc, append-nil}
-use mathlib.Core.Bool.{Bool, true, false, cond, ◌&&◌}
-use Prim.Native.Nat.{ℕ, zero, suc, ◌+◌, ◌-◌, ◌≤◌, ◌<◌}
+use mathlib.Core.Bool.{Bool, true, false, ◌&&◌}
+use Prim.Native.Nat.{ℕ, zero, suc, ◌+◌, ◌-◌, ◌<◌}
 use native.Mathlib.Omega.{arith}
-use lib.ListN.{length, get_or}
+use lib.ListN.{length}
 use lib.Dec.{ltb, leb, eqb}
 use borrow.Author.Tests.{ltb-true, leb-true, eqb-true, le-ltb}
 use Rattle.calculus.specs.Term.{Term, nil, tau, inp, out, bout, mat, sum, par, res, call}
-use Rattle.terms.specs.Answer.{Answer, refused, result, ◌>>=◌, ◌>>◌, need}
+use Rattle.terms.specs.Answer.{result, ◌>>=◌}
 use Rattle.terms.specs.Edition.{Edition, one, two, count_bytes, encode_in}
 use Rattle.terms.specs.Encoding.{name_byte, NamesInScope}
 use Rattle.terms.specs.Reading.{byte, read_name, read_names, tag_of, Callees, read_count, read_term, read_whole}

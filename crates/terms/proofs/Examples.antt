@@ -3,15 +3,15 @@ use mathlib.Core.Path.{◌≡◌, refl}
 use mathlib.Core.List.{List, [], ◌∷◌, ◌++◌, map}
 use Prim.Native.Nat.{ℕ, zero, suc, ◌+◌, ◌-◌, ◌/◌}
 use Rattle.calculus.specs.Cond.{join}
-use Rattle.calculus.specs.Term.{Term, nil, tau, mat, sum, par}
+use Rattle.calculus.specs.Term.{nil, tau, mat, sum}
 use Rattle.terms.specs.Answer.{Answer, refused, result, ◌>>=◌, ◌>>◌, need}
-use Rattle.terms.specs.Edition.{one, two, version_byte, count_bytes, encode_in}
+use Rattle.terms.specs.Edition.{one, version_byte, count_bytes, encode_in}
 use Rattle.terms.specs.Encoding.{name_byte}
 use Rattle.terms.specs.Framing.{cut, field, fields, framed, sized, all_sized, joined}
 use Rattle.terms.specs.Grammar.{sequential, parallel_outermost, guarded}
 use Rattle.terms.specs.Limits.{name_count, longest_apart}
 use Rattle.terms.specs.Operations.{check_answer, holds_apart, merged_question, merged, beside_question, fits_beside, placed_beside, written_within, merge_of, beside_of}
-use Rattle.terms.specs.Question.{every, version, fits, read_bodies, read_part_with, different_names_with, read_pairs_with, read_apart_with, check_terms_with, check_fields_with, check_with, check_of, edition_of, question_with, body_fields_in, pair_bytes, fields_in, write_in, fits_in}
+use Rattle.terms.specs.Question.{every, version, fits, read_bodies, read_part_with, different_names_with, read_pairs_with, read_apart_with, check_terms_with, check_fields_with, check_with, check_of, edition_of, question_with, body_fields_in, pair_bytes, fields_in, write_in}
 use Rattle.terms.specs.Reading.{byte, read_name, read_names, tag_of, numbered, read_count, read_term, read_whole}
 
 abbrev third_exchange : List ℕ

@@ -1,7 +1,7 @@
 -- Check 10 is the grammar of finite control, document 000, section 4.8: the parts of an accepted question are finite-control terms, and the bodies
 -- of its definitions are sequential. Assumes nothing.
 use mathlib.Core.Path.{◌≡◌, refl}
-use mathlib.Core.Bool.{Bool, true, false, ◌&&◌}
+use mathlib.Core.Bool.{true}
 use mathlib.Core.List.{List, [], ◌∷◌}
 use mathlib.Core.Logic.{◌↔◌}
 use Prim.Native.Nat.{ℕ, zero, suc}

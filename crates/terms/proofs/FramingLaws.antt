@@ -1,15 +1,15 @@
 -- Cutting a question into its fields and joining them again are inverse, on lists of bytes.
-use mathlib.Core.Path.{◌≡◌, refl, sym, ap, ap₂, subst, ◌∙◌}
+use mathlib.Core.Path.{◌≡◌, refl, sym, ap, ap₂, ◌∙◌}
 use mathlib.Core.List.{List, [], ◌∷◌, ◌++◌, append_assoc, append-nil}
 use mathlib.Core.Bool.{Bool, true, false}
-use Prim.Native.Nat.{ℕ, zero, suc, ◌+◌, ◌*◌, ◌/◌, ◌%◌, ◌≤◌, ◌<◌}
+use Prim.Native.Nat.{ℕ, zero, suc, ◌+◌, ◌*◌, ◌/◌, ◌%◌, ◌<◌}
 use native.Mathlib.Omega.{arith}
 use lib.ListN.{length, get_or, take, drop, take-append-drop, length-take, length-append}
 use lib.Seq.{take-append_seam, drop-append_seam}
 use lib.Dec.{ltb, leb, eqb}
 use borrow.Author.Tests.{ltb-true, lt-ltb, leb-true, le-leb, eqb-true}
-use Rattle.terms.specs.Answer.{Answer, refused, result, ◌>>=◌, ◌>>◌, need}
-use Rattle.terms.specs.Framing.{cut, field, fields, Fields, framed, sized, all_sized, joined}
+use Rattle.terms.specs.Answer.{Answer, result, ◌>>=◌, ◌>>◌, need}
+use Rattle.terms.specs.Framing.{cut, field, fields, Fields, framed, sized, all_sized}
 use Rattle.terms.proofs.Answers.{result_injective, refused_not_result, bind-result, bind_to, need-result, need-passed, Every}
 
 pub empty : (bs : List ℕ) → length bs ≡ 0 → bs ≡ []

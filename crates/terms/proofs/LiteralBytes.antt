@@ -7,12 +7,12 @@ use Prim.Native.Nat.{ℕ, ◌+◌, ◌<◌, ◌≤◌, min, max}
 use native.Mathlib.Omega.{arith}
 use lib.ListN.{length, length-append}
 use lib.Dec.{ltb, leb, eqb}
-use borrow.Author.Tests.{lt-ltb, le-leb, ne_eqb, eqb-true, eqb-false}
+use borrow.Author.Tests.{lt-ltb, le-leb, eqb-true}
 use Rattle.calculus.specs.Cond.{Pairs, map_p, join}
 use Rattle.calculus.specs.Term.{Term, ren}
 use Rattle.calculus.proofs.Conditions.{join_cases}
 use Rattle.calculus.proofs.Renaming.{ren_id}
-use Rattle.terms.specs.Answer.{Answer, refused, result, ◌>>=◌, ◌>>◌, need}
+use Rattle.terms.specs.Answer.{result}
 use Rattle.terms.specs.Edition.{Edition, version_byte, encode_in}
 use Rattle.terms.specs.Framing.{Fields, sized, all_sized, joined, before_apart}
 use Rattle.terms.specs.Limits.{name_count}
@@ -21,7 +21,7 @@ use Rattle.terms.specs.Question.{Question, edition_of, question_of, body_fields_
 use Rattle.terms.proofs.Answers.{Every, bind_to, need-passed}
 use Rattle.terms.proofs.BesideLaws.{PlacedBeside, placed-beside}
 use Rattle.terms.proofs.OwnEdition.{own_well_formed, own-written, accepted_once}
-use Rattle.terms.proofs.WellFormed.{PairAllowed, WellFormed}
+use Rattle.terms.proofs.WellFormed.{PairAllowed}
 use Rattle.terms.proofs.WrittenLaws.{Written, written_within_lem}
 
 -- A name merged with itself changes nothing.

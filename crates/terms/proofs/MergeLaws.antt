@@ -13,7 +13,7 @@ use Rattle.calculus.proofs.Conditions.{join_cases}
 use Rattle.calculus.specs.Cond.{Pairs, map_p, join}
 use Rattle.calculus.specs.Term.{Term, ren}
 use Rattle.terms.specs.Limits.{name_count}
-use Rattle.terms.specs.Answer.{Answer, refused, result, ◌>>=◌, ◌>>◌, need}
+use Rattle.terms.specs.Answer.{result}
 use Rattle.terms.specs.Edition.{Edition}
 use Rattle.terms.specs.Operations.{holds_apart, merged_question, merged, merge_of}
 use Rattle.terms.specs.Question.{Question, every, fits, edition_of, question_of, pair_bytes, body_fields_in, write_in, fits_in}
@@ -21,7 +21,7 @@ use Rattle.terms.proofs.Answers.{Every, result_injective, bind-result, need-resu
 use Rattle.terms.proofs.RenamingKeeps.{scope_ren, outermost_ren, length-ren, length-ren_in}
 use Rattle.terms.proofs.OwnEdition.{edition_written, own_well_formed, own-fits, written_accepted}
 use Rattle.terms.proofs.WellFormed.{PartAllowed, PairAllowed, WellFormed}
-use Rattle.terms.proofs.WrittenLaws.{Written, written_within_lem}
+use Rattle.terms.proofs.WrittenLaws.{written_within_lem}
 
 pub join-below : (free a b n : ℕ) → a < free → b < free → n < free → join a b n < free
 join-below free a b n p q r = go (join_cases a b n)

@@ -1,16 +1,15 @@
 -- A question in its own edition, which its first byte says: what is accepted is what is written of it there, and what is written is accepted.
 use mathlib.Core.Path.{◌≡◌, refl, sym, ap, subst, ◌∙◌}
-use mathlib.Core.List.{List, [], ◌∷◌, ◌++◌}
-use mathlib.Core.Bool.{Bool, true, false}
+use mathlib.Core.List.{List}
+use mathlib.Core.Bool.{true}
 use mathlib.Core.Logic.{◌↔◌}
 use Prim.Native.Nat.{ℕ}
-use Rattle.terms.specs.Answer.{Answer, refused, result}
+use Rattle.terms.specs.Answer.{result}
 use Rattle.terms.specs.Edition.{Edition, one, two, version_byte}
 use Rattle.terms.specs.Framing.{Fields, joined}
 use Rattle.terms.specs.Question.{Question, check_in, check_of, edition_of, question_of, question_with, fields_in, write_in, fits_in, write}
 use Rattle.terms.proofs.Answers.{result_injective}
-use Rattle.terms.proofs.EditionOne.{write-first}
-use Rattle.terms.proofs.WellFormed.{WellFormed, accepted_in, written_in, in_accepted, fits-first, well_formed_accepted}
+use Rattle.terms.proofs.WellFormed.{WellFormed, accepted_in, written_in, in_accepted, well_formed_accepted}
 
 pub edition_joined : (e : Edition) (f : Fields) → edition_of (joined e f) ≡ e
 unfolding edition_of joined version_byte

@@ -1,15 +1,15 @@
 -- What `encode_in` writes, reading gives back, in either edition and whatever may be called: the terms in scope are exactly determined by their
 -- bytes.
-use mathlib.Core.Path.{◌≡◌, refl, sym, ap, ◌∙◌}
+use mathlib.Core.Path.{◌≡◌, refl}
 use mathlib.Core.List.{List, [], ◌∷◌, ◌++◌, map, append_assoc, append-nil}
-use mathlib.Core.Bool.{Bool, true, false, cond, ◌&&◌}
+use mathlib.Core.Bool.{Bool, true, false}
 use Prim.Native.Nat.{ℕ, zero, suc, ◌+◌, ◌-◌, ◌≤◌, ◌<◌}
 use native.Mathlib.Omega.{arith}
-use lib.ListN.{length, get_or, length-append}
-use lib.Dec.{ltb, leb, eqb}
+use lib.ListN.{length, length-append}
+use lib.Dec.{ltb, eqb}
 use borrow.Author.Tests.{ltb-true, ltb-false, lt-ltb, le-ltb, le-leb, eq-eqb}
 use Rattle.calculus.specs.Term.{Term, nil, tau, inp, out, bout, mat, sum, par, res, call}
-use Rattle.terms.specs.Answer.{Answer, refused, result, ◌>>=◌, ◌>>◌, need}
+use Rattle.terms.specs.Answer.{result, ◌>>=◌, ◌>>◌, need}
 use Rattle.terms.specs.Edition.{Edition, one, two, count_bytes, encode_in}
 use Rattle.terms.specs.Encoding.{name_byte, encode, NamesInScope}
 use Rattle.terms.specs.Reading.{byte, read_name, read_names, tag_of, Callees, read_count, read_term, read_whole}

@@ -1,5 +1,5 @@
 -- The number of every refusal leaves room for an answer's kind beside it (32 bits). Assumes nothing.
-use mathlib.Core.Path.{◌≡◌, refl, sym, ◌∙◌}
+use mathlib.Core.Path.{◌≡◌}
 use mathlib.Core.Bool.{Bool, true, false, cond, ◌&&◌}
 use mathlib.Core.List.{List, [], ◌∷◌}
 use Prim.Native.Nat.{ℕ, zero, suc, ◌+◌, ◌-◌, ◌<◌, ◌≤◌}
@@ -7,15 +7,14 @@ use native.Mathlib.Omega.{arith}
 use lib.ListN.{length, get_or}
 use lib.Dec.{ltb, leb, eqb}
 use borrow.Author.Tests.{leb-true}
-use Rattle.calculus.specs.Term.{Term, nil, tau, inp, out, bout, mat, sum, par, res, call}
 use Rattle.terms.specs.Answer.{Answer, refused, result, ◌>>=◌, ◌>>◌, need}
 use Rattle.terms.specs.Edition.{Edition, one, two, other, version_byte}
-use Rattle.terms.specs.Framing.{Fields, cut, field, fields, framed}
+use Rattle.terms.specs.Framing.{cut, field, fields, framed}
 use Rattle.terms.specs.Grammar.{parallel_outermost}
 use Rattle.terms.specs.Limits.{longest_question}
 use Rattle.terms.specs.Operations.{merged, placed_beside, written_within, merge_of, beside_of, convert_of}
 use Rattle.terms.specs.Question.{Question, version, read_bodies, read_part, read_part_with, read_pairs, read_pairs_with, read_apart, read_apart_with, different_names, check_terms_with, check_fields_with, check_in, check_with, edition_of, question_of, question_with, fits_in}
-use Rattle.terms.specs.Reading.{byte, read_name, read_names, Tag, inaction, silent, input, output, new_output, match, choice, parallel, restriction, calling, unknown, tag_of, Callees, numbered, read_count, read_term, read_whole}
+use Rattle.terms.specs.Reading.{byte, read_name, read_names, tag_of, Callees, numbered, read_count, read_term, read_whole}
 use Rattle.terms.proofs.Answers.{bind-result, need-result}
 
 -- numbers below this leave room for a kind: 2^32

@@ -1,7 +1,7 @@
 -- Terms in scope: over any rule for what may be called, and their free names.
 use mathlib.Core.Path.{◌≡◌, sym, ap, ◌∙◌}
 use mathlib.Core.List.{List, [], ◌∷◌}
-use mathlib.Core.Logic.{◌⊎◌, inl, inr}
+use mathlib.Core.Logic.{inl, inr}
 use Prim.Native.Nat.{ℕ, zero, suc, ◌+◌, ◌<◌}
 use native.Mathlib.Nat.{not-suc-le-zero, le_of_suc-le-suc}
 use native.Mathlib.Omega.{arith}
@@ -10,7 +10,7 @@ use lib.Dec.{ltb}
 use borrow.Author.Tests.{ltb-true, lt-ltb}
 use Rattle.calculus.specs.Free.{In, Free}
 use Rattle.calculus.specs.Term.{Term, nil, tau, inp, out, bout, mat, sum, par, res, call}
-use Rattle.terms.specs.Answer.{Answer, result}
+use Rattle.terms.specs.Answer.{result}
 use Rattle.terms.specs.Encoding.{NamesInScope, InScope}
 use Rattle.terms.specs.Reading.{Callees, numbered}
 use Rattle.terms.proofs.Answers.{result_injective, need-result, need-passed}

@@ -1,26 +1,25 @@
 -- The questions that checks 3 to 12 accept, said of their terms: in an edition exactly the bytes of the well-formed questions that fit it.
 use mathlib.Core.Path.{◌≡◌, refl, sym, ap, ap₂, subst, ◌∙◌}
 use mathlib.Core.List.{List, [], ◌∷◌, ◌++◌, append-nil}
-use mathlib.Core.Bool.{Bool, true, false, ◌&&◌, not}
-use mathlib.Core.Logic.{◌↔◌}
-use Prim.Native.Nat.{ℕ, zero, suc, ◌+◌, ◌*◌, ◌≤◌, ◌<◌}
+use mathlib.Core.Bool.{true, ◌&&◌, not}
+use Prim.Native.Nat.{ℕ, suc, ◌+◌, ◌*◌, ◌≤◌, ◌<◌}
 use native.Mathlib.Omega.{arith}
-use lib.ListN.{length, get_or, length-append}
+use lib.ListN.{length, length-append}
 use lib.Dec.{ltb, leb, eqb}
 use borrow.Author.Tests.{leb-true, le-leb, ltb-true, lt-ltb, eqb-true, eqb-false, eq-eqb, ne_eqb, not-true}
 use Rattle.calculus.specs.Cond.{Pairs}
 use Rattle.calculus.specs.Term.{Term}
 use Rattle.terms.specs.Limits.{name_count, longest_question, most_definitions, greatest_arity, longest_term, longest_apart_of, longest_apart}
-use Rattle.terms.specs.Answer.{Answer, refused, result, ◌>>=◌, ◌>>◌, need}
-use Rattle.terms.specs.Encoding.{encode, InScope}
-use Rattle.terms.specs.Edition.{Edition, one, two, version_byte, encode_in}
+use Rattle.terms.specs.Answer.{Answer, result, ◌>>=◌}
+use Rattle.terms.specs.Encoding.{encode}
+use Rattle.terms.specs.Edition.{Edition, one, version_byte, encode_in}
 use Rattle.terms.specs.Reading.{numbered, read_whole}
 use Rattle.terms.specs.Grammar.{sequential, parallel_outermost, guarded}
 use Rattle.terms.specs.Framing.{Fields, framed, sized, all_sized, joined}
 use Rattle.terms.specs.Question.{Question, every, version, fits, read_bodies, read_part, read_part_with, different_names, different_names_with}
 use Rattle.terms.specs.Question.{read_pairs, read_pairs_with, read_apart, read_apart_with, check_terms_with, check_fields, check_fields_with, check_in, check_with}
 use Rattle.terms.specs.Question.{check_of, body_fields_in, pair_bytes, fields_in, write_in, fits_in, fields_of, write}
-use Rattle.terms.proofs.Answers.{result_injective, refused_not_result, bind-result, bind_to, then_result, bind_id, bind_assoc, need-result, need-passed, both_true, true_both, all-every, every-all}
+use Rattle.terms.proofs.Answers.{result_injective, refused_not_result, bind-result, bind_to, bind_id, bind_assoc, need-result, need-passed, both_true, true_both, all-every, every-all}
 use Rattle.terms.proofs.EditionOne.{encode-first, encode_shorter, fields-first, write-first}
 use Rattle.terms.proofs.ReadEncoded.{encode-some_in, read_whole_lem}
 use Rattle.terms.proofs.ScopeLaws.{scope_to, scope_from}

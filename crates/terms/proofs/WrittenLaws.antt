@@ -1,12 +1,11 @@
 -- A question written into a result area (check 15): what was written, and where.
-use mathlib.Core.Path.{◌≡◌, refl, sym, ◌∙◌}
-use mathlib.Core.List.{List, [], ◌∷◌}
-use mathlib.Core.Bool.{Bool, true, false}
+use mathlib.Core.Path.{◌≡◌, sym}
+use mathlib.Core.List.{List}
 use Prim.Native.Nat.{ℕ, ◌≤◌}
 use lib.ListN.{length}
 use lib.Dec.{leb}
 use borrow.Author.Tests.{leb-true}
-use Rattle.terms.specs.Answer.{Answer, refused, result, ◌>>=◌, ◌>>◌, need}
+use Rattle.terms.specs.Answer.{Answer, result, ◌>>=◌}
 use Rattle.terms.specs.Edition.{Edition}
 use Rattle.terms.specs.Operations.{written_within}
 use Rattle.terms.specs.Question.{Question, write_in}

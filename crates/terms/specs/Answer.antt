@@ -1,5 +1,5 @@
 -- What an operation answers: turned back by a numbered check of document 01, or a result.
-use Rattle.std.specs.Prelude.{Bool, true, false, List, [], ◌∷◌, ℕ}
+use Rattle.std.specs.Prelude.{Bool, true, false, ℕ}
 
 pub data Answer (A : Type 0) : Type 0 where
   refused : ℕ → Answer A

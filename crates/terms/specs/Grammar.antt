@@ -1,5 +1,5 @@
 -- Finite control as document 01 checks it: where parallels and calls may stand (checks 10 and 11).
-use Rattle.std.specs.Prelude.{Bool, true, false, ◌&&◌, List, ℕ}
+use Rattle.std.specs.Prelude.{Bool, true, false, ◌&&◌}
 use Rattle.calculus.specs.Term.{Term, nil, tau, inp, out, bout, mat, sum, par, res, call}
 
 -- Check 10 in a body: parallel occurs nowhere.

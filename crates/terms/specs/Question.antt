@@ -1,5 +1,5 @@
 -- A question: checks 3 to 12 of document 01, with 16 of document 02, in their order, and its bytes in either edition.
-use Rattle.std.specs.Prelude.{Bool, true, false, ◌&&◌, not, List, [], ◌∷◌, ◌++◌, ℕ, length, ltb, leb, eqb, get_or}
+use Rattle.std.specs.Prelude.{Bool, true, false, ◌&&◌, not, List, [], ◌∷◌, ℕ, length, ltb, leb, eqb, get_or}
 use Rattle.calculus.specs.Cond.{Pairs}
 use Rattle.calculus.specs.Term.{Term}
 use Rattle.terms.specs.Limits.{name_count, longest_question, most_definitions, greatest_arity, longest_term, longest_apart_of}
