@@ -6,9 +6,9 @@ use mathlib.Core.List.{List, [], ◌∷◌, ◌++◌, map}
 use mathlib.Core.Logic.{inl, inr}
 use mathlib.Core.Path.{◌≡◌, refl, sym, ◌∙◌, ap, ap₂, fun_ext, subst}
 use native.Mathlib.Omega.{arith}
-use Prim.Native.Nat.{ℕ, zero, suc, ◌+◌, ◌≤◌}
-use lib.Dec.{eqb, leb}
-use lib.ListN.{length, length-map}
+use Prim.Native.Nat.{ℕ, zero, suc, ◌≤◌}
+use lib.Dec.{leb}
+use lib.ListN.{length-map}
 use Rattle.calculus.specs.Cond.{Cond, map_p}
 use Rattle.calculus.specs.Definitions.{Defs, opened}
 use Rattle.calculus.specs.Free.{In}
