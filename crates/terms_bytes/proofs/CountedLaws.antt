@@ -1,7 +1,7 @@
 -- The edition, once it is known whether calls are counted.
 use mathlib.Core.Path.{◌≡◌, ap}
 use mathlib.Core.Bool.{Bool, true, false}
-use Rattle.terms.specs.Edition.{Edition, one, two}
+use Rattle.terms.specs.Edition.{one, two}
 use Rattle.terms_bytes.specs.Counted.{edition_from}
 
 pub is_two : (counted : Bool) → counted ≡ true → edition_from counted ≡ two
