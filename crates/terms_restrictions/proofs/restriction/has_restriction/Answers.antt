@@ -1,5 +1,4 @@
 use mathlib.Core.Path.{refl}
-use Prim.Native.Nat.{◌-◌}
 use Rattle.terms_restrictions.proofs.RestrictionWalk.{looking_start, looking_done, found, fits, looking_again, no_tag, restricts}
 use Rattle.terms_restrictions.proofs.restriction.has_restriction.Goals as goal
 

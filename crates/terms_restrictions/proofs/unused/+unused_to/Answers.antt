@@ -1,4 +1,3 @@
-use Prim.Native.Nat.{◌-◌}
 use native.Mathlib.Omega.{arith}
 use lib.ListN.{length}
 use Rattle.terms_restrictions.proofs.UnusedWalk.{unused_not, unused-none, unused_one, unused-first, unused_two, second_place_lem}

@@ -1,6 +1,4 @@
-use mathlib.Core.Bool.{false}
 use mathlib.Core.Path.{refl, sym, ◌∙◌}
-use Prim.Native.Nat.{◌-◌}
 use borrow.Author.Rules.{rules}
 use Rattle.calculus.specs.Distinction.{among}
 use Rattle.terms_restrictions.proofs.UnusedWalk.{byte_there, byte_more, byte-none}
