@@ -1,16 +1,16 @@
 -- The grammar walk at positions: what each way through the code answers is what reading says.
-use mathlib.Core.Path.{◌≡◌, refl, sym, ap, subst, ◌∙◌}
-use mathlib.Core.Bool.{Bool, true, false, cond, ◌&&◌, ◌||◌}
+use mathlib.Core.Path.{◌≡◌, refl, ap, subst, ◌∙◌}
+use mathlib.Core.Bool.{Bool, true, false, ◌&&◌}
 use mathlib.Core.List.{List, [], ◌∷◌}
 use Prim.Native.Nat.{ℕ, zero, suc, ◌+◌, ◌-◌, ◌≤◌, ◌<◌, max}
 use native.Mathlib.Numerals.{add-one}
 use native.Mathlib.Omega.{arith}
 use lib.ListN.{length, get_or, drop, drop_of_length-le}
 use lib.Seq.{drop-cons}
-use lib.Dec.{ltb, leb, eqb}
-use borrow.Author.Tests.{ltb-true, ltb-false, lt-ltb, le-ltb, le-leb, lt-leb, eq-eqb, ne_eqb}
+use lib.Dec.{ltb, leb}
+use borrow.Author.Tests.{lt-ltb, le-ltb, le-leb, lt-leb, eq-eqb, ne_eqb}
 use Rattle.terms.specs.Edition.{Edition, one, two}
-use Rattle.terms.specs.Answer.{Answer, refused, result, ◌>>=◌, ◌>>◌, need}
+use Rattle.terms.specs.Answer.{refused, result, ◌>>=◌, ◌>>◌, need}
 use Rattle.terms.specs.Reading.{byte, read_name, read_names, numbered, read_count}
 use Rattle.terms_scanning.specs.Scanning.{name_allowed, behind_names, behind_call, behind_front, front_answer, NextWithin, NamesIs, CallIs, FrontIs}
 use Rattle.terms_bytes.specs.Shape.{names_at}

@@ -4,7 +4,7 @@ use lib.ListN.{length}
 use Rattle.terms_bytes.specs.Counted.{edition_from}
 use Rattle.terms_scanning.proofs.ScanLaws.{next_within}
 use Rattle.terms_scanning.proofs.ScanTerms.{end_within, scan_wrong, scan_leaf, scan_first_wrong, scan_one, scan_second_wrong, scan_two}
-use Prim.Native.Nat.{◌+◌, ◌-◌}
+use Prim.Native.Nat.{◌+◌}
 use Rattle.terms_scanning.proofs.scan.+scan_term.Goals as goal
 
 pub shape_at-h-requires : goal.shape_at-h-requires
