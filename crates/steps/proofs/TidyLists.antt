@@ -3,10 +3,9 @@
 use mathlib.Core.Bool.{Bool, true, false, cond, ◌&&◌}
 use mathlib.Core.List.{List, [], ◌∷◌, map}
 use mathlib.Core.Logic.{◌⊎◌, inl, inr, ◌↔◌}
-use mathlib.Core.Path.{◌≡◌, refl, sym, ◌∙◌, ap, ap₂, subst}
+use mathlib.Core.Path.{◌≡◌, refl, sym, ◌∙◌, ap, ap₂}
 use native.Mathlib.Omega.{arith}
 use Prim.Native.Nat.{ℕ, zero, suc, ◌≤◌}
-use lib.ListN.{get_or}
 use Rattle.calculus.specs.Definitions.{Defs}
 use Rattle.calculus.specs.Distinction.{among}
 use Rattle.calculus.specs.Free.{Free, fn}
@@ -18,17 +17,16 @@ use Rattle.terms.specs.Encoding.{InScope}
 use Rattle.terms.specs.Grammar.{sequential, parallel_outermost, guarded}
 use Rattle.terms.specs.Limits.{name_count, longest_term}
 use Rattle.terms.specs.Question.{body_of}
-use Rattle.terms.specs.WellFormed.{BodyAllowed, BodiesAllowed, PartAllowedWith, PartAllowed}
+use Rattle.terms.specs.WellFormed.{BodiesAllowed, PartAllowed}
 use Rattle.terms.proofs.TidyShorter.{tidy_shorter}
-use Rattle.steps.specs.Derived.{Ascending, Derived, TooMany, TooLong, ListsExactly}
+use Rattle.steps.specs.Derived.{Derived, TooMany, TooLong, ListsExactly}
 use Rattle.calls.specs.ReachLimit.{PastCalls}
 use Rattle.steps.specs.Limits.{most_steps, most_reached}
 use Rattle.steps.specs.Listed.{ListedStep, listed_as}
 use Rattle.steps.specs.Listing.{Listing, unsettled, listed, listing}
-use Rattle.calculus.specs.Lists.{◌∈◌, All}
 use Rattle.steps.proofs.CallLimitLaws.{within_calls, opens_guarded}
 use Rattle.steps.proofs.Calls.{Opens}
-use Rattle.steps.proofs.FormLaws.{Form, tidied_form, form_scope}
+use Rattle.steps.proofs.FormLaws.{tidied_form, form_scope}
 use Rattle.steps.proofs.ListingLaws.{listing_exact}
 use Rattle.calculus.proofs.Membership.{all_imp}
 use Rattle.steps.proofs.QuestionDefinitions.{definitions, bodies_in_scope, opens_one}
