@@ -1,15 +1,15 @@
 -- What the walk finds that looks from front to front for restrictions which bind nothing. Assumes nothing.
-use mathlib.Core.Path.{◌≡◌, refl, sym, ap, ap₂, subst, ◌∙◌}
+use mathlib.Core.Path.{◌≡◌, refl, sym, ap, ap₂, subst, ◌∙◌, subst}
 use mathlib.Core.Bool.{Bool, true, false, cond, not, ◌||◌}
 use mathlib.Core.List.{List, [], ◌∷◌, ◌++◌, append_assoc, append-nil}
 use Prim.Native.Nat.{ℕ, zero, suc, ◌+◌, ◌-◌, ◌<◌, ◌≤◌}
-use native.Mathlib.Nat.{zero_add}
+use native.Mathlib.Nat.{zero-add}
 use native.Mathlib.Numerals.{add-one}
 use native.Mathlib.Omega.{arith}
 use lib.ListN.{length, get_or, take, drop, set, length-append, length-drop}
 use lib.Seq.{take-suc, get_or-drop, get_or-set_same, get_or-set_other}
 use lib.Dec.{eqb}
-use borrow.Author.Tests.{eqb-true, eqb-false, eq-eqb, ne_eqb, not_true}
+use borrow.Author.Tests.{eqb-true, eqb-false, eq-eqb, ne_eqb, not-true}
 use Rattle.calculus.specs.Distinction.{among}
 use Rattle.calculus.specs.Free.{fn}
 use Rattle.calculus.specs.Term.{Term, nil, tau, inp, out, bout, mat, sum, par, res, call}
@@ -17,7 +17,7 @@ use Rattle.calculus.specs.Tidy.{restrict_used, tidy}
 use Rattle.terms.specs.Encoding.{name_byte, encode, InScope}
 use Rattle.terms.proofs.ReadEncoded.{encode-some}
 use Rattle.terms_bytes.specs.NameTable.{table_names}
-use Rattle.terms_bytes.specs.Shape.{own_names, binders, subterms, front_bytes, fixed_at, names_behind, names_at, binders_at, subterms_at, ShapeIs}
+use Rattle.terms_bytes.specs.Shape.{own_names, binders, subterms, fixed_at, names_behind, names_at, binders_at, subterms_at, ShapeIs}
 use Rattle.terms_bytes.specs.declared.shape.Shape.{Shape}
 use Rattle.terms_bytes.proofs.Shapes.{all-at, encode_all, AllInScope, names_scope, subterms_scope, front_of, shape_binds, shape_parts, span-names, length_front, front-inside, at_most_two}
 use Rattle.terms_bytes.proofs.Stores.{span, length-span, get_d_span}
@@ -329,7 +329,7 @@ placed_next m n depths (Q ∷ []) ps r depths' two N l st = let f = N.one refl i
 placed_next m n depths (Q₁ ∷ Q₂ ∷ []) ps r depths' two N l st =
     let f = N.two refl in
     let e = stacked_length depths n ps st in
-    (sym f.1, rw (f.0, f.2) (omega (arith, e), rw (← e) (get_or-set_same depths n m 0 l), rw (← e) (stacked_under depths n n m ps (omega (arith, e)) st)))
+    (sym f.1, rw f.0 (omega (arith, e), rw (f.2, ← e) (get_or-set_same depths n m 0 l), subst (λ u. Stacked u (length ps) ps) (sym f.2) (subst (λ k. Stacked (set depths n m) k ps) e (stacked_under depths n n m ps (omega (arith, e)) st))))
 placed_next m n depths (Q₁ ∷ Q₂ ∷ Q₃ ∷ Qs) ps r depths' two N l st = absurd (omega arith)
 
 -- What `follow` says, by the number of subterms.
@@ -411,8 +411,8 @@ module _ (s arities : List ℕ) where
   unfolding Walking
   walking_start depths waits free d P few i e = record {
     ahead = record { level = 0; term = P } ∷ [];
-    reads = rw (zero_add) (e ∙ sym (append-nil (encode d P)));
-    scope = (rw (zero_add) i, tt);
+    reads = rw (zero-add) (e ∙ sym (append-nil (encode d P)));
+    scope = (rw (zero-add) i, tt);
     placed = (refl, refl);
     good = λ u o c. o.1.1 (λ l h a. c l (subst (λ (v : List ℕ). get_or v l 0 ≡ 1) o.2 a));
   }
@@ -423,7 +423,7 @@ module _ (s arities : List ℕ) where
   walking_done at depth pending depths waits b past W is t free d P few i e = let w = W free d P few i e in go w w.ahead refl
     where
       go : (w : WalksOn free d P at depth pending depths waits) (ps : List Ahead) → w.ahead ≡ ps → tidy P ≡ P
-      go w [] q = w.good waits (subst (λ (ps : List Ahead). Outcome ps waits waits) (sym q) refl) (no_one waits (sym is ∙ not_true b t))
+      go w [] q = w.good waits (subst (λ (ps : List Ahead). Outcome ps waits waits) (sym q) refl) (no_one waits (sym is ∙ not-true b t))
       go w (p ∷ ps) q =
           absurd (omega (
             arith,

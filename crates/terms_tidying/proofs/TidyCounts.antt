@@ -4,9 +4,9 @@ use mathlib.Core.List.{List, [], ◌∷◌, ◌++◌, map}
 use mathlib.Core.Logic.{inl, inr}
 use mathlib.Core.Path.{◌≡◌, refl, sym, ◌∙◌, ap, ap₂, subst}
 use native.Mathlib.Omega.{arith}
-use Prim.Native.Nat.{ℕ, zero, suc, ◌+◌, ◌*◌, ◌≤◌, max}
+use Prim.Native.Nat.{ℕ, zero, suc, ◌+◌, ◌*◌, ◌≤◌}
 use lib.ListN.{length, length-append, length-map}
-use Rattle.calculus.specs.Free.{In, Free, lower_l, fn}
+use Rattle.calculus.specs.Free.{In, lower_l, fn}
 use Rattle.calculus.specs.Term.{Term, nil, tau, inp, out, bout, mat, sum, par, res, call, lift, ren}
 use Rattle.calculus.proofs.FreeNames.{free→fn}
 use Rattle.calculus.proofs.Renaming.{map-++}
@@ -119,6 +119,7 @@ lower_few (suc n ∷ xs) = omega (arith, lower_few xs)
 
 lower_fewer : (xs : List ℕ) → In 0 xs → 1 + length (lower_l xs) ≤ length xs
 unfolding lower_l
+lower_fewer [] m = elim m [ ]
 lower_fewer (zero ∷ xs) m = omega (arith, lower_few xs)
 lower_fewer (suc n ∷ xs) (inl e) = absurd (omega arith)
 lower_fewer (suc n ∷ xs) (inr m) = omega (arith, lower_fewer xs m)
