@@ -5,13 +5,12 @@ use mathlib.Core.List.{List, [], ◌∷◌}
 use Prim.Native.Nat.{ℕ, ◌≤◌, ◌<◌}
 use native.Mathlib.Omega.{arith}
 use lib.ListN.{length, get_or, drop}
-use lib.Dec.{leb, eqb}
+use lib.Dec.{eqb}
 use borrow.Author.Tests.{le-leb, lt-leb, eqb-true, eqb-false, eq-eqb, ne_eqb}
 use Rattle.terms.specs.Edition.{Edition, one, two, version_byte}
-use Rattle.terms.specs.Answer.{Answer, refused, result, ◌>>=◌, ◌>>◌, need}
+use Rattle.terms.specs.Answer.{result, ◌>>=◌, ◌>>◌, need}
 use Rattle.terms_checks.specs.Checking.{checked_answer, zero_for, apart_place, fields_at}
 use Rattle.terms_bytes.specs.FieldPlaces.{after_field}
-use Rattle.terms.specs.Framing.{framed}
 use Rattle.terms.specs.Limits.{longest_question}
 use Rattle.terms.specs.Operations.{check_answer}
 use Rattle.terms.specs.Question.{version, check_fields, check_in, check_with, edition_of, question_with}

@@ -2,13 +2,12 @@
 -- are those at their places.
 use mathlib.Core.Path.{◌≡◌, refl, sym, ap, ap₂, ◌∙◌}
 use mathlib.Core.Bool.{Bool, true, false}
-use mathlib.Core.List.{List, [], ◌∷◌, ◌++◌}
-use Prim.Native.Nat.{ℕ, zero, suc, ◌+◌, ◌-◌, ◌*◌, ◌≤◌, ◌<◌}
-use native.Mathlib.Nat.{zero_add, add-zero}
-use native.Mathlib.Numerals.{add-one}
+use mathlib.Core.List.{List, [], ◌∷◌}
+use Prim.Native.Nat.{ℕ, zero, suc, ◌+◌, ◌-◌, ◌≤◌, ◌<◌}
+use native.Mathlib.Nat.{zero-add, add-zero}
 use native.Mathlib.Omega.{arith}
 use lib.ListN.{length, get_or, take, drop, length-take, length-drop}
-use lib.Seq.{drop-drop, take-suc}
+use lib.Seq.{drop-drop}
 use lib.Dec.{ltb, leb, eqb}
 use borrow.Author.Tests.{lt-ltb, leb-true, leb-false, le-leb, lt-leb, ne_eqb}
 use Rattle.terms.specs.Answer.{Answer, refused, result, ◌>>=◌, ◌>>◌, need}
@@ -16,7 +15,7 @@ use Rattle.terms_checks.specs.Checking.{fields_from, first_place, second_place, 
 use Rattle.terms_bytes.specs.FieldPlaces.{definitions_of, arities_of, size_at, after_field, field_at, field_place}
 use Rattle.terms.specs.Framing.{cut, field, fields, Fields, framed}
 use Rattle.terms.proofs.Answers.{bind_to, bind-refused, need-passed}
-use Rattle.terms_bytes.proofs.Places.{after_held, after-past, field_held, held_of_after, past_of-after}
+use Rattle.terms_bytes.proofs.Places.{after_held, field_held, held_of_after, past_of-after}
 use Rattle.terms_scanning.proofs.ScanLaws.{drop_here}
 
 -- The places that the code finds one after another.
@@ -127,7 +126,7 @@ module _ (s : List ℕ) (bytes : (i : ℕ) → get_or s i 0 < 256) where
 
   first_follows : after_fields (field_place s 0) (definitions_of s) ≡ first_place s
   unfolding first_place
-  first_follows = places_follow (definitions_of s) 0 ∙ ap (field_place s) (zero_add (definitions_of s))
+  first_follows = places_follow (definitions_of s) 0 ∙ ap (field_place s) (zero-add (definitions_of s))
 
   -- Up to the first part.
   abbrev behind_bodies : List ℕ → List (List ℕ) → List ℕ → Answer Fields

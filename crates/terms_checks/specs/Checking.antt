@@ -1,7 +1,7 @@
 -- What the code of check answers, and the fields that it takes a question's bytes for.
-use Rattle.std.specs.Prelude.{Bool, true, false, ◌&&◌, List, [], ◌∷◌, ℕ, zero, suc, ◌+◌, length}
+use Rattle.std.specs.Prelude.{Bool, ◌&&◌, List, [], ◌∷◌, ℕ, zero, suc, length}
 use Rattle.calculus.specs.Term.{Term}
-use Rattle.terms.specs.Answer.{Answer, refused, result, ◌>>=◌, ◌>>◌, need}
+use Rattle.terms.specs.Answer.{Answer, refused, result, ◌>>=◌}
 use Rattle.terms_bytes.specs.FieldPlaces.{definitions_of, arities_of, after_field, field_at, field_place}
 use Rattle.terms.specs.Edition.{Edition}
 use Rattle.terms.specs.Framing.{Fields}
