@@ -9,7 +9,7 @@ use Rattle.calculus.specs.Abstraction.{Act}
 use Rattle.calculus.specs.Cond.{Cond}
 use Rattle.calculus.specs.Definitions.{Defs, opened}
 use Rattle.calculus.specs.Term.{Term, nil, tau, inp, out, bout, mat, sum, par, res, call, lift, ren}
-use Rattle.calculus.proofs.Conditions.{◌~◌, ~_refl, ~_sym, ~_trans}
+use Rattle.calculus.proofs.Conditions.{~_refl, ~_sym, ~_trans}
 use Rattle.calculus.proofs.PublishedSteps.{++-~}
 use Rattle.calculus.proofs.Working.{Trans}
 use Rattle.calculus.specs.Lists.{◌∈◌}
