@@ -1,18 +1,18 @@
 -- A term copied from front to front is the term in the other edition.
 use mathlib.Core.Path.{◌≡◌, refl, sym, ap, ap₂, subst, ◌∙◌}
-use mathlib.Core.Bool.{Bool, true, false}
-use mathlib.Core.List.{List, [], ◌∷◌, ◌++◌, map, append_assoc, append-nil}
-use Prim.Native.Nat.{ℕ, zero, suc, ◌+◌, ◌-◌, ◌*◌, ◌<◌, ◌≤◌}
-use native.Mathlib.Nat.{zero_add}
+use mathlib.Core.Bool.{Bool}
+use mathlib.Core.List.{List, [], ◌∷◌, ◌++◌, append_assoc, append-nil}
+use Prim.Native.Nat.{ℕ, ◌+◌, ◌<◌, ◌≤◌}
+use native.Mathlib.Nat.{zero-add}
 use native.Mathlib.Omega.{arith}
-use lib.ListN.{length, get_or, drop, length-append, length-drop, drop_of_length-le}
-use lib.Seq.{sets, length-sets, drop-drop, drop-append_seam}
+use lib.ListN.{length, drop, length-append, length-drop}
+use lib.Seq.{sets, drop-drop, drop-append_seam}
 use Rattle.calculus.specs.Term.{Term, nil, tau, inp, out, bout, mat, sum, par, res, call}
-use Rattle.terms.specs.Encoding.{name_byte, InScope}
+use Rattle.terms.specs.Encoding.{InScope}
 use Rattle.terms_bytes.specs.Shape.{fixed_bytes, own_names, binders, subterms}
 use Rattle.terms_bytes.proofs.Shapes.{AllInScope, subterms_scope}
 use Rattle.terms_bytes.proofs.Stores.{sets-join}
-use Rattle.terms.specs.Edition.{Edition, one, two, other, count_bytes, encode_in}
+use Rattle.terms.specs.Edition.{Edition, other, encode_in}
 use Rattle.terms.proofs.ReadEncoded.{encode-some_in}
 use Rattle.terms_bytes.specs.Counted.{edition_from}
 use Rattle.terms_converting.specs.Converting.{count_of, front_in, ConvertsFront, ConvertsTerm}
@@ -26,13 +26,13 @@ encode_all_in e d (P ∷ Ps) = encode_in e d P ++ encode_all_in e d Ps
 pub parts_in : (e : Edition) (d : ℕ) (P : Term) → encode_in e d P ≡ front_in e d P ++ encode_all_in e (binders P + d) (subterms P)
 unfolding encode_in front_in count_of fixed_bytes own_names binders subterms encode_all_in
 parts_in e d nil = refl
-parts_in e d (tau P) = rw (zero_add, append-nil)
+parts_in e d (tau P) = rw (zero-add, append-nil)
 parts_in e d (inp a P) = rw append-nil
-parts_in e d (out a b P) = rw (zero_add, append-nil)
+parts_in e d (out a b P) = rw (zero-add, append-nil)
 parts_in e d (bout a P) = rw append-nil
-parts_in e d (mat a b P) = rw (zero_add, append-nil)
-parts_in e d (sum P Q) = rw (zero_add, append-nil)
-parts_in e d (par P Q) = rw (zero_add, append-nil)
+parts_in e d (mat a b P) = rw (zero-add, append-nil)
+parts_in e d (sum P Q) = rw (zero-add, append-nil)
+parts_in e d (par P Q) = rw (zero-add, append-nil)
 parts_in e d (res P) = rw append-nil
 parts_in e d (call k ns) = rw append-nil
 

@@ -1,8 +1,8 @@
 -- Checks 17 and 15 of a converted question, and operations that are turned back or write.
 use mathlib.Core.Path.{◌≡◌, refl, sym, ap, ap₂, subst, ◌∙◌}
-use mathlib.Core.Bool.{Bool, true, false, ◌&&◌}
+use mathlib.Core.Bool.{Bool, true, false}
 use mathlib.Core.List.{List, [], ◌∷◌, ◌++◌, append_assoc}
-use Prim.Native.Nat.{ℕ, ◌+◌, ◌*◌, ◌<◌, ◌≤◌}
+use Prim.Native.Nat.{ℕ, ◌*◌, ◌<◌, ◌≤◌}
 use native.Mathlib.Omega.{arith}
 use lib.ListN.{length, take, drop, length-append}
 use lib.Seq.{sets, take_all, take-append_seam}
@@ -10,14 +10,14 @@ use lib.Dec.{leb}
 use borrow.Author.Tests.{le-leb, lt-leb}
 use Rattle.calculus.specs.Term.{Term}
 use Rattle.terms.specs.Answer.{Answer, refused, result, ◌>>=◌, ◌>>◌, need}
-use Rattle.terms.specs.Edition.{Edition, one, two, other, encode_in, version_byte}
+use Rattle.terms.specs.Edition.{Edition, one, two, other, encode_in}
 use Rattle.terms.specs.Framing.{Fields, sized, all_sized, joined}
-use Rattle.terms.specs.Limits.{longest_term, longest_question, longest_apart}
+use Rattle.terms.specs.Limits.{longest_question}
 use Rattle.terms.specs.Operations.{written_within, convert_of, length_written, area_after}
 use Rattle.terms.specs.Question.{Question, every, fits, check_in, body_fields_in, pair_bytes, fields_in, write_in, fits_in}
 use Rattle.terms.proofs.Answers.{bind-result, bind_to, bind-refused, need-passed, need_failed, Every, both_true}
 use Rattle.terms.proofs.FramingLaws.{Framable}
-use Rattle.terms.proofs.WellFormed.{BodiesAllowed, WellFormed, TermsFit, fits-size, terms_fit, accepted_in}
+use Rattle.terms.proofs.WellFormed.{WellFormed, fits-size, terms_fit, accepted_in}
 use Rattle.terms_bytes.specs.Counted.{edition_from}
 use Rattle.terms_bytes.specs.FieldPlaces.{arities_of, after_field, field_place}
 use Rattle.terms_bytes.specs.Writing.{written_answer, Does, Writes}

@@ -2,11 +2,11 @@
 use mathlib.Core.Path.{◌≡◌, refl, sym, ap, ap₂, subst, ◌∙◌}
 use mathlib.Core.Bool.{Bool, true, false, cond}
 use borrow.Author.Tests.{ne_eqb}
-use mathlib.Core.List.{List, [], ◌∷◌, ◌++◌, map, append_assoc, append-nil}
-use Prim.Native.Nat.{ℕ, zero, suc, ◌+◌, ◌-◌, ◌*◌, ◌<◌, ◌≤◌}
+use mathlib.Core.List.{List, [], ◌∷◌, ◌++◌, map, append_assoc}
+use Prim.Native.Nat.{ℕ, suc, ◌+◌, ◌<◌, ◌≤◌}
 use native.Mathlib.Omega.{arith}
-use lib.ListN.{length, get_or, take, drop, set, length-append, length-drop, length-take, length-map}
-use lib.Seq.{sets, length-sets, drop-drop, drop-append_seam, take_at, get_or-drop}
+use lib.ListN.{length, get_or, take, drop, set, length-append, length-drop, length-map}
+use lib.Seq.{sets, drop-drop, take_at, get_or-drop}
 use Rattle.calculus.specs.Term.{Term, nil, tau, inp, out, bout, mat, sum, par, res, call}
 use Rattle.terms.specs.Encoding.{name_byte, InScope}
 use Rattle.terms_bytes.specs.Shape.{fixed_bytes, own_names, binders, subterms, names_behind, names_at, ShapeIs}

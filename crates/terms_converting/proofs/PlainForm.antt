@@ -1,14 +1,14 @@
 -- The edition-one form of an accepted question of edition two, made aside: what merge, the lister and the judge go on with.
-use mathlib.Core.Path.{◌≡◌, refl, sym, ap, subst, ◌∙◌}
+use mathlib.Core.Path.{◌≡◌, sym, ap, ◌∙◌}
 use mathlib.Core.Bool.{Bool, true, false}
-use mathlib.Core.List.{List, [], ◌∷◌, ◌++◌}
+use mathlib.Core.List.{List}
 use Prim.Native.Nat.{ℕ, ◌≤◌}
 use native.Mathlib.Omega.{arith}
 use lib.ListN.{length, take}
-use Rattle.terms.specs.Answer.{Answer, result}
+use Rattle.terms.specs.Answer.{result}
 use Rattle.terms.specs.Edition.{Edition, one, two}
 use Rattle.terms.specs.Limits.{longest_question}
-use Rattle.terms.specs.Question.{Question, check_in, check_of, edition_of, question_of, question_with, write_in, write}
+use Rattle.terms.specs.Question.{Question, check_in, check_of, edition_of, question_of, question_with, write}
 use Rattle.terms.proofs.EditionOne.{write-first}
 use Rattle.terms.proofs.WellFormed.{accepted_in, well_formed_accepted}
 use Rattle.terms_bytes.specs.Counted.{edition_from}

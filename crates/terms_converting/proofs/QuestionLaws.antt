@@ -1,24 +1,23 @@
 -- A question written in the other edition, field by field.
 use mathlib.Core.Path.{◌≡◌, refl, sym, ap, ap₂, subst, ◌∙◌}
-use mathlib.Core.Bool.{Bool, true, false, ◌&&◌}
-use mathlib.Core.List.{List, [], ◌∷◌, ◌++◌, map, append_assoc, append-nil}
+use mathlib.Core.Bool.{Bool, true}
+use mathlib.Core.List.{List, [], ◌∷◌, ◌++◌, append_assoc, append-nil}
 use Prim.Native.Nat.{ℕ, zero, suc, ◌+◌, ◌-◌, ◌*◌, ◌/◌, ◌%◌, ◌<◌, ◌≤◌}
-use native.Mathlib.Nat.{zero_add, add-zero, not-suc-le-zero, le_of_suc-le-suc}
+use native.Mathlib.Nat.{not-suc-le-zero, le_of_suc-le-suc}
 use native.Mathlib.Omega.{arith}
 use lib.ListN.{length, get_or, take, drop, set, length-append, length-map, length-drop, take-append-drop}
 use lib.Seq.{sets, set_comm, take_all, take-append_seam, drop_at}
 use Rattle.calculus.specs.Term.{Term, nil, tau, inp, out, bout, mat, sum, par, res, call}
-use Rattle.terms.specs.Answer.{Answer, result}
+use Rattle.terms.specs.Answer.{result}
 use Rattle.terms.specs.Edition.{Edition, one, two, other, count_bytes, encode_in, version_byte}
-use Rattle.terms.specs.Encoding.{name_byte, encode, InScope}
-use Rattle.terms.specs.Framing.{Fields, sized, all_sized, joined}
-use Rattle.terms.specs.Limits.{name_count, longest_term, longest_question, most_definitions, longest_apart}
-use Rattle.terms.specs.Question.{Question, every, fits, check_in, body_fields_in, pair_bytes, fields_in, write_in, fits_in}
-use Rattle.terms.proofs.Answers.{result_injective, Every, both_true}
+use Rattle.terms.specs.Encoding.{name_byte, InScope}
+use Rattle.terms.specs.Framing.{sized, all_sized}
+use Rattle.terms.specs.Limits.{name_count, longest_term}
+use Rattle.terms.specs.Question.{Question, every, fits, check_in, body_fields_in, pair_bytes, fields_in, write_in}
+use Rattle.terms.proofs.Answers.{result_injective, both_true}
 use Rattle.terms.specs.Operations.{area_after}
 use Rattle.terms.proofs.EditionOne.{encode-first, encode_shorter}
-use Rattle.terms.proofs.FramingLaws.{Framable}
-use Rattle.terms.proofs.WellFormed.{BodiesAllowed, WellFormed, TermsFit, fits-size, terms_fit, accepted_in}
+use Rattle.terms.proofs.WellFormed.{BodiesAllowed, WellFormed, fits-size, terms_fit, accepted_in}
 use Rattle.terms_bytes.specs.Counted.{edition_from}
 use Rattle.terms_bytes.specs.FieldPlaces.{definitions_of, arities_of, after_field, field_at, field_place}
 use Rattle.terms_bytes.proofs.Places.{all_fields, all-sized-append, joined-fields, definitions_of_lem, at_place, field_is}
@@ -84,6 +83,8 @@ term_at e arities (a ∷ sizes) (B ∷ Ps) P Q w f p l r m rest rest' (suc k) h 
     let b = both_true (fits (encode_in e a B)) (every fits (body_fields_in e sizes Ps)) f in
     let t = term_at e arities sizes Ps P Q w.1 b.1 p l r m rest rest' k (omega arith) in
     record { free = t.free; depth = t.depth; term = t.term; scope = t.scope; from = t.from; to = t.to; size = t.size }
+term_at e arities [] (B ∷ Ps) P Q w f p l r m rest rest' k h = elim w [ ]
+term_at e arities (a ∷ sizes) [] P Q w f p l r m rest rest' k h = elim w [ ]
 term_at e arities [] [] P Q w f p l r m rest rest' zero h =
     record { free = name_count; depth = 0; term = P; scope = p; from = refl; to = refl; size = l }
 term_at e arities [] [] P Q w f p l r m rest rest' (suc zero) h =
@@ -93,6 +94,8 @@ term_at e arities [] [] P Q w f p l r m rest rest' (suc (suc k)) h = absurd (ome
 pub count_fields : (e : Edition) (arities sizes : List ℕ) (Ps : List Term) → BodiesAllowed arities sizes Ps → length (body_fields_in e sizes Ps) ≡ length sizes
 unfolding BodiesAllowed body_fields_in
 count_fields e arities (a ∷ sizes) (P ∷ Ps) h = ap suc (count_fields e arities sizes Ps h.1)
+count_fields e arities [] (P ∷ Ps) h = elim h [ ]
+count_fields e arities (a ∷ sizes) [] h = elim h [ ]
 count_fields e arities [] [] h = refl
 
 pub count_terms : (e : Edition) (q : Question) → WellFormed q → length (term_fields e q) ≡ length q.arities + 2

@@ -2,7 +2,7 @@
 use mathlib.Core.Path.{◌≡◌}
 use mathlib.Core.List.{List}
 use Prim.Native.Nat.{ℕ}
-use Rattle.terms.specs.Answer.{Answer, refused, result, ◌>>=◌}
+use Rattle.terms.specs.Answer.{refused, result}
 use Rattle.terms.specs.Operations.{check_answer, merged, merge_of, placed_beside, beside_of, written_within}
 use Rattle.terms.specs.Question.{edition_of, question_of}
 use Rattle.terms_bytes.specs.Writing.{IsAccepted}

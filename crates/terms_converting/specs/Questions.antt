@@ -2,7 +2,7 @@
 use Rattle.std.specs.Prelude.{◌≡◌, Bool, List, [], ◌∷◌, ◌++◌, ℕ, ◌+◌, ◌<◌, ◌≤◌, length}
 use Rattle.std.proofs.lemmas.List.Edits.{sets}
 use Rattle.calculus.specs.Term.{Term}
-use Rattle.terms.specs.Answer.{Answer, result, ◌>>◌, need}
+use Rattle.terms.specs.Answer.{result, ◌>>◌, need}
 use Rattle.terms.specs.Edition.{Edition, other, encode_in}
 use Rattle.terms.specs.Encoding.{InScope}
 use Rattle.terms.specs.Framing.{sized, all_sized}

@@ -1,0 +1,61 @@
+use mathlib.Core.Path.{sym, ◌∙◌}
+use Prim.Native.Nat.{◌+◌}
+use native.Mathlib.Omega.{arith}
+use lib.ListN.{length}
+use borrow.Author.Tests.{leb-true, leb-false}
+use Rattle.terms_converting.proofs.FrontLaws.{run_short, down_full, down_run}
+use Rattle.terms_converting.proofs.term.call_down.Goals as goal
+
+-- src/term.rt:40:9
+pub returns-then-not-room : goal.returns-then-not-room
+returns-then-not-room c =
+    let a = c.args in
+    run_short a.src.now a.at a.out.now a.to c.requires _ _ (leb-false _ _ (sym c.room.ensures ∙ c.if-not-room.true))
+
+-- src/term.rt:43:9
+pub returns-then-not-room-2 : goal.returns-then-not-room-2
+returns-then-not-room-2 c =
+    let a = c.args in
+    let s = leb-true (a.at + (3 + a.count)) (length a.src.now) (sym c.room.ensures ∙ c.if-not-room.false) in
+    let o = leb-false (a.to + (2 + a.count)) (length a.out.now) (sym c.room-2.ensures ∙ c.if-not-room-2.true) in
+    down_full a.src.now a.at a.out.now a.to c.requires a.count s o
+
+-- src/term.rt:45:5
+pub copy-requires : goal.copy-requires
+copy-requires c =
+    let a = c.args in
+    let s = leb-true (a.at + (3 + a.count)) (length a.src.now) (sym c.room.ensures ∙ c.if-not-room.false) in
+    let o = leb-true (a.to + (2 + a.count)) (length a.out.now) (sym c.room-2.ensures ∙ c.if-not-room-2.false) in
+    omega arith
+
+-- src/term.rt:46:35
+pub overflow_add-to : goal.overflow_add-to
+overflow_add-to c =
+    let a = c.args in
+    let s = leb-true (a.at + (3 + a.count)) (length a.src.now) (sym c.room.ensures ∙ c.if-not-room.false) in
+    let o = leb-true (a.to + (2 + a.count)) (length a.out.now) (sym c.room-2.ensures ∙ c.if-not-room-2.false) in
+    omega arith
+
+-- src/term.rt:46:5
+pub copy-requires-2 : goal.copy-requires-2
+copy-requires-2 c =
+    let a = c.args in
+    let s = leb-true (a.at + (3 + a.count)) (length a.src.now) (sym c.room.ensures ∙ c.if-not-room.false) in
+    let o = leb-true (a.to + (2 + a.count)) (length a.out.now) (sym c.room-2.ensures ∙ c.if-not-room-2.false) in
+    omega (arith, c.copy.auto.out)
+
+-- src/term.rt:49:13
+pub overflow_add-result-4 : goal.overflow_add-result-4
+overflow_add-result-4 c =
+    let a = c.args in
+    let s = leb-true (a.at + (3 + a.count)) (length a.src.now) (sym c.room.ensures ∙ c.if-not-room.false) in
+    let o = leb-true (a.to + (2 + a.count)) (length a.out.now) (sym c.room-2.ensures ∙ c.if-not-room-2.false) in
+    omega arith
+
+-- src/term.rt:34:1
+pub returns : goal.returns
+returns c =
+    let a = c.args in
+    let s = leb-true (a.at + (3 + a.count)) (length a.src.now) (sym c.room.ensures ∙ c.if-not-room.false) in
+    let o = leb-true (a.to + (2 + a.count)) (length a.out.now) (sym c.room-2.ensures ∙ c.if-not-room-2.false) in
+    down_run a.src.now a.at a.out.now a.to a.count _ _ s c.copy.ensures c.copy-2.ensures
