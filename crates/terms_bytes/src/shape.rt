@@ -7,7 +7,7 @@ use crate::tags::{
     CALL, CHOICE, INACTION, INPUT, MATCH, NEW_OUTPUT, OUTPUT, PARALLEL, RESTRICTION,
 };
 
-#[derive(Drop)]
+#[derive(Clone, Copy)]
 pub struct Shape {
     // the bytes that no renaming changes: the first, and a call's number
     pub fixed: usize,
