@@ -10,7 +10,7 @@ use native.Mathlib.Omega.{arith}
 use Prim.Native.Nat.{ℕ, zero, suc, ◌+◌, ◌<◌, ◌≤◌}
 use lib.ListN.{length, length-append, length-map}
 use Rattle.calculus.specs.Lists.{◌∈◌, All, Distinct}
-use Rattle.calculus.proofs.Membership.{∈-map, all-++, all-∈, distinct_length}
+use Rattle.calculus.proofs.Membership.{all-++, all-∈, distinct_length}
 use Rattle.field.specs.Setting.{Setting}
 use Rattle.field.specs.Situation.{Situation}
 use Rattle.field.specs.Successors.{Outcome, past_limit, leads, successors}

@@ -6,7 +6,6 @@ use mathlib.Core.Path.{◌≡◌, refl}
 use native.Mathlib.Omega.{arith}
 use Prim.Native.Nat.{ℕ}
 use Rattle.calculus.specs.Definitions.{Defs}
-use Rattle.calculus.specs.Lists.{◌∈◌, Distinct}
 use Rattle.calculus.proofs.Membership.{all_imp}
 use Rattle.field.specs.Setting.{Setting}
 use Rattle.field.specs.Situation.{Situation}
@@ -18,7 +17,6 @@ use Rattle.field.proofs.Proper.{same_equal}
 use Rattle.field.proofs.Link.{SettingFor, Linked}
 use Rattle.field.proofs.Reached.{LeadsTo, together-leads, leads-together, Reached, ReachesPast, Invariant, reached_good}
 use Rattle.field.proofs.Reached as reach
-use Rattle.field.proofs.Run.{selves}
 use Rattle.field.proofs.SuccessorsLinked.{successors_linked}
 use Rattle.field.proofs.Explored.{explored-all, explored-none}
 

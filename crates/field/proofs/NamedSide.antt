@@ -2,7 +2,7 @@
 -- Assumes nothing.
 use mathlib.Core.Path.{◌≡◌, refl, sym, ◌∙◌, ap, subst}
 use mathlib.Core.Bool.{true}
-use mathlib.Core.List.{List, [], ◌∷◌, map}
+use mathlib.Core.List.{List, [], ◌∷◌}
 use mathlib.Core.Logic.{◌↔◌}
 use Prim.Native.Nat.{ℕ, ◌<◌}
 use native.Mathlib.Omega.{arith}
@@ -13,7 +13,7 @@ use Rattle.calculus.specs.Term.{Term, ren, put}
 use Rattle.calculus.specs.Free.{In, Free}
 use Rattle.calculus.specs.Cond.{Pairs, Cond, cls, ◌▷◌}
 use Rattle.calculus.specs.Definitions.{Defs}
-use Rattle.calculus.specs.Published.{Action, silent, input, output, new_output, bound_names, ren_action, Avoids}
+use Rattle.calculus.specs.Published.{Action, bound_names, ren_action, Avoids}
 use Rattle.late_early.specs.Concrete.{Concrete}
 use Rattle.calculus.proofs.Conditions.{E2, Unif_ext}
 use Rattle.late_early.proofs.ConcreteSteps.{Trivial, nil_trivial, concrete_transition, transition_concrete, transition_nil, action_id}
@@ -21,7 +21,7 @@ use Rattle.terms.specs.Encoding.{InScope}
 use Rattle.terms.proofs.Answers.{true_both}
 use Rattle.calculus.specs.Lists.{◌∈◌}
 use Rattle.steps.specs.Derived.{Derived}
-use Rattle.steps.specs.Listed.{ListedStep, names_from, classes_of, class_in, own_classes, kind_of, object_of, listed_as}
+use Rattle.steps.specs.Listed.{ListedStep, names_from, classes_of, class_in, own_classes, object_of, listed_as}
 use Rattle.steps.proofs.ClassLists.{Within, unmatched, class_list, all_own}
 use Rattle.steps.proofs.FormLaws.{Form}
 use Rattle.field.specs.Setting.{Setting}

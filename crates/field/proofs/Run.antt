@@ -1,6 +1,6 @@
 -- Exploration without its capacity: `Run known waiting rs final`, the rows that it makes and the situations that it knows at its end. With a
 -- capacity it makes the same rows if they are no more than that, and is incomplete otherwise. Assumes nothing.
-use mathlib.Core.List.{List, [], ◌∷◌, ◌++◌, map, append_assoc}
+use mathlib.Core.List.{List, [], ◌∷◌, ◌++◌, append_assoc}
 use mathlib.Core.Path.{◌≡◌, refl, sym, ◌∙◌, ap, subst}
 use native.Mathlib.Omega.{arith}
 use Prim.Native.Nat.{ℕ, zero, suc, ◌<◌, ◌≤◌}
