@@ -22,7 +22,7 @@ fn has_byte(src: &[u8], at: usize, n: usize, b: usize) -> bool
 }
 
 // What the walk needs to know of a front: its length, binders and subterms, and whether the binder's name stands in it.
-#[derive(Drop)]
+#[derive(Clone, Copy)]
 pub struct UseFront {
     pub len: usize,
     pub binds: usize,
