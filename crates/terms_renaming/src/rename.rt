@@ -59,7 +59,7 @@ pub fn rename_bytes(
 }
 
 // What the walk needs to know of a front that it has renamed.
-#[derive(Drop)]
+#[derive(Clone, Copy)]
 pub struct RenamedFront {
     pub len: usize,
     pub binds: usize,
