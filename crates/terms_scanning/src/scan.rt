@@ -9,7 +9,7 @@ use terms_bytes::shape::shape_at;
 use terms_bytes::tags::{CALL, NEW_OUTPUT, PARALLEL, RESTRICTION, SILENT};
 
 // What checks 10 and 11 ask of a term: no parallel in it; parallels beneath nothing but parallels and restrictions; every call beneath a prefix.
-#[derive(Drop)]
+#[derive(Clone, Copy)]
 pub struct Control {
     pub sequential: bool,
     pub outermost: bool,
@@ -17,14 +17,14 @@ pub struct Control {
 }
 
 // Where the bytes before the subterms end, or the check that they fail.
-#[derive(Drop)]
+#[derive(Clone, Copy)]
 pub enum Front {
     Next(usize),
     Wrong(u8),
 }
 
 // Where a term ends and what it is, or the check that it fails.
-#[derive(Drop)]
+#[derive(Clone, Copy)]
 pub enum Scan {
     End(usize, Control),
     Fault(u8),
