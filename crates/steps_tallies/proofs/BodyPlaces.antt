@@ -1,7 +1,7 @@
 -- The definitions of an accepted question stand where the code finds them. Assumes nothing.
 use mathlib.Core.Path.{◌≡◌, refl, sym, ap, ◌∙◌}
 use mathlib.Core.List.{List, [], ◌∷◌, ◌++◌}
-use Prim.Native.Nat.{ℕ, zero, suc, ◌+◌, ◌<◌}
+use Prim.Native.Nat.{ℕ, zero, suc, ◌<◌}
 use native.Mathlib.Nat.{not-suc-le-zero, le_of_suc-le-suc}
 use native.Mathlib.Omega.{arith}
 use lib.ListN.{length, get_or}
@@ -30,6 +30,8 @@ body-field arities (a ∷ sizes) (P ∷ Ps) rest w zero h = (omega arith, refl)
 body-field arities (a ∷ sizes) (P ∷ Ps) rest w (suc k) h =
     let (l, e) = body-field arities sizes Ps rest w.1 k (le_of_suc-le-suc h) in
     (omega arith, e)
+body-field arities [] (P ∷ Ps) rest w k h = elim w [ ]
+body-field arities (a ∷ sizes) [] rest w k h = elim w [ ]
 body-field arities [] [] rest w k h = absurd (not-suc-le-zero h)
 
 pub body_is : (question : List ℕ) (k : ℕ) → BodyIs question k (field_at question (field_place question k))

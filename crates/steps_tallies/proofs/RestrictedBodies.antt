@@ -37,6 +37,8 @@ none-restricted question q c k h = absurd (omega arith)
 -- Where there is no definition, its body is inaction.
 missing : (arities sizes : List ℕ) (bodies : List Term) → BodiesAllowed arities sizes bodies → (j : ℕ) → length sizes ≤ j → Unrestricted (body_of bodies j)
 unfolding BodiesAllowed body_of
+missing arities [] (P ∷ Ps) w j h = elim w [ ]
+missing arities (a ∷ sizes) [] w j h = elim w [ ]
 missing arities [] [] w j h = tt
 missing arities (a ∷ sizes) (P ∷ Ps) w zero h = absurd (omega arith)
 missing arities (a ∷ sizes) (P ∷ Ps) w (suc j) h = missing arities sizes Ps w.1 j (omega arith)

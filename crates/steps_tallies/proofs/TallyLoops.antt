@@ -12,7 +12,7 @@ use lib.Dec.{eqb, leb}
 use lib.Seq.{get_or-set_same, get_or-set_other, get_or-append-add, get_or-take, get_or-drop, length-take-le, ext_get_or}
 use borrow.Rule.Slice.PartMut.{put_mid, Post-is}
 use borrow.Author.Tests.{eqb-true, eqb-false, leb-true, leb-false}
-use Rattle.calculus.specs.Term.{Term, call}
+use Rattle.calculus.specs.Term.{Term}
 use Rattle.terms.specs.Answer.{result}
 use Rattle.terms.specs.Encoding.{encode, InScope}
 use Rattle.terms_bytes.specs.FieldPlaces.{definitions_of, size_at, after_field, field_at, field_place}
@@ -22,7 +22,6 @@ use Rattle.terms.proofs.WellFormed.{accepted_well_formed}
 use Rattle.steps_tallies.specs.Bodies.{AritiesIs, BodyIs, OpeningIs}
 use Rattle.terms.specs.Question.{body_of}
 use Rattle.steps_tallies.specs.Candidates.{candidates}
-use Rattle.steps.specs.Raw.{visible, silent}
 use Rattle.steps_tallies.specs.Tally.{tally_size, body_tallies, visible_at, silent_at, end_at, TallyIs, restricted_at, PartTallied, body_tally, visible_call, silent_call, Few, FewCalls, place_in, small_place, TalliedBelow, PlacesBelow, BodiesTallied}
 use Rattle.steps_tallies.specs.Tallying.{CallsAre, EntryIs, entry_at, Filled}
 use Rattle.steps_tallies.specs.declared.bodies.Opening.{Opening}

@@ -1,14 +1,13 @@
 -- A term without restrictions and new-name outputs, whose calls' bodies have none, steps to such terms alone; they are tidied as they are. Assumes nothing.
 use mathlib.Core.List.{List, [], ◌∷◌, ◌++◌, map, reverse}
-use mathlib.Core.Path.{◌≡◌, refl, sym, ◌∙◌, ap, ap₂}
+use mathlib.Core.Path.{◌≡◌, refl, ap, ap₂}
 use native.Mathlib.Omega.{arith}
 use Prim.Native.Nat.{ℕ, suc}
-use Rattle.calculus.specs.Abstraction.{Act, tau_a, inp_a, out_a, bout_a, weak}
-use Rattle.calculus.specs.Cond.{Cond, cls}
+use Rattle.calculus.specs.Abstraction.{Act, tau_a, inp_a, out_a, bout_a}
+use Rattle.calculus.specs.Cond.{Cond}
 use Rattle.calculus.specs.Definitions.{at, opened}
-use Rattle.calculus.specs.Term.{Term, nil, tau, inp, out, bout, mat, sum, par, res, call, lift, ren, inst, ◌•◌}
+use Rattle.calculus.specs.Term.{Term, nil, tau, inp, out, bout, mat, sum, par, res, call, lift, ren, inst}
 use Rattle.calculus.specs.Tidy.{tidy}
-use Rattle.terms.specs.Question.{body_of}
 use Rattle.terms_restrictions.specs.Restrictions.{Unrestricted}
 use Rattle.calculus.specs.Lists.{All}
 use Rattle.steps.specs.Raw.{Candidate, step, blocked, matching, left_steps, right_steps, meet, communication, communications, visible_of, silent_of, visible_calls, silent_calls, visible, silent}
@@ -17,6 +16,8 @@ use Rattle.calculus.proofs.Membership.{all-++, all_map}
 
 pub unrestricted_tidied : (P : Term) → Unrestricted P → tidy P ≡ P
 unfolding tidy
+unrestricted_tidied (bout _ _) u = elim u [ ]
+unrestricted_tidied (res _) u = elim u [ ]
 unrestricted_tidied nil u = refl
 unrestricted_tidied (tau P) u = ap tau (unrestricted_tidied P u)
 unrestricted_tidied (inp a P) u = ap (inp a) (unrestricted_tidied P u)
@@ -27,6 +28,8 @@ unrestricted_tidied (par P Q) u = ap₂ par (unrestricted_tidied P u.0) (unrestr
 unrestricted_tidied (call k xs) u = refl
 
 pub unrestricted_ren : (ρ : ℕ → ℕ) (P : Term) → Unrestricted P → Unrestricted (ren ρ P)
+unrestricted_ren ρ (bout _ _) u = elim u [ ]
+unrestricted_ren ρ (res _) u = elim u [ ]
 unrestricted_ren ρ nil u = tt
 unrestricted_ren ρ (tau P) u = unrestricted_ren ρ P u
 unrestricted_ren ρ (inp a P) u = unrestricted_ren (lift ρ) P u
@@ -46,6 +49,7 @@ Plain blocked = Unit
 
 plain_match : (a b : ℕ) (c : Candidate) → Plain c → Plain (matching a b c)
 unfolding matching
+plain_match a b (step M (bout_a _) A) p = elim p [ ]
 plain_match a b (step M tau_a A) p = p
 plain_match a b (step M (inp_a c) A) p = p
 plain_match a b (step M (out_a c d) A) p = p
@@ -53,6 +57,7 @@ plain_match a b blocked p = tt
 
 plain_left : (Q : Term) → Unrestricted Q → (c : Candidate) → Plain c → Plain (left_steps Q c)
 unfolding left_steps
+plain_left Q u (step M (bout_a _) A) p = elim p [ ]
 plain_left Q u (step M tau_a A) p = (p, u)
 plain_left Q u (step M (inp_a a) A) p = (p, unrestricted_ren suc Q u)
 plain_left Q u (step M (out_a a b) A) p = (p, u)
@@ -60,6 +65,7 @@ plain_left Q u blocked p = tt
 
 plain_right : (P : Term) → Unrestricted P → (c : Candidate) → Plain c → Plain (right_steps P c)
 unfolding right_steps
+plain_right P u (step M (bout_a _) A) p = elim p [ ]
 plain_right P u (step M tau_a A) p = (u, p)
 plain_right P u (step M (inp_a a) A) p = (unrestricted_ren suc P u, p)
 plain_right P u (step M (out_a a b) A) p = (u, p)
@@ -90,6 +96,8 @@ plain_communications (c ∷ cs) ds a b =
 module _ (vc sc : ℕ → List ℕ → List Candidate) (calls : (k : ℕ) (xs : List ℕ) → All Plain (vc k xs)) (calls' : (k : ℕ) (xs : List ℕ) → All Plain (sc k xs)) where
   plain_visible : (P : Term) → Unrestricted P → All Plain (visible_of vc P)
   unfolding visible_of
+  plain_visible (bout _ _) u = elim u [ ]
+  plain_visible (res _) u = elim u [ ]
   plain_visible nil u = tt
   plain_visible (tau P) u = tt
   plain_visible (inp a P) u = (u, tt)
@@ -104,6 +112,8 @@ module _ (vc sc : ℕ → List ℕ → List Candidate) (calls : (k : ℕ) (xs : 
 
   plain_silent : (P : Term) → Unrestricted P → All Plain (silent_of vc sc P)
   unfolding silent_of
+  plain_silent (bout _ _) u = elim u [ ]
+  plain_silent (res _) u = elim u [ ]
   plain_silent nil u = tt
   plain_silent (tau P) u = (u, tt)
   plain_silent (inp a P) u = tt

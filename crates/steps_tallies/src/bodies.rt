@@ -43,7 +43,7 @@ fn may_open(calls: usize, definition: usize, arity: usize, size: usize) -> bool
 }
 
 // A call: its definition and how many names it has, where it ends, whether it may be opened, and where the field of its body begins.
-#[derive(Drop)]
+#[derive(Clone, Copy)]
 pub struct Opening {
     pub allowed: bool,
     pub definition: usize,

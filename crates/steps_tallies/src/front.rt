@@ -5,7 +5,7 @@ use terms_bytes::bytes::room;
 use terms_bytes::shape::shape_at;
 
 // The first byte of a term, and where its own names end.
-#[derive(Drop)]
+#[derive(Clone, Copy)]
 pub struct TermFront {
     pub tag: u8,
     pub next: usize,

@@ -73,7 +73,7 @@ pub fn number_at(tally: &[u32], at: usize, silently: bool) -> usize
 }
 
 // The candidates of a term, and where it ends.
-#[derive(Drop)]
+#[derive(Clone, Copy)]
 pub struct Entry {
     pub visible: usize,
     pub silent: usize,

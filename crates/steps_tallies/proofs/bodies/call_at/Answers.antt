@@ -1,0 +1,12 @@
+use Rattle.steps_tallies.proofs.CallLaws.{opening_is}
+use Rattle.steps_tallies.proofs.bodies.call_at.Goals as goal
+
+pub place_of-place-requires : goal.place_of-place-requires
+place_of-place-requires c = c.requires.1
+
+pub returns : goal.returns
+returns c =
+    let a = c.args in
+    opening_is a.question.now a.src.now a.at a.calls c.arities_of.result.now c.body_at-body.result.now c.get-k.result
+    c.get-n.result c.place_of-place.result c.may_open-allowed.result c.arities_of.ensures (c.body_at-body.ensures _ c.place_of-place.ensures)
+    c.get-k.ensures c.get-n.ensures c.place_of-place.ensures c.may_open-allowed.ensures

@@ -1,0 +1,14 @@
+use mathlib.Core.Path.{refl}
+use Rattle.steps_tallies.proofs.TallyLaws.{sums_fit}
+use Rattle.steps_tallies.specs.Tallying.{choice_entry}
+use Rattle.steps_tallies.proofs.tally.choice.Goals as goal
+
+pub overflow_add-result : goal.overflow_add-result
+overflow_add-result c = (sums_fit _ _ c.requires.0 c.requires.1).0
+
+pub overflow_add-result-2 : goal.overflow_add-result-2
+overflow_add-result-2 c = (sums_fit _ _ c.requires.0 c.requires.1).1
+
+pub returns : goal.returns
+unfolding choice_entry
+returns c = refl
