@@ -37,7 +37,7 @@ fn use_names(src: &[u8], at: usize, n: usize, depth: usize, waits: &mut [u8])
 }
 
 // What the walk needs to know of a front: its length, binders and subterms.
-#[derive(Drop)]
+#[derive(Clone, Copy)]
 pub struct NextFront {
     pub len: usize,
     pub binds: usize,
@@ -107,7 +107,7 @@ fn next_front(src: &[u8], at: usize, arities: &[u8], depth: usize, waits: &mut [
 }
 
 // How many binders stand around a term, and how many second subterms are still to come behind it.
-#[derive(Drop)]
+#[derive(Clone, Copy)]
 pub struct Place {
     pub depth: usize,
     pub pending: usize,

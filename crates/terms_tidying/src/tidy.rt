@@ -23,14 +23,14 @@ const OUTSIDE: [u8; TABLE_NAMES + 129] = [
     249, 250, 251, 252, 253, 254, 255,
 ];
 
-#[derive(Drop)]
+#[derive(Clone, Copy)]
 pub struct CopiedFront {
     pub len: usize,
     pub subterms: usize,
 }
 
 // Where the term ends that was read, and where the bytes end that were written.
-#[derive(Drop)]
+#[derive(Clone, Copy)]
 pub struct Ends {
     pub read: usize,
     pub written: usize,
