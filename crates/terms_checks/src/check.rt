@@ -18,7 +18,7 @@ use terms_bytes::limits::{
 use terms_scanning::scan::{Control, Scan, both, passed, scan_whole};
 
 // Whether no check turns the question back, or the number of the first that does.
-#[derive(Drop)]
+#[derive(Clone, Copy)]
 pub enum Checked {
     Accepted,
     Refused(u8),
