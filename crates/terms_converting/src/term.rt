@@ -7,7 +7,7 @@ use terms_bytes::bytes::{copy, get, room};
 use terms_bytes::shape::shape_at;
 
 // Where the next front stands, and where its copy goes.
-#[derive(Drop)]
+#[derive(Clone, Copy)]
 pub struct Copied {
     pub at: usize,
     pub to: usize,
