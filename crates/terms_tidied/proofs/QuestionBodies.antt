@@ -1,5 +1,5 @@
 -- The bodies of an accepted question: each in its field. Assumes nothing.
-use mathlib.Core.Path.{◌≡◌, refl, sym, ap, subst, ◌∙◌}
+use mathlib.Core.Path.{◌≡◌, refl, ap, subst, ◌∙◌}
 use mathlib.Core.List.{List, [], ◌∷◌, ◌++◌, map}
 use Prim.Native.Nat.{ℕ, zero, suc, ◌+◌, ◌<◌, ◌≤◌}
 use native.Mathlib.Omega.{arith}
@@ -49,12 +49,16 @@ nth_body arities (a ∷ sizes) (P ∷ Ps) w few rest (suc k) h =
       field = n.field;
       tidied = n.tidied;
     }
+nth_body arities [] (P ∷ Ps) w few rest k h = elim w [ ]
+nth_body arities (a ∷ sizes) [] w few rest k h = elim w [ ]
 nth_body arities [] [] w few rest k h = absurd (omega arith)
 
 pub count_bodies : (arities sizes : List ℕ) (Ps : List Term) → BodiesAllowed arities sizes Ps
     → (length Ps ≡ length sizes) × (length (body_fields sizes Ps) ≡ length sizes) × (length (body_fields sizes (map tidy Ps)) ≡ length sizes)
 unfolding BodiesAllowed body_fields
 count_bodies arities (a ∷ sizes) (P ∷ Ps) w = let c = count_bodies arities sizes Ps w.1 in (ap suc c.0, ap suc c.1, ap suc c.2)
+count_bodies arities [] (P ∷ Ps) w = elim w [ ]
+count_bodies arities (a ∷ sizes) [] w = elim w [ ]
 count_bodies arities [] [] w = (refl, refl, refl)
 
 -- The field at `at` has these bytes and ends within the question.

@@ -1,9 +1,9 @@
 -- The bodies of a question looked at one after the other: whether they are tidied as they are. Assumes nothing.
-use mathlib.Core.Bool.{Bool, true, not}
+use mathlib.Core.Bool.{true}
 use mathlib.Core.List.{List, [], ◌∷◌, map}
 use mathlib.Core.Logic.{⊎_elim}
-use mathlib.Core.Path.{◌≡◌, refl, sym, ap, ap₂, subst, ◌∙◌}
-use Prim.Native.Nat.{ℕ, zero, suc, ◌+◌, ◌<◌, ◌≤◌}
+use mathlib.Core.Path.{◌≡◌, refl, sym, ap₂, subst, ◌∙◌}
+use Prim.Native.Nat.{ℕ, suc, ◌+◌, ◌<◌, ◌≤◌}
 use native.Mathlib.Nat.{eq-or-lt_of_le}
 use native.Mathlib.Omega.{arith}
 use lib.ListN.{length}
@@ -16,7 +16,7 @@ use Rattle.terms_bytes.specs.FieldPlaces.{definitions_of, arities_of, field_at, 
 use Rattle.terms_bytes.proofs.QuestionPlaces.{accepted_arities}
 use Rattle.terms_tidying.specs.TidiedTerms.{IsTidiedIs}
 use Rattle.terms_tidied.specs.TidiedBodies.{HasTidied}
-use Rattle.terms_tidied.proofs.QuestionBodies.{NthBody, FieldHas, count_bodies, well, count_is, body, body-field}
+use Rattle.terms_tidied.proofs.QuestionBodies.{count_bodies, well, count_is, body, body-field}
 
 -- Those of the definitions below n are.
 unfoldable pub TidiedBelow : List ℕ → ℕ → Type 0

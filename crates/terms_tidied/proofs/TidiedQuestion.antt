@@ -1,9 +1,9 @@
 -- A question written with its bodies tidied, field by field. Assumes nothing.
 use mathlib.Core.Path.{◌≡◌, refl, sym, ap, ap₂, subst, ◌∙◌}
 use mathlib.Core.List.{List, [], ◌∷◌, ◌++◌, map, append_assoc, append-nil}
-use Prim.Native.Nat.{ℕ, zero, suc, ◌+◌, ◌-◌, ◌<◌, ◌≤◌}
+use Prim.Native.Nat.{ℕ, suc, ◌+◌, ◌-◌, ◌<◌, ◌≤◌}
 use native.Mathlib.Omega.{arith}
-use lib.ListN.{length, get_or, take, drop, length-append, length-drop, drop_of_length-le}
+use lib.ListN.{length, take, drop, length-append, length-drop, drop_of_length-le}
 use lib.Seq.{sets, take_all, take-append_seam, drop-append_seam, drop-cons}
 use Rattle.calculus.specs.Term.{Term}
 use Rattle.calculus.specs.Tidy.{tidy}
@@ -24,7 +24,7 @@ use Rattle.terms_bytes.proofs.Stores.{span, sets-join, sets-start}
 use Rattle.terms_bytes.proofs.Heights.{height-bytes}
 use Rattle.terms_tidying.specs.Tidying.{Tidied, TidiedIs}
 use Rattle.terms_tidying.specs.declared.tidy.Ends.{Ends}
-use Rattle.terms_tidied.specs.TidiedBodies.{tidied_bodies, BodyAt, HasBody, TidiesBody, MayTidyBodies, tidied_fields, TidiesBodies, WritesTidied}
+use Rattle.terms_tidied.specs.TidiedBodies.{tidied_bodies, BodyAt, HasBody, TidiesBody, MayTidyBodies, tidied_fields, TidiesBodies}
 use Rattle.terms_tidied.proofs.QuestionBodies.{NthBody, count_bodies, FieldHas, well, count_is, behind, body, body-field}
 
 -- A body that is tidied two bytes behind `put`.
