@@ -2,18 +2,18 @@
 use mathlib.Core.Path.{◌≡◌, refl, sym, ◌∙◌, ap, subst}
 use mathlib.Core.Bool.{Bool, true, false, cond}
 use mathlib.Core.List.{List}
-use mathlib.Core.Logic.{◌⊎◌, inl, inr, ◌↔◌}
+use mathlib.Core.Logic.{inl, inr, ◌↔◌}
 use Prim.Native.Nat.{ℕ, ◌≤◌, ◌<◌}
 use native.Mathlib.Omega.{arith}
 use lib.ListN.{length, length-map}
 use Rattle.calculus.specs.Definitions.{Defs}
 use Rattle.calculus.specs.OpenBisimulation.{Related}
 use Rattle.calculus.specs.Term.{Term}
-use Rattle.calculus.specs.Lists.{◌∈◌, Distinct}
+use Rattle.calculus.specs.Lists.{◌∈◌}
 use Rattle.field.specs.Setting.{Setting}
 use Rattle.field.specs.Situation.{Situation}
 use Rattle.field.specs.Exploration.{found, Row, Exploration, incomplete, explored, field_of}
-use Rattle.field.specs.Field.{InField, PastLimit, FieldSize}
+use Rattle.field.specs.Field.{PastLimit, FieldSize}
 use Rattle.field.proofs.Explored.{explored-length, explored_within, explored-past}
 use Rattle.field.proofs.FieldIsSmallest.{field_is_smallest, incomplete_iff_past}
 use Rattle.field.proofs.Link.{SettingFor}
@@ -22,7 +22,7 @@ use Rattle.field.proofs.Proper.{same_equal}
 use Rattle.field.proofs.Reached.{at_start}
 use Rattle.field.proofs.Run.{selves}
 use Rattle.field.proofs.Unseen.{∈-found}
-use Rattle.verdict.specs.Verdict.{Verdict, Numbered, openly, demands_of, unsettled, same, different, decided}
+use Rattle.verdict.specs.Verdict.{Numbered, openly, demands_of, unsettled, same, different, decided}
 use Rattle.verdict.proofs.Rounds.{survivors, found_survives}
 use Rattle.verdict.proofs.FieldRows.{FieldRows, good_rows, explored-rows, rows-field}
 use Rattle.verdict.proofs.Soundness.{survivor_related}

@@ -1,6 +1,6 @@
 -- Request 2026-05 on the promises of the exported operations: a converted question is judged and listed as the one it was made of, and converted
 -- back it is the original. Assumes nothing.
-use mathlib.Core.List.{List, [], ◌∷◌, ◌++◌}
+use mathlib.Core.List.{List, ◌++◌}
 use mathlib.Core.Path.{◌≡◌, refl, sym, ap, subst, ◌∙◌}
 use native.Mathlib.Omega.{arith}
 use Prim.Native.Nat.{ℕ, ◌≤◌}
@@ -14,7 +14,7 @@ use Rattle.terms.proofs.Converting.{there_and_back, one_question}
 use Rattle.steps.specs.Operations.{list_of}
 use Rattle.steps.specs.Operations.{area_after as listingAfter}
 use Rattle.verdict.specs.Judge.{judge_by, work_after}
-use Rattle.verdict.specs.Outcome.{Outcome, gave, turned_back, Says, of_number, of_verdict, of_listing, code_of}
+use Rattle.verdict.specs.Outcome.{gave, turned_back, Says, of_number, of_verdict, of_listing, code_of}
 use Rattle.verdict.specs.Promises.{StepsIs, ConvertIs, JudgesBy}
 use Rattle.verdict.specs.Verdict.{Manner}
 use Rattle.verdict.proofs.OutcomeLaws.{says_once}

@@ -9,7 +9,7 @@ use Rattle.calculus.specs.Distinction.{Irr}
 use Rattle.calculus.specs.OpenBisimulation.{Related}
 use Rattle.calculus.proofs.Distinctions.{apart_map, apart_left}
 use Rattle.calculus.proofs.Theorems.{related_image, related_larger, related_beside}
-use Rattle.terms.specs.Answer.{Answer, refused, result, ◌>>=◌, ◌>>◌, need}
+use Rattle.terms.specs.Answer.{Answer, refused, result, ◌>>◌, need}
 use Rattle.terms.specs.Framing.{joined}
 use Rattle.terms.specs.Operations.{merged_question, merged, beside_question, placed_beside, declared_fields, declared_question, may_declare, merge_of, beside_of}
 use Rattle.terms.specs.Question.{Question, check_in, edition_of, question_of, question_with, fields_in}

@@ -1,25 +1,21 @@
 -- Demand 2, on the promise of the exported operation: what judge answers for an accepted question within the bounds of checks 1 and 2 is one of
 -- three cases, and nothing else (says-once in OutcomeLaws). Assumes nothing.
 use mathlib.Core.Path.{◌≡◌, refl, sym, ◌∙◌, subst}
-use mathlib.Core.Bool.{◌&&◌}
 use mathlib.Core.List.{List, ◌++◌}
 use Prim.Native.Nat.{ℕ, ◌*◌, ◌≤◌}
-use native.Mathlib.Omega.{arith}
 use lib.ListN.{length, drop, replicate}
-use lib.Dec.{leb}
-use borrow.Author.Tests.{le-leb}
 use Rattle.calculus.specs.Definitions.{Defs}
-use Rattle.terms.specs.Answer.{Answer, refused, result, ◌>>=◌, ◌>>◌}
+use Rattle.terms.specs.Answer.{Answer, refused, result}
 use Rattle.terms.specs.Question.{Question, question_of}
-use Rattle.terms.proofs.Answers.{result_injective, bind-result, need-result, need-passed, bind_to}
+use Rattle.terms.proofs.Answers.{result_injective, bind-result, bind_to}
 use Rattle.terms.proofs.OwnEdition.{own_well_formed}
 use Rattle.verdict.specs.Entries.{Defines}
-use Rattle.verdict.specs.Judge.{judge_by, greatest_capacity, slot_bytes, judge_of, work_after}
+use Rattle.verdict.specs.Judge.{judge_by, greatest_capacity, slot_bytes, work_after}
 use Rattle.verdict.specs.Meaning.{Decision}
 use Rattle.verdict.specs.Outcome.{turned_back, Says, of_verdict}
 use Rattle.verdict.specs.Promises.{JudgesBy, JudgeIs}
 use Rattle.verdict.specs.Verdict.{Manner, openly, Verdict, verdict_by, verdict_of}
-use Rattle.verdict.proofs.CapacityLaws.{Within, within_passes, passed_within}
+use Rattle.verdict.proofs.CapacityLaws.{within_passes, passed_within}
 use Rattle.verdict.proofs.VerdictIsDefinition13.{verdict_means}
 
 -- What is known of an answered verdict.

@@ -3,7 +3,7 @@
 use mathlib.Core.Path.{◌≡◌, refl, sym, ◌∙◌, ap, subst, subst₂}
 use mathlib.Core.Bool.{true}
 use mathlib.Core.List.{List, [], ◌∷◌, map}
-use mathlib.Core.Logic.{◌≢◌, ◌⊎◌, inl, inr, ◌↔◌}
+use mathlib.Core.Logic.{◌≢◌, inl, inr, ◌↔◌}
 use Prim.Native.Nat.{ℕ}
 use native.Mathlib.Omega.{arith}
 use Rattle.calculus.specs.Abstraction.{Act, tau_a, inp_a, out_a, bout_a}
@@ -15,7 +15,7 @@ use Rattle.calculus.specs.Published.{Action, silent, input, output, new_output, 
 use Rattle.late_early.specs.Concrete.{Concrete}
 use Rattle.late_early.specs.LateEarly.{Kind, late, early, ReceivedAs, AnsweredAs, Bisimilar}
 use Rattle.calculus.proofs.PublishedSteps.{named}
-use Rattle.late_early.proofs.ReceivedNames.{Offered, FoundAny, Found}
+use Rattle.late_early.proofs.ReceivedNames.{Offered, Found}
 use Rattle.terms.specs.Encoding.{InScope}
 use Rattle.calculus.specs.Lists.{◌∈◌}
 use Rattle.calculus.proofs.Membership.{∈-map}
@@ -24,7 +24,7 @@ use Rattle.steps.proofs.FormLaws.{Form}
 use Rattle.steps.specs.Listed.{ListedStep, kind_of, object_of, listed_as}
 use Rattle.field.specs.Setting.{Setting}
 use Rattle.field.specs.Situation.{Situation}
-use Rattle.field.specs.Successors.{answers, allowed, received, led}
+use Rattle.field.specs.Successors.{allowed, received, led}
 use Rattle.field.proofs.Members.{map-∈}
 use Rattle.field.proofs.Moves.{put_same}
 use Rattle.field.proofs.NamedSide.{avoids, step-listed, own-step, listed_answer, answer-listed, answers-own, listed_performs}

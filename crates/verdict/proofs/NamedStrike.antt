@@ -1,15 +1,14 @@
 -- Where all names differ, strike-out decides late and early bisimilarity: the parts of a survivor are bisimilar, and bisimilar parts survive. Assumes
 -- nothing.
-use mathlib.Core.Path.{◌≡◌, refl, sym, ◌∙◌, ap, subst}
+use mathlib.Core.Path.{◌≡◌, refl, sym, subst}
 use mathlib.Core.Bool.{true}
-use mathlib.Core.List.{List, [], ◌∷◌, ◌++◌}
-use mathlib.Core.Logic.{◌≢◌, ◌⊎◌, inl, inr, ◌↔◌}
+use mathlib.Core.List.{List, [], ◌∷◌}
+use mathlib.Core.Logic.{◌≢◌, ◌⊎◌, inl, inr}
 use Prim.Native.Nat.{ℕ, ◌≤◌, ◌<◌}
 use native.Mathlib.Omega.{arith}
 use Rattle.calculus.specs.Abstraction.{Act, inp_a}
 use Rattle.calculus.specs.Term.{Term}
-use Rattle.calculus.specs.Free.{In, Free}
-use Rattle.calculus.specs.Cond.{Pairs}
+use Rattle.calculus.specs.Free.{Free}
 use Rattle.calculus.specs.Definitions.{Defs}
 use Rattle.calculus.specs.Published.{input}
 use Rattle.late_early.specs.Concrete.{Concrete}
@@ -20,7 +19,7 @@ use Rattle.calculus.proofs.PublishedSteps.{named}
 use Rattle.late_early.proofs.ReceivedNames.{Offered, Found, FoundAnswers, found_bisimilar}
 use Rattle.calculus.proofs.UpToRenaming.{Either}
 use Rattle.calculus.specs.Lists.{◌∈◌}
-use Rattle.steps.specs.Listed.{ListedStep, kind_of, object_of, listed_as}
+use Rattle.steps.specs.Listed.{kind_of, object_of, listed_as}
 use Rattle.steps.proofs.FormLaws.{Form, form_free}
 use Rattle.calculus.proofs.Membership.{∈-left, ∈_right}
 use Rattle.field.specs.Exploration.{Row}
@@ -34,7 +33,7 @@ use Rattle.field.proofs.NewNames.{new_away}
 use Rattle.field.proofs.Proper.{either_below, either_free, from_free, same_equal}
 use Rattle.field.proofs.Run.{selves}
 use Rattle.verdict.specs.Received.{named_demands}
-use Rattle.verdict.specs.Verdict.{Manner, demands_of}
+use Rattle.verdict.specs.Verdict.{demands_of}
 use Rattle.verdict.specs.Verdict.{named as byName}
 use Rattle.verdict.proofs.FieldRows.{FieldRows}
 use Rattle.verdict.proofs.FormedBisimilar.{bisimilar_formed, found_formed, answered_formed}

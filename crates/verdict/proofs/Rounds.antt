@@ -1,7 +1,7 @@
 -- Striking out, in the abstract: what is left after the rounds is stable, and it is the largest set of rows in which every demand is met. Whether a
 -- situation is among others is decided by its bytes; `Good` are the situations that their bytes determine.
 use mathlib.Core.Path.{◌≡◌, refl, sym, ◌∙◌, ap, subst}
-use mathlib.Core.Bool.{Bool, true, false, cond, ◌&&◌, ◌||◌, or-true}
+use mathlib.Core.Bool.{Bool, true, false, cond, ◌||◌, or-true}
 use mathlib.Core.List.{List, [], ◌∷◌, map}
 use mathlib.Core.Logic.{inl, inr}
 use Prim.Native.Nat.{ℕ, zero, suc, ◌≤◌}

@@ -1,5 +1,5 @@
 -- Every outcome of the five operations leaves room for its kind, so that the number which carries it says no other. Assumes nothing.
-use mathlib.Core.Path.{◌≡◌, refl, sym, ◌∙◌, ap, subst}
+use mathlib.Core.Path.{◌≡◌, refl, ◌∙◌, ap, subst}
 use mathlib.Core.Bool.{◌&&◌, ◌||◌, not}
 use mathlib.Core.List.{List}
 use mathlib.Core.Logic.{inl, inr}
@@ -7,15 +7,14 @@ use Prim.Native.Nat.{ℕ, ◌*◌, ◌≤◌}
 use native.Mathlib.Omega.{arith}
 use lib.ListN.{length}
 use lib.Dec.{leb, ltb, eqb}
-use borrow.Author.Tests.{leb-true}
 use Rattle.calculus.specs.Distinction.{among}
 use Rattle.calculus.specs.Free.{fn}
 use Rattle.calculus.specs.Term.{Term}
-use Rattle.terms.specs.Answer.{Answer, refused, result, ◌>>=◌, ◌>>◌}
+use Rattle.terms.specs.Answer.{Answer, refused, result}
 use Rattle.terms.specs.Limits.{name_count, longest_question, longest_term}
 use Rattle.terms.specs.Operations.{check_answer, merged, placed_beside, merge_of, beside_of, convert_of, length_written}
-use Rattle.terms.specs.Question.{Question, body_of, edition_of, question_of}
-use Rattle.terms.proofs.Answers.{result_injective, bind-result, need-result, both_true}
+use Rattle.terms.specs.Question.{body_of, edition_of, question_of}
+use Rattle.terms.proofs.Answers.{result_injective, bind-result, need-result}
 use Rattle.terms.proofs.BesideLaws.{beside_accepted}
 use Rattle.terms.proofs.MergeLaws.{merge_accepted}
 use Rattle.terms.proofs.Converting.{converted, converted_read}
@@ -34,7 +33,7 @@ use Rattle.verdict.specs.Outcome.{Small, of_number, of_listing, of_verdict}
 use Rattle.verdict.specs.Verdict.{Manner, Verdict, same, different, verdict_by}
 use Rattle.verdict.specs.Verdict.{Numbered as VerdictNumbered}
 use Rattle.verdict.specs.Verdict.{unsettled as unsettledVerdict}
-use Rattle.verdict.proofs.CapacityLaws.{Within, passed_within, within_numbered}
+use Rattle.verdict.proofs.CapacityLaws.{passed_within, within_numbered}
 use Rattle.verdict.proofs.VerdictIsDefinition13.{number-at_most_capacity}
 
 number_small : (m : Answer ℕ) → Numbered m → ((n : ℕ) → m ≡ result n → n ≤ longest_question) → Small (of_number m)

@@ -29,12 +29,10 @@ use Rattle.field.proofs.Link.{SettingFor}
 use Rattle.field.proofs.NewNames.{new_within, new_free}
 use Rattle.field.proofs.Proper.{either_below}
 use Rattle.field.proofs.QuestionField.{formed_setting_lem, formed_start, start-alike}
-use Rattle.field.proofs.Reached.{Invariant}
 use Rattle.field.proofs.Selections.{select-same}
 use Rattle.verdict.specs.Received.{sides_demand, named_demands}
 use Rattle.verdict.specs.Verdict.{Manner, openly, named, differs, demands_of, all_answered, strike, rounds, same, different, decided, verdict_in}
 use Rattle.verdict.proofs.DecidedField.{field_of_lem}
-use Rattle.verdict.proofs.FieldRows.{FieldRows}
 use Rattle.verdict.proofs.RelatedVerdicts.{question_defines}
 use Rattle.verdict.proofs.Rounds.{self_in, of_strike}
 

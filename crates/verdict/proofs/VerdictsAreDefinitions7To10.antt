@@ -2,7 +2,7 @@
 -- limit, and their number is the size of the field, which is one for both. An open "same" under any apart list is never a late "different", and a late
 -- "same" never an early one. Assumes nothing.
 use mathlib.Core.Path.{◌≡◌, refl, sym, ◌∙◌, ap, subst, subst₂}
-use mathlib.Core.Bool.{true, false}
+use mathlib.Core.Bool.{true}
 use mathlib.Core.List.{List, []}
 use mathlib.Core.Logic.{◌↔◌, inl}
 use Prim.Native.Nat.{ℕ, ◌≤◌, ◌*◌}
@@ -13,7 +13,6 @@ use Rattle.calculus.specs.Term.{Term}
 use Rattle.late_early.specs.LateEarly.{Kind, late, early, Bisimilar}
 use Rattle.late_early.proofs.LateEarlyTheorems.{related_late, late_is_early}
 use Rattle.terms.specs.Answer.{result}
-use Rattle.terms.specs.Limits.{name_count}
 use Rattle.terms.specs.Question.{Question, question_of}
 use Rattle.terms.proofs.OwnEdition.{own_well_formed}
 use Rattle.terms.proofs.WellFormed.{WellFormed}
