@@ -3,7 +3,7 @@ use mathlib.Core.Path.{◌≡◌, refl, sym, subst}
 use mathlib.Core.Bool.{Bool, true, false, cond}
 use mathlib.Core.List.{List, [], ◌∷◌, ◌++◌, map}
 use mathlib.Core.Logic.{◌⊎◌, inl, inr}
-use Prim.Native.Nat.{ℕ, zero, suc, ◌+◌, ◌-◌, ◌*◌, ◌≤◌, ◌<◌, Ordering}
+use Prim.Native.Nat.{ℕ, zero, suc, ◌+◌, ◌*◌, ◌≤◌, ◌<◌, Ordering}
 use native.Mathlib.Omega.{arith}
 use native.Mathlib.Decide.{dec_le}
 use lib.ListN.{length, get_or, length-append, length-map}
@@ -25,7 +25,7 @@ use Rattle.steps.proofs.CallCandidates.{visible-opened, silent-opened}
 use Rattle.terms.specs.WellFormed.{BodiesAllowed}
 use Rattle.steps.specs.CallLimit.{past_calls}
 use Rattle.steps.proofs.CallLimitLaws.{never_past_calls}
-use Rattle.steps.proofs.FormLaws.{Form, result_form_lem}
+use Rattle.steps.proofs.FormLaws.{result_form_lem}
 use Rattle.calculus.proofs.Membership.{all-++, all_imp, all_map}
 use Rattle.field.specs.Setting.{setting_of, steps_in}
 use Rattle.field.specs.Exploration.{found}
