@@ -37,6 +37,7 @@ choice_stands (leave_it {p = p} {c = q ∷ c} {ps = ps} s) =
 
 pub stands_choice : (ps : Pairs) (k : ℕ) (c : Pairs) → c ∈ choices ps k → Choice c ps × (length c ≡ k)
 unfolding choices
+stands_choice ps zero c (inr x'') = elim x'' [ ]
 stands_choice ps zero c (inl e) = (subst (λ d. Choice d ps) (sym e) (none-chosen ps), ap length e)
 stands_choice [] (suc k) c m = absurd m
 stands_choice (p ∷ ps) (suc k) c m =
@@ -71,6 +72,7 @@ first_of_lem f (d ∷ cs) c e = go (f d) refl e (first_of_lem f cs c)
 
 first-none : (f : Pairs → Bool) (cs : List Pairs) → first_of f cs ≡ none → (c : Pairs) → c ∈ cs → f c ≡ false
 unfolding first_of
+first-none f [] e c m = elim m [ ]
 first-none f (d ∷ cs) e c m = go (f d) refl e m (first-none f cs)
   where
     go : (b : Bool) → f d ≡ b → cond b (chosen d) (first_of f cs) ≡ none → c ∈ (d ∷ cs) → (first_of f cs ≡ none → (c : Pairs) → c ∈ cs → f c ≡ false) → f c ≡ false
@@ -80,6 +82,7 @@ first-none f (d ∷ cs) e c m = go (f d) refl e m (first-none f cs)
 
 some-none : (f : Pairs → Bool) (cs : List Pairs) → some f cs ≡ false → (c : Pairs) → c ∈ cs → f c ≡ false
 unfolding some
+some-none f [] e c m = elim m [ ]
 some-none f (d ∷ cs) e c m = go (f d) refl e m (some-none f cs)
   where
     go : (b : Bool) → f d ≡ b → cond b true (some f cs) ≡ false → c ∈ (d ∷ cs) → (some f cs ≡ false → (c : Pairs) → c ∈ cs → f c ≡ false) → f c ≡ false
@@ -143,6 +146,7 @@ rising_map p [] a = tt
 rising_map p (c ∷ cs) a = (all_map (p ∷◌) (Ahead c) (Ahead (p ∷ c)) cs (λ d. ahead_cons p c d) a.0, rising_map p cs a.1)
 
 choice_∈ : {c ps : Pairs} → Choice c ps → (q : ℕ × ℕ) → q ∈ c → q ∈ ps
+choice_∈ empty q m = elim m [ ]
 choice_∈ (take_it s) q (inl e) = inl e
 choice_∈ (take_it s) q (inr m) = inr (choice_∈ s q m)
 choice_∈ (leave_it s) q m = inr (choice_∈ s q m)

@@ -21,6 +21,7 @@ use Rattle.fewest.proofs.ChoiceLaws.{Ahead, PairBefore, PairsRise, Wins}
 -- All pairs ascend.
 names_from_lem : (k n m : ℕ) → m ∈ names_from n k → n ≤ m
 unfolding names_from
+names_from_lem zero n m x' = elim x' [ ]
 names_from_lem (suc k) n m (inl e) = omega (arith, e)
 names_from_lem (suc k) n m (inr i) = omega (arith, names_from_lem k (suc n) m i)
 
@@ -40,6 +41,7 @@ row_rise a (suc k) n =
 
 first_from : (k n : ℕ) (p : ℕ × ℕ) → p ∈ pairs_of (names_from n k) → n ≤ p.0
 unfolding pairs_of names_from
+first_from zero n p m = elim m [ ]
 first_from (suc k) n p m = go (∈_either p (map (λ b. (n, b)) (names_from (suc n) k)) (pairs_of (names_from (suc n) k)) m) (first_from k (suc n) p)
   where
     go : (p ∈ map (λ b. (n, b)) (names_from (suc n) k)) ⊎ (p ∈ pairs_of (names_from (suc n) k)) → (p ∈ pairs_of (names_from (suc n) k) → suc n ≤ p.0) → n ≤ p.0

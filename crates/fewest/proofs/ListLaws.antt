@@ -24,11 +24,13 @@ use Rattle.fewest.specs.Choices.{in_order, under_list}
 
 names_within : (k n m : ℕ) → m ∈ names_from n k → (n ≤ m) × (m < n + k)
 unfolding names_from
+names_within Prim.Native.Nat.zero n m x' = elim x' [ ]
 names_within (suc k) n m (inl e) = (omega (arith, e), omega (arith, e))
 names_within (suc k) n m (inr i) = let (a, b) = names_within k (suc n) m i in (omega arith, omega arith)
 
 pairs_within : (k n : ℕ) (p : ℕ × ℕ) → p ∈ pairs_of (names_from n k) → (p.0 < p.1) × (p.1 < n + k)
 unfolding pairs_of names_from
+pairs_within Prim.Native.Nat.zero n p m = elim m [ ]
 pairs_within (suc k) n p m = go (∈_either p (map (λ b. (n, b)) (names_from (suc n) k)) (pairs_of (names_from (suc n) k)) m) (pairs_within k (suc n) p)
   where
     go : (p ∈ map (λ b. (n, b)) (names_from (suc n) k)) ⊎ (p ∈ pairs_of (names_from (suc n) k))
