@@ -8,7 +8,7 @@ use crate::lists::write_pairs;
 use field_pairs::pairs::{PAIR_COUNT, mark_pair};
 use terms_bytes::bytes::get;
 
-#[derive(Drop)]
+#[derive(Clone, Copy)]
 pub struct Best {
     // some list was unsettled
     pub unsettled: bool,
@@ -18,7 +18,7 @@ pub struct Best {
 }
 
 // The number of the check that turns back, or what the search found: the length of the list written.
-#[derive(Drop)]
+#[derive(Clone, Copy)]
 pub enum Apart {
     Refused(u8),
     Unsettled,

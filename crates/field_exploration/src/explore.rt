@@ -19,14 +19,14 @@ use steps_entries::limits::STEP_BYTES;
 use steps_tallies::bodies::arities_of;
 
 // The size of the field, or a limit is passed.
-#[derive(Drop)]
+#[derive(Clone, Copy)]
 pub enum Explored {
     Incomplete,
     Field(usize),
 }
 
 // The second or the first side of the situation in slot `taken`: how many steps it has, and how many the other side; `differ`: all names differ.
-#[derive(Drop)]
+#[derive(Clone, Copy)]
 struct Side {
     differ: bool,
     second: bool,
@@ -105,7 +105,7 @@ fn grow_sides(
 }
 
 // How far exploration has come: the situation in slot `taken` is taken up, and `known` of them stand in slots.
-#[derive(Drop)]
+#[derive(Clone, Copy)]
 struct Progress {
     differ: bool,
     taken: usize,
@@ -167,7 +167,7 @@ fn grow(
 }
 
 // How many situations the field may have; `differ`: all names differ (request 2026-02).
-#[derive(Drop)]
+#[derive(Clone, Copy)]
 pub struct Extent {
     pub differ: bool,
     pub capacity: usize,

@@ -20,7 +20,7 @@ use steps_entries::limits::STEP_BYTES;
 use terms_bytes::limits::NAME_COUNT;
 
 // The number of situations known, or a limit is passed: they outgrow the capacity, or one of them is past a limit.
-#[derive(Drop)]
+#[derive(Clone, Copy)]
 pub enum Growth {
     Full,
     Known(usize),
@@ -28,7 +28,7 @@ pub enum Growth {
 
 // The growth, whether a situation that was looked at is left, that is, not struck out so far, and the number plus 1 of the slot that all of them
 // have: 0 if none was looked at, and SEVERAL if they have no such slot or it was not looked for.
-#[derive(Drop)]
+#[derive(Clone, Copy)]
 pub struct Added {
     pub growth: Growth,
     pub left: bool,
@@ -85,7 +85,7 @@ fn add(work: &mut [u8], capacity: usize, known: usize, key: &[u8]) -> Added
 
 // A step that must be answered, of the second or the first side of the situation in slot `taken`: where it stands, how many steps the other side has,
 // and from which of them on answers are looked for. Where all names differ (request 2026-02), `name` is the one received; else none of the names.
-#[derive(Drop)]
+#[derive(Clone, Copy)]
 struct Asked {
     second: bool,
     taken: usize,
@@ -290,7 +290,7 @@ fn grow_names(
 
 // A step of the second or the first side of the situation in slot `taken`: where it stands, and how many steps the other side has; `differ`: all names
 // differ.
-#[derive(Drop)]
+#[derive(Clone, Copy)]
 pub struct Step {
     pub differ: bool,
     pub second: bool,

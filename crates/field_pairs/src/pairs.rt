@@ -17,7 +17,7 @@ const ROWS: [u16; NAME_COUNT] = [
 ];
 
 // The names of a pair, the smaller one first.
-#[derive(Drop)]
+#[derive(Clone, Copy)]
 pub struct Pair {
     pub first: usize,
     pub second: usize,

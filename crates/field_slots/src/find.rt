@@ -22,7 +22,7 @@ pub fn same_key(area: &[u8], at: usize, key: &[u8]) -> bool
 }
 
 // What a search among the slots finds.
-#[derive(Drop)]
+#[derive(Clone, Copy)]
 pub enum Found {
     // the number of the slot
     At(usize),

@@ -134,7 +134,7 @@ pub fn complete(key: &mut [u8], arities: &[u8], apart: &[u8; PAIR_COUNT])
 
 // The step at `at` and the answer at `place` of the other side; `second`: the second side makes the step. Where all names differ (request 2026-02),
 // `name` is put for the object of the step; else it is none of the names.
-#[derive(Drop)]
+#[derive(Clone, Copy)]
 pub struct Answering {
     pub second: bool,
     pub at: usize,

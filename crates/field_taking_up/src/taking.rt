@@ -23,13 +23,13 @@ use terms_bytes::bytes::copy;
 use terms_bytes::limits::{LONGEST_TERM, NAME_COUNT};
 
 // The numbers of steps of the first and of the second side, or a limit is passed.
-#[derive(Drop)]
+#[derive(Clone, Copy)]
 pub enum Lists {
     Past,
     Listed(usize, usize),
 }
 
-#[derive(Drop)]
+#[derive(Clone, Copy)]
 pub struct TakenUp {
     pub free: [u8; NAME_COUNT],
     pub apart: [u8; PAIR_COUNT],

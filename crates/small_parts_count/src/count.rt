@@ -12,7 +12,7 @@ const MOST_PARTS: usize = 209;
 const WORK_BYTES: usize = SLOT_BYTES * CAPACITY as usize;
 
 // The three numbers, or a length that is above the greatest.
-#[derive(Drop)]
+#[derive(Clone, Copy)]
 pub enum Counts {
     Numbers(Tally),
     TooLong,

@@ -11,7 +11,7 @@ use verdict_judge::judge::{Judged, judge};
 pub const CAPACITY: u64 = 186;
 
 // The numbers of pairs that are the same, different and unsettled.
-#[derive(Drop)]
+#[derive(Clone, Copy)]
 pub struct Tally {
     pub same: usize,
     pub different: usize,

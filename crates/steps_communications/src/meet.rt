@@ -37,7 +37,7 @@ const LAST_NAME: u8 = NAME_COUNT as u8 - 1;
 const NEW_NAME: u8 = NAME_COUNT as u8;
 
 // A term of the part on the walk: where it stands, how many restrictions are around it, and the number of its first silent candidate; and the new name.
-#[derive(Drop)]
+#[derive(Clone, Copy)]
 pub struct Node {
     pub at: usize,
     pub depth: usize,
@@ -46,7 +46,7 @@ pub struct Node {
 }
 
 // The row of a candidate of one side of a parallel, and the candidate's number among the visible ones of that side.
-#[derive(Drop)]
+#[derive(Clone, Copy)]
 pub struct Partner {
     pub kind: u8,
     pub channel: u8,
@@ -55,7 +55,7 @@ pub struct Partner {
 }
 
 // The rows of two candidates, and the number of their communication among the silent candidates of the parallel.
-#[derive(Drop)]
+#[derive(Clone, Copy)]
 struct Pair {
     left: Partner,
     right: Partner,
@@ -63,7 +63,7 @@ struct Pair {
 }
 
 // The communication of the candidates of two rows at a parallel, and whether its condition merges names.
-#[derive(Drop)]
+#[derive(Clone, Copy)]
 struct Met {
     node: Node,
     pair: Pair,
@@ -71,7 +71,7 @@ struct Met {
 }
 
 // The components of the sides of a parallel that communicate.
-#[derive(Drop)]
+#[derive(Clone, Copy)]
 struct Components {
     left: Located,
     right: Located,
@@ -79,7 +79,7 @@ struct Components {
 
 // A row of the left side and the number of its candidate, the rows of the right side, the number of the first communication, and how many steps the
 // list has.
-#[derive(Drop)]
+#[derive(Clone, Copy)]
 struct LeftRow {
     row: usize,
     left: usize,
@@ -91,7 +91,7 @@ struct LeftRow {
 
 // The rows of the two sides of a parallel, the left side's from `first` up to `middle`, and the right side's on up to `last`; how many silent
 // candidates the sides have; and how many steps the list has.
-#[derive(Drop)]
+#[derive(Clone, Copy)]
 pub struct SideRows {
     pub first: usize,
     pub middle: usize,

@@ -9,7 +9,7 @@ use terms_bytes::limits::NAME_COUNT;
 pub const NEW_NAME: u8 = NAME_COUNT as u8;
 
 // Document 01: silent, input, free output, new-name output, each visible one with its channel and its object.
-#[derive(Drop)]
+#[derive(Clone, Copy)]
 pub enum Action {
     Silent,
     Input(u8, u8),
@@ -18,14 +18,14 @@ pub enum Action {
 }
 
 // Whether a candidate is a step.
-#[derive(Drop)]
+#[derive(Clone, Copy)]
 pub enum Status {
     Blocked,
     Found,
 }
 
 // The header of a candidate. Condition and action are those of a step.
-#[derive(Drop)]
+#[derive(Clone, Copy)]
 pub struct Label {
     pub status: Status,
     pub condition: Condition,

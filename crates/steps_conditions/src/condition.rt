@@ -9,7 +9,7 @@ use terms_bytes::bytes::get;
 use terms_bytes::limits::NAME_COUNT;
 use terms_renaming::tables::merged_name;
 
-#[derive(Drop)]
+#[derive(Clone, Copy)]
 pub struct Condition {
     pub class: [u8; Condition::SLOTS],
 }

@@ -71,7 +71,7 @@ pub fn restricted(label: Label, level: usize) -> Label
 }
 
 // Where two actions meet: the channels of an output and an input.
-#[derive(Drop)]
+#[derive(Clone, Copy)]
 pub enum Meeting {
     Never,
     At(u8, u8),

@@ -20,7 +20,7 @@ const LONG_PIECE: usize = 16;
 const SHORT_PIECE: usize = 4;
 
 // The bytes of an action.
-#[derive(Drop)]
+#[derive(Clone, Copy)]
 pub struct ActionBytes {
     pub kind: u8,
     pub channel: u8,

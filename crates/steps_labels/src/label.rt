@@ -17,7 +17,7 @@ use terms_bytes::tags::{CHOICE, INPUT, MATCH, OUTPUT, PARALLEL, RESTRICTION, SIL
 
 // A term of the bytes at hand: where it stands, how many of their restrictions are around it and how many in all, and how many calls may be opened
 // one within the other.
-#[derive(Drop)]
+#[derive(Clone, Copy)]
 pub struct Scope {
     pub at: usize,
     pub inner: usize,
@@ -150,7 +150,7 @@ fn outside_of(
 
 // Where a candidate is found beneath choices and parallels, and its number there: at a term of another form, or, where `middle` is not 0, among the
 // communications of the parallel whose right side stands at `middle`.
-#[derive(Drop)]
+#[derive(Clone, Copy)]
 pub struct Origin {
     pub at: usize,
     pub number: usize,

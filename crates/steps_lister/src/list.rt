@@ -24,7 +24,7 @@ pub const SCRATCH_NUMBERS: usize = TALLY;
 
 pub const SCRATCH_ROWS: usize = TABLE_OF_ROWS;
 
-#[derive(Drop)]
+#[derive(Clone, Copy)]
 pub enum ListAnswer {
     Unsettled,
     Count(usize),

@@ -20,7 +20,7 @@ use terms_renaming::free::is_free;
 // The bytes of as many steps as the limit allows.
 const LISTING_BYTES: usize = STEP_BYTES * MOST_STEPS;
 
-#[derive(Drop)]
+#[derive(Clone, Copy)]
 pub enum StepsAnswer {
     Refused(u8),
     Unsettled,

@@ -23,7 +23,7 @@ pub const OUTPUT: usize = 2;
 const NEW_OUTPUT: usize = 3;
 
 // What a candidate's action does, and the slot of the name that a free output sends.
-#[derive(Drop)]
+#[derive(Clone, Copy)]
 pub struct Passed {
     pub kind: usize,
     pub object: usize,
@@ -118,7 +118,7 @@ pub fn middle_of(src: &[u8], tally: &[u32], at: usize) -> usize
 }
 
 // A term beneath another, and the number of a candidate there.
-#[derive(Drop)]
+#[derive(Clone, Copy)]
 pub struct Branch {
     pub at: usize,
     pub number: usize,

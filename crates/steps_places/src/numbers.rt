@@ -50,7 +50,7 @@ pub fn table_weight(found: &[u64], rows: usize, weights: &[u32]) -> usize
 }
 
 // A row or a call, and the number left within it.
-#[derive(Drop)]
+#[derive(Clone, Copy)]
 pub struct Offset {
     pub index: usize,
     pub left: usize,
@@ -95,7 +95,7 @@ fn call_at(set: u64, weights: &[u32], number: usize) -> Offset
 }
 
 // A place: its row, its call, and the number left within what the call weighs.
-#[derive(Drop)]
+#[derive(Clone, Copy)]
 pub struct Placed {
     pub row: usize,
     pub call: usize,

@@ -17,7 +17,7 @@ use terms_bytes::limits::GREATEST_ARITY;
 use terms_bytes::tags::{CALL, CHOICE, MATCH};
 
 // Where a walk is: in the body of the call of this number, beneath matches that make the partition in this row, of so many names.
-#[derive(Drop)]
+#[derive(Clone, Copy)]
 pub struct Spot {
     pub call: usize,
     pub row: usize,

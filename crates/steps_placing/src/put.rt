@@ -20,7 +20,7 @@ use terms_tidying::tidied::is_tidied;
 use terms_tidying::tidy::{LONGEST_RAW, tidy};
 
 // A step to be put into the list: its candidate, and the bytes of its action.
-#[derive(Drop)]
+#[derive(Clone, Copy)]
 pub struct Step {
     pub candidate: Selection,
     pub action: ActionBytes,
@@ -28,7 +28,7 @@ pub struct Step {
 
 // A communication of two components, the silent candidate of this number of the part, where `x` is the new name. What is received is the name in the
 // slot `new`: [Com]; or, if it closes, a new restriction: [Close]. Whether its condition merges names.
-#[derive(Drop)]
+#[derive(Clone, Copy)]
 pub struct Communication {
     pub left: Located,
     pub right: Located,

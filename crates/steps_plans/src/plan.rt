@@ -14,7 +14,7 @@ use terms_bytes::bytes::get;
 use terms_bytes::limits::TABLE_NAMES;
 
 // What is to be written of a term.
-#[derive(Drop)]
+#[derive(Clone, Copy)]
 pub struct Task {
     // what the name received or extruded is written as, by its slot
     pub new: u8,
@@ -30,7 +30,7 @@ pub struct Task {
 }
 
 // Where a term is read and written: its place, the binders around it in the bytes at hand, and the place of its first byte in the area.
-#[derive(Drop)]
+#[derive(Clone, Copy)]
 pub struct Cursor {
     pub at: usize,
     pub binders: usize,
@@ -38,7 +38,7 @@ pub struct Cursor {
 }
 
 // What is to be written of the sides of a parallel: within a new restriction or not, and where the right side stands.
-#[derive(Drop)]
+#[derive(Clone, Copy)]
 pub struct Plan {
     pub close: bool,
     pub middle: usize,
@@ -47,7 +47,7 @@ pub struct Plan {
 }
 
 // The numbers of the two sides of a communication.
-#[derive(Drop)]
+#[derive(Clone, Copy)]
 pub struct Numbers {
     pub left: usize,
     pub right: usize,

@@ -35,7 +35,7 @@ pub const TABLE_OF_ROWS: usize = 4224;
 
 // A branch of a choice whose rows are put: where the choice begins, whether a match of two free names stands above the branch, and the number of its
 // first row.
-#[derive(Drop)]
+#[derive(Clone, Copy)]
 pub struct RowBranch {
     pub root: usize,
     pub asked: bool,

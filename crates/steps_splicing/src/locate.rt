@@ -9,7 +9,7 @@ use steps_tallies::tally::visible_at;
 use terms_bytes::tags::{PARALLEL, RESTRICTION};
 
 // A component, the restrictions around it, and the number of a candidate among its own.
-#[derive(Drop)]
+#[derive(Clone, Copy)]
 pub struct Located {
     pub at: usize,
     pub depth: usize,

@@ -14,7 +14,7 @@ use terms_bytes::bytes::{copy, room};
 use terms_bytes::limits::{LONGEST_TERM, TABLE_NAMES};
 
 // A term of a part: where it stands, how many restrictions are around it, and the number in the part of its first candidate, visible or silent.
-#[derive(Drop)]
+#[derive(Clone, Copy)]
 pub struct Position {
     pub at: usize,
     pub depth: usize,
@@ -22,7 +22,7 @@ pub struct Position {
 }
 
 // A candidate of a term: the silent or the visible one of this number, where `x` is the new name.
-#[derive(Drop)]
+#[derive(Clone, Copy)]
 pub struct Selection {
     pub silently: bool,
     pub number: usize,
@@ -30,7 +30,7 @@ pub struct Selection {
 }
 
 // Where the bytes that stay go on in the part, and where they are written to.
-#[derive(Drop)]
+#[derive(Clone, Copy)]
 struct Seam {
     from: usize,
     put: usize,

@@ -23,14 +23,14 @@ use terms_bytes::limits::{GREATEST_ARITY, NAME_COUNT};
 use terms_bytes::tags::PARALLEL;
 
 // How many rows are filled, and how many steps the list has.
-#[derive(Drop)]
+#[derive(Clone, Copy)]
 pub struct Walked {
     pub rows: usize,
     pub count: usize,
 }
 
 // The rows of a component, from `first` up to `last`, and how many steps the list has.
-#[derive(Drop)]
+#[derive(Clone, Copy)]
 struct OwnRows {
     first: usize,
     last: usize,
@@ -38,7 +38,7 @@ struct OwnRows {
 }
 
 // One of them, by its number from `first` on.
-#[derive(Drop)]
+#[derive(Clone, Copy)]
 struct OwnRow {
     first: usize,
     number: usize,

@@ -21,14 +21,14 @@ use terms_bytes::limits::NAME_COUNT;
 use verdict_notes::relied::{Relied, relied_with};
 
 // Whether all demands are answered, and what that relies on.
-#[derive(Drop)]
+#[derive(Clone, Copy)]
 pub struct Answered {
     pub all: bool,
     pub relied: Relied,
 }
 
 // A search: how it judges, how many slots there are, and how many of them have situations.
-#[derive(Drop)]
+#[derive(Clone, Copy)]
 pub struct Search {
     pub manner: Manner,
     pub capacity: usize,
@@ -36,7 +36,7 @@ pub struct Search {
 }
 
 // One side of a situation: whether it is the second, how many steps its list has, and how many the other side's, its replies.
-#[derive(Drop)]
+#[derive(Clone, Copy)]
 pub struct SideLists {
     pub search: Search,
     pub second: bool,
@@ -45,7 +45,7 @@ pub struct SideLists {
 }
 
 // One side for a run of names, `from` to `to` without it.
-#[derive(Drop)]
+#[derive(Clone, Copy)]
 pub struct SideRun {
     pub side: SideLists,
     pub from: usize,
@@ -53,7 +53,7 @@ pub struct SideRun {
 }
 
 // The step at `at` of that side, and the reply at `place`.
-#[derive(Drop)]
+#[derive(Clone, Copy)]
 pub struct StepReply {
     pub run: SideRun,
     pub at: usize,

@@ -4,7 +4,7 @@ ghost use Rattle.verdict.specs.Verdict.{differs};
 ghost use Rattle.verdict_answers.specs.Manners.{manner_of};
 
 // By Definition 13, or, where all names differ, by Definitions 7 and 8, or 9 and 10.
-#[derive(Drop)]
+#[derive(Clone, Copy)]
 pub enum Manner {
     Open,
     Late,

@@ -24,7 +24,7 @@ use verdict_capacity::capacity::capacity_check;
 use verdict_start::passes::start_survives;
 
 // The number of the check that turns back, or the verdict and the size of the field.
-#[derive(Drop)]
+#[derive(Clone, Copy)]
 pub enum Judged {
     Refused(u8),
     Unsettled,

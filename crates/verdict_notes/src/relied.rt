@@ -9,7 +9,7 @@ use field_slots::notes::{note_at, put_note};
 use field_slots::slot::{NOTED, left_at};
 
 // The first `count` places have numbers of slots, plus 1. The first place is 0 once there were more than places.
-#[derive(Drop)]
+#[derive(Clone, Copy)]
 pub struct Relied {
     pub count: usize,
     pub slots: [usize; NOTED],

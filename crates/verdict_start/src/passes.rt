@@ -11,7 +11,7 @@ use verdict_notes::relied::clear_notes;
 use verdict_strikeout::strike::{LARGEST_BLOCKS, Pass, strike_blocks, strike_until_stable};
 
 // Passes over the whole field, of which the first goes up or down.
-#[derive(Drop)]
+#[derive(Clone, Copy)]
 pub struct Passes {
     pub search: Search,
     pub rising: bool,

@@ -17,14 +17,14 @@ use verdict_survival::survive::{Candidate, survives};
 pub const LARGEST_BLOCKS: usize = 2;
 
 // A situation that is taken up: it is examined, or only notes are looked at.
-#[derive(Drop)]
+#[derive(Clone, Copy)]
 pub struct Visit {
     pub candidate: Candidate,
     pub examine: bool,
 }
 
 // A pass over the `size` situations from `from` on, by blocks of a level, up or down; each is examined, or only notes are looked at.
-#[derive(Drop)]
+#[derive(Clone, Copy)]
 pub struct Pass {
     pub search: Search,
     pub examine: bool,

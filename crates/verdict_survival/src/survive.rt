@@ -11,7 +11,7 @@ use verdict_answers::answered::{Answered, Search, SideLists, side_answered};
 use verdict_notes::relied::relied_none;
 
 // Situation `i` of a search, which may have to be struck out.
-#[derive(Drop)]
+#[derive(Clone, Copy)]
 pub struct Candidate {
     pub search: Search,
     pub i: usize,
