@@ -1,6 +1,6 @@
 -- The rows of the table and the calls that they have. Assumes nothing.
 use mathlib.Core.List.{List, [], ◌∷◌}
-use mathlib.Core.Logic.{◌⊎◌, inl, inr, ⊎_elim}
+use mathlib.Core.Logic.{inl, inr, ⊎_elim}
 use mathlib.Core.Path.{◌≡◌, refl, sym, subst, ◌∙◌}
 use native.Mathlib.Nat.{eq-or-lt_of_le}
 use native.Mathlib.Omega.{arith}
@@ -42,6 +42,7 @@ row-call t (c ∷ cs) i l T = ⊎_elim
 row-call t [] i l T = absurd (omega arith)
 
 pub call-row : (t : List ℕ) (cs : List Call) (c : Call) → c ∈ cs → TableIs t cs → (i : ℕ) × (i < length cs) × RowIs t i c
+call-row t [] c x'' T = elim x'' [ ]
 call-row t (d ∷ cs) c (inl e) T = (length cs, omega arith, subst (RowIs t (length cs)) (sym e) T.0)
 call-row t (d ∷ cs) c (inr m) T = let (i, l, R) = call-row t cs c m T.1 in (i, omega arith, R)
 
