@@ -123,6 +123,7 @@ tested_part w = go (read_whole one (numbered []) free_names 0 w) refl
 module _ (n : ℕ) where
   below-∈ : (k j : ℕ) → j ∈ parts_below n k → (j < k) × (is_part (word_of n j) ≡ true)
   unfolding parts_below
+  below-∈ zero j m = elim m [ ]
   below-∈ (suc k) j m = go (is_part (word_of n k)) refl (∈_either j (parts_below n k) _ m) (below-∈ k j)
     where
       go : (t : Bool) → is_part (word_of n k) ≡ t → (j ∈ parts_below n k) ⊎ (j ∈ cond t (k ∷ []) [])

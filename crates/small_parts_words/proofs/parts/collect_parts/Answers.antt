@@ -1,4 +1,3 @@
-use Prim.Native.Nat.{◌-◌}
 use native.Mathlib.Omega.{arith}
 use borrow.Author.Rules.{rules}
 use Rattle.small_parts_words.proofs.PartLaws.{none_kept, may_keep, count_few, kept_more, collected}
@@ -9,7 +8,7 @@ loop-number-init c = none_kept _ _ _
 
 pub keep_part-count-requires : goal.keep_part-count-requires
 keep_part-count-requires c =
-    may_keep c.args.size c.loop-number.number c.args.kept.now c.loop-number.auto c.loop-number.count c.requires.0 c.requires.1 (omega (
+    may_keep c.args.size c.loop-number.number c.args.kept.now c.loop-number.kept c.loop-number.count c.requires.0 c.requires.1 (omega (
       arith,
       c.word_count-words.ensures,
       c.loop-number-test.true,
@@ -23,13 +22,13 @@ pub loop-number-preserved : goal.loop-number-preserved
 loop-number-preserved c =
     let m = kept_more c.args.size
     c.loop-number.number c.args.kept.now
-    c.loop-number.auto _ c.loop-number.count _
+    c.loop-number.kept _ c.loop-number.count _
     c.loop-number.invariant.1 c.loop-number.invariant.2
     c.keep_part-count.ensures in (search rules, m.0, m.1)
 
 pub returns : goal.returns
 returns c =
-    collected c.args.size c.args.kept.now c.loop-number.auto c.loop-number.count c.loop-number.number (omega (
+    collected c.args.size c.args.kept.now c.loop-number.kept c.loop-number.count c.loop-number.number (omega (
       arith,
       c.word_count-words.ensures,
       c.loop-number-test.false,

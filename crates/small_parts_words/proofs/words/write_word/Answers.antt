@@ -1,5 +1,5 @@
 use mathlib.Core.Path.{refl, sym, ◌∙◌}
-use Prim.Native.Nat.{ℕ, ◌+◌, ◌-◌}
+use Prim.Native.Nat.{ℕ, ◌+◌}
 use lib.ListN.{length-set}
 use borrow.Author.Rules.{rules}
 use Rattle.small_parts_words.proofs.WritingLaws.{write-start, write_next, write_end}
