@@ -24,9 +24,9 @@ or_odd a b =
     let k = mod-lt b {m = 2} (omega arith) in
     ap (λ x. x % 2) (or_step a b) ∙ digits_mod (bit_or (a / 2) (b / 2)) (omega arith)
 
-bit_or : (a b i : ℕ) → bit (bit_or a b) i ≡ max (bit a i) (bit b i)
+bit-bit_or : (a b i : ℕ) → bit (bit_or a b) i ≡ max (bit a i) (bit b i)
 unfolding bit
-bit_or a b i = ap (λ x. x % 2) (or_shr a b i) ∙ or_odd (a / 2 ^ i) (b / 2 ^ i)
+bit-bit_or a b i = ap (λ x. x % 2) (or_shr a b i) ∙ or_odd (a / 2 ^ i) (b / 2 ^ i)
 
 pow_bit : (j : ℕ) → bit (2 ^ j) j ≡ 1
 unfolding bit
@@ -53,11 +53,11 @@ no_bit i e = absurd (omega (arith, e, ap (λ x. x % 2) (zero-div (2 ^ i)), zero-
 
 pub with_bit_is : (x j : ℕ) → j < most_calls → WithBit x j (bit_or x (2 ^ j))
 with_bit_is x j small = record {
-  set = omega (arith, bit_or x (2 ^ j) j, pow_bit j, bit_small x j);
-  kept = λ i h. omega (arith, bit_or x (2 ^ j) i, bit_small (2 ^ j) i);
+  set = omega (arith, bit-bit_or x (2 ^ j) j, pow_bit j, bit_small x j);
+  kept = λ i h. omega (arith, bit-bit_or x (2 ^ j) i, bit_small (2 ^ j) i);
   only = λ i h. go i h (ℕ_discrete i j);
   grows = grown;
-  more = λ h. ⊎_elim (λ (e : x ≡ bit_or x (2 ^ j)). absurd (h (ap (λ y. bit y j) e ∙ omega (arith, bit_or x (2 ^ j) j, pow_bit j, bit_small x j))))
+  more = λ h. ⊎_elim (λ (e : x ≡ bit_or x (2 ^ j)). absurd (h (ap (λ y. bit y j) e ∙ omega (arith, bit-bit_or x (2 ^ j) j, pow_bit j, bit_small x j))))
       (λ (l : x < bit_or x (2 ^ j)). l) (eq-or-lt_of_le grown);
   fits = λ l. or_lt 64 x (2 ^ j) l (pow-lt {i = j} {j = 64} small);
 }
@@ -67,7 +67,7 @@ with_bit_is x j small = record {
 
     go : (i : ℕ) → bit (bit_or x (2 ^ j)) i ≡ 1 → Dec (i ≡ j) → (i ≡ j) ⊎ (bit x i ≡ 1)
     go i h (yes e) = inl e
-    go i h (no n) = inr (omega (arith, bit_or x (2 ^ j) i, pow_other j i n))
+    go i h (no n) = inr (omega (arith, bit-bit_or x (2 ^ j) i, pow_other j i n))
 
 module _ (x y j : ℕ) where
   pub pending_there : bit x j ≡ 1 → ¬ (bit y j ≡ 1) → PendingIs x y j true

@@ -5,7 +5,7 @@ use mathlib.Core.Path.{◌≡◌, refl, sym, ap, subst, ◌∙◌}
 use native.Mathlib.Decide.{ℕ_discrete}
 use native.Mathlib.Nat.{not-suc-le-zero}
 use native.Mathlib.Omega.{arith}
-use Prim.Native.Nat.{ℕ, suc, ◌+◌, ◌<◌, ◌≤◌}
+use Prim.Native.Nat.{ℕ, suc, ◌<◌, ◌≤◌}
 use lib.ListN.{length, get_or}
 use borrow.Author.Tests.{eq-eqb, ne_eqb}
 use Rattle.calculus.specs.Cond.{Cond, Name, cls, ◌▷◌}
@@ -35,6 +35,7 @@ slot-name (y ∷ ys) x l = go (λ h. slot-name ys x h) (ℕ_discrete x y)
 
 -- and each name of the list has one.
 pub slot_within : (xs : List ℕ) (x : ℕ) → In x xs → slot_of xs x < length xs
+slot_within [] x m = elim m [ ]
 slot_within (y ∷ ys) x m = go (λ h. slot_within ys x h) m (ℕ_discrete x y)
   where
     go : (In x ys → slot_of ys x < length ys) → In x (y ∷ ys) → Dec (x ≡ y) → slot_of (y ∷ ys) x < length (y ∷ ys)

@@ -1,4 +1,3 @@
--- `steps_places::bits::with_bit` meets its contract. Assumes nothing.
 use lib.Pow.{shl_exact}
 use lib.Bits.{bit_or}
 use native.Mathlib.Nat.{one-mul}
@@ -7,19 +6,11 @@ use Prim.Native.Nat.{◌^◌}
 use Rattle.steps_places.specs.PlaceWalks.{WithBit}
 use Rattle.steps_places.proofs.BitLaws.{with_bit_is}
 use native.Mathlib.Omega.{arith}
-use borrow.Author.Rules.{rules}
-use Rattle.steps_places.proofs.bits.with_bit.Statement.{statement}
-use Rattle.steps_places.proofs.bits.with_bit.Tie as tie
+use Rattle.steps_places.proofs.bits.with_bit.Goals as goal
 
-shl-result : tie.Need-overflow-shl-result
-shl-result c = search rules
-
-returns : tie.Need-returns
+pub returns : goal.returns
 returns c =
     subst (λ y. WithBit c.args.set c.args.j (bit_or c.args.set y)) (sym (shl_exact {a = 1} 1 c.args.j 64 (omega arith) (omega (
       arith,
       c.requires,
     )) ∙ one-mul (2 ^ c.args.j))) (with_bit_is c.args.set c.args.j c.requires)
-
-pub with-bit-spec : {M : Type 1} → statement M
-with-bit-spec = tie.close (tie.spec shl-result returns)
