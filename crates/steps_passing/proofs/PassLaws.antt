@@ -11,7 +11,6 @@ use borrow.Author.Tests.{eq-eqb, eqb-true}
 use Rattle.calculus.specs.Abstraction.{Act, tau_a, inp_a, out_a, bout_a}
 use Rattle.calculus.specs.Cond.{Cond}
 use Rattle.calculus.specs.Term.{Term, nil, tau, inp, out, bout, mat, sum, par, res, call, ren, lift}
-use Rattle.terms.specs.Answer.{result}
 use Rattle.terms.specs.Encoding.{name_byte, encode, InScope}
 use Rattle.terms.specs.Limits.{name_count}
 use Rattle.terms_bytes.specs.NameTable.{table_names}
