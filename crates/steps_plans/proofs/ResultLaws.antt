@@ -19,7 +19,7 @@ use Rattle.terms.specs.Question.{Question, check_of}
 use Rattle.terms_renaming.specs.Renaming.{RenameIs}
 use Rattle.terms.proofs.ReadEncoded.{encode-some}
 use Rattle.terms.proofs.RenamingKeeps.{length-ren}
-use Rattle.terms_bytes.proofs.Heights.{height-bytes, height-ren}
+use Rattle.terms_bytes.proofs.Heights.{height-bytes}
 use Rattle.terms_bytes.proofs.Stores.{sets-join}
 use Rattle.steps_tallies.specs.Bodies.{AritiesIs, BodyIs, OpeningIs}
 use Rattle.terms.specs.Question.{body_of}
