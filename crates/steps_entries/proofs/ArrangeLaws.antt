@@ -5,7 +5,7 @@ use mathlib.Core.List.{List, [], ◌∷◌, ◌++◌}
 use mathlib.Core.Logic.{◌⊎◌, inl, inr, ⊎_elim}
 use mathlib.Core.Path.{◌≡◌, refl, sym, ◌∙◌, ap, ap₂}
 use native.Mathlib.Decide.{ℕ_discrete, dec_le}
-use native.Mathlib.Nat.{eq-or-lt_of_le, suc-mul, zero_add}
+use native.Mathlib.Nat.{eq-or-lt_of_le, suc-mul, zero-add}
 use native.Mathlib.Omega.{arith}
 use Prim.Native.Nat.{ℕ, suc, ◌+◌, ◌*◌, ◌<◌, ◌≤◌}
 use lib.Dec.{ltb}
@@ -70,7 +70,7 @@ module _ (area : List ℕ) (count : ℕ) where
   unfolding ArrangeIs
   arrange_done i area₁ h f ss a n x =
       ap (λ k. take (k * step_bytes) area₁) (sym n)
-      ∙ entries-listed ss area₁ 0 (λ k l. ap (entry_from area₁) (zero_add (k * step_bytes)) ∙ (f ss a n x).done k (omega arith))
+      ∙ entries-listed ss area₁ 0 (λ k l. ap (entry_from area₁) (zero-add (k * step_bytes)) ∙ (f ss a n x).done k (omega arith))
 
 -- Two entries are exchanged through two others.
 pub exchanged : (l : List ℕ) (i j : ℕ) → i + step_bytes ≤ length l → j + step_bytes ≤ length l → (zeros first second l₁ l₂ : List ℕ) → step_bytes ≤ length zeros

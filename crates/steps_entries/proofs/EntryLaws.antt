@@ -2,7 +2,7 @@
 use mathlib.Core.List.{List, [], ◌∷◌, ◌++◌, append_assoc}
 use mathlib.Core.Path.{◌≡◌, refl, sym, ◌∙◌, ap}
 use native.Mathlib.Omega.{arith}
-use native.Mathlib.Nat.{zero_add}
+use native.Mathlib.Nat.{zero-add}
 use Prim.Native.Nat.{ℕ, zero, suc, ◌+◌, ◌-◌, ◌≤◌}
 use lib.ListN.{length, take, drop, replicate, length-append, length-replicate}
 use lib.Seq.{sets, sets-eq, length-sets, length-take-le}
@@ -21,7 +21,7 @@ drop-zeros (suc k) (suc n) = let e : suc n - suc k ≡ n - k = omega arith in rw
 stored_in_zeros : (n : ℕ) (xs : List ℕ) → length xs ≤ n → sets (replicate n 0) 0 xs ≡ xs ++ replicate (n - length xs) 0
 stored_in_zeros n xs h =
     sets-eq xs (replicate n 0) 0 (omega (arith, length-replicate {A = ℕ} n 0))
-    ∙ ap (λ r. xs ++ r) (ap (λ k. drop k (replicate n 0)) (zero_add (length xs)) ∙ drop-zeros (length xs) n)
+    ∙ ap (λ r. xs ++ r) (ap (λ k. drop k (replicate n 0)) (zero-add (length xs)) ∙ drop-zeros (length xs) n)
 
 -- The stores of an entry, one behind the other.
 entry_run : (classes four result : List ℕ) → length classes ≡ name_count → length four ≡ 4 → length result ≤ longest_term
