@@ -3,9 +3,8 @@
 use mathlib.Core.Path.{◌≡◌, refl, sym, ap, ◌∙◌}
 use mathlib.Core.Bool.{Bool, true, false}
 use mathlib.Core.List.{List, [], ◌∷◌, ◌++◌, append_assoc, append-nil}
-use Prim.Native.Nat.{ℕ, suc, ◌+◌, ◌*◌, ◌<◌, ◌≤◌}
+use Prim.Native.Nat.{ℕ, suc, ◌+◌, ◌≤◌}
 use native.Mathlib.Omega.{arith}
-use native.Mathlib.Nat.{suc-mul, mul-le-mul_right}
 use lib.ListN.{length, get_or, drop, length-append, length-map}
 use lib.Seq.{drop_at}
 use Rattle.calculus.specs.Term.{Term, par, res}
@@ -13,9 +12,9 @@ use Rattle.terms.specs.Encoding.{encode, InScope}
 use Rattle.terms.specs.Question.{Question}
 use Rattle.terms.specs.Question.{body_of}
 use Rattle.steps_tallies.specs.Candidates.{candidates}
-use Rattle.steps.specs.Raw.{Candidate, blocked, left_steps, right_steps, restricted, communication, communications, visible, silent}
+use Rattle.steps.specs.Raw.{Candidate, blocked, left_steps, right_steps, restricted, visible, silent}
 use Rattle.steps_tallies.proofs.CandidateForms.{candidates-res}
-use Rattle.steps_tallies.proofs.Numbering.{nth_restricted, length-communications, nth_communication}
+use Rattle.steps_tallies.proofs.Numbering.{nth_restricted}
 use Rattle.steps_passing.proofs.TwoSides.{sides_par}
 use Rattle.steps_splicing.specs.Contexts.{Frame, left_of, right_of, beneath, fill, raised, restrictions, bytes_before, bytes_behind, Numbered, Placed, before_in, behind_in, level_in}
 use Rattle.steps_splicing.specs.ListedParts.{Lists}

@@ -3,7 +3,7 @@ use mathlib.Core.Path.{◌≡◌, refl, sym, ap, ap₂, subst, ◌∙◌}
 use mathlib.Core.Bool.{Bool, true, false}
 use mathlib.Core.List.{List, [], ◌∷◌, ◌++◌, map, append_assoc, append-nil}
 use Prim.Native.Nat.{ℕ, zero, suc, ◌+◌, ◌-◌, ◌<◌, ◌≤◌}
-use native.Mathlib.Nat.{zero_add}
+use native.Mathlib.Nat.{zero-add}
 use native.Mathlib.Omega.{arith}
 use lib.Dec.{ltb}
 use lib.ListN.{length, get_or, set, drop, length-append, length-map}
@@ -27,14 +27,14 @@ lift_bound (suc d) ρ zero h = refl
 lift_bound (suc d) ρ (suc m) h = ap suc (lift_bound d ρ m (omega arith))
 
 lift_free : (d : ℕ) (ρ : ℕ → ℕ) (k : ℕ) → lift_by d ρ (d + k) ≡ d + ρ k
-lift_free zero ρ k = rw zero_add (sym (zero_add (ρ k)))
+lift_free zero ρ k = rw zero-add (sym (zero-add (ρ k)))
 lift_free (suc d) ρ k =
     let e : suc d + k ≡ suc (d + k) = omega arith in
     let f : suc d + ρ k ≡ suc (d + ρ k) = omega arith in
     rw (e, f) (ap suc (lift_free d ρ k))
 
 lift-more : (b d : ℕ) (ρ : ℕ → ℕ) → lift_by b (lift_by d ρ) ≡ lift_by (b + d) ρ
-lift-more zero d ρ = ap (λ (k : ℕ). lift_by k ρ) (sym (zero_add d))
+lift-more zero d ρ = ap (λ (k : ℕ). lift_by k ρ) (sym (zero-add d))
 lift-more (suc b) d ρ =
     let e : suc (b + d) ≡ suc b + d = omega arith in
     ap lift (lift-more b d ρ) ∙ ap (λ (k : ℕ). lift_by k ρ) e
