@@ -66,8 +66,8 @@ swap-swap (suc (suc n)) = refl
 ren-swap-swap : (P : Term) → ren swap (ren swap P) ≡ P
 ren-swap-swap P = ren_triangle swap swap (λ n. n) P swap-swap ∙ ren_id P
 
-l_par-left : (T : Term) {P Q : Term} → Like P Q → Like (par T P) (par T Q)
-l_par-left T {P} {Q} l = l_then (l_par_comm T P) (l_then (l_par l T) (l_par_comm Q T))
+l_par_left : (T : Term) {P Q : Term} → Like P Q → Like (par T P) (par T Q)
+l_par_left T {P} {Q} l = l_then (l_par_comm T P) (l_then (l_par l T) (l_par_comm Q T))
 
 -- every move can be taken back
 pub like_sym : {P Q : Term} → Like P Q → Like Q P
@@ -82,7 +82,7 @@ like_sym (l_sum_nil P) = l_sum_nil' P
 like_sym (l_sum_nil' P) = l_sum_nil P
 like_sym (l_par_comm P Q) = l_par_comm Q P
 like_sym (l_par_assoc P Q R) =
-    l_then (l_par_comm P (par Q R)) (l_then (l_par (l_par_comm Q R) P) (l_then (l_par_assoc R Q P) (l_then (l_par-left R (l_par_comm Q P)) (l_par_comm R (par P Q)))))
+    l_then (l_par_comm P (par Q R)) (l_then (l_par (l_par_comm Q R) P) (l_then (l_par_assoc R Q P) (l_then (l_par_left R (l_par_comm Q P)) (l_par_comm R (par P Q)))))
 like_sym (l_par_nil P) = l_par_nil' P
 like_sym (l_par_nil' P) = l_par_nil P
 like_sym (l_out_of P Q) = l_into P Q

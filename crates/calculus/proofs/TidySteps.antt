@@ -378,7 +378,7 @@ module _ (Δ : Defs) where
         };
   }
 
-  pub related_same-tidied : (D : Pairs) → Irr D → (P Q : Term) → tidy P ≡ tidy Q → Related Δ D P Q
+  pub related_same_tidied : (D : Pairs) → Irr D → (P Q : Term) → tidy P ≡ tidy Q → Related Δ D P Q
   unfolding SameTidied
-  related_same-tidied D irr P Q e =
+  related_same_tidied D irr P Q e =
       to_published Δ irr (record { by = SameTidied; bisim = record { forth = alike_sim; back = alike_back }; related = e })

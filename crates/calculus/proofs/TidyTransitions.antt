@@ -73,5 +73,5 @@ module _ (Δ : Defs) where
   pub tidy-moves : (P : Term) {M : Cond} {α : Action} {P' : Term} → Transition Δ P M α P' → AlsoMoves Δ (tidy P) M α P'
   tidy-moves P t = also_moves P (tidy P) (sym (tidy-tidy P)) t
 
-  pub of_tidy-moves : (P : Term) {M : Cond} {α : Action} {P' : Term} → Transition Δ (tidy P) M α P' → AlsoMoves Δ P M α P'
-  of_tidy-moves P t = also_moves (tidy P) P (tidy-tidy P) t
+  pub of_tidy_moves : (P : Term) {M : Cond} {α : Action} {P' : Term} → Transition Δ (tidy P) M α P' → AlsoMoves Δ P M α P'
+  of_tidy_moves P t = also_moves (tidy P) P (tidy-tidy P) t

@@ -21,7 +21,7 @@ use Rattle.verdict.specs.Judge.{slot_bytes}
 use Rattle.verdict.specs.Outcome.{Says}
 use Rattle.verdict.specs.Verdict.{differs, Verdict, unsettled, same, different}
 use Rattle.verdict.proofs.CapacityLaws.{passed_within}
-use Rattle.verdict.proofs.VerdictIsDefinition13.{same_is_related, different_is_unrelated, unsettled_iff_past-a_limit}
+use Rattle.verdict.proofs.VerdictIsDefinition13.{same_is_related, different_is_unrelated, unsettled_iff_past_a_limit}
 use Rattle.fewest.specs.Apart.{names_given, list_for, apart_of, of_fewest, work_after, area_after, ApartIs}
 use Rattle.fewest.specs.Choices.{candidate_pairs, Earlier, enlarged, under_list}
 use Rattle.fewest.specs.Fewest.{Fewest, undecided, none, chosen, is_unsettled, is_same, verdict_under, fewest_of}
@@ -62,11 +62,11 @@ module _ (question : List ℕ) (q : Question) (accepted : question_of question �
 
   exceeds_unsettled : (c : Pairs) → ExceedsUnder Δ q capacity names c → verdict_under q capacity c ≡ unsettled
   unfolding verdict_under differs
-  exceeds_unsettled c x = (unsettled_iff_past-a_limit (under c) (well c) Δ (defines_under c) capacity).1 x
+  exceeds_unsettled c x = (unsettled_iff_past_a_limit (under c) (well c) Δ (defines_under c) capacity).1 x
 
   unsettled_exceeds : (c : Pairs) → verdict_under q capacity c ≡ unsettled → ExceedsUnder Δ q capacity names c
   unfolding verdict_under differs
-  unsettled_exceeds c e = (unsettled_iff_past-a_limit (under c) (well c) Δ (defines_under c) capacity).0 e
+  unsettled_exceeds c e = (unsettled_iff_past_a_limit (under c) (well c) Δ (defines_under c) capacity).0 e
 
   not_unsettled : (c : Pairs) → is_unsettled (verdict_under q capacity c) ≡ false → ¬ ExceedsUnder Δ q capacity names c
   unfolding is_unsettled

@@ -26,7 +26,7 @@ use Rattle.terms.specs.Edition.{one}
 use Rattle.terms.specs.Reading.{numbered, read_whole}
 use Rattle.terms.proofs.Answers.{result_injective, both_true}
 use Rattle.terms.proofs.ApartLaws.{holds_apart_lem, apart_holds}
-use Rattle.terms.proofs.EditionOne.{read_whole-first}
+use Rattle.terms.proofs.EditionOne.{read_whole_first}
 use Rattle.terms.proofs.ScopeLaws.{free_below}
 use Rattle.calculus.specs.Lists.{◌∈◌}
 pub use Rattle.field.specs.Situation.{Proper}
@@ -250,7 +250,7 @@ pairs-same (p ∷ D) (q ∷ E) e =
 module _ (names : ℕ) (few : names ≤ 128) (arities : List ℕ) where
   pub encode_same : (P Q : Term) → InScope names arities 0 P → InScope names arities 0 Q → encode 0 P ≡ encode 0 Q → P ≡ Q
   encode_same P Q g h e =
-      result_injective (sym (read_whole-first names few arities 0 P g) ∙ ap (read_whole one (numbered arities) names 0) e ∙ read_whole-first names few arities 0 Q h)
+      result_injective (sym (read_whole_first names few arities 0 P g) ∙ ap (read_whole one (numbered arities) names 0) e ∙ read_whole_first names few arities 0 Q h)
 
   -- on proper situations the test of equality is exact
   pub same_equal : (s t : Situation) → Proper names arities s → Proper names arities t → same_situation s t ≡ true → s ≡ t

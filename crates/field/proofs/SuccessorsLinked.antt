@@ -112,11 +112,11 @@ module _ (Δ : Defs) (S : Setting) (arities : List ℕ) (set : SettingFor Δ S a
   away : AwayFrom x s.first s.second s.apart
   away = new_away S.names arities s proper
 
-  free_below-names : (n : ℕ) → Either n s.first s.second → n < S.names
-  free_below-names = either_below S.names arities s.first s.second proper.first proper.second
+  free_below_names : (n : ℕ) → Either n s.first s.second → n < S.names
+  free_below_names = either_below S.names arities s.first s.second proper.first proper.second
 
   x_within : x ≤ S.names
-  x_within = new_within S.names s.first s.second free_below-names
+  x_within = new_within S.names s.first s.second free_below_names
 
   -- a part's list, also where the new name is the one behind the names
   part_exact : (P : Term) → InScope S.names arities 0 P → ¬ Free x P
@@ -218,7 +218,7 @@ module _ (Δ : Defs) (S : Setting) (arities : List ℕ) (set : SettingFor Δ S a
 
     free : (n : ℕ) → In n F ↔ Either n s.first s.second
     unfolding F
-    free n = (free_either S.names s.first s.second n, either_free S.names s.first s.second free_below-names n)
+    free n = (free_either S.names s.first s.second n, either_free S.names s.first s.second free_below_names n)
 
     free_swapped : (n : ℕ) → In n F ↔ Either n s.second s.first
     free_swapped n = (λ i. swapped n s.first s.second ((free n).0 i), λ h. (free n).1 (swapped n s.second s.first h))
@@ -256,7 +256,7 @@ module _ (Δ : Defs) (S : Setting) (arities : List ℕ) (set : SettingFor Δ S a
         → y ∈ received true S.names F (listed_as S.names [] (input a x) R)
     unfolding received listed_as kind_of object_of
     input-offered a R y (inl e) l = from_free (x ∷ F) 0 S.names y (inl e) (omega arith) (omega arith)
-    input-offered a R y (inr h) l = from_free (x ∷ F) 0 S.names y (inr ((free y).1 h)) (omega arith) (let b = free_below-names y h in omega arith)
+    input-offered a R y (inr h) l = from_free (x ∷ F) 0 S.names y (inr ((free y).1 h)) (omega arith) (let b = free_below_names y h in omega arith)
 
     -- where a step by α and its answer lead, with the name y received
     abbrev received-at : Action → ℕ → Term → Term → Situation
@@ -377,7 +377,7 @@ module _ (Δ : Defs) (S : Setting) (arities : List ℕ) (set : SettingFor Δ S a
         received-below : (y ≡ x) ⊎ Free y s.first ⊎ Free y s.second → y < S.names
         received-below (inl q) =
             below_names y q (λ d. first-test ps qs f d (record { condition = []; action = input a x; result = A; transition = u; binds = binds_new_lem }) x (inl refl))
-        received-below (inr h) = free_below-names y h
+        received-below (inr h) = free_below_names y h
 
         received_scope : (T : Term) → InScope S.names arities 0 T → InScope S.names arities 0 (S.form (ren (put x y) T))
         received_scope T g = stays (ren (put x y) T) (put_scope S.names arities x y T (received-below i) g)
@@ -409,13 +409,13 @@ module _ (Δ : Defs) (S : Setting) (arities : List ℕ) (set : SettingFor Δ S a
         (record { action = α; binds = b; left = A; moving = (transition_concrete Δ u tt).0; right = B; answering = (transition_concrete Δ v tt).0; name = y; offered = i; is = e }) in
         ∈-together (both true) w t (∈-left w (firsts true) (seconds true) k) l
 
-    of_named-member : (t : Situation) → S.differ ≡ true → Successor Δ S s t → t ∈ together (both true)
+    of_named_member : (t : Situation) → S.differ ≡ true → Successor Δ S s t → t ∈ together (both true)
     unfolding object_of
-    of_named-member t o (first_moving p m n r h e) = let z : ◌≡◌ {A = ℕ} 0 1 = cc in absurd (omega arith)
-    of_named-member t o (second_moving p m n r h e) = let z : ◌≡◌ {A = ℕ} 0 1 = cc in absurd (omega arith)
-    of_named-member t o (both_do p α b i A B u v e) =
+    of_named_member t o (first_moving p m n r h e) = let z : ◌≡◌ {A = ℕ} 0 1 = cc in absurd (omega arith)
+    of_named_member t o (second_moving p m n r h e) = let z : ◌≡◌ {A = ℕ} 0 1 = cc in absurd (omega arith)
+    of_named_member t o (both_do p α b i A B u v e) =
         of_named t α b A B u v (object_of α) (own-offered α (S.form A) i) (e ∙ sym (own-received α A B))
-    of_named-member t o (both_receive p a y i A B u v e) =
+    of_named_member t o (both_receive p a y i A B u v e) =
         of_named t (input a x) binds_new_lem A B u v y
         (input-offered a (S.form A) y i (below_names x refl (λ d. first-test ps qs f d (record { condition = []; action = input a x; result = A; transition = u; binds = binds_new_lem }) x (inl refl)))) e
       where
@@ -438,7 +438,7 @@ module _ (Δ : Defs) (S : Setting) (arities : List ℕ) (set : SettingFor Δ S a
           where
             go : (b : Bool) → S.differ ≡ b → Successor Δ S s t → t ∈ together (both b)
             go false o q = of_member t o q
-            go true o q = of_named-member t o q
+            go true o q = of_named_member t o q
 
     leads_exactly : S.differ ≡ false → LeadsExactly Δ S arities s (both S.differ)
     leads_exactly o =

@@ -565,10 +565,10 @@ module _ (arities free apart : List ℕ) (second : Bool) (area : List ℕ) (at :
       where_to = λ G D s t before flags e i f j own m p n z ks K b. record { none = λ q. absurd (omega arith); one = λ k q l. absurd (omega arith) };
     }
 
-    pub no_answer-left : known ≤ capacity → AnswersIs area at others place false
+    pub no_answer_left : known ≤ capacity → AnswersIs area at others place false
         → AnswerIs arities free apart second area at others place name capacity work known (record { growth = Known known; left = false; led = 0 }) work
     unfolding AnswersIs LeadsWhere
-    no_answer-left few A = record {
+    no_answer_left few A = record {
       grown = answer-none few A;
       same = record { growth = λ z. refl; area = λ z. refl };
       gone = λ z G D s t flags e i f j own p ks K. rw (answered-none second G D name s t (sym (A s t e f))) tt;

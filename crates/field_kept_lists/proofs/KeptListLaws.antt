@@ -100,8 +100,8 @@ module _ (area : List ℕ) (p : ℕ) (part : List ℕ) (x n : ℕ) (area' area''
       ∙ drop_at (take (p + label_bytes) area) (steps ++ rest) (p + label_bytes) (length-take-le (p + label_bytes) area (omega (arith, steps_room))))
       ∙ take_at steps rest (step_bytes * n) steps-size
 
-  pub kept-at_place : list_area ≤ length area'' → Keeps area part x n area''
-  kept-at_place same question so list = (list_same question part x n area area'' (front_same n list.few) list, record { room = same; is = hand; kept = all })
+  pub kept_at_place : list_area ≤ length area'' → Keeps area part x n area''
+  kept_at_place same question so list = (list_same question part x n area area'' (front_same n list.few) list, record { room = same; is = hand; kept = all })
     where
       hand : Tells question (label_at area'' label_place) area''
       hand =

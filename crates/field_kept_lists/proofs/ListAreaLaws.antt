@@ -153,9 +153,9 @@ module _ (question part : List ℕ) (x : ℕ) (area : List ℕ) (r : ListAnswer)
           let bytes : step_bytes * n ≡ length ss * step_bytes = omega arith in
           (ss, d, number, ap (λ k. take k steps) bytes ∙ e.1)
 
-  pub listed-at_hand : (n : ℕ) → r ≡ Count n → (area' : List ℕ) → PutsLabel whole label_place part x n area' → list_area ≤ length area'
+  pub listed_at_hand : (n : ℕ) → r ≡ Count n → (area' : List ℕ) → PutsLabel whole label_place part x n area' → list_area ≤ length area'
       → ListIn question part x n area' × Labelled question area'
-  listed-at_hand n c area' put room = lent_labelled question area steps same so part x n (list_made n c) area' put room
+  listed_at_hand n c area' put room = lent_labelled question area steps same so part x n (list_made n c) area' put room
 
 -- A part above the limit is none that is to be listed.
 pub long_part : (question part : List ℕ) (x : ℕ) (area : List ℕ) → longest_term < length part → SideIs question part x Unsettled area

@@ -122,9 +122,9 @@ module _ (area : List ℕ) (at : ℕ) (others : List ℕ) (place : ℕ) where
   unfolding AnswersIs
   answers_short h s t e f = absurd (omega (arith, entry_long area at s e))
 
-  pub answers-other_short : length others < place + result_byte → AnswersIs area at others place false
+  pub answers_other_short : length others < place + result_byte → AnswersIs area at others place false
   unfolding AnswersIs
-  answers-other_short h s t e f = absurd (omega (arith, entry_long others place t f))
+  answers_other_short h s t e f = absurd (omega (arith, entry_long others place t f))
 
   pub answers_kind : (get_or area (at + kind_byte) 0 ≡ get_or others (place + kind_byte) 0 → ⊥) → AnswersIs area at others place false
   unfolding AnswersIs answers

@@ -128,6 +128,7 @@ adds_swapped flags a b flags' h D e =
 -- A step is not permitted exactly if its condition merges a pair.
 merged-refused : (D : Pairs) (s : ListedStep) (a b : ℕ) → Apart D a b → class_in s.classes a ≡ class_in s.classes b → permitted D s ≡ false
 unfolding permitted
+merged-refused [] s a b x'' z = elim x'' [ ]
 merged-refused (p ∷ D) s a b (inl (h, k)) z =
     let c : ℕ → ℕ = class_in s.classes in
     rw (eq-eqb (c p.0) (c p.1) (ap c h ∙ z ∙ ap c (sym k)))

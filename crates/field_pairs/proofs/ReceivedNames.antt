@@ -84,6 +84,7 @@ selected F n (suc k) = ap (λ l. cond (among F n) (n ∷ l) l) (selected F (suc 
 
 names-below : (n k m : ℕ) → m ∈ names_from n k → m < n + k
 unfolding names_from
+names-below n zero m x' = elim x' [ ]
 names-below n (suc k) m (inl e) = omega arith
 names-below n (suc k) m (inr i) = let h = names-below (suc n) k m i in omega arith
 

@@ -161,18 +161,18 @@ not_listed : (n m : ℕ) → Past ≡ Listed n m → (n ≤ most_steps) × (m �
 not_listed n m e = let z : ◌≡◌ {A = ℕ} 0 1 = cc in absurd (omega arith)
 
 module _ (question first second : List ℕ) (x : ℕ) (firsts seconds : List ℕ) where
-  pub sides_first-past : (a : ListAnswer) → SideIs question first x a firsts → a ≡ Unsettled → ListsSides question first second x Past firsts seconds
+  pub sides_first_past : (a : ListAnswer) → SideIs question first x a firsts → a ≡ Unsettled → ListsSides question first second x Past firsts seconds
   unfolding ListsAre SideIs
-  sides_first-past a left e =
+  sides_first_past a left e =
       let past = subst (λ r. SideIs question first x r firsts) e left in
       record {
         few = not_listed;
         is = λ q s h. past_first question first second x q s h (past q s.first h.left (new-first question first second x q s h));
       }
 
-  pub sides_second-past : (b : ListAnswer) → SideIs question second x b seconds → b ≡ Unsettled → ListsSides question first second x Past firsts seconds
+  pub sides_second_past : (b : ListAnswer) → SideIs question second x b seconds → b ≡ Unsettled → ListsSides question first second x Past firsts seconds
   unfolding ListsAre SideIs
-  sides_second-past b right e =
+  sides_second_past b right e =
       let past = subst (λ r. SideIs question second x r seconds) e right in
       record {
         few = not_listed;
@@ -206,9 +206,9 @@ module _ (question first second : List ℕ) (x : ℕ) (firsts seconds : List ℕ
         leading = leads_to false e;
       }
 
-    pub sides_names-past : p ≡ true → ListsSides question first second x Past firsts seconds
+    pub sides_names_past : p ≡ true → ListsSides question first second x Past firsts seconds
     unfolding ListsAre
-    sides_names-past e = record { few = not_listed; is = λ q s h. leads_to q s h true e }
+    sides_names_past e = record { few = not_listed; is = λ q s h. leads_to q s h true e }
 
     pub sides_listed : p ≡ false → ListsSides question first second x (Listed n m) firsts seconds
     unfolding ListsAre

@@ -16,7 +16,7 @@ use Rattle.terms.specs.Reading.{numbered, read_whole}
 use Rattle.terms.specs.Question.{Question, check_of, fields_of, write}
 use Rattle.terms.proofs.Answers.{result_injective, Every}
 use Rattle.terms.proofs.FramingLaws.{behind_version, framed_in}
-use Rattle.terms.proofs.EditionOne.{read_whole-first}
+use Rattle.terms.proofs.EditionOne.{read_whole_first}
 use Rattle.terms.proofs.ScopeLaws.{free_below}
 use Rattle.terms.proofs.WellFormed.{WellFormed, framable, accepted_well_formed, accepted_written}
 use Rattle.steps.proofs.Scope.{scope_calls, in_scope}
@@ -46,7 +46,7 @@ module _ (w : List ℕ) (short : length w ≤ 5) (q : Question) (accepted : chec
   unfolding fields_of
   accepted_small few = record {
     term = q.first;
-    reads = subst (λ bs. read_whole one (numbered []) free_names 0 bs ≡ result q.first) (ap (λ f. f.first) same-fields) (read_whole-first free_names (omega arith) [] 0 q.first scope);
+    reads = subst (λ bs. read_whole one (numbered []) free_names 0 bs ≡ result q.first) (ap (λ f. f.first) same-fields) (read_whole_first free_names (omega arith) [] 0 q.first scope);
     outermost = well.first.parallels_outermost;
     size = refl;
   }

@@ -280,9 +280,9 @@ no_silent : (k : ℕ) (xs : List ℕ) → silent_calls (λ k. get_or [] k nil) 1
 unfolding silent silent_of guarded
 no_silent k xs = silent-opened (λ k. get_or [] k nil) k xs refl
 
-no_call-past : (P : Term) → past_calls (λ k. get_or [] k nil) P ≡ false
+no_call_past : (P : Term) → past_calls (λ k. get_or [] k nil) P ≡ false
 unfolding BodiesAllowed body_of
-no_call-past P = never_past_calls [] [] tt P
+no_call_past P = never_past_calls [] [] tt P
 
 -- A short part's list.
 pub record FewSteps (x : ℕ) (P : Term) : Type 0 where
@@ -295,7 +295,7 @@ pub few_listed : (x : ℕ) (P : Term) → size P ≤ 6 → FewSteps x P
 unfolding steps_in setting_of listing limited visible silent body_of
 few_listed x P h = record {
   steps = ss;
-  is = rw (no_call-past P, le-leb (length ss) most_steps (omega (arith, few)), fit (size P) longest_term ss (omega arith) short) refl;
+  is = rw (no_call_past P, le-leb (length ss) most_steps (omega (arith, few)), fit (size P) longest_term ss (omega arith) short) refl;
   few = few;
   short = short;
 }

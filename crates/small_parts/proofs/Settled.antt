@@ -227,10 +227,10 @@ none : (a b : ℕ) → a ≤ 0 → reps a b ≤ 0
 none zero b h = omega arith
 none (suc a) b h = absurd (omega arith)
 
-unseen-all_small : (known ss : List Situation) → All Small ss → All Small (unseen known ss)
+unseen_all_small : (known ss : List Situation) → All Small ss → All Small (unseen known ss)
 unfolding unseen
-unseen-all_small known [] h = tt
-unseen-all_small known (s ∷ ss) h = go (unseen-all_small known ss h.1) (unseen-all_small (s ∷ known) ss h.1) (found known s)
+unseen_all_small known [] h = tt
+unseen_all_small known (s ∷ ss) h = go (unseen_all_small known ss h.1) (unseen_all_small (s ∷ known) ss h.1) (found known s)
   where
     go : All Small (unseen known ss) → All Small (unseen (s ∷ known) ss) → (b : Bool) → All Small (cond b (unseen known ss) (s ∷ unseen (s ∷ known) ss))
     go i j true = i
@@ -332,7 +332,7 @@ complete (suc n) known (s ∷ waiting) h l e =
     let t = taken s h.0 in
     let fresh : List Situation = unseen known (together t.wants) in
     complete n (known ++ fresh) (waiting ++ fresh)
-    (all-++ Small waiting fresh h.1 (unseen-all_small known (together t.wants) t.small))
+    (all-++ Small waiting fresh h.1 (unseen_all_small known (together t.wants) t.small))
     (omega (arith, total-++ waiting fresh, total-unseen known (together t.wants), t.cheap))
     (with_row_lem (record { self = s; wants = t.wants }) _ (subst (λ o. elim o [
       | past_limit ↦ incomplete

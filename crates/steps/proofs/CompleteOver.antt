@@ -30,11 +30,11 @@ is_silent (inp_a a) = false
 is_silent (out_a a b) = false
 is_silent (bout_a a) = false
 
-is_silent-ren : (σ : ℕ → ℕ) (α : Act) → is_silent (ren_a σ α) ≡ is_silent α
-is_silent-ren σ tau_a = refl
-is_silent-ren σ (inp_a a) = refl
-is_silent-ren σ (out_a a b) = refl
-is_silent-ren σ (bout_a a) = refl
+is_silent_ren : (σ : ℕ → ℕ) (α : Act) → is_silent (ren_a σ α) ≡ is_silent α
+is_silent_ren σ tau_a = refl
+is_silent_ren σ (inp_a a) = refl
+is_silent_ren σ (out_a a b) = refl
+is_silent_ren σ (bout_a a) = refl
 
 -- The condition of a communication, up to equivalence.
 joined-~ : (a b : ℕ) (M N M₁ N₁ : Cond) → M ~ M₁ → N ~ N₁ → ((a, b) ∷ (M ++ N)) ~ ((a, b) ∷ (M₁ ++ N₁))
@@ -133,7 +133,7 @@ module _ (visible_call silent_call : ℕ → List ℕ → List Candidate) where
         there =
             subst (λ c. c ∈ candidates_of (is_silent α) (res P)) (restricted-step N α P' spared)
             (in_res (is_silent α) P (step N (ren_a suc α) P')
-            (subst (λ b. step N (ren_a suc α) P' ∈ candidates_of b P) (is_silent-ren suc α) y.there));
+            (subst (λ b. step N (ren_a suc α) P' ∈ candidates_of b P) (is_silent_ren suc α) y.there));
       }
 
   yield_open : (P : Term) (M M₀ : Cond) (a : ℕ) (P' : Term) → M ~ map_p suc M₀

@@ -15,7 +15,7 @@ use Rattle.calculus.specs.Published.{Action, Transition}
 use Rattle.calculus.specs.Term.{Term, nil, tau, inp, out, bout, mat, sum, par, res, call, ren}
 use Rattle.calculus.specs.Tidy.{outside, restrict_used, tidy}
 use Rattle.calculus.proofs.Tidying.{tidy-ren, tidy-tidy}
-use Rattle.calculus.proofs.TidySteps.{related_same-tidied}
+use Rattle.calculus.proofs.TidySteps.{related_same_tidied}
 use Rattle.calculus.proofs.TidyTransitions.{alike_free, also_moves}
 use Rattle.calls.specs.ReachLimit.{PastCalls}
 use Rattle.calls.proofs.ReachRenaming.{past-tidy, tidy-past}
@@ -101,7 +101,7 @@ module _ {form : Term → Term} (f : Form form) where
 
   -- a term and its form are related
   pub form_related : (Δ : Defs) (D : Pairs) → Irr D → (P : Term) → Related Δ D P (form P)
-  form_related Δ D irr P = related_same-tidied Δ D irr P (form P) (sym (f.tidied P))
+  form_related Δ D irr P = related_same_tidied Δ D irr P (form P) (sym (f.tidied P))
 
   -- the same limit on calls (request 2026-01)
   pub past_formed : (Δ : Defs) (limit : ℕ) (P : Term) → PastCalls Δ limit (form P) → PastCalls Δ limit P

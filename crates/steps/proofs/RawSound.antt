@@ -42,19 +42,19 @@ module _ (Δ : Defs) where
   pub body_opens : (n k : ℕ) (xs : List ℕ) → CallOpens Δ (suc n) k xs → Opens Δ 0 (opened xs (Δ.body k))
   body_opens n k xs c = opens_ren Δ 0 (Δ.body k) _ c.1
 
-  visible-call_sound : (n k : ℕ) (xs : List ℕ) → CallOpens Δ n k xs → All (Sound (call k xs)) (visible_calls Δ.body n k xs)
+  visible_call_sound : (n k : ℕ) (xs : List ℕ) → CallOpens Δ n k xs → All (Sound (call k xs)) (visible_calls Δ.body n k xs)
   unfolding visible
-  visible-call_sound Prim.Native.Nat.zero k xs c = elim c [ ]
-  visible-call_sound (suc n) k xs c =
+  visible_call_sound Prim.Native.Nat.zero k xs c = elim c [ ]
+  visible_call_sound (suc n) k xs c =
       subst (All (Sound (call k xs))) (sym (visible-alone Δ.body n k xs (each-guarded (Δ.body k) c.1)))
       (all_imp (Sound (opened xs (Δ.body k))) (Sound (call k xs)) (visible_of (visible_calls Δ.body 0) (opened xs (Δ.body k)))
       (λ d t. sound_call n k xs d c t)
       (visible_of_sound (Trans Δ) rules (CallOpens Δ 0) (visible_calls Δ.body 0) (λ l ys o. absurd o) (opened xs (Δ.body k)) (body_opens n k xs c)))
 
-  silent-call_sound : (n k : ℕ) (xs : List ℕ) → CallOpens Δ n k xs → All (Sound (call k xs)) (silent_calls Δ.body n k xs)
+  silent_call_sound : (n k : ℕ) (xs : List ℕ) → CallOpens Δ n k xs → All (Sound (call k xs)) (silent_calls Δ.body n k xs)
   unfolding silent
-  silent-call_sound Prim.Native.Nat.zero k xs c = elim c [ ]
-  silent-call_sound (suc n) k xs c =
+  silent_call_sound Prim.Native.Nat.zero k xs c = elim c [ ]
+  silent_call_sound (suc n) k xs c =
       subst (All (Sound (call k xs))) (sym (silent-alone Δ.body n k xs (each-guarded (Δ.body k) c.1)))
       (all_imp (Sound (opened xs (Δ.body k))) (Sound (call k xs))
       (silent_of (visible_calls Δ.body 0) (silent_calls Δ.body 0) (opened xs (Δ.body k)))
@@ -64,9 +64,9 @@ module _ (Δ : Defs) where
 
   pub visible_sound : (n : ℕ) (P : Term) → Opens Δ n P → All (Sound P) (visible Δ.body n P)
   unfolding visible
-  visible_sound n P c = visible_of_sound (Trans Δ) rules (CallOpens Δ n) (visible_calls Δ.body n) (visible-call_sound n) P c
+  visible_sound n P c = visible_of_sound (Trans Δ) rules (CallOpens Δ n) (visible_calls Δ.body n) (visible_call_sound n) P c
 
   pub silent_sound : (n : ℕ) (P : Term) → Opens Δ n P → All (Sound P) (silent Δ.body n P)
   unfolding silent
   silent_sound n P c =
-      silent_of_sound (Trans Δ) rules (CallOpens Δ n) (visible_calls Δ.body n) (visible-call_sound n) (silent_calls Δ.body n) (silent-call_sound n) P c
+      silent_of_sound (Trans Δ) rules (CallOpens Δ n) (visible_calls Δ.body n) (visible_call_sound n) (silent_calls Δ.body n) (silent_call_sound n) P c

@@ -30,7 +30,7 @@ use Rattle.steps_splicing.specs.Locating.{Component, Leads, Holes, Unextruded, t
 use Rattle.steps_splicing.specs.ListedParts.{Lists}
 use Rattle.steps_splicing.specs.PlacedResults.{Unopened}
 use Rattle.steps_splicing.specs.declared.locate.Located.{Located}
-use Rattle.steps_splicing.proofs.ContextLaws.{fill-bytes, fill-bytes_in, level_before, placed-left, placed_right, placed-bytes, placed_depth}
+use Rattle.steps_splicing.proofs.ContextLaws.{fill-bytes, fill_bytes_in, level_before, placed-left, placed_right, placed-bytes, placed_depth}
 use Rattle.steps_splicing.proofs.PlacedResults.{raised_never, filled_result}
 use Rattle.steps_placing.specs.Taking.{candidates_of}
 use Rattle.steps_placing.proofs.ResultScope.{silent_scope}
@@ -131,7 +131,7 @@ module _ (K : List Frame) (d : ℕ) (level : restrictions K ≡ d) (J : List Fra
   pair_bytes_lem A B =
       fill-bytes K (par (fill J A) (fill I B))
       ∙ ap (λ (n : ℕ). bytes_before K ++ (encode n (par (fill J A) (fill I B)) ++ bytes_behind K)) level
-      ∙ ap₂ (λ (l r : List ℕ). bytes_before K ++ ((7 ∷ (l ++ r)) ++ bytes_behind K)) (fill-bytes_in d J A) (fill-bytes_in d I B)
+      ∙ ap₂ (λ (l r : List ℕ). bytes_before K ++ ((7 ∷ (l ++ r)) ++ bytes_behind K)) (fill_bytes_in d J A) (fill_bytes_in d I B)
       ∙ simp append_assoc
 
 -- One side: its component and the component's step.
@@ -221,7 +221,7 @@ module _ (question part : List ℕ) (at depth m : ℕ) (left right : Located) (q
 
   side_length : length (encode depth L) ≡ length (before_in depth J) + (length (encode left.depth l.term) + length (behind_in depth J))
   side_length =
-      ap (λ (C : Term). length (encode depth C)) (sym l.whole) ∙ ap length (fill-bytes_in depth J l.term)
+      ap (λ (C : Term). length (encode depth C)) (sym l.whole) ∙ ap length (fill_bytes_in depth J l.term)
       ∙ ap (λ (d : ℕ). length (before_in depth J ++ (encode d l.term ++ behind_in depth J))) l.level
       ∙ length-append (before_in depth J) (encode left.depth l.term ++ behind_in depth J)
       ∙ ap (λ (n : ℕ). length (before_in depth J) + n) (length-append (encode left.depth l.term) (behind_in depth J))

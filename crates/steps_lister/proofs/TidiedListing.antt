@@ -129,10 +129,10 @@ list_restricted question part arities x own e aside t r area' is = record {
 }
 
 -- Under the tidied bodies of a question.
-pub list_under-tidied : (question out : List ℕ) (n : ℕ) (out' : List ℕ) → WritesTidied question out n out' → (part : List ℕ) (x : ℕ) (r : ListAnswer) (area' : List ℕ)
+pub list_under_tidied : (question out : List ℕ) (n : ℕ) (out' : List ℕ) → WritesTidied question out n out' → (part : List ℕ) (x : ℕ) (r : ListAnswer) (area' : List ℕ)
     → ListPartIs (take n out') part x r area' → ListPartIs question part x r area'
 unfolding steps_of result_form tidied_bodies
-list_under-tidied question out n out' w part x r area' is = record {
+list_under_tidied question out n out' w part x r area' is = record {
   few = is.few;
   is = λ q P l new.
       let allowed = (accepted_well_formed question q l.accepted).bodies in

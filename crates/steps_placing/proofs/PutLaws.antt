@@ -73,9 +73,9 @@ step-coded x M (bout_a a) = refl
 
 module _ (class : List ℕ) (action : ActionBytes) (result : List ℕ) (n : ℕ) (area : List ℕ) (count : ℕ) where
   -- A result that is too long passes a limit.
-  pub put-result_long : longest_term < n → (area' : List ℕ) → PutResultIs class action result n area count (most_steps + 1) area'
+  pub put_result_long : longest_term < n → (area' : List ℕ) → PutResultIs class action result n area count (most_steps + 1) area'
   unfolding PutIs
-  put-result_long long area' = record {
+  put_result_long long area' = record {
     is = λ out x M α A size w classes acts found s.
         put_long area x count found s M α A
         (over (length (result_bytes (canon_step result_form name_count x M α A))) (λ k. (w.fits (omega arith)).0)) area';
@@ -88,10 +88,10 @@ module _ (class : List ℕ) (action : ActionBytes) (result : List ℕ) (n : ℕ)
           go true d = let k = leb-true b longest_term d in absurd (omega (arith, f k))
           go false d = leb-false b longest_term d
 
-  pub put-result_inserted : n ≤ longest_term → name_count ≤ length class → (entry : List ℕ) → entry ≡ entry_bytes class action (take n result)
+  pub put_result_inserted : n ≤ longest_term → name_count ≤ length class → (entry : List ℕ) → entry ≡ entry_bytes class action (take n result)
       → (r : ℕ) (area' : List ℕ) → InsertIs area count entry r area' → PutResultIs class action result n area count r area'
   unfolding PutIs
-  put-result_inserted short many entry made r area' inserted = record {
+  put_result_inserted short many entry made r area' inserted = record {
     is = λ out x M α A size w classes acts found s.
         let bs : List ℕ = result_bytes (canon_step result_form name_count x M α A) in
         let fit : length bs ≤ longest_term = within (length bs) (length out) size (λ k. (w.fits (omega arith)).0) (λ k. w.over (omega arith)) in

@@ -366,9 +366,9 @@ module _ (question s : List ℕ) (at D : ℕ) (names : List ℕ) (task : Task) (
             P (sym (tag_at s at D P rest st) ∙ g) scope st K;
       }
 
-      pub write-res_stop : length out < e → WriteIs question s at D names task out put e out₁
+      pub write_res_stop : length out < e → WriteIs question s at D names task out put e out₁
       unfolding encode InScope
-      write-res_stop past = record {
+      write_res_stop past = record {
         on = St.on;
         is = λ low q free σ P rest bs top ok few scope st K shallow. only_res (Shows low e out₁ q free σ rest bs top)
             (λ Q scope st K.
@@ -437,8 +437,8 @@ module _ (question s : List ℕ) (at D : ℕ) (names : List ℕ) (task : Task) (
     unfolding encode InScope
     parts q free σ P Q rest bs top ok few scope st K = L.is q free σ P Q rest bs top ok few scope.0 scope.1 (at_left D s at P Q rest 7 st) K
 
-    pub write-par_stop : length out < e → WriteIs question s at D names task out put e out₁
-    write-par_stop past = record {
+    pub write_par_stop : length out < e → WriteIs question s at D names task out put e out₁
+    write_par_stop past = record {
       on = St.on;
       is = λ low q free σ P rest bs top ok few scope st K shallow. only_par (Shows low e out₁ q free σ rest bs top)
           (λ P Q scope st K.
@@ -457,8 +457,8 @@ module _ (question s : List ℕ) (at D : ℕ) (names : List ℕ) (task : Task) (
           written_then low out put (opening plan.close) e out₁ (writes_of low out put (opening plan.close) e out₁ St.is) a.first m out₂ inside same
           (A.is low q free σ P (encode D Q ++ rest) a.first top ok few scope.0 (at_left D s at P Q rest 7 st) a.left shallow)
 
-      pub write-left_stop : length out < m → WriteIs question s at D names task out put m out₂
-      write-left_stop past = record {
+      pub write_left_stop : length out < m → WriteIs question s at D names task out put m out₂
+      write_left_stop past = record {
         on = omega (arith, St.on, A.on);
         is = λ low q free σ P rest bs top ok few scope st K shallow. only_par (Shows low m out₂ q free σ rest bs top)
             (λ P Q scope st K.

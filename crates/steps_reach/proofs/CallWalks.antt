@@ -27,11 +27,11 @@ use Rattle.steps_reach.proofs.Rows.{FewNames, table_kept, row-call, call-row, pu
 use Rattle.steps_reach.proofs.TableLaws.{name_there}
 use Rattle.steps_reach.proofs.Walking.{known-walked, opened-walked, opened_exceeded, one_too_many}
 
-pub called-names_are : (question s : List ℕ) (at count : ℕ) (t : List ℕ) (row : ℕ) (arities : List ℕ) (k arity : ℕ) (r : List ℕ)
+pub called_names_are : (question s : List ℕ) (at count : ℕ) (t : List ℕ) (row : ℕ) (arities : List ℕ) (k arity : ℕ) (r : List ℕ)
     → AritiesIs question arities → k ≡ get_or t (9 * row) 0 → arity ≡ get_or arities k 0 → NamesIs s at count t row arity r
     → CalledNamesIs question s at count t row r
 unfolding CalledNamesIs AritiesIs
-called-names_are question s at count t row arities k arity r A e a N q ok =
+called_names_are question s at count t row arities k arity r A e a N q ok =
     subst (λ n. NamesIs s at count t row n r) (a ∙ ap (λ l. get_or l k 0) (A q ok) ∙ ap (λ j. get_or q.arities j 0) e) N
 
 -- The byte of a parameter stands for the name that the call gives it.

@@ -20,18 +20,18 @@ use Rattle.steps_splicing.specs.Contexts.{Frame, left_of, right_of, beneath, fil
 use Rattle.steps_splicing.specs.ListedParts.{Lists}
 
 -- The whole's bytes are those before the term, its own, and those behind it.
-pub fill-bytes_in : (d : ℕ) (K : List Frame) (C : Term) → encode d (fill K C) ≡ before_in d K ++ (encode (level_in d K) C ++ behind_in d K)
+pub fill_bytes_in : (d : ℕ) (K : List Frame) (C : Term) → encode d (fill K C) ≡ before_in d K ++ (encode (level_in d K) C ++ behind_in d K)
 unfolding fill encode before_in behind_in level_in
-fill-bytes_in d [] C = sym (append-nil (encode d C))
-fill-bytes_in d (left_of Q ∷ K) C = fill-bytes_in d K (par C Q) ∙ simp append_assoc
-fill-bytes_in d (right_of P ∷ K) C = fill-bytes_in d K (par P C) ∙ simp append_assoc
-fill-bytes_in d (beneath ∷ K) C =
+fill_bytes_in d [] C = sym (append-nil (encode d C))
+fill_bytes_in d (left_of Q ∷ K) C = fill_bytes_in d K (par C Q) ∙ simp append_assoc
+fill_bytes_in d (right_of P ∷ K) C = fill_bytes_in d K (par P C) ∙ simp append_assoc
+fill_bytes_in d (beneath ∷ K) C =
     let e : 1 + level_in d K ≡ suc (level_in d K) = omega arith in
-    fill-bytes_in d K (res C) ∙ ap (λ (n : ℕ). before_in d K ++ (8 ∷ (encode n C ++ behind_in d K))) e
+    fill_bytes_in d K (res C) ∙ ap (λ (n : ℕ). before_in d K ++ (8 ∷ (encode n C ++ behind_in d K))) e
     ∙ sym (append_assoc (before_in d K) (8 ∷ []) (encode (suc (level_in d K)) C ++ behind_in d K))
 
 pub fill-bytes : (K : List Frame) (C : Term) → encode 0 (fill K C) ≡ bytes_before K ++ (encode (restrictions K) C ++ bytes_behind K)
-fill-bytes = fill-bytes_in 0
+fill-bytes = fill_bytes_in 0
 
 -- Each restriction has a byte before the term.
 pub level_before : (d : ℕ) (K : List Frame) → level_in d K ≤ d + length (before_in d K)

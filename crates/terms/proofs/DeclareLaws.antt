@@ -14,7 +14,7 @@ use Rattle.terms.specs.Framing.{joined}
 use Rattle.terms.specs.Operations.{declared_fields, declared_question, may_declare}
 use Rattle.terms.specs.Question.{Question, different_names, read_pairs, read_pairs_with, read_apart_with, check_in, pair_bytes, fields_in, fits_in}
 use Rattle.terms.proofs.Answers.{Every, need-both}
-use Rattle.terms.proofs.WellFormed.{WellFormed, PairAllowed, with_apart, decided-by_apart, pairs_read_before}
+use Rattle.terms.proofs.WellFormed.{WellFormed, PairAllowed, with_apart, decided_by_apart, pairs_read_before}
 
 last_pair : (D : Pairs) (a b : ℕ) → Every PairAllowed D →
     read_pairs (pair_bytes D ++ (a ∷ b ∷ [])) ≡ (need 12 (different_names a b) >> result (D ++ ((a, b) ∷ [])))
@@ -33,7 +33,7 @@ declared_answer e q w fit a b =
     let xs = pair_bytes q.apart ++ (a ∷ b ∷ []) in
     let l : length xs ≡ length (pair_bytes q.apart) + 2 = length-append (pair_bytes q.apart) (a ∷ b ∷ []) in
     let few = w.apart_size in
-    decided-by_apart e q w fit xs (omega arith)
+    decided_by_apart e q w fit xs (omega arith)
     ∙ rw
     (last_pair q.apart a b w.apart, l)
     (need-both

@@ -64,5 +64,5 @@ module _ (free : ℕ) (few : free ≤ 128) (arities : List ℕ) where
   read_encoded_first d P g n h bs =
       rw encode-first at (read_encoded free few one (numbered arities) d P (scope_to arities free d P g) n (rw encode-first h) bs)
 
-  pub read_whole-first : (d : ℕ) (P : Term) → InScope free arities d P → read_whole one (numbered arities) free d (encode d P) ≡ result P
-  read_whole-first d P g = rw encode-first at (read_whole_lem free few one (numbered arities) d P (scope_to arities free d P g))
+  pub read_whole_first : (d : ℕ) (P : Term) → InScope free arities d P → read_whole one (numbered arities) free d (encode d P) ≡ result P
+  read_whole_first d P g = rw encode-first at (read_whole_lem free few one (numbered arities) d P (scope_to arities free d P g))

@@ -82,12 +82,12 @@ made e third R p t = ap (λ l. joined e (record {
   apart = pair_bytes p.apart;
 })) (sym t)
 
-pub beside-bytes : (question third : List ℕ) (q : Question) → question_of question ≡ result q → (room : ℕ) (next : List ℕ)
+pub beside_bytes : (question third : List ℕ) (q : Question) → question_of question ≡ result q → (room : ℕ) (next : List ℕ)
     → beside_of question third room ≡ result next
     → (question ≡ joined (edition_of question) (fields_in (edition_of question) q))
     × (next ≡ joined (edition_of question) (beside_fields third (fields_in (edition_of question) q)))
 unfolding beside_of write_in
-beside-bytes question third q h room next m =
+beside_bytes question third q h room next m =
     let w : Written e (placed_beside question third) room next = written_within_lem e (placed_beside question third) room next m in
     let s : PlacedBeside question third w.question = placed-beside question third w.question w.made in
     let o : s.old ≡ q = accepted_once question s.old q s.accepted h in (

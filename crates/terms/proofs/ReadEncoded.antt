@@ -29,18 +29,18 @@ encode-some d (par P Q) = omega arith
 encode-some d (res P) = omega arith
 encode-some d (call k ns) = omega arith
 
-pub encode-some_in : (e : Edition) (d : ℕ) (P : Term) → 1 ≤ length (encode_in e d P)
+pub encode_some_in : (e : Edition) (d : ℕ) (P : Term) → 1 ≤ length (encode_in e d P)
 unfolding encode_in
-encode-some_in e d nil = omega arith
-encode-some_in e d (tau P) = omega arith
-encode-some_in e d (inp a P) = omega arith
-encode-some_in e d (out a b P) = omega arith
-encode-some_in e d (bout a P) = omega arith
-encode-some_in e d (mat a b P) = omega arith
-encode-some_in e d (sum P Q) = omega arith
-encode-some_in e d (par P Q) = omega arith
-encode-some_in e d (res P) = omega arith
-encode-some_in e d (call k ns) = omega arith
+encode_some_in e d nil = omega arith
+encode_some_in e d (tau P) = omega arith
+encode_some_in e d (inp a P) = omega arith
+encode_some_in e d (out a b P) = omega arith
+encode_some_in e d (bout a P) = omega arith
+encode_some_in e d (mat a b P) = omega arith
+encode_some_in e d (sum P Q) = omega arith
+encode_some_in e d (par P Q) = omega arith
+encode_some_in e d (res P) = omega arith
+encode_some_in e d (call k ns) = omega arith
 
 -- Check 16.
 count_in_lem : (e : Edition) (n : ℕ) (bs : List ℕ) → read_count e n (count_bytes e n ++ bs) ≡ result bs
@@ -72,7 +72,7 @@ module _ (free : ℕ) (few : free ≤ 128) where
     pub read_encoded : (d : ℕ) (P : Term) → InScopeBy callees free d P → (n : ℕ) → length (encode_in e d P) ≤ n → (bs : List ℕ) →
         read_term e callees free n d (encode_in e d P ++ bs) ≡ result (P, bs)
     unfolding read_term encode_in InScopeBy byte tag_of ◌>>=◌ ◌>>◌ need
-    read_encoded d P g zero h bs = absurd (omega (arith, encode-some_in e d P))
+    read_encoded d P g zero h bs = absurd (omega (arith, encode_some_in e d P))
     read_encoded d nil g (suc n) h bs = refl
     read_encoded d (tau P) g (suc n) h bs = rw (read_encoded d P g n (omega arith) bs)
     read_encoded d (inp a P) g (suc n) h bs =

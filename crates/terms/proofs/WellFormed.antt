@@ -21,7 +21,7 @@ use Rattle.terms.specs.Question.{read_pairs, read_pairs_with, read_apart, read_a
 use Rattle.terms.specs.Question.{check_of, body_fields_in, pair_bytes, fields_in, write_in, fits_in, fields_of, write}
 use Rattle.terms.proofs.Answers.{result_injective, refused_not_result, bind-result, bind_to, bind_id, bind_assoc, need-result, need-passed, both_true, true_both, all-every, every-all}
 use Rattle.terms.proofs.EditionOne.{encode-first, encode_shorter, fields-first, write-first}
-use Rattle.terms.proofs.ReadEncoded.{encode-some_in, read_whole_lem}
+use Rattle.terms.proofs.ReadEncoded.{encode_some_in, read_whole_lem}
 use Rattle.terms.proofs.ScopeLaws.{scope_to, scope_from}
 use Rattle.terms.specs.WellFormed.{Every}
 pub use Rattle.terms.specs.WellFormed.{BodyAllowed, PartAllowedWith, PartAllowed, PairAllowedWith, PairAllowed, WellFormedWith, WellFormed}
@@ -351,9 +351,9 @@ module _ (e : Edition) (q : Question) (w : WellFormed q) (fit : fits_in e q ≡ 
       ∙ need-passed 10 _ _ (rw (seq, P.parallels_outermost, Q.parallels_outermost))
       ∙ need-passed 11 _ _ (bodies_guarded q.arities q.arities q.bodies w.bodies)
 
-  pub decided-by_apart : length xs ≤ longest_apart + 2 → check_in e (joined e (with_apart e xs q)) ≡ by_apart
+  pub decided_by_apart : length xs ≤ longest_apart + 2 → check_in e (joined e (with_apart e xs q)) ≡ by_apart
   unfolding check_with joined behind_version version
-  decided-by_apart few =
+  decided_by_apart few =
       bind_to _ (need-passed 3 (eqb (version_byte e) (version_byte e)) (result (behind_version (with_apart e xs q))) (eq-eqb (version_byte e) (version_byte e) refl))
       ∙ need-passed 4 (leb (length (joined e (with_apart e xs q))) longest_question) _
       (le-leb (length (joined e (with_apart e xs q))) longest_question (joined_length few))
@@ -365,7 +365,7 @@ module _ (e : Edition) (q : Question) (w : WellFormed q) (fit : fits_in e q ≡ 
   unfolding write_in fields_in with_apart read_apart_with
   in_accepted =
       let few = w.apart_size in
-      decided-by_apart e q w fit (pair_bytes q.apart) (omega arith)
+      decided_by_apart e q w fit (pair_bytes q.apart) (omega arith)
       ∙ bind_to _
       (need-passed 12 (leb (length (pair_bytes q.apart)) longest_apart) _ (le-leb (length (pair_bytes q.apart)) longest_apart few)
       ∙ pairs_read q.apart w.apart)
@@ -383,7 +383,7 @@ size_fits : (d : ℕ) (P : Term) → length (encode d P) ≤ longest_term → fi
 unfolding fits
 size_fits d P h =
     true_both (leb 1 (length (encode_in one d P))) (leb (length (encode_in one d P)) longest_term)
-    (le-leb 1 (length (encode_in one d P)) (encode-some_in one d P)) (le-leb (length (encode_in one d P)) longest_term (rw encode-first h))
+    (le-leb 1 (length (encode_in one d P)) (encode_some_in one d P)) (le-leb (length (encode_in one d P)) longest_term (rw encode-first h))
 
 bodies_fit : (arities sizes : List ℕ) (Ps : List Term) → BodiesAllowed arities sizes Ps → every fits (body_fields_in one sizes Ps) ≡ true
 unfolding BodiesAllowed body_fields_in every

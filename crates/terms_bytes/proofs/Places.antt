@@ -145,11 +145,11 @@ module _ (e : Edition) (f : Fields) (framable : Framable f) where
       behind_of (joined e f) (field_place (joined e f) k) (get_or (all_fields f) k []) (all_sized (drop (suc k) (all_fields f))) (small k h)
       (at_place k (omega arith) ∙ ap all_sized (drop-cons (all_fields f) k [] h))
 
-  pub field-at_place : (k : ℕ) → k < length (all_fields f)
+  pub field_at_place : (k : ℕ) → k < length (all_fields f)
       → drop (field_place (joined e f) k) (joined e f) ≡ sized (get_or (all_fields f) k []) ++ all_sized (drop (suc k) (all_fields f))
   unfolding all_sized
-  field-at_place k h = at_place k (omega arith) ∙ ap all_sized (drop-cons (all_fields f) k [] h)
+  field_at_place k h = at_place k (omega arith) ∙ ap all_sized (drop-cons (all_fields f) k [] h)
 
   pub field_is : (k : ℕ) → k < length (all_fields f) → field_at (joined e f) (field_place (joined e f) k) ≡ get_or (all_fields f) k []
   field_is k h =
-      field_of_lem (joined e f) (field_place (joined e f) k) (get_or (all_fields f) k []) (all_sized (drop (suc k) (all_fields f))) (small k h) (field-at_place k h)
+      field_of_lem (joined e f) (field_place (joined e f) k) (get_or (all_fields f) k []) (all_sized (drop (suc k) (all_fields f))) (small k h) (field_at_place k h)

@@ -13,7 +13,7 @@ use Rattle.terms_bytes.specs.Shape.{fixed_bytes, own_names, binders, subterms}
 use Rattle.terms_bytes.proofs.Shapes.{AllInScope, subterms_scope}
 use Rattle.terms_bytes.proofs.Stores.{sets-join}
 use Rattle.terms.specs.Edition.{Edition, other, encode_in}
-use Rattle.terms.proofs.ReadEncoded.{encode-some_in}
+use Rattle.terms.proofs.ReadEncoded.{encode_some_in}
 use Rattle.terms_bytes.specs.Counted.{edition_from}
 use Rattle.terms_converting.specs.Converting.{count_of, front_in, ConvertsFront, ConvertsTerm}
 use Rattle.terms_converting.specs.declared.term.Copied.{Copied}
@@ -156,7 +156,7 @@ module _ (src arities : List ℕ) (counted : Bool) (out₀ : List ℕ) (put : �
           length-drop at src,
           ap length (S.reads ∙ ap (codes e) q),
           length-append (encode_in e p.depth p.term) (codes e ps),
-          encode-some_in e p.depth p.term,
+          encode_some_in e p.depth p.term,
         ))
 
     pub converting_done : length src ≤ at → ConvertsTerm src arities counted out₀ put to area

@@ -21,6 +21,6 @@ pub merge_turned_back : (s : List ℕ) (a b room k : ℕ) → check_answer s ≡
 unfolding merge_of merged
 merge_turned_back s a b room k e = bind-refused (written_within (edition_of s) room) (bind-refused _ (turned_back_lem s k e))
 
-pub beside-turned_back : (s third : List ℕ) (room k : ℕ) → check_answer s ≡ refused k → beside_of s third room ≡ refused k
+pub beside_turned_back : (s third : List ℕ) (room k : ℕ) → check_answer s ≡ refused k → beside_of s third room ≡ refused k
 unfolding beside_of placed_beside
-beside-turned_back s third room k e = bind-refused (written_within (edition_of s) room) (bind-refused _ (turned_back_lem s k e))
+beside_turned_back s third room k e = bind-refused (written_within (edition_of s) room) (bind-refused _ (turned_back_lem s k e))

@@ -25,9 +25,9 @@ use Rattle.terms_converting.specs.Questions.{MayConvert, ConvertsQuestion}
 use Rattle.terms_converting.proofs.PlainForm.{plain_checked, plain_room, plain_taken, plain_size}
 use Rattle.terms_merging.specs.Counted.{MayMergeCounted, WritesMergedCounted}
 
-pub merged-length_in : (e : Edition) (a b : ℕ) (q : Question) → length (write_in e (merged_question a b q)) ≡ length (write_in e q)
+pub merged_length_in : (e : Edition) (a b : ℕ) (q : Question) → length (write_in e (merged_question a b q)) ≡ length (write_in e q)
 unfolding write_in joined fields_in merged_question sized
-merged-length_in e a b q =
+merged_length_in e a b q =
     let B = all_sized (body_fields_in e q.arities q.bodies) in
     let F = encode_in e 0 q.first in
     let S = encode_in e 0 q.second in
@@ -52,7 +52,7 @@ merged-length_in e a b q =
 
 -- A merged question is as long as it was.
 pub merged-own-length : (s : List ℕ) (q : Question) → question_of s ≡ result q → (a b : ℕ) → length (write_in (edition_of s) (merged_question a b q)) ≡ length s
-merged-own-length s q h a b = merged-length_in (edition_of s) a b q ∙ ap length (own-written s q h)
+merged-own-length s q h a b = merged_length_in (edition_of s) a b q ∙ ap length (own-written s q h)
 
 module _ (question : List ℕ) (a b : ℕ) (area : List ℕ) (may : MayMergeCounted question a b area) where
   abbrev q : Question
@@ -102,7 +102,7 @@ module _ (question : List ℕ) (a b : ℕ) (area : List ℕ) (may : MayMergeCoun
           record {
             old = merged_question a b q;
             accepted = accepted_again;
-            room = let r = may.room in omega (arith, merged-length_in two a b q, ap length (written_in two question q may.accepted));
+            room = let r = may.room in omega (arith, merged_length_in two a b q, ap length (written_in two question q may.accepted));
           }
 
       pub merged-counted : (r : ℕ) (area' : List ℕ) → ConvertsQuestion (take m merging') false area r area' → WritesMergedCounted question a b area r area'

@@ -124,10 +124,10 @@ module _ (s : List ℕ) (at n : ℕ) (fit : at + n ≤ length s) (i b : ℕ) whe
   byte-none l none = sym (sym (ap (λ (xs : List ℕ). among xs b) (take_all i (span s at n) (omega (arith, length-span s at n fit)))) ∙ none)
 
 -- The front.
-pub use_front-none : (s : List ℕ) (at : ℕ) (arities : List ℕ) (inner : ℕ)
+pub use_front_none : (s : List ℕ) (at : ℕ) (arities : List ℕ) (inner : ℕ)
     → ((free d : ℕ) (P : Term) (rest : List ℕ) → InScope free arities d P → drop at s ≡ encode d P ++ rest → ⊥)
     → UseFrontIs s at arities inner (record { len = 0; binds = 0; subterms = 0; used = true })
-use_front-none s at arities inner never = record {
+use_front_none s at arities inner never = record {
   inside = omega arith;
   step = omega arith;
   binds = omega arith;

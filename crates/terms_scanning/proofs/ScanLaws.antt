@@ -82,13 +82,13 @@ module _ (free d : ℕ) where
 
     -- The ways out of the loop: `count` names were to be read from `from` on, and n are left from `at` on.
     module _ (count from n at : ℕ) (same : behind_names free d count (drop from s) ≡ behind_names free d n (drop at s)) where
-      pub names-out_short : 0 < n → length s ≤ at → NamesIs free d count s from (Wrong 7)
+      pub names_out_short : 0 < n → length s ≤ at → NamesIs free d count s from (Wrong 7)
       unfolding front_answer NextWithin
-      names-out_short z h = record { is = same ∙ names_short n at z h; within = tt }
+      names_out_short z h = record { is = same ∙ names_short n at z h; within = tt }
 
-      pub names-out_wrong : 0 < n → at < length s → name_allowed free d (get_or s at 0) ≡ false → NamesIs free d count s from (Wrong 9)
+      pub names_out_wrong : 0 < n → at < length s → name_allowed free d (get_or s at 0) ≡ false → NamesIs free d count s from (Wrong 9)
       unfolding front_answer NextWithin
-      names-out_wrong z h e = record { is = same ∙ names_wrong n at z h e; within = tt }
+      names_out_wrong z h e = record { is = same ∙ names_wrong n at z h e; within = tt }
 
       pub names-out : n ≡ 0 → from ≤ at → at ≤ max from (length s) → NamesIs free d count s from (Next at)
       unfolding front_answer NextWithin behind_names read_names ◌>>=◌

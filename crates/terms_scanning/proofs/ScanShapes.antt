@@ -102,30 +102,30 @@ module _ (free d k : ℕ) where
       go (result bs) = named (read_names free d m bs)
 
 module _ (ed : Edition) (free : ℕ) (arities : List ℕ) (n d : ℕ) where
-  pub scanned-by_shape : (t : ℕ) (bs : List ℕ) → scanned ed free arities (suc n) d (t ∷ bs)
+  pub scanned_by_shape : (t : ℕ) (bs : List ℕ) → scanned ed free arities (suc n) d (t ∷ bs)
       ≡ (behind_front ed free arities d (t ∷ bs) >>= subterms_scanned ed free arities n t (binders_at t + d))
   unfolding called scanned read_term byte tag_of behind_names read_names behind_front behind_call names_at binders_at subterms_at subterms_scanned need ◌>>◌ ◌>>=◌
-  scanned-by_shape zero bs = ap (λ c. result (c, bs)) control_nil
-  scanned-by_shape (suc zero) bs = rw zero-add (one_term tau (λ p. combined 1 p passing) control_tau (read_term ed (numbered arities) free n d bs))
-  scanned-by_shape (suc (suc zero)) bs =
+  scanned_by_shape zero bs = ap (λ c. result (c, bs)) control_nil
+  scanned_by_shape (suc zero) bs = rw zero-add (one_term tau (λ p. combined 1 p passing) control_tau (read_term ed (numbered arities) free n d bs))
+  scanned_by_shape (suc (suc zero)) bs =
       one_name free d (λ a bs. (read_term ed (numbered arities) free n (1 + d) bs >>= λ x. result (inp a x.0, x.1))) (subterms_scanned ed free arities n 2 (1 + d))
       (λ a bs. one_term (inp a) (λ p. combined 2 p passing) (control_inp a) (read_term ed (numbered arities) free n (1 + d) bs)) bs
-  scanned-by_shape (suc (suc (suc zero))) bs =
+  scanned_by_shape (suc (suc (suc zero))) bs =
       rw
       zero-add
       (two_names free d (λ a b bs. (read_term ed (numbered arities) free n d bs >>= λ x. result (out a b x.0, x.1))) (subterms_scanned ed free arities n 3 d)
       (λ a b bs. one_term (out a b) (λ p. combined 3 p passing) (control_out a b) (read_term ed (numbered arities) free n d bs)) bs)
-  scanned-by_shape (suc (suc (suc (suc zero)))) bs =
+  scanned_by_shape (suc (suc (suc (suc zero)))) bs =
       one_name free d (λ a bs. (read_term ed (numbered arities) free n (1 + d) bs >>= λ x. result (bout a x.0, x.1))) (subterms_scanned ed free arities n 4 (1 + d))
       (λ a bs. one_term (bout a) (λ p. combined 4 p passing) (control_bout a) (read_term ed (numbered arities) free n (1 + d) bs)) bs
-  scanned-by_shape (suc (suc (suc (suc (suc zero))))) bs =
+  scanned_by_shape (suc (suc (suc (suc (suc zero))))) bs =
       rw
       zero-add
       (two_names free d (λ a b bs. (read_term ed (numbered arities) free n d bs >>= λ x. result (mat a b x.0, x.1))) (subterms_scanned ed free arities n 5 d)
       (λ a b bs. one_term (mat a b) (λ p. combined 5 p passing) (control_mat a b) (read_term ed (numbered arities) free n d bs)) bs)
-  scanned-by_shape (suc (suc (suc (suc (suc (suc zero)))))) bs = rw zero-add (two_terms sum (combined 6) control_sum (read_term ed (numbered arities) free n d bs) (read_term ed (numbered arities) free n d))
-  scanned-by_shape (suc (suc (suc (suc (suc (suc (suc zero))))))) bs = rw zero-add (two_terms par (combined 7) control_par (read_term ed (numbered arities) free n d bs) (read_term ed (numbered arities) free n d))
-  scanned-by_shape (suc (suc (suc (suc (suc (suc (suc (suc zero)))))))) bs = one_term res (λ p. combined 8 p passing) control_res (read_term ed (numbered arities) free n (1 + d) bs)
-  scanned-by_shape (suc (suc (suc (suc (suc (suc (suc (suc (suc zero))))))))) [] = refl
-  scanned-by_shape (suc (suc (suc (suc (suc (suc (suc (suc (suc zero))))))))) (k ∷ bs) = one_call free d k (numbered arities k) (λ m. read_count ed m bs)
-  scanned-by_shape (suc (suc (suc (suc (suc (suc (suc (suc (suc (suc t)))))))))) bs = rw (lt-leb (suc (suc (suc (suc (suc (suc (suc (suc (suc (suc t)))))))))) 9 (omega arith))
+  scanned_by_shape (suc (suc (suc (suc (suc (suc zero)))))) bs = rw zero-add (two_terms sum (combined 6) control_sum (read_term ed (numbered arities) free n d bs) (read_term ed (numbered arities) free n d))
+  scanned_by_shape (suc (suc (suc (suc (suc (suc (suc zero))))))) bs = rw zero-add (two_terms par (combined 7) control_par (read_term ed (numbered arities) free n d bs) (read_term ed (numbered arities) free n d))
+  scanned_by_shape (suc (suc (suc (suc (suc (suc (suc (suc zero)))))))) bs = one_term res (λ p. combined 8 p passing) control_res (read_term ed (numbered arities) free n (1 + d) bs)
+  scanned_by_shape (suc (suc (suc (suc (suc (suc (suc (suc (suc zero))))))))) [] = refl
+  scanned_by_shape (suc (suc (suc (suc (suc (suc (suc (suc (suc zero))))))))) (k ∷ bs) = one_call free d k (numbered arities k) (λ m. read_count ed m bs)
+  scanned_by_shape (suc (suc (suc (suc (suc (suc (suc (suc (suc (suc t)))))))))) bs = rw (lt-leb (suc (suc (suc (suc (suc (suc (suc (suc (suc (suc t)))))))))) 9 (omega arith))

@@ -19,7 +19,7 @@ use Rattle.terms_scanning.specs.declared.scan.Scan.{Scan}
 use Rattle.terms_scanning.specs.declared.scan.Scan.TheVariants.{End, Fault}
 use Rattle.terms.proofs.Answers.{bind_to, bind-refused}
 use Rattle.terms_scanning.proofs.ScanLaws.{drop_here}
-use Rattle.terms_scanning.proofs.ScanShapes.{kept, subterms_scanned, scanned-by_shape}
+use Rattle.terms_scanning.proofs.ScanShapes.{kept, subterms_scanned, scanned_by_shape}
 
 pub end_within : (low high e : ℕ) (c : Control) (r : Scan) → EndWithin low high r → r ≡ End e c → (low ≤ e) × (e ≤ high)
 unfolding EndWithin
@@ -53,7 +53,7 @@ module _ (ed : Edition) (free : ℕ) (arities : List ℕ) (d : ℕ) (s : List �
       go false e (suc m) h =
           let l = leb-false (length s) at e in
           let p : suc m - 1 ≡ m = omega arith in
-          rw (drop_here s at l, p) (scanned-by_shape ed free arities m d first_byte (drop (at + 1) s))
+          rw (drop_here s at l, p) (scanned_by_shape ed free arities m d first_byte (drop (at + 1) s))
 
   pub scan_wrong : (k : ℕ) → FrontIs ed free arities d s at (Wrong k) → ScanIs ed free arities d s at (Fault k)
   unfolding front_answer scan_answer EndWithin
@@ -135,10 +135,10 @@ module _ (ed : Edition) (free : ℕ) (arities : List ℕ) (d : ℕ) (s : List �
 
 -- A whole body or part is a term with nothing behind it.
 module _ (ed : Edition) (free : ℕ) (arities : List ℕ) (d : ℕ) (s : List ℕ) where
-  whole-by_scan : scanned_whole ed free arities d s
+  whole_by_scan : scanned_whole ed free arities d s
       ≡ (scanned ed free arities (length s) d s >>= λ x. (need 7 (eqb (length x.1) 0) >> result x.0))
   unfolding scanned_whole read_whole scanned need ◌>>◌ ◌>>=◌
-  whole-by_scan = go (read_term ed (numbered arities) free (length s) d s)
+  whole_by_scan = go (read_term ed (numbered arities) free (length s) d s)
     where
       tested : (t : Bool) (P : Term) → ((need 7 t >> result P) >>= λ P. result (control_of P)) ≡ (need 7 t >> result (control_of P))
       tested true P = refl
@@ -152,12 +152,12 @@ module _ (ed : Edition) (free : ℕ) (arities : List ℕ) (d : ℕ) (s : List �
 
   pub whole_wrong : (k : ℕ) → ScanIs ed free arities d s 0 (Fault k) → scanned_whole ed free arities d s ≡ whole_answer (Fault k)
   unfolding scan_answer whole_answer
-  whole_wrong k w = whole-by_scan ∙ bind-refused _ (w.is (length s) (omega arith))
+  whole_wrong k w = whole_by_scan ∙ bind-refused _ (w.is (length s) (omega arith))
 
   module _ (e : ℕ) (c : Control) (w : ScanIs ed free arities d s 0 (End e c)) where
     at_end : scanned_whole ed free arities d s ≡ (need 7 (eqb (length (drop e s)) 0) >> result c)
     unfolding scan_answer
-    at_end = whole-by_scan ∙ bind_to _ (w.is (length s) (omega arith))
+    at_end = whole_by_scan ∙ bind_to _ (w.is (length s) (omega arith))
 
     pub whole-more : e < length s → scanned_whole ed free arities d s ≡ whole_answer (Fault 7)
     unfolding whole_answer need ◌>>◌

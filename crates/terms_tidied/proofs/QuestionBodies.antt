@@ -16,7 +16,7 @@ use Rattle.terms.specs.WellFormed.{Every, BodiesAllowed, WellFormed}
 use Rattle.terms.proofs.FramingLaws.{Framable}
 use Rattle.terms.proofs.WellFormed.{accepted_well_formed, framable}
 use Rattle.terms_bytes.specs.FieldPlaces.{definitions_of, after_field, field_at, field_place}
-use Rattle.terms_bytes.proofs.Places.{all_fields, definitions_of_lem, field-at_place, size_of, whole, after_of, field_of_lem}
+use Rattle.terms_bytes.proofs.Places.{all_fields, definitions_of_lem, field_at_place, size_of, whole, after_of, field_of_lem}
 use Rattle.terms_bytes.proofs.QuestionPlaces.{accepted_joined}
 
 -- Body k, as it stands in the question and as it is tidied.
@@ -97,7 +97,7 @@ module _ (question : List ℕ) (q : Question) (a : check_of question ≡ result 
         let st : drop at question ≡ sized E ++ R =
         ap (λ (i : ℕ). drop i question) h
         ∙ subst (λ (s : List ℕ). drop (field_place s k) s ≡ sized (get_or (all_fields (fields_of q)) k []) ++ R) (accepted_joined question q a)
-        (field-at_place one (fields_of q) frame k l)
+        (field_at_place one (fields_of q) frame k l)
         ∙ ap (λ (l : List ℕ). sized l ++ R) body.field in
         record {
           bytes = field_of_lem question at E R s st;

@@ -203,11 +203,11 @@ old_verdict names extra few question q a m capacity n h other l =
     )
 
 -- The answer of judge, within the bounds of checks 1 and 2.
-pub old-answer : (names extra : ℕ) → names + extra < 128 → (m : Manner) (question : List ℕ) (capacity room : ℕ) (v : Verdict)
+pub old_answer : (names extra : ℕ) → names + extra < 128 → (m : Manner) (question : List ℕ) (capacity room : ℕ) (v : Verdict)
     → judge_with names m question capacity room ≡ result v → (n : ℕ) → Numbered v n → (other space : ℕ) → n ≤ other → 1 ≤ other → other ≤ greatest_capacity
     → slot_bytes * other ≤ space → judge_with (names + extra) m question other space ≡ result v
 unfolding judge_with
-old-answer names extra few m question capacity room v j n h other space l some most fits =
+old_answer names extra few m question capacity room v j n h other space l some most fits =
     let (_, e₁) = passed_within capacity (slot_bytes * capacity) room _ v j in
     let (q, a, e₂) = bind-result (question_with names question) _ v e₁ in
     let is : verdict_with names m q capacity ≡ v = result_injective {a = verdict_with names m q capacity} e₂ in

@@ -34,7 +34,7 @@ use Rattle.verdict.specs.Verdict.{Manner, Verdict, same, different, verdict_by}
 use Rattle.verdict.specs.Verdict.{Numbered as VerdictNumbered}
 use Rattle.verdict.specs.Verdict.{unsettled as unsettledVerdict}
 use Rattle.verdict.proofs.CapacityLaws.{passed_within, within_numbered}
-use Rattle.verdict.proofs.VerdictIsDefinition13.{number-at_most_capacity}
+use Rattle.verdict.proofs.VerdictIsDefinition13.{number_at_most_capacity}
 
 number_small : (m : Answer ℕ) → Numbered m → ((n : ℕ) → m ≡ result n → n ≤ longest_question) → Small (of_number m)
 unfolding of_number Small Numbered
@@ -122,4 +122,4 @@ judge_small m question capacity room = go (judge_by m question capacity room) re
         let (w, e₁) = passed_within capacity (slot_bytes * capacity) room _ v e in
         let (q, a, e₂) = bind-result (question_of question) _ v e₁ in
         subst (λ w. Small (of_verdict (result w))) (result_injective {a = verdict_by m q capacity} e₂)
-        (verdict_small (verdict_by m q capacity) capacity (number-at_most_capacity m q capacity) w.most)
+        (verdict_small (verdict_by m q capacity) capacity (number_at_most_capacity m q capacity) w.most)

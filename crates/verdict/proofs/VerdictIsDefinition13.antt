@@ -109,23 +109,23 @@ module _ (q : Question) (well : WellFormed q) (Δ : Defs) (defines : Defines q �
   unfolding verdict_by
   different_is_unrelated = formed_different result_form_lem q well Δ defines capacity
 
-  pub unsettled_iff_past-a_limit : (verdict_of q capacity ≡ unsettled) ↔ PastLimit Δ (setting_of false q.bodies) (start_of false q) capacity
+  pub unsettled_iff_past_a_limit : (verdict_of q capacity ≡ unsettled) ↔ PastLimit Δ (setting_of false q.bodies) (start_of false q) capacity
   unfolding verdict_by differs
-  unsettled_iff_past-a_limit = formed_unsettled result_form_lem openly q well Δ defines capacity
+  unsettled_iff_past_a_limit = formed_unsettled result_form_lem openly q well Δ defines capacity
 
-  pub number_is_field-size : (n : ℕ) → Numbered (verdict_of q capacity) n → FieldSize Δ (setting_of false q.bodies) (start_of false q) n
+  pub number_is_field_size : (n : ℕ) → Numbered (verdict_of q capacity) n → FieldSize Δ (setting_of false q.bodies) (start_of false q) n
   unfolding verdict_by differs
-  number_is_field-size = formed_size result_form_lem openly q well Δ defines capacity
+  number_is_field_size = formed_size result_form_lem openly q well Δ defines capacity
 
   pub verdict_means : Means openly Δ q capacity (of_verdict (result (verdict_of q capacity)))
   unfolding differs
-  verdict_means = means_by openly Δ q capacity same_is_related different_is_unrelated unsettled_iff_past-a_limit number_is_field-size
+  verdict_means = means_by openly Δ q capacity same_is_related different_is_unrelated unsettled_iff_past_a_limit number_is_field_size
 
 -- The same question under another capacity, openly, late or early: the same verdict with the same number exactly if the capacity is at least that number.
 module _ (m : Manner) (q : Question) (capacity n : ℕ) (h : Numbered (verdict_by m q capacity) n) where
-  pub number-at_most_capacity : n ≤ capacity
+  pub number_at_most_capacity : n ≤ capacity
   unfolding verdict_by
-  number-at_most_capacity = number_within (demands_of m (setting_of (differs m) q.bodies)) (setting_of (differs m) q.bodies) (start_of (differs m) q) capacity n h
+  number_at_most_capacity = number_within (demands_of m (setting_of (differs m) q.bodies)) (setting_of (differs m) q.bodies) (start_of (differs m) q) capacity n h
 
   pub enough_capacity : (other : ℕ) → n ≤ other → verdict_by m q other ≡ verdict_by m q capacity
   unfolding verdict_by

@@ -109,18 +109,18 @@ module _ (question : List ℕ) (q : Question) (accepted : question_of question �
   different_is_not_bisimilar = formed_not_bisimilar result_form_lem q well Δ defines k capacity
 
   -- late and early are unsettled together,
-  pub unsettled_iff_past-a_limit : (verdict_by (named k) q capacity ≡ unsettled) ↔ PastLimit Δ (setting_of true q.bodies) (start_of true q) capacity
+  pub unsettled_iff_past_a_limit : (verdict_by (named k) q capacity ≡ unsettled) ↔ PastLimit Δ (setting_of true q.bodies) (start_of true q) capacity
   unfolding verdict_by differs
-  unsettled_iff_past-a_limit = formed_unsettled result_form_lem (named k) q well Δ defines capacity
+  unsettled_iff_past_a_limit = formed_unsettled result_form_lem (named k) q well Δ defines capacity
 
   -- and have one n
-  pub number_is_field-size : (n : ℕ) → Numbered (verdict_by (named k) q capacity) n → FieldSize Δ (setting_of true q.bodies) (start_of true q) n
+  pub number_is_field_size : (n : ℕ) → Numbered (verdict_by (named k) q capacity) n → FieldSize Δ (setting_of true q.bodies) (start_of true q) n
   unfolding verdict_by differs
-  number_is_field-size = formed_size result_form_lem (named k) q well Δ defines capacity
+  number_is_field_size = formed_size result_form_lem (named k) q well Δ defines capacity
 
   pub verdict_means : Means (named k) Δ q capacity (of_verdict (result (verdict_by (named k) q capacity)))
   unfolding differs
-  verdict_means = means_by (named k) Δ q capacity same_is_bisimilar different_is_not_bisimilar unsettled_iff_past-a_limit number_is_field-size
+  verdict_means = means_by (named k) Δ q capacity same_is_bisimilar different_is_not_bisimilar unsettled_iff_past_a_limit number_is_field_size
 
 -- On the promises of the exported operations, as demand 2 has it.
 pub judge_is_definitions_7_to_10 : (k : Kind) (question : List ℕ) (q : Question) → question_of question ≡ result q → (Δ : Defs) → Defines q Δ → (capacity : ℕ) (work : List ℕ)
@@ -151,11 +151,11 @@ late_same_is_early_same question q a Δ d capacity n h = go (verdict_by (named e
   where
     go : (v : Verdict) → verdict_by (named early) q capacity ≡ v → verdict_by (named early) q capacity ≡ same n
     go unsettled e =
-        let p = (unsettled_iff_past-a_limit question q a Δ d late capacity).1 ((unsettled_iff_past-a_limit question q a Δ d early capacity).0 e) in
+        let p = (unsettled_iff_past_a_limit question q a Δ d late capacity).1 ((unsettled_iff_past_a_limit question q a Δ d early capacity).0 e) in
         let z : ◌≡◌ {A = ℕ} 0 1 = cc in absurd (omega arith)
     go (same m) e =
         e ∙ ap same (one_size Δ (setting_of true q.bodies) (start_of true q) m n
-        (number_is_field-size question q a Δ d early capacity m (inl e)) (number_is_field-size question q a Δ d late capacity n (inl h)))
+        (number_is_field_size question q a Δ d early capacity m (inl e)) (number_is_field_size question q a Δ d late capacity n (inl h)))
     go (different m) e =
         absurd (different_is_not_bisimilar question q a Δ d early capacity m e (late_is_early Δ (same_is_bisimilar question q a Δ d late capacity n h)))
 
@@ -168,11 +168,11 @@ open_same_never_late_different question question' q q' a a' e f Δ d d' capacity
     (subst₂ (Bisimilar Δ late) (sym e) (sym f) (related_late Δ (same_is_related q (own_well_formed question q a) Δ d capacity n h)))
 
 -- and on the promises: whatever the capacities and the work areas.
-pub judged-same_never_late_different : (question question' : List ℕ) (q q' : Question) → question_of question ≡ result q → question_of question' ≡ result q'
+pub judged_same_never_late_different : (question question' : List ℕ) (q q' : Question) → question_of question ≡ result q → question_of question' ≡ result q'
     → q'.first ≡ q.first → q'.second ≡ q.second → (Δ : Defs) → Defines q Δ → Defines q' Δ
     → (capacity capacity' : ℕ) (work work' : List ℕ) (r r' : ℕ) (after after' : List ℕ) → JudgeIs question capacity work r after
     → LateIs question' capacity' work' r' after' → (n m : ℕ) → Says r (same_of n) → ¬ Says r' (different_of m)
-judged-same_never_late_different question question' q q' a a' e f Δ d d' capacity capacity' work work' r r' after after' j j' n m s s' =
+judged_same_never_late_different question question' q q' a a' e f Δ d d' capacity capacity' work work' r r' after after' j j' n m s s' =
     open_same_never_late_different question question' q q' a a' e f Δ d d' capacity capacity' n m
     (judged-same question q a _ capacity work r after j n s) (judged_different question' q' a' _ capacity' work' r' after' j' m s')
 
@@ -183,9 +183,9 @@ late_same_never_early_different question q a Δ d capacity capacity' n m h j =
     different_is_not_bisimilar question q a Δ d early capacity' m j (late_is_early Δ (same_is_bisimilar question q a Δ d late capacity n h))
 
 -- and on the promises.
-pub late_judged-same_never_early_different : (question : List ℕ) (q : Question) → question_of question ≡ result q → (Δ : Defs) → Defines q Δ
+pub late_judged_same_never_early_different : (question : List ℕ) (q : Question) → question_of question ≡ result q → (Δ : Defs) → Defines q Δ
     → (capacity capacity' : ℕ) (work work' : List ℕ) (r r' : ℕ) (after after' : List ℕ) → LateIs question capacity work r after
     → EarlyIs question capacity' work' r' after' → (n m : ℕ) → Says r (same_of n) → ¬ Says r' (different_of m)
-late_judged-same_never_early_different question q a Δ d capacity capacity' work work' r r' after after' j j' n m s s' =
+late_judged_same_never_early_different question q a Δ d capacity capacity' work work' r r' after after' j j' n m s s' =
     late_same_never_early_different question q a Δ d capacity capacity' n m
     (judged-same question q a _ capacity work r after j n s) (judged_different question q a _ capacity' work' r' after' j' m s')

@@ -19,16 +19,16 @@ length-marks_from work i (suc n) = ap suc (length-marks_from work (suc i) n)
 pub length-marks : (work : List ℕ) (n : ℕ) → length (marks work n) ≡ n
 length-marks work n = length-marks_from work 0 n
 
-marks_from-at : (work : List ℕ) (i n k d : ℕ) → k < n → get_or (marks_from work i n) k d ≡ get_or work (struck_at (i + k)) 0
+marks_from_at : (work : List ℕ) (i n k d : ℕ) → k < n → get_or (marks_from work i n) k d ≡ get_or work (struck_at (i + k)) 0
 unfolding marks_from
-marks_from-at work i zero k d h = absurd (omega arith)
-marks_from-at work i (suc n) zero d h = let e : i ≡ i + 0 = omega arith in ap (λ j. get_or work (struck_at j) 0) e
-marks_from-at work i (suc n) (suc k) d h =
+marks_from_at work i zero k d h = absurd (omega arith)
+marks_from_at work i (suc n) zero d h = let e : i ≡ i + 0 = omega arith in ap (λ j. get_or work (struck_at j) 0) e
+marks_from_at work i (suc n) (suc k) d h =
     let e : suc i + k ≡ i + suc k = omega arith in
-    marks_from-at work (suc i) n k d (omega arith) ∙ ap (λ j. get_or work (struck_at j) 0) e
+    marks_from_at work (suc i) n k d (omega arith) ∙ ap (λ j. get_or work (struck_at j) 0) e
 
 pub marks-at : (work : List ℕ) (n k d : ℕ) → k < n → get_or (marks work n) k d ≡ get_or work (struck_at k) 0
-marks-at work n k d h = let e : 0 + k ≡ k = omega arith in marks_from-at work 0 n k d h ∙ ap (λ j. get_or work (struck_at j) 0) e
+marks-at work n k d h = let e : 0 + k ≡ k = omega arith in marks_from_at work 0 n k d h ∙ ap (λ j. get_or work (struck_at j) 0) e
 
 pub marks-kept : (work work' : List ℕ) (n : ℕ) → ((i : ℕ) → get_or work' (struck_at i) 0 ≡ get_or work (struck_at i) 0) → marks work' n ≡ marks work n
 marks-kept work work' n so =

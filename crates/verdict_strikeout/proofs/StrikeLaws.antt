@@ -434,9 +434,9 @@ module _ (manner : Manner) (question : List ℕ) (capacity : ℕ) (work : List �
       (slot_key work i (get_or f.field.known i d) (st.held i d (omega arith)) ∙ ap key_of same
       ∙ sym (slot_key work j (get_or f.field.known j d) (st.held j d (omega arith))))
 
-  struck_at-first : StrikesTo demands rs (left_of work (selves rs))
+  struck_at_first : StrikesTo demands rs (left_of work (selves rs))
   unfolding StruckFirst
-  struck_at-first =
+  struck_at_first =
       let n : length (selves rs) ≡ length rs = length-map rs (λ (r : Row). r.self) in
       let fs : List ℕ = marks work (length (selves rs)) in
       let flag : (i : ℕ) → i < length rs → get_or fs i 0 ≡ get_or work (struck_at i) 0 = λ i h. marks-at work (length (selves rs)) i 0 (omega arith) in
@@ -449,7 +449,7 @@ module _ (manner : Manner) (question : List ℕ) (capacity : ℕ) (work : List �
   pub strikes_to : {v : List ℕ} → Strikes manner question capacity (length rs) work v → StrikesTo demands rs (left_of v f.field.known)
   unfolding still still_with field-kept SurvivesIs demands_of
   strikes_to none_struck =
-      subst (λ k. StrikesTo demands rs (left_of work k)) (sym those) struck_at-first
+      subst (λ k. StrikesTo demands rs (left_of work k)) (sym those) struck_at_first
   strikes_to (one_struck {v} t i h z d) =
       order.one_struck (strikes_to t) r (get_d_∈ rs i blank h) unanswered either within
     where

@@ -1,7 +1,7 @@
 -- `field_growth::growth::grow_answer` meets its contract. Assumes nothing.
 use native.Mathlib.Omega.{arith}
 use borrow.Author.Tests.{not_true, not-false}
-use Rattle.field_growth.proofs.GrowingLaws.{no_answer-left, answer-left, answer_mirrored, answer_looked}
+use Rattle.field_growth.proofs.GrowingLaws.{no_answer_left, answer-left, answer_mirrored, answer_looked}
 use borrow.Author.Rules.{rules}
 use Rattle.field_growth.proofs.growth.grow_answer.Statement.{statement}
 use Rattle.field_growth.proofs.growth.grow_answer.Tie as tie
@@ -15,7 +15,7 @@ answers-requires c κs = search rules
 returns : tie.Need-returns
 returns c =
     let c1 = c.before in
-    no_answer-left _ _ _ _ _ _ _ _ _ _ _ _ (omega arith) (rw (not_true c1.answers.result c.if1.true) at c1.answers.ensures)
+    no_answer_left _ _ _ _ _ _ _ _ _ _ _ _ (omega arith) (rw (not_true c1.answers.result c.if1.true) at c1.answers.ensures)
 
 same-header-requires : tie.Need-same-header-requires
 same-header-requires c κs = search rules

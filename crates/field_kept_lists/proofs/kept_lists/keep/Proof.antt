@@ -1,6 +1,6 @@
 -- `field_kept_lists::kept_lists::keep` meets its contract. Assumes nothing.
 use native.Mathlib.Omega.{arith}
-use Rattle.field_kept_lists.proofs.KeptListLaws.{kept-at_place}
+use Rattle.field_kept_lists.proofs.KeptListLaws.{kept_at_place}
 use borrow.Author.Rules.{rules}
 use Rattle.field_kept_lists.proofs.kept_lists.keep.Statement.{statement}
 use Rattle.field_kept_lists.proofs.kept_lists.keep.Tie as tie
@@ -43,7 +43,7 @@ returns-2 c =
     let c6 = c2.before.before.before.before in
     let c8 = c6.before.before in
     let c11 = c8.before.before.before in
-    kept-at_place _ _ _ _ _ _ _ c11.requires.0 c11.requires.1 c8.if1.false c6.copy_within.ensures c2.put-label.ensures (omega (
+    kept_at_place _ _ _ _ _ _ _ c11.requires.0 c11.requires.1 c8.if1.false c6.copy_within.ensures c2.put-label.ensures (omega (
       arith,
       c2.put-label.auto,
       c6.copy_within.auto,

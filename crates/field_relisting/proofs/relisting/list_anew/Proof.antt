@@ -6,7 +6,7 @@ use Prim.Native.Nat.{◌≤◌}
 use lib.ListN.{length, drop}
 use lib.Seq.{length-take-le, length_front}
 use Rattle.field_kept_lists.specs.ListArea.{label_place, list_area}
-use Rattle.field_kept_lists.proofs.ListAreaLaws.{side_unlabelled, listed-at_hand, side_is}
+use Rattle.field_kept_lists.proofs.ListAreaLaws.{side_unlabelled, listed_at_hand, side_is}
 use borrow.Author.Rules.{rules}
 use Rattle.field_relisting.proofs.relisting.list_anew.Statement.{statement}
 use Rattle.field_relisting.proofs.relisting.list_anew.Tie as tie
@@ -122,7 +122,7 @@ returns-2 c =
     let c9 = c6.before.before.before in
     let c17 = c9.before.before.before.before.before.before.before.before in
     let c27 = c17.before.before.before.before.before.before.before.before.before.before in
-    let made = listed-at_hand _ _ _ _ _ _ c17.list-tallied.ensures c17.list-tallied.auto.1.1.1.1.1.1.0 c27.requires.6 _
+    let made = listed_at_hand _ _ _ _ _ _ c17.list-tallied.ensures c17.list-tallied.auto.1.1.1.1.1.1.0 c27.requires.6 _
     c9.answer.given.1 _ c6.put-label.ensures (omega (arith, room-kept (c17), c6.put-label.auto)) in
     side_is _ _ _ _ _ c27.requires.4 (c.before.before.keep.ensures _ made.1 made.0)
 

@@ -1,7 +1,7 @@
 -- `field_taking_up::taking::list_sides` meets its contract. Assumes nothing.
 use native.Mathlib.Omega.{arith}
 use Rattle.field_kept_lists.proofs.ListAreaLaws.{side_list}
-use Rattle.field_taking_up.proofs.TakingLaws.{sides_first-past, sides_second-past, sides_names-past, sides_listed}
+use Rattle.field_taking_up.proofs.TakingLaws.{sides_first_past, sides_second_past, sides_names_past, sides_listed}
 use borrow.Author.Rules.{rules}
 use Rattle.field_taking_up.proofs.taking.list_sides.Statement.{statement}
 use Rattle.field_taking_up.proofs.taking.list_sides.Tie as tie
@@ -30,7 +30,7 @@ returns : tie.Need-returns
 returns c =
     let c8 = c.before.before.before.before.before.before.before.before in
     let c21 = c8.before.before.before.before.before.before.before.before.before.before.before.before.before in
-    (sides_first-past _ _ _ _ _ _ _ c8.list-side.ensures.0 c.enum_told.given.1, c8.list-side.ensures.1, c21.requires.5)
+    (sides_first_past _ _ _ _ _ _ _ c8.list-side.ensures.0 c.enum_told.given.1, c8.list-side.ensures.1, c21.requires.5)
 
 enum-known-n : tie.Need-enum-known-n
 enum-known-n c = search rules
@@ -71,7 +71,7 @@ returns-2 : tie.Need-returns-2
 returns-2 c =
     let c8 = c.before.before.before.before.before.before.before.before in
     let c22 = c8.before.before.before.before.before.before.before.before.before.before.before.before.before.before in
-    (sides_second-past _ _ _ _ _ _ _ c8.list-second.ensures.0 c.enum-told2.given.1, c22.list-side.ensures.1, c8.list-second.ensures.1)
+    (sides_second_past _ _ _ _ _ _ _ c8.list-second.ensures.0 c.enum-told2.given.1, c22.list-side.ensures.1, c8.list-second.ensures.1)
 
 enum-known-m : tie.Need-enum-known-m
 enum-known-m c = search rules
@@ -104,7 +104,7 @@ returns-3 c =
     let c13 = c5.before.before.before.before.before.before.before.before in
     let c19 = c13.before.before.before.before.before.before in
     let c27 = c19.before.before.before.before.before.before.before.before in (
-      sides_names-past _ _ _ _ _ _ c27.list-side.ensures.1.room c13.list-second.ensures.1.room _ _ (side_list _ _ _ _ _
+      sides_names_past _ _ _ _ _ _ c27.list-side.ensures.1.room c13.list-second.ensures.1.room _ _ (side_list _ _ _ _ _
           c27.list-side.ensures.0 _ c19.n.given.1).0 (side_list _ _ _ _ _ c13.list-second.ensures.0 _ c5.m.given.1).0 _
           c.before.past-names.ensures c.if1.true,
       c27.list-side.ensures.1,

@@ -8,7 +8,7 @@ use Rattle.terms.specs.Question.{check_of}
 use Rattle.terms.proofs.RefusalNumbers.{accepted_length_in}
 use Rattle.terms_bytes.specs.Writing.{Plain}
 use Rattle.steps_lister.proofs.TidiedBodies.{tidied-fits, bodies_are_tidied}
-use Rattle.steps_lister.proofs.TidiedListing.{list_under-tidied}
+use Rattle.steps_lister.proofs.TidiedListing.{list_under_tidied}
 use Rattle.steps_lister.proofs.list.list_part.Statement.{statement}
 use Rattle.steps_lister.proofs.list.list_part.Tie as tie
 use Rattle.steps_lister.proofs.list.list_part.Reads as reads
@@ -79,7 +79,7 @@ same-length-2 c = search rules
 returns-2 : tie.Need-returns-2
 returns-2 c =
     let c6 = c.before.before.before.before.before.before in
-    list_under-tidied _ _ _ _ c6.tidy-bodies.ensures _ _ _ _ c.before.before.list-under2.ensures
+    list_under_tidied _ _ _ _ c6.tidy-bodies.ensures _ _ _ _ c.before.before.list-under2.ensures
 
 pub list-part-spec : {M : Type 1} → statement M
 list-part-spec =

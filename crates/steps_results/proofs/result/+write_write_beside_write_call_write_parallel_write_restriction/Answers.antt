@@ -9,7 +9,7 @@ use borrow.Author.Tests.{leb-true, leb-false, not-true, not-false}
 use Rattle.terms_bytes.specs.NameTable.{table_names}
 use Rattle.steps_tallies.specs.Tally.{TallyIs}
 use Rattle.steps_plans.specs.declared.plan.Task.{Task}
-use Rattle.steps_plans.proofs.ResultLaws.{ends_tallied, opening_short, write-none, write-still, write-mat, write-branch, write_open, write-res, write-res_stop, write_closed, write-opened, write-par_stop, write-left_stop, write-par}
+use Rattle.steps_plans.proofs.ResultLaws.{ends_tallied, opening_short, write-none, write-still, write-mat, write-branch, write_open, write-res, write_res_stop, write_closed, write-opened, write_par_stop, write_left_stop, write-par}
 use Rattle.steps_conditions.proofs.NameSlots.{kept-all, kept_within, kept_then}
 use Rattle.steps_results.proofs.result.+write_write_beside_write_call_write_parallel_write_restriction.Goals as goal
 
@@ -310,7 +310,7 @@ pub write_parallel-returns-then-out-e : goal.write_parallel-returns-then-out-e
 write_parallel-returns-then-out-e t c =
     let a = c.args in
     let s = c.open_pair-e.auto.out in (
-      write-par_stop a.question.now a.src.now a.cursor.at a.cursor.binders a.names.now a.task c.requires.2 a.out.now
+      write_par_stop a.question.now a.src.now a.cursor.at a.cursor.binders a.names.now a.task c.requires.2 a.out.now
           a.cursor.put c.requires.1 c.plan_of-plan.result c.plan_of-plan.ensures c.open_pair-e.result _ c.open_pair-e.ensures (omega (
             arith,
             s,
@@ -343,7 +343,7 @@ write_parallel-returns-then-out-m t c =
     let a = c.args in
     let s = c.open_pair-e.auto.out in
     let u = c.write-m.auto.out in (
-      write-left_stop a.question.now a.src.now a.cursor.at a.cursor.binders a.names.now a.task c.requires.2 a.out.now
+      write_left_stop a.question.now a.src.now a.cursor.at a.cursor.binders a.names.now a.task c.requires.2 a.out.now
           a.cursor.put c.requires.1 c.plan_of-plan.result c.plan_of-plan.ensures c.open_pair-e.result _ c.open_pair-e.ensures (omega (
             arith,
             s,
@@ -450,7 +450,7 @@ pub write_restriction-returns-then-out-e : goal.write_restriction-returns-then-o
 write_restriction-returns-then-out-e t c =
     let a = c.args in
     let s = c.store-e.auto.out in (
-      write-res_stop a.question.now a.src.now a.cursor.at a.cursor.binders a.names.now a.task c.requires.2 a.out.now
+      write_res_stop a.question.now a.src.now a.cursor.at a.cursor.binders a.names.now a.task c.requires.2 a.out.now
           a.cursor.put c.requires.1 c.extruded.ensures.passed c.extruded.ensures.does (sym c.extruded.ensures.is ∙ c.if-extruded.false)
           c.store-e.result _ c.store-e.ensures (omega (arith, s, c.if-out-e.true)),
       kept-all a.cursor.binders a.names.now,

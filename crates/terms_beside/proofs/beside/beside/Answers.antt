@@ -2,7 +2,7 @@ use mathlib.Core.Path.{ap, ◌∙◌}
 use lib.ListN.{length}
 use Rattle.terms_checks.specs.Checking.{checked_answer}
 use Rattle.terms_converting.proofs.FittingLaws.{does_refused}
-use Rattle.terms_converting.proofs.TurnedBack.{check_accepted, beside-turned_back}
+use Rattle.terms_converting.proofs.TurnedBack.{check_accepted, beside_turned_back}
 use Rattle.terms_beside.proofs.beside.beside.Goals as goal
 
 pub beside_accepted-requires : goal.beside_accepted-requires
@@ -14,7 +14,7 @@ pub returns-in-Refused : goal.returns-in-Refused
 unfolding checked_answer
 returns-in-Refused c =
     let a = c.args in
-    does_refused _ _ _ (beside-turned_back a.question.now a.third.now (length a.area.now) _ (c.check-checked.ensures ∙ ap checked_answer
+    does_refused _ _ _ (beside_turned_back a.question.now a.third.now (length a.area.now) _ (c.check-checked.ensures ∙ ap checked_answer
     c.in-Refused.is))
 
 pub returns-in-Accepted : goal.returns-in-Accepted
