@@ -1,6 +1,6 @@
 use native.Mathlib.Omega.{arith}
 use Rattle.field_pairs.specs.Entry.{channel_byte, object_byte}
-use Prim.Native.Nat.{◌+◌, ◌-◌}
+use Prim.Native.Nat.{◌+◌}
 use Rattle.field_pairs.proofs.EntryLaws.{answers_short, answers_other_short, answers_kind, answers_channel, answers_object, answers_implied}
 use Rattle.field_pairs.proofs.entries.answers.Goals as goal
 

@@ -1,5 +1,4 @@
 use mathlib.Core.Path.{sym, ◌∙◌}
-use Prim.Native.Nat.{◌-◌}
 use Rattle.field_pairs.proofs.EntryLaws.{binds_input, binds_other}
 use Rattle.field_pairs.proofs.entries.binds.Goals as goal
 

@@ -1,7 +1,6 @@
 use native.Mathlib.Omega.{arith}
 use borrow.Author.Rules.{rules}
 use mathlib.Core.Path.{refl, sym, ◌∙◌}
-use Prim.Native.Nat.{◌-◌}
 use Rattle.field_pairs.proofs.NameFlagLaws.{sought_next, sought-found, sought-none}
 use Rattle.field_pairs.proofs.names.new_name.Goals as goal
 

@@ -1,5 +1,4 @@
 use mathlib.Core.Path.{refl}
-use Prim.Native.Nat.{◌-◌}
 use native.Mathlib.Omega.{arith}
 use Rattle.terms_renaming.proofs.Filling.{fill_start, fill_step}
 use borrow.Author.Rules.{rules}

@@ -1,5 +1,4 @@
 use native.Mathlib.Omega.{arith}
-use Prim.Native.Nat.{◌-◌}
 use Rattle.field_pairs.proofs.PairLaws.{adds_nothing, adds_number}
 use borrow.Author.Rules.{rules}
 use Rattle.field_pairs.proofs.pairs.mark_ordered.Goals as goal

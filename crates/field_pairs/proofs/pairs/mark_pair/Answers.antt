@@ -1,4 +1,3 @@
-use Prim.Native.Nat.{◌-◌}
 use Rattle.field_pairs.proofs.PairLaws.{adds_swapped}
 use Rattle.field_pairs.proofs.pairs.mark_pair.Goals as goal
 

@@ -1,7 +1,4 @@
 use native.Mathlib.Omega.{arith}
-use borrow.Author.Tests.{not-false}
-use mathlib.Core.Logic.{inl, inr}
-use Prim.Native.Nat.{◌-◌}
 use Rattle.field_pairs.proofs.PairLaws.{spared_respected, spared_held, merged_held, spared_all}
 use borrow.Author.Rules.{rules}
 use Rattle.field_pairs.proofs.pairs.merges_apart.Goals as goal

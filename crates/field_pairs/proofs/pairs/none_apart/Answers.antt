@@ -1,7 +1,5 @@
 use native.Mathlib.Omega.{arith}
 use borrow.Author.Rules.{rules}
-use mathlib.Core.Logic.{⊎_elim}
-use Prim.Native.Nat.{◌-◌}
 use Rattle.field_pairs.proofs.Counting.{passing-start, passing_failed, passing_next}
 use Rattle.field_pairs.proofs.PairLaws.{none_apart_is, may_be_apart}
 use Rattle.field_pairs.proofs.pairs.none_apart.Goals as goal

@@ -1,5 +1,4 @@
 use native.Mathlib.Omega.{arith}
-use Prim.Native.Nat.{◌-◌}
 use Rattle.terms.specs.Limits.{name_count}
 use Rattle.steps.specs.Listed.{names_from}
 use Rattle.field_pairs.specs.PairNumbers.{row_start}

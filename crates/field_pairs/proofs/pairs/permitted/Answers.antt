@@ -1,6 +1,4 @@
 use native.Mathlib.Omega.{arith}
-use mathlib.Core.Logic.{inl, inr}
-use Prim.Native.Nat.{◌-◌}
 use Rattle.field_pairs.proofs.PairLaws.{respected_own, respected_next, merged-found, permitted_trivial, permitted-none, none-merged}
 use borrow.Author.Rules.{rules}
 use Rattle.field_pairs.proofs.pairs.permitted.Goals as goal
