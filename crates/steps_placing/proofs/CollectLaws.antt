@@ -165,6 +165,7 @@ module _ (cs : List Candidate) (x : ℕ) (area₀ : List ℕ) (count₀ : ℕ) w
       subst (Stands area n) e (p found s)
     where
       only : Again 0 (get_or cs i blocked) (take i cs) → (c : Candidate) → c ∈ (get_or cs i blocked ∷ []) → Again 0 c (take i cs)
+      only m c (inr x'') = elim x'' [ ]
       only m c (inl e) = subst (λ d. Again 0 d (take i cs)) (sym e) m
 
   pub progress_done : (i n : ℕ) (area : List ℕ) → length cs ≤ i → n ≤ most_steps → Progresses i n area → CollectIs cs x area₀ count₀ n area

@@ -1,7 +1,7 @@
 -- Candidates whose matches are decided where they stand: the rules keep them, and they are listed as the candidates themselves are.
 -- Assumes nothing.
 use borrow.Author.Tests.{eqb-true, eqb-false, eq-eqb, ne_eqb, ltb-true, ltb-false, lt-ltb, le-ltb}
-use mathlib.Core.Bool.{Bool, true, false, cond, not, ◌&&◌, ◌||◌, or_true, or_assoc}
+use mathlib.Core.Bool.{Bool, true, false, cond, not, ◌&&◌, ◌||◌, or-true, or_assoc}
 use mathlib.Core.List.{List, [], ◌∷◌, ◌++◌, map}
 use mathlib.Core.Logic.{◌⊎◌, inl, inr, ⊎_elim}
 use mathlib.Core.Path.{◌≡◌, refl, sym, ◌∙◌, ap, ap₂}
@@ -138,7 +138,7 @@ unfolding failing
 failing_zero d b =
     let z = lt-ltb 0 (1 + d) (omega arith) in (
       (λ i. not (ne_eqb 0 (suc b) (λ e. omega arith) i) && (z i || ltb (suc b) (1 + d))),
-      (λ i. not (ne_eqb (suc b) 0 (λ e. omega arith) i) && (ltb (suc b) (1 + d) || z i)) ∙ or_true (ltb (suc b) (1 + d)),
+      (λ i. not (ne_eqb (suc b) 0 (λ e. omega arith) i) && (ltb (suc b) (1 + d) || z i)) ∙ or-true (ltb (suc b) (1 + d)),
     )
 
 -- A condition that leaves the restricted name alone fails outside if it does here; another one fails.
@@ -154,11 +154,11 @@ module _ (d : ℕ) where
   unspared : (M : Cond) → restricted_alone M ≡ false → fails (1 + d) M ≡ true
   unfolding restricted_alone leaves_alone fails
   unspared [] e = let z : ◌≡◌ {A = ℕ} 0 1 = cc in absurd (omega arith)
-  unspared ((zero, zero) ∷ M) e = ap (λ (f : Bool). failing (1 + d) 0 0 || f) (unspared M e) ∙ or_true (failing (1 + d) 0 0)
+  unspared ((zero, zero) ∷ M) e = ap (λ (f : Bool). failing (1 + d) 0 0 || f) (unspared M e) ∙ or-true (failing (1 + d) 0 0)
   unspared ((zero, suc b) ∷ M) e = ap (λ (f : Bool). f || fails (1 + d) M) (failing_zero d b).0
   unspared ((suc a, zero) ∷ M) e = ap (λ (f : Bool). f || fails (1 + d) M) (failing_zero d a).1
   unspared ((suc a, suc b) ∷ M) e =
-      ap (λ (f : Bool). failing (1 + d) (suc a) (suc b) || f) (unspared M e) ∙ or_true (failing (1 + d) (suc a) (suc b))
+      ap (λ (f : Bool). failing (1 + d) (suc a) (suc b) || f) (unspared M e) ∙ or-true (failing (1 + d) (suc a) (suc b))
 
   alone_not_failing : (M : Cond) → fails (1 + d) M ≡ false → restricted_alone M ≡ true
   alone_not_failing M f = go (restricted_alone M) refl
@@ -171,7 +171,7 @@ module _ (d : ℕ) where
 pub decided-matching : (d a b : ℕ) (c : Candidate) → decided d (matching a b c) ≡ decided d (matching a b (decided d c))
 unfolding decided fails matching
 decided-matching d a b (step M α A) = by-fails d (λ (c : Candidate). decided d (matching a b (step M α A)) ≡ decided d (matching a b c)) M α A
-    (λ f. decided-fails d ((a, b) ∷ M) (ap (λ (f : Bool). failing d a b || f) f ∙ or_true (failing d a b)) α A)
+    (λ f. decided-fails d ((a, b) ∷ M) (ap (λ (f : Bool). failing d a b || f) f ∙ or-true (failing d a b)) α A)
     (λ f. decided-~ d ((a, b) ∷ M) ((a, b) ∷ canonical M) (cons-▷ M (canonical M) (canonical-~ M).1, cons-▷ (canonical M) M (canonical-~ M).0) α A)
   where
     cons-▷ : (M N : Cond) → M ▷ N → ((a, b) ∷ M) ▷ ((a, b) ∷ N)
@@ -276,7 +276,7 @@ decided-communication d (step M α A) (step N β B) =
   where
     blocks : fails d (M ++ N) ≡ true → decided d (meet M α A N β B) ≡ blocked
     blocks f = meet_cases (λ (F : Cond → Cond → Candidate). decided d (F M N) ≡ blocked) refl
-        (λ a b C. decided-fails d ((a, b) ∷ (M ++ N)) (ap (λ (f : Bool). failing d a b || f) f ∙ or_true (failing d a b)) tau_a C) α A β B
+        (λ a b C. decided-fails d ((a, b) ∷ (M ++ N)) (ap (λ (f : Bool). failing d a b || f) f ∙ or-true (failing d a b)) tau_a C) α A β B
 
     same : decided d (meet M α A N β B) ≡ decided d (meet (canonical M) α A (canonical N) β B)
     same =
@@ -416,5 +416,5 @@ decided-failing d a b n h (step M α A) =
   where
     one : (a < d) ⊎ (b < d) → (ltb a d || ltb b d) ≡ true
     one (inl h) = ap (λ (t : Bool). t || ltb b d) (lt-ltb a d h)
-    one (inr h) = ap (λ (t : Bool). ltb a d || t) (lt-ltb b d h) ∙ or_true (ltb a d)
+    one (inr h) = ap (λ (t : Bool). ltb a d || t) (lt-ltb b d h) ∙ or-true (ltb a d)
 decided-failing d a b n h blocked = refl

@@ -24,7 +24,7 @@ use Rattle.terms_tidying.specs.Tidying.{longest_raw}
 use Rattle.terms_restrictions.proofs.Mentions.{unmentioned, narrowed}
 use Rattle.steps.specs.Forms.{result_form}
 use Rattle.steps.specs.Limits.{most_steps}
-use Rattle.steps.specs.Listed.{kind_of, channel_of, object_of, listed_as, canon_step, result_bytes}
+use Rattle.steps.specs.Listed.{kind_of, channel_of, object_of, canon_step, result_bytes}
 use Rattle.steps.specs.Raw.{step, blocked, visible, silent}
 use Rattle.steps_tallies.specs.Candidates.{candidates}
 use Rattle.steps_tallies.specs.Tally.{BodiesTidied}

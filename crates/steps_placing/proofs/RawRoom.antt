@@ -64,6 +64,8 @@ module _ (arities : List ℕ) (parameters : Every (λ a. a ≤ greatest_arity) a
 body-allowed : (arities sizes : List ℕ) (bodies : List Term) → BodiesAllowed arities sizes bodies → (k : ℕ)
     → (a : ℕ) × InScope 0 arities a (body_of bodies k) × (size (body_of bodies k) ≤ longest_term)
 unfolding BodiesAllowed body_of InScope encode
+body-allowed arities [] (P ∷ Ps) w k = elim w [ ]
+body-allowed arities (a ∷ sizes) [] w k = elim w [ ]
 body-allowed arities [] [] w k = (0, tt, omega arith)
 body-allowed arities (a ∷ sizes) (P ∷ Ps) w zero = (a, w.0.scope, (let h = w.0.size in omega (arith, size-at a P)))
 body-allowed arities (a ∷ sizes) (P ∷ Ps) w (suc k) = body-allowed arities sizes Ps w.1 k

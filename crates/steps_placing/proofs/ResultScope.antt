@@ -25,6 +25,7 @@ use Rattle.steps.proofs.Scope.{scope_calls, in_scope, calls_residual}
 use Rattle.steps.proofs.RawSound.{Sound, silent_sound}
 
 pub all-at : (S : Candidate → Type 0) (cs : List Candidate) → All S cs → (i : ℕ) → i < length cs → S (get_or cs i blocked)
+all-at S [] a i h = elim h [ ]
 all-at S (c ∷ cs) a zero h = a.0
 all-at S (c ∷ cs) a (suc i) h = all-at S cs a.1 i (omega arith)
 

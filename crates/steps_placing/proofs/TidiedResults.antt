@@ -5,17 +5,15 @@ use mathlib.Core.Path.{◌≡◌, refl, sym, ◌∙◌, subst}
 use native.Mathlib.Omega.{arith}
 use Prim.Native.Nat.{ℕ, suc, ◌≤◌}
 use lib.ListN.{length, get_or, drop}
-use lib.Seq.{sets}
 use Rattle.calculus.specs.Abstraction.{Act, tau_a, inp_a, out_a, bout_a}
 use Rattle.calculus.specs.Cond.{Cond, cls}
 use Rattle.calculus.specs.Definitions.{Defs}
 use Rattle.calculus.specs.Term.{Term, ren}
 use Rattle.calculus.proofs.Conditions.{cls_le}
 use Rattle.calculus.proofs.Working.{Trans}
-use Rattle.terms.specs.Answer.{result}
 use Rattle.terms.specs.Encoding.{encode, InScope}
 use Rattle.terms.specs.Limits.{name_count}
-use Rattle.terms.specs.Question.{Question, check_of, body_of}
+use Rattle.terms.specs.Question.{Question, body_of}
 use Rattle.terms.proofs.RenamingKeeps.{length-ren}
 use Rattle.terms.proofs.WellFormed.{accepted_well_formed}
 use Rattle.terms_bytes.specs.Shape.{height}
@@ -26,7 +24,7 @@ use Rattle.terms_tidying.specs.declared.tidy.Ends.{Ends}
 use Rattle.steps.specs.Forms.{as_it_is}
 use Rattle.calculus.specs.Lists.{All}
 use Rattle.steps.specs.Listed.{listed_as, canon_step}
-use Rattle.steps.specs.Raw.{Candidate, step, blocked, visible, silent}
+use Rattle.steps.specs.Raw.{Candidate, step, blocked}
 use Rattle.steps.proofs.Calls.{Opens}
 use Rattle.steps.proofs.FormLaws.{as_it_is_lem}
 use Rattle.steps.proofs.ListingLaws.{well_listed}
@@ -35,7 +33,7 @@ use Rattle.steps.proofs.RawSound.{Sound, visible_sound, silent_sound}
 use Rattle.steps.proofs.Scope.{scope_calls}
 use Rattle.steps_tallies.specs.Bodies.{AritiesIs}
 use Rattle.steps_tallies.specs.Candidates.{candidates}
-use Rattle.steps_plans.specs.Plans.{receiving, Writes}
+use Rattle.steps_plans.specs.Plans.{receiving}
 use Rattle.steps_splicing.specs.ListedParts.{Lists}
 use Rattle.steps_placing.specs.Taking.{candidates_of, ResultIs}
 use Rattle.steps_placing.proofs.ResultScope.{all-at, within}

@@ -1,4 +1,3 @@
-use mathlib.Core.Logic.{⊎_elim}
 use lib.ListN.{replicate}
 use mathlib.Core.Bool.{◌||◌}
 use mathlib.Core.Path.{refl, sym, ◌∙◌}
@@ -16,8 +15,10 @@ put_silent-requires c = (
   search rules,
   search rules,
   search rules,
-  ⊎_elim (λ w t. (w.2.ensures w.3.left).0) (λ w t. opposed (sym t ∙ w.left))
-      c.if-restricted.branch,
+  elim c.if-restricted.branch [
+    | goal.then-restricted+else-falls_short w ↦ λ t. (w.falls_short.ensures w.if-falls_short.false).0
+    | goal.else-restricted w ↦ λ t. opposed (sym t ∙ w.if-restricted.false)
+  ],
 )
 
 pub returns-then-restricted-met : goal.returns-then-restricted-met
@@ -27,8 +28,10 @@ returns-then-restricted-met c =
     let restricted = c.is_restricted.result in
     met-put a.question.now a.part.now a.met a.class.now a.area.now a.count c.put_silent.result _ (closes || restricted) (λ
     f. let (g, h) = neither closes restricted f in (g, c.requires.0.1.3.plain (c.is_restricted.ensures h))) (replicate longest_term 0) refl _
-    c.write_met-n.result c.write_met-n.ensures (⊎_elim (λ w t. let (l, n) = w.2.ensures w.3.left in (l, n t)) (λ w t. opposed (sym t ∙
-    (neither closes restricted w.left).0)) c.if-restricted.branch) c.put_silent.ensures
+    c.write_met-n.result c.write_met-n.ensures (elim c.if-restricted.branch [
+      | goal.then-restricted+else-falls_short w ↦ λ t. let (l, n) = w.falls_short.ensures w.if-falls_short.false in (l, n t)
+      | goal.else-restricted w ↦ λ t. opposed (sym t ∙ (neither closes restricted w.if-restricted.false).0)
+    ]) c.put_silent.ensures
 
 pub returns : goal.returns
 returns c =
