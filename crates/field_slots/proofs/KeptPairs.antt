@@ -3,7 +3,7 @@ use mathlib.Core.Path.{◌≡◌, refl, sym, ap, ap₂, ◌∙◌}
 use mathlib.Core.Bool.{Bool, true, false, cond, ◌&&◌}
 use mathlib.Core.List.{List, [], ◌∷◌, ◌++◌, map}
 use mathlib.Core.Logic.{inl, inr}
-use Prim.Native.Nat.{ℕ, zero, suc, ◌+◌, ◌-◌, ◌<◌}
+use Prim.Native.Nat.{ℕ, zero, suc, ◌+◌, ◌<◌}
 use native.Mathlib.Decide.{dec_lt}
 use native.Mathlib.Omega.{arith}
 use lib.ListN.{length, get_or, drop}
@@ -118,6 +118,7 @@ none_kept P Q E h =
 -- The pairs of names that a distinction holds apart.
 kept_apart : (E L : Pairs) (a b : ℕ) → Apart (keep (holds_apart E) L) a b → Apart E a b
 unfolding keep
+kept_apart E [] a b d = elim d [ ]
 kept_apart E (p ∷ L) a b d = go (holds_apart E p.0 p.1) refl d (λ h. kept_apart E L a b h)
   where
     go : (t : Bool) → holds_apart E p.0 p.1 ≡ t → Apart (cond t (p ∷ keep (holds_apart E) L) (keep (holds_apart E) L)) a b
@@ -142,6 +143,7 @@ apart_kept f (r ∷ L) (suc n) p h q e = go (f r.0 r.1) (apart_kept f L n p (ome
 kept-passed : (f : ℕ → ℕ → Bool) (L : Pairs) → ((k : ℕ) → k < length L → (get_or L k (0, 0)).0 < (get_or L k (0, 0)).1) → (a b : ℕ) → a < b
     → Apart (keep f L) a b → f a b ≡ true
 unfolding keep
+kept-passed f [] o a b l d = elim d [ ]
 kept-passed f (p ∷ L) o a b l d = go (f p.0 p.1) refl d (λ h. kept-passed f L (λ k m. o (suc k) (omega arith)) a b l h)
   where
     go : (t : Bool) → f p.0 p.1 ≡ t → Apart (cond t (p ∷ keep f L) (keep f L)) a b → (Apart (keep f L) a b → f a b ≡ true) → f a b ≡ true

@@ -1,7 +1,7 @@
 -- The bytes of a situation: its parts, its flags in octets, and which slot has them. Assumes nothing.
 use mathlib.Core.Path.{◌≡◌, refl, sym, ap, ◌∙◌}
 use mathlib.Core.Bool.{Bool, true, false}
-use mathlib.Core.List.{List, [], ◌∷◌, ◌++◌, map, append_assoc}
+use mathlib.Core.List.{List, [], ◌∷◌, ◌++◌, append_assoc}
 use Prim.Native.Nat.{ℕ, zero, suc, ◌+◌, ◌-◌, ◌*◌, ◌/◌, ◌%◌, ◌^◌, ◌<◌, ◌≤◌}
 use native.Mathlib.Decide.{dec_lt}
 use native.Mathlib.Nat.{zero-div}
@@ -16,7 +16,7 @@ use Rattle.terms.specs.Operations.{holds_apart}
 use Rattle.terms_renaming.proofs.Filling.{Filling}
 use Rattle.terms_bytes.proofs.Stores.{get_d_front, length-span, sets-join, sets_more, run_whole}
 use Rattle.steps.specs.Listed.{names_from}
-use Rattle.field_slots.specs.Chains.{word_at, WordIs}
+use Rattle.field_slots.specs.Chains.{word_at}
 use Rattle.field_slots.specs.Key.{SituationAt, PartIs, FirstPartIs, SecondPartIs, ApartFlagsIs, bit_at, bits_of, BitIs, OctetIs, Packs, Unpacks, slot_with, key_at, SameKeyIs, FoundIs}
 use Rattle.field_pairs.specs.PairNumbers.{pair_at}
 use Rattle.field_pairs.specs.PairFlags.{pair_count}

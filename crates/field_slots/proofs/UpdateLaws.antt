@@ -4,7 +4,7 @@ use mathlib.Core.Bool.{Bool, true, false, cond, false≢true, ◌&&◌}
 use mathlib.Core.List.{List, [], ◌∷◌, ◌++◌, map, append-nil}
 use Prim.Native.Nat.{ℕ, suc, ◌+◌, ◌-◌, ◌<◌, ◌≤◌}
 use native.Mathlib.Omega.{arith}
-use lib.ListN.{length, get_or, take, drop, set, replicate, length-replicate, get_or-replicate, drop_of_length-le}
+use lib.ListN.{length, get_or, take, drop, replicate, length-replicate, drop_of_length-le}
 use lib.Seq.{sets, sets-eq, take_all, drop-length}
 use lib.Dec.{eqb}
 use borrow.Author.Tests.{eq-eqb, ne_eqb}
@@ -21,7 +21,7 @@ use Rattle.field_pairs.specs.Entry.{EntryAt, kind_byte, object_byte}
 use Rattle.field_pairs.specs.NameFlags.{HasNames}
 use Rattle.field_pairs.specs.PairNumbers.{pair_at}
 use Rattle.field_pairs.specs.PairFlags.{pair_count, AddsPair, NoneApartIs}
-use Rattle.field.specs.Situation.{free_from, pairs_of, all_pairs, situation}
+use Rattle.field.specs.Situation.{free_from, pairs_of, all_pairs}
 use Rattle.field_pairs.specs.Slot.{flag, flags_of}
 use Rattle.field.specs.Successors.{extruded_by, updated_by}
 use Rattle.field_slots.specs.Update.{AddsIfFree, AddsRow, AddsExtruded, AddsRewritten, RewritesPairs, UpdatedIs, KeepsPairs, if_free, kept_flag, kept_flags, KeptIs}
