@@ -1,5 +1,5 @@
 -- Flags of pairs: those that an apart list sets, and those of pairs that may be chosen. Assumes nothing.
-use mathlib.Core.Bool.{Bool, true, false, cond, ◌&&◌, not, and_false}
+use mathlib.Core.Bool.{Bool, true, false, cond, ◌&&◌, not, and-false}
 use mathlib.Core.List.{List, [], ◌∷◌, map}
 use mathlib.Core.Path.{◌≡◌, refl, sym, ap, ◌∙◌}
 use native.Mathlib.Omega.{arith}
@@ -81,7 +81,7 @@ flagged_open names D = flagged-keep (may_choose names D) (all_pairs name_count)
 module _ (names : List ℕ) (D : Pairs) (a b : ℕ) where
   pub held_already : holds_apart D a b ≡ true → false ≡ may_choose names D a b
   unfolding may_choose
-  held_already h = sym (ap (λ t. among names a && among names b && not t) h ∙ and_false (among names a && among names b))
+  held_already h = sym (ap (λ t. among names a && among names b && not t) h ∙ and-false (among names a && among names b))
 
   pub first_not_given : false ≡ among names a → false ≡ may_choose names D a b
   unfolding may_choose
@@ -89,7 +89,7 @@ module _ (names : List ℕ) (D : Pairs) (a b : ℕ) where
 
   pub second_not_given : false ≡ among names b → false ≡ may_choose names D a b
   unfolding may_choose
-  second_not_given h = sym (ap (λ t. t && not (holds_apart D a b)) (ap (λ t. among names a && t) (sym h) ∙ and_false (among names a)))
+  second_not_given h = sym (ap (λ t. t && not (holds_apart D a b)) (ap (λ t. among names a && t) (sym h) ∙ and-false (among names a)))
 
   pub both-given : holds_apart D a b ≡ false → true ≡ among names a → true ≡ among names b → true ≡ may_choose names D a b
   unfolding may_choose

@@ -1,5 +1,5 @@
 -- Check 18: names one by one. Assumes nothing.
-use mathlib.Core.Bool.{Bool, true, false, ◌&&◌, ◌||◌, not, and_false}
+use mathlib.Core.Bool.{Bool, true, false, ◌&&◌, ◌||◌, not, and-false}
 use mathlib.Core.List.{List, ◌∷◌}
 use mathlib.Core.Path.{◌≡◌, sym, ap, ◌∙◌}
 use native.Mathlib.Omega.{arith}
@@ -66,7 +66,7 @@ module _ (names : List ℕ) (i : ℕ) (inside : i < length names) where
   pub each_again : true ≡ among xs x → false ≡ each (drop i names)
   unfolding every no_repeat
   each_again h =
-      sym (ap each one ∙ ap (λ t. (named x && every named xs) && (not t && no_repeat xs)) (sym h) ∙ and_false (named x && every named xs))
+      sym (ap each one ∙ ap (λ t. (named x && every named xs) && (not t && no_repeat xs)) (sym h) ∙ and-false (named x && every named xs))
 
   pub each_on : x < name_count → false ≡ among xs x → each (drop i names) ≡ each xs
   unfolding every no_repeat
