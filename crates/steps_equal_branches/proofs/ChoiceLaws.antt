@@ -23,7 +23,7 @@ use Rattle.steps_conditions.specs.Slots.{slot_of}
 use Rattle.steps_tallies.specs.Tally.{end_at, EndsInside, EndsTallied}
 use Rattle.steps_labels.proofs.ArgumentSlots.{slot_read}
 use Rattle.steps_tallies.proofs.CandidateForms.{tag, tag_at, only_mat}
-use Rattle.steps_tallies.proofs.FrontLaws.{stands, behind}
+use Rattle.steps_tallies.proofs.FrontLaws.{behind}
 use Rattle.calculus.proofs.Membership.{∈-left, ∈_right, ∈-map, ∈-mapped}
 use Rattle.steps_passing.proofs.TwoSides.{at_left, at_right}
 use Rattle.steps_placing.specs.Deciding.{decided, Again}

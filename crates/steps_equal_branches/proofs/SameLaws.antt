@@ -3,7 +3,7 @@ use mathlib.Core.Bool.{Bool, true, false, cond}
 use mathlib.Core.List.{List, [], ◌∷◌, ◌++◌, map, append_assoc, append-nil}
 use mathlib.Core.Logic.{⊎_elim}
 use mathlib.Core.Path.{◌≡◌, refl, sym, ◌∙◌, ap, ap₂, subst}
-use native.Mathlib.Nat.{add-zero, zero_add, eq-or-lt_of_le}
+use native.Mathlib.Nat.{add-zero, zero-add, eq-or-lt_of_le}
 use native.Mathlib.Omega.{arith}
 use Prim.Native.Nat.{ℕ, zero, suc, ◌+◌, ◌*◌, ◌^◌, ◌<◌, ◌≤◌, max}
 use lib.Dec.{eqb}
@@ -61,7 +61,7 @@ same_shape σ P B f n s =
 -- Beneath b binders more.
 slots_under : (b free D : ℕ) (args : List ℕ) (inner depth : ℕ) (σ : ℕ → ℕ) → free ≤ name_count → HasSlots free D args inner depth σ
     → HasSlots free (b + D) args (inner + b) (depth + b) (lift_by b σ)
-slots_under zero free D args inner depth σ few has = rw (zero_add, add-zero, add-zero) has
+slots_under zero free D args inner depth σ few has = rw (zero-add, add-zero, add-zero) has
 slots_under (suc b) free D args inner depth σ few has =
     let x : suc b + D ≡ 1 + (b + D) = omega arith in
     let y : inner + suc b ≡ inner + b + 1 = omega arith in
