@@ -1,16 +1,23 @@
 #!/usr/bin/env bash
-# Proves the whole repository, or the crates named, over 32 names in place of 16, in a copy under target/. Programs are proved only where they
-# are named: what they write goes by the number of names. The numbers that change are in docs/names-32.txt.
+# Proves the whole repository, or the crates named and those below them, over 32 names in place of 16, in a copy outside the checkout (`rt ci`
+# refuses a source anywhere but in its crate). No program is run: what they write goes by the number of names. The numbers that change are in
+# docs/names-32.txt.
 #     bash trial-names.sh [CRATE...]
-# NAMES_COPY is another folder for the copy, COMMAND another command than `rt check` there, as `rt dev` or `echo rt check`.
+# NAMES_COPY is another folder for the copy, COMMAND another command than `rt all check` there or, in the folder of each crate named, `rt check`.
 set -euo pipefail
 cd "$(dirname "$0")"
-copy=${NAMES_COPY:-target/names-32}
+copy=${NAMES_COPY:-${XDG_CACHE_HOME:-$HOME/.cache}/vukhtaso/names-32}
 
-# What was proved in the copy stays: only crates that changed since are proved again.
-mkdir -p "$copy"
-rm -rf "${copy:?}/crates"
-cp -a crates crates.txt "$copy"
+# What was proved in the copy stays, in its crates' out/: only what changed since is proved again.
+mkdir -p "$copy/crates"
+for folder in "$copy"/crates/*/; do
+    if [[ -d crates/$(basename "$folder") ]]; then
+        find "$folder" -mindepth 1 -maxdepth 1 ! -name out -exec rm -rf {} +
+    else
+        rm -rf "$folder"
+    fi
+done
+tar -cf - --no-wildcards-match-slash --exclude='crates/*/out' crates crates.txt | tar -xf - -C "$copy"
 
 # Puts the new text in place of the old one, which stands in the file as often as the table says.
 change() {
@@ -37,10 +44,10 @@ while IFS= read -r line; do
 done < docs/names-32.txt
 change
 
-if (($# == 0)); then
-    for crate in $(sed 's/:.*//' crates.txt); do
-        [[ -e crates/$crate/src/main.rt ]] || set -- "$@" "$crate"
-    done
-fi
 cd "$copy"
-exec ${COMMAND:-rt check} "$@"
+if (($# == 0)); then
+    exec ${COMMAND:-rt all check}
+fi
+for crate in "$@"; do
+    (cd "crates/$crate" && ${COMMAND:-rt check})
+done

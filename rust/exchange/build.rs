@@ -5,7 +5,7 @@
 use std::env;
 use std::path::{Path, PathBuf};
 
-/// The folder to look in instead of the one that `rt staticlib exchange` writes to.
+/// The folder to look in instead of the one that `rt lib` writes to.
 const FOLDER: &str = "EXCHANGE_LIB_DIR";
 /// The target for which the library is made, and what of it must be so: any C library will do.
 const TARGET: &str = "x86_64-unknown-linux-gnu";
@@ -35,15 +35,14 @@ fn obstacle(library: &Path) -> Option<String> {
     }
     if !library.is_file() {
         return Some(format!(
-            "{} is missing: run `rt staticlib exchange` at the root of the repository, or set \
-             {FOLDER} to the folder that has it",
+            "{} is missing: run `rt lib` in crates/exchange, or set {FOLDER} to the folder that has it",
             library.display()
         ));
     }
     None
 }
 
-/// The folder of the library: the one given, or `target/staticlib` of the repository. Cargo runs
+/// The folder of the library: the one given, or `crates/exchange/out` of the repository. Cargo runs
 /// this script in the folder of the crate, so a relative one is taken from that of the workspace,
 /// where `test.sh` looks too.
 fn folder() -> PathBuf {
@@ -53,7 +52,7 @@ fn folder() -> PathBuf {
     let given = env::var_os(FOLDER).filter(|folder| !folder.is_empty());
     match given {
         Some(folder) => workspace.join(folder),
-        None => repository.join("target/staticlib"),
+        None => repository.join("crates/exchange/out"),
     }
 }
 

@@ -5,33 +5,27 @@
 use small_parts_count::count::{Counts, count};
 use small_parts_count::tally::Tally;
 use small_parts_words::parts::GREATEST_LENGTH;
+use std::io;
 
-fn print_numbers(size: usize, tally: Tally) {
-    io::print_decimal(1, size as u64);
-    io::write_all(1, b" ");
-    io::print_decimal(1, tally.same as u64);
-    io::write_all(1, b" ");
-    io::print_decimal(1, tally.different as u64);
-    io::write_all(1, b" ");
-    io::print_decimal(1, tally.unsettled as u64);
-    io::write_all(1, b"\n");
+fn print_numbers(rt: &impl Print, size: usize, tally: Tally) -> io::Result<()> {
+    println!(rt;
+        "{size} {} {} {}",
+        tally.same, tally.different, tally.unsettled
+    )
 }
 
 // A length above the greatest has no line.
-fn print_census(size: usize) {
+fn print_census(rt: &impl Print, size: usize) -> io::Result<()> {
     let counts = count(size);
     match counts {
-        Counts::Numbers(tally) => {
-            print_numbers(size, tally);
-        }
-        Counts::TooLong => {}
+        Counts::Numbers(tally) => print_numbers(rt, size, tally),
+        Counts::TooLong => Ok(()),
     }
 }
 
-fn main() {
-    let mut size = 1;
-    while size <= GREATEST_LENGTH {
-        print_census(size);
-        size += 1;
+fn main(rt: HostRuntime) -> io::Result<()> {
+    for size in 1..=GREATEST_LENGTH {
+        print_census(&rt, size)?;
     }
+    Ok(())
 }

@@ -1,39 +1,35 @@
 // Runs check on the questions of standard input and writes one line for each. The first byte is their number; each stands behind its length
-// in two bytes, as the fields of a question do.
+// in two bytes, as the fields of a question do. No more than 65,536 bytes are read.
 #![tactic(auto)]
 
+use std::io;
+use std::io::Read;
 use terms_bytes::bytes::get;
 use terms_bytes::frame::{after_field, field_at};
 use terms_checks::check::{Checked, check};
 
-fn write_answer(question: &[u8]) {
+const MOST_INPUT: u64 = 65536;
+
+fn write_answer(rt: &impl Print, question: &[u8]) -> io::Result<()> {
     let answer = check(question);
     match answer {
-        Checked::Accepted => {
-            io::write_all(1, b"accepted");
-        }
-        Checked::Refused(k) => {
-            io::write_all(1, b"refused ");
-            io::print_decimal(1, k as u64);
-        }
+        Checked::Accepted => println!(rt; "accepted"),
+        Checked::Refused(k) => println!(rt; "refused {k}"),
     }
-    io::write_all(1, b"\n");
 }
 
 // The `count` questions behind the first byte.
-fn write_answers(input: &[u8], count: usize) {
+fn write_answers(rt: &impl Print, input: &[u8], count: usize) -> io::Result<()> {
     let mut at = 1;
-    let mut i = 0;
-    while i < count {
-        write_answer(field_at(input, at));
+    for _ in 0..count {
+        write_answer(rt, field_at(input, at))?;
         at = after_field(input, at);
-        i += 1;
     }
+    Ok(())
 }
 
-fn main() {
-    let mut buffer = io::large_buffer();
-    let n = io::read_full(0, &mut buffer);
-    let input = &buffer[..n];
-    write_answers(input, get(input, 0) as usize);
+fn main(rt: HostRuntime) -> io::Result<()> {
+    let mut input = Vec::new(rt.alloc());
+    rt.reader().take(MOST_INPUT).read_to_end(&mut input)?;
+    write_answers(&rt, &input, get(&input, 0) as usize)
 }

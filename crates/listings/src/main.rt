@@ -1,15 +1,20 @@
 // Lists steps of the questions of standard input: one line with the answer, then one line a step in hexadecimal, its filling left out. The first
-// byte is the number of questions; each stands behind its length in two bytes, and begins with the side and the new name in one byte each.
+// byte is the number of questions; each stands behind its length in two bytes, and begins with the side and the new name in one byte each. No more
+// than 65,536 bytes are read.
 #![tactic(auto)]
 
 ghost use Rattle.std.specs.Prelude.{◌≤◌};
 
 use report::print_line;
+use std::io;
+use std::io::Read;
 use steps_entries::limits::{MOST_STEPS, STEP_BYTES};
 use steps_lister::operation::{StepsAnswer, steps};
 use terms_bytes::bytes::get;
 use terms_bytes::frame::{after_field, field_at};
 use terms_bytes::limits::NAME_COUNT;
+
+const MOST_INPUT: u64 = 65536;
 
 const LISTING_BYTES: usize = STEP_BYTES * MOST_STEPS;
 
@@ -19,32 +24,30 @@ const MOST_LINES: usize = 16;
 // Where a step has the length of its result.
 const SIZE: usize = NAME_COUNT + 3;
 
-fn print_bytes(area: &[u8], from: usize, n: usize)
+fn print_bytes(rt: &impl Print, area: &[u8], from: usize, n: usize) -> io::Result<()>
     requires { (from ≤ 65536) × (n ≤ 65536) }
 {
-    let mut i = 0;
-    while i < n {
-        io::print_hex(1, get(area, from + i) as u64, 2);
-        i += 1;
+    for i in 0..n {
+        let byte = get(area, from + i);
+        print!(rt; "{byte:02x}")?;
     }
-    io::write_all(1, b"\n");
+    println!(rt; "")
 }
 
-fn print_steps(area: &[u8], count: usize) {
+fn print_steps(rt: &impl Print, area: &[u8], count: usize) -> io::Result<()> {
     if MOST_LINES < count {
-        return;
+        return Ok(());
     }
-    let mut i = 0;
-    while i < count {
+    for i in 0..count {
         let at = i * STEP_BYTES;
-        print_bytes(area, at, SIZE + 1 + get(area, at + SIZE) as usize);
-        i += 1;
+        print_bytes(rt, area, at, SIZE + 1 + get(area, at + SIZE) as usize)?;
     }
+    Ok(())
 }
 
-fn write_steps(input: &[u8]) {
+fn write_steps(rt: &impl Print, input: &[u8]) -> io::Result<()> {
     if input.len() < 2 {
-        return;
+        return Ok(());
     }
     let mut area = [0u8; LISTING_BYTES];
     let answer = steps(
@@ -54,33 +57,27 @@ fn write_steps(input: &[u8]) {
         &mut area,
     );
     match answer {
-        StepsAnswer::Refused(k) => {
-            print_line(b"refused", k as u64);
-        }
-        StepsAnswer::Unsettled => {
-            print_line(b"unsettled", 0);
-        }
+        StepsAnswer::Refused(k) => print_line(rt, b"refused", k as u64),
+        StepsAnswer::Unsettled => print_line(rt, b"unsettled", 0),
         StepsAnswer::Count(n) => {
-            print_line(b"steps", n as u64);
-            print_steps(&area, n);
+            print_line(rt, b"steps", n as u64)?;
+            print_steps(rt, &area, n)
         }
     }
 }
 
 // The `count` questions behind the first byte.
-fn write_all_steps(input: &[u8], count: usize) {
+fn write_all_steps(rt: &impl Print, input: &[u8], count: usize) -> io::Result<()> {
     let mut at = 1;
-    let mut i = 0;
-    while i < count {
-        write_steps(field_at(input, at));
+    for _ in 0..count {
+        write_steps(rt, field_at(input, at))?;
         at = after_field(input, at);
-        i += 1;
     }
+    Ok(())
 }
 
-fn main() {
-    let mut buffer = io::large_buffer();
-    let n = io::read_full(0, &mut buffer);
-    let input = &buffer[..n];
-    write_all_steps(input, get(input, 0) as usize);
+fn main(rt: HostRuntime) -> io::Result<()> {
+    let mut input = Vec::new(rt.alloc());
+    rt.reader().take(MOST_INPUT).read_to_end(&mut input)?;
+    write_all_steps(&rt, &input, get(&input, 0) as usize)
 }
