@@ -83,6 +83,19 @@ met : (r : Bool) (a b : ℕ) (M N : Cond) (α β : Act) (A B : Term) → On r a 
 unfolding communication meet
 met true a b M N (inp_a a') (out_a b' y) A B h k = (_, λ i. communication (step M (inp_a (sym h i)) A) (step N (out_a (sym k i) y) B))
 met true a b M N (inp_a a') (bout_a b') A B h k = (_, λ i. communication (step M (inp_a (sym h i)) A) (step N (bout_a (sym k i)) B))
+met false a b M N tau_a β A B h k = elim h [ ]
+met false a b M N (inp_a a') β A B h k = elim h [ ]
+met false a b M N (out_a a' y) tau_a A B h k = elim k [ ]
+met false a b M N (out_a a' y) (out_a b' _) A B h k = elim k [ ]
+met false a b M N (out_a a' y) (bout_a b') A B h k = elim k [ ]
+met false a b M N (bout_a a') tau_a A B h k = elim k [ ]
+met false a b M N (bout_a a') (out_a b' y) A B h k = elim k [ ]
+met false a b M N (bout_a a') (bout_a b') A B h k = elim k [ ]
+met true a b M N tau_a β A B h k = elim h [ ]
+met true a b M N (inp_a a') tau_a A B h k = elim k [ ]
+met true a b M N (inp_a a') (inp_a b') A B h k = elim k [ ]
+met true a b M N (out_a a' y) β A B h k = elim h [ ]
+met true a b M N (bout_a a') β A B h k = elim h [ ]
 met false a b M N (out_a a' y) (inp_a b') A B h k = (_, λ i. communication (step M (out_a (sym h i) y) A) (step N (inp_a (sym k i)) B))
 met false a b M N (bout_a a') (inp_a b') A B h k = (_, λ i. communication (step M (bout_a (sym h i)) A) (step N (inp_a (sym k i)) B))
 
@@ -90,6 +103,18 @@ met false a b M N (bout_a a') (inp_a b') A B h k = (_, λ i. communication (step
 unmet : (r : Bool) (a b : ℕ) (M N : Cond) (α β : Act) (A B : Term) → On r a α → On r b β → communication (step M α A) (step N β B) ≡ blocked
 unfolding communication meet
 unmet true a b M N (inp_a a') (inp_a b') A B h k = refl
+unmet false a b M N tau_a β A B h k = elim h [ ]
+unmet false a b M N (inp_a a') β A B h k = elim h [ ]
+unmet false a b M N (out_a a' y) tau_a A B h k = elim k [ ]
+unmet false a b M N (out_a a' y) (inp_a b') A B h k = elim k [ ]
+unmet false a b M N (bout_a a') tau_a A B h k = elim k [ ]
+unmet false a b M N (bout_a a') (inp_a b') A B h k = elim k [ ]
+unmet true a b M N tau_a β A B h k = elim h [ ]
+unmet true a b M N (inp_a a') tau_a A B h k = elim k [ ]
+unmet true a b M N (inp_a a') (out_a b' z) A B h k = elim k [ ]
+unmet true a b M N (inp_a a') (bout_a b') A B h k = elim k [ ]
+unmet true a b M N (out_a a' y) β A B h k = elim h [ ]
+unmet true a b M N (bout_a a') β A B h k = elim h [ ]
 unmet false a b M N (out_a a' y) (out_a b' z) A B h k = refl
 unmet false a b M N (out_a a' y) (bout_a b') A B h k = refl
 unmet false a b M N (bout_a a') (out_a b' z) A B h k = refl

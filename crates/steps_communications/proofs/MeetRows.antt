@@ -67,6 +67,7 @@ collect_stopped x K d level s e ts area count h found stood =
 -- Those of a candidate that is one of us are among those of us.
 communications-among : (ts us : List Candidate) (s : Candidate) → s ∈ us → Among (map (communication s) ts) (communications us ts)
 unfolding communications
+communications-among ts [] s x3 c i = elim x3 [ ]
 communications-among ts (u ∷ us) s (inl e) c i =
     ∈-left c (map (communication u) ts) (communications us ts) (subst (λ v. c ∈ map (communication v) ts) e i)
 communications-among ts (u ∷ us) s (inr m) c i =
