@@ -1,0 +1,210 @@
+use native.Mathlib.Omega.{arith}
+use borrow.Author.Rules.{rules}
+use Rattle.terms.specs.Limits.{longest_term}
+use Rattle.steps_tallies.specs.Tally.{silent_at}
+use Rattle.steps_passing.proofs.TwoSides.{middle_on}
+use Rattle.steps_walk.proofs.WalkLaws.{walk_none, walk_run, left_passed, right_passed, right_full, sides_met}
+use Prim.Native.Nat.{◌+◌}
+use Rattle.steps_walk.proofs.walk.+walk_walk_parallel.Goals as goal
+
+pub walk-overflow_add-place : goal.walk-overflow_add-place
+walk-overflow_add-place t c =
+    let i = c.restrictions_at-k.ensures.inside in
+    let s = c.requires.0.1.0 in
+    omega arith
+
+pub walk-overflow_add-under : goal.walk-overflow_add-under
+walk-overflow_add-under t c =
+    let i = c.restrictions_at-k.ensures.inside in
+    let s = c.requires.0.1.0 in
+    let d = c.requires.1 in
+    omega arith
+
+pub walk-returns-then-part-place : goal.walk-returns-then-part-place
+walk-returns-then-part-place t c =
+    let a = c.args in
+    let k = c.restrictions_at-k.result in
+    let R = c.restrictions_at-k.ensures in
+    walk_run a.question.now a.part.now a.node.at a.node.depth a.node.number a.node.x a.rows.now a.walked.rows
+    a.area.now a.walked.count _ _ _ k R.are (walk_none a.question.now a.part.now (a.node.at + k) (a.node.depth + k)
+    a.node.number a.node.x a.rows.now a.walked.rows a.area.now a.walked.count c.if-part-place.true c.requires.3)
+
+pub walk-walk_parallel-requires : goal.walk-walk_parallel-requires
+walk-walk_parallel-requires t c =
+    let i = c.restrictions_at-k.ensures.inside in
+    let l = c.if-part-place.false in
+    let d = c.requires.1 in
+    let n = c.requires.2 in
+    let e = c.decreases in
+    (omega arith, (c.requires.0, (omega arith, omega arith), omega arith, c.requires.3, c.requires.4, c.if-part-place-eq-PARALLEL.true))
+
+pub walk-returns-then-part-place-eq-PARALLEL : goal.walk-returns-then-part-place-eq-PARALLEL
+walk-returns-then-part-place-eq-PARALLEL t c =
+    let a = c.args in
+    let k = c.restrictions_at-k.result in
+    let R = c.restrictions_at-k.ensures in
+    walk_run a.question.now a.part.now a.node.at a.node.depth a.node.number a.node.x a.rows.now a.walked.rows
+    a.area.now a.walked.count _ c.walk_parallel.result _ k R.are c.walk_parallel.ensures
+
+pub walk-component-requires : goal.walk-component-requires
+walk-component-requires t c =
+    let i = c.restrictions_at-k.ensures.inside in
+    let l = c.if-part-place.false in
+    let d = c.requires.1 in
+    let n = c.requires.2 in (
+      c.requires.0,
+      (omega arith, omega arith),
+      omega arith,
+      c.requires.3,
+      c.requires.4,
+      c.if-part-place-eq-PARALLEL.false,
+      c.restrictions_at-k.ensures.ended c.if-part-place.false,
+    )
+
+pub walk-returns : goal.walk-returns
+walk-returns t c =
+    let a = c.args in
+    let k = c.restrictions_at-k.result in
+    let R = c.restrictions_at-k.ensures in
+    walk_run a.question.now a.part.now a.node.at a.node.depth a.node.number a.node.x a.rows.now a.walked.rows
+    a.area.now a.walked.count _ c.component.result _ k R.are c.component.ensures
+
+pub walk_parallel-overflow_add-next : goal.walk_parallel-overflow_add-next
+walk_parallel-overflow_add-next t c =
+    let s = c.requires.0.1.0 in
+    let i = c.requires.1.1 in
+    omega arith
+
+pub walk_parallel-walk-left-requires : goal.walk_parallel-walk-left-requires
+walk_parallel-walk-left-requires t c =
+    let l = c.requires.1.1 in
+    let t = c.decreases in
+    let d = c.requires.1.0 in
+    let k = c.requires.2 in
+    (omega arith, (c.requires.0, omega arith, omega arith, c.requires.3, c.requires.4))
+
+pub walk_parallel-returns-then-left-gt-MOST_STEPS : goal.walk_parallel-returns-then-left-gt-MOST_STEPS
+walk_parallel-returns-then-left-gt-MOST_STEPS t c =
+    let v = c.args in
+    left_passed v.question.now v.part.now v.node.at v.node.depth v.node.number v.node.x v.rows.now v.walked.rows
+    v.area.now v.walked.count c.requires.5 _ c.walk-left.result _ c.walk-left.ensures c.if-left-gt-MOST_STEPS.true
+
+pub walk_parallel-overflow_add-further : goal.walk_parallel-overflow_add-further
+unfolding silent_at
+walk_parallel-overflow_add-further t c =
+    let b = c.shared_slice_known-4-1.given (longest_term + (c.args.node.at + 1)) in
+    let e = c.silent_at-before.ensures in
+    let h = c.requires.2 in
+    let s = c.requires.0.1.0 in
+    let i = c.requires.1.1 in
+    omega arith
+
+pub walk_parallel-walk-right-requires : goal.walk_parallel-walk-right-requires
+unfolding silent_at
+walk_parallel-walk-right-requires t c =
+    let v = c.args in
+    let m = middle_on v.question.now v.part.now 1 v.tally.now c.requires.0.1.1 v.node.at c.middle_of-middle.result
+    c.middle_of-middle.ensures c.requires.1.1 in
+    let b = c.shared_slice_known-4-1.given (longest_term + (v.node.at + 1)) in
+    let e = c.silent_at-before.ensures in
+    let h = c.requires.2 in
+    let s = c.requires.0.1.0 in
+    let i = c.requires.1.1 in
+    let t = c.decreases in
+    let d = c.requires.1.0 in (
+      omega arith,
+      (
+        ((c.if-left-gt-MOST_STEPS.false, omega (arith, c.area-1.given, c.requires.0.0.1)), c.requires.0.1),
+        omega arith,
+        omega arith,
+        c.walk-left.ensures.inside,
+        omega (arith, c.rows-1.given, c.requires.4),
+      ),
+    )
+
+pub walk_parallel-returns-then-right-gt-MOST_STEPS : goal.walk_parallel-returns-then-right-gt-MOST_STEPS
+walk_parallel-returns-then-right-gt-MOST_STEPS t c =
+    let v = c.args in right_passed v.question.now v.part.now v.node.at v.node.depth v.node.number v.node.x v.rows.now v.walked.rows
+    v.area.now v.walked.count
+    c.requires.5
+    _
+    c.walk-left.result
+    _
+    c.walk-left.ensures
+    (search rules) v.tally.now
+    c.requires.0.1.1
+    c.middle_of-middle.result
+    c.middle_of-middle.ensures
+    c.silent_at-before.result
+    c.silent_at-before.ensures _
+    c.walk-right.result _ c.walk-right.ensures
+    c.if-right-gt-MOST_STEPS.true
+
+pub walk_parallel-returns-then-right-gt-MOST_ROWS : goal.walk_parallel-returns-then-right-gt-MOST_ROWS
+walk_parallel-returns-then-right-gt-MOST_ROWS t c =
+    let v = c.args in right_full v.question.now v.part.now v.node.at v.node.depth v.node.number v.node.x v.rows.now v.walked.rows
+    v.area.now v.walked.count
+    c.requires.5
+    _
+    c.walk-left.result
+    _
+    c.walk-left.ensures
+    (search rules) v.tally.now
+    c.requires.0.1.1
+    c.middle_of-middle.result
+    c.middle_of-middle.ensures
+    c.silent_at-before.result
+    c.silent_at-before.ensures _
+    c.walk-right.result _
+    c.walk-right.ensures (search rules) c.if-right-gt-MOST_ROWS.true
+
+pub walk_parallel-overflow_add-silent : goal.walk_parallel-overflow_add-silent
+unfolding silent_at
+walk_parallel-overflow_add-silent t c =
+    let b = c.shared_slice_known-4-1.given (longest_term + (c.args.node.at + 1)) in
+    let e = c.silent_at-before.ensures in
+    let h = c.requires.2 in
+    let s = c.requires.0.1.0 in
+    let i = c.requires.1.1 in
+    let b2 = c.shared_slice_known-4-1.given (longest_term + c.middle_of-middle.result) in
+    let e2 = c.silent_at.ensures in
+    omega arith
+
+pub walk_parallel-meet-all-requires : goal.walk_parallel-meet-all-requires
+unfolding silent_at
+walk_parallel-meet-all-requires t c =
+    let b = c.shared_slice_known-4-1.given (longest_term + (c.args.node.at + 1)) in
+    let e = c.silent_at-before.ensures in
+    let h = c.requires.2 in
+    let s = c.requires.0.1.0 in
+    let i = c.requires.1.1 in
+    let b2 = c.shared_slice_known-4-1.given (longest_term + c.middle_of-middle.result) in
+    let e2 = c.silent_at.ensures in (
+      ((c.if-right-gt-MOST_STEPS.false, omega (arith, c.area-1.given, c.area-2-1.given, c.requires.0.0.1)), c.requires.0.1),
+      c.requires.1,
+      c.walk-left.ensures.on,
+      c.walk-right.ensures.on,
+      c.if-right-gt-MOST_ROWS.false,
+      omega (arith, c.rows-1.given, c.rows-2-1.given, c.requires.4),
+      omega arith,
+    )
+
+pub walk_parallel-returns : goal.walk_parallel-returns
+walk_parallel-returns t c =
+    let v = c.args in sides_met v.question.now v.part.now v.node.at v.node.depth v.node.number v.node.x v.rows.now v.walked.rows
+    v.area.now v.walked.count
+    c.requires.5
+    _
+    c.walk-left.result
+    _
+    c.walk-left.ensures
+    (search rules) v.tally.now
+    c.requires.0.1.1
+    c.middle_of-middle.result
+    c.middle_of-middle.ensures
+    c.silent_at-before.result
+    c.silent_at-before.ensures
+    _ c.walk-right.result _
+    c.walk-right.ensures (search rules)
+    c.silent_at.result c.silent_at.ensures
+    c.meet-all.result _ c.meet-all.ensures

@@ -1,0 +1,11 @@
+use borrow.Author.Tests.{eq-eqb, ne_eqb}
+use Rattle.steps_walk.specs.Walking.{row_object}
+use Rattle.steps_walk.proofs.walk.row_object.Goals as goal
+
+pub returns-then-kind-eq2 : goal.returns-then-kind-eq2
+unfolding row_object
+returns-then-kind-eq2 c = simp (eq-eqb c.args.kind 2 c.if-kind-eq2.true)
+
+pub returns : goal.returns
+unfolding row_object
+returns c = simp (ne_eqb c.args.kind 2 c.if-kind-eq2.false)

@@ -1,0 +1,62 @@
+use mathlib.Core.Path.{refl}
+use native.Mathlib.Omega.{arith}
+use Prim.Native.Nat.{◌+◌}
+use borrow.Author.Rules.{rules}
+use Rattle.terms.specs.Limits.{longest_term}
+use Rattle.steps_tallies.specs.Tally.{silent_at}
+use Rattle.steps_walk.proofs.ComponentLaws.{silent-start, silent_done, silent_next, silent-passed, silent-placed}
+use Rattle.steps_walk.proofs.walk.take_unconditional.Goals as goal
+
+pub loop-j-init : goal.loop-j-init
+loop-j-init c =
+    let v = c.args in (
+      search rules,
+      refl,
+      silent-start v.question.now v.part.now
+          v.node.at v.node.depth v.node.number v.node.x v.area.now v.count,
+    )
+
+pub put_placed-m-requires : goal.put_placed-m-requires
+unfolding silent_at
+put_placed-m-requires c =
+    let g = c.requires in
+    let b = c.shared_slice_known-4-1.given (longest_term + c.args.node.at) in
+    let e = c.silent_at-number.ensures in
+    let h = g.2 in
+    let s = g.0.1.0 in
+    let i = g.1.1 in
+    let l = c.loop-j-test.true in
+    (((c.loop-j.invariant.0, search rules), g.0.1), g.1, omega arith)
+
+pub returns-then-m-gt-MOST_STEPS : goal.returns-then-m-gt-MOST_STEPS
+returns-then-m-gt-MOST_STEPS c =
+    let v = c.args in
+    silent-passed v.question.now v.part.now v.node.at v.node.depth v.node.number v.node.x v.area.now v.count v.tally.now
+    c.requires.0.1.1 c.loop-j.j c.loop-j.n c.loop-j.area c.loop-j.invariant.2 (rw c.silent_at-number.ensures at c.loop-j-test.true)
+    c.put_placed-m.result _ (silent-placed v.question.now v.part.now v.node.at v.node.depth v.node.number c.loop-j.j v.node.x
+    c.loop-j.area c.loop-j.n c.put_placed-m.result _ c.requires.3 c.put_placed-m.ensures) c.if-m-gt-MOST_STEPS.true
+
+pub loop-j-preserved : goal.loop-j-preserved
+loop-j-preserved c =
+    let v = c.args in (
+      search rules,
+      search
+          rules,
+      silent_next v.question.now v.part.now v.node.at v.node.depth v.node.number v.node.x v.area.now v.count v.tally.now
+          c.requires.0.1.1
+          c.loop-j.j c.loop-j.n
+          c.loop-j.area c.loop-j.invariant.2 (rw
+          c.silent_at-number.ensures at c.loop-j-test.true)
+          c.put_placed-m.result _ (silent-placed v.question.now v.part.now v.node.at v.node.depth v.node.number
+          c.loop-j.j v.node.x c.loop-j.area
+          c.loop-j.n c.put_placed-m.result _
+          c.requires.3
+          c.put_placed-m.ensures) (search rules),
+    )
+
+pub returns : goal.returns
+returns c =
+    let v = c.args in
+    silent_done v.question.now v.part.now v.node.at v.node.depth v.node.number v.node.x v.area.now v.count v.tally.now
+    c.requires.0.1.1 c.loop-j.j c.loop-j.n c.loop-j.area c.loop-j.invariant.2 (rw c.silent_at-number.ensures at
+    c.loop-j-test.false) c.loop-j.invariant.0
