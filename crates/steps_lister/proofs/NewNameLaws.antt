@@ -2,7 +2,6 @@
 -- name if it still ascends. Assumes nothing.
 use mathlib.Core.Bool.{Bool, true, false}
 use mathlib.Core.List.{List, [], ◌∷◌, map}
-use mathlib.Core.Logic.{◌⊎◌, inl, inr}
 use mathlib.Core.Path.{◌≡◌, refl, sym, ◌∙◌, ap, subst}
 use native.Mathlib.Decide.{ℕ_discrete, dec_le}
 use native.Mathlib.Omega.{arith}
@@ -26,7 +25,7 @@ use Rattle.terms.specs.Question.{Question}
 use Rattle.terms.proofs.RenamingKeeps.{length-ren}
 use Rattle.terms.proofs.WellFormed.{accepted_well_formed}
 use Rattle.steps.specs.Forms.{result_form}
-use Rattle.steps.proofs.FormLaws.{Form, result_form_lem}
+use Rattle.steps.proofs.FormLaws.{result_form_lem}
 use Rattle.calculus.specs.Lists.{◌∈◌, Among, All}
 use Rattle.steps.specs.Raw.{Candidate, step, blocked}
 use Rattle.steps.proofs.Calls.{Opens}

@@ -3,14 +3,14 @@ use borrow.Author.Tests.{le-ltb, lt-ltb, le-leb, lt-leb, eq-eqb, ne_eqb}
 use mathlib.Core.Bool.{Bool, true, false, ◌&&◌, ◌||◌, not, false≢true}
 use mathlib.Core.List.{List, [], ◌∷◌, ◌++◌}
 use mathlib.Core.Path.{◌≡◌, refl, sym, ◌∙◌, ap, subst}
-use native.Mathlib.Nat.{mul-le-mul_right, zero_add}
+use native.Mathlib.Nat.{mul-le-mul_right, zero-add}
 use native.Mathlib.Omega.{arith}
 use Prim.Native.Nat.{ℕ, suc, ◌+◌, ◌*◌, ◌<◌, ◌≤◌}
 use lib.Dec.{ltb, leb, eqb}
 use lib.ListN.{length, get_or, take, drop, length-append}
 use lib.Seq.{sets, sets-eq, get_or-append_seam, get_or-append-add}
 use Rattle.calculus.specs.Distinction.{among}
-use Rattle.calculus.specs.Free.{Free, fn}
+use Rattle.calculus.specs.Free.{fn}
 use Rattle.calculus.proofs.FreeNames.{free→fn}
 use Rattle.calculus.proofs.Selection.{in_among}
 use Rattle.calculus.specs.Term.{Term}
@@ -76,7 +76,7 @@ module _ (question bytes : List ℕ) (x : ℕ) (own' area : List ℕ) (space : m
                 e
                 ∙ ap (sets area 0) copied
                 ∙ sets-eq (list_bytes ss) area 0 (omega arith)
-                ∙ ap (λ k. list_bytes ss ++ drop k area) (zero_add (length (list_bytes ss)));
+                ∙ ap (λ k. list_bytes ss ++ drop k area) (zero-add (length (list_bytes ss)));
           }
 
 -- The parts of an accepted question stand where the code finds them.

@@ -1,7 +1,7 @@
 -- Theorem `tidied_accepted`: the question with tidied bodies is accepted as the question is, so that the lister and the judge may go on with it.
 -- Assumes nothing.
 use mathlib.Core.List.{List, ◌++◌, map}
-use mathlib.Core.Path.{◌≡◌, refl, sym, ap, subst, ◌∙◌}
+use mathlib.Core.Path.{◌≡◌, sym, ap, subst, ◌∙◌}
 use native.Mathlib.Omega.{arith}
 use Prim.Native.Nat.{ℕ, ◌≤◌}
 use lib.ListN.{length, take, drop}

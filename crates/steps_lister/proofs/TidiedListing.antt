@@ -1,12 +1,11 @@
 -- A part with restrictions is listed as the tidied part is, and under bodies with restrictions as under the tidied ones (document 02, request 2026-04).
 -- Assumes nothing.
-use borrow.Author.Tests.{not_true}
 use mathlib.Core.Bool.{Bool, true, false}
 use mathlib.Core.List.{List, [], ◌++◌, append-nil}
 use mathlib.Core.Path.{◌≡◌, refl, sym, ap, ap₂, subst, ◌∙◌}
 use native.Mathlib.Omega.{arith}
 use Prim.Native.Nat.{ℕ, ◌+◌, ◌-◌, ◌≤◌}
-use lib.ListN.{length, take, drop, replicate, length-take, length-replicate, replicate-append-replicate}
+use lib.ListN.{length, take, replicate, length-take, length-replicate, replicate-append-replicate}
 use lib.Seq.{sets, take-append_seam}
 use Rattle.calculus.specs.Free.{Free}
 use Rattle.calculus.specs.Term.{Term}
@@ -34,8 +33,7 @@ use Rattle.steps.proofs.TidyLists.{bodies_tidied_lem, alike_list}
 use Rattle.steps_tallies.specs.Bodies.{AritiesIs}
 use Rattle.steps_tallies.specs.Tally.{BodiesUnrestricted}
 use Rattle.steps_tallies.proofs.Unrestricted.{unrestricted_tidied}
-use Rattle.steps_splicing.specs.ListedParts as tidied
-use Rattle.steps_lister.specs.PartLister.{PartTidied, AnswersListing, Lists, ListPartIs, ListTidiedIs, Restricted}
+use Rattle.steps_lister.specs.PartLister.{PartTidied, AnswersListing, ListPartIs, ListTidiedIs, Restricted}
 use Rattle.steps_lister.specs.declared.list.ListAnswer.{ListAnswer}
 use Rattle.steps_lister.proofs.TidiedBodies.{tidied_checked}
 
