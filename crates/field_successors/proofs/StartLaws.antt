@@ -10,11 +10,10 @@ use lib.Seq.{sets, drop-cons, take-append_seam}
 use Rattle.calculus.specs.Cond.{Pairs}
 use Rattle.calculus.specs.Term.{Term}
 use Rattle.calculus.specs.Tidy.{tidy}
-use Rattle.terms.specs.Answer.{result}
 use Rattle.terms.specs.Encoding.{encode, InScope}
 use Rattle.terms_bytes.specs.FieldPlaces.{definitions_of, arities_of, after_field, field_at, field_place}
 use Rattle.terms.specs.Limits.{name_count, longest_term}
-use Rattle.terms.specs.Question.{Question, check_of, pair_bytes}
+use Rattle.terms.specs.Question.{pair_bytes}
 use Rattle.terms_bytes.proofs.QuestionPlaces.{accepted_apart, accepted_arities}
 use Rattle.terms_bytes.proofs.Heights.{height-bytes}
 use Rattle.terms_bytes.proofs.Stores.{sets_middle}
@@ -27,7 +26,7 @@ use Rattle.steps.proofs.FormLaws.{form_scope, tidied_form}
 use Rattle.steps_lister.proofs.OperationLaws.{first_stands, second_stands}
 use Rattle.field_successors.specs.Leading.{CompletesKey, StartIs}
 use Rattle.field_pairs.specs.PairFlags.{pair_count, AddsPair}
-use Rattle.field.specs.Situation.{situation, start_of}
+use Rattle.field.specs.Situation.{start_of}
 use Rattle.field_pairs.specs.Slot.{part_bytes, flags_of, octets, key_bytes}
 use Rattle.field_successors.specs.Starting.{PutsPart, MarksList, StartPairs}
 use Rattle.field_slots.proofs.KeyLaws.{length_part}

@@ -1,5 +1,5 @@
 -- The situation that a step and its answer lead to, written as a key, and the key of the start: what the code promises of them.
-use Rattle.std.specs.Prelude.{◌≡◌, Bool, true, false, List, [], ◌++◌, ℕ, ◌<◌, ◌≤◌, ltb, length}
+use Rattle.std.specs.Prelude.{◌≡◌, Bool, true, false, List, [], ◌++◌, ℕ, ◌≤◌, ltb, length}
 use Rattle.std.proofs.lemmas.List.Edits.{sets}
 use Rattle.calculus.specs.Cond.{Pairs}
 use Rattle.calculus.specs.Free.{fn}

@@ -1,5 +1,5 @@
 -- The situation that a step and its answer lead to (`moves`), and what the code that writes it promises.
-use Rattle.std.specs.Prelude.{◌≡◌, Bool, true, false, List, ◌++◌, ℕ, ◌<◌}
+use Rattle.std.specs.Prelude.{◌≡◌, List, ℕ, ◌<◌}
 use Rattle.std.proofs.lemmas.List.Edits.{sets}
 use Rattle.calculus.specs.Term.{ren, put}
 use Rattle.terms.specs.Encoding.{InScope}
