@@ -1,7 +1,7 @@
 -- What a change of some bytes of an area leaves as it was. Assumes nothing.
 use mathlib.Core.List.{List, [], ◌∷◌, ◌++◌, append_assoc}
 use mathlib.Core.Path.{◌≡◌, sym, ◌∙◌, ap}
-use native.Mathlib.Nat.{zero_add, suc-add}
+use native.Mathlib.Nat.{zero-add, suc-add}
 use native.Mathlib.Omega.{arith}
 use Prim.Native.Nat.{ℕ, zero, suc, ◌+◌, ◌-◌, ◌<◌, ◌≤◌}
 use lib.ListN.{length, get_or, set, take, drop, length-append}
@@ -20,7 +20,7 @@ later k m a b h e =
 
 -- A window: m elements at q, or the end of the first q + m.
 pub window : (q m : ℕ) (l : List ℕ) → drop q (take (q + m) l) ≡ take m (drop q l)
-window zero m l = rw zero_add
+window zero m l = rw zero-add
 window (suc q) m [] = ap (drop (suc q)) (take-nil (suc q + m)) ∙ sym (take-nil m)
 window (suc q) m (x ∷ l) = rw suc-add (window q m l)
 
