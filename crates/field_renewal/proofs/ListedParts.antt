@@ -24,7 +24,7 @@ use Rattle.terms.specs.Question.{Question}
 use Rattle.terms.proofs.ScopeLaws.{free_below}
 use Rattle.terms.proofs.WellFormed.{WellFormed, accepted_well_formed}
 use Rattle.steps.specs.Forms.{result_form}
-use Rattle.steps.proofs.FormLaws.{Form, result_form_lem, form_scope}
+use Rattle.steps.proofs.FormLaws.{result_form_lem, form_scope}
 use Rattle.calculus.specs.Lists.{◌∈◌}
 use Rattle.calculus.proofs.Membership.{∈-all}
 use Rattle.steps.proofs.QuestionDefinitions.{definitions, bodies_in_scope, opens_one}
@@ -45,7 +45,7 @@ use Rattle.field.specs.Setting.{Setting, setting_of}
 use Rattle.field.specs.Successors.{some_binds}
 use Rattle.field_renewal.specs.ListedEntries.{ListAt, EntriesAt}
 use Rattle.field.proofs.ClassTests.{listed_class}
-use Rattle.field.proofs.MoveLaws.{listed_move, move_within, move_scope, move_rewritten, derived_move}
+use Rattle.field.proofs.MoveLaws.{move_within, move_scope, move_rewritten, derived_move}
 use Rattle.field.proofs.NameLimit.{move_binds}
 
 nth_∈ : {A : Type 0} (xs : List A) (i : ℕ) (d : A) → i < length xs → get_or xs i d ∈ xs

@@ -2,7 +2,6 @@
 use mathlib.Core.List.{[]}
 use Rattle.calculus.specs.Term.{nil}
 use Rattle.steps.specs.Listed.{ListedStep}
-use Rattle.steps_lister.specs.PartLister as lister
 
 -- a step, where a list has none
 pub blank : ListedStep

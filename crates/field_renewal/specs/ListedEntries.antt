@@ -1,11 +1,9 @@
 -- A situation of the work area taken up: its free names, its apart pairs and the steps of both sides, and what the code promises of them.
 use Rattle.std.specs.Prelude.{◌≡◌, List, ℕ, ◌*◌, ◌<◌, length, get_or}
-use Rattle.terms.specs.Answer.{result}
 use Rattle.terms.specs.Encoding.{InScope}
 use Rattle.terms.specs.Limits.{name_count}
 use Rattle.steps.specs.Limits.{step_bytes}
 use Rattle.steps.specs.Listed.{ListedStep}
-use Rattle.steps_lister.specs.PartLister as lister
 use Rattle.field_pairs.specs.Entry.{EntryAt, Rewritten}
 
 -- A list of steps in an area, each at its place, with results of the question's definitions, rewritten by the conditions, and objects that are names.
