@@ -3,7 +3,7 @@
 # refuses a source anywhere but in its crate). No program is run: what they write goes by the number of names. The numbers that change are in
 # docs/names-32.txt.
 #     bash trial-names.sh [CRATE...]
-# NAMES_COPY is another folder for the copy, COMMAND another command than `rt all check` there or, in the folder of each crate named, `rt check`.
+# NAMES_COPY is another folder for the copy, COMMAND another command than `rt all check --jobs 2` there or, in the folder of each crate named, `rt check`.
 set -euo pipefail
 cd "$(dirname "$0")"
 copy=${NAMES_COPY:-${XDG_CACHE_HOME:-$HOME/.cache}/vukhtaso/names-32}
@@ -46,7 +46,7 @@ change
 
 cd "$copy"
 if (($# == 0)); then
-    exec ${COMMAND:-rt all check}
+    exec ${COMMAND:-rt all check --jobs 2}
 fi
 for crate in "$@"; do
     (cd "crates/$crate" && ${COMMAND:-rt check})
