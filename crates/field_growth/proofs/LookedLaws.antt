@@ -27,6 +27,7 @@ use Rattle.field_growth.proofs.Loops.{select-++, together-++}
 
 -- Names as members.
 in_∈ : (ns : List ℕ) (n : ℕ) → In n ns → n ∈ ns
+in_∈ [] n x' = elim x' [ ]
 in_∈ (m ∷ ns) n (inl e) = inl e
 in_∈ (m ∷ ns) n (inr i) = inr (in_∈ ns n i)
 
@@ -55,6 +56,7 @@ pub record Offered (differ : Bool) (G : List ℕ) (s : ListedStep) (name : ℕ) 
 
 pub looked_offered : (differ : Bool) (G : List ℕ) (s : ListedStep) → s.object < name_count → (name : ℕ) → name ∈ looked_with differ G s → Offered differ G s name
 unfolding looked_with received leading led
+looked_offered false G s l name (inr x3) = elim x3 [ ]
 looked_offered false G s l name (inl e) = record {
   as_name = s.object;
   there = inl refl;

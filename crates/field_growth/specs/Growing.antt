@@ -1,10 +1,8 @@
 -- The known situations grow while exploration takes one up: each situation that it leads to is looked for among them and put behind them if it is
 -- new. What the code promises of it.
 use Rattle.std.specs.Prelude.{◌≡◌, Bool, true, false, cond, List, [], ◌∷◌, ◌++◌, map, ◌⊎◌, ℕ, ◌+◌, ◌*◌, ◌<◌, ◌≤◌, eqb, length, get_or, take, drop}
-use Rattle.std.proofs.lemmas.List.Edits.{sets}
 use Rattle.calculus.specs.Cond.{Pairs}
 use Rattle.calculus.specs.Distinction.{Irr, among}
-use Rattle.terms.specs.Answer.{result}
 use Rattle.terms.specs.Encoding.{InScope}
 use Rattle.terms.specs.Limits.{name_count}
 use Rattle.steps.specs.Limits.{step_bytes, most_steps}
@@ -19,7 +17,7 @@ use Rattle.field_successors.specs.Leading.{placed, leading}
 use Rattle.field_pairs.specs.NameFlags.{HasNames}
 use Rattle.field_slots.specs.Noted.{noted_count, note_at, Stands, SoleIn}
 use Rattle.field.specs.Situation.{Situation, free_from}
-use Rattle.field_pairs.specs.Slot.{flags_of, key_of, key_bytes, slot_bytes, struck_at}
+use Rattle.field_pairs.specs.Slot.{flags_of, key_of, slot_bytes, struck_at}
 use Rattle.field.specs.Successors.{select, answers, allowed, received, moves}
 use Rattle.field_renewal.specs.ListedEntries.{ListAt, EntriesAt}
 use Rattle.field_growth.specs.declared.growth.Added.{Added}
