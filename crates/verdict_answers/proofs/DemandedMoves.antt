@@ -48,6 +48,7 @@ Within m w = (l : List Situation) → l ∈ m → (t : Situation) × (t ∈ l) �
 -- some move has an answer
 some-answer : (ms : List (List Situation)) → unanswered ms ≡ false → (w : List Situation) → w ∈ ms → (t : Situation) × (t ∈ w)
 unfolding unanswered
+some-answer [] e w i = elim i [ ]
 some-answer ([] ∷ ms) e w i = true_not_false refl e
 some-answer ((t ∷ v) ∷ ms) e w (inl d) = (t, subst (λ w. t ∈ w) (sym d) (inl refl))
 some-answer ((t ∷ v) ∷ ms) e w (inr i) = some-answer ms e w i
@@ -55,6 +56,7 @@ some-answer ((t ∷ v) ∷ ms) e w (inr i) = some-answer ms e w i
 -- a lot of a list that is not empty
 some-name : (k : Kind) (zs ys : List ℕ) → ys ∈ lots k zs → (z : ℕ) → z ∈ zs → (y : ℕ) × (y ∈ ys)
 unfolding lots
+some-name late zs ys (inr x4) z i = elim x4 [ ]
 some-name late zs ys (inl e) z i = (z, subst (λ l. z ∈ l) (sym e) i)
 some-name early zs ys j z i = let (y, h, e) = map-∈ (λ y. y ∷ []) ys zs j in (y, subst (λ l. y ∈ l) (sym e) (inl refl))
 
@@ -220,6 +222,7 @@ module _ (question : List ℕ) (q : Question) (accepted : check_of question ≡ 
       (w, a, only u w b (subst (λ l. t ∈ l) g h))
     where
       only : (u : Situation) (w : List Situation) → u ∈ w → t ∈ single u → t ∈ w
+      only u w b (inr x6) = elim x6 [ ]
       only u w b (inl c) = subst (λ u. u ∈ w) (sym c) b
   demand_followed (named k) s proper ms lead m i l j t h =
       demanded-among Δ (setting_of true q.bodies) q.arities s ms (lists k s proper ms lead) k (naming k s proper ms lead) m i l j t h

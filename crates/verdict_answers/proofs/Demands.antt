@@ -1,5 +1,5 @@
 -- Demands that those left answer, and demands that they do not. Assumes nothing.
-use mathlib.Core.Bool.{Bool, true, false, ◌&&◌, or_true}
+use mathlib.Core.Bool.{Bool, true, false, ◌&&◌, or-true}
 use mathlib.Core.List.{List, [], ◌∷◌, ◌++◌, map}
 use mathlib.Core.Logic.{inl, inr}
 use mathlib.Core.Path.{◌≡◌, refl, sym, ap, ◌∙◌, subst}
@@ -26,6 +26,7 @@ module _ (left : List Situation) where
 
   pub one_gone : (l : List Situation) (t : Situation) → t ∈ l → found left t ≡ false → all_found left l ≡ false
   unfolding all_found
+  one_gone [] t x'' h = elim x'' [ ]
   one_gone (u ∷ l) t (inl e) h = rw (subst (λ t. found left t ≡ false) e h)
   one_gone (u ∷ l) t (inr i) h = go (found left u) (one_gone l t i h)
     where
@@ -35,8 +36,9 @@ module _ (left : List Situation) where
 
   pub one_answers : (m : List (List Situation)) (l : List Situation) → l ∈ m → all_found left l ≡ true → answered left m ≡ true
   unfolding answered
+  one_answers [] l x'' h = elim x'' [ ]
   one_answers (k ∷ m) l (inl e) h = rw (subst (λ l. all_found left l ≡ true) e h)
-  one_answers (k ∷ m) l (inr i) h = rw (one_answers m l i h, or_true)
+  one_answers (k ∷ m) l (inr i) h = rw (one_answers m l i h, or-true)
 
   pub none_answers : (m : List (List Situation)) → ((l : List Situation) → l ∈ m → all_found left l ≡ false) → answered left m ≡ false
   unfolding answered
@@ -50,6 +52,7 @@ module _ (left : List Situation) where
 
   pub one_unanswered : (ms : List (List (List Situation))) (m : List (List Situation)) → m ∈ ms → answered left m ≡ false → all_answered left ms ≡ false
   unfolding all_answered
+  one_unanswered [] m x'' h = elim x'' [ ]
   one_unanswered (n ∷ ms) m (inl e) h = rw (subst (λ m. answered left m ≡ false) e h)
   one_unanswered (n ∷ ms) m (inr i) h = go (answered left n) (one_unanswered ms m i h)
     where
@@ -59,6 +62,7 @@ module _ (left : List Situation) where
 
   pub member-answered : (ms : List (List (List Situation))) → all_answered left ms ≡ true → (m : List (List Situation)) → m ∈ ms → answered left m ≡ true
   unfolding all_answered
+  member-answered [] h m x'' = elim x'' [ ]
   member-answered (n ∷ ms) h m (inl e) = ap (answered left) e ∙ (both_true (answered left n) (all_answered left ms) h).0
   member-answered (n ∷ ms) h m (inr i) = member-answered ms (both_true (answered left n) (all_answered left ms) h).1 m i
 
@@ -98,4 +102,5 @@ each-single X ms h m i =
     (single t, subst (λ m. single t ∈ m) (sym e) (∈-map single t w k), only t x)
   where
     only : (t : Situation) → X t → (u : Situation) → u ∈ single t → X u
+    only t x u (inr x'') = elim x'' [ ]
     only t x u (inl e) = subst X (sym e) x

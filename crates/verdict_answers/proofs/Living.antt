@@ -26,6 +26,8 @@ lives_cons f fs t ss s l =
 
 pub living-at : (flags : List ℕ) (known : List Situation) (s : Situation) → s ∈ living flags known → LivesAt flags known s
 unfolding living
+living-at [] known s m = elim m [ ]
+living-at (f ∷ fs) [] s m = elim m [ ]
 living-at (f ∷ fs) (t ∷ ss) s m = go (eqb f 0) refl m (λ n. living-at fs ss s n)
   where
     go : (b : Bool) → eqb f 0 ≡ b → s ∈ cond b (t ∷ living fs ss) (living fs ss) → (s ∈ living fs ss → LivesAt fs ss s) → LivesAt (f ∷ fs) (t ∷ ss) s
@@ -53,6 +55,8 @@ at-living (f ∷ fs) (t ∷ ss) (suc i) d h k e = go (eqb f 0) (at-living fs ss 
 pub struck_either : (flags : List ℕ) (known : List Situation) (i : ℕ) (d s : Situation) → s ∈ living flags known
     → (s ≡ get_or known i d) ⊎ (s ∈ living (set flags i 1) known)
 unfolding living
+struck_either [] known i d s m = elim m [ ]
+struck_either (f ∷ fs) [] i d s m = elim m [ ]
 struck_either (f ∷ fs) (t ∷ ss) zero d s m = go (eqb f 0) m
   where
     go : (b : Bool) → s ∈ cond b (t ∷ living fs ss) (living fs ss) → (s ≡ t) ⊎ (s ∈ living fs ss)
@@ -69,6 +73,7 @@ struck_either (f ∷ fs) (t ∷ ss) (suc i) d s m = go (eqb f 0) m (λ n. struck
 
 pub struck_within : (flags : List ℕ) (known : List Situation) (i : ℕ) (s : Situation) → s ∈ living (set flags i 1) known → s ∈ living flags known
 unfolding living
+struck_within [] known i s m = elim m [ ]
 struck_within (f ∷ fs) [] zero s m = absurd m
 struck_within (f ∷ fs) [] (suc i) s m = absurd m
 struck_within (f ∷ fs) (t ∷ ss) zero s m = go (eqb f 0)

@@ -56,6 +56,7 @@ names_in n (suc k) y h l = go (ℕ_discrete y n) (λ h'. names_in (suc n) k y h'
 
 pub in_names : (n k y : ℕ) → y ∈ names_from n k → (n ≤ y) × (y < n + k)
 unfolding names_from
+in_names n zero y x' = elim x' [ ]
 in_names n (suc k) y (inl e) = (omega arith, omega arith)
 in_names n (suc k) y (inr i) = let (h, l) = in_names (suc n) k y i in (omega arith, omega arith)
 
@@ -89,6 +90,7 @@ module _ (free area : List ℕ) (at name : ℕ) where
 -- some member of a list
 some-member : (ys : List ℕ) (y : ℕ) → y ∈ ys → some_of ys ≡ true
 unfolding some_of
+some-member [] y i = elim i [ ]
 some-member (z ∷ ys) y i = refl
 
 pub some_there : (ys : List ℕ) → some_of ys ≡ true → (y : ℕ) × (y ∈ ys)

@@ -110,6 +110,7 @@ module _ (second : Bool) (G : List ℕ) (D : Pairs) (ts : List ListedStep) where
     late_some = go (lot_of 0 name_count F s) (subst (λ ys. s.object ∈ ys) late_lot (some-received name_count F s (λ k. small)))
       where
         go : (ys : List ℕ) → s.object ∈ ys → some_of ys ≡ true
+        go [] i = elim i [ ]
         go (y ∷ ys) i = refl
 
     -- and of an early one
@@ -133,6 +134,7 @@ module _ (second : Bool) (G : List ℕ) (D : Pairs) (ts : List ListedStep) where
         (true_both (allowed true name_count D d.step) (some_of (lot_of 0 name_count F d.step)) d.allowed_is (late_some d.step o))))
       where
         only : (zs ys : List ℕ) → ys ∈ (zs ∷ []) → ys ≡ zs
+        only zs ys (inr x') = elim x' [ ]
         only zs ys (inl e) = e
 
     pub of_late : (m : List (List Situation)) → m ∈ run_demands true 0 name_count second F D ss ts → m ∈ side_demands (named late) second F D ss ts
@@ -165,6 +167,7 @@ module _ (second : Bool) (G : List ℕ) (D : Pairs) (ts : List ListedStep) where
         )
       where
         below : (y : ℕ) → y < name_count → (z : ℕ) → z ∈ (y ∷ []) → z < name_count
+        below y b z (inr x') = elim x' [ ]
         below y b z (inl e) = subst (λ z. z < name_count) (sym e) b
 
     pub of_early : (y : ℕ) → y < name_count → (m : List (List Situation)) → m ∈ run_demands true y (y + 1) second F D ss ts
@@ -184,6 +187,7 @@ module _ (second : Bool) (G : List ℕ) (D : Pairs) (ts : List ListedStep) where
         (in_demands name_count (placed second) F D early ss ts s h may (y ∷ []) (∈-map (λ y. y ∷ []) y (received true name_count F s) r))
       where
         below : (z : ℕ) → z ∈ (y ∷ []) → z < name_count
+        below z (inr x') = elim x' [ ]
         below z (inl e) = subst (λ z. z < name_count) (sym e) b
 
 -- side_answered, side_early

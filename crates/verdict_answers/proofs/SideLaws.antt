@@ -156,6 +156,7 @@ module _ (from to : ℕ) (arities : List ℕ) (capacity : ℕ) (work : List ℕ)
       }
         where
           relies : (p : These) → x.all ≡ true → Few x.relied → (w : List (List Situation)) → w ∈ (wanted p k ∷ []) → SomeAnswer (NumberIn (Has x.relied) p.known) w
+          relies p q f w (mathlib.Core.Logic.inr x'') = elim x'' [ ]
           relies p q f w (inl d) = subst (SomeAnswer (NumberIn (Has x.relied) p.known)) (sym d) (
             reached p k l,
             reply_in p k h (may p) l g (answers_too p e).0,
@@ -190,6 +191,7 @@ module _ (from to : ℕ) (arities : List ℕ) (capacity : ℕ) (work : List ℕ)
         one p w i = only (subst (λ ds. w ∈ ds) (of_step_lem p) i)
           where
             only : w ∈ (wanted p k ∷ []) → w ∈ all_demands p
+            only (mathlib.Core.Logic.inr x') = elim x' [ ]
             only (inl d) = subst (λ w. w ∈ all_demands p) (sym d)
                 (∈-map (demanded from to second (names p) p.pairs p.replies) (step p k) (select (asked differ from to (names p) p.pairs) p.steps)
                 (∈-select (asked differ from to (names p) p.pairs) (step p k) p.steps (step_there p k h (may p)) (may p)))
