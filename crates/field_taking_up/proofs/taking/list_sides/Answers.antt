@@ -1,0 +1,54 @@
+use native.Mathlib.Omega.{arith}
+use Rattle.field_kept_lists.proofs.ListAreaLaws.{side_list}
+use Rattle.field_taking_up.proofs.TakingLaws.{sides_first_past, sides_second_past, sides_names_past, sides_listed}
+use Rattle.field_taking_up.proofs.taking.list_sides.Goals as goal
+
+pub list_side-requires : goal.list_side-requires
+list_side-requires c =
+    (c.requires.0, c.requires.1, c.requires.2, c.requires.3, c.requires.5, c.requires.4)
+
+pub returns-in-Unsettled : goal.returns-in-Unsettled
+returns-in-Unsettled c =
+    (sides_first_past _ _ _ _ _ _ _ c.list_side.ensures.0 c.in-Unsettled.is, c.list_side.ensures.1, c.requires.5)
+
+pub list_second-requires : goal.list_second-requires
+list_second-requires c =
+    let first = side_list _ _ _ _ _ c.list_side.ensures.0 _ c.in-Count.is in
+    let k = c.list_side.auto in (
+      c.requires.0,
+      c.requires.1,
+      omega (arith, k, c.requires.2),
+      omega (arith, k, c.requires.3),
+      c.list_side.ensures.1,
+      first.1,
+      first.0,
+      c.requires.5,
+    )
+
+pub returns-in-Unsettled-list_second : goal.returns-in-Unsettled-list_second
+returns-in-Unsettled-list_second c =
+    (sides_second_past _ _ _ _ _ _ _ c.list_second.ensures.0 c.in-Unsettled-list_second.is, c.list_side.ensures.1, c.list_second.ensures.1)
+
+pub past_names-requires : goal.past_names-requires
+past_names-requires c =
+    let n = (side_list _ _ _ _ _ c.list_side.ensures.0 _ c.in-Count.is).0.few in
+    let m = (side_list _ _ _ _ _ c.list_second.ensures.0 _ c.in-Count-list_second.is).0.few in
+    (omega (arith, n, c.list_side.ensures.1.room), omega (arith, m, c.list_second.ensures.1.room))
+
+pub returns-then-past_names : goal.returns-then-past_names
+returns-then-past_names c = (
+  sides_names_past _ _ _ _ _ _ c.list_side.ensures.1.room c.list_second.ensures.1.room _ _ (side_list _ _ _ _ _
+      c.list_side.ensures.0 _ c.in-Count.is).0 (side_list _ _ _ _ _ c.list_second.ensures.0 _ c.in-Count-list_second.is).0 _
+      c.past_names.ensures c.if-past_names.true,
+  c.list_side.ensures.1,
+  c.list_second.ensures.1,
+)
+
+pub returns : goal.returns
+returns c = (
+  sides_listed _ _ _ _ _ _ c.list_side.ensures.1.room c.list_second.ensures.1.room _ _ (side_list _ _ _ _ _
+      c.list_side.ensures.0 _ c.in-Count.is).0 (side_list _ _ _ _ _ c.list_second.ensures.0 _ c.in-Count-list_second.is).0 _
+      c.past_names.ensures c.if-past_names.false,
+  c.list_side.ensures.1,
+  c.list_second.ensures.1,
+)
