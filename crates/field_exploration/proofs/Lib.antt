@@ -1,1 +1,2 @@
 mod ExploringLaws
+pub mod Below

@@ -1,11 +1,11 @@
 // Exploration of the field: document 01, "The field and the verdict".
 ghost use Rattle.std.specs.Prelude.{false, ◌≡◌, ◌*◌, ◌≤◌, length};
 ghost use Rattle.steps_tallies.specs.Tally.{tally_size, BodiesTallied};
-ghost use Rattle.steps_rows.specs.Rows.{row_bytes, most_rows};
+ghost use Rattle.field_taking_up.specs.Below.{row_bytes, most_rows};
 ghost use Rattle.field_growth.specs.Growing.{Underway, HasSteps, GrowsSide, GrowsSides};
 ghost use Rattle.field_exploration.specs.Following.{GrowIs};
 ghost use Rattle.field_exploration.specs.Exploring.{ExploreIs};
-ghost use Rattle.field_kept_lists.specs.ListArea.{Labelled};
+ghost use Rattle.field_taking_up.specs.Below.{Labelled};
 ghost use Rattle.field_pairs.specs.Slot.{slot_bytes};
 
 use field_growth::growth::{Growth, Step, grow_step};

@@ -1,2 +1,3 @@
 pub mod ListedEntries
 pub mod Renewing
+pub mod Below

@@ -26,7 +26,7 @@ use Rattle.steps_lister.specs.declared.list.ListAnswer.{ListAnswer}
 use Rattle.steps_lister.specs.declared.list.ListAnswer.TheVariants.{Unsettled}
 use Rattle.field_pairs.specs.Entry.{BindsIs}
 use Rattle.field_slots.specs.Key.{FirstPartIs, SecondPartIs, ApartFlagsIs}
-use Rattle.field_successors.specs.Leading.{placed}
+use Rattle.field_renewal.specs.Below.{placed}
 use Rattle.field_kept_lists.specs.ListArea.{list_area, ListIn, SideIs}
 use Rattle.field_pairs.specs.NameFlags.{HasNames, FreeInEitherIs, NewNameIs}
 use Rattle.field.specs.Setting.{setting_of, steps_in}

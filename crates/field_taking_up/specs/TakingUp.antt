@@ -10,7 +10,7 @@ use Rattle.steps.specs.Listed.{ListedStep}
 use Rattle.steps.specs.Listing.{listed, steps_of}
 use Rattle.steps_lister.specs.PartLister as lister
 use Rattle.field_slots.specs.Key.{SituationAt}
-use Rattle.field_successors.specs.Leading.{placed}
+use Rattle.field_renewal.specs.Below.{placed}
 use Rattle.field_pairs.specs.NameFlags.{HasNames}
 use Rattle.field.specs.Setting.{setting_of}
 use Rattle.field.specs.Situation.{Situation, free_in, new_name}

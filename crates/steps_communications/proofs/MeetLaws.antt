@@ -24,7 +24,7 @@ use Rattle.steps_communications.specs.Meeting.{first_merged, last_merged, is_bet
 use Rattle.steps_rows.specs.Rows.{row_bytes, kind_at, channel_at, action_kind, row_action, RowActs, Outlined}
 use Rattle.steps_splicing.specs.PlacedResults.{Trivial}
 use Rattle.steps_splicing.proofs.ContextLaws.{raised-blocked}
-use Rattle.steps_equal_branches.proofs.RaisedMeetings.{raised-same, raised_free, raised_apart, slot_of_free, bound_slot, slot_one}
+use Rattle.steps_rows.proofs.Below.{raised-same, raised_free, raised_apart, slot_of_free, bound_slot, slot_one}
 
 -- The action is an input on a channel (true), or an output (false).
 abbrev On : Bool → ℕ → Act → Type 0

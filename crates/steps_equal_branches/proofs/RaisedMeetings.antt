@@ -12,8 +12,8 @@ use Rattle.calculus.specs.Term.{Term, par, res}
 use Rattle.steps.specs.Raw.{step, blocked, left_steps, right_steps, restricted, leaves_alone, restricted_alone, outside, restricted_action}
 use Rattle.steps_conditions.specs.Slots.{slot_of}
 use Rattle.steps_conditions.proofs.NameSlots.{slot_bound, slot_free}
-use Rattle.steps_splicing.specs.Contexts.{Frame, left_of, right_of, beneath, raised, restrictions, level_in}
-use Rattle.steps_splicing.proofs.ContextLaws.{raised-blocked}
+use Rattle.steps_placing.proofs.Below.{Frame, left_of, right_of, beneath, raised, restrictions, level_in}
+use Rattle.steps_placing.proofs.Below.{raised-blocked}
 
 -- A match of a name with itself.
 pub raised-same : (K : List Frame) (a : ℕ) (A : Term)

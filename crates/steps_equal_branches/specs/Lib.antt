@@ -1,2 +1,3 @@
 pub mod BranchRows
 pub mod Same
+pub mod Below

@@ -25,7 +25,7 @@ use Rattle.steps_splicing.specs.ListedParts.{Lists}
 use Rattle.steps_lister.specs.PartLister.{AnswersListing, ListTidiedIs}
 use Rattle.steps_walk.specs.Walking.{walked}
 use Rattle.steps_lister.specs.declared.list.ListAnswer.TheVariants.{Unsettled, Count}
-use Rattle.steps_placing.proofs.CollectLaws.{canon_classes}
+use Rattle.steps_walk.proofs.Below.{canon_classes}
 use Rattle.steps.proofs.CallLimitLaws.{never_past_calls}
 use Rattle.steps.proofs.Limited.{Long, limited-given, limited-passed, limited_within, limited-many, limited_long}
 use Rattle.steps.proofs.ListedBytes.{step-length}

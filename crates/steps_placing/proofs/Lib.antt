@@ -10,3 +10,4 @@ pub mod ResultScope
 mod TakeLaws
 mod TidiedResults
 mod WrittenLaws
+pub mod Below

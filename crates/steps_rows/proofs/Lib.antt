@@ -1,3 +1,4 @@
 mod QuietWalks
 pub mod RowLaws
 mod RowWalks
+pub mod Below

@@ -23,9 +23,9 @@ use Rattle.calculus.proofs.Membership.{∈-left, ∈_right, ∈_nth, take-map, w
 use Rattle.steps_conditions.proofs.NameSlots.{slot_inner}
 use Rattle.steps_tallies.proofs.Numbering.{nth_matching, nth_left_steps, nth_right_steps, nth_restricted}
 use Rattle.steps_conditions.proofs.SlotLaws.{slot-restricted, slot-outside}
-use Rattle.steps_placing.specs.Deciding.{fails, decided, Again}
+use Rattle.steps_equal_branches.specs.Below.{fails, decided, Again}
 use Rattle.steps_rows.specs.Rows.{row_bytes, kind_at, channel_at, object_at, action_kind, row_action, RowActs, Outlined, Row, RowsBehind, Rows, Matched, RowsKept}
-use Rattle.steps_placing.proofs.DecidingLaws.{by-fails, decided-matching, decided-left, decided_right, decided-restricted, decided_trivial, again-more, again_by, again_trivial}
+use Rattle.steps_equal_branches.proofs.Below.{by-fails, decided-matching, decided-left, decided_right, decided-restricted, decided_trivial, again-more, again_by, again_trivial}
 
 -- The action of a row.
 module _ (d kind channel object : ℕ) where

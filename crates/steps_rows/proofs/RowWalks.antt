@@ -38,7 +38,7 @@ use Rattle.steps_tallies.proofs.FrontLaws.{stands, behind}
 use Rattle.steps_conditions.proofs.SlotLaws.{slot-below}
 use Rattle.steps_passing.proofs.TwoSides.{at_left}
 use Rattle.steps_passing.proofs.TwoSides as two
-use Rattle.steps_placing.specs.Deciding.{fails, decided}
+use Rattle.steps_equal_branches.specs.Below.{fails, decided}
 use Rattle.steps_rows.specs.Rows.{row_bytes, most_rows, kind_at, channel_at, object_at, action_kind, row_action, Outlined, Row, RowsBehind, Rows, Matched, RowsKept, PutRowIs, PutRepeatedIs, sent_slot, prefix_kind, PrefixRowIs, behind_root, root_of, ScanIs}
 use Rattle.steps_equal_branches.specs.BranchRows.{is_trivial, Offers, RepeatedIs}
 use Rattle.steps_equal_branches.proofs.ChoiceLaws.{trivial_slots, trivial_names, offers_alone, offers_left, offers_beneath, offers_right}

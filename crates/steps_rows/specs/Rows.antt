@@ -16,7 +16,7 @@ use Rattle.steps.specs.Raw.{Candidate, step, blocked, visible, silent}
 use Rattle.steps_tallies.specs.Candidates.{OwnNamesIf}
 use Rattle.steps_conditions.specs.declared.action.Action.{Action}
 use Rattle.steps_conditions.specs.declared.action.Action.TheVariants.{Output}
-use Rattle.steps_placing.specs.Deciding.{decided, Again}
+use Rattle.steps_equal_branches.specs.Below.{decided, Again}
 use Rattle.steps_equal_branches.specs.BranchRows.{Offers}
 
 abbrev pub row_bytes : ℕ

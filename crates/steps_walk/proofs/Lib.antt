@@ -2,3 +2,4 @@ mod ComponentLaws
 mod VisibleBound
 pub mod WalkLaws
 pub mod WalksPart
+pub mod Below

@@ -27,7 +27,7 @@ use Rattle.steps_rows.specs.Rows.{most_rows, Rows, RowsKept, ScanIs}
 use Rattle.steps_walk.specs.Walking.{own_of, walked, TakeRowsIs, TakeSilentIs, WalkIs}
 use Rattle.steps_communications.specs.Met.{MeetsIs}
 use Rattle.steps_walk.specs.declared.walk.Walked.{Walked}
-use Rattle.steps_equal_branches.proofs.ChoiceLaws.{offers_alone}
+use Rattle.steps_rows.proofs.Below.{offers_alone}
 use Rattle.steps_placing.proofs.CollectLaws.{collect_then, collect_over}
 use Rattle.steps_walk.proofs.ComponentLaws.{silent_count}
 use Rattle.steps_splicing.proofs.ContextLaws.{placed-start, placed-left, placed_right, placed-beneath, placed-bytes, placed-length}

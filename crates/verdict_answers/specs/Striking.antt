@@ -12,7 +12,7 @@ use Rattle.steps.specs.Limits.{step_bytes}
 use Rattle.steps.specs.Listed.{ListedStep, names_from}
 use Rattle.steps_tallies.specs.Tally.{tally_size, BodiesTallied}
 use Rattle.steps_rows.specs.Rows.{row_bytes, most_rows}
-use Rattle.field_kept_lists.specs.ListArea.{Labelled}
+use Rattle.field_growth.specs.Below.{Labelled}
 use Rattle.field_slots.specs.Chains.{Chained}
 use Rattle.field_pairs.specs.Entry.{EntryAt, Rewritten}
 use Rattle.field_growth.specs.Holding.{unanswered}
@@ -25,7 +25,7 @@ use Rattle.field.specs.Setting.{setting_of}
 use Rattle.field.specs.Situation.{Situation, free_from, same_situation}
 use Rattle.field_pairs.specs.Slot.{flags_of, key_bytes, slot_bytes, struck_at}
 use Rattle.field.specs.Successors.{select, answers, allowed, received, moves, leads, successors}
-use Rattle.field_renewal.specs.ListedEntries.{ListAt}
+use Rattle.field_growth.specs.Below.{ListAt}
 use Rattle.field_slots.specs.declared.find.Found.{Found}
 use Rattle.field_slots.specs.declared.find.Found.TheVariants.{At, Nothing}
 use Rattle.verdict.specs.Judge.{greatest_capacity}

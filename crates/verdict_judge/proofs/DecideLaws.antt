@@ -18,8 +18,8 @@ use Rattle.calculus.specs.Lists.{◌∈◌}
 use Rattle.calculus.proofs.Membership.{all-∈}
 use Rattle.field_slots.specs.Chains.{Chained}
 use Rattle.field.specs.Exploration.{found, Row, Exploration, incomplete, explored, field_of}
-use Rattle.field_growth.specs.Holding.{unanswered}
-use Rattle.field_growth.specs.Holding.{SlotsHold}
+use Rattle.field_exploration.proofs.Below.{unanswered}
+use Rattle.field_exploration.proofs.Below.{SlotsHold}
 use Rattle.field_exploration.specs.Exploring.{StruckFirst, SoleNoted, Explores, ExploreIs}
 use Rattle.field_slots.specs.Key.{key_at}
 use Rattle.field_slots.specs.Noted.{note_at, SoleIn}
@@ -37,23 +37,23 @@ use Rattle.field.proofs.QuestionField.{start_proper}
 use Rattle.field.proofs.Run.{selves}
 use Rattle.field.proofs.Unseen.{∈-found}
 use Rattle.field.proofs.Members.{get_d_∈}
-use Rattle.field_growth.proofs.KeysDiffer.{key_equal, slot_key}
+use Rattle.field_exploration.proofs.Below.{key_equal, slot_key}
 use Rattle.verdict_judge.specs.Judging.{judged_answer, DecidesIs}
 use Rattle.verdict_answers.specs.Striking.{left_of, marks, Standing, EqualParts, demands_at, LeadsToEqual, FieldIn, Searching, SurvivesIs, AllSole, Strikes, AllSurvive, StartSurvivesIs}
 use Rattle.verdict.specs.Verdict.{Manner, differs, demands_of, all_answered, same, different, decided, verdict_by}
 use Rattle.verdict_judge.specs.declared.judge.Judged.{Judged}
 use Rattle.verdict_judge.specs.declared.judge.Judged.TheVariants.{Unsettled, Same, Different}
-use Rattle.verdict_strikeout.proofs.AnyOrder.{StrikesTo, NoneToStrike, survivors-left, same-found}
+use Rattle.verdict_start.proofs.Below.{StrikesTo, NoneToStrike, survivors-left, same-found}
 use Rattle.verdict_judge.proofs.ByNumber.{distinct_number}
-use Rattle.verdict_strikeout.proofs.EqualParts.{equal_answered}
-use Rattle.verdict_strikeout.proofs.FieldKept.{field-kept}
+use Rattle.verdict_start.proofs.Below.{equal_answered}
+use Rattle.verdict_start.proofs.Below.{field-kept}
 use Rattle.verdict.proofs.FieldRows.{FieldRows, explored-rows, rows-field}
 use Rattle.verdict_answers.proofs.LeftLaws.{left-found}
 use Rattle.verdict_answers.proofs.Living.{living-at}
 use Rattle.verdict_answers.proofs.Marks.{marks-at}
 use Rattle.verdict.proofs.Rounds.{true_not_false, self_in, survivors, GoodRows, found_survives}
 use Rattle.verdict_answers.proofs.DemandedMoves.{well, Δ, setting, move_demanded, demand_followed}
-use Rattle.verdict_strikeout.proofs.StrikeLaws.{still, still_with, strikes_rest, strikes_to}
+use Rattle.verdict_start.proofs.Below.{still, still_with, strikes_rest, strikes_to}
 
 -- The explored field of an accepted question in the slots.
 module _ (manner : Manner) (question : List ℕ) (q : Question) (accepted : check_of question ≡ result q) (capacity : ℕ) (rs : List Row)

@@ -18,7 +18,7 @@ use Rattle.field.proofs.Members.{get_d_∈}
 use Rattle.field_pairs.specs.Slot.{slot_bytes, struck_at, key_bytes, head_byte, note_byte}
 use Rattle.field_slots.proofs.ChainLaws.{key_flag, keeps_key, chained_kept}
 use Rattle.field_slots.proofs.NotedLaws.{note_flag}
-use Rattle.field_growth.proofs.SlotWriting.{situation-kept}
+use Rattle.field_exploration.proofs.Below.{situation-kept}
 use Rattle.verdict_notes.specs.Notes.{NotedIn, Has, NoteIs, ClearsNotes, ReliesOnLeftIs, SoleStruckIs}
 use Rattle.verdict_answers.specs.Striking.{living, left_of, Standing, SomeAnswer, ReliesOn, demands_at, FieldIn, Searching, SurvivesIs, Relies, ExaminedIs, AllNoted, AllSole, NotesHold}
 use Rattle.verdict_answers.specs.declared.answered.Answered.{Answered}

@@ -13,7 +13,7 @@ use Rattle.calculus.specs.Term.{nil}
 use Rattle.calculus.specs.Lists.{◌∈◌}
 use Rattle.calculus.proofs.Membership.{all_imp}
 use Rattle.field.specs.Exploration.{found, Row}
-use Rattle.field_growth.specs.Holding.{unanswered}
+use Rattle.field_exploration.proofs.Below.{unanswered}
 use Rattle.field_exploration.specs.Exploring.{StruckFirst}
 use Rattle.field_slots.specs.Noted.{SpareOnly}
 use Rattle.field.specs.Setting.{setting_of}
@@ -22,7 +22,7 @@ use Rattle.field_pairs.specs.Slot.{key_of, slot_bytes, struck_at, LeftAtIs}
 use Rattle.field.specs.Successors.{leads, successors}
 use Rattle.field_slots.specs.declared.find.Found.{Found}
 use Rattle.field_slots.specs.declared.find.Found.TheVariants.{At, Nothing}
-use Rattle.field_growth.proofs.KeysDiffer.{slot_key}
+use Rattle.field_exploration.proofs.Below.{slot_key}
 use Rattle.field_slots.proofs.NotedLaws.{spare_none, spare_then}
 use Rattle.field.proofs.Run.{selves}
 use Rattle.field.proofs.Unseen.{∈-found}

@@ -14,12 +14,12 @@ use Rattle.steps.specs.Listed.{ListedStep}
 use Rattle.steps.specs.Listing.{listed, steps_of}
 use Rattle.calculus.specs.Lists.{◌∈◌}
 use Rattle.calculus.proofs.Membership.{∈-left, ∈_right, ∈_either}
-use Rattle.field_successors.specs.Leading.{placed}
+use Rattle.field_taking_up.specs.Below.{placed}
 use Rattle.field.specs.Setting.{setting_of, steps_in}
 use Rattle.field.specs.Situation.{Situation, free_from, free_in, new_name}
 use Rattle.field_pairs.specs.Slot.{slot_bytes}
 use Rattle.field.specs.Successors.{moves, leads, successors}
-use Rattle.field_renewal.specs.ListedEntries.{ListAt}
+use Rattle.field_taking_up.specs.Below.{ListAt}
 use Rattle.field_taking_up.specs.TakingUp.{SidesListed, ListsAre, TakenAs, TakesUp}
 use Rattle.field_taking_up.specs.declared.taking.Lists.TheVariants.{Past, Listed}
 use Rattle.field_taking_up.specs.declared.taking.TakenUp.{TakenUp}

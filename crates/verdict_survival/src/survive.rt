@@ -1,6 +1,6 @@
 // Whether a situation survives: those left answer each demand on it. Document 01, "The field and the verdict", and request 2026-02.
 ghost use Rattle.std.specs.Prelude.{◌*◌, ◌<◌};
-ghost use Rattle.field_kept_lists.specs.ListArea.{Labelled};
+ghost use Rattle.field_taking_up.specs.Below.{Labelled};
 ghost use Rattle.verdict_answers.specs.Striking.{Slots, Listing, ExaminedIs};
 ghost use Rattle.verdict_answers.specs.Manners.{manner_of};
 

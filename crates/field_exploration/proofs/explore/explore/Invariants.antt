@@ -2,8 +2,8 @@ use mathlib.Core.Path.{◌≡◌}
 use Prim.Native.Nat.{◌*◌, ◌-◌, ◌≤◌}
 use lib.ListN.{length}
 use Rattle.steps_tallies.specs.Tally.{tally_size}
-use Rattle.steps_rows.specs.Rows.{row_bytes, most_rows}
-use Rattle.field_kept_lists.specs.ListArea.{Labelled}
+use Rattle.field_taking_up.specs.Below.{row_bytes, most_rows}
+use Rattle.field_taking_up.specs.Below.{Labelled}
 use Rattle.field_exploration.proofs.ExploringLaws.{Explorers}
 use Rattle.field_exploration.proofs.explore.explore.Given as goal
 

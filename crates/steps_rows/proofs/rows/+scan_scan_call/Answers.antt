@@ -7,7 +7,7 @@ use Rattle.terms.specs.Limits.{longest_term}
 use Rattle.steps_labels.proofs.LabelWalks.{weight_on, weight_part, weight_body, room_on, room_under, room_body}
 use Rattle.steps_tallies.proofs.TallyLoops.{called_tally}
 use Rattle.steps_passing.proofs.TwoSides.{middle_on}
-use Rattle.steps_plans.proofs.ResultLaws.{ends_tallied}
+use Rattle.steps_equal_branches.proofs.Below.{ends_tallied}
 use Prim.Native.Nat.{◌+◌, ◌*◌, ◌≤◌}
 use Rattle.steps_equal_branches.specs.BranchRows.{RepeatedIs}
 use Rattle.steps_rows.proofs.RowWalks.{scan_none, scan_idle, scan_again, scan_trivial, scan_prefix, scan_mat, scan_res, scan_two, scan_closed, scan_cut, scan_called}
