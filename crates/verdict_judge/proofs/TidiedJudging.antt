@@ -1,5 +1,5 @@
 -- A question is judged as the one with tidied bodies is (document 02, request 2026-04). Assumes nothing.
-use mathlib.Core.List.{List, map}
+use mathlib.Core.List.{List}
 use mathlib.Core.Path.{◌≡◌, sym, ap, ◌∙◌}
 use Prim.Native.Nat.{ℕ}
 use lib.ListN.{take}

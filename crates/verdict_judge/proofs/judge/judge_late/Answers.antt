@@ -1,0 +1,6 @@
+use Rattle.verdict_answers.specs.Manners.{manner_of}
+use Rattle.verdict_judge.proofs.judge.judge_late.Goals as goal
+
+pub returns : goal.returns
+unfolding manner_of
+returns c = c.judge_as.ensures
