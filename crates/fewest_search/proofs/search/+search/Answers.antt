@@ -34,22 +34,21 @@ search-next-requires t c =
     (omega (arith, c.decreases), c.requires)
 
 pub search-requires : goal.search-requires
-search-requires t c =
-    (
-      omega (arith, c.decreases),
-      (
-        c.requires.0,
-        record {
-          some = c.requires.1.some;
-          most = c.requires.1.most;
-          fits = omega (
-            arith,
-            c.requires.1.fits,
-            c.search-next.auto.work,
-          );
-        },
-      ),
-    )
+search-requires t c = (
+  omega (arith, c.decreases),
+  (
+    c.requires.0,
+    record {
+      some = c.requires.1.some;
+      most = c.requires.1.most;
+      fits = omega (
+        arith,
+        c.requires.1.fits,
+        c.search-next.auto.work,
+      );
+    },
+  ),
+)
 
 pub returns : goal.returns
 returns t c =

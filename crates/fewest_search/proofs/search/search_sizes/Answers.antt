@@ -19,20 +19,19 @@ loop-size-init c =
     )
 
 pub search-best-requires : goal.search-best-requires
-search-best-requires c =
-    (
-      c.requires.0,
-      record {
-        some = c.requires.1.some;
-        most = c.requires.1.most;
-        fits = omega (
-          arith,
-          c.requires.1.fits,
-          c.loop-size.invariant.1,
-          c.judge_next-best.auto.work,
-        );
-      },
-    )
+search-best-requires c = (
+  c.requires.0,
+  record {
+    some = c.requires.1.some;
+    most = c.requires.1.most;
+    fits = omega (
+      arith,
+      c.requires.1.fits,
+      c.loop-size.invariant.1,
+      c.judge_next-best.auto.work,
+    );
+  },
+)
 
 pub loop-size-preserved : goal.loop-size-preserved
 loop-size-preserved c =

@@ -4,9 +4,14 @@ use native.Mathlib.Omega.{arith}
 use lib.ListN.{replicate}
 use lib.Seq.{length-take-le}
 use borrow.Author.Rules.{rules}
+use Rattle.small_parts_count.specs.Counts.{CountIs}
 use Rattle.small_parts_words.proofs.WordLaws.{few_parts}
 use Rattle.small_parts_count.proofs.TallyLaws.{counted_numbers, few_kept}
 use Rattle.small_parts_count.proofs.count.count.Goals as goal
+
+pub returns-then-size-gt-GREATEST_LENGTH : goal.returns-then-size-gt-GREATEST_LENGTH
+unfolding CountIs
+returns-then-size-gt-GREATEST_LENGTH c = search rules
 
 pub collect_parts-parts-requires : goal.collect_parts-parts-requires
 collect_parts-parts-requires c =
