@@ -63,7 +63,7 @@ pub extern "C" fn exchange_judge(question: &[u8], capacity: u64, work: &mut [u8]
     judged_code(verdict_judge::judge::judge(question, capacity, work))
 }
 
-// The late verdict, where all names differ: request 2026-02.
+// The late verdict, where all names differ.
 #[unsafe(no_mangle)]
 pub extern "C" fn exchange_late(question: &[u8], capacity: u64, work: &mut [u8]) -> u64
     ensures { LateIs question.now capacity work.old result work.new }

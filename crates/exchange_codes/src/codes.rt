@@ -1,5 +1,6 @@
 // The number that an operation answers: kind × 2^32 + number.
 ghost use Rattle.std.specs.Prelude.{◌≡◌};
+ghost use Rattle.terms_bytes.specs.Refusals.{number_of};
 ghost use Rattle.terms_checks.specs.Checking.{checked_answer};
 ghost use Rattle.terms_bytes.specs.Writing.{written_answer};
 ghost use Rattle.verdict_judge.specs.Judging.{judged_answer};
@@ -7,30 +8,27 @@ ghost use Rattle.verdict.specs.Outcome.{code_of, gave, turned_back, unsettled_ou
 ghost use Rattle.fewest_lists.specs.Bests.{apart_outcome};
 ghost use Rattle.exchange_codes.specs.Listed.{of_steps};
 
-use fewest_lists::best::Apart;
-use steps_lister::operation::StepsAnswer;
-use terms_bytes::answer::Written;
-use terms_checks::check::Checked;
-use verdict_judge::judge::Judged;
+use fewest_lists::best::Choice;
+use terms_bytes::answer::Refusal;
+use verdict_judge::judge::Verdict;
 
 // What an answer's kind adds to its number: kind × 2^32.
 const RESULT: u64 = 0;
 
-const REFUSED: u64 = 4294967296;
+const REFUSED: u64 = 1 << 32;
 
-const UNSETTLED: u64 = 8589934592;
+const UNSETTLED: u64 = 2 << 32;
 
-const SAME: u64 = 12884901888;
+const SAME: u64 = 3 << 32;
 
-const DIFFERENT: u64 = 17179869184;
+const DIFFERENT: u64 = 4 << 32;
 
-const NONE: u64 = 21474836480;
+const NONE: u64 = 5 << 32;
 
-// The refusal by check `k`.
-fn refusal(k: u8) -> u64
-    ensures { result ≡ code_of (turned_back k) }
+fn refusal(refusal: Refusal) -> u64
+    ensures { result ≡ code_of (turned_back (number_of refusal)) }
 {
-    REFUSED + k as u64
+    REFUSED + refusal.number() as u64
 }
 
 // The result `n`.
@@ -66,53 +64,60 @@ fn none() -> u64
     NONE
 }
 
-pub fn checked_code(answer: Checked) -> u64
+// These conversions are no `From<..> for u64`: `Result` is not this repository's type, and `judged_code` asks for a small number.
+pub fn checked_code(answer: Result<(), Refusal>) -> u64
     ensures { result ≡ code_of (of_number (checked_answer answer)) }
 {
     match answer {
-        Checked::Accepted => given(0),
-        Checked::Refused(k) => refusal(k),
+        Ok(()) => given(0),
+        Err(k) => refusal(k),
     }
 }
 
-pub fn written_code(answer: Written) -> u64
+pub fn written_code(answer: Result<usize, Refusal>) -> u64
     ensures { result ≡ code_of (of_number (written_answer answer)) }
 {
     match answer {
-        Written::Length(n) => given(n),
-        Written::Refused(k) => refusal(k),
+        Ok(n) => given(n),
+        Err(k) => refusal(k),
     }
 }
 
-pub fn listed_code(answer: StepsAnswer) -> u64
+pub fn listed_code(answer: Result<Option<usize>, Refusal>) -> u64
     ensures { result ≡ code_of (of_steps answer) }
 {
     match answer {
-        StepsAnswer::Refused(k) => refusal(k),
-        StepsAnswer::Unsettled => unsettled(),
-        StepsAnswer::Count(n) => given(n),
+        Ok(listed) => match listed {
+            None => unsettled(),
+            Some(n) => given(n),
+        },
+        Err(k) => refusal(k),
     }
 }
 
-pub fn judged_code(answer: Judged) -> u64
+pub fn judged_code(answer: Result<Verdict, Refusal>) -> u64
     requires { Small (of_verdict (judged_answer answer)) }
     ensures { result ≡ code_of (of_verdict (judged_answer answer)) }
 {
     match answer {
-        Judged::Refused(k) => refusal(k),
-        Judged::Unsettled => unsettled(),
-        Judged::Same(n) => same(n),
-        Judged::Different(n) => different(n),
+        Ok(verdict) => match verdict {
+            Verdict::Unsettled => unsettled(),
+            Verdict::Same(n) => same(n),
+            Verdict::Different(n) => different(n),
+        },
+        Err(k) => refusal(k),
     }
 }
 
-pub fn apart_code(answer: Apart) -> u64
+pub fn apart_code(answer: Result<Choice, Refusal>) -> u64
     ensures { result ≡ code_of (apart_outcome answer) }
 {
     match answer {
-        Apart::Refused(k) => refusal(k),
-        Apart::Unsettled => unsettled(),
-        Apart::NoChoice => none(),
-        Apart::Length(n) => given(n),
+        Ok(choice) => match choice {
+            Choice::Unsettled => unsettled(),
+            Choice::NoChoice => none(),
+            Choice::Length(n) => given(n),
+        },
+        Err(k) => refusal(k),
     }
 }

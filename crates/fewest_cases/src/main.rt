@@ -3,62 +3,35 @@
 // the names behind their number, the question. No more than 65,536 bytes are read.
 #![tactic(auto)]
 
-use fewest_lists::best::Apart;
+use fewest_lists::best::Choice;
 use fewest_search::apart::apart;
-use report::print_line;
+use questions::{MOST_INPUT, for_each_question};
 use std::io;
 use std::io::Read;
+use terms_bytes::answer::Refusal;
 use terms_bytes::bytes::get;
-use terms_bytes::frame::{after_field, field_at};
 use terms_bytes::limits::LONGEST_APART;
-
-const MOST_INPUT: u64 = 65536;
 
 const WORK_BYTES: usize = 65536;
 
 // The bytes of a list, in decimal.
 fn print_list(rt: &impl Print, list: &[u8], n: usize) -> io::Result<()> {
     print!(rt; "length {n}")?;
-    for i in 0..n {
-        let byte = get(list, i);
+    for byte in list.iter().take(n) {
         print!(rt; " {byte}")?;
     }
     println!(rt; "")
 }
 
-fn print_apart(rt: &impl Print, answer: Apart, area: &[u8]) -> io::Result<()> {
+fn print_apart(rt: &impl Print, answer: Result<Choice, Refusal>, area: &[u8]) -> io::Result<()> {
     match answer {
-        Apart::Refused(k) => print_line(rt, b"refused", k as u64),
-        Apart::Unsettled => print_line(rt, b"unsettled", 0),
-        Apart::NoChoice => print_line(rt, b"none", 0),
-        Apart::Length(n) => print_list(rt, area, n),
+        Ok(choice) => match choice {
+            Choice::Unsettled => println!(rt; "unsettled 0"),
+            Choice::NoChoice => println!(rt; "none 0"),
+            Choice::Length(n) => print_list(rt, area, n),
+        },
+        Err(refusal) => println!(rt; "refused {}", refusal.number()),
     }
-}
-
-// Searches with a result area that is long enough.
-fn write_found(
-    rt: &impl Print,
-    question: &[u8],
-    capacity: u64,
-    names: &[u8],
-    work: &mut [u8],
-) -> io::Result<()> {
-    let mut area = [255u8; LONGEST_APART];
-    let answer = apart(question, capacity, names, work, &mut area);
-    print_apart(rt, answer, &area)
-}
-
-// Searches with one that is a byte too short.
-fn write_short(
-    rt: &impl Print,
-    question: &[u8],
-    capacity: u64,
-    names: &[u8],
-    work: &mut [u8],
-) -> io::Result<()> {
-    let mut area = [255u8; LONGEST_APART - 1];
-    let answer = apart(question, capacity, names, work, &mut area);
-    print_apart(rt, answer, &area)
 }
 
 fn write_answer(rt: &impl Print, input: &[u8], work: &mut [u8]) -> io::Result<()> {
@@ -67,25 +40,16 @@ fn write_answer(rt: &impl Print, input: &[u8], work: &mut [u8]) -> io::Result<()
         return Ok(());
     }
     let capacity = 256 * get(input, 0) as u64 + get(input, 1) as u64;
-    if 0 < get(input, 2) {
-        return write_short(rt, &input[names..], capacity, &input[4..names], work);
-    }
-    write_found(rt, &input[names..], capacity, &input[4..names], work)
-}
-
-// The `count` cases behind the first byte.
-fn write_answers(rt: &impl Print, input: &[u8], count: usize, work: &mut [u8]) -> io::Result<()> {
-    let mut at = 1;
-    for _ in 0..count {
-        write_answer(rt, field_at(input, at), work)?;
-        at = after_field(input, at);
-    }
-    Ok(())
+    let short = if get(input, 2) == 0 { 0 } else { 1 };
+    let mut longest = [255u8; LONGEST_APART];
+    let area = &mut longest[short..];
+    let answer = apart(&input[names..], capacity, &input[4..names], work, area);
+    print_apart(rt, answer, area)
 }
 
 fn main(rt: HostRuntime) -> io::Result<()> {
     let mut input = Vec::new(rt.alloc());
     rt.reader().take(MOST_INPUT).read_to_end(&mut input)?;
     let mut work = [0u8; WORK_BYTES];
-    write_answers(&rt, &input, get(&input, 0) as usize, &mut work)
+    for_each_question(&input, |question| write_answer(&rt, question, &mut work))
 }

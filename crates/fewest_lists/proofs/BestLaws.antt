@@ -3,6 +3,8 @@ use mathlib.Core.Bool.{Bool, true, false, ◌&&◌, ◌||◌}
 use mathlib.Core.List.{List, [], ◌∷◌, ◌++◌}
 use mathlib.Core.Path.{◌≡◌, refl, sym, ap, ap₂, ◌∙◌}
 use native.Mathlib.Omega.{arith}
+use Rattle.std.specs.Prelude.{Option, Some, None, Ok, Err}
+use Rattle.std.specs.Option.{option_or}
 use Prim.Native.Nat.{ℕ, ◌+◌, ◌≤◌}
 use lib.Dec.{eqb}
 use lib.ListN.{length, get_or, drop}
@@ -19,9 +21,9 @@ use Rattle.verdict.specs.Outcome.{gave}
 use Rattle.fewest.specs.Apart.{of_fewest, area_after}
 use Rattle.fewest.specs.Choices.{in_order}
 use Rattle.fewest.specs.Fewest.{undecided, none, chosen}
-use Rattle.fewest_lists.specs.declared.best.Best.{Best}
-use Rattle.fewest_lists.specs.declared.best.Apart.TheVariants.{Unsettled, NoChoice, Length}
-use Rattle.fewest_lists.specs.Bests.{BestIs, followed_by, SameIs, WithPair, mapped, apart_outcome, Tells}
+use Rattle.fewest_lists.specs.declared.best.Undecided.{Undecided}
+use Rattle.fewest_lists.specs.declared.best.Choice.TheVariants.{Unsettled, NoChoice, Length}
+use Rattle.fewest_lists.specs.Bests.{Best, BestIs, followed_by, SameIs, WithPair, mapped, choice_outcome, Tells}
 use Rattle.fewest_lists.specs.Lists.{flagged, PairsWritten}
 use Rattle.fewest_lists.proofs.FlagLaws.{flagged_apart}
 use Rattle.fewest_lists.proofs.PairWriting.{flagged-bytes}
@@ -29,18 +31,14 @@ use Rattle.field.specs.Situation.{all_pairs}
 use Rattle.field_pairs.specs.PairNumbers.{pair_at}
 
 -- the first one stays
-pub same_stays : (best : Best) (flags : List ℕ) → best.found ≡ true → SameIs best flags best
+pub same_or : (best : Option (List ℕ)) (flags : List ℕ) → SameIs best flags (option_or best (Some flags))
 unfolding SameIs BestIs followed_by
-same_stays best flags t undecided D b u e = b
-same_stays best flags t none D b u e = let z : ◌≡◌ {A = ℕ} 0 1 = cc b.1 in absurd (omega arith)
-same_stays best flags t (chosen E) D b u e = b
-
-pub same_first : (best : Best) (flags : List ℕ) (r : Best) → best.found ≡ false → r.unsettled ≡ false → r.found ≡ true → r.flags ≡ flags
-    → SameIs best flags r
-unfolding SameIs BestIs followed_by
-same_first best flags r t x y z undecided D b u e = let z : ◌≡◌ {A = ℕ} 0 1 = cc in absurd (omega arith)
-same_first best flags r t x y z none D b u e = (x, y, z ∙ e)
-same_first best flags r t x y z (chosen E) D b u e = let z : ◌≡◌ {A = ℕ} 0 1 = cc b.1 in absurd (omega arith)
+same_or None flags undecided D b e = absurd b
+same_or None flags none D b e = e
+same_or None flags (chosen E) D b e = absurd b
+same_or (Some fs) flags undecided D b e = absurd b
+same_or (Some fs) flags none D b e = absurd b
+same_or (Some fs) flags (chosen E) D b e = b
 
 -- order means nothing
 holds_last : (D : Pairs) (p : ℕ × ℕ) (a b : ℕ) → holds_apart (p ∷ D) a b ≡ holds_apart (D ++ (p ∷ [])) a b
@@ -83,27 +81,36 @@ pair_added flags pairs at a b r x y m D p ps e d =
 
 -- What is told.
 module _ (best : Best) (area : List ℕ) where
-  pub tells_unsettled : best.unsettled ≡ true → Tells best area Unsettled area
-  unfolding Tells BestIs mapped apart_outcome of_fewest area_after
-  tells_unsettled t undecided b = record { answer = refl; left = refl }
-  tells_unsettled t none b = let z : ◌≡◌ {A = ℕ} 0 1 = cc b.0 in absurd (omega arith)
-  tells_unsettled t (chosen D) b = let z : ◌≡◌ {A = ℕ} 0 1 = cc b.0 in absurd (omega arith)
+  pub tells_unsettled : (u : Undecided) → best ≡ Err u → Tells best area Unsettled area
+  unfolding Tells BestIs mapped choice_outcome of_fewest area_after
+  tells_unsettled u e = rw e go
+    where
+      go : Tells (Err u) area Unsettled area
+      go undecided b = record { answer = refl; left = refl }
+      go none b = absurd b
+      go (chosen D) b = absurd b
 
-  pub tells_none : best.unsettled ≡ false → best.found ≡ false → Tells best area NoChoice area
-  unfolding Tells BestIs mapped apart_outcome of_fewest area_after
-  tells_none t u undecided b = let z : ◌≡◌ {A = ℕ} 0 1 = cc in absurd (omega arith)
-  tells_none t u none b = record { answer = refl; left = refl }
-  tells_none t u (chosen D) b = let z : ◌≡◌ {A = ℕ} 0 1 = cc b.1 in absurd (omega arith)
+  pub tells_none : (found : Option (List ℕ)) → best ≡ Ok found → found ≡ None → Tells best area NoChoice area
+  unfolding Tells BestIs mapped choice_outcome of_fewest area_after
+  tells_none found e f = rw (e, f) go
+    where
+      go : Tells (Ok None) area NoChoice area
+      go undecided b = absurd b
+      go none b = record { answer = refl; left = refl }
+      go (chosen D) b = absurd b
 
-  pub tells_list : best.unsettled ≡ false → best.found ≡ true → longest_apart ≤ length area → (r : ℕ) (area' : List ℕ)
-      → PairsWritten best.flags area 0 r area' → Tells best area (Length r) area'
-  unfolding Tells BestIs mapped apart_outcome of_fewest area_after PairsWritten
-  tells_list t u room r area' w undecided b = let z : ◌≡◌ {A = ℕ} 0 1 = cc in absurd (omega arith)
-  tells_list t u room r area' w none b = let z : ◌≡◌ {A = ℕ} 0 1 = cc b.1 in absurd (omega arith)
-  tells_list t u room r area' w (chosen D) b =
-      let l : flagged best.flags (all_pairs name_count) ≡ in_order name_count D = ap (λ fs. flagged fs (all_pairs name_count)) b.2 ∙ flagged_apart D in
-      record {
-        answer = ap gave (omega (arith, w.ends, ap (λ D. length (pair_bytes D)) l));
-        left = w.written ∙ sets-start area (pair_bytes (flagged best.flags (all_pairs name_count))) (omega (arith, flagged-bytes best.flags))
-            ∙ ap (λ D. pair_bytes D ++ drop (length (pair_bytes D)) area) l;
-      }
+  pub tells_list : (found : Option (List ℕ)) (flags : List ℕ) → best ≡ Ok found → found ≡ Some flags → longest_apart ≤ length area
+      → (r : ℕ) (area' : List ℕ) → PairsWritten flags area 0 r area' → Tells best area (Length r) area'
+  unfolding Tells BestIs mapped choice_outcome of_fewest area_after PairsWritten
+  tells_list found flags e f room r area' w = rw (e, f) go
+    where
+      go : Tells (Ok (Some flags)) area (Length r) area'
+      go undecided b = absurd b
+      go none b = absurd b
+      go (chosen D) b =
+          let l : flagged flags (all_pairs name_count) ≡ in_order name_count D = ap (λ fs. flagged fs (all_pairs name_count)) b ∙ flagged_apart D in
+          record {
+            answer = ap gave (omega (arith, w.ends, ap (λ D. length (pair_bytes D)) l));
+            left = w.written ∙ sets-start area (pair_bytes (flagged flags (all_pairs name_count))) (omega (arith, flagged-bytes flags))
+                ∙ ap (λ D. pair_bytes D ++ drop (length (pair_bytes D)) area) l;
+          }

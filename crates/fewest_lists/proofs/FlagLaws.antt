@@ -5,6 +5,7 @@ use mathlib.Core.Path.{◌≡◌, refl, sym, ap, ◌∙◌}
 use native.Mathlib.Omega.{arith}
 use Prim.Native.Nat.{ℕ, ◌<◌}
 use lib.Dec.{eqb}
+use Rattle.std.specs.Int.{from_bool}
 use lib.ListN.{length, get_or, length-map, get_or-map}
 use lib.Seq.{ext_get_or}
 use Rattle.calculus.specs.Cond.{Pairs}
@@ -29,6 +30,11 @@ flag-set b e = ap flag e
 pub flag_unset : (b : Bool) → false ≡ b → 0 ≡ flag b
 unfolding flag
 flag_unset b e = ap flag e
+
+pub flag_from : (b : Bool) → from_bool b ≡ flag b
+unfolding flag
+flag_from true = refl
+flag_from false = refl
 
 -- what an unset flag says
 pub unset : (b : Bool) → flag b ≡ 0 → b ≡ false

@@ -1,10 +1,12 @@
 -- Check 18: names one by one. Assumes nothing.
 use mathlib.Core.Bool.{Bool, true, false, ◌&&◌, ◌||◌, not, and-false}
-use mathlib.Core.List.{List, ◌∷◌}
-use mathlib.Core.Path.{◌≡◌, sym, ap, ◌∙◌}
+use mathlib.Core.List.{List, [], ◌∷◌}
+use mathlib.Core.Path.{◌≡◌, refl, ap₂, sym, ap, ◌∙◌}
+use native.Mathlib.Decide.{ℕ_discrete}
 use native.Mathlib.Omega.{arith}
 use Prim.Native.Nat.{ℕ, suc, ◌+◌, ◌<◌, ◌≤◌}
-use lib.Dec.{ltb}
+use lib.Dec.{eqb, ltb}
+use Rattle.std.specs.List.{list_any}
 use lib.ListN.{length, get_or, drop, drop_of_length-le}
 use lib.Seq.{drop-cons}
 use borrow.Author.Tests.{eq-eqb, ne_eqb, lt-ltb, le-ltb, le-leb, lt-leb}
@@ -13,22 +15,18 @@ use Rattle.terms.specs.Limits.{name_count}
 use Rattle.terms.specs.Question.{every}
 use Rattle.fewest.specs.Apart.{most_names, no_repeat, names_given}
 
-module _ (names : List ℕ) (i n : ℕ) where
-  pub has_end : length names ≤ i → false ≡ among (drop i names) n
-  unfolding among
-  has_end h = sym (ap (λ l. among l n) (drop_of_length-le names h))
+-- the library's test
+eqb_sym : (x n : ℕ) → eqb x n ≡ eqb n x
+eqb_sym x n = go (ℕ_discrete x n)
+  where
+    go : Dec (x ≡ n) → eqb x n ≡ eqb n x
+    go (yes e) = eq-eqb x n e ∙ sym (eq-eqb n x (sym e))
+    go (no d) = ne_eqb x n d ∙ sym (ne_eqb n x (λ e. d (sym e)))
 
-  pub has_here : i < length names → get_or names i 0 ≡ n → true ≡ among (drop i names) n
-  unfolding among
-  has_here h e =
-      sym (ap (λ l. among l n) (drop-cons names i 0 h) ∙ ap (λ t. t || among (drop (suc i) names) n) (eq-eqb n (get_or names i 0) (sym e)))
-
-  pub has_on : i < length names → (get_or names i 0 ≡ n → ⊥) → among (drop i names) n ≡ among (drop (i + 1) names) n
-  unfolding among
-  has_on h e =
-      let s : i + 1 ≡ suc i = omega arith in
-      rw s
-      (ap (λ l. among l n) (drop-cons names i 0 h) ∙ ap (λ t. t || among (drop (suc i) names) n) (ne_eqb n (get_or names i 0) (λ z. e (sym z))))
+pub any_among : (names : List ℕ) (n : ℕ) → list_any (λ x. eqb x n) names ≡ among names n
+unfolding among
+any_among [] n = refl
+any_among (x ∷ names) n = ap₂ ◌||◌ (eqb_sym x n) (any_among names n)
 
 -- what check 18 asks of the names one by one
 abbrev pub named : ℕ → Bool

@@ -17,21 +17,16 @@ fn apart_flag(list: &[u8], k: usize) -> u8
     ensures { ApartFlagIs list.now k result }
 {
     let pair = pair_of(k);
-    if holds_apart(list, pair.first as u8, pair.second as u8) {
-        return 1;
-    }
-    0
+    u8::from(holds_apart(list, pair.first as u8, pair.second as u8))
 }
 
-// The pairs of an apart list.
+// The pairs of an apart list. By `array::from_fn`, here and in `open_flags`, what is known of the turns before did not close.
 pub fn apart_flags(list: &[u8]) -> [u8; PAIR_COUNT]
     ensures { ApartFlagsAre list.now result }
 {
     let mut flags = [0u8; PAIR_COUNT];
-    let mut k = 0;
-    while k < PAIR_COUNT {
+    for k in 0..PAIR_COUNT {
         flags[k] = apart_flag(list, k);
-        k += 1;
     }
     flags
 }
@@ -60,10 +55,8 @@ pub fn open_flags(names: &[u8], apart: &[u8]) -> [u8; PAIR_COUNT]
     ensures { OpenFlagsAre names.now apart.now result }
 {
     let mut flags = [0u8; PAIR_COUNT];
-    let mut k = 0;
-    while k < PAIR_COUNT {
+    for k in 0..PAIR_COUNT {
         flags[k] = open_flag(names, apart, k);
-        k += 1;
     }
     flags
 }
@@ -88,10 +81,8 @@ pub fn write_pairs(flags: &[u8], out: &mut [u8], put: usize) -> usize
     ensures { PairsWritten flags.now out.old put result out.new }
 {
     let mut end = put;
-    let mut k = 0;
-    while k < PAIR_COUNT {
+    for k in 0..PAIR_COUNT {
         end = write_pair(flags, k, out, end);
-        k += 1;
     }
     end
 }

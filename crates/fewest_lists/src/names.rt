@@ -12,14 +12,7 @@ pub fn has_name(names: &[u8], at: usize, n: u8) -> bool
     requires { at ≤ length names.now }
     ensures { result ≡ among (drop at names.now) n }
 {
-    let mut i = at;
-    while i < names.len() {
-        if names[i] == n {
-            return true;
-        }
-        i += 1;
-    }
-    false
+    names[at..].contains(&n)
 }
 
 // Whether check 18 passes: at most four names, all of them names, none twice.
@@ -29,14 +22,11 @@ pub fn names_given(names: &[u8]) -> bool
     if MOST_NAMES < names.len() {
         return false;
     }
-    let mut i = 0;
-    while i < names.len() {
-        let n = names[i];
+    for (i, &n) in names.iter().enumerate() {
         if NAME_COUNT <= n as usize {
             return false;
         }
-        i += 1;
-        if has_name(names, i, n) {
+        if has_name(names, i + 1, n) {
             return false;
         }
     }

@@ -19,21 +19,21 @@ use Rattle.terms_bytes.specs.Writing.{IsAccepted}
 use Rattle.terms_bytes.proofs.QuestionPlaces.{apart_in}
 use Rattle.terms_bytes.proofs.Stores.{sets-start}
 use Rattle.terms_checks.specs.Checking.{checked_answer}
-use Rattle.terms_checks.specs.declared.check.Checked.{Checked}
-use Rattle.terms_checks.specs.declared.check.Checked.TheVariants as checked
+use Rattle.std.specs.Prelude.{Result, Ok, Err, ⊤}
+use Rattle.terms_bytes.specs.Refusals.{number_of}
+use Rattle.terms_bytes.specs.declared.answer.Refusal.{Refusal}
+use Rattle.terms_bytes.specs.declared.answer.Refusal.TheVariants.{ChosenNames, ResultArea}
 use Rattle.field_pairs.specs.Slot.{flags_of}
 use Rattle.verdict.specs.Judge.{slot_bytes, within_capacity}
 use Rattle.verdict.proofs.CapacityLaws.{Within, within_of, within_passes}
-use Rattle.verdict_capacity.specs.Numbers.{by_number}
-use Rattle.verdict_capacity.proofs.NumberLaws.{number-refused, number_passed}
+use Rattle.verdict_capacity.specs.Capacities.{capacity_answer}
+use Rattle.verdict_capacity.proofs.CapacityAnswers.{capacity-refused, capacity_passed}
 use Rattle.fewest.specs.Apart.{names_given, list_for, apart_of, of_fewest, work_after, area_after}
 use Rattle.fewest.specs.Choices.{candidate_pairs, all_choices, enlarged, in_order}
 use Rattle.fewest.specs.Fewest.{Fewest, undecided, none, chosen, verdict_under, fewest_of}
-use Rattle.fewest_lists.specs.Bests.{BestIs, mapped, apart_outcome, Tells}
+use Rattle.fewest_lists.specs.Bests.{Best, BestIs, mapped, apart_outcome, Tells}
 use Rattle.fewest_lists.specs.Lists.{ApartFlagsAre, OpenFlagsAre, flagged, PairsWritten}
-use Rattle.fewest_lists.specs.declared.best.Best.{Best}
-use Rattle.fewest_lists.specs.declared.best.Apart.{Apart}
-use Rattle.fewest_lists.specs.declared.best.Apart.TheVariants as told
+use Rattle.fewest_lists.specs.declared.best.Choice.{Choice}
 use Rattle.fewest_lists.proofs.FlagLaws.{flagged_open}
 use Rattle.fewest_lists.proofs.PairWriting.{flagged-bytes}
 use Rattle.fewest_search.specs.Searching.{Allowed, cleared_by, verdict_on, SizesIs, FoundIs, ApartDoes, CheckedIs}
@@ -62,7 +62,7 @@ found_is question capacity names work first second apart list flags choosable pa
     record { best = subst (BestIs r) (fewest_map (verdict_on q capacity) (D ++◌) (all_choices C)) k.best; area = k.area }
 
 -- a refusal changes nothing
-pub does_refused : (m : Answer Fewest) (capacity : ℕ) (work area : List ℕ) (k : ℕ) → m ≡ refused k → ApartDoes m capacity work area (told.Refused k) work area
+pub does_refused : (m : Answer Fewest) (capacity : ℕ) (work area : List ℕ) (k : Refusal) → m ≡ refused (number_of k) → ApartDoes m capacity work area (Err k) work area
 unfolding apart_outcome of_fewest work_after area_after
 does_refused m capacity work area k e = record {
   answer = sym (ap of_fewest e);
@@ -88,22 +88,22 @@ module _ (question : List ℕ) (capacity : ℕ) (names work area : List ℕ) whe
     checks_passed q e =
         within_passes capacity (slot_bytes * capacity) (length work) _ (record { some = allowed.some; most = allowed.most; fits = allowed.fits }) ∙ bind_to _ e
 
-    pub names-refused : false ≡ names_given names → CheckedIs question capacity names work area (told.Refused 18) work area
-    unfolding CheckedIs IsAccepted
+    pub names-refused : false ≡ names_given names → CheckedIs question capacity names work area (Err ChosenNames) work area
+    unfolding CheckedIs IsAccepted number_of
     names-refused h =
         let (q, e) = accepted in
-        does_refused answers capacity work area 18 (checks_passed q e ∙ need_failed 18 (names_given names) _ (sym h))
+        does_refused answers capacity work area ChosenNames (checks_passed q e ∙ need_failed 18 (names_given names) _ (sym h))
 
-    pub area_refused : true ≡ names_given names → length area < longest_apart → CheckedIs question capacity names work area (told.Refused 15) work area
-    unfolding CheckedIs IsAccepted
+    pub area_refused : true ≡ names_given names → length area < longest_apart → CheckedIs question capacity names work area (Err ResultArea) work area
+    unfolding CheckedIs IsAccepted number_of
     area_refused h l =
         let (q, e) = accepted in
-        does_refused answers capacity work area 15
+        does_refused answers capacity work area ResultArea
         (checks_passed q e ∙ need-passed 18 (names_given names) _ (sym h) ∙ need_failed 15 (leb longest_apart (length area)) _ (lt-leb longest_apart (length area) l))
 
     pub search_told : true ≡ names_given names → longest_apart ≤ length area → (best : Best) (work' : List ℕ) → FoundIs question capacity names work best work'
-        → (r : Apart) (area' : List ℕ) → Tells best area r area' → CheckedIs question capacity names work area r work' area'
-    unfolding CheckedIs IsAccepted FoundIs Tells work_after cleared_by
+        → (r : Choice) (area' : List ℕ) → Tells best area r area' → CheckedIs question capacity names work area (Ok r) work' area'
+    unfolding apart_outcome CheckedIs IsAccepted FoundIs Tells work_after cleared_by
     search_told h l best work' f r area' t =
         let (q, e) = accepted in
         let k = f q e in
@@ -119,32 +119,33 @@ module _ (question : List ℕ) (capacity : ℕ) (names work area : List ℕ) whe
         }
 
   -- apart
-  module _ (k : ℕ) (capacity-check : by_number k ≡ within_capacity capacity (slot_bytes * capacity) (length work)) where
-    pub not_within : 0 < k → ApartDoes answers capacity work area (told.Refused k) work area
+  module _ (c : Result ⊤ Refusal) (capacity-check : capacity_answer c ≡ within_capacity capacity (slot_bytes * capacity) (length work)) where
+    pub not_within : (k : Refusal) → c ≡ Err k → ApartDoes answers capacity work area (Err k) work area
     unfolding apart_of
-    not_within h =
-        does_refused answers capacity work area k (number-refused k (within_capacity capacity (slot_bytes * capacity) (length work)) _ capacity-check h)
+    not_within k h =
+        does_refused answers capacity work area k
+        (capacity-refused c (within_capacity capacity (slot_bytes * capacity) (length work)) capacity-check _ k h)
 
-    module _ (none-turned : k ≡ 0) where
+    module _ (u : ⊤) (passed : c ≡ Ok u) where
       within : Within capacity (slot_bytes * capacity) (length work)
-      within = within_of capacity (slot_bytes * capacity) (length work) tt (number_passed k _ capacity-check none-turned)
+      within = within_of capacity (slot_bytes * capacity) (length work) tt (capacity_passed c _ capacity-check u passed)
 
       pub is_allowed : Allowed capacity (length work)
       is_allowed = record { some = within.some; most = within.most; fits = within.fits }
 
-      pub question_refused : (j : ℕ) (c : Checked) → check_answer question ≡ checked_answer c → c ≡ checked.Refused j
-          → ApartDoes answers capacity work area (told.Refused j) work area
+      pub question_refused : (j : Refusal) (c : Result ⊤ Refusal) → check_answer question ≡ checked_answer c → c ≡ Err j
+          → ApartDoes answers capacity work area (Err j) work area
       unfolding apart_of check_answer checked_answer ◌>>=◌
       question_refused j c e h =
           does_refused answers capacity work area j
           (within_passes capacity (slot_bytes * capacity) (length work) _ within ∙ go (question_of question) (e ∙ ap checked_answer h))
         where
-          go : (m : Answer Question) → ◌>>=◌ {B = ℕ} m (λ q. result 0) ≡ refused j
-              → (m >>= λ q. (need 18 (names_given names) >> (need 15 (leb longest_apart (length area)) >> result (list_for q.apart (fewest_of q capacity names))))) ≡ refused j
+          go : (m : Answer Question) → ◌>>=◌ {B = ℕ} m (λ q. result 0) ≡ refused (number_of j)
+              → (m >>= λ q. (need 18 (names_given names) >> (need 15 (leb longest_apart (length area)) >> result (list_for q.apart (fewest_of q capacity names))))) ≡ refused (number_of j)
           go (refused i) e = ap refused (cc)
           go (result q) e = let z : ◌≡◌ {A = ℕ} 0 1 = cc in absurd (omega arith)
 
-pub is_accepted : (question : List ℕ) (c : Checked) → check_answer question ≡ checked_answer c → c ≡ checked.Accepted → IsAccepted question
+pub is_accepted : (question : List ℕ) (c : Result ⊤ Refusal) (u : ⊤) → check_answer question ≡ checked_answer c → c ≡ Ok u → IsAccepted question
 unfolding check_answer checked_answer IsAccepted
-is_accepted question c e h =
+is_accepted question c u e h =
     let (q, d, z) = bind-result (question_of question) (λ q. result 0) 0 (e ∙ ap checked_answer h) in (q, d)

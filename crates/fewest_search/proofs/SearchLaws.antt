@@ -3,6 +3,7 @@ use mathlib.Core.Bool.{Bool, true, false, cond}
 use mathlib.Core.List.{List, [], ◌∷◌, ◌++◌, map, append-nil, append_assoc}
 use mathlib.Core.Path.{◌≡◌, refl, sym, ap, ap₂, subst, ◌∙◌}
 use native.Mathlib.Omega.{arith}
+use Rattle.std.specs.Prelude.{Option, None, Result, Ok, Err}
 use Prim.Native.Nat.{ℕ, zero, suc, ◌+◌, ◌-◌, ◌*◌, ◌/◌, ◌<◌, ◌≤◌}
 use lib.ListN.{length, drop, replicate, length-replicate, drop_of_length-le, take, length-drop}
 use lib.Seq.{drop-append_seam, drop-drop}
@@ -15,16 +16,18 @@ use Rattle.field_pairs.specs.Slot.{flags_of}
 use Rattle.verdict.specs.Judge.{slot_bytes, work_after}
 use Rattle.verdict.specs.Verdict.{openly, Verdict, unsettled, same, different}
 use Rattle.verdict.proofs.JudgeIsDefinition13.{judge_answers}
-use Rattle.verdict_judge.specs.Judging.{judged_answer, JudgedIs}
-use Rattle.verdict_judge.specs.declared.judge.Judged.{Judged}
-use Rattle.verdict_judge.specs.declared.judge.Judged.TheVariants as judged
+use Rattle.verdict_judge.specs.Judging.{verdict_told, judged_answer, JudgedIs}
+use Rattle.terms_bytes.specs.Refusals.{number_of}
+use Rattle.terms_bytes.specs.declared.answer.Refusal.{Refusal}
+use Rattle.verdict_judge.specs.declared.judge.Verdict as judged
+use Rattle.verdict_judge.specs.declared.judge.Verdict.TheVariants.{Unsettled, Same, Different}
 use Rattle.fewest.specs.Choices.{choices, choices_from, all_choices, in_order, under_list}
 use Rattle.fewest.specs.Fewest.{Fewest, undecided, none, chosen, is_unsettled, is_same, first_of, some, fewest_by}
 use Rattle.fewest.proofs.ChoiceLaws.{first-decided}
 use Rattle.fewest.proofs.ListLaws.{bytes-length, under_accepted}
-use Rattle.fewest_lists.specs.Bests.{BestIs, followed_by, SameIs, WithPair, mapped}
+use Rattle.fewest_lists.specs.Bests.{Best, BestIs, followed_by, SameIs, WithPair, mapped}
 use Rattle.fewest_lists.specs.Lists.{QuestionWritten}
-use Rattle.fewest_lists.specs.declared.best.Best.{Best}
+use Rattle.fewest_lists.specs.declared.best.Undecided.{Undecided}
 use Rattle.fewest_search.specs.Searching.{Allowed, cleared_by, verdict_on, ListJudged, Knows, NextIs, SearchedIs, SizesIs}
 
 -- what more lists add
@@ -127,7 +130,7 @@ cleared_again capacity work =
     (ap (λ (k : ℕ). drop k (z ++ drop n work)) (sym (length-replicate {A = ℕ} n 0)) ∙ drop-append_seam z (drop n work))
 
 -- judge_list
-pub list_judged : (question flags asked asked' : List ℕ) (end capacity : ℕ) (work : List ℕ) (r : Judged) (work' : List ℕ) → Allowed capacity (length work)
+pub list_judged : (question flags asked asked' : List ℕ) (end capacity : ℕ) (work : List ℕ) (r : Result judged.Verdict Refusal) (work' : List ℕ) → Allowed capacity (length work)
     → QuestionWritten question flags asked end asked' → JudgedIs openly (take end asked') capacity work r work' → ListJudged question flags capacity work r work'
 unfolding ListJudged verdict_on cleared_by work_after
 list_judged question flags asked asked' end capacity work r work' a w j q D e f =
@@ -137,60 +140,67 @@ list_judged question flags asked asked' end capacity work r work' a w j q D e f 
     record { verdict = j.answer ∙ v; cleared = j.left ∙ ap (λ m. work_after m capacity work) v }
 
 -- judge_next
-module _ (question flags : List ℕ) (best : Best) (capacity : ℕ) (work : List ℕ) (r : Judged) (work' : List ℕ)
+module _ (question flags : List ℕ) (best : Option (List ℕ)) (capacity : ℕ) (work : List ℕ) (r : Result judged.Verdict Refusal) (work' : List ℕ)
     (judges : ListJudged question flags capacity work r work') where
-  next : (x : Best) → ((q : Question) (D : Pairs) (f : Fewest) → flags ≡ flags_of D → BestIs best f → best.unsettled ≡ false
+  next : (x : Best) → ((q : Question) (D : Pairs) (f : Fewest) → flags ≡ flags_of D → BestIs (Ok best) f
       → judged_answer r ≡ result (verdict_on q capacity D) → BestIs x (followed_by f (told D (verdict_on q capacity D))))
       → NextIs question flags best capacity work x work'
   unfolding ListJudged NextIs
-  next x h q D f e i b u =
+  next x h q D f e i b =
       let j = judges q D e i in
       record {
-        best = subst (λ g. BestIs x (followed_by f g)) (sym (one_list (verdict_on q capacity) D)) (h q D f i b u j.verdict);
+        best = subst (λ g. BestIs x (followed_by f g)) (sym (one_list (verdict_on q capacity) D)) (h q D f i b j.verdict);
         area = j.cleared;
       }
 
-  pub next_unsettled : r ≡ judged.Unsettled → (x : Best) → BestIs x undecided → NextIs question flags best capacity work x work'
-  unfolding judged_answer told
-  next_unsettled s x y = next x (λ q D f i b u v.
-      subst (λ w. BestIs x (followed_by f (told D w))) (result_injective {a = unsettled} (ap judged_answer (sym s) ∙ v)) (subst (BestIs x) (sym (stops f)) y))
-
-  pub next_same : (n : ℕ) → r ≡ judged.Same n → (x : Best) → SameIs best flags x → NextIs question flags best capacity work x work'
-  unfolding judged_answer SameIs told
-  next_same n s x y = next x (λ q D f i b u v.
-      subst (λ w. BestIs x (followed_by f (told D w))) (result_injective {a = same n} (ap judged_answer (sym s) ∙ v)) (y f D b u i))
-
-  pub next_different : (n : ℕ) → r ≡ judged.Different n → NextIs question flags best capacity work best work'
-  unfolding judged_answer told
-  next_different n s = next best (λ q D f i b u v.
-      subst (λ w. BestIs best (followed_by f (told D w))) (result_injective {a = different n} (ap judged_answer (sym s) ∙ v))
-      (subst (BestIs best) (sym (followed_none f)) b))
-
-  pub next_refused : (k : ℕ) → r ≡ judged.Refused k → NextIs question flags best capacity work best work'
+  pub next_refused : (k : Refusal) → r ≡ Err k → NextIs question flags best capacity work (Ok best) work'
   unfolding judged_answer
-  next_refused k s = next best (λ q D f i b u v. refused_not_result {k = k} (ap judged_answer (sym s) ∙ v))
+  next_refused k s = next (Ok best) (λ q D f i b v. refused_not_result {k = number_of k} (ap judged_answer (sym s) ∙ v))
+
+  module _ (w : judged.Verdict) (s : r ≡ Ok w) where
+    heard : (q : Question) (D : Pairs) → judged_answer r ≡ result (verdict_on q capacity D) → verdict_told w ≡ verdict_on q capacity D
+    unfolding judged_answer
+    heard q D v = result_injective {a = verdict_told w} (ap judged_answer (sym s) ∙ v)
+
+    pub next_unsettled : (u : Undecided) → w ≡ Unsettled → NextIs question flags best capacity work (Err u) work'
+    unfolding verdict_told told BestIs
+    next_unsettled u t = next (Err u) (λ q D f i b v.
+        subst (λ w. BestIs (Err u) (followed_by f (told D w))) (sym (ap verdict_told t) ∙ heard q D v) (subst (BestIs (Err u)) (sym (stops f)) tt))
+
+    pub next_same : (n : ℕ) → w ≡ Same n → (x : Option (List ℕ)) → SameIs best flags x → NextIs question flags best capacity work (Ok x) work'
+    unfolding verdict_told SameIs told
+    next_same n t x y = next (Ok x) (λ q D f i b v.
+        subst (λ w. BestIs (Ok x) (followed_by f (told D w))) (sym (ap verdict_told t) ∙ heard q D v) (y f D b i))
+
+    pub next_different : (n : ℕ) → w ≡ Different n → NextIs question flags best capacity work (Ok best) work'
+    unfolding verdict_told told
+    next_different n t = next (Ok best) (λ q D f i b v.
+        subst (λ w. BestIs (Ok best) (followed_by f (told D w))) (sym (ap verdict_told t) ∙ heard q D v)
+        (subst (BestIs (Ok best)) (sym (followed_none f)) b))
 
 no_choice : (size : ℕ) (ps : Pairs) → (size ≡ 0 → ⊥) → ps ≡ [] → choices ps size ≡ []
 unfolding choices
 no_choice zero ps s e = absurd (s refl)
 no_choice (suc k) ps s e = ap (λ ps. choices ps (suc k)) e
 
--- search
-module _ (question pairs : List ℕ) (at size : ℕ) (flags : List ℕ) (best : Best) (capacity : ℕ) (work : List ℕ) where
-  pub search_stopped : best.unsettled ≡ true → SearchedIs question pairs at size flags best capacity work best work
-  unfolding SearchedIs BestIs followed_by
-  search_stopped t q D ps f e i d b c = record { best = go f b; area = refl }
-    where
-      go : (f : Fewest) → BestIs best f → BestIs best (followed_by f (fewest_by (verdict_on q capacity) (map (D ++◌) (choices ps size))))
-      go undecided b = b
-      go none b = let z : ◌≡◌ {A = ℕ} 0 1 = cc b.0 in absurd (omega arith)
-      go (chosen E) b = let z : ◌≡◌ {A = ℕ} 0 1 = cc b.0 in absurd (omega arith)
+-- what was not settled stays so
+undecided_is : (u : Undecided) (f : Fewest) → BestIs (Err u) f → f ≡ undecided
+unfolding BestIs
+undecided_is u undecided b = refl
+undecided_is u none b = absurd b
+undecided_is u (chosen D) b = absurd b
 
-  pub search_leaf : best.unsettled ≡ false → size ≡ 0 → (r : Best) (work' : List ℕ) → NextIs question flags best capacity work r work'
+undecided_then : (u : Undecided) (f g : Fewest) → BestIs (Err u) f → BestIs (Err u) (followed_by f g)
+unfolding BestIs followed_by
+undecided_then u f g b = subst (λ f. BestIs (Err u) (followed_by f g)) (sym (undecided_is u f b)) tt
+
+-- search
+module _ (question pairs : List ℕ) (at size : ℕ) (flags : List ℕ) (best : Option (List ℕ)) (capacity : ℕ) (work : List ℕ) where
+  pub search_leaf : size ≡ 0 → (r : Best) (work' : List ℕ) → NextIs question flags best capacity work r work'
       → SearchedIs question pairs at size flags best capacity work r work'
   unfolding SearchedIs NextIs choices
-  search_leaf u z r work' n q D ps f e i d b c =
-      let k = n q D f e i b u in
+  search_leaf z r work' n q D ps f e i d b c =
+      let k = n q D f e i b in
       record {
         best = subst (λ cs. BestIs r (followed_by f (fewest_by (verdict_on q capacity) cs)))
             (sym (ap (λ (s : ℕ). map (D ++◌) (choices ps s)) z ∙ ap (◌∷ []) (append-nil D))) k.best;
@@ -202,11 +212,11 @@ module _ (question pairs : List ℕ) (at size : ℕ) (flags : List ℕ) (best : 
   none_left [] h d = refl
   none_left (p ∷ ps) h d = let l = ap length (sym (drop_of_length-le pairs h) ∙ d) in absurd (omega arith)
 
-  pub search_ends : (size ≡ 0 → ⊥) → length pairs ≤ at → SearchedIs question pairs at size flags best capacity work best work
+  pub search_ends : (size ≡ 0 → ⊥) → length pairs ≤ at → SearchedIs question pairs at size flags best capacity work (Ok best) work
   unfolding SearchedIs fewest_by some first_of
   search_ends s h q D ps f e i d b c = record {
-    best = subst (λ cs. BestIs best (followed_by f (fewest_by (verdict_on q capacity) cs))) (sym (ap (map (D ++◌)) (no_choice size ps s (none_left ps h d))))
-        (subst (BestIs best) (sym (followed_none f)) b);
+    best = subst (λ cs. BestIs (Ok best) (followed_by f (fewest_by (verdict_on q capacity) cs))) (sym (ap (map (D ++◌)) (no_choice size ps s (none_left ps h d))))
+        (subst (BestIs (Ok best)) (sym (followed_none f)) b);
     area = refl;
   }
 
@@ -230,9 +240,9 @@ with_and_without v D p ps (suc k) s =
     ∙ fewest_append v (map ((D ++ (p ∷ [])) ++◌) (choices ps k)) (map (D ++◌) (choices ps (suc k)))
     ∙ ap (λ (j : ℕ). followed_by (fewest_by v (map ((D ++ (p ∷ [])) ++◌) (choices ps j))) (fewest_by v (map (D ++◌) (choices ps (suc k))))) (sym z)
 
-pub search_more : (question pairs : List ℕ) (at size : ℕ) (flags : List ℕ) (best : Best) (capacity : ℕ) (work more : List ℕ) (next r : Best) (work₁ work₂ : List ℕ)
+pub search_more : (question pairs : List ℕ) (at size : ℕ) (flags : List ℕ) (best : Option (List ℕ)) (capacity : ℕ) (work more : List ℕ) (next : Option (List ℕ)) (r : Best) (work₁ work₂ : List ℕ)
     → (size ≡ 0 → ⊥) → at < length pairs → WithPair flags pairs at more
-    → SearchedIs question pairs (at + 2) (size - 1) more best capacity work next work₁
+    → SearchedIs question pairs (at + 2) (size - 1) more best capacity work (Ok next) work₁
     → SearchedIs question pairs (at + 2) size flags next capacity work₁ r work₂
     → SearchedIs question pairs at size flags best capacity work r work₂
 unfolding SearchedIs WithPair pair_bytes
@@ -250,6 +260,25 @@ search_more question pairs at size flags best capacity work more next r work₁ 
       area = j.area ∙ k.area;
     }
 
+pub search_fails : (question pairs : List ℕ) (at size : ℕ) (flags : List ℕ) (best : Option (List ℕ)) (capacity : ℕ) (work more : List ℕ) (u : Undecided) (work₁ : List ℕ)
+    → (size ≡ 0 → ⊥) → at < length pairs → WithPair flags pairs at more
+    → SearchedIs question pairs (at + 2) (size - 1) more best capacity work (Err u) work₁
+    → SearchedIs question pairs at size flags best capacity work (Err u) work₁
+unfolding SearchedIs WithPair pair_bytes
+search_fails question pairs at size flags best capacity work more u work₁ s h m x q D [] f e i d b c =
+    let l = ap length d in absurd (omega (arith, l, length-drop at pairs))
+search_fails question pairs at size flags best capacity work more u work₁ s h m x q D (p ∷ ps) f e i d b c =
+    let v = verdict_on q capacity in
+    let d₂ : drop (at + 2) pairs ≡ pair_bytes ps = sym (drop-drop 2 at pairs) ∙ ap (drop 2) d in
+    let F = fewest_by v (map ((D ++ (p ∷ [])) ++◌) (choices ps (size - 1))) in
+    let G = fewest_by v (map (D ++◌) (choices ps size)) in
+    let k = x q (D ++ (p ∷ [])) ps f e (m D p ps i d) d₂ b c in
+    record {
+      best = subst (BestIs (Err u)) (followed_assoc f F G ∙ ap (followed_by f) (sym (with_and_without v D p ps size s)))
+          (undecided_then u (followed_by f F) G k.best);
+      area = k.area;
+    }
+
 -- search_sizes
 sizes_last : (ps : Pairs) (n k : ℕ) → choices_from ps k (suc n) ≡ choices_from ps k n ++ choices ps (k + suc n)
 unfolding choices_from
@@ -259,6 +288,17 @@ sizes_last ps (suc n) k =
     ap (choices ps k ++◌) (sizes_last ps n (suc k)) ∙ sym (append_assoc (choices ps k) (choices_from ps (suc k) n) (choices ps (suc k + suc n)))
     ∙ ap (λ (j : ℕ). (choices ps k ++ choices_from ps (suc k) n) ++ choices ps j) z
 
+-- those of more pairs come behind
+sizes_apart : (ps : Pairs) (n k : ℕ) → (cs : List Pairs) × (choices_from ps 0 (n + k) ≡ choices_from ps 0 n ++ cs)
+sizes_apart ps n zero = let z : n + 0 ≡ n = omega arith in ([], ap (choices_from ps 0) z ∙ sym (append-nil (choices_from ps 0 n)))
+sizes_apart ps n (suc k) =
+    let z : n + suc k ≡ suc (n + k) = omega arith in
+    let (cs, e) = sizes_apart ps n k in (
+      cs ++ choices ps (0 + suc (n + k)),
+      ap (choices_from ps 0) z ∙ sizes_last ps (n + k) 0 ∙ ap (◌++ choices ps (0 + suc (n + k))) e
+          ∙ append_assoc (choices_from ps 0 n) cs (choices ps (0 + suc (n + k))),
+    )
+
 -- The choices of up to `size` pairs are judged; W is the work area, clear.
 abbrev pub SizesTo : List ℕ → List ℕ → List ℕ → ℕ → List ℕ → ℕ → Best → List ℕ → Type 0
 SizesTo question pairs flags capacity W size r work =
@@ -266,16 +306,16 @@ SizesTo question pairs flags capacity W size r work =
     → Knows q capacity (fewest_by (verdict_on q capacity) (map (D ++◌) (choices_from ps 0 size))) r W work × (cleared_by capacity W ≡ W)
 
 module _ (question pairs flags : List ℕ) (capacity : ℕ) where
-  pub sizes_start : (work : List ℕ) (best r : Best) (W : List ℕ) → BestIs best none → NextIs question flags best capacity work r W
+  pub sizes_start : (work : List ℕ) (r : Best) (W : List ℕ) → NextIs question flags None capacity work r W
       → SizesTo question pairs flags capacity W 0 r W
   unfolding NextIs BestIs followed_by choices_from choices
-  sizes_start work best r W b n q D ps e i p =
-      let k = n q D none e i b b.0 in (
+  sizes_start work r W n q D ps e i p =
+      let k = n q D none e i tt in (
         record { best = subst (λ c. BestIs r (fewest_by (verdict_on q capacity) (c ∷ []))) (sym (append-nil D)) k.best; area = refl },
         ap (cleared_by capacity) k.area ∙ cleared_again capacity work ∙ sym k.area,
       )
 
-  pub sizes_more : (W : List ℕ) (size : ℕ) (best r : Best) (work₁ work₂ : List ℕ) → SizesTo question pairs flags capacity W size best work₁
+  pub sizes_more : (W : List ℕ) (size : ℕ) (best : Option (List ℕ)) (r : Best) (work₁ work₂ : List ℕ) → SizesTo question pairs flags capacity W size (Ok best) work₁
       → SearchedIs question pairs 0 (size + 1) flags best capacity work₁ r work₂ → SizesTo question pairs flags capacity W (size + 1) r work₂
   unfolding SearchedIs
   sizes_more W size best r work₁ work₂ s x q D ps e i p =
@@ -296,14 +336,33 @@ module _ (question pairs flags : List ℕ) (capacity : ℕ) where
         c,
       )
 
-  pub sizes_whole : (work : List ℕ) (best first : Best) (W : List ℕ) (size : ℕ) (r : Best) (work' : List ℕ) → BestIs best none
-      → NextIs question flags best capacity work first W → size ≡ length pairs / 2 → SizesTo question pairs flags capacity W size r work'
-      → SizesIs question pairs flags capacity work r work'
-  unfolding SizesIs NextIs BestIs all_choices
-  sizes_whole work best first W size r work' b n z s q D ps e i p =
-      let m : size ≡ length ps = omega (arith, ap length p, bytes-length ps) in
-      let k = (s q D ps e i p).0 in
-      record {
-        best = subst (λ (n : ℕ). BestIs r (fewest_by (verdict_on q capacity) (map (D ++◌) (choices_from ps 0 n)))) m k.best;
-        area = k.area ∙ (n q D none e i b b.0).area;
-      }
+  module _ (work : List ℕ) (first : Best) (W : List ℕ) (n : NextIs question flags None capacity work first W) where
+    pub sizes_whole : (size : ℕ) (r : Best) (work' : List ℕ) → size ≡ length pairs / 2 → SizesTo question pairs flags capacity W size r work'
+        → SizesIs question pairs flags capacity work r work'
+    unfolding SizesIs NextIs BestIs all_choices
+    sizes_whole size r work' z s q D ps e i p =
+        let m : size ≡ length ps = omega (arith, ap length p, bytes-length ps) in
+        let k = (s q D ps e i p).0 in
+        record {
+          best = subst (λ (n : ℕ). BestIs r (fewest_by (verdict_on q capacity) (map (D ++◌) (choices_from ps 0 n)))) m k.best;
+          area = k.area ∙ (n q D none e i tt).area;
+        }
+
+    -- an unsettled list among the smaller ones is enough
+    pub sizes_fail : (size : ℕ) (u : Undecided) (work' : List ℕ) → size ≤ length pairs / 2 → SizesTo question pairs flags capacity W size (Err u) work'
+        → SizesIs question pairs flags capacity work (Err u) work'
+    unfolding SizesIs NextIs BestIs all_choices
+    sizes_fail size u work' h s q D ps e i p =
+        let v = verdict_on q capacity in
+        let l : size ≤ length ps = omega (arith, ap length p, bytes-length ps) in
+        let z : size + (length ps - size) ≡ length ps = omega arith in
+        let (cs, a) = sizes_apart ps size (length ps - size) in
+        let F = choices_from ps 0 size in
+        let k = (s q D ps e i p).0 in
+        record {
+          best = subst (BestIs (Err u))
+              (sym (fewest_append v (map (D ++◌) F) (map (D ++◌) cs)) ∙ ap (fewest_by v) (sym (map-++ (D ++◌) F cs))
+              ∙ ap (λ cs. fewest_by v (map (D ++◌) cs)) (sym a) ∙ ap (λ (n : ℕ). fewest_by v (map (D ++◌) (choices_from ps 0 n))) z)
+              (undecided_then u (fewest_by v (map (D ++◌) F)) (fewest_by v (map (D ++◌) cs)) k.best);
+          area = k.area ∙ (n q D none e i tt).area;
+        }

@@ -26,9 +26,7 @@ fn mark_row(flags: &mut [u8], free: &[u8], x: usize)
     requires { length flags.old ≡ pair_count }
     ensures { AddsRow flags.old free.now x flags.new }
 {
-    let mut n = NAME_COUNT;
-    while 0 < n {
-        n -= 1;
+    for n in (0..NAME_COUNT).rev() {
         mark_if_free(flags, free, x, n);
     }
 }
@@ -64,9 +62,7 @@ fn rewrite(flags: &[u8], area: &[u8], at: usize, new: &mut [u8])
     requires { (length new.old ≡ pair_count) × (at ≤ length area.now) }
     ensures { RewritesPairs flags.now area.now at new.old new.new }
 {
-    let mut k = PAIR_COUNT;
-    while 0 < k {
-        k -= 1;
+    for k in (0..PAIR_COUNT).rev() {
         mark_rewritten(flags, k, area, at, new);
     }
 }

@@ -9,6 +9,7 @@ use native.Mathlib.Numerals.{add-one}
 use Prim.Native.Nat.{ℕ, ◌+◌, ◌*◌, ◌<◌, ◌≤◌}
 use lib.ListN.{length, get_or, drop, length-map, get_or-map}
 use lib.Seq.{take_all}
+use Rattle.std.specs.Prelude.{Option, Some, None}
 use Rattle.calculus.specs.Definitions.{Defs}
 use Rattle.calculus.specs.Free.{fn}
 use Rattle.terms.specs.Answer.{result}
@@ -34,11 +35,6 @@ use Rattle.field.specs.Situation.{Situation, free_in, start_of}
 use Rattle.field_pairs.specs.Slot.{key_bytes, slot_bytes, struck_at}
 use Rattle.field.specs.Successors.{Outcome, past_limit, leads, moves, successors}
 use Rattle.field_taking_up.specs.TakingUp.{SidesListed, ListsAre, TakenAs, TakesUp}
-use Rattle.field_exploration.specs.declared.explore.Explored.{Explored}
-use Rattle.field_exploration.specs.declared.explore.Explored.TheVariants.{Incomplete, Field}
-use Rattle.field_growth.specs.declared.growth.Growth.{Growth}
-use Rattle.field_growth.specs.declared.growth.Growth.TheVariants.{Full, Known}
-use Rattle.field_taking_up.specs.declared.taking.Lists.TheVariants.{Past, Listed}
 use Rattle.field_taking_up.specs.declared.taking.TakenUp.{TakenUp}
 use Rattle.field_slots.proofs.ChainLaws.{chained_none}
 use Rattle.field.proofs.Explored.{explored-leads}
@@ -88,13 +84,13 @@ module _ (differ : Bool) where
       taken_as : TakenAs q s up firsts seconds
       taken_as = T.is q s accepted (K.slots.held taken d inside) proper.first proper.second
 
-      follows_past : up.lists ≡ Past → Follows q.arities capacity taken (successors (setting q) s) work known Full work
+      follows_past : up.lists ≡ None → Follows q.arities capacity taken (successors (setting q) s) work known None work
       unfolding ListsAre Follows
       follows_past e =
           let p : successors (setting q) s ≡ past_limit = subst (λ l. ListsAre q s l firsts seconds) e taken_as.lists differ in
-          subst (λ o. Follows q.arities capacity taken o work known Full work) (sym p) refl
+          subst (λ o. Follows q.arities capacity taken o work known None work) (sym p) refl
 
-      module _ (n m : ℕ) (e : up.lists ≡ Listed n m) (r : Growth) (work' : List ℕ)
+      module _ (n m : ℕ) (e : up.lists ≡ Some (n, m)) (r : Option ℕ) (work' : List ℕ)
           (g : GrowsSides q.arities up.free up.apart differ taken firsts n seconds m capacity work known r work') where
         sides : SidesListed q s n m firsts seconds
         unfolding ListsAre
@@ -121,10 +117,10 @@ module _ (differ : Bool) where
             (g.is names s.apart sides.ps sides.qs flags sides.first sides.second
             (subst (λ l. All (Proper name_count q.arities) (together l)) both (together_proper question q accepted s ms proper (sides.leading differ)))))
 
-    pub grow_past : up.lists ≡ Past → GrowIs differ question taken capacity work known Full work
+    pub grow_past : up.lists ≡ None → GrowIs differ question taken capacity work known None work
     grow_past e = record { grows = grows_full capacity work known; is = λ q a ks d K. follows_past q a ks d K e }
 
-    pub grow_listed : (n m : ℕ) → up.lists ≡ Listed n m → (arities : List ℕ) → AritiesIs question arities → (r : Growth) (work' : List ℕ)
+    pub grow_listed : (n m : ℕ) → up.lists ≡ Some (n, m) → (arities : List ℕ) → AritiesIs question arities → (r : Option ℕ) (work' : List ℕ)
         → GrowsSides arities up.free up.apart differ taken firsts n seconds m capacity work known r work' → GrowIs differ question taken capacity work known r work'
     unfolding AritiesIs
     grow_listed n m e arities A r work' g = record {
@@ -179,7 +175,7 @@ module _ (differ : Bool) where
   module _ (q : Question) (capacity : ℕ) (work : List ℕ) (known taken : ℕ) (y : Explorer q capacity work known taken) (waits : taken < known)
       (ms : List (List Situation)) (e : successors (setting q) (get_or y.ks taken (start_of differ q)) ≡ leads ms)
       (empty : (k : ℕ) → k < noted_count → note_at work taken k ≡ 0)
-      (n : ℕ) (few : n ≤ capacity) (more : known ≤ n) (work' : List ℕ) (f : Leads q.arities capacity taken ms work known (Known n) work') where
+      (n : ℕ) (few : n ≤ capacity) (more : known ≤ n) (work' : List ℕ) (f : Leads q.arities capacity taken ms work known (Some n) work') where
     abbrev all : List Situation
     all = grown y.ks (together ms)
 
@@ -329,7 +325,7 @@ module _ (differ : Bool) where
     }
 
     module _ (work : List ℕ) (known taken : ℕ) (x : Explorers work known taken) (waits : taken < known) (work' : List ℕ) where
-      pub explorers_next : ((k : ℕ) → k < noted_count → note_at work taken k ≡ 0) → (n : ℕ) → GrowIs differ question taken capacity work known (Known n) work' → Explorers work' n (taken + 1)
+      pub explorers_next : ((k : ℕ) → k < noted_count → note_at work taken k ≡ 0) → (n : ℕ) → GrowIs differ question taken capacity work known (Some n) work' → Explorers work' n (taken + 1)
       unfolding Follows
       explorers_next empty n g = record {
         rest = g.grows.rest ∙ x.rest;
@@ -339,13 +335,13 @@ module _ (differ : Bool) where
       }
         where
           next : (q : Question) (y : Explorer q capacity work known taken) (o : Outcome) → successors (setting q) (get_or y.ks taken (start_of differ q)) ≡ o
-              → Follows q.arities capacity taken o work known (Known n) work' → Explorer q capacity work' n (taken + 1)
+              → Follows q.arities capacity taken o work known (Some n) work' → Explorer q capacity work' n (taken + 1)
           next q y past_limit e f = let z : ◌≡◌ {A = ℕ} 0 1 = cc in absurd (omega arith)
           next q y (leads ms) e f =
               let w = g.grows.within n refl in
               explorer_next q capacity work known taken y waits ms e empty n w.1 w.0 work' f
 
-      pub explorers_full : GrowIs differ question taken capacity work known Full work' → ExploreIs differ question capacity work₀ Incomplete work'
+      pub explorers_full : GrowIs differ question taken capacity work known None work' → ExploreIs differ question capacity work₀ None work'
       unfolding Explores Follows Puts GrowsTo
       explorers_full g = record {
         rest = g.grows.rest ∙ x.rest;
@@ -357,13 +353,13 @@ module _ (differ : Bool) where
       }
         where
           none : (q : Question) (y : Explorer q capacity work known taken) (o : Outcome) → successors (setting q) (get_or y.ks taken (start_of differ q)) ≡ o
-              → Follows q.arities capacity taken o work known Full work' → field_of (setting q) capacity (start_of differ q) ≡ incomplete
+              → Follows q.arities capacity taken o work known None work' → field_of (setting q) capacity (start_of differ q) ≡ incomplete
           none q y past_limit e f = exploring_past (setting q) capacity (start_of differ q) y.ks taken y.exploring (omega (arith, y.knows.count)) e
           none q y (leads ms) e f =
               exploring_full (setting q) capacity (start_of differ q) y.ks taken y.exploring (omega (arith, y.knows.count)) ms e (f.puts y.ks y.knows tt)
 
     pub explorers_end : (work : List ℕ) (known taken : ℕ) → Explorers work known taken → taken ≡ known → 1 ≤ known → known ≤ capacity
-        → ExploreIs differ question capacity work₀ (Field known) work
+        → ExploreIs differ question capacity work₀ (Some known) work
     unfolding Explores
     explorers_end work known taken x h some few = record {
       rest = x.rest;
@@ -372,14 +368,14 @@ module _ (differ : Bool) where
       chained = λ q a n e. let z : known ≡ n = cc in rw (← z) (x.is q a).knows.chained;
     }
       where
-        whole : (q : Question) → Explorer q capacity work known taken → Explores (field_of (setting q) capacity (start_of differ q)) (Field known) work
+        whole : (q : Question) → Explorer q capacity work known taken → Explores (field_of (setting q) capacity (start_of differ q)) (Some known) work
         whole q y =
             let n : taken ≡ length y.ks = omega (arith, y.knows.count) in
             let z : Exploring (setting q) capacity (start_of differ q) y.ks (length y.ks) = subst (Exploring (setting q) capacity (start_of differ q) y.ks) n y.exploring in
             let m : known ≡ length z.rows = omega (arith, z.count, y.knows.count) in
             let e = exploring_end (setting q) capacity (start_of differ q) y.ks z in
             let selves = z.selves ∙ take_all (length y.ks) y.ks (omega arith) in
-            rw e (ap Field m, rw selves y.knows.slots, struck_first q capacity work known taken y z.rows (omega arith) e selves, sole_noted q capacity work known taken y z.rows (omega arith) e selves)
+            rw e (ap Some m, rw selves y.knows.slots, struck_first q capacity work known taken y z.rows (omega arith) e selves, sole_noted q capacity work known taken y z.rows (omega arith) e selves)
 
   -- The start in the first slot.
   module _ (question : List ℕ) (capacity : ℕ) (some : 1 ≤ capacity) (work : List ℕ) (room : slot_bytes * capacity ≤ length work) (key : List ℕ)
@@ -405,7 +401,7 @@ module _ (differ : Bool) where
           };
     }
 
-    pub explored_from : (r : Explored) (work' : List ℕ) → ExploreIs differ question capacity work₀ r work' → ExploreIs differ question capacity work r work'
+    pub explored_from : (r : Option ℕ) (work' : List ℕ) → ExploreIs differ question capacity work₀ r work' → ExploreIs differ question capacity work r work'
     explored_from r work' x = record {
       rest = x.rest ∙ slot-rest work key 0 slot long capacity some work₀ L;
       within = x.within;

@@ -1,5 +1,5 @@
 -- The situations found, in the slots of the work area, and what exploration promises.
-use Rattle.std.specs.Prelude.{Bool, true, List, map, ◌≡◌, ℕ, ◌*◌, ◌<◌, ◌≤◌, length, get_or, drop}
+use Rattle.std.specs.Prelude.{Option, Some, None, Bool, true, List, map, ◌≡◌, ℕ, ◌*◌, ◌<◌, ◌≤◌, length, get_or, drop}
 use Rattle.terms.specs.Answer.{result}
 use Rattle.terms.specs.Question.{Question, check_of}
 use Rattle.calculus.specs.Lists.{◌∈◌, All}
@@ -9,8 +9,6 @@ use Rattle.field_slots.specs.Noted.{noted_count, note_at, SoleIn}
 use Rattle.field.specs.Setting.{setting_of}
 use Rattle.field.specs.Situation.{Situation, start_of}
 use Rattle.field_pairs.specs.Slot.{slot_bytes, struck_at}
-use Rattle.field_exploration.specs.declared.explore.Explored.{Explored}
-use Rattle.field_exploration.specs.declared.explore.Explored.TheVariants.{Incomplete, Field}
 use Rattle.field_growth.specs.Holding.{SlotsHold}
 use Rattle.field_growth.specs.Holding.{unanswered}
 
@@ -30,13 +28,13 @@ SoleNoted work rs = (i k : ℕ) (d : Row) → i < length rs → k < noted_count 
 
 -- The answer: the field's size, and its situations in the slots; where it is incomplete, the area within the capacity is not determined, and
 -- judge clears it.
-unfoldable pub Explores : Exploration → Explored → List ℕ → Type 0
-Explores incomplete r work' = r ≡ Incomplete
-Explores (explored rs) r work' = (r ≡ Field (length rs)) × SlotsHold work' (map (λ t. t.self) rs) × StruckFirst work' rs × SoleNoted work' rs
+unfoldable pub Explores : Exploration → Option ℕ → List ℕ → Type 0
+Explores incomplete r work' = r ≡ None
+Explores (explored rs) r work' = (r ≡ Some (length rs)) × SlotsHold work' (map (λ t. t.self) rs) × StruckFirst work' rs × SoleNoted work' rs
 
 -- The same whether all names differ or not.
-pub record ExploreIs (differ : Bool) (question : List ℕ) (capacity : ℕ) (work : List ℕ) (r : Explored) (work' : List ℕ) : Type 0 where
+pub record ExploreIs (differ : Bool) (question : List ℕ) (capacity : ℕ) (work : List ℕ) (r : Option ℕ) (work' : List ℕ) : Type 0 where
   pub rest : drop (slot_bytes * capacity) work' ≡ drop (slot_bytes * capacity) work
-  pub within : (n : ℕ) → r ≡ Field n → (1 ≤ n) × (n ≤ capacity)
+  pub within : (n : ℕ) → r ≡ Some n → (1 ≤ n) × (n ≤ capacity)
   pub is : (q : Question) → check_of question ≡ result q → Explores (field_of (setting_of differ q.bodies) capacity (start_of differ q)) r work'
-  pub chained : (q : Question) → check_of question ≡ result q → (n : ℕ) → r ≡ Field n → Chained capacity work' n
+  pub chained : (q : Question) → check_of question ≡ result q → (n : ℕ) → r ≡ Some n → Chained capacity work' n

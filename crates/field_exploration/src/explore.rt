@@ -8,22 +8,15 @@ ghost use Rattle.field_exploration.specs.Exploring.{ExploreIs};
 ghost use Rattle.field_taking_up.specs.Below.{Labelled};
 ghost use Rattle.field_pairs.specs.Slot.{slot_bytes};
 
-use field_growth::growth::{Growth, Step, grow_step};
+use field_growth::growth::{Step, grow_step};
 use field_pairs::pairs::PAIR_COUNT;
 use field_slots::chains::put;
 use field_slots::notes::clear_slot;
 use field_slots::slot::SLOT_BYTES;
 use field_successors::start::start_key;
-use field_taking_up::taking::{Lists, take_up};
+use field_taking_up::taking::take_up;
 use steps_entries::limits::STEP_BYTES;
 use steps_tallies::bodies::arities_of;
-
-// The size of the field, or a limit is passed.
-#[derive(Clone, Copy)]
-pub enum Explored {
-    Incomplete,
-    Field(usize),
-}
 
 // The second or the first side of the situation in slot `taken`: how many steps it has, and how many the other side; `differ`: all names differ.
 #[derive(Clone, Copy)]
@@ -46,14 +39,13 @@ fn grow_side(
     side: Side,
     work: &mut [u8],
     known: usize,
-) -> Growth
+) -> Option<usize>
     requires { Underway side.taken known side.capacity (length work.old) × HasSteps side.steps (length area.now) × HasSteps side.count (length others.now) }
     ensures { GrowsSide arities.now free.now apart.now side.differ side.second side.taken area.now side.steps others.now side.count side.capacity work.old known result work.new }
 {
     let steps = side.steps;
     let mut so_far = known;
-    let mut i = 0;
-    while i < steps {
+    for i in 0..steps {
         let at = STEP_BYTES * i;
         let step = Step {
             differ: side.differ,
@@ -63,14 +55,9 @@ fn grow_side(
             count: side.count,
             capacity: side.capacity,
         };
-        let growth = grow_step(arities, free, apart, area, others, step, work, so_far);
-        let Growth::Known(n) = growth else {
-            return Growth::Full;
-        };
-        so_far = n;
-        i += 1;
+        so_far = grow_step(arities, free, apart, area, others, step, work, so_far)?;
     }
-    Growth::Known(so_far)
+    Some(so_far)
 }
 
 // What the steps of both sides lead to; `side` is the first one.
@@ -83,25 +70,18 @@ fn grow_sides(
     side: Side,
     work: &mut [u8],
     known: usize,
-) -> Growth
+) -> Option<usize>
     requires { Underway side.taken known side.capacity (length work.old) × HasSteps side.steps (length firsts.now) × HasSteps side.count (length seconds.now) × (side.second ≡ false) }
     ensures { GrowsSides arities.now free.now apart.now side.differ side.taken firsts.now side.steps seconds.now side.count side.capacity work.old known result work.new }
 {
-    let growth = grow_side(arities, free, apart, firsts, seconds, side, work, known);
-    match growth {
-        Growth::Full => Growth::Full,
-        Growth::Known(so_far) => {
-            let other = Side {
-                differ: side.differ,
-                second: true,
-                taken: side.taken,
-                steps: side.count,
-                count: side.steps,
-                capacity: side.capacity,
-            };
-            grow_side(arities, free, apart, seconds, firsts, other, work, so_far)
-        }
-    }
+    let so_far = grow_side(arities, free, apart, firsts, seconds, side, work, known)?;
+    let other = Side {
+        second: true,
+        steps: side.count,
+        count: side.steps,
+        ..side
+    };
+    grow_side(arities, free, apart, seconds, firsts, other, work, so_far)
 }
 
 // How far exploration has come: the situation in slot `taken` is taken up, and `known` of them stand in slots.
@@ -123,7 +103,7 @@ fn grow(
     seconds: &mut [u8],
     work: &mut [u8],
     progress: Progress,
-) -> Growth
+) -> Option<usize>
     requires { Underway progress.taken progress.known progress.capacity (length work.old) × BodiesTallied question.now bodies.now × (length tallies.old ≡ tally_size) × (row_bytes * most_rows ≤ length rows.old) × Labelled question.now firsts.old × Labelled question.now seconds.old }
     ensures { GrowIs progress.differ question.now progress.taken progress.capacity work.old progress.known result work.new × Labelled question.now firsts.new × Labelled question.now seconds.new }
 {
@@ -138,32 +118,25 @@ fn grow(
         firsts,
         seconds,
     );
-    let free = up.free;
-    let apart = up.apart;
-    let lists = up.lists;
-    match lists {
-        Lists::Past => Growth::Full,
-        Lists::Listed(n, m) => {
-            let side = Side {
-                differ: progress.differ,
-                second: false,
-                taken,
-                steps: n,
-                count: m,
-                capacity: progress.capacity,
-            };
-            grow_sides(
-                arities_of(question),
-                &free,
-                &apart,
-                firsts,
-                seconds,
-                side,
-                work,
-                progress.known,
-            )
-        }
-    }
+    let (n, m) = up.lists?;
+    let side = Side {
+        differ: progress.differ,
+        second: false,
+        taken,
+        steps: n,
+        count: m,
+        capacity: progress.capacity,
+    };
+    grow_sides(
+        arities_of(question),
+        &up.free,
+        &up.apart,
+        firsts,
+        seconds,
+        side,
+        work,
+        progress.known,
+    )
 }
 
 // How many situations the field may have; `differ`: all names differ (request 2026-02).
@@ -173,7 +146,7 @@ pub struct Extent {
     pub capacity: usize,
 }
 
-// Takes up the situations from the start on until none waits. The tables of the lister and the areas of the two lists are lent; each area has the
+// Takes up the situations from the start on until none waits, and answers how many there are, unless a limit is passed. The tables of the lister and the areas of the two lists are lent; each area has the
 // list that its label says, if any.
 pub fn explore(
     question: &[u8],
@@ -184,7 +157,7 @@ pub fn explore(
     seconds: &mut [u8],
     work: &mut [u8],
     extent: Extent,
-) -> Explored
+) -> Option<usize>
     requires { (1 ≤ extent.capacity) × (extent.capacity ≤ 4096) × (slot_bytes * extent.capacity ≤ length work.old) × BodiesTallied question.now bodies.now × (length tallies.old ≡ tally_size) × (row_bytes * most_rows ≤ length rows.old) × Labelled question.now firsts.old × Labelled question.now seconds.old }
     ensures { ExploreIs extent.differ question.now extent.capacity work.old result work.new × Labelled question.now firsts.new × Labelled question.now seconds.new }
 {
@@ -194,6 +167,7 @@ pub fn explore(
     put(work, capacity, 0, &key);
     let mut known = 1;
     let mut taken = 0;
+    // No range: what is taken up adds to those known.
     while taken < known {
         clear_slot(work, taken);
         let progress = Progress {
@@ -202,14 +176,10 @@ pub fn explore(
             known,
             capacity,
         };
-        let growth = grow(
+        known = grow(
             question, bodies, tallies, rows, firsts, seconds, work, progress,
-        );
-        let Growth::Known(n) = growth else {
-            return Explored::Incomplete;
-        };
-        known = n;
+        )?;
         taken += 1;
     }
-    Explored::Field(known)
+    Some(known)
 }

@@ -9,7 +9,8 @@ use Prim.Native.Nat.{ℕ, suc, ◌+◌, ◌*◌, ◌<◌, ◌≤◌}
 use lib.Dec.{eqb}
 use lib.ListN.{length, get_or, set, take, drop, length-append, take-append-drop}
 use lib.Seq.{take-suc, take_all, split_at, get_or_at, get_or-set_same, get_or-set_other, drop-set-lt}
-use borrow.Author.Tests.{eqb-true, eqb-false, eq-eqb, ne_eqb}
+use borrow.Author.Tests.{eqb-true, eqb-false}
+use Rattle.std.specs.Prelude.{Option, Some, None}
 use Rattle.calculus.specs.Cond.{Pairs}
 use Rattle.calculus.specs.Distinction.{among}
 use Rattle.calculus.proofs.Renaming.{map-++}
@@ -26,9 +27,9 @@ use Rattle.field_pairs.specs.Entry.{EntryAt, SameHeaderIs, AnswersIs}
 use Rattle.field.specs.Exploration.{found, together}
 use Rattle.field_growth.specs.Holding.{unanswered}
 use Rattle.field_successors.specs.Fits.{Fits}
-use Rattle.field_growth.specs.Growing.{Fitting, grown_by, grown, Knows, GrowsTo, AllFound, Puts, Grows, KeepsStruck, several, LedTo}
+use Rattle.field_growth.specs.Growing.{Fitting, grown_by, grown, Knows, GrowsTo, AllFound, Puts, Grows, KeepsStruck, LedTo, SlotOf, growth, NoneLeft}
 use Rattle.field_growth.specs.Growing.{joined, LeadsWhere, AddIs, Gone, AddedIs, Flagged, answered, MirroredBy, looked_with, answered_with, Mirrored, GrowsAnswer, AnswerIs}
-use Rattle.field_growth.specs.Growing.{GrowsAnswers, AnswersAre, FirstAnswerIs, moved, Strikes, LeadsAfter, GrowsMove, GrowsNames, GrowsStep, GrowsSide, GrowsSides}
+use Rattle.field_growth.specs.Growing.{GrowsAnswers, AnswersAre, FirstIs, FirstAnswerIs, moved, Strikes, LeadsAfter, GrowsMove, GrowsNames, GrowsStep, GrowsSide, GrowsSides}
 use Rattle.field.specs.Situation.{Proper}
 use Rattle.field_successors.specs.Leading.{leading, SuccessorIs}
 use Rattle.field_slots.specs.Noted.{note_at, SpareOnly, NotesOne, Stands, SoleIn}
@@ -39,9 +40,8 @@ use Rattle.field_pairs.specs.Slot.{key_of, key_bytes, slot_bytes, struck_at, Lef
 use Rattle.field.specs.Successors.{select, answers, allowed, received, join_all, moves}
 use Rattle.field_renewal.specs.ListedEntries.{ListAt, EntriesAt}
 use Rattle.field_growth.specs.declared.growth.Added.{Added}
-use Rattle.field_growth.specs.declared.growth.Growth.{Growth}
-use Rattle.field_growth.specs.declared.growth.Growth.TheVariants.{Full, Known}
-use Rattle.field_slots.specs.declared.find.Found.TheVariants.{At, Nothing}
+use Rattle.field_growth.specs.declared.growth.Led.{Led}
+use Rattle.field_growth.specs.declared.growth.Led.TheVariants.{Nowhere, To, Several}
 use Rattle.field_pairs.proofs.EntryLaws.{trivial_header}
 use Rattle.field_pairs.proofs.PairNumbering.{names_at, length-names}
 use Rattle.field_pairs.proofs.ReceivedNames.{received_ascending}
@@ -59,13 +59,13 @@ use Rattle.field.proofs.Unseen.{together-∈}
 use Rattle.field_growth.proofs.SlotWriting.{slot-rest, slot_struck, knows_struck, knows_noted, knows_more}
 
 -- What holds of any growth.
-pub grows_none : (capacity : ℕ) (work : List ℕ) (known : ℕ) → known ≤ capacity → Grows capacity work known (Known known) work
+pub grows_none : (capacity : ℕ) (work : List ℕ) (known : ℕ) → known ≤ capacity → Grows capacity work known (Some known) work
 grows_none capacity work known h = record { rest = refl; within = λ n e. let z : known ≡ n = cc in (omega arith, omega arith) }
 
-pub grows_full : (capacity : ℕ) (work : List ℕ) (known : ℕ) → Grows capacity work known Full work
+pub grows_full : (capacity : ℕ) (work : List ℕ) (known : ℕ) → Grows capacity work known None work
 grows_full capacity work known = record { rest = refl; within = λ n e. let z : ◌≡◌ {A = ℕ} 0 1 = cc in absurd (omega arith) }
 
-pub grows_more : (capacity : ℕ) (work : List ℕ) (known n : ℕ) (work' : List ℕ) (r : Growth) (work'' : List ℕ) → Grows capacity work known (Known n) work'
+pub grows_more : (capacity : ℕ) (work : List ℕ) (known n : ℕ) (work' : List ℕ) (r : Option ℕ) (work'' : List ℕ) → Grows capacity work known (Some n) work'
     → Grows capacity work' n r work'' → Grows capacity work known r work''
 grows_more capacity work known n work' r work'' g h = record {
   rest = h.rest ∙ g.rest;
@@ -73,10 +73,10 @@ grows_more capacity work known n work' r work'' g h = record {
 }
 
 -- What is left and what is struck out, while none is struck out.
-pub keeps_none : (work : List ℕ) (known n : ℕ) → Known known ≡ Known n → KeepsStruck work known n work
+pub keeps_none : (work : List ℕ) (known n : ℕ) → Some known ≡ Some n → KeepsStruck work known n work
 keeps_none work known n e = let z : known ≡ n = cc in record { kept = λ i h. refl; fresh = λ i h l. absurd (omega arith); notes = λ i k h l. refl }
 
-keeps_full : (work : List ℕ) (known n : ℕ) (work' : List ℕ) → Full ≡ Known n → KeepsStruck work known n work'
+keeps_full : (work : List ℕ) (known n : ℕ) (work' : List ℕ) → None ≡ Some n → KeepsStruck work known n work'
 keeps_full work known n work' e = let z : ◌≡◌ {A = ℕ} 0 1 = cc in absurd (omega arith)
 
 keeps_more : (work : List ℕ) (known n m : ℕ) (work' work'' : List ℕ) → known ≤ n → KeepsStruck work known n work' → KeepsStruck work' n m work''
@@ -131,7 +131,7 @@ never : {A : Type 0} → false ≡ true → A
 never e = let z : ◌≡◌ {A = ℕ} 0 1 = cc in absurd (omega arith)
 
 module _ (arities : List ℕ) (capacity taken : ℕ) (before : List Situation) (work : List ℕ) (known : ℕ) where
-  strikes_none : (n : ℕ) → Known known ≡ Known n → Strikes arities capacity taken before [] work known n work
+  strikes_none : (n : ℕ) → Some known ≡ Some n → Strikes arities capacity taken before [] work known n work
   unfolding unanswered
   strikes_none n e =
       let z : known ≡ n = cc in
@@ -148,7 +148,7 @@ module _ (arities : List ℕ) (capacity taken : ℕ) (before : List Situation) (
   -- all that one of the moves leads to is struck out
   strikes_here : struck_at taken < length work → (ms : List (List Situation)) (w : List Situation) → w ∈ ms
       → ((ks : List Situation) → Knows arities capacity work known ks → All (Gone work ks) w)
-      → (n : ℕ) → Known known ≡ Known n → Strikes arities capacity taken before ms work known n (set work (struck_at taken) 1)
+      → (n : ℕ) → Some known ≡ Some n → Strikes arities capacity taken before ms work known n (set work (struck_at taken) 1)
   strikes_here room ms w there gone n e =
       let z : known ≡ n = cc in
       record {
@@ -178,11 +178,11 @@ module _ (arities : List ℕ) (capacity taken : ℕ) (before : List Situation) (
     }
 
     -- where all answers to the move w lead is noted
-    strikes_noted : (w : List Situation) (n : ℕ) (work' : List ℕ) (led : ℕ) (work'' : List ℕ) → led < several → NotesOne work' taken led work''
-        → ((ks : List Situation) → Knows arities capacity work known ks → AllFound ks before → LedTo (grown ks w) led w)
+    strikes_noted : (w : List Situation) (n : ℕ) (work' : List ℕ) (slot : ℕ) (work'' : List ℕ) → NotesOne work' taken (slot + 1) work''
+        → ((ks : List Situation) → Knows arities capacity work known ks → AllFound ks before → All (Stands (grown ks w) slot) w)
         → Strikes arities capacity taken before (w ∷ []) work known n work' → Strikes arities capacity taken before (w ∷ []) work known n work''
     unfolding SoleIn together
-    strikes_noted w n work' led work'' few o where_to x = record {
+    strikes_noted w n work' slot work'' o where_to x = record {
       must = λ u z. x.must u (sym (mark taken) ∙ z);
       stays = λ h z. x.stays h (sym (mark taken) ∙ z);
       why = λ ks K b l h. x.why ks K b l (λ z. h (mark taken ∙ z));
@@ -196,17 +196,18 @@ module _ (arities : List ℕ) (capacity taken : ℕ) (before : List Situation) (
         mark i = o.spare.slots i key_bytes (omega arith)
 
         go : (ks : List Situation) → Knows arities capacity work known ks → AllFound ks before → (k : ℕ)
-            → (note_at work'' taken k ≡ note_at work' taken k) ⊎ (note_at work'' taken k ≡ led)
+            → (note_at work'' taken k ≡ note_at work' taken k) ⊎ (note_at work'' taken k ≡ slot + 1)
             → (note_at work' taken k ≡ note_at work taken k) ⊎ SoleIn (grown ks (together (w ∷ []))) (w ∷ []) (note_at work' taken k)
             → (note_at work'' taken k ≡ note_at work taken k) ⊎ SoleIn (grown ks (together (w ∷ []))) (w ∷ []) (note_at work'' taken k)
         go ks K b k (inl e) (inl d) = inl (e ∙ d)
         go ks K b k (inl e) (inr d) = inr (λ j z. d j (sym e ∙ z))
         go ks K b k (inr e) d =
-            inr (λ j z. (w, inl refl, subst (λ us. All (Stands (grown ks us) j) w) (sym (append-nil w)) ((where_to ks K b).one j (sym e ∙ z) few)))
+            inr (λ j z. let q : slot ≡ j = omega (arith, e, z) in
+            (w, inl refl, subst (λ us. All (Stands (grown ks us) j) w) (sym (append-nil w)) (subst (λ i. All (Stands (grown ks w) i) w) q (where_to ks K b))))
 
     module _ (ms ns : List (List Situation)) (after : List Situation)
         (f : (ks : List Situation) → AllFound ks before → AllFound (grown ks (together ms)) after) (n m : ℕ) (work' work'' : List ℕ) (h : known ≤ n)
-        (p : Puts arities capacity work known before (together ms) (Known n) work') (x : Strikes arities capacity taken before ms work known n work')
+        (p : Puts arities capacity work known before (together ms) (Some n) work') (x : Strikes arities capacity taken before ms work known n work')
         (y : Strikes arities capacity taken after ns work' n m work'') where
       -- what was struck out between the two was so before them
       gone_before : (ks : List Situation) → Knows arities capacity work known ks → AllFound ks before → get_or work' (struck_at taken) 0 ≡ 0
@@ -263,52 +264,52 @@ module _ (arities : List ℕ) (capacity taken : ℕ) (before : List Situation) (
 
 -- One list of situations after another.
 module _ (arities : List ℕ) (capacity : ℕ) (work : List ℕ) (known : ℕ) where
-  pub puts_known : (before xs : List Situation) → ((u : Situation) → u ∈ xs → u ∈ before) → Puts arities capacity work known before xs (Known known) work
+  pub puts_known : (before xs : List Situation) → ((u : Situation) → u ∈ xs → u ∈ before) → Puts arities capacity work known before xs (Some known) work
   unfolding Puts GrowsTo
   puts_known before xs h ks K b =
       rw (grown-found ks xs (∈-all (λ u. found ks u ≡ true) xs (λ u i. all-∈ (λ u. found ks u ≡ true) before b u (h u i)))) K
 
   module _ (before : List Situation) where
-    pub puts_none : Puts arities capacity work known before [] (Known known) work
+    pub puts_none : Puts arities capacity work known before [] (Some known) work
     puts_none = puts_known before [] (λ u i. absurd i)
 
     -- `after` is known then
     pub puts_more : (xs ys after : List Situation) → ((ks : List Situation) → AllFound ks before → AllFound (grown ks xs) after)
-        → (n : ℕ) (work' : List ℕ) (r : Growth) (work'' : List ℕ) → Puts arities capacity work known before xs (Known n) work'
+        → (n : ℕ) (work' : List ℕ) (r : Option ℕ) (work'' : List ℕ) → Puts arities capacity work known before xs (Some n) work'
         → Puts arities capacity work' n after ys r work'' → Puts arities capacity work known before (xs ++ ys) r work''
     unfolding Puts GrowsTo
     puts_more xs ys after f n work' r work'' p q ks K b = rw (grown-++ ks xs ys) (q (grown ks xs) (p ks K b) (f ks b))
 
-    pub puts_full : (xs ys : List Situation) (work' : List ℕ) → Puts arities capacity work known before xs Full work'
-        → Puts arities capacity work known before (xs ++ ys) Full work'
+    pub puts_full : (xs ys : List Situation) (work' : List ℕ) → Puts arities capacity work known before xs None work'
+        → Puts arities capacity work known before (xs ++ ys) None work'
     unfolding Puts GrowsTo
     puts_full xs ys work' p ks K b = let h = p ks K b in rw (grown-++ ks xs ys) (omega (arith, h, grown_longer (grown ks xs) ys))
 
     -- a number is noted
-    puts_noted : (xs : List Situation) (r : Growth) (work' work'' : List ℕ) (i : ℕ) → SpareOnly (i + 1) work' work''
+    puts_noted : (xs : List Situation) (r : Option ℕ) (work' work'' : List ℕ) (i : ℕ) → SpareOnly (i + 1) work' work''
         → Puts arities capacity work known before xs r work' → Puts arities capacity work known before xs r work''
     unfolding Puts GrowsTo
-    puts_noted xs Full work' work'' i s p ks K b = p ks K b
-    puts_noted xs (Known n) work' work'' i s p ks K b = knows_noted arities capacity work' n (grown ks xs) (i + 1) work'' s (p ks K b)
+    puts_noted xs None work' work'' i s p ks K b = p ks K b
+    puts_noted xs (Some n) work' work'' i s p ks K b = knows_noted arities capacity work' n (grown ks xs) (i + 1) work'' s (p ks K b)
 
     -- One list of moves after another.
     module _ (taken : ℕ) where
-      leads-none : LeadsAfter arities capacity taken before [] work known (Known known) work
+      leads-none : LeadsAfter arities capacity taken before [] work known (Some known) work
       unfolding together
       leads-none = record { puts = puts_none; strikes = strikes_none arities capacity taken before work known }
 
       module _ (ms ns : List (List Situation)) where
         leads-more : (after : List Situation) → ((ks : List Situation) → AllFound ks before → AllFound (grown ks (together ms)) after)
-            → taken < known → (n : ℕ) → known ≤ n → (work' : List ℕ) (r : Growth) (work'' : List ℕ)
-            → LeadsAfter arities capacity taken before ms work known (Known n) work' → LeadsAfter arities capacity taken after ns work' n r work''
+            → taken < known → (n : ℕ) → known ≤ n → (work' : List ℕ) (r : Option ℕ) (work'' : List ℕ)
+            → LeadsAfter arities capacity taken before ms work known (Some n) work' → LeadsAfter arities capacity taken after ns work' n r work''
             → LeadsAfter arities capacity taken before (ms ++ ns) work known r work''
         leads-more after f waits n h work' r work'' x y = record {
           puts = rw (together-++ ms ns) (puts_more (together ms) (together ns) after f n work' r work'' x.puts y.puts);
           strikes = λ m e. strikes_more arities capacity taken before work known waits ms ns after f n m work' work'' h x.puts (x.strikes n refl) (y.strikes m e);
         }
 
-        leads_full : (work' : List ℕ) → LeadsAfter arities capacity taken before ms work known Full work'
-            → LeadsAfter arities capacity taken before (ms ++ ns) work known Full work'
+        leads_full : (work' : List ℕ) → LeadsAfter arities capacity taken before ms work known None work'
+            → LeadsAfter arities capacity taken before (ms ++ ns) work known None work'
         leads_full work' x = record {
           puts = rw (together-++ ms ns) (puts_full (together ms) (together ns) work' x.puts);
           strikes = λ m e. let z : ◌≡◌ {A = ℕ} 0 1 = cc in absurd (omega arith);
@@ -323,7 +324,7 @@ whole_key key s f e = take_all key_bytes key (omega (arith, ap length e, length_
 -- One situation: known already, too much, or new.
 module _ (capacity : ℕ) (work : List ℕ) (known : ℕ) (key : List ℕ) where
   module _ (few : known ≤ capacity) where
-    pub add_found : (i : ℕ) → FindsIn capacity work known key (At i) → AddIs capacity work known key (Known known) work
+    pub add_found : (i : ℕ) → FindsIn capacity work known key (Some i) → AddIs capacity work known key (Some known) work
     unfolding Puts GrowsTo grown grown_by
     add_found i f = record {
       grows = grows_none capacity work known few;
@@ -332,8 +333,8 @@ module _ (capacity : ℕ) (work : List ℕ) (known : ℕ) (key : List ℕ) where
           rw (found-slot arities work known ks K.count K.slots (all_proper arities ks K.fitting) s h.proper h.fits key e i (f.is K.chained)) K;
     }
 
-  module _ (f : FindsIn capacity work known key Nothing) where
-    pub add_full : known ≡ capacity → AddIs capacity work known key Full work
+  module _ (f : FindsIn capacity work known key None) where
+    pub add_full : known ≡ capacity → AddIs capacity work known key None work
     unfolding Puts GrowsTo grown grown_by
     add_full q = record {
       grows = grows_full capacity work known;
@@ -345,7 +346,7 @@ module _ (capacity : ℕ) (work : List ℕ) (known : ℕ) (key : List ℕ) where
 
     pub add_new : known < capacity → slot_bytes * capacity ≤ length work → key_bytes ≤ length key → (work' : List ℕ)
         → LinkIs capacity (slot_with work known key) known work'
-        → AddIs capacity work known key (Known (known + 1)) work'
+        → AddIs capacity work known key (Some (known + 1)) work'
     unfolding Puts GrowsTo grown grown_by
     add_new h room long work' L =
         let l : slot_bytes * known + slot_bytes ≤ length work = omega arith in
@@ -361,41 +362,41 @@ module _ (capacity : ℕ) (work : List ℕ) (known : ℕ) (key : List ℕ) where
         }
 
   -- and whether it is left, and its slot
-  one_led : (ks : List Situation) (i : ℕ) (s : Situation) → Stands ks i s → LedTo ks (i + 1) (s ∷ [])
-  one_led ks i s x = record {
-    none = λ z. absurd (omega arith);
-    one = λ j e l. let z : i ≡ j = omega arith in (subst (λ j. Stands ks j s) z x, tt);
-  }
+  one_led : (ks : List Situation) (i : ℕ) (s : Situation) → Stands ks i s → LedTo ks (To i) (s ∷ [])
+  unfolding LedTo
+  one_led ks i s x = (x, tt)
 
-  pub added_full : (work' : List ℕ) (led : ℕ) → AddIs capacity work known key Full work'
-      → AddedIs capacity work known key (record { growth = Full; left = true; led = led }) work'
-  unfolding LeadsWhere
-  added_full work' led a = record {
+  pub added_full : (work' : List ℕ) → AddIs capacity work known key None work' → AddedIs capacity work known key None work'
+  unfolding LeadsWhere SlotOf
+  added_full work' a = record {
     added = a;
-    same = record { growth = λ z. never (sym z); area = λ z. never (sym z) };
-    gone = λ z. never (sym z);
+    same = record { growth = λ z. absurd z; area = λ z. absurd z };
+    slot = tt;
+    gone = λ z. absurd z;
     where_to = λ arities s h e n z. let q : ◌≡◌ {A = ℕ} 0 1 = cc in absurd (omega arith);
   }
 
   -- the last of those known now
-  pub added_new : FindsIn capacity work known key Nothing → (work' : List ℕ) → AddIs capacity work known key (Known (known + 1)) work'
-      → AddedIs capacity work known key (record { growth = Known (known + 1); left = true; led = known + 1 }) work'
-  unfolding LeadsWhere grown grown_by
-  added_new f work' a = record {
+  pub added_new : FindsIn capacity work known key None → known < 4096 → (work' : List ℕ) → AddIs capacity work known key (Some (known + 1)) work'
+      → AddedIs capacity work known key (Some (record { known = known + 1; left = true; led = To known })) work'
+  unfolding LeadsWhere grown grown_by SlotOf
+  added_new f small work' a = record {
     added = a;
     same = record { growth = λ z. never (sym z); area = λ z. never (sym z) };
+    slot = small;
     gone = λ z. never (sym z);
     where_to = λ arities s h e n z ks K b.
         rw (found_no_slot arities work known ks K.count K.slots (all_proper arities ks K.fitting) s h.proper h.fits key e (f.is K.chained))
         (one_led (ks ++ (s ∷ [])) known s (omega (arith, K.count, length-append ks (s ∷ [])), λ d. get_or_at ks s [] d known K.count));
   }
 
-  pub added-found : known ≤ capacity → (i : ℕ) (b : Bool) → FindsIn capacity work known key (At i) → LeftAtIs work i b
-      → AddedIs capacity work known key (record { growth = Known known; left = b; led = i + 1 }) work
-  unfolding LeftAtIs LeadsWhere grown grown_by
-  added-found few i b f l = record {
+  pub added-found : known ≤ capacity → capacity ≤ 4096 → (i : ℕ) (b : Bool) → FindsIn capacity work known key (Some i) → LeftAtIs work i b
+      → AddedIs capacity work known key (Some (record { known = known; left = b; led = To i })) work
+  unfolding LeftAtIs LeadsWhere grown grown_by SlotOf
+  added-found few most i b f l = record {
     added = add_found few i f;
     same = record { growth = λ z. refl; area = λ z. refl };
+    slot = omega (arith, f.within i refl);
     gone = λ z arities s h e ks K. record {
       number = i;
       inside = omega (arith, f.within i refl, K.count);
@@ -411,45 +412,42 @@ module _ (capacity : ℕ) (work : List ℕ) (known : ℕ) (key : List ℕ) where
   }
 
 -- Where two lots of situations lead.
-led-both : (ks us vs : List Situation) (a b : ℕ) → LedTo (grown ks us) a us → LedTo (grown (grown ks us) vs) b vs → LedTo (grown ks (us ++ vs)) (joined a b) (us ++ vs)
-unfolding joined
-led-both ks us vs a b x y = rw (grown-++ ks us vs) (go (eqb b 0) (eqb a 0) (eqb a b) refl refl refl)
+led-both : (ks us vs : List Situation) (a b : Led) → LedTo (grown ks us) a us → LedTo (grown (grown ks us) vs) b vs → LedTo (grown ks (us ++ vs)) (joined a b) (us ++ vs)
+unfolding joined LedTo
+led-both ks us vs a b x y = rw (grown-++ ks us vs) (go a b x y)
   where
-    us_then : (j : ℕ) → a ≡ j + 1 → a < several → All (Stands (grown (grown ks us) vs) j) us
-    us_then j e l = all_imp (Stands (grown ks us) j) (Stands (grown (grown ks us) vs) j) us (stands_more (grown ks us) vs j) (x.one j e l)
+    us_then : (j : ℕ) → All (Stands (grown ks us) j) us → All (Stands (grown (grown ks us) vs) j) us
+    us_then j = all_imp (Stands (grown ks us) j) (Stands (grown (grown ks us) vs) j) us (stands_more (grown ks us) vs j)
 
-    go : (p q r : Bool) → eqb b 0 ≡ p → eqb a 0 ≡ q → eqb a b ≡ r → LedTo (grown (grown ks us) vs) (cond p a (cond q b (cond r a several))) (us ++ vs)
-    go true q r e f h =
-        let z : vs ≡ [] = y.none (eqb-true b 0 e) in
-        let w : us ++ vs ≡ us = ap (λ l. us ++ l) z ∙ append-nil us in
-        record { none = λ k. w ∙ x.none k; one = λ j k l. subst (All (Stands (grown (grown ks us) vs) j)) (sym w) (us_then j k l) }
-    go false true r e f h =
-        let w : us ++ vs ≡ vs = ap (λ l. l ++ vs) (x.none (eqb-true a 0 f)) in
-        record { none = λ k. w ∙ y.none k; one = λ j k l. subst (All (Stands (grown (grown ks us) vs) j)) (sym w) (y.one j k l) }
-    go false false true e f h =
-        let z : a ≡ b = eqb-true a b h in
-        record {
-          none = λ k. absurd (eqb-false a 0 f k);
-          one = λ j k l. all-++ (Stands (grown (grown ks us) vs) j) us vs (us_then j k l) (y.one j (sym z ∙ k) (omega arith));
-        }
-    go false false false e f h = record { none = λ k. absurd (omega arith); one = λ j k l. absurd (omega arith) }
+    -- both in one slot, or not
+    one : (i j : ℕ) → All (Stands (grown ks us) i) us → All (Stands (grown (grown ks us) vs) j) vs → (p : Bool) → eqb i j ≡ p
+        → LedTo (grown (grown ks us) vs) (cond p (To i) Several) (us ++ vs)
+    one i j x y true e = all-++ (Stands (grown (grown ks us) vs) i) us vs (us_then i x)
+        (subst (λ k. All (Stands (grown (grown ks us) vs) k) vs) (sym (eqb-true i j e)) y)
+    one i j x y false e = tt
 
--- join
-pub joined-first : (a b : ℕ) → b ≡ 0 → a ≡ joined a b
-unfolding joined
-joined-first a b e = rw e
+    go : (a b : Led) → LedTo (grown ks us) a us → LedTo (grown (grown ks us) vs) b vs → LedTo (grown (grown ks us) vs) (joined a b) (us ++ vs)
+    go Nowhere b x y = subst (LedTo (grown (grown ks us) vs) b) (sym (ap (λ l. l ++ vs) x)) y
+    go (To i) Nowhere x y = subst (All (Stands (grown (grown ks us) vs) i)) (sym (ap (λ l. us ++ l) y ∙ append-nil us)) (us_then i x)
+    go (To i) (To j) x y = one i j x y (eqb i j) refl
+    go (To i) Several x y = tt
+    go Several b x y = tt
 
-pub joined-second : (a b : ℕ) → (b ≡ 0 → ⊥) → a ≡ 0 → b ≡ joined a b
-unfolding joined
-joined-second a b h e = rw (ne_eqb b 0 h, e)
+pub slot_small : (led : Led) (j : ℕ) → led ≡ To j → SlotOf led → j < 4096
+unfolding SlotOf
+slot_small led j e s = subst SlotOf e s
 
-pub joined_same : (a b : ℕ) → (b ≡ 0 → ⊥) → (a ≡ 0 → ⊥) → a ≡ b → a ≡ joined a b
-unfolding joined
-joined_same a b h g e = rw (ne_eqb b 0 h, ne_eqb a 0 g, eq-eqb a b e)
-
-pub joined-several : (a b : ℕ) → (b ≡ 0 → ⊥) → (a ≡ 0 → ⊥) → (a ≡ b → ⊥) → several ≡ joined a b
-unfolding joined
-joined-several a b h g e = rw (ne_eqb b 0 h, ne_eqb a 0 g, ne_eqb a b e)
+slot-both : (a b : Led) → SlotOf a → SlotOf b → SlotOf (joined a b)
+unfolding joined SlotOf
+slot-both Nowhere b x y = y
+slot-both (To i) Nowhere x y = x
+slot-both (To i) (To j) x y = go (eqb i j)
+  where
+    go : (p : Bool) → SlotOf (cond p (To i) Several)
+    go true = x
+    go false = tt
+slot-both (To i) Several x y = tt
+slot-both Several b x y = tt
 
 -- A loop over a list of steps or names: f says what a part of the list leads to.
 module _ {A B : Type 0} (f : List B → List A) (parts : (xs ys : List B) → f (xs ++ ys) ≡ f xs ++ f ys) (xs : List B) (j : ℕ) where
@@ -516,7 +514,7 @@ fitting_led arities second area at others place F D s t name e f p =
 module _ (arities free apart : List ℕ) (second : Bool) (area : List ℕ) (at : ℕ) (others : List ℕ) where
   module _ (place name capacity : ℕ) (work : List ℕ) (known : ℕ) where
     pub answer-none : known ≤ capacity → AnswersIs area at others place false
-        → GrowsAnswer arities free apart second area at others place name capacity work known (Known known) work
+        → GrowsAnswer arities free apart second area at others place name capacity work known (Some known) work
     unfolding AnswersIs
     answer-none few A = record {
       grows = grows_none capacity work known few;
@@ -527,7 +525,7 @@ module _ (arities free apart : List ℕ) (second : Bool) (area : List ℕ) (at :
 
     -- the first side's step led there
     pub answer_mirrored : known ≤ capacity → AnswersIs area at others place true → second ≡ true → (b : Bool) → SameHeaderIs area at others place b → b ≡ true
-        → GrowsAnswer arities free apart second area at others place name capacity work known (Known known) work
+        → GrowsAnswer arities free apart second area at others place name capacity work known (Some known) work
     unfolding AnswersIs SameHeaderIs
     answer_mirrored few A z b H q = record {
       grows = grows_none capacity work known few;
@@ -540,7 +538,7 @@ module _ (arities free apart : List ℕ) (second : Bool) (area : List ℕ) (at :
     }
 
     pub answer-added : AnswersIs area at others place true → (key : List ℕ) → SuccessorIs arities free apart second area at others place name key
-        → (r : Growth) (work' : List ℕ) → AddIs capacity work known key r work'
+        → (r : Option ℕ) (work' : List ℕ) → AddIs capacity work known key r work'
         → GrowsAnswer arities free apart second area at others place name capacity work known r work'
     unfolding AnswersIs SuccessorIs Puts
     answer-added A key K r work' a = record {
@@ -555,34 +553,36 @@ module _ (arities free apart : List ℕ) (second : Bool) (area : List ℕ) (at :
     }
 
     -- and whether it is left, and its slot, where that was looked for
-    pub answer-left : (r : Growth) (work' : List ℕ) → GrowsAnswer arities free apart second area at others place name capacity work known r work'
-        → AnswerIs arities free apart second area at others place name capacity work known (record { growth = r; left = true; led = several }) work'
-    unfolding LeadsWhere
-    answer-left r work' g = record {
+    pub answer-left : (n : ℕ) (work' : List ℕ) → GrowsAnswer arities free apart second area at others place name capacity work known (Some n) work'
+        → AnswerIs arities free apart second area at others place name capacity work known (Some (record { known = n; left = true; led = Several })) work'
+    unfolding LeadsWhere LedTo SlotOf
+    answer-left n work' g = record {
       grown = g;
       same = record { growth = λ z. never (sym z); area = λ z. never (sym z) };
+      slot = tt;
       gone = λ z. never (sym z);
-      where_to = λ G D s t before flags e i f j own m p n z ks K b. record { none = λ q. absurd (omega arith); one = λ k q l. absurd (omega arith) };
+      where_to = λ G D s t before flags e i f j own m p n z ks K b. tt;
     }
 
     pub no_answer_left : known ≤ capacity → AnswersIs area at others place false
-        → AnswerIs arities free apart second area at others place name capacity work known (record { growth = Known known; left = false; led = 0 }) work
-    unfolding AnswersIs LeadsWhere
+        → AnswerIs arities free apart second area at others place name capacity work known (Some (record { known = known; left = false; led = Nowhere })) work
+    unfolding AnswersIs LeadsWhere LedTo SlotOf
     no_answer_left few A = record {
       grown = answer-none few A;
       same = record { growth = λ z. refl; area = λ z. refl };
+      slot = tt;
       gone = λ z G D s t flags e i f j own p ks K. rw (answered-none second G D name s t (sym (A s t e f))) tt;
-      where_to = λ G D s t before flags e i f j own m p n z ks K b.
-          rw (answered-none second G D name s t (sym (A s t e f))) (record { none = λ q. refl; one = λ k q l. tt });
+      where_to = λ G D s t before flags e i f j own m p n z ks K b. answered-none second G D name s t (sym (A s t e f));
     }
 
     pub answer_looked : AnswersIs area at others place true → (key : List ℕ) → SuccessorIs arities free apart second area at others place name key
-        → (r : Added) (work' : List ℕ) → AddedIs capacity work known key r work'
+        → (r : Option Added) (work' : List ℕ) → AddedIs capacity work known key r work'
         → AnswerIs arities free apart second area at others place name capacity work known r work'
     unfolding AnswersIs SuccessorIs LeadsWhere
     answer_looked A key K r work' a = record {
-      grown = answer-added A key K r.growth work' a.added;
+      grown = answer-added A key K (growth r) work' a.added;
       same = a.same;
+      slot = a.slot;
       gone = λ z G D s t flags e i f j own p ks L.
           let F : List ℕ = free_from G 0 name_count in
           let o = answered_one second G D name s t (sym (A s t e f)) in
@@ -600,7 +600,7 @@ module _ (arities free apart : List ℕ) (second : Bool) (area : List ℕ) (at :
   -- The loop over the answers from number `first` on, once the first j are looked at.
   module _ (first count name capacity : ℕ) (work₀ : List ℕ) (known : ℕ) where
     pub record Answers (work : List ℕ) (now j : ℕ) : Type 0 where
-      pub grows : Grows capacity work₀ known (Known now) work
+      pub grows : Grows capacity work₀ known (Some now) work
       pub keeps : KeepsStruck work₀ known now work
       pub is : (G : List ℕ) (D : Pairs) (s : ListedStep) (ts : List ListedStep) (before : List Situation) → Flagged free apart G D
           → EntryAt area at s → InScope name_count arities 0 s.result
@@ -608,7 +608,7 @@ module _ (arities free apart : List ℕ) (second : Bool) (area : List ℕ) (at :
           → select (answers name_count s) (take first ts) ≡ []
           → MirroredBy second G D name s ts before
           → All (Proper name_count arities) (answered second G D name s ts)
-          → Puts arities capacity work₀ known before (answered second G D name s (take j ts)) (Known now) work
+          → Puts arities capacity work₀ known before (answered second G D name s (take j ts)) (Some now) work
 
     pub answers-start : known ≤ capacity → Answers work₀ known first
     unfolding answered
@@ -618,7 +618,7 @@ module _ (arities free apart : List ℕ) (second : Bool) (area : List ℕ) (at :
       is = λ G D s ts before flags e i l o m p. rw o (puts_none arities capacity work₀ known before);
     }
 
-    module _ (work : List ℕ) (now j : ℕ) (x : Answers work now j) (more : j < count) (r : Growth) (work' : List ℕ)
+    module _ (work : List ℕ) (now j : ℕ) (x : Answers work now j) (more : j < count) (r : Option ℕ) (work' : List ℕ)
         (g : GrowsAnswer arities free apart second area at others (step_bytes * j) name capacity work now r work') where
       next_answer : (G : List ℕ) (D : Pairs) (s : ListedStep) (ts : List ListedStep) (before : List Situation) → Flagged free apart G D
           → EntryAt area at s → InScope name_count arities 0 s.result
@@ -637,32 +637,32 @@ module _ (arities free apart : List ℕ) (second : Bool) (area : List ℕ) (at :
           (g.is G D s t before flags e i (l.entry j s more) (l.scope j s more) (l.rewritten j s more)
           (one_answer_mirrored second G D name s before ts t (get_d_∈ ts j s h) m) (all_one (Proper name_count arities) f (answered-++ second G D name s) ts j s h p)))
 
-      next_keeps : (n : ℕ) → r ≡ Known n → KeepsStruck work₀ known n work'
+      next_keeps : (n : ℕ) → r ≡ Some n → KeepsStruck work₀ known n work'
       next_keeps n e = keeps_more work₀ known now n work work' (x.grows.within now refl).0 x.keeps (g.keeps n e)
 
     pub answers_next : (work : List ℕ) (now j : ℕ) (n : ℕ) (work' : List ℕ) → Answers work now j → j < count
-        → GrowsAnswer arities free apart second area at others (step_bytes * j) name capacity work now (Known n) work' → Answers work' n (j + 1)
+        → GrowsAnswer arities free apart second area at others (step_bytes * j) name capacity work now (Some n) work' → Answers work' n (j + 1)
     answers_next work now j n work' x more g = record {
-      grows = grows_more capacity work₀ known now work (Known n) work' x.grows g.grows;
-      keeps = next_keeps work now j x more (Known n) work' g n refl;
-      is = next_answer work now j x more (Known n) work' g;
+      grows = grows_more capacity work₀ known now work (Some n) work' x.grows g.grows;
+      keeps = next_keeps work now j x more (Some n) work' g n refl;
+      is = next_answer work now j x more (Some n) work' g;
     }
 
     pub answers_full : (work : List ℕ) (now j : ℕ) (work' : List ℕ) → Answers work now j → j < count
-        → GrowsAnswer arities free apart second area at others (step_bytes * j) name capacity work now Full work'
-        → GrowsAnswers arities free apart second area at others first count name capacity work₀ known Full work'
+        → GrowsAnswer arities free apart second area at others (step_bytes * j) name capacity work now None work'
+        → GrowsAnswers arities free apart second area at others first count name capacity work₀ known None work'
     answers_full work now j work' x more g = record {
-      grows = grows_more capacity work₀ known now work Full work' x.grows g.grows;
-      keeps = next_keeps work now j x more Full work' g;
+      grows = grows_more capacity work₀ known now work None work' x.grows g.grows;
+      keeps = next_keeps work now j x more None work' g;
       is = λ G D s ts before flags e i l o m p.
           let f : List ListedStep → List Situation = answered second G D name s in
           rw (part_rest f (answered-++ second G D name s) ts (j + 1))
           (puts_full arities capacity work₀ known before (f (take (j + 1) ts)) (f (drop (j + 1) ts)) work'
-          (next_answer work now j x more Full work' g G D s ts before flags e i l o m p));
+          (next_answer work now j x more None work' g G D s ts before flags e i l o m p));
     }
 
     pub answers_end : (work : List ℕ) (now j : ℕ) → Answers work now j → count ≤ j
-        → GrowsAnswers arities free apart second area at others first count name capacity work₀ known (Known now) work
+        → GrowsAnswers arities free apart second area at others first count name capacity work₀ known (Some now) work
     answers_end work now j x h = record {
       grows = x.grows;
       keeps = λ n e. let z : now ≡ n = cc in rw (← z) x.keeps;
@@ -671,7 +671,8 @@ module _ (arities free apart : List ℕ) (second : Bool) (area : List ℕ) (at :
     }
 
     -- Whether one of them is left, and their slot.
-    pub record Looked (work : List ℕ) (now j : ℕ) (left : Bool) (led : ℕ) : Type 0 where
+    pub record Looked (work : List ℕ) (now j : ℕ) (left : Bool) (led : Led) : Type 0 where
+      pub slot : SlotOf led
       pub number : left ≡ false → now ≡ known
       pub bytes : left ≡ false → work ≡ work₀
       pub gone : left ≡ false → (G : List ℕ) (D : Pairs) (s : ListedStep) (ts : List ListedStep) → Flagged free apart G D
@@ -689,28 +690,30 @@ module _ (arities free apart : List ℕ) (second : Bool) (area : List ℕ) (at :
           → (ks : List Situation) → Knows arities capacity work₀ known ks → AllFound ks before
           → LedTo (grown ks (answered second G D name s (take j ts))) led (answered second G D name s (take j ts))
 
-    pub looked_start : Looked work₀ known first false 0
-    unfolding answered
+    pub looked_start : Looked work₀ known first false Nowhere
+    unfolding answered LedTo SlotOf
     looked_start = record {
+      slot = tt;
       number = λ z. refl;
       bytes = λ z. refl;
       gone = λ z G D s ts flags e i l o p ks K. rw o tt;
-      where_to = λ G D s ts before flags e i l o m p ks K b. rw o (record { none = λ z. refl; one = λ k z q. tt });
+      where_to = λ G D s ts before flags e i l o m p ks K b. rw o refl;
     }
 
     either_left : (b c : Bool) → (b || c) ≡ false → (b ≡ false) × (c ≡ false)
     either_left true c z = never (sym z)
     either_left false c z = (refl, z)
 
-    pub looked_next : (work : List ℕ) (now j : ℕ) (left : Bool) (led : ℕ) (a : Added) (n : ℕ) (work' : List ℕ) (led' : ℕ) → Answers work now j
-        → Looked work now j left led → j < count → a.growth ≡ Known n → led' ≡ joined led a.led
-        → AnswerIs arities free apart second area at others (step_bytes * j) name capacity work now a work' → Looked work' n (j + 1) (left || a.left) led'
+    pub looked_next : (work : List ℕ) (now j : ℕ) (left : Bool) (led : Led) (a : Added) (work' : List ℕ) (led' : Led) → Answers work now j
+        → Looked work now j left led → j < count → led' ≡ joined led a.led
+        → AnswerIs arities free apart second area at others (step_bytes * j) name capacity work now (Some a) work' → Looked work' a.known (j + 1) (left || a.left) led'
     unfolding Puts GrowsTo LeadsWhere
-    looked_next work now j left led a n work' led' so x more q both g = record {
+    looked_next work now j left led a work' led' so x more both g = record {
+      slot = rw both (slot-both led a.led x.slot g.slot);
       number = λ z.
           let (u, v) = either_left left a.left z in
-          let k : Known n ≡ Known now = sym q ∙ g.same.growth v in
-          let m : n ≡ now = cc in
+          let k : Some a.known ≡ Some now = g.same.growth v in
+          let m : a.known ≡ now = cc in
           m ∙ x.number u;
       bytes = λ z. let (u, v) = either_left left a.left z in g.same.area v ∙ x.bytes u;
       gone = λ z G D s ts flags e i l o p ks K.
@@ -733,25 +736,27 @@ module _ (arities free apart : List ℕ) (second : Bool) (area : List ℕ) (at :
           (led-both ks us (f (t ∷ [])) led a.led (x.where_to G D s ts before flags e i l o m p ks K b)
           (g.where_to G D s t before flags e i (l.entry j s more) (l.scope j s more) (l.rewritten j s more)
           (one_answer_mirrored second G D name s before ts t (get_d_∈ ts j s h) m) (all_one (Proper name_count arities) f (answered-++ second G D name s) ts j s h p)
-          n q (grown ks us) (so.is G D s ts before flags e i l o m p ks K b) (all-kept ks us before b)));
+          a.known refl (grown ks us) (so.is G D s ts before flags e i l o m p ks K b) (all-kept ks us before b)));
     }
 
-    pub looked_full : (work' : List ℕ) → GrowsAnswers arities free apart second area at others first count name capacity work₀ known Full work'
-        → AnswersAre arities free apart second area at others first count name capacity work₀ known (record { growth = Full; left = true; led = several }) work'
-    unfolding LeadsWhere
+    pub looked_full : (work' : List ℕ) → GrowsAnswers arities free apart second area at others first count name capacity work₀ known None work'
+        → AnswersAre arities free apart second area at others first count name capacity work₀ known None work'
+    unfolding LeadsWhere SlotOf
     looked_full work' g = record {
       grown = g;
-      same = record { growth = λ z. never (sym z); area = λ z. never (sym z) };
-      gone = λ z. never (sym z);
+      same = record { growth = λ z. absurd z; area = λ z. absurd z };
+      slot = tt;
+      gone = λ z. absurd z;
       where_to = λ G D s ts before flags e i l o m p n z. let q : ◌≡◌ {A = ℕ} 0 1 = cc in absurd (omega arith);
     }
 
-    pub looked_end : (work : List ℕ) (now j : ℕ) (left : Bool) (led : ℕ) → Answers work now j → Looked work now j left led → count ≤ j
-        → AnswersAre arities free apart second area at others first count name capacity work₀ known (record { growth = Known now; left = left; led = led }) work
+    pub looked_end : (work : List ℕ) (now j : ℕ) (left : Bool) (led : Led) → Answers work now j → Looked work now j left led → count ≤ j
+        → AnswersAre arities free apart second area at others first count name capacity work₀ known (Some (record { known = now; left = left; led = led })) work
     unfolding LeadsWhere
     looked_end work now j left led x y h = record {
       grown = answers_end work now j x h;
-      same = record { growth = λ z. ap Known (y.number z); area = y.bytes };
+      same = record { growth = λ z. ap Some (y.number z); area = y.bytes };
+      slot = y.slot;
       gone = λ z G D s ts flags e i l o p ks K.
           rw (part_whole (answered second G D name s) (answered-++ second G D name s) ts j (omega (arith, l.number))) (y.gone z G D s ts flags e i l o p ks K);
       where_to = λ G D s ts before flags e i l o m p n z ks K b.
@@ -776,20 +781,21 @@ module _ (area : List ℕ) (at : ℕ) (others : List ℕ) (count : ℕ) where
         let a : answers name_count s t ≡ false = sym (A s t e (l.1 j s more)) ∙ q in
         part_next (select (answers name_count s)) (select-++ (answers name_count s)) ts j s (omega (arith, l.0)) ∙ rw (so s ts e l, a)
 
-    pub answer-first : b ≡ true → FirstAnswerIs area at others count j
-    unfolding AnswersIs EntriesAt
+    pub answer-first : b ≡ true → FirstAnswerIs area at others count (Some j)
+    unfolding AnswersIs EntriesAt FirstAnswerIs
     answer-first q = record {
-      within = omega arith;
+      within = more;
       none = so;
-      answer = λ s ts d e l h. sym (A s (get_or ts j d) e (l.1 j d h)) ∙ q;
+      answer = λ s ts d e l. sym (A s (get_or ts j d) e (l.1 j d more)) ∙ q;
     }
 
-  pub answer_nowhere : (j : ℕ) → j ≡ count → NoAnswer j → FirstAnswerIs area at others count count
-  answer_nowhere j q so = record {
-    within = omega arith;
-    none = λ s ts e l. rw (← q) (so s ts e l);
-    answer = λ s ts d e l h. absurd (omega arith);
-  }
+  pub answer_nowhere : (j : ℕ) → j ≡ count → NoAnswer j → FirstAnswerIs area at others count None
+  unfolding FirstAnswerIs EntriesAt
+  answer_nowhere j q so s ts e l = ap (select (answers name_count s)) (sym (take_all j ts (omega (arith, l.0)))) ∙ so s ts e l
+
+pub first_within : (area : List ℕ) (at : ℕ) (others : List ℕ) (count r : ℕ) → FirstAnswerIs area at others count (Some r) → r < count
+unfolding FirstAnswerIs
+first_within area at others count r F = F.within
 
 list_entries : (arities area : List ℕ) (count : ℕ) (ts : List ListedStep) → ListAt arities area count ts → EntriesAt area count ts
 unfolding EntriesAt
@@ -798,7 +804,7 @@ list_entries arities area count ts l = (l.number, l.entry)
 -- One move.
 module _ (arities free apart : List ℕ) (second : Bool) (taken : ℕ) (area : List ℕ) (at : ℕ) (others : List ℕ) (first count name capacity : ℕ) (work : List ℕ)
     (known : ℕ) (waits : taken < known) where
-  pub move_answered : (r : Growth) (work' : List ℕ) → GrowsAnswers arities free apart second area at others first count name capacity work known r work'
+  pub move_answered : (r : Option ℕ) (work' : List ℕ) → GrowsAnswers arities free apart second area at others first count name capacity work known r work'
       → GrowsMove arities free apart second taken area at others first count name capacity work known r work'
   move_answered r work' g = record {
     grows = g.grows;
@@ -812,25 +818,25 @@ module _ (arities free apart : List ℕ) (second : Bool) (taken : ℕ) (area : L
 
   -- where all its answers lead is noted
   pub move_noted : (a : Added) (work' : List ℕ) → taken < capacity
-      → AnswersAre arities free apart second area at others first count name capacity work known a work' → a.led < several → (work'' : List ℕ)
-      → NotesOne work' taken a.led work'' → GrowsMove arities free apart second taken area at others first count name capacity work known a.growth work''
-  unfolding LeadsWhere
-  move_noted a work' inside g few work'' o = record {
+      → AnswersAre arities free apart second area at others first count name capacity work known (Some a) work' → (slot : ℕ) → a.led ≡ To slot → (work'' : List ℕ)
+      → NotesOne work' taken (slot + 1) work'' → GrowsMove arities free apart second taken area at others first count name capacity work known (Some a.known) work''
+  unfolding LeadsWhere LedTo
+  move_noted a work' inside g slot to work'' o = record {
     grows = record { rest = o.spare.rest capacity (omega arith) ∙ g.grown.grows.rest; within = g.grown.grows.within };
     is = λ G D s ts before flags e i l none some m p.
         let xs : List Situation = answered second G D name s ts in
-        let x = (move_answered a.growth work' g.grown).is G D s ts before flags e i l none some m p in
+        let x = (move_answered (Some a.known) work' g.grown).is G D s ts before flags e i l none some m p in
         record {
-          puts = puts_noted arities capacity work known before (together (xs ∷ [])) a.growth work' work'' taken o.spare x.puts;
-          strikes = λ n z. strikes_noted arities capacity taken before work known waits xs n work' a.led work'' few o
-              (λ ks K b. g.where_to G D s ts before flags e i l none m p n z ks K b) (x.strikes n z);
+          puts = puts_noted arities capacity work known before (together (xs ∷ [])) (Some a.known) work' work'' taken o.spare x.puts;
+          strikes = λ n z. strikes_noted arities capacity taken before work known waits xs n work' slot work'' o
+              (λ ks K b. subst (λ d. LedTo (grown ks xs) d xs) to (g.where_to G D s ts before flags e i l none m p n z ks K b)) (x.strikes n z);
         };
   }
 
   -- all that it leads to is struck out
-  pub move_gone : (a : Added) (work' : List ℕ) → a.left ≡ false → known ≤ capacity → slot_bytes * capacity ≤ length work
-      → AnswersAre arities free apart second area at others first count name capacity work known a work'
-      → GrowsMove arities free apart second taken area at others first count name capacity work known (Known known) (set work' (struck_at taken) 1)
+  pub move_gone : (a : Added) (work' : List ℕ) → NoneLeft (Some a) → known ≤ capacity → slot_bytes * capacity ≤ length work
+      → AnswersAre arities free apart second area at others first count name capacity work known (Some a) work'
+      → GrowsMove arities free apart second taken area at others first count name capacity work known (Some known) (set work' (struck_at taken) 1)
   unfolding Puts GrowsTo
   move_gone a work' z few room g = rw (g.same.area z) (record {
     grows = record {
@@ -839,8 +845,10 @@ module _ (arities free apart : List ℕ) (second : Bool) (taken : ℕ) (area : L
     };
     is = λ G D s ts before flags e i l none some m p.
         let xs : List Situation = answered second G D name s ts in
-        let put : Puts arities capacity work known before xs (Known known) work =
-        rw (g.same.growth z, g.same.area z) at (g.grown.is G D s ts before flags e i l none m p) in
+        let number : ◌≡◌ {A = Option ℕ} (Some a.known) (Some known) = g.same.growth z in
+        let put : Puts arities capacity work known before xs (Some known) work =
+        subst (λ r. Puts arities capacity work known before xs r work) number
+        (subst (λ w. Puts arities capacity work known before xs (Some a.known) w) (g.same.area z) (g.grown.is G D s ts before flags e i l none m p)) in
         record {
           puts = rw (together_one xs) (λ ks K b. knows_struck arities capacity work known (grown ks xs) taken 1 (put ks K b));
           strikes = strikes_here arities capacity taken before work known (omega arith) (xs ∷ []) xs (inl refl) (λ ks K. g.gone z G D s ts flags e i l none p ks K);
@@ -851,7 +859,7 @@ module _ (arities free apart : List ℕ) (second : Bool) (taken : ℕ) (area : L
 module _ (arities free apart : List ℕ) (second : Bool) (taken : ℕ) (area : List ℕ) (at : ℕ) (others : List ℕ) (first count : ℕ) where
   module _ (name capacity : ℕ) (work : List ℕ) (known : ℕ) where
     pub name-none : known ≤ capacity → ReceivedIs free area at name false
-        → GrowsNames arities free apart second taken area at others first count (name ∷ []) capacity work known (Known known) work
+        → GrowsNames arities free apart second taken area at others first count (name ∷ []) capacity work known (Some known) work
     unfolding ReceivedIs looked_with
     name-none few R = record {
       grows = grows_none capacity work known few;
@@ -859,7 +867,7 @@ module _ (arities free apart : List ℕ) (second : Bool) (taken : ℕ) (area : L
           rw (looked_none second G D s ts name (sym (R G s flags.names e))) (leads-none arities capacity work known before taken);
     }
 
-    pub name-received : ReceivedIs free area at name true → (r : Growth) (work' : List ℕ)
+    pub name-received : ReceivedIs free area at name true → (r : Option ℕ) (work' : List ℕ)
         → GrowsMove arities free apart second taken area at others first count name capacity work known r work'
         → GrowsNames arities free apart second taken area at others first count (name ∷ []) capacity work known r work'
     unfolding ReceivedIs looked_with
@@ -875,7 +883,7 @@ module _ (arities free apart : List ℕ) (second : Bool) (taken : ℕ) (area : L
   -- The loop over the names, once those below n are looked at.
   module _ (capacity : ℕ) (work₀ : List ℕ) (known : ℕ) where
     pub record Names (work : List ℕ) (now n : ℕ) : Type 0 where
-      pub grows : Grows capacity work₀ known (Known now) work
+      pub grows : Grows capacity work₀ known (Some now) work
       pub is : (G : List ℕ) (D : Pairs) (s : ListedStep) (ts : List ListedStep) (before : List Situation) → Flagged free apart G D
           → EntryAt area at s → InScope name_count arities 0 s.result
           → ListAt arities others count ts
@@ -883,7 +891,7 @@ module _ (arities free apart : List ℕ) (second : Bool) (taken : ℕ) (area : L
           → ((name : ℕ) → unanswered (answered second G D name s ts ∷ []) ≡ false)
           → ((name : ℕ) → among (looked_with true G s) name ≡ true → MirroredBy second G D name s ts before)
           → All (Proper name_count arities) (together (looked_at second G D s ts (names_from 0 name_count)))
-          → LeadsAfter arities capacity taken before (looked_at second G D s ts (take n (names_from 0 name_count))) work₀ known (Known now) work
+          → LeadsAfter arities capacity taken before (looked_at second G D s ts (take n (names_from 0 name_count))) work₀ known (Some now) work
 
     pub names-start : known ≤ capacity → Names work₀ known 0
     unfolding select answered_with
@@ -892,7 +900,7 @@ module _ (arities free apart : List ℕ) (second : Bool) (taken : ℕ) (area : L
       is = λ G D s ts before flags e i l none some m p. leads-none arities capacity work₀ known before taken;
     }
 
-    module _ (waits : taken < known) (work : List ℕ) (now n : ℕ) (x : Names work now n) (more : n < name_count) (r : Growth) (work' : List ℕ)
+    module _ (waits : taken < known) (work : List ℕ) (now n : ℕ) (x : Names work now n) (more : n < name_count) (r : Option ℕ) (work' : List ℕ)
         (g : GrowsNames arities free apart second taken area at others first count (n ∷ []) capacity work now r work') where
       next_name : (G : List ℕ) (D : Pairs) (s : ListedStep) (ts : List ListedStep) (before : List Situation) → Flagged free apart G D
           → EntryAt area at s → InScope name_count arities 0 s.result
@@ -917,27 +925,27 @@ module _ (arities free apart : List ℕ) (second : Bool) (taken : ℕ) (area : L
 
     module _ (waits : taken < known) (work : List ℕ) (now n : ℕ) where
       pub names_next : (k : ℕ) (work' : List ℕ) → Names work now n → n < name_count
-          → GrowsNames arities free apart second taken area at others first count (n ∷ []) capacity work now (Known k) work' → Names work' k (n + 1)
+          → GrowsNames arities free apart second taken area at others first count (n ∷ []) capacity work now (Some k) work' → Names work' k (n + 1)
       names_next k work' x more g = record {
-        grows = grows_more capacity work₀ known now work (Known k) work' x.grows g.grows;
-        is = next_name waits work now n x more (Known k) work' g;
+        grows = grows_more capacity work₀ known now work (Some k) work' x.grows g.grows;
+        is = next_name waits work now n x more (Some k) work' g;
       }
 
       pub names_full : (work' : List ℕ) → Names work now n → n < name_count
-          → GrowsNames arities free apart second taken area at others first count (n ∷ []) capacity work now Full work'
-          → GrowsNames arities free apart second taken area at others first count (names_from 0 name_count) capacity work₀ known Full work'
+          → GrowsNames arities free apart second taken area at others first count (n ∷ []) capacity work now None work'
+          → GrowsNames arities free apart second taken area at others first count (names_from 0 name_count) capacity work₀ known None work'
       names_full work' x more g = record {
-        grows = grows_more capacity work₀ known now work Full work' x.grows g.grows;
+        grows = grows_more capacity work₀ known now work None work' x.grows g.grows;
         is = λ G D s ts before flags e i l none some m p.
             let f : List ℕ → List (List Situation) = looked_at second G D s ts in
             let ns : List ℕ = names_from 0 name_count in
             rw (part_rest f (looked_++ second G D s ts) ns (n + 1))
             (leads_full arities capacity work₀ known before taken (f (take (n + 1) ns)) (f (drop (n + 1) ns)) work'
-            (next_name waits work now n x more Full work' g G D s ts before flags e i l none some m p));
+            (next_name waits work now n x more None work' g G D s ts before flags e i l none some m p));
       }
 
     pub names_end : (work : List ℕ) (now n : ℕ) → Names work now n → name_count ≤ n
-        → GrowsNames arities free apart second taken area at others first count (names_from 0 name_count) capacity work₀ known (Known now) work
+        → GrowsNames arities free apart second taken area at others first count (names_from 0 name_count) capacity work₀ known (Some now) work
     names_end work now n x h = record {
       grows = x.grows;
       is = λ G D s ts before flags e i l none some m p.
@@ -949,7 +957,7 @@ module _ (arities free apart : List ℕ) (second : Bool) (taken : ℕ) (area : L
 module _ (arities free apart : List ℕ) (differ second : Bool) (taken : ℕ) (area : List ℕ) (at : ℕ) (others : List ℕ) (count capacity : ℕ) (work : List ℕ)
     (known : ℕ) where
   pub step-none : known ≤ capacity → AllowedIs differ apart area at false
-      → GrowsStep arities free apart differ second taken area at others count capacity work known (Known known) work
+      → GrowsStep arities free apart differ second taken area at others count capacity work known (Some known) work
   unfolding AllowedIs
   step-none few A = record {
     grows = grows_none capacity work known few;
@@ -957,22 +965,21 @@ module _ (arities free apart : List ℕ) (differ second : Bool) (taken : ℕ) (a
         rw (moved_none differ second G D s ts (sym (A D s flags.pairs flags.distinction e))) (leads-none arities capacity work known before taken);
   }
 
-  module _ (A : AllowedIs differ apart area at true) (first : ℕ) (F : FirstAnswerIs area at others count first) (waits : taken < known) where
+  module _ (A : AllowedIs differ apart area at true) (waits : taken < known) where
     may_be : (G : List ℕ) (D : Pairs) (s : ListedStep) → Flagged free apart G D → EntryAt area at s → allowed differ name_count D s ≡ true
     unfolding AllowedIs
     may_be G D s flags e = sym (A D s flags.pairs flags.distinction e)
 
-    pub step_struck : first ≡ count → known ≤ capacity → slot_bytes * capacity ≤ length work
-        → GrowsStep arities free apart differ second taken area at others count capacity work known (Known known) (set work (struck_at taken) 1)
-    unfolding answered_with answered Puts GrowsTo grown
-    step_struck q few room = record {
+    pub step_struck : FirstAnswerIs area at others count None → known ≤ capacity → slot_bytes * capacity ≤ length work
+        → GrowsStep arities free apart differ second taken area at others count capacity work known (Some known) (set work (struck_at taken) 1)
+    unfolding answered_with answered Puts GrowsTo grown FirstAnswerIs
+    step_struck F few room = record {
       grows = record {
         rest = drop-set-lt (slot_bytes * capacity) work (struck_at taken) 1 (omega arith);
         within = (grows_none capacity work known few).within;
       };
       is = λ G D s ts before flags e i b l m p.
-          let n : take first ts ≡ ts = take_all first ts (omega (arith, l.number)) in
-          let o : select (answers name_count s) ts ≡ [] = ap (select (answers name_count s)) (sym n) ∙ F.none s ts e (list_entries arities others count ts l) in
+          let o : select (answers name_count s) ts ≡ [] = F s ts e (list_entries arities others count ts l) in
           let f : ℕ → List Situation = λ name. answered second G D name s ts in
           let empty : (name : ℕ) → f name ≡ [] = λ name. ap (map (λ t. leading second (free_from G 0 name_count) D s t name)) o in
           let names : List ℕ = looked_with differ G s in
@@ -985,16 +992,20 @@ module _ (arities free apart : List ℕ) (differ second : Bool) (taken : ℕ) (a
           });
     }
 
-    module _ (some : first ≡ count → ⊥) where
+    module _ (first : ℕ) (F : FirstAnswerIs area at others count (Some first)) where
+      where-first : FirstIs area at others count first
+      unfolding FirstAnswerIs
+      where-first = F
+
       -- it has an answer
       some-answer : (G : List ℕ) (D : Pairs) (s : ListedStep) (ts : List ListedStep) → EntryAt area at s → ListAt arities others count ts
           → (name : ℕ) → unanswered (answered second G D name s ts ∷ []) ≡ false
       some-answer G D s ts e l name =
-          let h : first < count = omega (arith, F.within) in
-          answered-some second G D name s ts first s (omega (arith, l.number)) (F.answer s ts s e (list_entries arities others count ts l) h)
+          let h : first < count = where-first.within in
+          answered-some second G D name s ts first s (omega (arith, l.number)) (where-first.answer s ts s e (list_entries arities others count ts l))
 
       -- names may merge: one move
-      pub step_open : differ ≡ false → (r : Growth) (work' : List ℕ)
+      pub step_open : differ ≡ false → (r : Option ℕ) (work' : List ℕ)
           → GrowsMove arities free apart second taken area at others first count name_count capacity work known r work'
           → GrowsStep arities free apart differ second taken area at others count capacity work known r work'
       unfolding looked_with answered_with
@@ -1005,13 +1016,13 @@ module _ (arities free apart : List ℕ) (differ second : Bool) (taken : ℕ) (a
             let xs : List Situation = answered second G D name_count s ts in
             let one : moved differ second G D (s ∷ []) ts ≡ xs ∷ [] =
             moved_one differ second G D s ts b may ∙ ap (λ d. answered_with second G D (looked_with d G s) s ts) q in
-            rw one (g.is G D s ts before flags e i l (F.none s ts e (list_entries arities others count ts l)) (some-answer G D s ts e l name_count)
+            rw one (g.is G D s ts before flags e i l (where-first.none s ts e (list_entries arities others count ts l)) (some-answer G D s ts e l name_count)
             (m s (inl refl) may name_count (subst (λ d. name_count ∈ looked_with d G s) (sym q) (inl refl)))
             (subst (All (Proper name_count arities)) (ap together one ∙ together_one xs) p));
       }
 
       -- all names differ: one for each name that it receives
-      pub step-named : differ ≡ true → (r : Growth) (work' : List ℕ)
+      pub step-named : differ ≡ true → (r : Option ℕ) (work' : List ℕ)
           → GrowsNames arities free apart second taken area at others first count (names_from 0 name_count) capacity work known r work'
           → GrowsStep arities free apart differ second taken area at others count capacity work known r work'
       unfolding looked_with
@@ -1022,14 +1033,14 @@ module _ (arities free apart : List ℕ) (differ second : Bool) (taken : ℕ) (a
             let all : moved differ second G D (s ∷ []) ts ≡ looked_at second G D s ts (names_from 0 name_count) =
             moved_one differ second G D s ts b may ∙ ap (λ d. answered_with second G D (looked_with d G s) s ts) q
             ∙ ap (λ names. answered_with second G D names s ts) (received_ascending G s b) in
-            rw all (g.is G D s ts before flags e i l (F.none s ts e (list_entries arities others count ts l)) (some-answer G D s ts e l)
+            rw all (g.is G D s ts before flags e i l (where-first.none s ts e (list_entries arities others count ts l)) (some-answer G D s ts e l)
             (λ name a. m s (inl refl) may name (subst (λ d. name ∈ looked_with d G s) (sym q) (among-∈ (looked_with true G s) name a)))
             (subst (λ ms. All (Proper name_count arities) (together ms)) all p));
       }
 
       -- without a condition, made by the second side: its answers have its header
       pub step_mirrored : known ≤ capacity → second ≡ true → (t : Bool) → TrivialIs area at t → t ≡ true
-          → GrowsStep arities free apart differ second taken area at others count capacity work known (Known known) work
+          → GrowsStep arities free apart differ second taken area at others count capacity work known (Some known) work
       unfolding answered_with answered
       step_mirrored few z t T q = record {
         grows = grows_none capacity work known few;
@@ -1061,18 +1072,18 @@ module _ (arities free apart : List ℕ) (differ second : Bool) (taken : ℕ) (a
 module _ (arities free apart : List ℕ) (differ second : Bool) (taken : ℕ) (area : List ℕ) (steps : ℕ) (others : List ℕ) (count capacity : ℕ) (work₀ : List ℕ) (known : ℕ) where
   -- The loop over them, once the first i are looked at.
   pub record Steps (work : List ℕ) (now i : ℕ) : Type 0 where
-    pub grows : Grows capacity work₀ known (Known now) work
+    pub grows : Grows capacity work₀ known (Some now) work
     pub is : (G : List ℕ) (D : Pairs) (ss ts : List ListedStep) (before : List Situation) → Flagged free apart G D
         → ListAt arities area steps ss → ListAt arities others count ts
         → Mirrored differ second G D ss ts before
         → All (Proper name_count arities) (together (moved differ second G D ss ts))
-        → LeadsAfter arities capacity taken before (moved differ second G D (take i ss) ts) work₀ known (Known now) work
+        → LeadsAfter arities capacity taken before (moved differ second G D (take i ss) ts) work₀ known (Some now) work
 
   pub steps-start : known ≤ capacity → Steps work₀ known 0
   unfolding moved moves select join_all
   steps-start few = record { grows = grows_none capacity work₀ known few; is = λ G D ss ts before flags k l m p. leads-none arities capacity work₀ known before taken }
 
-  module _ (waits : taken < known) (work : List ℕ) (now i : ℕ) (x : Steps work now i) (more : i < steps) (r : Growth) (work' : List ℕ)
+  module _ (waits : taken < known) (work : List ℕ) (now i : ℕ) (x : Steps work now i) (more : i < steps) (r : Option ℕ) (work' : List ℕ)
       (g : GrowsStep arities free apart differ second taken area (step_bytes * i) others count capacity work now r work') where
     next_step : (G : List ℕ) (D : Pairs) (ss ts : List ListedStep) (before : List Situation) → Flagged free apart G D
         → ListAt arities area steps ss → ListAt arities others count ts
@@ -1096,26 +1107,26 @@ module _ (arities free apart : List ℕ) (differ second : Bool) (taken : ℕ) (a
 
   module _ (waits : taken < known) (work : List ℕ) (now i : ℕ) where
     pub steps_next : (n : ℕ) (work' : List ℕ) → Steps work now i → i < steps
-        → GrowsStep arities free apart differ second taken area (step_bytes * i) others count capacity work now (Known n) work' → Steps work' n (i + 1)
+        → GrowsStep arities free apart differ second taken area (step_bytes * i) others count capacity work now (Some n) work' → Steps work' n (i + 1)
     steps_next n work' x more g = record {
-      grows = grows_more capacity work₀ known now work (Known n) work' x.grows g.grows;
-      is = next_step waits work now i x more (Known n) work' g;
+      grows = grows_more capacity work₀ known now work (Some n) work' x.grows g.grows;
+      is = next_step waits work now i x more (Some n) work' g;
     }
 
     pub steps_full : (work' : List ℕ) → Steps work now i → i < steps
-        → GrowsStep arities free apart differ second taken area (step_bytes * i) others count capacity work now Full work'
-        → GrowsSide arities free apart differ second taken area steps others count capacity work₀ known Full work'
+        → GrowsStep arities free apart differ second taken area (step_bytes * i) others count capacity work now None work'
+        → GrowsSide arities free apart differ second taken area steps others count capacity work₀ known None work'
     steps_full work' x more g = record {
-      grows = grows_more capacity work₀ known now work Full work' x.grows g.grows;
+      grows = grows_more capacity work₀ known now work None work' x.grows g.grows;
       is = λ G D ss ts before flags k l m p.
           let f : List ListedStep → List (List Situation) = λ xs. moved differ second G D xs ts in
           rw (part_rest f (moved-++ differ second G D ts) ss (i + 1))
           (leads_full arities capacity work₀ known before taken (f (take (i + 1) ss)) (f (drop (i + 1) ss)) work'
-          (next_step waits work now i x more Full work' g G D ss ts before flags k l m p));
+          (next_step waits work now i x more None work' g G D ss ts before flags k l m p));
     }
 
   pub steps_end : (work : List ℕ) (now i : ℕ) → Steps work now i → steps ≤ i
-      → GrowsSide arities free apart differ second taken area steps others count capacity work₀ known (Known now) work
+      → GrowsSide arities free apart differ second taken area steps others count capacity work₀ known (Some now) work
   steps_end work now i x h = record {
     grows = x.grows;
     is = λ G D ss ts before flags k l m p.
@@ -1135,8 +1146,8 @@ module _ (arities free apart : List ℕ) (differ : Bool) (taken : ℕ) (firsts :
     from_second : All (Proper name_count arities) (together ns)
     from_second = all_right (Proper name_count arities) (together ms) (together ns) of_both_lem
 
-  pub sides_full : (work' : List ℕ) → GrowsSide arities free apart differ false taken firsts n seconds m capacity work known Full work'
-      → GrowsSides arities free apart differ taken firsts n seconds m capacity work known Full work'
+  pub sides_full : (work' : List ℕ) → GrowsSide arities free apart differ false taken firsts n seconds m capacity work known None work'
+      → GrowsSides arities free apart differ taken firsts n seconds m capacity work known None work'
   sides_full work' g = record {
     grows = g.grows;
     is = λ G D ps qs flags k l p.
@@ -1145,8 +1156,8 @@ module _ (arities free apart : List ℕ) (differ : Bool) (taken : ℕ) (firsts :
         leads_full arities capacity work known [] taken ms ns work' (g.is G D ps qs [] flags k l (first_mirrored differ G D ps qs []) (from_first ms ns p));
   }
 
-  pub sides_both : taken < known → (now : ℕ) (work' : List ℕ) → GrowsSide arities free apart differ false taken firsts n seconds m capacity work known (Known now) work'
-      → (r : Growth) (work'' : List ℕ) → GrowsSide arities free apart differ true taken seconds m firsts n capacity work' now r work''
+  pub sides_both : taken < known → (now : ℕ) (work' : List ℕ) → GrowsSide arities free apart differ false taken firsts n seconds m capacity work known (Some now) work'
+      → (r : Option ℕ) (work'' : List ℕ) → GrowsSide arities free apart differ true taken seconds m firsts n capacity work' now r work''
       → GrowsSides arities free apart differ taken firsts n seconds m capacity work known r work''
   sides_both waits now work' g r work'' h = record {
     grows = grows_more capacity work known now work' r work'' g.grows h.grows;

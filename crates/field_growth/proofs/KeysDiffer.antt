@@ -8,6 +8,7 @@ use native.Mathlib.Decide.{dec_lt}
 use native.Mathlib.Omega.{arith}
 use lib.ListN.{length, get_or, take, drop, replicate, length-append}
 use lib.Seq.{take_at, drop_at, take_all, ext_get_or}
+use Rattle.std.specs.Prelude.{Some, None}
 use Rattle.calculus.specs.Cond.{Pairs}
 use Rattle.calculus.specs.Distinction.{Apart, Irr}
 use Rattle.calculus.specs.Term.{Term}
@@ -27,7 +28,6 @@ use Rattle.field_pairs.specs.PairNumbers.{number_of}
 use Rattle.field_pairs.specs.PairFlags.{pair_count}
 use Rattle.field.specs.Situation.{Situation, situation}
 use Rattle.field_pairs.specs.Slot.{part_bytes, flag, flags_of, packed, key_of, key_bytes, slot_bytes}
-use Rattle.field_slots.specs.declared.find.Found.TheVariants.{At, Nothing}
 use Rattle.field_slots.proofs.KeyLaws.{length_part, length-packed, packed-bit}
 use Rattle.field.proofs.Members.{get_d_∈, ∈-number}
 use Rattle.field_pairs.proofs.PairLaws.{length_flags, flag_at}
@@ -135,7 +135,7 @@ module _ (arities work : List ℕ) (count : ℕ) (known : List Situation) (numbe
       ap (take key_bytes) is ∙ take_all key_bytes (key_of s) (omega (arith, length_key s fits))
 
   -- A slot with the key holds the situation; without such a slot it is not among the known ones.
-  pub slot_holds : (i : ℕ) → FoundIs work count key (At i) → (d : Situation) → get_or known i d ≡ s
+  pub slot_holds : (i : ℕ) → FoundIs work count key (Some i) → (d : Situation) → get_or known i d ≡ s
   unfolding FoundIs
   slot_holds i h d =
       let l : i < length known = omega (arith, h.0) in
@@ -143,11 +143,11 @@ module _ (arities work : List ℕ) (count : ℕ) (known : List Situation) (numbe
       key_equal arities (get_or known i d) s (all-∈ (Proper name_count arities) known proper (get_or known i d) (get_d_∈ known i d l)) p
       (record { first = at.first; second = at.second }) fits (sym (slot_key work i (get_or known i d) at) ∙ h.1 ∙ whole)
 
-  pub found-slot : (i : ℕ) → FoundIs work count key (At i) → found known s ≡ true
+  pub found-slot : (i : ℕ) → FoundIs work count key (Some i) → found known s ≡ true
   unfolding FoundIs
   found-slot i h = ∈-found known s (subst (λ t. t ∈ known) (slot_holds i h s) (get_d_∈ known i s (omega (arith, h.0))))
 
-  pub found_no_slot : FoundIs work count key Nothing → found known s ≡ false
+  pub found_no_slot : FoundIs work count key None → found known s ≡ false
   unfolding FoundIs
   found_no_slot h = go (found known s) refl
     where

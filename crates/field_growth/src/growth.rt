@@ -11,7 +11,6 @@ use field_pairs::entries::{answers, same_header};
 use field_pairs::names::is_received;
 use field_pairs::pairs::{PAIR_COUNT, allowed};
 use field_slots::chains::{find_chained, put};
-use field_slots::find::Found;
 use field_slots::notes::note_sole;
 use field_slots::slot::{left_at, strike};
 use field_successors::results::{Answering, successor};
@@ -19,72 +18,64 @@ use steps_conditions::condition::Condition;
 use steps_entries::limits::STEP_BYTES;
 use terms_bytes::limits::NAME_COUNT;
 
-// The number of situations known, or a limit is passed: they outgrow the capacity, or one of them is past a limit.
+// Each function below answers the number of situations known, or none where a limit is passed: they outgrow the capacity.
+
+// The slot that all situations looked at have: none was looked at, they have that of this number, or they have no such slot or it was not looked for.
 #[derive(Clone, Copy)]
-pub enum Growth {
-    Full,
-    Known(usize),
+pub enum Led {
+    Nowhere,
+    To(usize),
+    Several,
 }
 
-// The growth, whether a situation that was looked at is left, that is, not struck out so far, and the number plus 1 of the slot that all of them
-// have: 0 if none was looked at, and SEVERAL if they have no such slot or it was not looked for.
+// The number of situations known, whether one that was looked at is left, that is, not struck out so far, and their slot.
 #[derive(Clone, Copy)]
 pub struct Added {
-    pub growth: Growth,
+    pub known: usize,
     pub left: bool,
-    pub led: usize,
+    pub led: Led,
 }
 
-fn join(a: usize, b: usize) -> usize
+fn join(a: Led, b: Led) -> Led
     ensures { result ≡ joined a b }
 {
-    if b == 0 {
-        return a;
+    match (a, b) {
+        (Led::Nowhere, _) => b,
+        (_, Led::Nowhere) => a,
+        (Led::To(i), Led::To(j)) => { if i == j { a } else { Led::Several } }
+        _ => Led::Several,
     }
-    if a == 0 {
-        return b;
-    }
-    if a == b {
-        return a;
-    }
-    SEVERAL
 }
 
 // Puts the situation with this key behind the known ones if it is new.
-fn add(work: &mut [u8], capacity: usize, known: usize, key: &[u8]) -> Added
+fn add(work: &mut [u8], capacity: usize, known: usize, key: &[u8]) -> Option<Added>
     requires { (1 ≤ capacity) × (known ≤ capacity) × (capacity ≤ 4096) × (slot_bytes * capacity ≤ length work.old) × (key_bytes ≤ length key.now) }
     ensures { AddedIs capacity work.old known key.now result work.new }
 {
     let place = find_chained(work, capacity, known, key);
     match place {
-        Found::At(i) => {
-            let left = left_at(work, i);
-            Added {
-                growth: Growth::Known(known),
-                left,
-                led: i + 1,
-            }
-        }
-        Found::Nothing => {
+        Some(i) => Some(Added {
+            known,
+            left: left_at(work, i),
+            led: Led::To(i),
+        }),
+        None => {
             if known == capacity {
-                return Added {
-                    growth: Growth::Full,
-                    left: true,
-                    led: SEVERAL,
-                };
+                return None;
             }
             put(work, capacity, known, key);
-            Added {
-                growth: Growth::Known(known + 1),
+            Some(Added {
+                known: known + 1,
                 left: true,
-                led: known + 1,
-            }
+                led: Led::To(known),
+            })
         }
     }
 }
 
 // A step that must be answered, of the second or the first side of the situation in slot `taken`: where it stands, how many steps the other side has,
-// and from which of them on answers are looked for. Where all names differ (request 2026-02), `name` is the one received; else none of the names.
+// and from which of them on answers are looked for. Where all names differ (request 2026-02), `name` is the one received; else none of the names, as the
+// theorems on what a step leads to have it.
 #[derive(Clone, Copy)]
 struct Asked {
     second: bool,
@@ -107,7 +98,7 @@ fn grow_answer(
     asked: Asked,
     work: &mut [u8],
     known: usize,
-) -> Added
+) -> Option<Added>
     requires { CanAsk asked (length area.now) (length others.now) (length work.old) known × (asked.first < asked.count) }
     ensures { AnswerTo arities.now free.now apart.now asked area.now others.now work.old known result work.new }
 {
@@ -115,20 +106,18 @@ fn grow_answer(
     let first = asked.first;
     let place = STEP_BYTES * first;
     if !answers(area, at, others, place) {
-        return Added {
-            growth: Growth::Known(known),
+        return Some(Added {
+            known,
             left: false,
-            led: 0,
-        };
+            led: Led::Nowhere,
+        });
     }
-    if asked.second {
-        if same_header(area, at, others, place) {
-            return Added {
-                growth: Growth::Known(known),
-                left: true,
-                led: SEVERAL,
-            };
-        }
+    if asked.second && same_header(area, at, others, place) {
+        return Some(Added {
+            known,
+            left: true,
+            led: Led::Several,
+        });
     }
     let answer = Answering {
         second: asked.second,
@@ -150,59 +139,39 @@ fn grow_answers(
     asked: Asked,
     work: &mut [u8],
     known: usize,
-) -> Added
+) -> Option<Added>
     requires { CanAsk asked (length area.now) (length others.now) (length work.old) known }
     ensures { AnswersTo arities.now free.now apart.now asked area.now others.now work.old known result work.new }
 {
     let count = asked.count;
     let mut so_far = known;
     let mut left = false;
-    let mut led = 0;
-    let mut j = asked.first;
-    while j < count {
-        let next = Asked {
-            second: asked.second,
-            taken: asked.taken,
-            at: asked.at,
-            first: j,
-            count,
-            name: asked.name,
-            capacity: asked.capacity,
-        };
-        let added = grow_answer(arities, free, apart, area, others, next, work, so_far);
-        let growth = added.growth;
-        let Growth::Known(n) = growth else {
-            return Added {
-                growth: Growth::Full,
-                left: true,
-                led: SEVERAL,
-            };
-        };
-        so_far = n;
+    let mut led = Led::Nowhere;
+    for j in asked.first..count {
+        let next = Asked { first: j, ..asked };
+        let added = grow_answer(arities, free, apart, area, others, next, work, so_far)?;
+        so_far = added.known;
         left = left | added.left;
         led = join(led, added.led);
-        j += 1;
     }
-    Added {
-        growth: Growth::Known(so_far),
+    Some(Added {
+        known: so_far,
         left,
         led,
-    }
+    })
 }
 
-// The first of the other side's `count` steps that answers the one at `at`, or `count` if none does.
-fn first_answer(area: &[u8], at: usize, others: &[u8], count: usize) -> usize
+// The first of the other side's `count` steps that answers the one at `at`.
+fn first_answer(area: &[u8], at: usize, others: &[u8], count: usize) -> Option<usize>
     requires { (at ≤ length area.now) × (step_bytes * count ≤ length others.now) }
     ensures { FirstAnswerIs area.now at others.now count result }
 {
-    let mut j = 0;
-    while j < count {
+    for j in 0..count {
         if answers(area, at, others, STEP_BYTES * j) {
-            return j;
+            return Some(j);
         }
-        j += 1;
     }
-    count
+    None
 }
 
 // What the answers lead to, one move. Where all lead to situations that are struck out, none is ever left: the situation is struck out. Where all lead
@@ -216,20 +185,20 @@ fn grow_move(
     asked: Asked,
     work: &mut [u8],
     known: usize,
-) -> Growth
+) -> Option<usize>
     requires { CanAsk asked (length area.now) (length others.now) (length work.old) known }
     ensures { MoveIs arities.now free.now apart.now asked area.now others.now work.old known result work.new }
 {
     let taken = asked.taken;
-    let added = grow_answers(arities, free, apart, area, others, asked, work, known);
+    let added = grow_answers(arities, free, apart, area, others, asked, work, known)?;
     if added.left {
-        if added.led < SEVERAL {
-            note_sole(work, taken, added.led);
+        if let Led::To(slot) = added.led {
+            note_sole(work, taken, slot + 1);
         }
-        return added.growth;
+        return Some(added.known);
     }
     strike(work, taken);
-    Growth::Known(known)
+    Some(known)
 }
 
 // The move with the name, if the step receives it.
@@ -242,12 +211,12 @@ fn grow_name(
     asked: Asked,
     work: &mut [u8],
     known: usize,
-) -> Growth
+) -> Option<usize>
     requires { CanAsk asked (length area.now) (length others.now) (length work.old) known × (asked.name < name_count) }
     ensures { NamesAre arities.now free.now apart.now asked area.now others.now (asked.name ∷ []) work.old known result work.new }
 {
     if !is_received(free, area, asked.at, asked.name) {
-        return Growth::Known(known);
+        return Some(known);
     }
     grow_move(arities, free, apart, area, others, asked, work, known)
 }
@@ -262,30 +231,16 @@ fn grow_names(
     asked: Asked,
     work: &mut [u8],
     known: usize,
-) -> Growth
+) -> Option<usize>
     requires { CanAsk asked (length area.now) (length others.now) (length work.old) known }
     ensures { NamesAre arities.now free.now apart.now asked area.now others.now (names_from 0 name_count) work.old known result work.new }
 {
     let mut so_far = known;
-    let mut name = 0;
-    while name < NAME_COUNT {
-        let named = Asked {
-            second: asked.second,
-            taken: asked.taken,
-            at: asked.at,
-            first: asked.first,
-            count: asked.count,
-            name,
-            capacity: asked.capacity,
-        };
-        let growth = grow_name(arities, free, apart, area, others, named, work, so_far);
-        let Growth::Known(n) = growth else {
-            return Growth::Full;
-        };
-        so_far = n;
-        name += 1;
+    for name in 0..NAME_COUNT {
+        let named = Asked { name, ..asked };
+        so_far = grow_name(arities, free, apart, area, others, named, work, so_far)?;
     }
-    Growth::Known(so_far)
+    Some(so_far)
 }
 
 // A step of the second or the first side of the situation in slot `taken`: where it stands, and how many steps the other side has; `differ`: all names
@@ -311,7 +266,7 @@ pub fn grow_step(
     step: Step,
     work: &mut [u8],
     known: usize,
-) -> Growth
+) -> Option<usize>
     requires { Underway step.taken known step.capacity (length work.old) × (step.at + step_bytes ≤ length area.now) × HasSteps step.count (length others.now) }
     ensures { StepIs arities.now free.now apart.now step area.now others.now work.old known result work.new }
 {
@@ -320,17 +275,14 @@ pub fn grow_step(
     let at = step.at;
     let count = step.count;
     if !allowed(differ, apart, area, at) {
-        return Growth::Known(known);
+        return Some(known);
     }
-    let first = first_answer(area, at, others, count);
-    if first == count {
+    let Some(first) = first_answer(area, at, others, count) else {
         strike(work, taken);
-        return Growth::Known(known);
-    }
-    if step.second {
-        if Condition::is_trivial(area, at) {
-            return Growth::Known(known);
-        }
+        return Some(known);
+    };
+    if step.second && Condition::is_trivial(area, at) {
+        return Some(known);
     }
     let asked = Asked {
         second: step.second,
@@ -346,6 +298,3 @@ pub fn grow_step(
     }
     grow_move(arities, free, apart, area, others, asked, work, known)
 }
-
-// More than any number of a slot plus 1.
-const SEVERAL: usize = 4097;

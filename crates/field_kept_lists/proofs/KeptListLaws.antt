@@ -3,34 +3,23 @@ use mathlib.Core.List.{List, ◌++◌, append_assoc}
 use mathlib.Core.Path.{◌≡◌, sym, ◌∙◌, ap, subst}
 use native.Mathlib.Decide.{dec_lt}
 use native.Mathlib.Omega.{arith}
-use Prim.Native.Nat.{ℕ, ◌+◌, ◌*◌, ◌<◌, ◌≤◌, min, max}
-use lib.ListN.{length, get_or, take, drop, set}
-use lib.Seq.{length-take-le, take-take, take_at, drop_at, drop-drop, sets, sets-eq}
+use Prim.Native.Nat.{ℕ, ◌+◌, ◌-◌, ◌*◌, ◌<◌, ◌≤◌}
+use lib.ListN.{length, take, drop}
+use lib.Seq.{length-take-le, take-take, take_at, drop_at, drop-drop, paste, sets, sets-eq}
 use Rattle.terms.specs.Limits.{name_count}
-use Rattle.terms_bytes.proofs.Stores.{span, length-span, get_d_span, sets_more}
+use Rattle.terms_bytes.proofs.Stores.{length-span}
 use Rattle.steps.specs.Limits.{step_bytes, most_steps}
 use Rattle.field_kept_lists.specs.ListArea.{label_place, label_bytes, kept_steps, kept_bytes, kept_place, list_area, label_at, kept_at, LabelIs, count_in, Elsewhere, PutsLabel, ListIn, Tells, Kept, Labelled, KeptPlace, Brings, Keeps}
-use Rattle.field_kept_lists.proofs.ElsewhereLaws.{fewer, window, window_before, window_behind, byte-before, byte-behind, wider, after, run_set}
+use Rattle.field_kept_lists.proofs.ElsewhereLaws.{fewer, window, window_before, window_behind, wider, after, run_set}
 use Rattle.field_kept_lists.proofs.ListAreaLaws.{list_same, tells, KeptLists, labelled_by, list_copied, kept-copied}
 
--- One byte more is copied within a list: the byte that is read is as it was.
-pub copied_more : (l : List ℕ) (from n to i : ℕ) → min from to + n ≤ max from to → max from to + n ≤ length l → i < n → (l' : List ℕ)
-    → l' ≡ sets l to (take i (span l from n)) → set l' (to + i) (get_or l' (from + i) 0) ≡ sets l to (take (i + 1) (span l from n))
-copied_more l from n to i apart room h l' e =
-    rw (e, byte (dec_lt from to), ← get_d_span l from n i h) (sets_more l (span l from n) to i (omega (arith, all)))
-  where
-    all : length (span l from n) ≡ n
-    all = length-span l from n (omega arith)
-
-    size : length (take i (span l from n)) ≡ i
-    size = length-take-le i (span l from n) (omega (arith, all))
-
-    changed : Elsewhere to (length (take i (span l from n))) l (sets l to (take i (span l from n)))
-    changed = run_set l (take i (span l from n)) to (omega (arith, size))
-
-    byte : Dec (from < to) → get_or (sets l to (take i (span l from n))) (from + i) 0 ≡ get_or l (from + i) 0
-    byte (yes a) = byte-before to (length (take i (span l from n))) l (sets l to (take i (span l from n))) changed (from + i) (omega arith)
-    byte (no a) = byte-behind to (length (take i (span l from n))) l (sets l to (take i (span l from n))) changed (from + i) (omega (arith, size))
+-- A list copied within an area.
+pub pasted : (l : List ℕ) (from end to n : ℕ) → end - from ≡ n → from + n ≤ length l → to + n ≤ length l
+    → paste l to (drop from l) (end - from) ≡ sets l to (take n (drop from l))
+pasted l from end to n e h room =
+    let size : length (take n (drop from l)) ≡ n = length-span l from n h in
+    ap (paste l to (drop from l)) e ∙ ap (λ k. (take to l ++ take n (drop from l)) ++ drop (to + k) l) (sym size)
+    ∙ sym (sets-eq (take n (drop from l)) l to (omega (arith, size)))
 
 -- The label and the steps of the kept list at p.
 pub label_here : (area : List ℕ) (p : ℕ) → take label_bytes (take kept_bytes (drop p area)) ≡ label_at area p

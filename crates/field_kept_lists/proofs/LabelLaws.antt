@@ -16,11 +16,6 @@ use Rattle.field_kept_lists.specs.ListArea.{label_bytes, label_at, LabelIs, coun
 use Rattle.field_slots.proofs.ChainLaws.{length-put, byte_put, size-put, size_same}
 use Rattle.field_kept_lists.proofs.ElsewhereLaws.{window, wider, after, one_set, run_set}
 
--- Parts that are alike.
-pub same_parts : (a b : List ℕ) → length a ≡ length b → (r : Bool) → AlikeIs a 0 b 0 (length a) r → r ≡ true → a ≡ b
-same_parts a b e r alike t =
-    ext_get_or 0 a b e (λ i h. let z : i ≡ 0 + i = omega arith in ap (λ k. get_or a k 0) z ∙ alike.0 t i h ∙ ap (λ k. get_or b k 0) (sym z))
-
 -- What stands at p, said of the label there.
 module _ (area : List ℕ) (p : ℕ) where
   label_of : (part : List ℕ) (x : ℕ) → length part ≤ longest_term → get_or area p 0 ≡ x → get_or area (p + 1) 0 ≡ length part

@@ -5,6 +5,7 @@ use native.Mathlib.Omega.{arith}
 use Prim.Native.Nat.{ℕ, ◌+◌, ◌*◌, ◌<◌, ◌≤◌}
 use lib.ListN.{length, get_or, set, take, drop, replicate, take-append-drop, length-set, length-replicate, get_or-replicate}
 use lib.Seq.{length-take-le, length_front, take-append-le, take_at, drop_at, get_or-take, get_or-set_same, sets, sets-eq}
+use Rattle.std.specs.Prelude.{Option, Some, None}
 use Rattle.calculus.specs.Free.{Free}
 use Rattle.calculus.specs.Term.{Term}
 use Rattle.terms_bytes.specs.FieldPlaces.{size_at}
@@ -18,8 +19,6 @@ use Rattle.steps.specs.Listing.{Listing, unsettled, listed, steps_of}
 use Rattle.steps.specs.Operations.{list_bytes}
 use Rattle.steps_lister.specs.PartLister.{Lists}
 use Rattle.steps_lister.specs.PartLister.{AnswersListing, ListPartIs}
-use Rattle.steps_lister.specs.declared.list.ListAnswer.{ListAnswer}
-use Rattle.steps_lister.specs.declared.list.ListAnswer.TheVariants.{Unsettled, Count}
 use Rattle.field_kept_lists.specs.ListArea.{label_place, label_bytes, kept_bytes, kept_lists, kept_place, list_area, label_at, kept_at, LabelIs, count_in, Elsewhere, PutsLabel, ListIn, Tells, Kept, Labelled, SideIs}
 use Rattle.field_kept_lists.proofs.ElsewhereLaws.{fewer, window_behind, one_set, run_set}
 
@@ -97,6 +96,10 @@ no_part question n room = record {
     zeros : (p k m : ℕ) → k < m → p + m ≤ n → get_or (take m (drop p (replicate {A = ℕ} n 0))) k 0 ≡ 0
     zeros p k m h l = get_d_span (replicate {A = ℕ} n 0) p m k h ∙ get_or-replicate {A = ℕ} n (p + k) 0 0 (omega arith)
 
+-- An area of which the beginning was lent is as long as before.
+pub room_kept : (area new : List ℕ) → length new ≡ length (take label_place area) → list_area ≤ length area → list_area ≤ length (new ++ drop label_place area)
+room_kept area new e r = omega (arith, length_front area new label_place e)
+
 -- The beginning of an area lent, and changed: what the labels of the kept lists say stays so.
 module _ (question area steps : List ℕ) (same : length steps ≡ length (take label_place area)) (so : Labelled question area) where
   pub lent_size : length steps ≡ label_place
@@ -122,13 +125,13 @@ module _ (question area steps : List ℕ) (same : length steps ≡ length (take 
       (list_same question part x n steps (steps ++ drop label_place area) (take-append-le (step_bytes * n) steps (drop label_place area) k) list) put room
 
 -- What the lister's answer says of a side. It is lent the beginning of the area.
-module _ (question part : List ℕ) (x : ℕ) (area : List ℕ) (r : ListAnswer) (steps : List ℕ)
+module _ (question part : List ℕ) (x : ℕ) (area : List ℕ) (r : Option ℕ) (steps : List ℕ)
     (answer : ListPartIs question part x r steps) (same : length steps ≡ length (take label_place area))
     (so : Labelled question area) where
   abbrev whole : List ℕ
   whole = steps ++ drop label_place area
 
-  side_past : r ≡ Unsettled → (b : List ℕ) → SideIs question part x Unsettled b
+  side_past : r ≡ None → (b : List ℕ) → SideIs question part x None b
   unfolding SideIs AnswersListing
   side_past u b q P l new = go (steps_of q.bodies x P) (answer.is q P l new)
     where
@@ -136,10 +139,10 @@ module _ (question part : List ℕ) (x : ℕ) (area : List ℕ) (r : ListAnswer)
       go unsettled e = refl
       go (listed ss) e = let d = e.0 in let z : ◌≡◌ {A = ℕ} 0 1 = cc in absurd (omega arith)
 
-  pub side_unlabelled : r ≡ Unsettled → SideIs question part x Unsettled (set whole label_place 255) × Labelled question (set whole label_place 255)
+  pub side_unlabelled : r ≡ None → SideIs question part x None (set whole label_place 255) × Labelled question (set whole label_place 255)
   side_unlabelled u = (side_past u (set whole label_place 255), lent_unlabelled question area steps same so)
 
-  list_made : (n : ℕ) → r ≡ Count n → ListIn question part x n steps
+  list_made : (n : ℕ) → r ≡ Some n → ListIn question part x n steps
   unfolding AnswersListing
   list_made n c = record { few = answer.few n c; is = λ q P l new. go q P l new (steps_of q.bodies x P) refl (answer.is q P l new) }
     where
@@ -153,12 +156,12 @@ module _ (question part : List ℕ) (x : ℕ) (area : List ℕ) (r : ListAnswer)
           let bytes : step_bytes * n ≡ length ss * step_bytes = omega arith in
           (ss, d, number, ap (λ k. take k steps) bytes ∙ e.1)
 
-  pub listed_at_hand : (n : ℕ) → r ≡ Count n → (area' : List ℕ) → PutsLabel whole label_place part x n area' → list_area ≤ length area'
+  pub listed_at_hand : (n : ℕ) → r ≡ Some n → (area' : List ℕ) → PutsLabel whole label_place part x n area' → list_area ≤ length area'
       → ListIn question part x n area' × Labelled question area'
   listed_at_hand n c area' put room = lent_labelled question area steps same so part x n (list_made n c) area' put room
 
 -- A part above the limit is none that is to be listed.
-pub long_part : (question part : List ℕ) (x : ℕ) (area : List ℕ) → longest_term < length part → SideIs question part x Unsettled area
+pub long_part : (question part : List ℕ) (x : ℕ) (area : List ℕ) → longest_term < length part → SideIs question part x None area
 unfolding SideIs
 long_part question part x area h q P l new = absurd (omega (arith, ap length l.bytes, l.size))
 
@@ -191,16 +194,16 @@ list_there area k bs room e =
 
 -- A side's list.
 module _ (question part : List ℕ) (x : ℕ) where
-  pub side_list : (r : ListAnswer) (area : List ℕ) → SideIs question part x r area → (n : ℕ) → r ≡ Count n → ListIn question part x n area × (length part ≤ longest_term)
+  pub side_list : (r : Option ℕ) (area : List ℕ) → SideIs question part x r area → (n : ℕ) → r ≡ Some n → ListIn question part x n area × (length part ≤ longest_term)
   unfolding SideIs
   side_list r area s n e = subst (λ a. SideIs question part x a area) e s
 
   pub side_at_hand : (area : List ℕ) → Labelled question area → x ≤ name_count → length part ≤ longest_term → LabelIs (label_at area label_place) part x → (n : ℕ)
-      → n ≡ count_in (label_at area label_place) → SideIs question part x (Count n) area
+      → n ≡ count_in (label_at area label_place) → SideIs question part x (Some n) area
   unfolding SideIs
   side_at_hand area so within fits label n e = (subst (λ k. ListIn question part x k area) (sym e) (so.is part x within label), fits)
 
   pub side_is : (n : ℕ) (area : List ℕ) → length part ≤ longest_term → ListIn question part x n area × Labelled question area
-      → SideIs question part x (Count n) area × Labelled question area
+      → SideIs question part x (Some n) area × Labelled question area
   unfolding SideIs
   side_is n area fits (list, so) = ((list, fits), so)

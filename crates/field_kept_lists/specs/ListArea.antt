@@ -1,6 +1,6 @@
 -- The area of one side's lists: the list at hand and kept lists of few steps, each with a label that says whose list it is. So a list that is there
 -- need not be made again.
-use Rattle.std.specs.Prelude.{◌≡◌, List, ℕ, ◌+◌, ◌*◌, ◌<◌, ◌≤◌, length, get_or, take, drop}
+use Rattle.std.specs.Prelude.{Option, Some, None, ◌≡◌, List, ℕ, ◌+◌, ◌*◌, ◌<◌, ◌≤◌, length, get_or, take, drop}
 use Rattle.calculus.specs.Free.{Free}
 use Rattle.calculus.specs.Term.{Term}
 use Rattle.terms_bytes.specs.FieldPlaces.{size_at}
@@ -12,8 +12,6 @@ use Rattle.steps.specs.Listing.{unsettled, listed, steps_of}
 use Rattle.steps.specs.Operations.{list_bytes}
 use Rattle.steps_entries.specs.Entries.{list_room}
 use Rattle.steps_lister.specs.PartLister.{Lists}
-use Rattle.steps_lister.specs.declared.list.ListAnswer.{ListAnswer}
-use Rattle.steps_lister.specs.declared.list.ListAnswer.TheVariants.{Unsettled, Count}
 
 -- The area: the steps of the list at hand, its label, and the kept lists, each a label and behind it room for a few steps.
 abbrev pub label_place : ℕ
@@ -100,6 +98,6 @@ Keeps area part x n area' =
     (question : List ℕ) → Labelled question area → ListIn question part x n area → ListIn question part x n area' × Labelled question area'
 
 -- The answer on one side.
-unfoldable pub SideIs : List ℕ → List ℕ → ℕ → ListAnswer → List ℕ → Type 0
-SideIs question part x Unsettled area = (q : Question) (P : Term) → Lists question part x q P → ¬ Free x P → steps_of q.bodies x P ≡ unsettled
-SideIs question part x (Count n) area = ListIn question part x n area × (length part ≤ longest_term)
+unfoldable pub SideIs : List ℕ → List ℕ → ℕ → Option ℕ → List ℕ → Type 0
+SideIs question part x None area = (q : Question) (P : Term) → Lists question part x q P → ¬ Free x P → steps_of q.bodies x P ≡ unsettled
+SideIs question part x (Some n) area = ListIn question part x n area × (length part ≤ longest_term)

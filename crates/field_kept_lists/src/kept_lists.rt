@@ -1,6 +1,5 @@
 // The kept lists of an area: those of parts with few steps, for a part that comes again after other parts, on this side or on the other.
-ghost use Rattle.std.specs.Prelude.{◌≡◌, ◌+◌, ◌≤◌, ◌<◌, min, max, length, take, drop};
-ghost use Rattle.std.proofs.lemmas.List.Edits.{sets};
+ghost use Rattle.std.specs.Prelude.{◌≤◌, ◌<◌, length};
 ghost use Rattle.terms.specs.Limits.{name_count, longest_term};
 ghost use Rattle.steps.specs.Limits.{most_steps};
 ghost use Rattle.field_kept_lists.specs.ListArea.{list_area, kept_steps, label_at, count_in, KeptPlace, Brings, Keeps};
@@ -24,11 +23,9 @@ fn weighed(part: &[u8]) -> usize
 {
     let mut sum = 0;
     let mut sums = 0;
-    let mut i = 0;
-    while i + 4 <= part.len() {
-        sum += word(part, i);
+    for k in 0..part.len() / 4 {
+        sum += word(part, 4 * k);
         sums += sum;
-        i += 4;
     }
     if part.len() < 4 {
         return sums;
@@ -45,30 +42,19 @@ pub fn kept_place(part: &[u8]) -> usize
     KEPT_LISTS + KEPT_BYTES * (h * 40503 % 65521 / 2521)
 }
 
-// Copies `n` bytes within an area, of which none is written before it is read.
-fn copy_within(area: &mut [u8], from: usize, n: usize, to: usize)
-    requires { (min from to + n ≤ max from to) × (max from to + n ≤ length area.old) }
-    ensures { area.new ≡ sets area.old to (take n (drop from area.old)) }
-{
-    let mut i = 0;
-    while i < n {
-        area[to + i] = area[from + i];
-        i += 1;
-    }
-}
-
 // Brings the list that is kept at `p`, which is that of this part for the new name `x`, to hand. Answers its number of steps.
 pub fn bring(area: &mut [u8], p: usize, part: &[u8], x: usize) -> usize
     requires { (list_area ≤ length area.old) × KeptPlace p × (count_in (label_at area.old p) ≤ kept_steps) × (length part.now ≤ longest_term) × (x ≤ name_count) }
     ensures { Brings area.old p part.now x area.old result area.new }
 {
     let n = steps_in(area, p);
-    copy_within(area, p + LABEL_BYTES, STEP_BYTES * n, 0);
+    let from = p + LABEL_BYTES;
+    area.copy_within(from..from + STEP_BYTES * n, 0);
     put_label(area, LABEL, part, x, n);
     n
 }
 
-// The same for a list that is kept in the area of the other side.
+// The same for a list that is kept in the area of the other side. Two functions, for one area cannot be lent both to be read and to be written.
 pub fn copy_kept(other: &[u8], p: usize, part: &[u8], x: usize, area: &mut [u8]) -> usize
     requires { (list_area ≤ length other.now) × KeptPlace p × (count_in (label_at other.now p) ≤ kept_steps) × (length part.now ≤ longest_term) × (x ≤ name_count) × (list_area ≤ length area.old) }
     ensures { Brings other.now p part.now x area.old result area.new }
@@ -87,6 +73,6 @@ pub fn keep(area: &mut [u8], p: usize, part: &[u8], x: usize, n: usize)
     if KEPT_STEPS < n {
         return;
     }
-    copy_within(area, 0, STEP_BYTES * n, p + LABEL_BYTES);
+    area.copy_within(0..STEP_BYTES * n, p + LABEL_BYTES);
     put_label(area, p, part, x, n);
 }

@@ -35,10 +35,7 @@ pub const NO_LIST: u8 = 255;
 pub fn same_part(a: &[u8], b: &[u8]) -> bool
     ensures { result ≡ true → a.now ≡ b.now }
 {
-    if a.len() != b.len() {
-        return false;
-    }
-    alike(a, 0, b, 0, a.len())
+    a == b
 }
 
 // Whether the label at `p` is that of the list of this part for the new name `x`.

@@ -39,10 +39,7 @@ pub fn binds(area: &[u8], at: usize) -> bool
     ensures { BindsIs area.now at result }
 {
     let kind = get(area, at + KIND);
-    if kind == 1 {
-        return true;
-    }
-    kind == 3
+    kind == 1 || kind == 3
 }
 
 // Whether the step at `place` of the other side's list answers the one at `at`: Definition 13.

@@ -19,16 +19,14 @@ pub fn free_in_either(first: &[u8], second: &[u8], arities: &[u8]) -> [u8; NAME_
     flags
 }
 
-// The smallest name that is not free, and the one behind all names where all of them are.
+// The smallest name that is not free, and the one behind all names where all of them are: no Option, for the definition of the new name answers so.
 pub fn new_name(free: &[u8]) -> usize
     ensures { NewNameIs free.now result }
 {
-    let mut n = 0;
-    while n < NAME_COUNT {
+    for n in 0..NAME_COUNT {
         if get(free, n) == 0 {
             return n;
         }
-        n += 1;
     }
     NAME_COUNT
 }
@@ -52,10 +50,7 @@ pub fn is_received(free: &[u8], area: &[u8], at: usize, name: usize) -> bool
 fn replaced(y: u8, x: u8, n: u8) -> u8
     ensures { result ≡ put y x n }
 {
-    if n == y {
-        return x;
-    }
-    n
+    if n == y { x } else { n }
 }
 
 // The table that puts `x` for `y`.
@@ -63,11 +58,8 @@ pub fn replacing(y: u8, x: u8) -> [u8; NAME_COUNT]
     ensures { (n : ℕ) → n < name_count → get_or result n 0 ≡ put y x n }
 {
     let mut table = [0u8; NAME_COUNT];
-    let mut i = 0;
-    while i < NAME_COUNT {
-        let n = replaced(y, x, i as u8);
-        table[i] = n;
-        i += 1;
+    for i in 0..NAME_COUNT {
+        table[i] = replaced(y, x, i as u8);
     }
     table
 }

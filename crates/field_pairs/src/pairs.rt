@@ -16,7 +16,7 @@ const ROWS: [u16; NAME_COUNT] = [
     0, 15, 29, 42, 54, 65, 75, 84, 92, 99, 105, 110, 114, 117, 119, 120,
 ];
 
-// The names of a pair, the smaller one first.
+// The names of a pair, the smaller one first. What takes two names in either order, as `mark_pair`, takes them one by one.
 #[derive(Clone, Copy)]
 pub struct Pair {
     pub first: usize,
@@ -84,12 +84,10 @@ pub fn none_apart(flags: &[u8]) -> bool
         return false;
     }
     let mut none = true;
-    let mut k = 0;
-    while k < PAIR_COUNT {
+    for k in 0..PAIR_COUNT {
         if flags[k] != 0 {
             none = false;
         }
-        k += 1;
     }
     none
 }
@@ -113,14 +111,10 @@ fn merges_apart(apart: &[u8], area: &[u8], at: usize, n: usize) -> bool
     requires { (n < name_count) × (at ≤ length area.now) }
     ensures { MergesIs apart.now area.now at n result }
 {
-    let mut m = 0;
-    while m < NAME_COUNT {
-        if !Condition::respects(area, at, m, n) {
-            if held_apart(apart, m, n) {
-                return true;
-            }
+    for m in 0..NAME_COUNT {
+        if !Condition::respects(area, at, m, n) && held_apart(apart, m, n) {
+            return true;
         }
-        m += 1;
     }
     false
 }
@@ -130,20 +124,13 @@ pub fn permitted(apart: &[u8], area: &[u8], at: usize) -> bool
     requires { at ≤ length area.now }
     ensures { PermittedIs apart.now area.now at result }
 {
-    if Condition::is_trivial(area, at) {
+    if Condition::is_trivial(area, at) || none_apart(apart) {
         return true;
     }
-    if none_apart(apart) {
-        return true;
-    }
-    let mut n = 0;
-    while n < NAME_COUNT {
-        if Condition::class_of(area, at, n) != n {
-            if merges_apart(apart, area, at, n) {
-                return false;
-            }
+    for n in 0..NAME_COUNT {
+        if Condition::class_of(area, at, n) != n && merges_apart(apart, area, at, n) {
+            return false;
         }
-        n += 1;
     }
     true
 }
@@ -154,7 +141,8 @@ pub fn allowed(differ: bool, apart: &[u8; PAIR_COUNT], area: &[u8], at: usize) -
     ensures { AllowedIs differ apart.now area.now at result }
 {
     if differ {
-        return Condition::is_trivial(area, at);
+        Condition::is_trivial(area, at)
+    } else {
+        permitted(apart, area, at)
     }
-    permitted(apart, area, at)
 }

@@ -7,6 +7,7 @@ use native.Mathlib.Omega.{arith}
 use Prim.Native.Nat.{ℕ, suc, ◌+◌, ◌*◌, ◌-◌, ◌<◌, ◌≤◌}
 use lib.ListN.{length, get_or, take, drop, set, replicate, take-append-drop, drop_of_length-le, length-append, length-drop, length-map}
 use lib.Seq.{length-take-le, take_at, take_all, take-suc, take-append-le, sets, sets-eq, length-sets}
+use Rattle.std.specs.Prelude.{Option, Some, None}
 use Rattle.calculus.specs.Distinction.{among}
 use Rattle.calculus.specs.Free.{Free, fn}
 use Rattle.calculus.specs.Term.{Term, ren, put}
@@ -31,8 +32,6 @@ use Rattle.steps.specs.Listed.{ListedStep, result_bytes, bytes}
 use Rattle.steps.specs.Operations.{list_bytes}
 use Rattle.steps_lister.specs.PartLister.{Lists}
 use Rattle.steps_lister.specs.Renewed.{binds_new, renewed}
-use Rattle.steps_lister.specs.declared.list.ListAnswer.{ListAnswer}
-use Rattle.steps_lister.specs.declared.list.ListAnswer.TheVariants.{Unsettled, Count}
 use Rattle.steps_entries.proofs.EntryOrder.{comes_before_lem}
 use Rattle.steps.proofs.ListedBytes.{step-size, step-length}
 use Rattle.steps_lister.proofs.NewNameLaws.{neighbours_sorted, renewed-length, renewed-steps}
@@ -320,16 +319,16 @@ kept_out question area so p k part y label kept e = (
 
 -- The answer.
 module _ (question part : List ℕ) (x : ℕ) where
-  pub not_renewed : (area : List ℕ) → Labelled question area → RenewedIs question part x Unsettled area × Labelled question area
+  pub not_renewed : (area : List ℕ) → Labelled question area → RenewedIs question part x None area × Labelled question area
   unfolding RenewedIs
   not_renewed area so = (tt, so)
 
   pub list_at_hand : (n : ℕ) (area : List ℕ) → ListIn question part x n area × Labelled question area
-      → RenewedIs question part x (Count n) area × Labelled question area
+      → RenewedIs question part x (Some n) area × Labelled question area
   unfolding RenewedIs
   list_at_hand n area h = h
 
-  pub side_renewed : (r : ListAnswer) (area : List ℕ) → RenewedIs question part x r area → (n : ℕ) → r ≡ Count n → length part ≤ longest_term
-      → SideIs question part x (Count n) area
+  pub side_renewed : (r : Option ℕ) (area : List ℕ) → RenewedIs question part x r area → (n : ℕ) → r ≡ Some n → length part ≤ longest_term
+      → SideIs question part x (Some n) area
   unfolding RenewedIs SideIs
   side_renewed r area h n e fits = (subst (λ a. RenewedIs question part x a area) e h, fits)

@@ -1,5 +1,5 @@
 -- A kept list of a part for one new name, made the list at hand for another: what the code promises of it.
-use Rattle.std.specs.Prelude.{true, List, map, ◌≡◌, ℕ, suc, ◌*◌, ◌<◌, get_or, take}
+use Rattle.std.specs.Prelude.{Option, Some, None, true, List, map, ◌≡◌, ℕ, suc, ◌*◌, ◌<◌, get_or, take}
 use Rattle.std.proofs.lemmas.List.Edits.{sets}
 use Rattle.calculus.specs.Term.{put}
 use Rattle.terms.specs.Encoding.{InScope}
@@ -9,8 +9,6 @@ use Rattle.steps.specs.Limits.{step_bytes}
 use Rattle.steps.specs.Listed.{ListedStep, bytes}
 use Rattle.steps.specs.Operations.{list_bytes}
 use Rattle.steps_lister.specs.Renewed.{renewed}
-use Rattle.steps_lister.specs.declared.list.ListAnswer.{ListAnswer}
-use Rattle.steps_lister.specs.declared.list.ListAnswer.TheVariants.{Unsettled, Count}
 use Rattle.field_pairs.specs.Entry.{EntryAt}
 use Rattle.field_kept_lists.specs.ListArea.{ListIn}
 use Rattle.field_renewal.specs.ListedEntries.{ListAt}
@@ -32,6 +30,6 @@ Ascends area n =
     (i : ℕ) → suc i < n → comes_before (entry_from area (step_bytes * i)) (entry_from area (step_bytes * suc i)) ≡ true
 
 -- The list at hand is that of the part for the new name x, where the answer is a number.
-unfoldable pub RenewedIs : List ℕ → List ℕ → ℕ → ListAnswer → List ℕ → Type 0
-RenewedIs question part x Unsettled area = Unit
-RenewedIs question part x (Count n) area = ListIn question part x n area
+unfoldable pub RenewedIs : List ℕ → List ℕ → ℕ → Option ℕ → List ℕ → Type 0
+RenewedIs question part x None area = Unit
+RenewedIs question part x (Some n) area = ListIn question part x n area

@@ -13,7 +13,6 @@ use field_pairs::entries::{OBJECT, binds};
 use field_pairs::names::replacing;
 use steps_entries::limits::STEP_BYTES;
 use steps_entries::listed::precedes;
-use steps_lister::list::ListAnswer;
 use steps_tallies::bodies::arities_of;
 use terms_bytes::bytes::{copy, get};
 use terms_bytes::limits::NAME_COUNT;
@@ -47,8 +46,7 @@ fn renew_steps(src: &[u8], n: usize, arities: &[u8], y: u8, x: u8, area: &mut [u
     ensures { RenewsSteps src.now n arities.now y x area.new }
 {
     let table = replacing(y, x);
-    let mut i = 0;
-    while i < n {
+    for i in 0..n {
         renew_step(
             src,
             STEP_BYTES * i,
@@ -58,7 +56,6 @@ fn renew_steps(src: &[u8], n: usize, arities: &[u8], y: u8, x: u8, area: &mut [u
             area,
             STEP_BYTES * i,
         );
-        i += 1;
     }
 }
 
@@ -67,30 +64,33 @@ fn ascends(area: &[u8], n: usize) -> bool
     requires { step_bytes * n ≤ length area.now }
     ensures { result ≡ true → Ascends area.now n }
 {
-    let mut i = 1;
-    while i < n {
+    for i in 1..n {
         if !precedes(area, STEP_BYTES * i - STEP_BYTES, area, STEP_BYTES * i) {
             return false;
         }
-        i += 1;
     }
     true
 }
 
-// Makes a kept list, which is that of this part for the new name `y`, the list at hand for `x`. Unsettled: it cannot be made of it.
-fn renew(question: &[u8], part: &[u8], y: u8, x: usize, kept: &[u8], area: &mut [u8]) -> ListAnswer
+// Makes a kept list, which is that of this part for the new name `y`, the list at hand for `x`, if it can be made of it. Answers its
+// number of steps.
+fn renew(
+    question: &[u8],
+    part: &[u8],
+    y: u8,
+    x: usize,
+    kept: &[u8],
+    area: &mut [u8],
+) -> Option<usize>
     requires { (length part.now ≤ longest_term) × (length kept.now ≡ kept_bytes) × Kept question.now kept.now × LabelIs (take label_bytes kept.now) part.now y × Labelled question.now area.old }
     ensures { RenewedIs question.now part.now x result area.new × Labelled question.now area.new }
 {
-    if NAME_COUNT <= y as usize {
-        return ListAnswer::Unsettled;
-    }
-    if NAME_COUNT <= x {
-        return ListAnswer::Unsettled;
+    if NAME_COUNT <= y as usize || NAME_COUNT <= x {
+        return None;
     }
     let arities = arities_of(question);
     if is_free(part, arities, y as usize) {
-        return ListAnswer::Unsettled;
+        return None;
     }
     let n = steps_in(kept, 0);
     renew_steps(
@@ -103,10 +103,10 @@ fn renew(question: &[u8], part: &[u8], y: u8, x: usize, kept: &[u8], area: &mut 
     );
     if !ascends(area, n) {
         area[LABEL] = NO_LIST;
-        return ListAnswer::Unsettled;
+        return None;
     }
     put_label(area, LABEL, part, x, n);
-    ListAnswer::Count(n)
+    Some(n)
 }
 
 // Makes the list at hand of the list of this part for another new name, if one is kept at `p`, here or on the other side.
@@ -117,7 +117,7 @@ pub fn renew_kept(
     other: &[u8],
     p: usize,
     area: &mut [u8],
-) -> ListAnswer
+) -> Option<usize>
     requires { (length part.now ≤ longest_term) × KeptPlace p × Labelled question.now other.now × Labelled question.now area.old }
     ensures { RenewedIs question.now part.now x result area.new × Labelled question.now area.new }
 {
@@ -131,5 +131,5 @@ pub fn renew_kept(
     if has_list(other, p, part, there as usize) {
         return renew(question, part, there, x, &other[p..p + KEPT_BYTES], area);
     }
-    ListAnswer::Unsettled
+    None
 }

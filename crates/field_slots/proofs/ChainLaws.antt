@@ -12,6 +12,7 @@ use borrow.Author.Tests.{eqb-true, eqb-false, eq-eqb, ne_eqb}
 use lib.Dec.{eqb}
 use lib.ListN.{length, get_or, take, drop, set, length-set, length-take, length-drop}
 use lib.Seq.{sets, length-sets, take-take, get_or-set_same, get_or-set_other, drop-set-lt, get_or-take, ext_get_or}
+use Rattle.std.specs.Prelude.{Some, None}
 use Rattle.terms_bytes.specs.FieldPlaces.{size_at}
 use Rattle.terms_bytes.proofs.Stores.{span, get_d_span}
 use Rattle.steps_entries.proofs.Moves.{get_d_before, get_d_behind}
@@ -19,7 +20,6 @@ use Rattle.field_slots.specs.Chains.{word_at, folded, mixed, rounds, rounds_to, 
 use Rattle.field_slots.specs.Key.{key_at, SameKeyIs, FoundIs}
 use Rattle.field_slots.specs.Noted.{noted_count, note_place, note_at}
 use Rattle.field_pairs.specs.Slot.{key_bytes, slot_bytes, part_room, head_byte, link_byte, note_byte}
-use Rattle.field_slots.specs.declared.find.Found.TheVariants.{At, Nothing}
 use Rattle.field_slots.proofs.KeyLaws.{found_at, other-slot}
 
 -- Sixteen bytes more.
@@ -190,7 +190,7 @@ module _ (capacity : ℕ) (work : List ℕ) (count : ℕ) (key : List ℕ) where
 
   -- no slot of the bucket comes before `left`
   search_over : (left : ℕ) → (Chained capacity work count → (j : ℕ) → last_in capacity work left sought ≡ suc j → ⊥)
-      → (Chained capacity work count → (j : ℕ) → left ≤ j → j < count → key_at work j ≡ take key_bytes key → ⊥) → FindsIn capacity work count key Nothing
+      → (Chained capacity work count → (j : ℕ) → left ≤ j → j < count → key_at work j ≡ take key_bytes key → ⊥) → FindsIn capacity work count key None
   unfolding FoundIs last_in bucket_at
   search_over left none passed = record {
     within = λ i e. let z : ◌≡◌ {A = ℕ} 0 1 = cc in absurd (omega arith);
@@ -205,15 +205,15 @@ module _ (capacity : ℕ) (work : List ℕ) (count : ℕ) (key : List ℕ) where
       go C j l e (yes m) = last-behind (bucket_at capacity work) left sought j (omega (arith, zero_last C _ refl)) m (ap (bucket_of capacity) e)
       go C j l e (no m) = passed C j (omega arith) l e
 
-  pub search_end : (link left : ℕ) → link ≤ 0 → Searching link left → FindsIn capacity work count key Nothing
+  pub search_end : (link left : ℕ) → link ≤ 0 → Searching link left → FindsIn capacity work count key None
   search_end link left h so = search_over left (λ C j q. omega (arith, (so C).0 j q)) (λ C. (so C).1)
 
   -- the link is that of no slot before `left`
-  pub search_broken : (link left : ℕ) → left < link → Searching link left → FindsIn capacity work count key Nothing
+  pub search_broken : (link left : ℕ) → left < link → Searching link left → FindsIn capacity work count key None
   unfolding last_in
   search_broken link left h so = search_over left (λ C j q. omega (arith, (so C).0 j q, q, last_le (bucket_at capacity work) left sought)) (λ C. (so C).1)
 
-  pub search_found : (left : ℕ) (r : Bool) → left < count → r ≡ true → SameKeyIs work (slot_bytes * left) key r → FindsIn capacity work count key (At left)
+  pub search_found : (left : ℕ) (r : Bool) → left < count → r ≡ true → SameKeyIs work (slot_bytes * left) key r → FindsIn capacity work count key (Some left)
   search_found left r l q h = record { within = λ i e. let z : left ≡ i = cc in omega arith; is = λ C. found_at work count key left r l q h }
 
   pub search_next : (link left : ℕ) (r : Bool) (next : ℕ) → 0 < link → link ≤ left → left ≤ count → r ≡ false

@@ -7,14 +7,15 @@ use native.Mathlib.Decide.{dec_lt}
 use native.Mathlib.Nat.{zero-div}
 use native.Mathlib.Omega.{arith}
 use lib.ListN.{length, get_or, take, drop, set, replicate, length-append, length-drop, length-replicate, get_or-replicate, get_or-eq_default}
-use lib.Seq.{sets, drop-drop, drop_at, take_at, get_or-take, get_or-drop, length-take-le, ext_get_or}
+use lib.Seq.{sets, drop-drop, drop_at, take_at, get_or-drop, length-take-le, ext_get_or}
+use Rattle.std.specs.Prelude.{Some}
 use Rattle.calculus.specs.Cond.{Pairs}
 use Rattle.calculus.specs.Term.{Term}
 use Rattle.terms.specs.Encoding.{encode}
 use Rattle.terms.specs.Limits.{name_count, longest_term}
 use Rattle.terms.specs.Operations.{holds_apart}
 use Rattle.terms_renaming.proofs.Filling.{Filling}
-use Rattle.terms_bytes.proofs.Stores.{get_d_front, length-span, sets-join, sets_more, run_whole}
+use Rattle.terms_bytes.proofs.Stores.{get_d_front, sets-join, sets_more, run_whole}
 use Rattle.steps.specs.Listed.{names_from}
 use Rattle.field_slots.specs.Chains.{word_at}
 use Rattle.field_slots.specs.Key.{SituationAt, PartIs, FirstPartIs, SecondPartIs, ApartFlagsIs, bit_at, bits_of, BitIs, OctetIs, Packs, Unpacks, slot_with, key_at, SameKeyIs, FoundIs}
@@ -22,8 +23,6 @@ use Rattle.field_pairs.specs.PairNumbers.{pair_at}
 use Rattle.field_pairs.specs.PairFlags.{pair_count}
 use Rattle.field.specs.Situation.{Situation}
 use Rattle.field_pairs.specs.Slot.{part_bytes, flag, flags_of, octet, octets, packed, key_of, key_bytes, slot_bytes, part_room}
-use Rattle.field_slots.specs.declared.find.Found.TheVariants.{At}
-use Rattle.field_pairs.proofs.Counting.{Deciding}
 use Rattle.field_pairs.proofs.PairLaws.{length_flags, flag_at}
 use Rattle.field_slots.proofs.Runs.{length-mapped, mapped_at, fill_run, fill-past}
 
@@ -255,30 +254,9 @@ pub apart_is : (area : List ℕ) (at : ℕ) (r : List ℕ) → Unpacks area (at 
 unfolding Unpacks ApartFlagsIs
 apart_is area at r u s h = u s.apart h.rest (key_bits area at s h)
 
--- Equal keys.
-abbrev pub SameByte : List ℕ → ℕ → List ℕ → ℕ → Type 0
-SameByte area at key j = get_or area (at + j) 0 ≡ get_or key j 0
-
-module _ (area : List ℕ) (at : ℕ) (key : List ℕ) (la : at + key_bytes ≤ length area) (lk : key_bytes ≤ length key) where
-  read : (i : ℕ) → i < key_bytes → get_or (take key_bytes (drop at area)) i 0 ≡ get_or area (at + i) 0
-  read i l = get_or-take key_bytes (drop at area) i 0 l ∙ get_or-drop at area i 0
-
-  -- no byte differs
-  pub key_is : (i : ℕ) (t : Bool) → i ≡ key_bytes → Deciding (SameByte area at key) i t → SameKeyIs area at key t
-  key_is i t past so = record {
-    same = λ q. ext_get_or 0 (take key_bytes (drop at area)) (take key_bytes key) (length-span area at key_bytes la ∙ sym (length-take-le key_bytes key lk))
-        (λ j l.
-        let m : j < key_bytes = omega (arith, length-span area at key_bytes la) in
-        read j m ∙ so.yes q j (omega arith) ∙ sym (get_or-take key_bytes key j 0 m));
-    other = λ q e.
-        so.no q (λ j l.
-        let m : j < key_bytes = omega arith in
-        sym (read j m) ∙ ap (λ x. get_or x j 0) e ∙ get_or-take key_bytes key j 0 m);
-  }
-
 -- Which slot has the key.
 pub found_at : (area : List ℕ) (count : ℕ) (key : List ℕ) (i : ℕ) (r : Bool) → i < count → r ≡ true → SameKeyIs area (slot_bytes * i) key r
-    → FoundIs area count key (At i)
+    → FoundIs area count key (Some i)
 unfolding FoundIs key_at
 found_at area count key i r l q h = (l, h.same q)
 

@@ -2,13 +2,11 @@
 -- bytes at `head_byte` of slot b are the head of bucket b, the last slot in it; the two at `link_byte` of slot i are the slot before i in its bucket. Both are numbers
 -- of slots plus 1. Where a bucket has no slot, or none before i, they say nothing, so that nothing need be emptied at first: a search that goes on
 -- there comes to slots of smaller and smaller numbers, or to a number that is none, and finds no key that is not there.
-use Rattle.std.specs.Prelude.{◌≡◌, cond, List, ℕ, zero, suc, ◌+◌, ◌-◌, ◌*◌, ◌/◌, ◌%◌, ◌<◌, eqb, length, get_or, drop, set}
+use Rattle.std.specs.Prelude.{Option, Some, ◌≡◌, cond, List, ℕ, zero, suc, ◌+◌, ◌-◌, ◌*◌, ◌/◌, ◌%◌, ◌<◌, eqb, length, get_or, drop, set}
 use Rattle.terms_bytes.specs.FieldPlaces.{size_at}
 use Rattle.field_slots.specs.Key.{key_at, FoundIs}
 use Rattle.field_slots.specs.Noted.{noted_count, note_at}
 use Rattle.field_pairs.specs.Slot.{slot_bytes, part_room, key_bytes, head_byte, link_byte}
-use Rattle.field_slots.specs.declared.find.Found.{Found}
-use Rattle.field_slots.specs.declared.find.Found.TheVariants.{At}
 
 -- four bytes as a number
 unfoldable pub word_at : List ℕ → ℕ → ℕ
@@ -108,6 +106,6 @@ pub record LinkIs (capacity : ℕ) (work : List ℕ) (i : ℕ) (work' : List ℕ
   pub notes : (j k : ℕ) → k < noted_count → note_at work' j k ≡ note_at work j k
 
 -- The slot with the key, where the slots are chained; one of them in any case.
-pub record FindsIn (capacity : ℕ) (work : List ℕ) (count : ℕ) (key : List ℕ) (r : Found) : Type 0 where
-  pub within : (i : ℕ) → r ≡ At i → i < count
+pub record FindsIn (capacity : ℕ) (work : List ℕ) (count : ℕ) (key : List ℕ) (r : Option ℕ) : Type 0 where
+  pub within : (i : ℕ) → r ≡ Some i → i < count
   pub is : Chained capacity work count → FoundIs work count key r

@@ -1,5 +1,5 @@
 -- A situation as it stands in the work area, and what reading, writing and finding one promise.
-use Rattle.std.specs.Prelude.{◌≡◌, Bool, true, false, List, [], ◌∷◌, ◌++◌, map, ℕ, ◌*◌, ◌/◌, ◌%◌, ◌^◌, ◌<◌, ◌≤◌, length, get_or, take, drop}
+use Rattle.std.specs.Prelude.{Option, Some, None, ◌≡◌, Bool, true, false, List, [], ◌∷◌, ◌++◌, map, ℕ, ◌*◌, ◌/◌, ◌%◌, ◌^◌, ◌<◌, ◌≤◌, length, get_or, take, drop}
 use Rattle.std.proofs.lemmas.List.Edits.{sets}
 use Rattle.calculus.specs.Cond.{Pairs}
 use Rattle.calculus.specs.Term.{Term}
@@ -8,8 +8,6 @@ use Rattle.terms.specs.Limits.{longest_term}
 use Rattle.steps.specs.Listed.{names_from}
 use Rattle.field.specs.Situation.{Situation}
 use Rattle.field_pairs.specs.Slot.{part_bytes, flags_of, octet, packed, key_of, key_bytes, slot_bytes}
-use Rattle.field_slots.specs.declared.find.Found.{Found}
-use Rattle.field_slots.specs.declared.find.Found.TheVariants.{At, Nothing}
 
 -- The key of s stands at `at`, and its parts fit.
 pub record SituationAt (area : List ℕ) (at : ℕ) (s : Situation) : Type 0 where
@@ -65,6 +63,6 @@ pub record SameKeyIs (area : List ℕ) (at : ℕ) (key : List ℕ) (r : Bool) : 
   pub other : r ≡ false → take key_bytes (drop at area) ≡ take key_bytes key → ⊥
 
 -- A slot with the key, among the first `count`, or none of them has it. Each situation stands once in the field, so which one is not said.
-unfoldable pub FoundIs : List ℕ → ℕ → List ℕ → Found → Type 0
-FoundIs area count key (At i) = (i < count) × (key_at area i ≡ take key_bytes key)
-FoundIs area count key Nothing = (i : ℕ) → i < count → key_at area i ≡ take key_bytes key → ⊥
+unfoldable pub FoundIs : List ℕ → ℕ → List ℕ → Option ℕ → Type 0
+FoundIs area count key (Some i) = (i < count) × (key_at area i ≡ take key_bytes key)
+FoundIs area count key None = (i : ℕ) → i < count → key_at area i ≡ take key_bytes key → ⊥

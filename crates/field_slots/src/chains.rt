@@ -4,7 +4,7 @@ ghost use Rattle.field_slots.specs.Chains.{rounds_to, spread, WordIs, MixIs, Rou
 ghost use Rattle.field_slots.specs.Key.{slot_with};
 ghost use Rattle.field_pairs.specs.Slot.{key_bytes, slot_bytes};
 
-use crate::find::{Found, same_key};
+use crate::find::same_key;
 use crate::slot::{HEAD, KEY_BYTES, LINK, PART_BYTES, SLOT_BYTES, hold};
 use terms_bytes::frame::size_at;
 
@@ -46,10 +46,8 @@ fn mix_rounds(h: usize, key: &[u8], from: usize, count: usize) -> usize
     ensures { RoundsIs h key.now from count result }
 {
     let mut x = h;
-    let mut i = 0;
-    while i < count {
+    for i in 0..count {
         x = mix(x, key, 16 * (from + i));
-        i += 1;
     }
     x
 }
@@ -115,8 +113,9 @@ pub fn put(work: &mut [u8], capacity: usize, i: usize, key: &[u8])
     link(work, capacity, i);
 }
 
-// The slot that holds the key, among the first `count`: along the chain of its bucket. A link that leads on or past them ends the search.
-pub fn find_chained(work: &[u8], capacity: usize, count: usize, key: &[u8]) -> Found
+// The number of the slot that holds the key, among the first `count`: along the chain of its bucket. A link that leads on or past them ends the search.
+// Each turn goes where the last link led, so that no range says the turns.
+pub fn find_chained(work: &[u8], capacity: usize, count: usize, key: &[u8]) -> Option<usize>
     requires { (1 ≤ capacity) × (count ≤ capacity) × (slot_bytes * capacity ≤ length work.now) × (key_bytes ≤ length key.now) }
     ensures { FindsIn capacity work.now count key.now result }
 {
@@ -125,13 +124,13 @@ pub fn find_chained(work: &[u8], capacity: usize, count: usize, key: &[u8]) -> F
     let mut left = count;
     while 0 < link {
         if left < link {
-            return Found::Nothing;
+            return None;
         }
         left = link - 1;
         if same_key(work, SLOT_BYTES * left, key) {
-            return Found::At(left);
+            return Some(left);
         }
         link = size_at(work, SLOT_BYTES * left + LINK);
     }
-    Found::Nothing
+    None
 }

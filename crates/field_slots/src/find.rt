@@ -5,26 +5,10 @@ ghost use Rattle.field_pairs.specs.Slot.{key_bytes};
 
 use crate::slot::KEY_BYTES;
 
-// Whether the bytes from `at` on begin with the key. All of them are compared, for a loop without an exit takes many at a time.
+// Whether the bytes from `at` on begin with the key.
 pub fn same_key(area: &[u8], at: usize, key: &[u8]) -> bool
     requires { (at + key_bytes ≤ length area.now) × (key_bytes ≤ length key.now) }
     ensures { SameKeyIs area.now at key.now result }
 {
-    let mut same = true;
-    let mut i = 0;
-    while i < KEY_BYTES {
-        if area[at + i] != key[i] {
-            same = false;
-        }
-        i += 1;
-    }
-    same
-}
-
-// What a search among the slots finds.
-#[derive(Clone, Copy)]
-pub enum Found {
-    // the number of the slot
-    At(usize),
-    Nothing,
+    &area[at..at + KEY_BYTES] == &key[..KEY_BYTES]
 }

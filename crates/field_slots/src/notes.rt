@@ -29,10 +29,8 @@ pub fn clear_slot(work: &mut [u8], i: usize)
     requires { slot_bytes * (i + 1) ≤ length work.old }
     ensures { ClearsSlot work.old i work.new }
 {
-    let mut k = 0;
-    while k < NOTED {
+    for k in 0..NOTED {
         put_note(work, i, k, 0);
-        k += 1;
     }
 }
 
@@ -41,8 +39,7 @@ pub fn note_sole(work: &mut [u8], i: usize, n: usize)
     requires { (slot_bytes * (i + 1) ≤ length work.old) × (n < 65536) }
     ensures { NotesOne work.old i n work.new }
 {
-    let mut k = 0;
-    while k < NOTED {
+    for k in 0..NOTED {
         let m = note_at(work, i, k);
         if m == n {
             return;
@@ -51,6 +48,5 @@ pub fn note_sole(work: &mut [u8], i: usize, n: usize)
             put_note(work, i, k, n);
             return;
         }
-        k += 1;
     }
 }

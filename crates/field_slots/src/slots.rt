@@ -82,11 +82,9 @@ pub fn pack(flags: &[u8], free: &[u8], out: &mut [u8], put: usize)
     requires { (length flags.now ≡ pair_count) × (put + octets ≤ length out.old) }
     ensures { Packs (kept_flags flags.now free.now) out.old put out.new }
 {
-    let mut k = 0;
-    while k < OCTETS {
+    for k in 0..OCTETS {
         let b = octet(flags, free, k);
         out[put + k] = b;
-        k += 1;
     }
 }
 
@@ -110,13 +108,11 @@ fn unpack(area: &[u8], at: usize, flags: &mut [u8])
     requires { (at + octets ≤ length area.now) × (flags.old ≡ replicate pair_count 0) }
     ensures { Unpacks area.now at flags.new }
 {
-    let mut k = 0;
-    while k < OCTETS {
+    for k in 0..OCTETS {
         let b = area[at + k];
         if b != 0 {
             unpack_octet(b, 8 * k, flags);
         }
-        k += 1;
     }
 }
 

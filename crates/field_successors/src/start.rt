@@ -24,7 +24,7 @@ fn put_part(part: &[u8], list: &[u8], key: &mut [u8], put: usize)
     copy(&tidied, 0, n, key, put + 1);
 }
 
-// Holds the names of each pair of an apart list apart, from the last pair on.
+// Holds the names of each pair of an apart list apart, from the last pair on. A range of pairs would be no plainer: a byte too many comes first.
 fn mark_list(list: &[u8], flags: &mut [u8])
     requires { length flags.old ≡ pair_count }
     ensures { MarksList list.now flags.old flags.new }

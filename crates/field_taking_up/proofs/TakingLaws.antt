@@ -10,6 +10,7 @@ use Prim.Native.Nat.{ℕ, suc, ◌+◌, ◌*◌, ◌<◌, ◌≤◌}
 use lib.Dec.{eqb}
 use lib.ListN.{length, get_or, drop, drop_of_length-le}
 use lib.Seq.{sets, drop-cons}
+use Rattle.std.specs.Prelude.{Option, Some, None}
 use Rattle.calculus.specs.Free.{fn, Free}
 use Rattle.calculus.specs.Term.{Term}
 use Rattle.calculus.proofs.UpToRenaming.{Either}
@@ -22,8 +23,6 @@ use Rattle.steps.specs.Listed.{ListedStep}
 use Rattle.steps.specs.Listing.{Listing, unsettled, listed, steps_of}
 use Rattle.steps.specs.Operations.{list_bytes}
 use Rattle.steps_lister.specs.PartLister as lister
-use Rattle.steps_lister.specs.declared.list.ListAnswer.{ListAnswer}
-use Rattle.steps_lister.specs.declared.list.ListAnswer.TheVariants.{Unsettled}
 use Rattle.field_pairs.specs.Entry.{BindsIs}
 use Rattle.field_slots.specs.Key.{FirstPartIs, SecondPartIs, ApartFlagsIs}
 use Rattle.field_renewal.specs.Below.{placed}
@@ -34,8 +33,6 @@ use Rattle.field.specs.Situation.{Situation, free_in}
 use Rattle.field.specs.Successors.{some_binds, past_limit, leads, moves, led_to, with_steps, successors}
 use Rattle.field_renewal.specs.ListedEntries.{ListAt, EntriesAt}
 use Rattle.field_taking_up.specs.TakingUp.{SomeBindsIs, PastNamesIs, SidesListed, ListsAre, Sides, ListsSides, TakesUp}
-use Rattle.field_taking_up.specs.declared.taking.Lists.{Lists}
-use Rattle.field_taking_up.specs.declared.taking.Lists.TheVariants.{Past, Listed}
 use Rattle.field_kept_lists.proofs.ListAreaLaws.{list_there}
 use Rattle.field_renewal.proofs.ListedParts.{listed-entries, listed_at}
 use Rattle.field.proofs.NewNames.{new_free}
@@ -157,11 +154,11 @@ within_second x true true e d = let f = eq-eqb x name_count d in let z : ◌≡�
 within_second x false true e d = let f = eq-eqb x name_count d in let z : ◌≡◌ {A = ℕ} 0 1 = cc in absurd (omega arith)
 
 -- Both sides listed, or a limit passed.
-not_listed : (n m : ℕ) → Past ≡ Listed n m → (n ≤ most_steps) × (m ≤ most_steps)
+not_listed : (n m : ℕ) → ◌≡◌ {A = Option (ℕ × ℕ)} None (Some (n, m)) → (n ≤ most_steps) × (m ≤ most_steps)
 not_listed n m e = let z : ◌≡◌ {A = ℕ} 0 1 = cc in absurd (omega arith)
 
 module _ (question first second : List ℕ) (x : ℕ) (firsts seconds : List ℕ) where
-  pub sides_first_past : (a : ListAnswer) → SideIs question first x a firsts → a ≡ Unsettled → ListsSides question first second x Past firsts seconds
+  pub sides_first_past : (a : Option ℕ) → SideIs question first x a firsts → a ≡ None → ListsSides question first second x None firsts seconds
   unfolding ListsAre SideIs
   sides_first_past a left e =
       let past = subst (λ r. SideIs question first x r firsts) e left in
@@ -170,7 +167,7 @@ module _ (question first second : List ℕ) (x : ℕ) (firsts seconds : List ℕ
         is = λ q s h. past_first question first second x q s h (past q s.first h.left (new-first question first second x q s h));
       }
 
-  pub sides_second_past : (b : ListAnswer) → SideIs question second x b seconds → b ≡ Unsettled → ListsSides question first second x Past firsts seconds
+  pub sides_second_past : (b : Option ℕ) → SideIs question second x b seconds → b ≡ None → ListsSides question first second x None firsts seconds
   unfolding ListsAre SideIs
   sides_second_past b right e =
       let past = subst (λ r. SideIs question second x r seconds) e right in
@@ -206,19 +203,23 @@ module _ (question first second : List ℕ) (x : ℕ) (firsts seconds : List ℕ
         leading = leads_to false e;
       }
 
-    pub sides_names_past : p ≡ true → ListsSides question first second x Past firsts seconds
+    pub sides_names_past : p ≡ true → ListsSides question first second x None firsts seconds
     unfolding ListsAre
     sides_names_past e = record { few = not_listed; is = λ q s h. leads_to q s h true e }
 
-    pub sides_listed : p ≡ false → ListsSides question first second x (Listed n m) firsts seconds
+    pub sides_listed : p ≡ false → ListsSides question first second x (Some (n, m)) firsts seconds
     unfolding ListsAre
     sides_listed e = record {
-      few = λ i j d. let f : n ≡ i = cc in let g : m ≡ j = cc in (omega (arith, left.few), omega (arith, right.few));
+      few = λ i j d.
+          let p : ◌≡◌ {A = ℕ × ℕ} (n, m) (i, j) = cc in
+          let f : n ≡ i = ap (λ k. k.0) p in
+          let g : m ≡ j = ap (λ k. k.1) p in
+          (omega (arith, left.few), omega (arith, right.few));
       is = λ q s h. lists q s h e;
     }
 
 -- All together.
-pub taken_up : (question work : List ℕ) (at : ℕ) (first second arities free : List ℕ) (x : ℕ) (apart : List ℕ) (lists : Lists) (firsts seconds : List ℕ)
+pub taken_up : (question work : List ℕ) (at : ℕ) (first second arities free : List ℕ) (x : ℕ) (apart : List ℕ) (lists : Option (ℕ × ℕ)) (firsts seconds : List ℕ)
     → FirstPartIs work at first → SecondPartIs work at second → AritiesIs question arities → FreeInEitherIs first second arities free
     → NewNameIs free x → ApartFlagsIs work at apart → ListsSides question first second x lists firsts seconds
     → TakesUp question work at (record { free = free; apart = apart; lists = lists }) firsts seconds

@@ -1,5 +1,5 @@
 -- A situation of the work area taken up: its free names, its apart pairs and the steps of both sides, and what the code promises of them.
-use Rattle.std.specs.Prelude.{◌≡◌, Bool, true, false, ◌&&◌, ◌||◌, List, ◌++◌, ℕ, ◌≤◌, eqb}
+use Rattle.std.specs.Prelude.{Option, Some, None, ◌≡◌, Bool, true, false, ◌&&◌, ◌||◌, List, ◌++◌, ℕ, ◌≤◌, eqb}
 use Rattle.calculus.specs.Free.{fn}
 use Rattle.terms.specs.Answer.{result}
 use Rattle.terms.specs.Encoding.{InScope}
@@ -16,8 +16,6 @@ use Rattle.field.specs.Setting.{setting_of}
 use Rattle.field.specs.Situation.{Situation, free_in, new_name}
 use Rattle.field_pairs.specs.Slot.{flags_of}
 use Rattle.field.specs.Successors.{past_limit, leads, moves, some_binds, successors}
-use Rattle.field_taking_up.specs.declared.taking.Lists.{Lists}
-use Rattle.field_taking_up.specs.declared.taking.Lists.TheVariants.{Past, Listed}
 use Rattle.field_taking_up.specs.declared.taking.TakenUp.{TakenUp}
 use Rattle.field_renewal.specs.ListedEntries.{ListAt}
 use Rattle.field_renewal.specs.ListedEntries.{EntriesAt}
@@ -42,9 +40,9 @@ pub record SidesListed (q : Question) (s : Situation) (n m : ℕ) (firsts second
       ≡ leads (moves differ name_count (placed false) (free_in name_count s.first s.second) s.apart ps qs
       ++ moves differ name_count (placed true) (free_in name_count s.first s.second) s.apart qs ps)
 
-unfoldable pub ListsAre : Question → Situation → Lists → List ℕ → List ℕ → Type 0
-ListsAre q s Past firsts seconds = (differ : Bool) → successors (setting_of differ q.bodies) s ≡ past_limit
-ListsAre q s (Listed n m) firsts seconds = SidesListed q s n m firsts seconds
+unfoldable pub ListsAre : Question → Situation → Option (ℕ × ℕ) → List ℕ → List ℕ → Type 0
+ListsAre q s None firsts seconds = (differ : Bool) → successors (setting_of differ q.bodies) s ≡ past_limit
+ListsAre q s (Some (n, m)) firsts seconds = SidesListed q s n m firsts seconds
 
 -- The bytes of the two parts of s, of a question with the definitions of q, and its new name.
 pub record Sides (question first second : List ℕ) (x : ℕ) (q : Question) (s : Situation) : Type 0 where
@@ -52,8 +50,8 @@ pub record Sides (question first second : List ℕ) (x : ℕ) (q : Question) (s 
   pub right : lister.Lists question second x q s.second
   pub new : x ≡ new_name name_count s.first s.second
 
-pub record ListsSides (question first second : List ℕ) (x : ℕ) (r : Lists) (firsts seconds : List ℕ) : Type 0 where
-  pub few : (n m : ℕ) → r ≡ Listed n m → (n ≤ most_steps) × (m ≤ most_steps)
+pub record ListsSides (question first second : List ℕ) (x : ℕ) (r : Option (ℕ × ℕ)) (firsts seconds : List ℕ) : Type 0 where
+  pub few : (n m : ℕ) → r ≡ Some (n, m) → (n ≤ most_steps) × (m ≤ most_steps)
   pub is : (q : Question) (s : Situation) → Sides question first second x q s → ListsAre q s r firsts seconds
 
 pub record TakenAs (q : Question) (s : Situation) (r : TakenUp) (firsts seconds : List ℕ) : Type 0 where
@@ -62,7 +60,7 @@ pub record TakenAs (q : Question) (s : Situation) (r : TakenUp) (firsts seconds 
   pub lists : ListsAre q s r.lists firsts seconds
 
 pub record TakesUp (question work : List ℕ) (at : ℕ) (r : TakenUp) (firsts seconds : List ℕ) : Type 0 where
-  pub few : (n m : ℕ) → r.lists ≡ Listed n m → (n ≤ most_steps) × (m ≤ most_steps)
+  pub few : (n m : ℕ) → r.lists ≡ Some (n, m) → (n ≤ most_steps) × (m ≤ most_steps)
   pub is : (q : Question) (s : Situation) → check_of question ≡ result q → SituationAt work at s
       → InScope name_count q.arities 0 s.first → InScope name_count q.arities 0 s.second
       → TakenAs q s r firsts seconds

@@ -17,23 +17,16 @@ use field_relisting::relisting::list_anew;
 use field_renewal::renewing::renew_kept;
 use field_slots::slots::{apart_flags, first_part, second_part};
 use steps_entries::limits::STEP_BYTES;
-use steps_lister::list::ListAnswer;
 use steps_tallies::bodies::arities_of;
 use terms_bytes::bytes::copy;
 use terms_bytes::limits::{LONGEST_TERM, NAME_COUNT};
 
-// The numbers of steps of the first and of the second side, or a limit is passed.
-#[derive(Clone, Copy)]
-pub enum Lists {
-    Past,
-    Listed(usize, usize),
-}
-
+// Of a situation taken up: its free names, its apart pairs, and the numbers of steps of the first and of the second side, unless a limit is passed.
 #[derive(Clone, Copy)]
 pub struct TakenUp {
     pub free: [u8; NAME_COUNT],
     pub apart: [u8; PAIR_COUNT],
-    pub lists: Lists,
+    pub lists: Option<(usize, usize)>,
 }
 
 // Whether one of the first `count` steps receives or extrudes a name.
@@ -41,12 +34,10 @@ fn some_binds(area: &[u8], count: usize) -> bool
     requires { step_bytes * count ≤ length area.now }
     ensures { SomeBindsIs area.now count result }
 {
-    let mut i = 0;
-    while i < count {
+    for i in 0..count {
         if binds(area, STEP_BYTES * i) {
             return true;
         }
-        i += 1;
     }
     false
 }
@@ -59,10 +50,7 @@ fn past_names(x: usize, firsts: &[u8], n: usize, seconds: &[u8], m: usize) -> bo
     if x != NAME_COUNT {
         return false;
     }
-    if some_binds(firsts, n) {
-        return true;
-    }
-    some_binds(seconds, m)
+    some_binds(firsts, n) || some_binds(seconds, m)
 }
 
 // Lists one side, unless its list is at hand, or kept here or on the other side, be it for another new name. A part above the limit stands in no
@@ -76,28 +64,27 @@ fn list_side(
     rows: &mut [u8],
     other: &[u8],
     area: &mut [u8],
-) -> ListAnswer
+) -> Option<usize>
     requires { (x ≤ name_count) × BodiesTallied question.now bodies.now × (length tallies.old ≡ tally_size) × (row_bytes * most_rows ≤ length rows.old) × Labelled question.now other.now × Labelled question.now area.old }
     ensures { SideIs question.now part.now x result area.new × Labelled question.now area.new }
 {
     if LONGEST_TERM < part.len() {
-        return ListAnswer::Unsettled;
+        return None;
     }
     if has_list(area, LABEL, part, x) {
-        return ListAnswer::Count(steps_in(area, LABEL));
+        return Some(steps_in(area, LABEL));
     }
     let p = kept_place(part);
     if has_list(area, p, part, x) {
-        return ListAnswer::Count(bring(area, p, part, x));
+        return Some(bring(area, p, part, x));
     }
     if has_list(other, p, part, x) {
-        return ListAnswer::Count(copy_kept(other, p, part, x, area));
+        return Some(copy_kept(other, p, part, x, area));
     }
-    let made = renew_kept(question, part, x, other, p, area);
-    match made {
-        ListAnswer::Unsettled => list_anew(question, bodies, part, x, tallies, rows, p, area),
-        ListAnswer::Count(n) => ListAnswer::Count(n),
+    if let Some(n) = renew_kept(question, part, x, other, p, area) {
+        return Some(n);
     }
+    list_anew(question, bodies, part, x, tallies, rows, p, area)
 }
 
 // Lists the second side. Where it is the same part as the first, which has `n` steps, its list is a copy.
@@ -112,14 +99,14 @@ fn list_second(
     firsts: &[u8],
     n: usize,
     seconds: &mut [u8],
-) -> ListAnswer
+) -> Option<usize>
     requires { (x ≤ name_count) × BodiesTallied question.now bodies.now × (length tallies.old ≡ tally_size) × (row_bytes * most_rows ≤ length rows.old) × Labelled question.now firsts.now × (length first.now ≤ longest_term) × ListIn question.now first.now x n firsts.now × Labelled question.now seconds.old }
     ensures { SideIs question.now second.now x result seconds.new × Labelled question.now seconds.new }
 {
     if same_part(first, second) {
         copy(firsts, 0, STEP_BYTES * n, seconds, 0);
         put_label(seconds, LABEL, second, x, n);
-        return ListAnswer::Count(n);
+        return Some(n);
     }
     list_side(question, bodies, second, x, tallies, rows, firsts, seconds)
 }
@@ -135,24 +122,18 @@ fn list_sides(
     rows: &mut [u8],
     firsts: &mut [u8],
     seconds: &mut [u8],
-) -> Lists
+) -> Option<(usize, usize)>
     requires { (x ≤ name_count) × BodiesTallied question.now bodies.now × (length tallies.old ≡ tally_size) × (row_bytes * most_rows ≤ length rows.old) × Labelled question.now firsts.old × Labelled question.now seconds.old }
     ensures { ListsSides question.now first.now second.now x result firsts.new seconds.new × Labelled question.now firsts.new × Labelled question.now seconds.new }
 {
-    let n = match list_side(question, bodies, first, x, tallies, rows, seconds, firsts) {
-        ListAnswer::Unsettled => return Lists::Past,
-        ListAnswer::Count(n) => n,
-    };
-    let m = match list_second(
+    let n = list_side(question, bodies, first, x, tallies, rows, seconds, firsts)?;
+    let m = list_second(
         question, bodies, first, second, x, tallies, rows, firsts, n, seconds,
-    ) {
-        ListAnswer::Unsettled => return Lists::Past,
-        ListAnswer::Count(m) => m,
-    };
+    )?;
     if past_names(x, firsts, n, seconds, m) {
-        return Lists::Past;
+        return None;
     }
-    Lists::Listed(n, m)
+    Some((n, m))
 }
 
 // Takes up the situation at `at`; `bodies` are the tallies of the definitions' bodies, and `numbers` and `rows` are lent to the lister. The two

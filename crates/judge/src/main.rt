@@ -1,5 +1,5 @@
 // The program `judge`: a question on standard input, one line on standard output. The capacity is 256. Of a longer input only the first 65,536 bytes
-// are read: such a question is longer than document 01 allows, and so is what is read of it.
+// are read: such a question is longer than any that is accepted, and so is what is read of it.
 #![tactic(auto)]
 
 use field_slots::slot::SLOT_BYTES;

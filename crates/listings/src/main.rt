@@ -3,18 +3,13 @@
 // than 65,536 bytes are read.
 #![tactic(auto)]
 
-ghost use Rattle.std.specs.Prelude.{◌≤◌};
-
-use report::print_line;
+use questions::{MOST_INPUT, for_each_question};
 use std::io;
 use std::io::Read;
 use steps_entries::limits::{MOST_STEPS, STEP_BYTES};
-use steps_lister::operation::{StepsAnswer, steps};
+use steps_lister::operation::steps;
 use terms_bytes::bytes::get;
-use terms_bytes::frame::{after_field, field_at};
 use terms_bytes::limits::NAME_COUNT;
-
-const MOST_INPUT: u64 = 65536;
 
 const LISTING_BYTES: usize = STEP_BYTES * MOST_STEPS;
 
@@ -24,11 +19,9 @@ const MOST_LINES: usize = 16;
 // Where a step has the length of its result.
 const SIZE: usize = NAME_COUNT + 3;
 
-fn print_bytes(rt: &impl Print, area: &[u8], from: usize, n: usize) -> io::Result<()>
-    requires { (from ≤ 65536) × (n ≤ 65536) }
-{
-    for i in 0..n {
-        let byte = get(area, from + i);
+// A step without its filling.
+fn print_step(rt: &impl Print, step: &[u8]) -> io::Result<()> {
+    for byte in step.iter().take(SIZE + 1 + get(step, SIZE) as usize) {
         print!(rt; "{byte:02x}")?;
     }
     println!(rt; "")
@@ -38,9 +31,8 @@ fn print_steps(rt: &impl Print, area: &[u8], count: usize) -> io::Result<()> {
     if MOST_LINES < count {
         return Ok(());
     }
-    for i in 0..count {
-        let at = i * STEP_BYTES;
-        print_bytes(rt, area, at, SIZE + 1 + get(area, at + SIZE) as usize)?;
+    for step in area.chunks(STEP_BYTES).take(count) {
+        print_step(rt, step)?;
     }
     Ok(())
 }
@@ -57,27 +49,19 @@ fn write_steps(rt: &impl Print, input: &[u8]) -> io::Result<()> {
         &mut area,
     );
     match answer {
-        StepsAnswer::Refused(k) => print_line(rt, b"refused", k as u64),
-        StepsAnswer::Unsettled => print_line(rt, b"unsettled", 0),
-        StepsAnswer::Count(n) => {
-            print_line(rt, b"steps", n as u64)?;
-            print_steps(rt, &area, n)
-        }
+        Ok(listed) => match listed {
+            Some(n) => {
+                println!(rt; "steps {n}")?;
+                print_steps(rt, &area, n)
+            }
+            None => println!(rt; "unsettled 0"),
+        },
+        Err(refusal) => println!(rt; "refused {}", refusal.number()),
     }
-}
-
-// The `count` questions behind the first byte.
-fn write_all_steps(rt: &impl Print, input: &[u8], count: usize) -> io::Result<()> {
-    let mut at = 1;
-    for _ in 0..count {
-        write_steps(rt, field_at(input, at))?;
-        at = after_field(input, at);
-    }
-    Ok(())
 }
 
 fn main(rt: HostRuntime) -> io::Result<()> {
     let mut input = Vec::new(rt.alloc());
     rt.reader().take(MOST_INPUT).read_to_end(&mut input)?;
-    write_all_steps(&rt, &input, get(&input, 0) as usize)
+    for_each_question(&input, |question| write_steps(&rt, question))
 }

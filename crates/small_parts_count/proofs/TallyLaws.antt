@@ -3,6 +3,7 @@ use mathlib.Core.Path.{◌≡◌, refl, sym, ap, ◌∙◌}
 use mathlib.Core.Bool.{cond}
 use mathlib.Core.List.{List, [], ◌∷◌, ◌++◌, map}
 use Prim.Native.Nat.{ℕ, zero, suc, ◌+◌, ◌*◌, ◌≤◌, ◌<◌}
+use Rattle.std.specs.Prelude.{Some, Result, Ok, Err}
 use native.Mathlib.Omega.{arith}
 use lib.ListN.{length, get_or, take, drop, length-map}
 use lib.Seq.{take-append_seam}
@@ -12,9 +13,10 @@ use Rattle.field.specs.Successors.{select}
 use Rattle.verdict.specs.Judge.{slot_bytes, judge_by, judge_of}
 use Rattle.verdict.proofs.CapacityLaws.{within_passes}
 use Rattle.verdict.specs.Verdict.{openly, Verdict, unsettled, same, different}
-use Rattle.verdict_judge.specs.Judging.{judged_answer, JudgedIs}
-use Rattle.verdict_judge.specs.declared.judge.Judged.{Judged}
-use Rattle.verdict_judge.specs.declared.judge.Judged.TheVariants.{Refused, Unsettled, Same, Different}
+use Rattle.verdict_judge.specs.Judging.{verdict_told, judged_answer, JudgedIs}
+use Rattle.terms_bytes.specs.declared.answer.Refusal.{Refusal}
+use Rattle.verdict_judge.specs.declared.judge.Verdict as told
+use Rattle.verdict_judge.specs.declared.judge.Verdict.TheVariants.{Unsettled, Same, Different}
 use Rattle.small_parts.specs.Census.{asked, verdict_on, Kind, is_same, isDifferent, is_unsettled, CensusIs}
 use Rattle.small_parts.proofs.CensusOfWords.{of_kind, of_kind_in, census_of_words}
 use Rattle.small_parts.proofs.Counting.{crossed, pairs}
@@ -22,11 +24,10 @@ use Rattle.small_parts_words.specs.Words.{most_parts, word_of, part_numbers, Col
 use Rattle.small_parts_words.proofs.WordLaws.{part_words, words_distinct, words_are_parts, few_parts}
 use Rattle.small_parts_count.specs.Counts.{CountIs}
 use Rattle.small_parts_count.specs.Tallies.{none, plus_of, added, tallied, with_each, row_of, word_pairs, total}
-use Rattle.small_parts_count.specs.declared.count.Counts.TheVariants.{Numbers}
 use Rattle.small_parts_count.specs.declared.tally.Tally.{Tally}
 
 -- The verdict is that of the judge, whose checks 1 and 2 pass.
-pub judge_verdict : (n a b : ℕ) (question work : List ℕ) (r : Judged) (work' : List ℕ) → question ≡ asked (word_of n a) (word_of n b)
+pub judge_verdict : (n a b : ℕ) (question work : List ℕ) (r : Result told.Verdict Refusal) (work' : List ℕ) → question ≡ asked (word_of n a) (word_of n b)
     → slot_bytes * 186 ≤ length work → JudgedIs openly question 186 work r work' → judged_answer r ≡ verdict_on (word_of n a) (word_of n b)
 unfolding judge_by verdict_on
 judge_verdict n a b question work r work' e h d =
@@ -34,22 +35,27 @@ judge_verdict n a b question work r work' e h d =
     ∙ within_passes 186 (slot_bytes * 186) (length work) _ (record { some = omega arith; most = omega arith; fits = h })
 
 -- One verdict more.
-module _ (t : Tally) (j : Judged) where
-  pub add_refused : (k : ℕ) → j ≡ Refused k → t ≡ added t (judged_answer j)
+module _ (t : Tally) (j : Result told.Verdict Refusal) where
+  pub add_refused : (k : Refusal) → j ≡ Err k → t ≡ added t (judged_answer j)
   unfolding added judged_answer
   add_refused k e = ap (λ i. added t (judged_answer i)) (sym e)
 
-  pub add_unsettled : (r : Tally) → r ≡ plus_of t 0 0 1 → j ≡ Unsettled → r ≡ added t (judged_answer j)
-  unfolding added judged_answer
-  add_unsettled r p e = p ∙ ap (λ i. added t (judged_answer i)) (sym e)
+  module _ (w : told.Verdict) (s : j ≡ Ok w) where
+    settled : added t (result (verdict_told w)) ≡ added t (judged_answer j)
+    unfolding judged_answer
+    settled = ap (λ i. added t (judged_answer i)) (sym s)
 
-  pub add_same : (r : Tally) (k : ℕ) → r ≡ plus_of t 1 0 0 → j ≡ Same k → r ≡ added t (judged_answer j)
-  unfolding added judged_answer
-  add_same r k p e = p ∙ ap (λ i. added t (judged_answer i)) (sym e)
+    pub add_unsettled : (r : Tally) → r ≡ plus_of t 0 0 1 → w ≡ Unsettled → r ≡ added t (judged_answer j)
+    unfolding added verdict_told
+    add_unsettled r p e = p ∙ ap (λ w. added t (result (verdict_told w))) (sym e) ∙ settled
 
-  pub add_different : (r : Tally) (k : ℕ) → r ≡ plus_of t 0 1 0 → j ≡ Different k → r ≡ added t (judged_answer j)
-  unfolding added judged_answer
-  add_different r k p e = p ∙ ap (λ i. added t (judged_answer i)) (sym e)
+    pub add_same : (r : Tally) (k : ℕ) → r ≡ plus_of t 1 0 0 → w ≡ Same k → r ≡ added t (judged_answer j)
+    unfolding added verdict_told
+    add_same r k p e = p ∙ ap (λ w. added t (result (verdict_told w))) (sym e) ∙ settled
+
+    pub add_different : (r : Tally) (k : ℕ) → r ≡ plus_of t 0 1 0 → w ≡ Different k → r ≡ added t (judged_answer j)
+    unfolding added verdict_told
+    add_different r k p e = p ∙ ap (λ w. added t (result (verdict_told w))) (sym e) ∙ settled
 
 -- What is counted stays small.
 total-added : (t : Tally) (a : Answer Verdict) → total (added t a) ≤ total t + 1
@@ -207,7 +213,7 @@ module _ (n : ℕ) (h : n ≤ 5) where
       ∙ take-append_seam xs (drop (length xs) area)
 
   pub counted_numbers : (area kept : List ℕ) (r : ℕ) (t : Tally) → 209 ≤ length area → CollectsIs n area r kept
-      → t ≡ tallied none (word_pairs n (take r kept) (take r kept)) → CountIs n (Numbers t)
+      → t ≡ tallied none (word_pairs n (take r kept) (take r kept)) → CountIs n (Some t)
   unfolding CountIs
   counted_numbers area kept r t l c e = (h, census t (e ∙ ap (λ ks. tallied none (word_pairs n ks ks)) (kept_numbers area kept r l c)))
 

@@ -1,9 +1,8 @@
 -- What count promises: the numbers of the census, or that the length is above the greatest.
-use Rattle.std.specs.Prelude.{ℕ, ◌≤◌, ◌<◌}
+use Rattle.std.specs.Prelude.{Option, Some, None, ℕ, ◌≤◌, ◌<◌}
 use Rattle.small_parts.specs.Census.{greatest_length, CensusIs}
-use Rattle.small_parts_count.specs.declared.count.Counts.{Counts}
-use Rattle.small_parts_count.specs.declared.count.Counts.TheVariants.{Numbers, TooLong}
+use Rattle.small_parts_count.specs.declared.tally.Tally.{Tally}
 
-unfoldable pub CountIs : ℕ → Counts → Type 0
-CountIs n (Numbers t) = (n ≤ greatest_length) × CensusIs n t.same t.different t.unsettled
-CountIs n TooLong = greatest_length < n
+unfoldable pub CountIs : ℕ → Option Tally → Type 0
+CountIs n (Some t) = (n ≤ greatest_length) × CensusIs n t.same t.different t.unsettled
+CountIs n None = greatest_length < n

@@ -11,22 +11,15 @@ const MOST_PARTS: usize = 209;
 // A slot for each situation of the capacity.
 const WORK_BYTES: usize = SLOT_BYTES * CAPACITY as usize;
 
-// The three numbers, or a length that is above the greatest.
-#[derive(Clone, Copy)]
-pub enum Counts {
-    Numbers(Tally),
-    TooLong,
-}
-
-// Counts the ordered pairs of parts of `size` bytes.
-pub fn count(size: usize) -> Counts
+// Counts the ordered pairs of parts of `size` bytes, unless that length is above the greatest.
+pub fn count(size: usize) -> Option<Tally>
     ensures { CountIs size result }
 {
     if GREATEST_LENGTH < size {
-        return Counts::TooLong;
+        return None;
     }
     let mut kept = [0usize; MOST_PARTS];
     let mut work = [0u8; WORK_BYTES];
     let parts = collect_parts(size, &mut kept);
-    Counts::Numbers(tally_pairs(size, &kept[..parts], &mut work))
+    Some(tally_pairs(size, &kept[..parts], &mut work))
 }

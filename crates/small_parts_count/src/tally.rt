@@ -6,12 +6,13 @@ ghost use Rattle.small_parts_count.specs.Tallies.{plus_of, added, tallied, none,
 ghost use Rattle.verdict_judge.specs.Judging.{judged_answer};
 
 use small_parts_words::question::{FRAME, question_about};
-use verdict_judge::judge::{Judged, judge};
+use terms_bytes::answer::Refusal;
+use verdict_judge::judge::{Verdict, judge};
 
 pub const CAPACITY: u64 = 186;
 
 // The numbers of pairs that are the same, different and unsettled.
-#[derive(Clone, Copy)]
+#[derive(Clone, Copy, Debug, PartialEq, Eq)]
 pub struct Tally {
     pub same: usize,
     pub different: usize,
@@ -19,7 +20,12 @@ pub struct Tally {
 }
 
 // The verdict on two words as parts.
-fn judge_words(size: usize, first: usize, second: usize, work: &mut [u8]) -> Judged
+fn judge_words(
+    size: usize,
+    first: usize,
+    second: usize,
+    work: &mut [u8],
+) -> Result<Verdict, Refusal>
     requires { Room size work.old }
     ensures { judged_answer result ≡ verdict_on (word_of size first) (word_of size second) }
 {
@@ -40,15 +46,17 @@ fn plus(tally: Tally, same: usize, different: usize, unsettled: usize) -> Tally
 }
 
 // One more pair with this verdict.
-fn add(tally: Tally, judged: Judged) -> Tally
+fn add(tally: Tally, judged: Result<Verdict, Refusal>) -> Tally
     requires { Few tally }
     ensures { result ≡ added tally (judged_answer judged) }
 {
-    match judged {
-        Judged::Refused(_) => tally,
-        Judged::Unsettled => plus(tally, 0, 0, 1),
-        Judged::Same(_) => plus(tally, 1, 0, 0),
-        Judged::Different(_) => plus(tally, 0, 1, 0),
+    let Ok(verdict) = judged else {
+        return tally;
+    };
+    match verdict {
+        Verdict::Unsettled => plus(tally, 0, 0, 1),
+        Verdict::Same(_) => plus(tally, 1, 0, 0),
+        Verdict::Different(_) => plus(tally, 0, 1, 0),
     }
 }
 
@@ -58,10 +66,8 @@ fn tally_row(size: usize, row: usize, kept: &[usize], work: &mut [u8], before: T
     ensures { result ≡ tallied before (row_of size row kept.now) }
 {
     let mut tally = before;
-    let mut j = 0;
-    while j < kept.len() {
+    for j in 0..kept.len() {
         tally = add(tally, judge_words(size, kept[row], kept[j], work));
-        j += 1;
     }
     tally
 }
@@ -76,10 +82,8 @@ pub fn tally_pairs(size: usize, kept: &[usize], work: &mut [u8]) -> Tally
         different: 0,
         unsettled: 0,
     };
-    let mut i = 0;
-    while i < kept.len() {
+    for i in 0..kept.len() {
         tally = tally_row(size, i, kept, work, tally);
-        i += 1;
     }
     tally
 }

@@ -2,7 +2,7 @@
 use mathlib.Core.Path.{◌≡◌, refl, sym, ap, ◌∙◌}
 use mathlib.Core.Bool.{Bool, true, false, cond}
 use mathlib.Core.List.{List, [], ◌∷◌, ◌++◌, append-nil}
-use Prim.Native.Nat.{ℕ, zero, suc, ◌+◌, ◌-◌, ◌*◌, ◌≤◌, ◌<◌}
+use Prim.Native.Nat.{ℕ, zero, suc, ◌+◌, ◌-◌, ◌*◌, ◌^◌, ◌≤◌, ◌<◌}
 use native.Mathlib.Omega.{arith}
 use lib.ListN.{length, take, drop, set, replicate, length-append}
 use lib.Seq.{sets, length-sets, take-append_seam}
@@ -14,25 +14,26 @@ use Rattle.terms.proofs.Answers.{result_injective, refused_not_result}
 use Rattle.terms_bytes.proofs.Stores.{sets-join, sets-start}
 use Rattle.terms_scanning.specs.Scanning.{control_of, scanned_whole, whole_answer}
 use Rattle.terms_scanning.specs.declared.scan.Control.{Control}
-use Rattle.terms_scanning.specs.declared.scan.Scan.{Scan}
-use Rattle.terms_scanning.specs.declared.scan.Scan.TheVariants.{End, Fault}
+use Rattle.terms_bytes.specs.Refusals.{number_of}
+use Rattle.terms_bytes.specs.declared.answer.Refusal.{Refusal}
+use Rattle.std.specs.Prelude.{Result, Ok, Err}
 use Rattle.calculus.specs.Term.{Term}
 use Rattle.small_parts.specs.Census.{free_names, asked}
-use Rattle.small_parts_words.specs.Words.{word_of, word_count, has_outermost, is_part, parts_below, part_numbers, MayKeep, KeepsIs, CollectsIs}
+use Rattle.small_parts_words.specs.Words.{byte_count, word_of, word_count, has_outermost, is_part, parts_below, part_numbers, MayKeep, KeepsIs, CollectsIs}
 use Rattle.small_parts_words.proofs.WordLaws.{length_word}
 
 -- What the walk says of the bytes.
-walked : (bs : List ℕ) (r : Scan) → scanned_whole one free_names [] 0 bs ≡ whole_answer r → (j : ℕ) → r ≡ Fault j → false ≡ is_part bs
+walked : (bs : List ℕ) (r : Result Control Refusal) → scanned_whole one free_names [] 0 bs ≡ whole_answer r → (j : Refusal) → r ≡ Err j → false ≡ is_part bs
 unfolding scanned_whole whole_answer is_part has_outermost ◌>>=◌
 walked bs r h j e = go (read_whole one (numbered []) free_names 0 bs) (h ∙ ap whole_answer e)
   where
-    go : (a : Answer Term) → (a >>= λ P. result (control_of P)) ≡ refused j → false ≡ has_outermost a
+    go : (a : Answer Term) → (a >>= λ P. result (control_of P)) ≡ refused (number_of j) → false ≡ has_outermost a
     go (refused k) f = refl
     go (result P) f = refused_not_result (sym f)
 
-walked_whole : (bs : List ℕ) (r : Scan) → scanned_whole one free_names [] 0 bs ≡ whole_answer r → (j : ℕ) (c : Control) → r ≡ End j c → c.outermost ≡ is_part bs
+walked_whole : (bs : List ℕ) (r : Result Control Refusal) → scanned_whole one free_names [] 0 bs ≡ whole_answer r → (c : Control) → r ≡ Ok c → c.outermost ≡ is_part bs
 unfolding scanned_whole whole_answer is_part has_outermost control_of ◌>>=◌
-walked_whole bs r h j c e = go (read_whole one (numbered []) free_names 0 bs) (h ∙ ap whole_answer e)
+walked_whole bs r h c e = go (read_whole one (numbered []) free_names 0 bs) (h ∙ ap whole_answer e)
   where
     go : (a : Answer Term) → (a >>= λ P. result (control_of P)) ≡ result c → c.outermost ≡ has_outermost a
     go (refused k) f = refused_not_result f
@@ -45,14 +46,25 @@ in_area n k area after h e =
     let l : length w ≡ n = length_word n k in
     ap (take n) (e ∙ sets-start area w (omega arith)) ∙ ap (λ m. take m (w ++ drop (length w) area)) (sym l) ∙ take-append_seam w (drop (length w) area)
 
-pub faulty_word : (n k : ℕ) (area after : List ℕ) (r : Scan) (j : ℕ) → n ≤ length area → after ≡ sets area 0 (word_of n k)
-    → scanned_whole one free_names [] 0 (take n after) ≡ whole_answer r → r ≡ Fault j → false ≡ is_part (word_of n k)
+pub faulty_word : (n k : ℕ) (area after : List ℕ) (r : Result Control Refusal) (j : Refusal) → n ≤ length area → after ≡ sets area 0 (word_of n k)
+    → scanned_whole one free_names [] 0 (take n after) ≡ whole_answer r → r ≡ Err j → false ≡ is_part (word_of n k)
 faulty_word n k area after r j h e s f = walked (word_of n k) r (ap (scanned_whole one free_names [] 0) (sym (in_area n k area after h e)) ∙ s) j f
 
-pub whole_word : (n k : ℕ) (area after : List ℕ) (r : Scan) (j : ℕ) (c : Control) → n ≤ length area → after ≡ sets area 0 (word_of n k)
-    → scanned_whole one free_names [] 0 (take n after) ≡ whole_answer r → r ≡ End j c → c.outermost ≡ is_part (word_of n k)
-whole_word n k area after r j c h e s f =
-    walked_whole (word_of n k) r (ap (scanned_whole one free_names [] 0) (sym (in_area n k area after h e)) ∙ s) j c f
+pub whole_word : (n k : ℕ) (area after : List ℕ) (r : Result Control Refusal) (c : Control) → n ≤ length area → after ≡ sets area 0 (word_of n k)
+    → scanned_whole one free_names [] 0 (take n after) ≡ whole_answer r → r ≡ Ok c → c.outermost ≡ is_part (word_of n k)
+whole_word n k area after r c h e s f =
+    walked_whole (word_of n k) r (ap (scanned_whole one free_names [] 0) (sym (in_area n k area after h e)) ∙ s) c f
+
+-- How many words there are: a power of the number of bytes.
+pub count_power : (n : ℕ) → n ≤ 5 → byte_count ^ n ≡ word_count n
+unfolding word_count
+count_power zero h = refl
+count_power (suc zero) h = refl
+count_power (suc (suc zero)) h = refl
+count_power (suc (suc (suc zero))) h = refl
+count_power (suc (suc (suc (suc zero)))) h = refl
+count_power (suc (suc (suc (suc (suc zero))))) h = refl
+count_power (suc (suc (suc (suc (suc (suc n)))))) h = absurd (omega arith)
 
 -- Keeping numbers.
 pub count_few : (n : ℕ) → n ≤ 5 → word_count n ≤ 759375

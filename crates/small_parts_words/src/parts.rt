@@ -4,7 +4,7 @@ ghost use Rattle.small_parts.specs.Census.{greatest_length};
 ghost use Rattle.small_parts_words.specs.Words.{word_of, is_part, part_numbers, MayKeep, KeepsIs, CollectsIs};
 
 use crate::words::{word_count, write_word};
-use terms_scanning::scan::{Scan, scan_whole};
+use terms_scanning::scan::scan_whole;
 
 pub const GREATEST_LENGTH: usize = 5;
 
@@ -18,11 +18,9 @@ fn is_part(size: usize, number: usize) -> bool
 {
     let mut word = [0u8; GREATEST_LENGTH];
     write_word(size, number, &mut word, 0);
-    let no_arities = [0u8; 0];
-    let scan = scan_whole(&word[..size], 0, FREE_NAMES, &no_arities, false);
-    match scan {
-        Scan::Fault(_) => false,
-        Scan::End(_, control) => control.outermost,
+    match scan_whole(&word[..size], 0, FREE_NAMES, &[], false) {
+        Ok(control) => control.outermost,
+        Err(_) => false,
     }
 }
 
@@ -45,10 +43,8 @@ pub fn collect_parts(size: usize, kept: &mut [usize]) -> usize
 {
     let words = word_count(size);
     let mut count = 0;
-    let mut number = 0;
-    while number < words {
+    for number in 0..words {
         count = keep_part(size, number, kept, count);
-        number += 1;
     }
     count
 }

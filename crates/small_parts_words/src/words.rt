@@ -24,11 +24,9 @@ pub fn write_word(size: usize, number: usize, out: &mut [u8], put: usize)
     ensures { out.new ≡ sets out.old put (word_of size number) }
 {
     let mut rest = number;
-    let mut i = 0;
-    while i < size {
+    for i in 0..size {
         out[put + i] = byte_of(rest % BYTE_COUNT);
-        rest = rest / BYTE_COUNT;
-        i += 1;
+        rest /= BYTE_COUNT;
     }
 }
 
@@ -37,12 +35,5 @@ pub fn word_count(size: usize) -> usize
     requires { size ≤ greatest_length }
     ensures { result ≡ word_count size }
 {
-    match size {
-        0 => 1,
-        1 => 15,
-        2 => 225,
-        3 => 3375,
-        4 => 50625,
-        _ => 759375,
-    }
+    BYTE_COUNT.pow(size as u32)
 }

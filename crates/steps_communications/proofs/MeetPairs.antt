@@ -17,7 +17,7 @@ use Rattle.terms.specs.Question.{body_of}
 use Rattle.steps_conditions.specs.Labels.{Labels}
 use Rattle.steps_conditions.specs.Names.{OwnNames}
 use Rattle.steps_conditions.specs.declared.action.Label.{Label}
-use Rattle.steps_conditions.specs.declared.action.Status.TheVariants.{Blocked, Found}
+use Rattle.std.specs.Prelude.{Option, Some, None}
 use Rattle.steps_tallies.specs.Candidates.{candidates}
 use Rattle.steps_tallies.proofs.Numbering.{not_met}
 use Rattle.steps_tallies.proofs.Premises.{never, meeting_of_lem}
@@ -126,7 +126,7 @@ module _ (question part : List ℕ) (at depth number : ℕ) (a b : Partner) (j x
     }
 
   -- Beneath a match: the condition is that of the label.
-  module _ (hd : Label) (label : LabelIs question part true (number + j) hd) where
+  module _ (hd : Option Label) (label : LabelIs question part true (number + j) hd) where
     -- the label is that of the communication
     labels_met : (q : Question) (P : Term) → Lists question part x q P → (K : List Frame) (L R : Term) (first : ℕ)
         → Placed q.arities (body_of q.bodies) P K (par L R) at depth first number → (s t : Candidate) → j < length (silent (body_of q.bodies) 1 (par L R))
@@ -135,26 +135,28 @@ module _ (question part : List ℕ) (at depth number : ℕ) (a b : Partner) (j x
     labels_met q P lists K L R first p s t h f =
         subst (λ c. Labels 0 c hd) (p.silently.is j h ∙ ap (raised K) f) (label.is x q P lists (omega (arith, p.silently.inside)))
 
-    pub pair_blocked : hd.status ≡ Blocked → count ≤ most_steps → PairIs question part at depth number a b j x area count count area
+    pub pair_blocked : hd ≡ None → count ≤ most_steps → PairIs question part at depth number a b j x area count count area
     unfolding Labels PutIs
     pair_blocked e few = record {
-      is = λ q P l K L R first p s t _ _ _ _ left right m h f. go (raised K (communication s t)) (labels_met q P l K L R first p s t h f);
+      is = λ q P l K L R first p s t _ _ _ _ left right m h f. go (raised K (communication s t))
+          (subst (λ (h : Option Label). Labels 0 (raised K (communication s t)) h) e (labels_met q P l K L R first p s t h f));
     }
       where
-        go : (c : Candidate) → Labels 0 c hd → PutIs c x area count count area
-        go (step M α A) t = let f = t.found in let z : ◌≡◌ {A = ℕ} 0 1 = cc in absurd (omega arith)
+        go : (c : Candidate) → Labels 0 c None → PutIs c x area count count area
+        go (step M α A) t = elim t [ ]
         go blocked t = λ found s. put-blocked area x count found s few
 
-    pub pair_matched : hd.status ≡ Found → (m n : Partner) → m ≡ unmatched_row a → n ≡ unmatched_row b
-        → TakeMetIs question part (taken m n true) hd.condition.class area count r area' → PairIs question part at depth number a b j x area count r area'
+    pub pair_matched : (header : Label) → hd ≡ Some header → (m n : Partner) → m ≡ unmatched_row a → n ≡ unmatched_row b
+        → TakeMetIs question part (taken m n true) header.condition.class area count r area' → PairIs question part at depth number a b j x area count r area'
     unfolding Labels Unblocked
-    pair_matched e m n em en T₀ = record {
+    pair_matched header e m n em en T₀ = record {
       is = λ q P lists K L R first p s t hv es hw et left right m h f.
-          go q P lists K L R first p s t hv es hw et left right m h f (raised K (communication s t)) refl (labels_met q P lists K L R first p s t h f);
+          go q P lists K L R first p s t hv es hw et left right m h f (raised K (communication s t)) refl
+          (subst (λ (h : Option Label). Labels 0 (raised K (communication s t)) h) e (labels_met q P lists K L R first p s t h f));
     }
       where
-        T : TakeMetIs question part (taken (unmatched_row a) (unmatched_row b) true) hd.condition.class area count r area'
-        T = coe 0 1 (i. TakeMetIs question part (taken (em i) (en i) true) hd.condition.class area count r area') T₀
+        T : TakeMetIs question part (taken (unmatched_row a) (unmatched_row b) true) header.condition.class area count r area'
+        T = coe 0 1 (i. TakeMetIs question part (taken (em i) (en i) true) header.condition.class area count r area') T₀
 
         go : (q : Question) (P : Term) (lists : Lists question part x q P) (K : List Frame) (L R : Term) (first : ℕ)
             (p : Placed q.arities (body_of q.bodies) P K (par L R) at depth first number) (s t : Candidate)
@@ -163,7 +165,7 @@ module _ (question part : List ℕ) (at depth number : ℕ) (a b : Partner) (j x
             → Unblocked depth (decided depth s) a.kind a.channel a.object → Outlined depth (decided depth t) b.kind b.channel b.object
             → may_meet a.kind a.channel b.kind b.channel ≡ true → j < length (silent (body_of q.bodies) 1 (par L R))
             → get_or (silent (body_of q.bodies) 1 (par L R)) j blocked ≡ communication s t
-            → (c : Candidate) → raised K (communication s t) ≡ c → Labels 0 c hd → PutIs c x area count r area'
+            → (c : Candidate) → raised K (communication s t) ≡ c → Labels 0 c (Some header) → PutIs c x area count r area'
         go q P lists K L R first p s t hv es hw et (o, w) right m h f blocked d z = let y : ◌≡◌ {A = ℕ} 0 1 = cc in absurd (omega arith)
         go q P lists K L R first p s t hv es hw et (o, w) right m h f (step M α W) d z =
             let τ : α ≡ tau_a = met-silent K s t M α W d in
@@ -176,7 +178,7 @@ module _ (question part : List ℕ) (at depth number : ℕ) (a b : Partner) (j x
             S.condition S.action S.result (decided-step depth s S.condition S.action S.result S.is) (record { acts = S.acts; below = S.below })
             U.condition U.action U.result (decided-step depth t U.condition U.action U.result U.is) (record { acts = U.acts; below = U.below })
             (meets_opposite a.kind a.channel b.kind b.channel m).0 M W ws)
-            (record { classes = class_names hd.condition.class M z.classes; trivial = λ n. let y : ◌≡◌ {A = ℕ} 0 1 = cc in absurd (omega arith) }))
+            (record { classes = class_names header.condition.class M z.classes; trivial = λ n. let y : ◌≡◌ {A = ℕ} 0 1 = cc in absurd (omega arith) }))
 
   module _ (k : a.kind ≤ 3) (l : b.kind ≤ 3) where
     -- The communication on one channel, as a candidate of the whole.

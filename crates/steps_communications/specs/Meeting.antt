@@ -1,5 +1,5 @@
 -- The communications of a parallel from the rows of its two sides: what the functions that put them into the list promise.
-use Rattle.std.specs.Prelude.{◌≡◌, Bool, true, false, cond, ◌&&◌, List, map, ℕ, ◌+◌, ◌<◌, ◌≤◌, eqb, ltb, leb, length, get_or}
+use Rattle.std.specs.Prelude.{◌≡◌, Bool, true, false, cond, ◌&&◌, List, map, ℕ, ◌+◌, ◌<◌, ◌≤◌, eqb, ltb, leb, length, get_or, Option, Some, None}
 use Rattle.calculus.specs.Term.{Term, par}
 use Rattle.terms.specs.Limits.{name_count}
 use Rattle.terms.specs.Question.{Question}
@@ -36,6 +36,16 @@ meets_between k₁ low high k₂ c₂ =
 
 unfoldable pub may_meet : (k₁ c₁ k₂ c₂ : ℕ) → Bool
 may_meet k₁ c₁ k₂ c₂ = meets_between k₁ (first_merged c₁) (last_merged c₁) k₂ c₂
+
+-- The row that an answer says, or `last` where it says none.
+abbrev pub met_or : ℕ → Option ℕ → ℕ
+met_or last (Some w) = w
+met_or last None = last
+
+-- A row that an answer says comes before `last`.
+abbrev pub MetInside : ℕ → Option ℕ → Type 0
+MetInside last (Some w) = w < last
+MetInside last None = Unit {0}
 
 -- The first of the rows from `from` up to `last` that may meet one of this kind and channel; `last` where there is none.
 pub record NextMetIs (rows : List ℕ) (kind channel from last r : ℕ) : Type 0 where

@@ -2,19 +2,19 @@
 ghost use Rattle.std.specs.Prelude.{◌≡◌, true, false, ◌+◌, ◌*◌, ◌≤◌, ◌<◌, eqb, length};
 ghost use Rattle.terms.specs.Limits.{longest_term};
 ghost use Rattle.steps_tallies.specs.Tally.{EndsInside};
+ghost use Rattle.steps_splicing.specs.Collecting.{counted, Few};
 ghost use Rattle.steps_splicing.specs.Ready.{Tallied, Inside, FoundIn};
 ghost use Rattle.steps_splicing.specs.Locating.{table_slot};
 ghost use Rattle.steps_placing.specs.Putting.{CanPut};
-ghost use Rattle.steps_communications.specs.Meeting.{most_numbers, first_merged, last_merged, is_between, meets_between, unmatched_row, sender_of, sends_free, NextMetIs, PairIs, MeetRowIs};
+ghost use Rattle.steps_communications.specs.Meeting.{most_numbers, first_merged, last_merged, is_between, meets_between, unmatched_row, sender_of, sends_free, MetInside, met_or, NextMetIs, PairIs, MeetRowIs};
 ghost use Rattle.steps_rows.specs.Rows.{row_bytes, most_rows, action_kind};
 ghost use Rattle.steps_communications.specs.Met.{MeetsIs, ComponentsAre, sending_of, SendsNewIs, CanTake, TakeMetIs};
 
-use steps_conditions::action::{Label, Status};
-use steps_entries::limits::MOST_STEPS;
+use steps_conditions::action::Label;
 use steps_entries::listed::ActionBytes;
 use steps_passing::pass::{middle_of, pass};
 use steps_placing::candidate::label_of;
-use steps_placing::put::{Communication, Step, put_classed, put_met};
+use steps_placing::put::{Communication, SILENT, Step, put_classed, put_met};
 use steps_rows::rows::{MATCHED, REPEATED, ROW_BYTES};
 use steps_splicing::locate::{Located, locate};
 use steps_splicing::splice::{Selection, own_names};
@@ -104,51 +104,33 @@ pub struct SideRows {
 fn first_merged(c: u8) -> u8
     ensures { result ≡ first_merged c }
 {
-    if c <= LAST_NAME {
-        return 0;
-    }
-    c
+    if c <= LAST_NAME { 0 } else { c }
 }
 
 fn last_merged(c: u8) -> u8
     ensures { result ≡ last_merged c }
 {
-    if c <= LAST_NAME {
-        return LAST_NAME;
-    }
-    c
+    if c <= LAST_NAME { LAST_NAME } else { c }
 }
 
 fn is_between(c: u8, low: u8, high: u8) -> bool
     ensures { result ≡ is_between c low high }
 {
-    if c < low {
-        return false;
-    }
-    c <= high
+    low <= c && c <= high
 }
 
 // The kind of a row without the match.
 fn action_kind(kind: u8) -> u8
     ensures { result ≡ action_kind kind }
 {
-    if MATCHED < kind {
-        return kind - MATCHED;
-    }
-    kind
+    if MATCHED < kind { kind - MATCHED } else { kind }
 }
 
 // Whether the candidate of a row of this kind receives, beneath a match or not.
 fn receives(kind: u8) -> bool
     ensures { result ≡ eqb (action_kind kind) 1 }
 {
-    if kind == INPUT {
-        return true;
-    }
-    if kind == MATCHED_INPUT {
-        return true;
-    }
-    false
+    kind == INPUT || kind == MATCHED_INPUT
 }
 
 // Whether the candidates of two rows may communicate: by their kinds, and by the channel of one and those that may be merged with the other's. A
@@ -171,15 +153,15 @@ fn may_meet(k1: u8, low: u8, high: u8, k2: u8, c2: u8) -> bool
     false
 }
 
-// The first of the right rows from `from` up to `last` that may meet a left row of this kind and channel, or `last`. Most do not.
-fn next_met(rows: &[u8], kind: u8, channel: u8, from: usize, last: usize) -> usize
+// The first of the right rows from `from` up to `last` that may meet a left row of this kind and channel, if there is one. Most do not.
+fn next_met(rows: &[u8], kind: u8, channel: u8, from: usize, last: usize) -> Option<usize>
     requires { (from ≤ last) × (last ≤ most_rows) × (row_bytes * most_rows ≤ length rows.now) }
-    ensures { NextMetIs rows.now kind channel from last result }
+    ensures inside { MetInside last result }
+    ensures is { NextMetIs rows.now kind channel from last (met_or last result) }
 {
     let low = first_merged(channel);
     let high = last_merged(channel);
-    let mut w = from;
-    while w < last {
+    for w in from..last {
         if may_meet(
             kind,
             low,
@@ -187,32 +169,43 @@ fn next_met(rows: &[u8], kind: u8, channel: u8, from: usize, last: usize) -> usi
             rows[ROW_BYTES * w],
             rows[ROW_BYTES * w + 1],
         ) {
-            return w;
+            return Some(w);
         }
-        w += 1;
     }
-    w
+    None
 }
 
-// The row that sends: the right one, where the left one receives.
-fn sender(a: Partner, b: Partner) -> Partner
-    ensures { result ≡ sender_of a b }
-{
-    if a.kind == INPUT {
-        return b;
+impl Pair {
+    // The row that sends: the right one, where the left one receives.
+    fn sender(self) -> Partner
+        ensures { result ≡ sender_of self.left self.right }
+    {
+        if self.left.kind == INPUT {
+            self.right
+        } else {
+            self.left
+        }
     }
-    a
 }
 
-// Whether it sends a name that is free under so many restrictions. Then nothing is extruded in the communication: [Com].
-fn sends_free(a: Partner, depth: usize) -> bool
-    requires { depth ≤ longest_term }
-    ensures { result ≡ sends_free depth a }
-{
-    if a.kind != FREE_OUTPUT {
-        return false;
+impl Partner {
+    // Whether it sends a name that is free under so many restrictions. Then nothing is extruded in the communication: [Com].
+    fn sends_free(self, depth: usize) -> bool
+        requires { depth ≤ longest_term }
+        ensures { result ≡ sends_free depth self }
+    {
+        self.kind == FREE_OUTPUT && (self.object as usize) < NAME_COUNT + depth
     }
-    (a.object as usize) < NAME_COUNT + depth
+
+    // The row without the match.
+    fn unmatched(self) -> Partner
+        ensures { result ≡ unmatched_row self }
+    {
+        Partner {
+            kind: action_kind(self.kind),
+            ..self
+        }
+    }
 }
 
 // A name's slot in a table of names, from its slot in rows: the table has the new name between the free ones and the restrictions.
@@ -220,10 +213,7 @@ fn table_slot(slot: u8) -> u8
     requires { slot < 255 }
     ensures { result ≡ table_slot slot }
 {
-    if slot <= LAST_NAME {
-        return slot;
-    }
-    slot + 1
+    if slot <= LAST_NAME { slot } else { slot + 1 }
 }
 
 // The components that have the candidates of two rows.
@@ -232,12 +222,9 @@ fn components_of(part: &[u8], tally: &[u32], node: Node, pair: Pair) -> Componen
     ensures { ComponentsAre part.now tally.now node pair result }
 {
     let at = node.at;
-    let depth = node.depth;
-    let a = pair.left;
-    let b = pair.right;
-    let left = locate(part, tally, at + 1, depth, a.number);
+    let left = locate(part, tally, at + 1, node.depth, pair.left.number);
     let middle = middle_of(part, tally, at);
-    let right = locate(part, tally, middle, depth, b.number);
+    let right = locate(part, tally, middle, node.depth, pair.right.number);
     Components { left, right }
 }
 
@@ -251,23 +238,20 @@ fn take_com(
     class: &[u8],
     area: &mut [u8],
     count: usize,
-) -> usize
+) -> Option<usize>
     requires { CanTake question.now bodies.now part.now tally.now area.old count met class.now × (sends_free met.node.depth (sender_of met.pair.left met.pair.right) ≡ true) }
-    ensures { TakeMetIs question.now part.now met class.now area.old count result area.new }
+    ensures few { Few result }
+    ensures is { TakeMetIs question.now part.now met class.now area.old count (counted result) area.new }
 {
     let node = met.node;
     let pair = met.pair;
     let both = components_of(part, tally, node, pair);
-    let left = both.left;
-    let right = both.right;
-    let a = pair.left;
-    let b = pair.right;
-    let from = sender(a, b);
+    let from = pair.sender();
     let new = table_slot(from.object);
     let number = node.number + pair.number;
     let communication = Communication {
-        left,
-        right,
+        left: both.left,
+        right: both.right,
         new,
         merges: met.merges,
         closes: false,
@@ -290,11 +274,11 @@ fn take_com(
 fn sending(pair: Pair, both: Components) -> Located
     ensures { result ≡ sending_of pair both }
 {
-    let a = pair.left;
-    if a.kind == INPUT {
-        return both.right;
+    if pair.left.kind == INPUT {
+        both.right
+    } else {
+        both.left
     }
-    both.left
 }
 
 // Whether the candidate of a component sends a new name of its own: then [Open] applies to no restriction around the component.
@@ -318,10 +302,7 @@ fn sends_new(
         1,
         component.number,
     );
-    if passed.kind == NEW_OUTPUT {
-        return true;
-    }
-    false
+    passed.kind == NEW_OUTPUT
 }
 
 // Puts a communication into the list by its number in the part.
@@ -334,9 +315,10 @@ fn take_numbered(
     class: &[u8],
     area: &mut [u8],
     count: usize,
-) -> usize
+) -> Option<usize>
     requires { CanTake question.now bodies.now part.now tally.now area.old count met class.now }
-    ensures { TakeMetIs question.now part.now met class.now area.old count result area.new }
+    ensures few { Few result }
+    ensures is { TakeMetIs question.now part.now met class.now area.old count (counted result) area.new }
 {
     let node = met.node;
     let pair = met.pair;
@@ -346,12 +328,10 @@ fn take_numbered(
         number,
         x: node.x,
     };
-    let action = ActionBytes {
-        kind: 0,
-        channel: 0,
-        object: 0,
+    let step = Step {
+        candidate,
+        action: SILENT,
     };
-    let step = Step { candidate, action };
     put_classed(question, bodies, part, tally, step, class, area, count)
 }
 
@@ -366,9 +346,10 @@ fn take_close(
     class: &[u8],
     area: &mut [u8],
     count: usize,
-) -> usize
+) -> Option<usize>
     requires { CanTake question.now bodies.now part.now tally.now area.old count met class.now × (sends_free met.node.depth (sender_of met.pair.left met.pair.right) ≡ false) }
-    ensures { TakeMetIs question.now part.now met class.now area.old count result area.new }
+    ensures few { Few result }
+    ensures is { TakeMetIs question.now part.now met class.now area.old count (counted result) area.new }
 {
     let node = met.node;
     let pair = met.pair;
@@ -377,12 +358,10 @@ fn take_close(
     if !sends_new(question, bodies, part, tally, from) {
         return take_numbered(question, bodies, part, tally, met, class, area, count);
     }
-    let left = both.left;
-    let right = both.right;
     let number = node.number + pair.number;
     let communication = Communication {
-        left,
-        right,
+        left: both.left,
+        right: both.right,
         new: NEW_NAME,
         merges: met.merges,
         closes: true,
@@ -411,16 +390,12 @@ fn take_met(
     class: &[u8],
     area: &mut [u8],
     count: usize,
-) -> usize
+) -> Option<usize>
     requires { CanTake question.now bodies.now part.now tally.now area.old count met class.now }
-    ensures { TakeMetIs question.now part.now met class.now area.old count result area.new }
+    ensures few { Few result }
+    ensures is { TakeMetIs question.now part.now met class.now area.old count (counted result) area.new }
 {
-    let node = met.node;
-    let pair = met.pair;
-    let a = pair.left;
-    let b = pair.right;
-    let from = sender(a, b);
-    if sends_free(from, node.depth) {
+    if met.pair.sender().sends_free(met.node.depth) {
         return take_com(question, bodies, part, tally, met, class, area, count);
     }
     take_close(question, bodies, part, tally, met, class, area, count)
@@ -436,9 +411,10 @@ fn take_same(
     pair: Pair,
     area: &mut [u8],
     count: usize,
-) -> usize
+) -> Option<usize>
     requires { CanPut question.now bodies.now part.now tally.now area.old count × Inside part.now node.at node.depth × (pair.left.kind ≤ 3) × (pair.right.kind ≤ 3) × (pair.left.channel ≡ pair.right.channel) × (node.number + pair.number ≤ most_numbers + most_numbers) }
-    ensures { PairIs question.now part.now node.at node.depth node.number pair.left pair.right pair.number node.x area.old count result area.new }
+    ensures few { Few result }
+    ensures is { PairIs question.now part.now node.at node.depth node.number pair.left pair.right pair.number node.x area.old count (counted result) area.new }
 {
     let class = own_names();
     let met = Met {
@@ -459,32 +435,18 @@ fn take_merging(
     pair: Pair,
     area: &mut [u8],
     count: usize,
-) -> usize
+) -> Option<usize>
     requires { CanPut question.now bodies.now part.now tally.now area.old count × Inside part.now node.at node.depth × (node.number + pair.number ≤ most_numbers + most_numbers) × (pair.left.kind ≤ 3) × (pair.right.kind ≤ 3) × (pair.left.channel ≡ pair.right.channel → ⊥) }
-    ensures { PairIs question.now part.now node.at node.depth node.number pair.left pair.right pair.number node.x area.old count result area.new }
+    ensures few { Few result }
+    ensures is { PairIs question.now part.now node.at node.depth node.number pair.left pair.right pair.number node.x area.old count (counted result) area.new }
 {
-    let a = pair.left;
-    let b = pair.right;
-    let class = merging(a.channel, b.channel);
+    let class = merging(pair.left.channel, pair.right.channel);
     let met = Met {
         node,
         pair,
         merges: true,
     };
     take_met(question, bodies, part, tally, met, &class, area, count)
-}
-
-// The row without the match.
-fn unmatched(a: Partner) -> Partner
-    ensures { result ≡ unmatched_row a }
-{
-    let kind = action_kind(a.kind);
-    Partner {
-        kind,
-        channel: a.channel,
-        object: a.object,
-        number: a.number,
-    }
 }
 
 // Puts a communication into the list whose condition is that of a label.
@@ -497,12 +459,12 @@ fn take_labelled(
     met: Met,
     area: &mut [u8],
     count: usize,
-) -> usize
+) -> Option<usize>
     requires { CanPut question.now bodies.now part.now tally.now area.old count × Inside part.now met.node.at met.node.depth × (met.node.number + met.pair.number ≤ most_numbers + most_numbers) }
-    ensures { TakeMetIs question.now part.now met label.condition.class area.old count result area.new }
+    ensures few { Few result }
+    ensures is { TakeMetIs question.now part.now met label.condition.class area.old count (counted result) area.new }
 {
-    let condition = label.condition;
-    let class = condition.class;
+    let class = label.condition.class;
     take_met(question, bodies, part, tally, met, &class, area, count)
 }
 
@@ -517,9 +479,10 @@ fn take_matched(
     pair: Pair,
     area: &mut [u8],
     count: usize,
-) -> usize
+) -> Option<usize>
     requires { CanPut question.now bodies.now part.now tally.now area.old count × Inside part.now node.at node.depth × (node.number + pair.number ≤ most_numbers + most_numbers) }
-    ensures { PairIs question.now part.now node.at node.depth node.number pair.left pair.right pair.number node.x area.old count result area.new }
+    ensures few { Few result }
+    ensures is { PairIs question.now part.now node.at node.depth node.number pair.left pair.right pair.number node.x area.old count (counted result) area.new }
 {
     let number = node.number + pair.number;
     let candidate = Selection {
@@ -528,15 +491,12 @@ fn take_matched(
         x: node.x,
     };
     let label = label_of(question, bodies, part, tally, candidate);
-    let status = label.status;
-    match status {
-        Status::Blocked => count,
-        Status::Found => {
-            let left = unmatched(pair.left);
-            let right = unmatched(pair.right);
+    match label {
+        None => Some(count),
+        Some(header) => {
             let rows = Pair {
-                left,
-                right,
+                left: pair.left.unmatched(),
+                right: pair.right.unmatched(),
                 number: pair.number,
             };
             let met = Met {
@@ -544,7 +504,7 @@ fn take_matched(
                 pair: rows,
                 merges: true,
             };
-            take_labelled(question, bodies, part, tally, label, met, area, count)
+            take_labelled(question, bodies, part, tally, header, met, area, count)
         }
     }
 }
@@ -559,16 +519,14 @@ fn take_pair(
     pair: Pair,
     area: &mut [u8],
     count: usize,
-) -> usize
+) -> Option<usize>
     requires { CanPut question.now bodies.now part.now tally.now area.old count × Inside part.now node.at node.depth × (node.number + pair.number ≤ most_numbers + most_numbers) }
-    ensures { PairIs question.now part.now node.at node.depth node.number pair.left pair.right pair.number node.x area.old count result area.new }
+    ensures few { Few result }
+    ensures is { PairIs question.now part.now node.at node.depth node.number pair.left pair.right pair.number node.x area.old count (counted result) area.new }
 {
     let a = pair.left;
     let b = pair.right;
-    if MATCHED <= a.kind {
-        return take_matched(question, bodies, part, tally, node, pair, area, count);
-    }
-    if MATCHED <= b.kind {
+    if MATCHED <= a.kind || MATCHED <= b.kind {
         return take_matched(question, bodies, part, tally, node, pair, area, count);
     }
     if a.channel == b.channel {
@@ -588,9 +546,10 @@ fn meet_row(
     rows: &[u8],
     left: LeftRow,
     area: &mut [u8],
-) -> usize
+) -> Option<usize>
     requires { CanPut question.now bodies.now part.now tally.now area.old left.count × Inside part.now node.at node.depth × (left.row < left.middle) × (left.middle ≤ left.last) × (left.last ≤ most_rows) × (row_bytes * most_rows ≤ length rows.now) × (node.number + left.first + most_rows ≤ most_numbers + most_numbers) }
-    ensures { MeetRowIs question.now part.now node.at node.depth node.number node.x rows.now left.row left.left left.middle left.last left.first area.old left.count result area.new }
+    ensures few { Few result }
+    ensures is { MeetRowIs question.now part.now node.at node.depth node.number node.x rows.now left.row left.left left.middle left.last left.first area.old left.count (counted result) area.new }
 {
     let row = left.row;
     let middle = left.middle;
@@ -599,10 +558,10 @@ fn meet_row(
     let kind = rows[ROW_BYTES * row];
     let channel = rows[ROW_BYTES * row + 1];
     if kind == REPEATED {
-        return left.count;
+        return Some(left.count);
     }
     if NAME_COUNT + node.depth <= channel as usize {
-        return left.count;
+        return Some(left.count);
     }
     let object = rows[ROW_BYTES * row + 2];
     let a = Partner {
@@ -612,8 +571,8 @@ fn meet_row(
         number: left.left,
     };
     let mut n = left.count;
-    let mut w = next_met(rows, kind, channel, middle, last);
-    while w < last {
+    let mut from = middle;
+    while let Some(w) = next_met(rows, kind, channel, from, last) {
         let kind2 = rows[ROW_BYTES * w];
         let channel2 = rows[ROW_BYTES * w + 1];
         let object2 = rows[ROW_BYTES * w + 2];
@@ -630,17 +589,13 @@ fn meet_row(
             right: b,
             number: i,
         };
-        let m = take_pair(question, bodies, part, tally, node, pair, area, n);
-        if MOST_STEPS < m {
-            return m;
-        }
-        n = m;
-        w = next_met(rows, kind, channel, w + 1, last);
+        n = take_pair(question, bodies, part, tally, node, pair, area, n)?;
+        from = w + 1;
     }
-    n
+    Some(n)
 }
 
-// Puts the communications of the two sides of a parallel into the list, until a limit is passed. Answers how many steps there are then.
+// Puts the communications of the two sides of a parallel into the list. Answers how many steps there are then; none where a limit is passed.
 pub fn meet(
     question: &[u8],
     bodies: &[u32],
@@ -650,18 +605,18 @@ pub fn meet(
     rows: &[u8],
     sides: SideRows,
     area: &mut [u8],
-) -> usize
+) -> Option<usize>
     requires { CanPut question.now bodies.now part.now tally.now area.old sides.count × Inside part.now node.at node.depth × (sides.first ≤ sides.middle) × (sides.middle ≤ sides.last) × (sides.last ≤ most_rows) × (row_bytes * most_rows ≤ length rows.now) × (node.number + sides.before ≤ most_numbers) }
-    ensures { MeetsIs question.now part.now node.at node.depth node.number sides.before node.x rows.now sides.first sides.middle sides.last area.old sides.count result area.new }
+    ensures few { Few result }
+    ensures is { MeetsIs question.now part.now node.at node.depth node.number sides.before node.x rows.now sides.first sides.middle sides.last area.old sides.count (counted result) area.new }
 {
     let first = sides.first;
     let middle = sides.middle;
     let last = sides.last;
     let width = last - middle;
     let mut n = sides.count;
-    let mut row = first;
     let mut j = sides.before;
-    while row < middle {
+    for row in first..middle {
         let number = row - first;
         let left = LeftRow {
             row,
@@ -671,13 +626,8 @@ pub fn meet(
             first: j,
             count: n,
         };
-        let m = meet_row(question, bodies, part, tally, node, rows, left, area);
-        if MOST_STEPS < m {
-            return m;
-        }
-        n = m;
-        row += 1;
+        n = meet_row(question, bodies, part, tally, node, rows, left, area)?;
         j += width;
     }
-    n
+    Some(n)
 }

@@ -8,6 +8,8 @@ use native.Mathlib.Nat.{eq-or-lt_of_le}
 use native.Mathlib.Numerals.{add-one}
 use native.Mathlib.Omega.{arith}
 use lib.ListN.{get_or}
+use lib.Dec.{eqb}
+use borrow.Author.Tests.{eq-eqb, eqb-true}
 use Rattle.calculus.specs.Cond.{Cond, Unif, join, cls}
 use Rattle.calculus.proofs.Conditions.{E2, E3, cls-~, join_cases, Unif-++, Unif-left, Unif_right}
 use Rattle.terms.specs.Limits.{name_count}
@@ -106,3 +108,10 @@ level_merged c level h e M H b = go (restricted_alone M) refl
     go : (t : Bool) → restricted_alone M ≡ t → false ≡ t
     go true q = absurd (e (H (name_count + level) h ∙ spared_slot name_count level M b q))
     go false q = refl
+
+pub level_alone : (c : List ℕ) (level : ℕ) → name_count + level < slot_count → AloneIs c level (eqb (get_or c (name_count + level) 0) (name_count + level))
+level_alone c level h = go (eqb (get_or c (name_count + level) 0) (name_count + level)) refl
+  where
+    go : (t : Bool) → eqb (get_or c (name_count + level) 0) (name_count + level) ≡ t → AloneIs c level t
+    go true q = level_spared c level h (eqb-true _ _ q)
+    go false q = level_merged c level h (λ e. let h = eq-eqb (get_or c (name_count + level) 0) (name_count + level) e in let z : ◌≡◌ {A = ℕ} 0 1 = cc in omega arith)

@@ -1,5 +1,5 @@
 -- The header of a candidate, condition and action without the result, and the rules on headers: what the functions that find it promise.
-use Rattle.std.specs.Prelude.{◌≡◌, [], ℕ, ◌+◌, ◌<◌, ◌≤◌}
+use Rattle.std.specs.Prelude.{◌≡◌, [], ℕ, ◌+◌, ◌<◌, ◌≤◌, Option, Some, None}
 use Rattle.calculus.specs.Abstraction.{Act, tau_a, inp_a, out_a, bout_a}
 use Rattle.calculus.specs.Cond.{Cond}
 use Rattle.calculus.specs.Term.{Term}
@@ -8,10 +8,7 @@ use Rattle.steps.specs.Raw.{Candidate, step, blocked, matching, communication, r
 use Rattle.steps_conditions.specs.Slots.{slot_of, new_slot, slot_count, HasSlotClasses, HasClasses, Below}
 use Rattle.steps_conditions.specs.declared.action.Action.{Action}
 use Rattle.steps_conditions.specs.declared.action.Action.TheVariants.{Silent, Input, Output, NewOutput}
-use Rattle.steps_conditions.specs.declared.action.Status.TheVariants.{Blocked, Found}
 use Rattle.steps_conditions.specs.declared.action.Label.{Label}
-use Rattle.steps_conditions.specs.declared.rules.Meeting.{Meeting}
-use Rattle.steps_conditions.specs.declared.rules.Meeting.TheVariants.{Never, At}
 
 -- an input, and an output of a new name, by the slot of the channel
 abbrev pub input_on : ℕ → Action
@@ -34,59 +31,59 @@ ActionBelow n (inp_a a) = a < n
 ActionBelow n (out_a a b) = (a < n) × (b < n)
 ActionBelow n (bout_a a) = a < n
 
-abbrev pub BlockedIs : Label → Type 0
-BlockedIs r = r.status ≡ Blocked
+-- a blocked candidate has no header
+abbrev pub BlockedIs : Option Label → Type 0
+BlockedIs r = r ≡ None
 
 -- a step with the condition that is always true
 pub record FirstIs (α : Action) (r : Label) : Type 0 where
-  pub found : r.status ≡ Found
   pub classes : HasSlotClasses r.condition.class []
   pub action : r.action ≡ α
 
 -- the header of a step under d restrictions, whose names are in scope
 pub record HeaderIs (d : ℕ) (M : Cond) (α : Act) (r : Label) : Type 0 where
-  pub found : r.status ≡ Found
   pub classes : HasClasses r.condition.class d M
   pub action : r.action ≡ action_of d α
   pub below : Below (d + name_count) M
   pub names : ActionBelow (d + name_count) α
 
-unfoldable pub Labels : ℕ → Candidate → Label → Type 0
-Labels d (step M α P) r = HeaderIs d M α r
+unfoldable pub Labels : ℕ → Candidate → Option Label → Type 0
+Labels d (step M α P) (Some r) = HeaderIs d M α r
+Labels d (step M α P) None = ⊥
 Labels d blocked r = BlockedIs r
 
 -- A rule with one premise, from the label s of the premise.
-pub record MatchingIs (s : Label) (a b : ℕ) (r : Label) : Type 0 where
+pub record MatchingIs (s : Option Label) (a b : ℕ) (r : Option Label) : Type 0 where
   pub is : (d x y : ℕ) (c : Candidate) → a ≡ slot_of name_count d x → b ≡ slot_of name_count d y → x < d + name_count → y < d + name_count
       → Labels d c s → Labels d (matching x y c) r
 
 -- the restriction at this level is left
-pub record RestrictedIs (s : Label) (level : ℕ) (r : Label) : Type 0 where
+pub record RestrictedIs (s : Option Label) (level : ℕ) (r : Option Label) : Type 0 where
   pub is : (c : Candidate) → Labels (1 + level) c s → Labels level (restricted c) r
 
-pub record OutsideIs (s : Label) (level : ℕ) (r : Label) : Type 0 where
+pub record OutsideIs (s : Label) (level : ℕ) (r : Option Label) : Type 0 where
   pub is : (M : Cond) (α : Act) (P : Term) → HeaderIs (1 + level) M α s → Labels level (restricted (step M α P)) r
 
 -- Where two actions meet: the channels of an output and an input.
-unfoldable pub received_by : ℕ → Action → Meeting
-received_by a Silent = Never
-received_by a (Input b y) = At a b
-received_by a (Output b y) = Never
-received_by a (NewOutput b y) = Never
+unfoldable pub received_by : ℕ → Action → Option (ℕ × ℕ)
+received_by a Silent = None
+received_by a (Input b y) = Some (a, b)
+received_by a (Output b y) = None
+received_by a (NewOutput b y) = None
 
-unfoldable pub meeting_of : Action → Action → Meeting
-meeting_of Silent β = Never
-meeting_of (Input a x) Silent = Never
-meeting_of (Input a x) (Input b y) = Never
-meeting_of (Input a x) (Output b y) = At a b
-meeting_of (Input a x) (NewOutput b y) = At a b
+unfoldable pub meeting_of : Action → Action → Option (ℕ × ℕ)
+meeting_of Silent β = None
+meeting_of (Input a x) Silent = None
+meeting_of (Input a x) (Input b y) = None
+meeting_of (Input a x) (Output b y) = Some (a, b)
+meeting_of (Input a x) (NewOutput b y) = Some (a, b)
 meeting_of (Output a x) β = received_by a β
 meeting_of (NewOutput a x) β = received_by a β
 
 -- [Com] and [Close] on labels: the two conditions and the match of the channels
-pub record MetIs (p q r : Label) : Type 0 where
+pub record MetIs (p q : Label) (r : Option Label) : Type 0 where
   pub is : (d : ℕ) (M N : Cond) (α β : Act) (P Q : Term) → name_count + d ≤ slot_count → HeaderIs d M α p → HeaderIs d N β q
       → Labels d (communication (step M α P) (step N β Q)) r
 
-pub record CommunicationIs (p q r : Label) : Type 0 where
+pub record CommunicationIs (p q r : Option Label) : Type 0 where
   pub is : (d : ℕ) (s t : Candidate) → name_count + d ≤ slot_count → Labels d s p → Labels d t q → Labels d (communication s t) r

@@ -1,5 +1,5 @@
 // What a step does, and the header of a step: its condition and its action. Names stand by their slots (specs/Slots).
-ghost use Rattle.steps_conditions.specs.Labels.{BlockedIs, FirstIs};
+ghost use Rattle.steps_conditions.specs.Labels.{FirstIs};
 
 use crate::condition::Condition;
 use terms_bytes::limits::NAME_COUNT;
@@ -8,7 +8,7 @@ use terms_bytes::limits::NAME_COUNT;
 // every restriction, where no other name has this slot.
 pub const NEW_NAME: u8 = NAME_COUNT as u8;
 
-// Document 01: silent, input, free output, new-name output, each visible one with its channel and its object.
+// Silent, input, free output, new-name output, each visible one with its channel and its object.
 #[derive(Clone, Copy)]
 pub enum Action {
     Silent,
@@ -17,40 +17,19 @@ pub enum Action {
     NewOutput(u8, u8),
 }
 
-// Whether a candidate is a step.
-#[derive(Clone, Copy)]
-pub enum Status {
-    Blocked,
-    Found,
-}
-
-// The header of a candidate. Condition and action are those of a step.
+// The header of a step. A candidate that is blocked has none.
 #[derive(Clone, Copy)]
 pub struct Label {
-    pub status: Status,
     pub condition: Condition,
     pub action: Action,
 }
 
 impl Label {
-    pub fn blocked() -> Self
-        ensures { BlockedIs result }
-    {
-        Label {
-            status: Status::Blocked,
-            condition: Condition {
-                class: [0u8; Condition::SLOTS],
-            },
-            action: Action::Silent,
-        }
-    }
-
     // A step with the condition that is always true.
     pub fn found(action: Action) -> Self
         ensures { FirstIs action result }
     {
         Label {
-            status: Status::Found,
             condition: Condition::empty(),
             action,
         }

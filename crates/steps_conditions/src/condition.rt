@@ -26,10 +26,8 @@ impl Condition {
         ensures { HasSlotClasses result.class [] }
     {
         let mut class = [0u8; Condition::SLOTS];
-        let mut i = 0;
-        while i < Condition::SLOTS {
+        for i in 0..Condition::SLOTS {
             class[i] = i as u8;
-            i += 1;
         }
         Condition { class }
     }
@@ -44,11 +42,9 @@ impl Condition {
         let mut class = self.class;
         let x = class[a as usize];
         let y = class[b as usize];
-        let mut i = 0;
-        while i < Condition::SLOTS {
+        for i in 0..Condition::SLOTS {
             let v = merged_name(x, y, class[i]);
             class[i] = v;
-            i += 1;
         }
         Condition { class }
     }
@@ -59,14 +55,12 @@ impl Condition {
     {
         let o = other.class;
         let mut c = self;
-        let mut i = 0;
-        while i < Condition::SLOTS {
+        for i in 0..Condition::SLOTS {
             // a slot that is its own class matches nothing
             let v = o[i];
             if v as usize != i {
                 c = c.merge(i as u8, v);
             }
-            i += 1;
         }
         c
     }
@@ -77,12 +71,8 @@ impl Condition {
         requires { name_count + level < slot_count }
         ensures { AloneIs self.class level result }
     {
-        let class = self.class;
         let slot = Condition::NAMES + level;
-        if class[slot] as usize == slot {
-            return true;
-        }
-        false
+        self.class[slot] as usize == slot
     }
 
     // Of the classes at `at`: the class of the name `n`; a number that is no name is alone in its class.
@@ -105,12 +95,10 @@ impl Condition {
             return false;
         }
         let mut own = true;
-        let mut n = 0;
-        while n < Condition::NAMES {
+        for n in 0..Condition::NAMES {
             if classes[at + n] as usize != n {
                 own = false;
             }
-            n += 1;
         }
         own
     }
@@ -123,13 +111,11 @@ impl Condition {
         if Condition::is_trivial(others, place) {
             return true;
         }
-        let mut n = 0;
-        while n < Condition::NAMES {
+        for n in 0..Condition::NAMES {
             let merged = Condition::class_of(classes, at, Condition::class_of(others, place, n));
             if merged != Condition::class_of(classes, at, n) {
                 return false;
             }
-            n += 1;
         }
         true
     }

@@ -34,11 +34,9 @@ fn relabel(list: &mut [u8], from: usize, end: usize, old: u8, new: u8)
     requires { (from ≤ end) × (end ≤ length list.old) }
     ensures { RelabelIs list.old from end old new list.new }
 {
-    let mut k = from;
-    while k < end {
+    for k in from..end {
         let place = moved(list[k], old, new);
         list[k] = place;
-        k += 1;
     }
 }
 
@@ -60,9 +58,7 @@ pub fn arrange(list: &mut [u8], count: usize)
     requires { (count ≤ most_steps) × (list_room ≤ length list.old) }
     ensures { ArrangeIs list.old count list.new }
 {
-    let mut i = 0;
-    while i < count {
+    for i in 0..count {
         put_in_place(list, i, count);
-        i += 1;
     }
 }

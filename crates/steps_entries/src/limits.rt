@@ -1,4 +1,4 @@
-// The limits of document 01 on the steps of a part, as `specs/Limits.antt` has them.
+// The limits on the steps of a part, as `specs/Limits.antt` has them.
 use terms_bytes::limits::{LONGEST_TERM, NAME_COUNT};
 
 // More distinct steps than this are unsettled.

@@ -47,9 +47,10 @@ fn object_byte(class: &[u8], object: u8, x: u8) -> u8
     ensures { result ≡ object_byte class.now x object }
 {
     if object == NEW_NAME {
-        return x;
+        x
+    } else {
+        get(class, object as usize)
     }
-    get(class, object as usize)
 }
 
 // The bytes of an action outside every restriction: the channel is rewritten by the condition, and the new name is `x`.
@@ -86,10 +87,8 @@ pub fn alike(a: &[u8], i: usize, b: &[u8], j: usize, n: usize) -> bool
     ensures { AlikeIs a.now i b.now j n result }
 {
     let mut same = true;
-    let mut k = 0;
-    while k < n {
+    for k in 0..n {
         same = same & (a[i + k] == b[j + k]);
-        k += 1;
     }
     same
 }
@@ -100,6 +99,7 @@ fn alike_to(a: &[u8], i: usize, b: &[u8], j: usize, from: usize, n: usize) -> us
     ensures { (result ≤ step_bytes) × Alike a.now i b.now j result }
 {
     let mut k = from;
+    // no range: the end of the last piece is the answer, too
     while k + n <= STEP_BYTES {
         if !alike(a, i + k, b, j + k, n) {
             return k;
@@ -115,8 +115,7 @@ pub fn precedes(a: &[u8], i: usize, b: &[u8], j: usize) -> bool
     ensures { result ≡ comes_before (entry_from a.now i) (entry_from b.now j) }
 {
     let far = alike_to(a, i, b, j, 0, LONG_PIECE);
-    let mut k = alike_to(a, i, b, j, far, SHORT_PIECE);
-    while k < STEP_BYTES {
+    for k in alike_to(a, i, b, j, far, SHORT_PIECE)..STEP_BYTES {
         let x = a[i + k];
         let y = b[j + k];
         if x < y {
@@ -125,7 +124,6 @@ pub fn precedes(a: &[u8], i: usize, b: &[u8], j: usize) -> bool
         if y < x {
             return false;
         }
-        k += 1;
     }
     false
 }
@@ -161,9 +159,7 @@ fn move_up(list: &mut [u8], n: usize)
     requires { n + 1 ≤ length list.old }
     ensures { list.new ≡ sets list.old 1 (take n list.old) }
 {
-    let mut i = n;
-    while 0 < i {
-        i -= 1;
+    for i in (0..n).rev() {
         list[i + 1] = list[i];
     }
 }

@@ -1,5 +1,5 @@
 -- Two terms that stand in the same bytes and are one once their names are read: what the walk of both at once promises.
-use Rattle.std.specs.Prelude.{◌≡◌, Bool, true, List, [], ◌∷◌, ◌++◌, ℕ, zero, suc, ◌+◌, ◌*◌, ◌<◌, ◌≤◌, max, length, get_or, drop}
+use Rattle.std.specs.Prelude.{◌≡◌, Bool, true, List, [], ◌∷◌, ◌++◌, ℕ, zero, suc, ◌+◌, ◌*◌, ◌<◌, ◌≤◌, max, length, get_or, drop, Option, Some, None}
 use Rattle.calculus.specs.Cond.{Cond, ◌▷◌}
 use Rattle.calculus.specs.Term.{Term, ren}
 use Rattle.terms.specs.Encoding.{encode, InScope}
@@ -31,6 +31,15 @@ pub record Both (s : List ℕ) (p at : ℕ) (arities args : List ℕ) (inner dep
   pub stands : drop at s ≡ encode D P ++ rest
   pub more : List ℕ
   pub stands_too : drop p s ≡ encode D B ++ more
+
+-- The length that an answer says; where it says none, 0, which no term has.
+abbrev pub length_or_none : Option ℕ → ℕ
+length_or_none (Some n) = n
+length_or_none None = 0
+
+abbrev pub Positive : Option ℕ → Type 0
+Positive (Some n) = 0 < n
+Positive None = Unit {0}
 
 -- The length of the term at `at`, if the one at p is the same; 0 says nothing.
 pub record SameIs (s : List ℕ) (p at : ℕ) (arities args : List ℕ) (inner depth r : ℕ) : Type 0 where

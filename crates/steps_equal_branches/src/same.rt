@@ -4,7 +4,7 @@
 ghost use Rattle.std.specs.Prelude.{◌≡◌, true, ◌+◌, ◌-◌, ◌*◌, ◌≤◌, ◌<◌, length};
 ghost use Rattle.terms.specs.Limits.{name_count};
 ghost use Rattle.steps_conditions.specs.Slots.{slot_count, HasSlotClasses};
-ghost use Rattle.steps_equal_branches.specs.Same.{SameNames, SameFront, SameIs, ChainIs, chain, Equivalent, HoldsIs, SameBranchIs};
+ghost use Rattle.steps_equal_branches.specs.Same.{SameNames, SameFront, Positive, length_or_none, SameIs, ChainIs, chain, Equivalent, HoldsIs, SameBranchIs};
 
 use steps_conditions::condition::Condition;
 use steps_entries::listed::alike;
@@ -26,14 +26,12 @@ fn same_names(
     requires { (p + n ≤ length src.now) × (at + n ≤ length src.now) × (inner ≤ depth) × (name_count + depth ≤ slot_count) }
     ensures { result ≡ true → SameNames src.now args.now inner depth p at n }
 {
-    let mut j = 0;
-    while j < n {
+    for j in 0..n {
         let u = slot(src[p + j], args, inner, depth);
         let v = slot(src[at + j], args, inner, depth);
         if u != v {
             return false;
         }
-        j += 1;
     }
     true
 }
@@ -61,7 +59,7 @@ fn same_front(
     same_names(src, p + fixed, at + fixed, names, args, inner, depth)
 }
 
-// The length of the term at `at`, which stands beneath `inner` binders of these bytes and `depth` in all, if the term at `p` is the same; or 0.
+// The length of the term at `at`, which stands beneath `inner` binders of these bytes and `depth` in all, if the term at `p` is the same.
 fn same_term(
     src: &[u8],
     p: usize,
@@ -70,39 +68,34 @@ fn same_term(
     args: &[u8],
     inner: usize,
     depth: usize,
-) -> usize
+) -> Option<usize>
     requires { (p < at) × (inner ≤ depth) × (name_count + depth + (length src.now - at) ≤ slot_count) }
-    ensures { SameIs src.now p at arities.now args.now inner depth result }
+    ensures some { Positive result }
+    ensures is { SameIs src.now p at arities.now args.now inner depth (length_or_none result) }
 {
     if src.len() <= at {
-        return 0;
+        return None;
     }
     let h = shape_at(src, at, arities);
     let fixed = h.fixed;
     let names = h.names;
     let subterms = h.subterms;
     if !same_front(src, p, at, fixed, names, args, inner, depth) {
-        return 0;
+        return None;
     }
     let n = fixed + names;
     if subterms == 0 {
-        return n;
+        return Some(n);
     }
     let i = inner + h.binds;
     let d = depth + h.binds;
-    let e = same_term(src, p + n, at + n, arities, args, i, d);
-    if e == 0 {
-        return 0;
-    }
+    let e = same_term(src, p + n, at + n, arities, args, i, d)?;
     let m = n + e;
     if subterms == 1 {
-        return m;
+        return Some(m);
     }
-    let f = same_term(src, p + m, at + m, arities, args, i, d);
-    if f == 0 {
-        return 0;
-    }
-    m + f
+    let f = same_term(src, p + m, at + m, arities, args, i, d)?;
+    Some(m + f)
 }
 
 // The number of matches that stand one beneath the other from `at` on.
@@ -111,6 +104,7 @@ fn chain_length(src: &[u8], at: usize) -> usize
 {
     let mut n = 0;
     let mut q = at;
+    // A match's first byte is looked at only where the one above it is a match: `step_by` and `take_while` say it no shorter.
     while q < src.len() {
         if src[q] != MATCH {
             return n;
@@ -134,13 +128,11 @@ fn chain_condition(
     ensures { HasSlotClasses result.class (chain src.now args.now inner depth p n) }
 {
     let mut c = Condition::empty();
-    let mut j = 0;
-    while j < n {
+    for j in 0..n {
         let q = p + 3 * j;
         let u = slot(get(src, q + 1), args, inner, depth);
         let v = slot(get(src, q + 2), args, inner, depth);
         c = c.merge(u, v);
-        j += 1;
     }
     c
 }
@@ -159,15 +151,13 @@ fn chain_holds(
     ensures { result ≡ true → HoldsIs c.class src.now args.now inner depth p n }
 {
     let class = c.class;
-    let mut j = 0;
-    while j < n {
+    for j in 0..n {
         let q = p + 3 * j;
         let u = slot(get(src, q + 1), args, inner, depth);
         let v = slot(get(src, q + 2), args, inner, depth);
         if Condition::respects(&class, 0, u as usize, v as usize) {
             return false;
         }
-        j += 1;
     }
     true
 }
@@ -215,9 +205,9 @@ pub fn same_branch(
         return false;
     }
     // what stands beneath differs more often than the conditions, and takes less to compare
-    if same_term(src, behind, end, arities, args, inner, depth) == 0 {
+    let Some(k) = same_term(src, behind, end, arities, args, inner, depth) else {
         return false;
-    }
+    };
     if n == 0 {
         return m == 0;
     }

@@ -8,6 +8,7 @@ use native.Mathlib.Omega.{arith}
 use lib.ListN.{length, get_or}
 use lib.Dec.{ltb}
 use borrow.Author.Tests.{ltb-true, ltb-false}
+use Rattle.std.specs.Prelude.{Option, Some, None}
 use Rattle.calculus.specs.Term.{Term}
 use Rattle.terms.specs.Limits.{name_count}
 use Rattle.steps_conditions.specs.Labels.{Labels, CommunicationIs}
@@ -17,14 +18,16 @@ use Rattle.steps_conditions.specs.declared.action.Label.{Label}
 use Rattle.steps_tallies.proofs.Numbering.{length-communications, nth_communication}
 
 -- [Par] keeps the label.
-pub left_label : (d : ℕ) (r : Label) (Q : Term) (c : Candidate) → Labels d c r → Labels d (left_steps Q c) r
+pub left_label : (d : ℕ) (r : Option Label) (Q : Term) (c : Candidate) → Labels d c r → Labels d (left_steps Q c) r
 unfolding Labels left_steps
-left_label d r Q (step M α P) h = h
+left_label d (Some r) Q (step M α P) h = h
+left_label d None Q (step M α P) h = h
 left_label d r Q blocked h = h
 
-pub right_label : (d : ℕ) (r : Label) (P : Term) (c : Candidate) → Labels d c r → Labels d (right_steps P c) r
+pub right_label : (d : ℕ) (r : Option Label) (P : Term) (c : Candidate) → Labels d c r → Labels d (right_steps P c) r
 unfolding Labels right_steps
-right_label d r P (step M α Q) h = h
+right_label d (Some r) P (step M α Q) h = h
+right_label d None P (step M α Q) h = h
 right_label d r P blocked h = h
 
 below_product : (i m n : ℕ) → i < m * n → i / n < m
@@ -35,7 +38,7 @@ below_product i m n h = go (ltb (i / n) m) refl
     go false t = absurd (omega (arith, mul-le-mul_right n (ltb-false (i / n) m t), div-add-mod' i n))
 
 -- The number of a communication splits into the numbers of the two sides, of which the right one has n.
-pub label_met : (d : ℕ) (ss ts : List Candidate) (i n : ℕ) → n ≡ length ts → (n ≡ 0 → ⊥) → (p q r : Label) → name_count + d ≤ slot_count
+pub label_met : (d : ℕ) (ss ts : List Candidate) (i n : ℕ) → n ≡ length ts → (n ≡ 0 → ⊥) → (p q r : Option Label) → name_count + d ≤ slot_count
     → (i / n < length ss → Labels d (get_or ss (i / n) blocked) p) → (i % n < length ts → Labels d (get_or ts (i % n) blocked) q)
     → CommunicationIs p q r → i < length (communications ss ts) → Labels d (get_or (communications ss ts) i blocked) r
 label_met d ss ts i n same some p q r room L M C h =

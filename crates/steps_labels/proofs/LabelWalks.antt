@@ -13,7 +13,7 @@ use Rattle.terms.specs.Encoding.{name_byte, encode, NamesInScope, InScope}
 use Rattle.terms.specs.Limits.{name_count, longest_term}
 use Rattle.terms.specs.Question.{Question, check_of}
 use Rattle.terms_bytes.proofs.Stores.{get_d_front}
-use Rattle.steps_tallies.specs.Bodies.{BodyIs, OpeningIs}
+use Rattle.steps_tallies.specs.Bodies.{BodyIs, OpeningIs, Unopened}
 use Rattle.terms.specs.Question.{body_of}
 use Rattle.steps_conditions.specs.Labels.{input_on, new_output_on, action_of, ActionBelow, HeaderIs, Labels, MatchingIs, RestrictedIs, CommunicationIs}
 use Rattle.steps_labels.specs.LabelWalk.{slot_at, HasSlots, ArgumentsIs, prefix_action, PrefixLabelIs, Within, NthIs, MeetingIs}
@@ -24,10 +24,11 @@ use Rattle.steps_conditions.specs.Slots.{slot_count, HasSlotClasses, HasClasses,
 use Rattle.steps_tallies.specs.Tally.{visible_at, TallyIs}
 use Rattle.steps_tallies.specs.Tallying.{number_at}
 use Rattle.steps_conditions.specs.declared.action.Action.TheVariants.{Output}
+use Rattle.std.specs.Prelude.{Option, Some}
 use Rattle.steps_conditions.specs.declared.action.Label.{Label}
 use Rattle.steps_tallies.specs.declared.bodies.Opening.{Opening}
 use Rattle.steps_labels.proofs.ArgumentSlots.{slots_lift, slot_read, slots_call}
-use Rattle.steps_passing.proofs.CalledPasses.{params, at_call}
+use Rattle.steps_passing.proofs.CalledPasses.{at_closed, params, at_call}
 use Rattle.steps_tallies.proofs.CallLaws.{body_scope, opened-candidates}
 use Rattle.steps_tallies.proofs.CandidateForms.{candidates-mat, candidates-res, candidates_no_call, meetings, tag, tag_at, only_mat, only_res, only_two, only_prefix}
 use Rattle.steps_tallies.proofs.FrontLaws.{stands, behind}
@@ -76,20 +77,20 @@ module _ (body : ℕ → Term) (calls : ℕ) (σ : ℕ → ℕ) where
       (λ h. absurd (omega arith)) (λ P h. absurd (omega arith)) (λ a P h. (refl, λ z. omega arith)) (λ a b P h. (refl, λ z. omega arith)) (λ a P h. (refl, λ z. omega arith))
 
 module _ (question s : List ℕ) (at i : ℕ) (t : Bool) (args : List ℕ) (inner depth calls : ℕ) where
-  abbrev Shows : Question → (ℕ → ℕ) → Label → Term → Type 0
+  abbrev Shows : Question → (ℕ → ℕ) → Option Label → Term → Type 0
   Shows q σ r P =
       i < length (candidates t (body_of q.bodies) calls (ren σ P)) → Labels depth (get_or (candidates t (body_of q.bodies) calls (ren σ P)) i blocked) r
 
   -- what is to be shown of each form
-  abbrev Stands : Question → ℕ → ℕ → (ℕ → ℕ) → List ℕ → Label → Term → Type 0
+  abbrev Stands : Question → ℕ → ℕ → (ℕ → ℕ) → List ℕ → Option Label → Term → Type 0
   Stands q free D σ rest r P = InScope free q.arities D P → drop at s ≡ encode D P ++ rest → Shows q σ r P
 
   -- no term stands past the end
-  pub nth_none : (r : Label) → length s ≤ at → NthIs question s at i t args inner depth calls r
+  pub nth_none : (r : Option Label) → length s ≤ at → NthIs question s at i t args inner depth calls r
   nth_none r h = record { is = λ q free D σ own P rest ok few has scope st. let z = stands s at D P rest st in absurd (omega arith) }
 
   -- A rule with one premise keeps the number.
-  by_rule : (cs ds : List Candidate) (f : Candidate → Candidate) (d : ℕ) (p r : Label) → ds ≡ map f cs → get_or (map f cs) i blocked ≡ f (get_or cs i blocked)
+  by_rule : (cs ds : List Candidate) (f : Candidate → Candidate) (d : ℕ) (p r : Option Label) → ds ≡ map f cs → get_or (map f cs) i blocked ≡ f (get_or cs i blocked)
       → ((c : Candidate) → Labels d c p → Labels depth (f c) r) → (i < length cs → Labels d (get_or cs i blocked) p) → i < length ds → Labels depth (get_or ds i blocked) r
   by_rule cs ds f d p r e nth rule L h =
       subst (λ (c : Candidate). Labels depth c r) (sym (ap (λ (l : List Candidate). get_or l i blocked) e ∙ nth))
@@ -126,7 +127,7 @@ module _ (question s : List ℕ) (at i : ℕ) (t : Bool) (args : List ℕ) (inne
         (ap new_output_on u.0, u.1))
         P small scope st nz
 
-    pub nth_prefix : NthIs question s at i t args inner depth calls r
+    pub nth_prefix : NthIs question s at i t args inner depth calls (Some r)
     unfolding HasClasses HasSlotClasses Below Labels
     nth_prefix = record {
       is = λ q free D σ own P rest ok few has scope st h.
@@ -135,18 +136,17 @@ module _ (question s : List ℕ) (at i : ℕ) (t : Bool) (args : List ℕ) (inne
           let w = doing free D σ P rest q.arities (omega arith) few has scope st nz in
           let z : i ≡ 0 = omega (arith, ap length one) in
           let H : HeaderIs depth [] (act (ren σ P)) r = record {
-            found = F.found;
             classes = F.classes;
             action = F.action ∙ ap (λ (n : ℕ). prefix_action n a b) k ∙ w.0;
             below = tt;
             names = w.1;
           } in
-          subst (λ (c : Candidate). Labels depth c r)
+          subst (λ (c : Candidate). Labels depth c (Some r))
           (sym (ap (λ (n : ℕ). get_or (candidates t (body_of q.bodies) calls (ren σ P)) n blocked) z ∙ ap (λ (l : List Candidate). get_or l 0 blocked) one)) H;
     }
 
   -- [Match]
-  pub nth_mat : get_or s at 0 ≡ 5 → (p r : Label) (a b : ℕ) → a ≡ slot_at args inner depth (get_or s (at + 1) 0) → b ≡ slot_at args inner depth (get_or s (at + 2) 0)
+  pub nth_mat : get_or s at 0 ≡ 5 → (p r : Option Label) (a b : ℕ) → a ≡ slot_at args inner depth (get_or s (at + 1) 0) → b ≡ slot_at args inner depth (get_or s (at + 2) 0)
       → NthIs question s (at + 3) i t args inner depth calls p → MatchingIs p a b r → NthIs question s at i t args inner depth calls r
   unfolding InScope encode
   nth_mat g p r a b ea eb N M = record {
@@ -163,7 +163,7 @@ module _ (question s : List ℕ) (at i : ℕ) (t : Bool) (args : List ℕ) (inne
   }
 
   -- [Res] and [Open]
-  pub nth_res : get_or s at 0 ≡ 8 → (p r : Label) → NthIs question s (at + 1) i t args (inner + 1) (depth + 1) calls p → RestrictedIs p depth r
+  pub nth_res : get_or s at 0 ≡ 8 → (p r : Option Label) → NthIs question s (at + 1) i t args (inner + 1) (depth + 1) calls p → RestrictedIs p depth r
       → NthIs question s at i t args inner depth calls r
   unfolding InScope encode
   nth_res g p r N R = record {
@@ -195,9 +195,9 @@ module _ (question s : List ℕ) (at i : ℕ) (t : Bool) (args : List ℕ) (inne
       snd : Candidate → Candidate
       more : List Candidate
       sides : Sides fst snd cs (candidates t (body_of q.bodies) calls (ren σ P)) (candidates t (body_of q.bodies) calls (ren σ Q)) more
-      keeps_fst : (r : Label) (c : Candidate) → Labels depth c r → Labels depth (fst c) r
-      keeps_snd : (r : Label) (c : Candidate) → Labels depth c r → Labels depth (snd c) r
-      meets : (r : Label) (j : ℕ) → (j < length (coms q σ P Q) → Labels depth (get_or (coms q σ P Q) j blocked) r) → j < length more → Labels depth (get_or more j blocked) r
+      keeps_fst : (r : Option Label) (c : Candidate) → Labels depth c r → Labels depth (fst c) r
+      keeps_snd : (r : Option Label) (c : Candidate) → Labels depth c r → Labels depth (snd c) r
+      meets : (r : Option Label) (j : ℕ) → (j < length (coms q σ P Q) → Labels depth (get_or (coms q σ P Q) j blocked) r) → j < length more → Labels depth (get_or more j blocked) r
 
     formed_sum : (q : Question) (σ : ℕ → ℕ) (P Q : Term) → Formed q σ P Q (candidates t (body_of q.bodies) calls (sum (ren σ P) (ren σ Q)))
     formed_sum q σ P Q = record {
@@ -222,7 +222,7 @@ module _ (question s : List ℕ) (at i : ℕ) (t : Bool) (args : List ℕ) (inne
       meets = go t;
     }
       where
-        go : (u : Bool) (r : Label) (j : ℕ) → (j < length (coms q σ P Q) → Labels depth (get_or (coms q σ P Q) j blocked) r)
+        go : (u : Bool) (r : Option Label) (j : ℕ) → (j < length (coms q σ P Q) → Labels depth (get_or (coms q σ P Q) j blocked) r)
             → j < length (meetings (body_of q.bodies) u calls (ren σ P) (ren σ Q))
             → Labels depth (get_or (meetings (body_of q.bodies) u calls (ren σ P) (ren σ Q)) j blocked) r
         go true r j f h = f h
@@ -251,7 +251,7 @@ module _ (question s : List ℕ) (at i : ℕ) (t : Bool) (args : List ℕ) (inne
         }
 
     -- To show something of the label, show it from what is known of the sides.
-    by_sides : (r : Label)
+    by_sides : (r : Option Label)
         → ((q : Question) (free D : ℕ) (σ : ℕ → ℕ) → OwnNamesIf calls σ → (P Q : Term) (rest : List ℕ) (cs : List Candidate) → check_of question ≡ result q → free ≤ name_count
         → HasSlots free D args inner depth σ → Formed q σ P Q cs → Placed q free D σ P Q rest → i < length cs → Labels depth (get_or cs i blocked) r)
         → NthIs question s at i t args inner depth calls r
@@ -265,14 +265,14 @@ module _ (question s : List ℕ) (at i : ℕ) (t : Bool) (args : List ℕ) (inne
           P (omega arith) (omega arith) scope st;
     }
 
-    pub nth_left : i < lefts → (r : Label) → NthIs question s (at + 1) i t args inner depth calls r → NthIs question s at i t args inner depth calls r
+    pub nth_left : i < lefts → (r : Option Label) → NthIs question s (at + 1) i t args inner depth calls r → NthIs question s at i t args inner depth calls r
     nth_left h r N = by_sides r (λ q free D σ own P Q rest cs ok few has F B m.
         let n = B.number_fst in
         let k : i < length (candidates t (body_of q.bodies) calls (ren σ P)) = omega arith in
         subst (λ (c : Candidate). Labels depth c r) (sym (F.sides.first i k))
         (F.keeps_fst r _ (N.is q free D σ own P (encode D Q ++ rest) ok few has B.scope_fst B.at_fst k)))
 
-    module _ (past : lefts ≤ i) (r : Label) where
+    module _ (past : lefts ≤ i) (r : Option Label) where
       pub nth_right : i - lefts < rights → NthIs question s middle (i - lefts) t args inner depth calls r → NthIs question s at i t args inner depth calls r
       nth_right h N = by_sides r (λ q free D σ own P Q rest cs ok few has F B m.
           let n = B.number_fst in
@@ -293,7 +293,7 @@ module _ (question s : List ℕ) (at i : ℕ) (t : Bool) (args : List ℕ) (inne
           (omega (arith, F.sides.len))))
 
   -- [Con]
-  module _ (g : 8 < get_or s at 0) (o : Opening) (O : OpeningIs question s at calls o) (r : Label) where
+  module _ (g : 8 < get_or s at 0) (o : Opening) (O : OpeningIs question s at calls o) (r : Option Label) where
     calling : ((q : Question) (free D : ℕ) (σ : ℕ → ℕ) → OwnNamesIf calls σ → (xs rest : List ℕ) → check_of question ≡ result q → free ≤ name_count → HasSlots free D args inner depth σ
         → o.arity ≡ length xs → o.arity ≡ get_or q.arities o.definition 0 → o.definition < length q.arities → NamesInScope free D xs
         → drop (at + 2) s ≡ map (name_byte D) xs ++ rest → Shows q σ r (call o.definition xs))
@@ -303,13 +303,6 @@ module _ (question s : List ℕ) (at i : ℕ) (t : Bool) (args : List ℕ) (inne
           at_call question s at D calls t i g o.definition o.arity O.definition O.arity (Shows q σ r) q free P rest ok scope st
           (λ xs m a k names st. f q free D σ own xs rest ok few has m a k names st);
     }
-
-    -- no call is left to open, or the question is not accepted
-    pub nth_closed : o.allowed ≡ false → NthIs question s at i t args inner depth calls r
-    nth_closed z = calling (λ q free D σ own xs rest ok few has m a k names st h.
-        let none = ap (λ (c : ℕ). candidates t (body_of q.bodies) c (call o.definition (map σ xs))) (O.not z q ok k)
-        ∙ candidates_no_call (body_of q.bodies) t o.definition (map σ xs) in
-        absurd (omega (arith, ap length none)))
 
     -- the call's names do not all stand there
     pub nth_cut : length s < o.end → NthIs question s at i t args inner depth calls r
@@ -333,8 +326,20 @@ module _ (question s : List ℕ) (at i : ℕ) (t : Bool) (args : List ℕ) (inne
         (subst (λ (n : ℕ). InScope 0 q.arities n (body o.definition)) (sym a) (body_scope question q ok o.definition))
         (B.is q ok k ∙ ap (λ (n : ℕ). encode n (body o.definition)) (sym a) ∙ sym (append-nil (encode n (body o.definition))))))
 
+  -- no call is left to open, or the question is not accepted
+  pub nth_closed : 8 < get_or s at 0 → Unopened question s at calls → (r : Option Label) → NthIs question s at i t args inner depth calls r
+  nth_closed g U r = record {
+    is = λ q free D σ own P rest ok few has scope st.
+        at_closed question s at D calls t i g U (Shows q σ r) q free P rest ok scope st
+        (λ xs z h.
+        let k = get_or s (at + 1) 0 in
+        let none = ap (λ (c : ℕ). candidates t (body_of q.bodies) c (call k (map σ xs))) z
+        ∙ candidates_no_call (body_of q.bodies) t k (map σ xs) in
+        absurd (omega (arith, ap length none)));
+  }
+
 -- The communications of two terms, of which the right one has n visible candidates.
-module _ (question s : List ℕ) (at middle i : ℕ) (args : List ℕ) (inner depth calls : ℕ) (numbers : List ℕ) (T : TallyIs question s calls numbers) (r : Label) (n : ℕ)
+module _ (question s : List ℕ) (at middle i : ℕ) (args : List ℕ) (inner depth calls : ℕ) (numbers : List ℕ) (T : TallyIs question s calls numbers) (r : Option Label) (n : ℕ)
     (N : n ≡ visible_at numbers middle) where
   many_right : (q : Question) (free D : ℕ) (σ : ℕ → ℕ) → OwnNamesIf calls σ → (Q : Term) (rest : List ℕ) → check_of question ≡ result q → InScope free q.arities D Q
       → drop middle s ≡ encode D Q ++ rest → n ≡ length (visible (body_of q.bodies) calls (ren σ Q))
@@ -349,7 +354,7 @@ module _ (question s : List ℕ) (at middle i : ℕ) (args : List ℕ) (inner de
         absurd (omega (arith, length-communications ps qs, ap (λ (k : ℕ). length ps * k) e, mul-zero (length ps)));
   }
 
-  pub meet-both : (n ≡ 0 → ⊥) → name_count + depth ≤ slot_count → (p m : Label) → NthIs question s (at + 1) (i / n) false args inner depth calls p
+  pub meet-both : (n ≡ 0 → ⊥) → name_count + depth ≤ slot_count → (p m : Option Label) → NthIs question s (at + 1) (i / n) false args inner depth calls p
       → NthIs question s middle (i % n) false args inner depth calls m → CommunicationIs p m r → MeetingIs question s at middle i args inner depth calls r
   unfolding candidates
   meet-both z room p m X Y K = record {

@@ -9,6 +9,7 @@ use lib.Dec.{eqb, ltb}
 use lib.ListN.{length, get_or}
 use Rattle.steps_conditions.specs.Labels.{MatchingIs, RestrictedIs}
 use Rattle.steps_labels.specs.LabelWalk.{slot_at, RestrictionsIs, LeavesIs, past_of, OutsideOfIs, NthIs}
+use Rattle.std.specs.Prelude.{Option}
 use Rattle.steps_conditions.specs.declared.action.Label.{Label}
 use Rattle.steps_labels.proofs.LabelWalks.{nth_mat, nth_res}
 
@@ -43,23 +44,23 @@ run_none : (s : List ℕ) (at k : ℕ) → RestrictionsIs s at k → k ≡ 0 →
 run_none s at k R z h g = let m : at + k ≡ at = omega arith in R.ended (omega arith) (ap (λ (m : ℕ). get_or s m 0) m ∙ g)
 
 -- Of `count` restrictions from `depth` on all but `left` are left.
-pub record Leaving (label : Label) (depth count left : ℕ) (r : Label) : Type 0 where
+pub record Leaving (label : Option Label) (depth count left : ℕ) (r : Option Label) : Type 0 where
   pub is : (question s : List ℕ) (at i : ℕ) (silently : Bool) (args : List ℕ) (inner calls : ℕ)
       → ((j : ℕ) → j < count → get_or s (at + j) 0 ≡ 8)
       → NthIs question s (at + count) i silently args (inner + count) (depth + count) calls label
       → NthIs question s (at + left) i silently args (inner + left) (depth + left) calls r
 
-pub leaving_none : (label : Label) (depth count : ℕ) → Leaving label depth count count label
+pub leaving_none : (label : Option Label) (depth count : ℕ) → Leaving label depth count count label
 leaving_none label depth count = record { is = λ question s at i t args inner calls are N. N }
 
 -- The same place, restrictions and depth by other sums.
-moved : (question s : List ℕ) (i : ℕ) (t : Bool) (args : List ℕ) (calls : ℕ) (r : Label) (a b c x y z : ℕ) → a ≡ x → b ≡ y → c ≡ z
+moved : (question s : List ℕ) (i : ℕ) (t : Bool) (args : List ℕ) (calls : ℕ) (r : Option Label) (a b c x y z : ℕ) → a ≡ x → b ≡ y → c ≡ z
     → NthIs question s a i t args b c calls r → NthIs question s x i t args y z calls r
 moved question s i t args calls r a b c x y z p q w N =
     subst (λ (k : ℕ). NthIs question s x i t args y k calls r) w (subst (λ (k : ℕ). NthIs question s x i t args k c calls r) q
     (subst (λ (k : ℕ). NthIs question s k i t args b c calls r) p N))
 
-pub leaving_one : (label : Label) (depth count left m : ℕ) (p r : Label) → m + 1 ≡ left → left ≤ count → Leaving label depth count left p
+pub leaving_one : (label : Option Label) (depth count left m : ℕ) (p r : Option Label) → m + 1 ≡ left → left ≤ count → Leaving label depth count left p
     → RestrictedIs p (depth + m) r → Leaving label depth count m r
 leaving_one label depth count left m p r e l L R = record {
   is = λ question s at i t args inner calls are N.
@@ -68,7 +69,7 @@ leaving_one label depth count left m p r e l L R = record {
       (L.is question s at i t args inner calls are N)) R;
 }
 
-pub leaving_all : (label : Label) (depth count left : ℕ) (r : Label) → left ≤ 0 → Leaving label depth count left r → LeavesIs label depth count r
+pub leaving_all : (label : Option Label) (depth count left : ℕ) (r : Option Label) → left ≤ 0 → Leaving label depth count left r → LeavesIs label depth count r
 leaving_all label depth count left r z L = record {
   is = λ question s at i t args inner calls are N.
       moved question s i t args calls r (at + left) (inner + left) (depth + left) at inner depth (omega arith) (omega arith) (omega arith)
@@ -123,7 +124,7 @@ past_over s at k R = go (ltb 0 k) refl
     go true e = omega (arith, past_run (get_or s at 0) k (first s at k R.are (ltb-true 0 k e)))
     go false e = omega (arith, ltb-false 0 k e)
 
-module _ (s : List ℕ) (at count : ℕ) (args : List ℕ) (inner depth : ℕ) (p r : Label) where
+module _ (s : List ℕ) (at count : ℕ) (args : List ℕ) (inner depth : ℕ) (p r : Option Label) where
   pub outside-match : count ≡ 0 → (a b : ℕ) → a ≡ slot_at args inner depth (get_or s (at + 1) 0) → b ≡ slot_at args inner depth (get_or s (at + 2) 0) → MatchingIs p a b r
       → OutsideOfIs s at count args inner depth p r
   outside-match z a b ea eb M = record {

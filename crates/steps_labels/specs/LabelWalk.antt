@@ -1,6 +1,6 @@
 -- The label of a candidate by its number, over the bytes of a term: what the functions that walk them promise. The term is `ren σ P`, where P is
 -- what the bytes at hand code: in a called body σ puts the call's names for the parameters.
-use Rattle.std.specs.Prelude.{◌≡◌, Bool, cond, List, ◌++◌, ℕ, ◌+◌, ◌-◌, ◌*◌, ◌<◌, ◌≤◌, max, length, get_or, drop, eqb, ltb}
+use Rattle.std.specs.Prelude.{◌≡◌, Option, Some, None, Bool, cond, List, ◌++◌, ℕ, ◌+◌, ◌-◌, ◌*◌, ◌<◌, ◌≤◌, max, length, get_or, drop, eqb, ltb}
 use Rattle.calculus.specs.Term.{Term, ren}
 use Rattle.terms.specs.Answer.{result}
 use Rattle.terms.specs.Encoding.{name_byte, encode, InScope}
@@ -50,7 +50,7 @@ pub record Within (s : List ℕ) (at inner depth calls : ℕ) : Type 0 where
   pub room : name_count + depth + (length s - at) + longest_term * calls ≤ slot_count
 
 -- The i-th candidate, silent or visible, of the term at `at`. Nothing is said of numbers past the last.
-pub record NthIs (question s : List ℕ) (at i : ℕ) (silently : Bool) (args : List ℕ) (inner depth calls : ℕ) (r : Label) : Type 0 where
+pub record NthIs (question s : List ℕ) (at i : ℕ) (silently : Bool) (args : List ℕ) (inner depth calls : ℕ) (r : Option Label) : Type 0 where
   pub is : (q : Question) (free D : ℕ) (σ : ℕ → ℕ) → OwnNamesIf calls σ → (P : Term) (rest : List ℕ)
       → check_of question ≡ result q
       → free ≤ name_count
@@ -61,7 +61,7 @@ pub record NthIs (question s : List ℕ) (at i : ℕ) (silently : Bool) (args : 
       → Labels depth (get_or (candidates silently (body_of q.bodies) calls (ren σ P)) i blocked) r
 
 -- The i-th communication of the term that stands behind `at` and the one that stands at `middle`.
-pub record MeetingIs (question s : List ℕ) (at middle i : ℕ) (args : List ℕ) (inner depth calls : ℕ) (r : Label) : Type 0 where
+pub record MeetingIs (question s : List ℕ) (at middle i : ℕ) (args : List ℕ) (inner depth calls : ℕ) (r : Option Label) : Type 0 where
   pub is : (q : Question) (free D : ℕ) (σ : ℕ → ℕ) → OwnNamesIf calls σ → (P Q : Term) (rest more : List ℕ)
       → check_of question ≡ result q
       → free ≤ name_count
@@ -76,22 +76,22 @@ pub record MeetingIs (question s : List ℕ) (at middle i : ℕ) (args : List �
 -- The label of the candidate of this number of the term at `at` is that of the other number of the term at b.
 unfoldable pub Leads : (s t : List ℕ) (at number : ℕ) (silently : Bool) (b n : ℕ) → Type 0
 Leads s t at number silently b n =
-    (question args : List ℕ) (inner depth calls : ℕ) (r : Label) → TallyIs question s calls t
+    (question args : List ℕ) (inner depth calls : ℕ) (r : Option Label) → TallyIs question s calls t
     → NthIs question s b n silently args inner depth calls r
     → NthIs question s at number silently args inner depth calls r
 
 -- the answer that the code builds for one term
 abbrev pub single_origin : ℕ → ℕ → Origin
-single_origin at number = record { at = at; number = number; middle = 0 }
+single_origin at number = record { at = at; number = number; middle = None }
 
 -- Where the candidate of this number is found beneath choices and parallels: at one term, or among the communications of a parallel.
 pub record OriginIs (s t : List ℕ) (at number : ℕ) (silently : Bool) (r : Origin) : Type 0 where
   pub on : at ≤ r.at
-  pub one : r.middle ≡ 0 → r.at < length s → 5 < get_or s r.at 0 → get_or s r.at 0 < 8 → ⊥
-  pub is : r.middle ≡ 0 → Leads s t at number silently r.at r.number
-  pub inside : 0 < r.middle → (r.at < length s) × (r.at < r.middle)
-  pub met : 0 < r.middle → (question args : List ℕ) (inner depth calls : ℕ) (l : Label) → TallyIs question s calls t
-      → MeetingIs question s r.at r.middle r.number args inner depth calls l
+  pub one : r.middle ≡ None → r.at < length s → 5 < get_or s r.at 0 → get_or s r.at 0 < 8 → ⊥
+  pub is : r.middle ≡ None → Leads s t at number silently r.at r.number
+  pub inside : (m : ℕ) → r.middle ≡ Some m → (r.at < length s) × (r.at < m)
+  pub met : (m : ℕ) → r.middle ≡ Some m → (question args : List ℕ) (inner depth calls : ℕ) (l : Option Label) → TallyIs question s calls t
+      → MeetingIs question s r.at m r.number args inner depth calls l
       → NthIs question s at number silently args inner depth calls l
 
 -- So many restrictions stand at `at` one within the other, and no other beneath them.
@@ -101,7 +101,7 @@ pub record RestrictionsIs (s : List ℕ) (at r : ℕ) : Type 0 where
   pub ended : at + r < length s → get_or s (at + r) 0 ≡ 8 → ⊥
 
 -- [Res] and [Open], once for each of `count` restrictions from `depth` on: from a label beneath them to one outside them.
-pub record LeavesIs (label : Label) (depth count : ℕ) (r : Label) : Type 0 where
+pub record LeavesIs (label : Option Label) (depth count : ℕ) (r : Option Label) : Type 0 where
   pub is : (question s : List ℕ) (at i : ℕ) (silently : Bool) (args : List ℕ) (inner calls : ℕ)
       → ((j : ℕ) → j < count → get_or s (at + j) 0 ≡ 8)
       → NthIs question s (at + count) i silently args (inner + count) (depth + count) calls label
@@ -112,7 +112,7 @@ unfoldable pub past_of : ℕ → ℕ → ℕ
 past_of t count = cond (eqb t 5) 3 count
 
 -- [Match], or [Res] and [Open] for each of `count` restrictions at `at`: from a label beneath to one outside.
-pub record OutsideOfIs (s : List ℕ) (at count : ℕ) (args : List ℕ) (inner depth : ℕ) (label r : Label) : Type 0 where
+pub record OutsideOfIs (s : List ℕ) (at count : ℕ) (args : List ℕ) (inner depth : ℕ) (label r : Option Label) : Type 0 where
   pub is : (question : List ℕ) (i : ℕ) (silently : Bool) (calls : ℕ)
       → (past_of (get_or s at 0) count ≡ 0 → ⊥)
       → ((j : ℕ) → j < count → get_or s (at + j) 0 ≡ 8)

@@ -53,11 +53,9 @@ pub fn arguments(
     ensures { ArgumentsIs src.now at count args.now inner depth result }
 {
     let mut slots = [0u8; GREATEST_ARITY];
-    let mut j = 0;
-    while j < count {
+    for j in 0..count {
         let v = slot(src[at + (count - 1 - j)], args, inner, depth);
         slots[j] = v;
-        j += 1;
     }
     slots
 }
@@ -93,25 +91,21 @@ fn nth_prefix(src: &[u8], at: usize, args: &[u8], inner: usize, depth: usize) ->
 pub fn restrictions_at(src: &[u8], at: usize) -> usize
     ensures { RestrictionsIs src.now at result }
 {
-    let mut k = at;
-    while k < src.len() {
+    for k in at..src.len() {
         if src[k] != RESTRICTION {
             return k - at;
         }
-        k += 1;
     }
-    k - at
+    src.len().saturating_sub(at)
 }
 
 // The restrictions at `depth` and above it, `count` in all, are left from within.
-fn leave(label: Label, depth: usize, count: usize) -> Label
+fn leave(label: Option<Label>, depth: usize, count: usize) -> Option<Label>
     requires { name_count + depth + count ≤ slot_count }
     ensures { LeavesIs label depth count result }
 {
     let mut out = label;
-    let mut left = count;
-    while 0 < left {
-        left -= 1;
+    for left in (0..count).rev() {
         out = restricted(out, depth + left);
     }
     out
@@ -129,14 +123,14 @@ fn past(t: u8, count: usize) -> usize
 
 // The label outside the `count` restrictions at `at`, or outside the match there if there are none.
 fn outside_of(
-    label: Label,
+    label: Option<Label>,
     src: &[u8],
     at: usize,
     count: usize,
     args: &[u8],
     inner: usize,
     depth: usize,
-) -> Label
+) -> Option<Label>
     requires { (inner ≤ depth) × (at < length src.now) × (name_count + depth + count ≤ slot_count) }
     ensures { OutsideOfIs src.now at count args.now inner depth label result }
 {
@@ -148,13 +142,13 @@ fn outside_of(
     leave(label, depth, count)
 }
 
-// Where a candidate is found beneath choices and parallels, and its number there: at a term of another form, or, where `middle` is not 0, among the
-// communications of the parallel whose right side stands at `middle`.
+// Where a candidate is found beneath choices and parallels, and its number there: at a term of another form, or among the communications of a
+// parallel, whose right side stands at `middle`.
 #[derive(Clone, Copy)]
 pub struct Origin {
     pub at: usize,
     pub number: usize,
-    pub middle: usize,
+    pub middle: Option<usize>,
 }
 
 // At the one term at `at`.
@@ -164,7 +158,7 @@ fn single(at: usize, number: usize) -> Origin
     Origin {
         at,
         number,
-        middle: 0,
+        middle: None,
     }
 }
 
@@ -176,6 +170,7 @@ fn origin_of(src: &[u8], tally: &[u32], at: usize, i: usize, silent: bool) -> Or
 {
     let mut b = at;
     let mut n = i;
+    // no range: where the walk goes on is computed each turn
     while b < src.len() {
         let t = src[b];
         if t < CHOICE {
@@ -195,7 +190,7 @@ fn origin_of(src: &[u8], tally: &[u32], at: usize, i: usize, silent: bool) -> Or
                 return Origin {
                     at: b,
                     number: n - right,
-                    middle,
+                    middle: Some(middle),
                 };
             }
             b = middle;
@@ -216,28 +211,20 @@ fn nth_meeting(
     middle: usize,
     i: usize,
     args: &[u8],
-) -> Label
+) -> Option<Label>
     requires { (scope.at < length src.now) × (scope.at < middle) × Within src.now scope.at scope.inner scope.depth scope.calls × TallyIs question.now src.now scope.calls tally.now × BodiesTallied question.now bodies.now }
     ensures { MeetingIs question.now src.now scope.at middle i args.now scope.inner scope.depth scope.calls result }
 {
     let n = visible_at(tally, middle);
     if n == 0 {
-        return Label::blocked();
+        return None;
     }
-    let at = scope.at;
-    let next = at + 1;
-    let left = Scope {
-        at: next,
-        inner: scope.inner,
-        depth: scope.depth,
-        calls: scope.calls,
-    };
+    let next = scope.at + 1;
+    let left = Scope { at: next, ..scope };
     let p = nth(question, bodies, src, tally, left, i / n, false, args);
     let right = Scope {
         at: middle,
-        inner: scope.inner,
-        depth: scope.depth,
-        calls: scope.calls,
+        ..scope
     };
     let q = nth(question, bodies, src, tally, right, i % n, false, args);
     communication(p, q)
@@ -253,19 +240,16 @@ fn nth_call(
     i: usize,
     silent: bool,
     args: &[u8],
-) -> Label
+) -> Option<Label>
     requires { (scope.at < length src.now) × (8 < get_or src.now scope.at 0) × Within src.now scope.at scope.inner scope.depth scope.calls × BodiesTallied question.now bodies.now }
     ensures { NthIs question.now src.now scope.at i silent args.now scope.inner scope.depth scope.calls result }
 {
     let at = scope.at;
     let depth = scope.depth;
     let calls = scope.calls;
-    let o = call_at(question, bodies, src, at, calls);
-    if !o.allowed {
-        return Label::blocked();
-    }
+    let o = call_at(question, bodies, src, at, calls)?;
     if src.len() < o.end {
-        return Label::blocked();
+        return None;
     }
     let given = arguments(src, at + 2, o.arity, args, scope.inner, depth);
     let body = body_at(question, o.place);
@@ -291,7 +275,7 @@ pub fn nth(
     i: usize,
     silent: bool,
     args: &[u8],
-) -> Label
+) -> Option<Label>
     requires { Within src.now scope.at scope.inner scope.depth scope.calls × TallyIs question.now src.now scope.calls tally.now × BodiesTallied question.now bodies.now }
     ensures { NthIs question.now src.now scope.at i silent args.now scope.inner scope.depth scope.calls result }
 {
@@ -301,22 +285,16 @@ pub fn nth(
     let p = origin_of(src, tally, scope.at, i, silent);
     let b = p.at;
     let n = p.number;
-    let middle = p.middle;
-    let found = Scope {
-        at: b,
-        inner,
-        depth,
-        calls,
-    };
-    if 0 < middle {
+    let found = Scope { at: b, ..scope };
+    if let Some(middle) = p.middle {
         return nth_meeting(question, bodies, src, tally, found, middle, n, args);
     }
     if src.len() <= b {
-        return Label::blocked();
+        return None;
     }
     let t = src[b];
     if t < MATCH {
-        return nth_prefix(src, b, args, inner, depth);
+        return Some(nth_prefix(src, b, args, inner, depth));
     }
     if RESTRICTION < t {
         return nth_call(question, bodies, src, found, n, silent, args);

@@ -33,34 +33,35 @@ use Rattle.terms_converting.proofs.FittingLaws.{made-refused}
 use Rattle.terms.proofs.WellFormed.{PartAllowed, accepted_well_formed, framable}
 use Rattle.steps_tallies.specs.Bodies.{AritiesIs}
 use Rattle.steps.proofs.QuestionDefinitions.{definitions}
-use Rattle.steps_lister.specs.Answering.{steps_answer, DoesList, side_term, SideIs, ListsInto}
+use Rattle.steps_lister.specs.Answering.{steps_answer, count_told, DoesList, side_term, SideIs, ListsInto}
 use Rattle.steps.specs.Limits.{most_steps, step_bytes}
 use Rattle.steps.specs.Listing.{Listing, unsettled, listed, steps_of}
 use Rattle.steps.specs.Operations.{side_of, is_new, list_of, list_bytes, area_after}
 use Rattle.steps_lister.specs.PartLister.{AnswersListing, ListPartIs}
-use Rattle.steps_lister.specs.declared.list.ListAnswer.{ListAnswer}
-use Rattle.steps_lister.specs.declared.list.ListAnswer.TheVariants as part
-use Rattle.steps_lister.specs.declared.operation.StepsAnswer.{StepsAnswer}
-use Rattle.steps_lister.specs.declared.operation.StepsAnswer.TheVariants.{Refused, Unsettled, Count}
+use Rattle.std.specs.Prelude.{Option, Some, None}
+use Rattle.std.specs.Prelude.{Result, Ok, Err}
+use Rattle.terms_bytes.specs.Refusals.{number_of}
+use Rattle.terms_bytes.specs.declared.answer.Refusal.{Refusal}
+use Rattle.terms_bytes.specs.declared.answer.Refusal.TheVariants.{ListedSide, ResultArea}
 use Rattle.steps.proofs.ListedIffDerived.{steps-length, side_allowed}
 
 -- The list of a part, made in an area of its own, and copied.
 module _ (question bytes : List ℕ) (x : ℕ) (own' area : List ℕ) (space : most_steps * step_bytes ≤ length area) where
-  pub into_unsettled : (a : ListAnswer) → a ≡ part.Unsettled → ListPartIs question bytes x a own' → ListsInto question bytes x area Unsettled area
-  unfolding ListsInto AnswersListing steps_answer area_after
+  pub into_unsettled : (a : Option ℕ) → a ≡ None → ListPartIs question bytes x a own' → ListsInto question bytes x area None area
+  unfolding ListsInto AnswersListing steps_answer count_told area_after
   into_unsettled a e p q P l new = go (steps_of q.bodies x P) (subst (λ c. AnswersListing (steps_of q.bodies x P) c own') e (p.is q P l new))
     where
-      go : (r : Listing) → AnswersListing r part.Unsettled own' → DoesList (result r) area Unsettled area
+      go : (r : Listing) → AnswersListing r None own' → DoesList (result r) area (Ok None) area
       go unsettled a = record { answer = refl; left = refl }
       go (listed ss) a = let e = a.0 in let z : ◌≡◌ {A = ℕ} 0 1 = cc in absurd (omega arith)
 
-  pub into_count : (n : ℕ) (a : ListAnswer) → a ≡ part.Count n → ListPartIs question bytes x a own' → (area' : List ℕ)
-      → area' ≡ sets area 0 (take (n * step_bytes) own') → ListsInto question bytes x area (Count n) area'
-  unfolding ListsInto AnswersListing steps_answer area_after definitions
+  pub into_count : (n : ℕ) (a : Option ℕ) → a ≡ Some n → ListPartIs question bytes x a own' → (area' : List ℕ)
+      → area' ≡ sets area 0 (take (n * step_bytes) own') → ListsInto question bytes x area (Some n) area'
+  unfolding ListsInto AnswersListing steps_answer count_told area_after definitions
   into_count n a c p area' e q P l new =
       go (steps_of q.bodies x P) refl (subst (λ c. AnswersListing (steps_of q.bodies x P) c own') c (p.is q P l new))
     where
-      go : (r : Listing) → steps_of q.bodies x P ≡ r → AnswersListing r (part.Count n) own' → DoesList (result r) area (Count n) area'
+      go : (r : Listing) → steps_of q.bodies x P ≡ r → AnswersListing r (Some n) own' → DoesList (result r) area (Ok (Some n)) area'
       go unsettled s a = let z : ◌≡◌ {A = ℕ} 0 1 = cc in absurd (omega arith)
       go (listed ss) s (m, w) =
           let d : n ≡ length ss = cc in
@@ -71,7 +72,7 @@ module _ (question bytes : List ℕ) (x : ℕ) (own' area : List ℕ) (space : m
           let number : n * step_bytes ≡ length ss * step_bytes = ap (λ k. k * step_bytes) d in
           let copied : take (n * step_bytes) own' ≡ list_bytes ss = ap (λ k. take k own') number ∙ w in
           record {
-            answer = ap Count d;
+            answer = ap (λ k. result (Some k)) d;
             left =
                 e
                 ∙ ap (sets area 0) copied
@@ -124,14 +125,14 @@ question_refused : (s : List ℕ) (k : ℕ) → check_answer s ≡ refused k →
 unfolding check_answer
 question_refused s k e = made-refused (question_of s) (λ q. 0) k e
 
-does_refused : (m : Answer Listing) (area : List ℕ) (k : ℕ) → m ≡ refused k → DoesList m area (Refused k) area
-unfolding steps_answer area_after
+does_refused : (m : Answer Listing) (area : List ℕ) (k : Refusal) → m ≡ refused (number_of k) → DoesList m area (Err k) area
+unfolding steps_answer count_told area_after
 does_refused m area k e = rw e (record { answer = refl; left = refl })
 
-pub list_turned_back : (s : List ℕ) (side x : ℕ) (area : List ℕ) (k : ℕ) → check_answer s ≡ refused k
-    → DoesList (list_of s side x (length area)) area (Refused k) area
+pub list_turned_back : (s : List ℕ) (side x : ℕ) (area : List ℕ) (k : Refusal) → check_answer s ≡ refused (number_of k)
+    → DoesList (list_of s side x (length area)) area (Err k) area
 unfolding list_of
-list_turned_back s side x area k e = does_refused _ area k (bind-refused _ (question_refused s k e))
+list_turned_back s side x area k e = does_refused _ area k (bind-refused _ (question_refused s (number_of k) e))
 
 -- Checks 13 and 15 of an accepted question.
 module _ (s : List ℕ) (side x : ℕ) (area : List ℕ) where
@@ -174,16 +175,16 @@ module _ (s : List ℕ) (side x : ℕ) (area : List ℕ) where
         lists l = from_room ∙ need-passed 15 (leb (step_bytes * most_steps) (length area)) _ (le-leb (step_bytes * most_steps) (length area) l)
 
   module _ (accepted : Plain s) (t : Bool) (side-test : t ≡ (eqb side 1 || eqb side 2)) where
-    pub does_no_side : t ≡ false → DoesList (list_of s side x (length area)) area (Refused 13) area
-    unfolding Plain
-    does_no_side e = let (q, a) = accepted in does_refused _ area 13 (no_side q a (sym side-test ∙ e))
+    pub does_no_side : t ≡ false → DoesList (list_of s side x (length area)) area (Err ListedSide) area
+    unfolding Plain number_of
+    does_no_side e = let (q, a) = accepted in does_refused _ area ListedSide (no_side q a (sym side-test ∙ e))
 
     module _ (is-side : t ≡ true) where
-      pub does_no_name : name_count ≤ x → DoesList (list_of s side x (length area)) area (Refused 13) area
-      unfolding Plain
+      pub does_no_name : name_count ≤ x → DoesList (list_of s side x (length area)) area (Err ListedSide) area
+      unfolding Plain number_of
       does_no_name h =
           let (q, a) = accepted in
-          does_refused _ area 13 (not_new q a (sym side-test ∙ is-side) (rw (le-ltb x name_count h) refl))
+          does_refused _ area ListedSide (not_new q a (sym side-test ∙ is-side) (rw (le-ltb x name_count h) refl))
 
       module _ (named : x < name_count) (bytes arities : List ℕ) (stands : SideIs s side bytes) (have : AritiesIs s arities) where
         scope_of : (q : Question) → check_of s ≡ result q → PartAllowed q.arities (side_term q side)
@@ -202,23 +203,23 @@ module _ (s : List ℕ) (side x : ℕ) (area : List ℕ) where
           new-test : (q : Question) → check_of s ≡ result q → (ltb x name_count && not (among (fn (side_term q side)) x)) ≡ not f
           new-test q a = rw (lt-ltb x name_count named, is_free q a) refl
 
-          pub does_free : f ≡ true → DoesList (list_of s side x (length area)) area (Refused 13) area
-          unfolding Plain
-          does_free e = let (q, a) = accepted in does_refused _ area 13 (not_new q a (sym side-test ∙ is-side) (new-test q a ∙ ap not e))
+          pub does_free : f ≡ true → DoesList (list_of s side x (length area)) area (Err ListedSide) area
+          unfolding Plain number_of
+          does_free e = let (q, a) = accepted in does_refused _ area ListedSide (not_new q a (sym side-test ∙ is-side) (new-test q a ∙ ap not e))
 
           module _ (new : f ≡ false) where
-            pub does_short : length area < step_bytes * most_steps → DoesList (list_of s side x (length area)) area (Refused 15) area
-            unfolding Plain
+            pub does_short : length area < step_bytes * most_steps → DoesList (list_of s side x (length area)) area (Err ResultArea) area
+            unfolding Plain number_of
             does_short l =
                 let (q, a) = accepted in
-                does_refused _ area 15 (short q a (sym side-test ∙ is-side) (new-test q a ∙ ap not new) l)
+                does_refused _ area ResultArea (short q a (sym side-test ∙ is-side) (new-test q a ∙ ap not new) l)
 
-            pub does_list : step_bytes * most_steps ≤ length area → (r : StepsAnswer) (area' : List ℕ) → ListsInto s bytes x area r area'
-                → DoesList (list_of s side x (length area)) area r area'
+            pub does_list : step_bytes * most_steps ≤ length area → (r : Option ℕ) (area' : List ℕ) → ListsInto s bytes x area r area'
+                → DoesList (list_of s side x (length area)) area (Ok r) area'
             unfolding Plain ListsInto SideIs
             does_list l r area' i =
                 let (q, a) = accepted in
-                subst (λ m. DoesList m area r area') (sym (lists q a (sym side-test ∙ is-side) (new-test q a ∙ ap not new) l))
+                subst (λ m. DoesList m area (Ok r) area') (sym (lists q a (sym side-test ∙ is-side) (new-test q a ∙ ap not new) l))
                 (i q (side_term q side) (record {
                   accepted = a;
                   scope = (scope_of q a).scope;
@@ -229,7 +230,7 @@ module _ (s : List ℕ) (side x : ℕ) (area : List ℕ) where
                 (λ i. false≢true (sym new ∙ is_free q a ∙ in_among (fn (side_term q side)) x (free→fn x (side_term q side) i))))
 
 -- Twins list alike: the list of a question of edition two is that of its edition-one form.
-pub does_alike : (s plain : List ℕ) (q : Question) → question_of s ≡ result q → check_of plain ≡ result q → (side x : ℕ) (area : List ℕ) (r : StepsAnswer)
+pub does_alike : (s plain : List ℕ) (q : Question) → question_of s ≡ result q → check_of plain ≡ result q → (side x : ℕ) (area : List ℕ) (r : Result (Option ℕ) Refusal)
     (area' : List ℕ) → DoesList (list_of plain side x (length area)) area r area' → DoesList (list_of s side x (length area)) area r area'
 unfolding list_of check_of
 does_alike s plain q a e side x area r area' d =

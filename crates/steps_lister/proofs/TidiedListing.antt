@@ -34,7 +34,7 @@ use Rattle.steps_tallies.specs.Bodies.{AritiesIs}
 use Rattle.steps_tallies.specs.Tally.{BodiesUnrestricted}
 use Rattle.steps_tallies.proofs.Unrestricted.{unrestricted_tidied}
 use Rattle.steps_lister.specs.PartLister.{PartTidied, AnswersListing, ListPartIs, ListTidiedIs, Restricted}
-use Rattle.steps_lister.specs.declared.list.ListAnswer.{ListAnswer}
+use Rattle.std.specs.Prelude.{Option}
 use Rattle.steps_lister.proofs.TidiedBodies.{tidied_checked}
 
 -- The front of what was tidied aside is short enough.
@@ -68,7 +68,7 @@ walked-tidied question part arities own t q P (accepted, scope, bytes) =
     t refl name_count 0 P (omega arith) (subst (λ (a : List ℕ). InScope name_count a 0 P) (sym (own q accepted)) scope) bytes
 
 -- A part that is tidied as it is.
-pub list_as_it_is : (question part : List ℕ) (x : ℕ) (r : ListAnswer) (area' : List ℕ) → PartTidied question part → ListTidiedIs question part x r area'
+pub list_as_it_is : (question part : List ℕ) (x : ℕ) (r : Option ℕ) (area' : List ℕ) → PartTidied question part → ListTidiedIs question part x r area'
     → ListPartIs question part x r area'
 list_as_it_is question part x r area' tidied is = record {
   few = is.few;
@@ -93,7 +93,7 @@ steps_alike q question a x within P Q s t e new =
 
 -- The part is tidied aside, and its bytes are listed.
 pub list_restricted : (question part arities : List ℕ) (x : ℕ) → AritiesIs question arities → (e : Ends) (aside : List ℕ)
-    → TidiedIs part 0 arities (replicate longest_term 0) 0 e aside → (r : ListAnswer) (area' : List ℕ) → ListTidiedIs question (take e.written aside) x r area'
+    → TidiedIs part 0 arities (replicate longest_term 0) 0 e aside → (r : Option ℕ) (area' : List ℕ) → ListTidiedIs question (take e.written aside) x r area'
     → ListPartIs question part x r area'
 unfolding AritiesIs Tidied
 list_restricted question part arities x own e aside t r area' is = record {
@@ -127,7 +127,7 @@ list_restricted question part arities x own e aside t r area' is = record {
 }
 
 -- Under the tidied bodies of a question.
-pub list_under_tidied : (question out : List ℕ) (n : ℕ) (out' : List ℕ) → WritesTidied question out n out' → (part : List ℕ) (x : ℕ) (r : ListAnswer) (area' : List ℕ)
+pub list_under_tidied : (question out : List ℕ) (n : ℕ) (out' : List ℕ) → WritesTidied question out n out' → (part : List ℕ) (x : ℕ) (r : Option ℕ) (area' : List ℕ)
     → ListPartIs (take n out') part x r area' → ListPartIs question part x r area'
 unfolding steps_of result_form tidied_bodies
 list_under_tidied question out n out' w part x r area' is = record {

@@ -24,7 +24,7 @@ use Rattle.steps.specs.Operations.{list_bytes}
 use Rattle.steps_splicing.specs.ListedParts.{Lists}
 use Rattle.steps_lister.specs.PartLister.{AnswersListing, ListTidiedIs}
 use Rattle.steps_walk.specs.Walking.{walked}
-use Rattle.steps_lister.specs.declared.list.ListAnswer.TheVariants.{Unsettled, Count}
+use Rattle.std.specs.Prelude.{Some, None}
 use Rattle.steps_walk.proofs.Below.{canon_classes}
 use Rattle.steps.proofs.CallLimitLaws.{never_past_calls}
 use Rattle.steps.proofs.Limited.{Long, limited-given, limited-passed, limited_within, limited-many, limited_long}
@@ -85,7 +85,7 @@ none_stands area = record {
   indexed = record { among = λ i h. absurd (omega arith); entries = λ i h. absurd (omega arith) };
 }
 
-not_counted : (n : ℕ) → Unsettled ≡ Count n → n ≤ most_steps
+not_counted : (n : ℕ) → None ≡ Some n → n ≤ most_steps
 not_counted n e = let z : ◌≡◌ {A = ℕ} 0 1 = cc in absurd (omega arith)
 
 module _ (question part : List ℕ) (x : ℕ) (area : List ℕ) (n : ℕ) (area' : List ℕ) (walks : WalksPart question part x area n area') where
@@ -119,20 +119,20 @@ module _ (question part : List ℕ) (x : ℕ) (area : List ℕ) (n : ℕ) (area'
     classed : (cs : List Candidate) → All (Classed name_count longest_term x) (collect result_form name_count longest_term x cs [])
     classed cs = found_classed name_count longest_term x cs
 
-    answers-passed : most_steps < n → AnswersListing (steps_of q.bodies x P) Unsettled area'
+    answers-passed : most_steps < n → AnswersListing (steps_of q.bodies x P) None area'
     unfolding AnswersListing
     answers-passed h =
         let e = both found whole (classed (walked body P)) (classed (visible body 1 P ++ silent body 1 P)) same (is_found.passed h) in
-        subst (λ r. AnswersListing r Unsettled area') (sym (steps_are ∙ e)) refl
+        subst (λ r. AnswersListing r None area') (sym (steps_are ∙ e)) refl
 
-    answers-given : n ≤ most_steps → (area'' : List ℕ) → ArrangeIs area' n area'' → AnswersListing (steps_of q.bodies x P) (Count n) area''
+    answers-given : n ≤ most_steps → (area'' : List ℕ) → ArrangeIs area' n area'' → AnswersListing (steps_of q.bodies x P) (Some n) area''
     unfolding AnswersListing ArrangeIs
-    answers-given h area'' arranged = subst (λ r. AnswersListing r (Count n) area'') (sym steps_are) (go (limited longest_term most_steps whole) refl)
+    answers-given h area'' arranged = subst (λ r. AnswersListing r (Some n) area'') (sym steps_are) (go (limited longest_term most_steps whole) refl)
       where
         s : Stands area' n found
         s = is_found.stands h
 
-        go : (r : Listing) → limited longest_term most_steps whole ≡ r → AnswersListing r (Count n) area''
+        go : (r : Listing) → limited longest_term most_steps whole ≡ r → AnswersListing r (Some n) area''
         go unsettled e =
             let d = both whole found (classed (visible body 1 P ++ silent body 1 P)) (classed (walked body P)) (sym same) e in
             let w = limited_within longest_term most_steps found (omega (arith, s.number)) s.fit in
@@ -141,13 +141,13 @@ module _ (question part : List ℕ) (x : ℕ) (area : List ℕ) (n : ℕ) (area'
             let d : whole ≡ ss = limited-given longest_term most_steps whole ss e in
             let k : length found ≡ length whole = length-same name_count longest_term x most_steps found whole (classed (walked body P)) (classed (visible body 1 P ++ silent body 1 P)) same in
             let m : n ≡ length ss = sym s.number ∙ k ∙ ap length d in (
-              ap Count m,
+              ap Some m,
               ap (λ i. take (i * step_bytes) area'') (sym m) ∙ arranged found s.ascending s.number s.indexed ∙ bytes_same found whole same ∙ ap list_bytes d,
             )
 
-  pub list_passed : most_steps < n → ListTidiedIs question part x Unsettled area'
+  pub list_passed : most_steps < n → ListTidiedIs question part x None area'
   list_passed h = record { few = not_counted; is = λ q P l. answers-passed q P l h }
 
   -- and the entries are brought into order
-  pub list_given : n ≤ most_steps → (area'' : List ℕ) → ArrangeIs area' n area'' → ListTidiedIs question part x (Count n) area''
+  pub list_given : n ≤ most_steps → (area'' : List ℕ) → ArrangeIs area' n area'' → ListTidiedIs question part x (Some n) area''
   list_given h area'' arranged = record { few = λ m e. let d : n ≡ m = cc in omega arith; is = λ q P l. answers-given q P l h area'' arranged }

@@ -8,7 +8,6 @@ ghost use Rattle.steps_lister.specs.PartLister.{CanList, Restricted, PartTidied,
 
 use steps_communications::meet::Node;
 use steps_entries::arrange::arrange;
-use steps_entries::limits::MOST_STEPS;
 use steps_rows::rows::TABLE_OF_ROWS;
 use steps_tallies::bodies::arities_of;
 use steps_tallies::tally::{TALLY, bodies_restricted, body_tallies, tally};
@@ -24,21 +23,12 @@ pub const SCRATCH_NUMBERS: usize = TALLY;
 
 pub const SCRATCH_ROWS: usize = TABLE_OF_ROWS;
 
-#[derive(Clone, Copy)]
-pub enum ListAnswer {
-    Unsettled,
-    Count(usize),
-}
-
 // Whether the part or a body has a restriction.
 fn any_restriction(question: &[u8], bodies: &[u32], part: &[u8]) -> bool
     requires { BodiesTallied question.now bodies.now }
     ensures { Restricted question.now part.now result }
 {
-    if bodies_restricted(bodies) {
-        return true;
-    }
-    has_restriction(part, arities_of(question))
+    bodies_restricted(bodies) || has_restriction(part, arities_of(question))
 }
 
 // Whether the part is tidied as it is. Without restrictions it is.
@@ -46,13 +36,10 @@ fn is_tidied_part(question: &[u8], part: &[u8], restricted: bool) -> bool
     requires { Restricted question.now part.now restricted }
     ensures { result ≡ true → PartTidied question.now part.now }
 {
-    if !restricted {
-        return true;
-    }
-    is_tidied(part, arities_of(question))
+    !restricted || is_tidied(part, arities_of(question))
 }
 
-// Lists the steps of a tidied part.
+// Lists the steps of a tidied part, and answers their number; none where they are unsettled.
 fn list_tidied(
     question: &[u8],
     bodies: &[u32],
@@ -62,7 +49,7 @@ fn list_tidied(
     tallies: &mut [u32],
     rows: &mut [u8],
     area: &mut [u8],
-) -> ListAnswer
+) -> Option<usize>
     requires { CanList question.now bodies.now part.now tallies.old rows.old area.old × Restricted question.now part.now restricted }
     ensures { ListTidiedIs question.now part.now x result area.new }
 {
@@ -74,18 +61,14 @@ fn list_tidied(
         x,
     };
     let none = Walked { rows: 0, count: 0 };
-    let walked = walk(question, bodies, part, tallies, whole, rows, none, area);
-    let n = walked.count;
-    if MOST_STEPS < n {
-        return ListAnswer::Unsettled;
-    }
-    arrange(area, n);
-    ListAnswer::Count(n)
+    let walked = walk(question, bodies, part, tallies, whole, rows, none, area)?;
+    arrange(area, walked.count);
+    Some(walked.count)
 }
 
 // Lists the steps of a part under the definitions of an accepted question whose bodies are tallied, for the new name `x`. The area must hold as
 // many steps as the limit allows, and their index. `tallies` and `rows` are lent for the part's tally and rows; what they have before is not read. A part
-// with restrictions that bind nothing is tidied first (request 2026-04): its list is the same.
+// with restrictions that bind nothing is tidied first: its list is the same. The answer is the number of steps, or none where they are unsettled.
 pub fn list_tallied(
     question: &[u8],
     bodies: &[u32],
@@ -94,7 +77,7 @@ pub fn list_tallied(
     tallies: &mut [u32],
     rows: &mut [u8],
     area: &mut [u8],
-) -> ListAnswer
+) -> Option<usize>
     requires { CanList question.now bodies.now part.now tallies.old rows.old area.old }
     ensures { ListPartIs question.now part.now x result area.new }
 {
@@ -109,7 +92,7 @@ pub fn list_tallied(
 }
 
 // The same for bodies that are tidied and not tallied yet.
-fn list_under(question: &[u8], part: &[u8], x: u8, area: &mut [u8]) -> ListAnswer
+fn list_under(question: &[u8], part: &[u8], x: u8, area: &mut [u8]) -> Option<usize>
     requires { (list_room ≤ length area.old) × (length part.now ≤ longest_term) × BodiesTidied question.now }
     ensures { ListPartIs question.now part.now x result area.new }
 {
@@ -120,7 +103,7 @@ fn list_under(question: &[u8], part: &[u8], x: u8, area: &mut [u8]) -> ListAnswe
 }
 
 // The same for any bodies.
-pub fn list_part(question: &[u8], part: &[u8], x: u8, area: &mut [u8]) -> ListAnswer
+pub fn list_part(question: &[u8], part: &[u8], x: u8, area: &mut [u8]) -> Option<usize>
     requires { (list_room ≤ length area.old) × (length part.now ≤ longest_term) × Plain question.now }
     ensures { ListPartIs question.now part.now x result area.new }
 {

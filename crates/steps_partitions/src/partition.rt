@@ -1,5 +1,5 @@
-// Partitions of the places of a call's names (request 2026-01), each known by its number.
-ghost use Rattle.std.specs.Prelude.{◌≡◌, max, min, ◌+◌, ◌≤◌, ◌<◌};
+// Partitions of the places of a call's names, each known by its number.
+ghost use Rattle.std.specs.Prelude.{◌≡◌, ◌+◌, ◌≤◌, ◌<◌};
 ghost use Rattle.steps_partitions.specs.Partition.{most_places, continuations, merged_class, ClassWeightIs, RankIs, ClassIs, Cases, UnrankIs, MergeIs, MergedRowIs};
 
 use terms_bytes::bytes::get;
@@ -24,26 +24,6 @@ pub fn ways(rest: usize, classes: usize) -> usize
     WAYS[9 * rest + classes]
 }
 
-// The larger number.
-fn larger(a: usize, b: usize) -> usize
-    ensures { result ≡ max a b }
-{
-    if a < b {
-        return b;
-    }
-    a
-}
-
-// The smaller number.
-fn smaller(a: usize, b: usize) -> usize
-    ensures { result ≡ min a b }
-{
-    if a < b {
-        return a;
-    }
-    b
-}
-
 // What a place of class `class` adds to the number, behind so many classes and with `rest` places to come.
 fn class_weight(class: u8, rest: usize, classes: usize) -> usize
     requires { rest + classes ≤ most_places }
@@ -57,17 +37,15 @@ pub fn rank(classes: &[u8], count: usize) -> usize
     requires { count ≤ most_places }
     ensures { RankIs classes.now count result }
 {
-    let mut i = 0;
     let mut m = 0;
     let mut number = 0;
-    while i < count {
+    for i in 0..count {
         if i < m {
             return 0;
         }
         let c = get(classes, i);
         number += class_weight(c, count - 1 - i, m);
-        m = larger(m, c as usize + 1);
-        i += 1;
+        m = m.max(c as usize + 1);
     }
     number
 }
@@ -77,7 +55,7 @@ fn class_in(left: usize, size: usize, classes: usize) -> usize
     requires { 0 < size }
     ensures { ClassIs left size classes result }
 {
-    smaller(classes, left / size)
+    classes.min(left / size)
 }
 
 // The partition of this number.
@@ -86,16 +64,14 @@ pub fn unrank(row: usize, count: usize) -> [u8; GREATEST_ARITY]
     ensures { UnrankIs row count result }
 {
     let mut classes = [0u8; GREATEST_ARITY];
-    let mut i = 0;
     let mut m = 0;
     let mut left = row;
-    while i < count {
+    for i in 0..count {
         let size = ways(count - 1 - i, m);
         let c = class_in(left, size, m);
         classes[i] = c as u8;
         left -= c * size;
-        m = larger(m, c + 1);
-        i += 1;
+        m = m.max(c + 1);
     }
     classes
 }
@@ -133,10 +109,8 @@ fn merge(classes: &[u8], count: usize, a: u8, b: u8) -> [u8; GREATEST_ARITY]
     ensures { MergeIs classes.now count a b result }
 {
     let mut merged = [0u8; GREATEST_ARITY];
-    let mut i = 0;
-    while i < count {
+    for i in 0..count {
         merged[i] = merged_class(a, b, get(classes, i));
-        i += 1;
     }
     merged
 }

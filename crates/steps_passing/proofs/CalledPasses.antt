@@ -1,5 +1,5 @@
 -- A call and the body that it opens: where its names stand, what they stand for in the body, and its candidates. Assumes nothing.
-use mathlib.Core.Path.{◌≡◌, sym, ap, subst, ◌∙◌}
+use mathlib.Core.Path.{◌≡◌, refl, sym, ap, subst, ◌∙◌}
 use mathlib.Core.Bool.{Bool}
 use mathlib.Core.List.{List, [], ◌++◌, map, reverse, append-nil}
 use Prim.Native.Nat.{ℕ, suc, ◌+◌, ◌-◌, ◌<◌, ◌≤◌}
@@ -10,13 +10,13 @@ use Rattle.calculus.specs.Abstraction.{Act, tau_a, inp_a, out_a, bout_a}
 use Rattle.calculus.specs.Definitions.{at}
 use Rattle.calculus.specs.Term.{Term, call, ren}
 pub use Rattle.terms.proofs.ScopeLaws.{name_within}
-use Rattle.terms.specs.Answer.{result}
+use Rattle.terms.specs.Answer.{Answer, refused, result}
 use Rattle.terms.specs.Encoding.{name_byte, encode, InScope, NamesInScope}
 use Rattle.terms.specs.Limits.{name_count}
 use Rattle.terms_bytes.specs.NameTable.{table_names}
 use Rattle.terms.specs.Question.{Question, check_of}
 use Rattle.terms_bytes.proofs.Stores.{get_d_front, get_d_map, get_d_reverse}
-use Rattle.steps_tallies.specs.Bodies.{BodyIs}
+use Rattle.steps_tallies.specs.Bodies.{BodyIs, Unopened}
 use Rattle.terms.specs.Question.{body_of}
 use Rattle.steps_conditions.specs.Names.{turn, HasNames, CalledIs}
 use Rattle.steps_tallies.specs.Candidates.{candidates}
@@ -108,20 +108,6 @@ module _ (question s : List ℕ) (at D calls : ℕ) (t : Bool) (i : ℕ) (g : 8 
       (f xs (a ∙ sym b) a (omega arith) scope.2 (sym (drop-drop 2 at s) ∙ ap (drop 2) st)))
       P (let b = tag_at s at D P rest st in omega arith) scope st
 
-  -- No call is left to open, or the question is not accepted.
-  pub pass_closed : ((q : Question) → check_of question ≡ result q → k < length q.arities → calls ≡ 0) → PassIs question s at D calls t i nothing_sent
-  pass_closed z = record {
-    slot = omega arith;
-    does = λ q free σ own P rest ok few scope st M α A e. at_call
-        (λ (P : Term). get_or (candidates t (body_of q.bodies) calls (ren σ P)) i blocked ≡ step M α A → Acts free D σ α 0 0)
-        q free P rest ok scope st
-        (λ xs m a l names st e.
-        let c : candidates t (body_of q.bodies) calls (call k (map σ xs)) ≡ [] =
-        ap (λ (c : ℕ). candidates t (body_of q.bodies) c (call k (map σ xs))) (z q ok l) ∙ candidates_no_call (body_of q.bodies) t k (map σ xs) in
-        never M α A (ap (λ (l : List Candidate). get_or l i blocked) (sym c) ∙ e))
-        e;
-  }
-
   module _ (bytes : List ℕ) (B : BodyIs question k bytes) where
     -- [Con]: the candidates are those of the body.
     pub pass_opened : D + 128 ≤ 256 → calls ≤ 1 → (c : ℕ) → calls ≡ suc c → (r : Passed) → PassIs question bytes 0 n c t i r
@@ -143,3 +129,33 @@ module _ (question s : List ℕ) (at D calls : ℕ) (t : Bool) (i : ℕ) (g : 8 
           M α A (ap (λ (l : List Candidate). get_or l i blocked) (sym e) ∙ w)))
           w;
     }
+
+-- The question, where it is accepted, says how many names a definition has.
+arity_there : (question : List ℕ) (k : ℕ) → (n : ℕ) × ((q : Question) → check_of question ≡ result q → n ≡ get_or q.arities k 0)
+arity_there question k = go (check_of question) refl
+  where
+    go : (a : Answer Question) → check_of question ≡ a → (n : ℕ) × ((q : Question) → check_of question ≡ result q → n ≡ get_or q.arities k 0)
+    go (result p) e = (get_or p.arities k 0, λ q f. let z : ◌≡◌ {A = Question} p q = cc in ap (λ (q : Question). get_or q.arities k 0) z)
+    go (refused i) e = (0, λ q f. let z : ◌≡◌ {A = ℕ} 0 1 = cc in absurd (omega arith))
+
+-- A call that may not be opened: no call is left to open, or the question is not accepted.
+module _ (question s : List ℕ) (at D calls : ℕ) (t : Bool) (i : ℕ) (g : 8 < get_or s at 0) (U : Unopened question s at calls) where
+  pub at_closed : (C : Term → Type 0) (q : Question) (free : ℕ) (P : Term) (rest : List ℕ) → check_of question ≡ result q → InScope free q.arities D P
+      → drop at s ≡ encode D P ++ rest → ((xs : List ℕ) → calls ≡ 0 → C (call (get_or s (at + 1) 0) xs)) → C P
+  at_closed C q free P rest ok scope st f =
+      let (n, N) = arity_there question (get_or s (at + 1) 0) in
+      at_call question s at D calls t i g (get_or s (at + 1) 0) n refl N C q free P rest ok scope st (λ xs m a l names st. f xs (U q ok l))
+
+  pub pass_closed : PassIs question s at D calls t i nothing_sent
+  pass_closed = record {
+    slot = omega arith;
+    does = λ q free σ own P rest ok few scope st M α A e. at_closed
+        (λ (P : Term). get_or (candidates t (body_of q.bodies) calls (ren σ P)) i blocked ≡ step M α A → Acts free D σ α 0 0)
+        q free P rest ok scope st
+        (λ xs z e.
+        let k = get_or s (at + 1) 0 in
+        let c : candidates t (body_of q.bodies) calls (call k (map σ xs)) ≡ [] =
+        ap (λ (c : ℕ). candidates t (body_of q.bodies) c (call k (map σ xs))) z ∙ candidates_no_call (body_of q.bodies) t k (map σ xs) in
+        never M α A (ap (λ (l : List Candidate). get_or l i blocked) (sym c) ∙ e))
+        e;
+  }

@@ -44,11 +44,9 @@ pub fn called(src: &[u8], at: usize, count: usize, binders: usize, names: &[u8])
     ensures { CalledIs src.now at count binders names.now result }
 {
     let mut inner = [0u8; NAME_SLOTS];
-    let mut j = 0;
-    while j < count {
+    for j in 0..count {
         let s = slot_of(get(src, at + j), binders);
         inner[TABLE_NAMES + j] = get(names, s);
-        j += 1;
     }
     inner
 }
@@ -87,10 +85,8 @@ pub fn unchanged(names: &[u8], binders: usize, levels: usize) -> bool
         return false;
     }
     let mut same = true;
-    let mut i = 0;
-    while i < TABLE_NAMES + binders {
+    for i in 0..TABLE_NAMES + binders {
         same = same & (names[i] == i as u8);
-        i += 1;
     }
     same
 }
@@ -100,11 +96,9 @@ fn free_bytes(names: &[u8], levels: u8, table: &mut [u8])
     requires { (levels ≤ 128) × (length names.now ≡ name_slots) × (length table.old ≡ name_slots) }
     ensures { FreeBytes names.now levels table.old table.new }
 {
-    let mut i = 0;
-    while i < TABLE_NAMES {
+    for i in 0..TABLE_NAMES {
         let b = byte_of(names[i], levels);
         table[i] = b;
-        i += 1;
     }
 }
 
@@ -113,11 +107,9 @@ fn bound_bytes(names: &[u8], binders: usize, levels: u8, table: &mut [u8])
     requires { (binders ≤ most_binders) × (levels ≤ 128) × (length names.now ≡ name_slots) × (length table.old ≡ name_slots) }
     ensures { BoundBytes names.now binders levels table.old table.new }
 {
-    let mut j = 0;
-    while j < binders {
+    for j in 0..binders {
         let b = byte_of(names[TABLE_NAMES + (binders - 1 - j)], levels);
         table[TABLE_NAMES + j] = b;
-        j += 1;
     }
 }
 

@@ -15,7 +15,7 @@ use terms_bytes::bytes::get;
 use terms_bytes::limits::TABLE_NAMES;
 use terms_bytes::tags::{CHOICE, INPUT, MATCH, PARALLEL, RESTRICTION};
 
-// Kinds of actions, as document 01 numbers them.
+// Kinds of actions.
 const SILENT: usize = 0;
 
 pub const OUTPUT: usize = 2;
@@ -40,17 +40,12 @@ fn silent() -> Passed
 }
 
 // Whether the name of the innermost of `binders + 1` binders is sent: [Open], if that is a restriction.
+#[tactic(auto, unfolding(crate::specs::Passing::opens_at))]
 pub fn opens(kind: usize, object: usize, binders: usize) -> bool
     requires { binders ≤ most_binders }
     ensures { result ≡ opens_at binders kind object }
 {
-    if kind != OUTPUT {
-        return false;
-    }
-    if object == TABLE_NAMES + binders {
-        return true;
-    }
-    false
+    kind == OUTPUT && object == TABLE_NAMES + binders
 }
 
 // The innermost of `binders + 1` binders, a restriction, is left.
@@ -131,6 +126,7 @@ pub fn branch_of(src: &[u8], tally: &[u32], at: usize, silently: bool, number: u
 {
     let mut b = at;
     let mut n = number;
+    // no range: where the walk goes on is computed each turn
     while b < src.len() {
         if src[b] != CHOICE {
             return Branch { at: b, number: n };
@@ -153,6 +149,7 @@ fn source_of(src: &[u8], tally: &[u32], at: usize, number: usize) -> Branch
 {
     let mut b = at;
     let mut n = number;
+    // no range: where the walk goes on is computed each turn
     while b < src.len() {
         let t = src[b];
         if t < MATCH {
@@ -190,11 +187,10 @@ fn pass_call(
     requires { (at < length src.now) × (8 < get_or src.now at 0) × (length src.now ≤ longest_term) × (binders ≤ at + greatest_arity) × (calls ≤ 1) × BodiesTallied question.now bodies.now }
     ensures { PassIs question.now src.now at binders calls false i result }
 {
-    let o = call_at(question, bodies, src, at, calls);
-    let n = o.arity;
-    if !o.allowed {
+    let Some(o) = call_at(question, bodies, src, at, calls) else {
         return silent();
-    }
+    };
+    let n = o.arity;
     let body = body_at(question, o.place);
     let numbers = body_tally(bodies, o.definition);
     let p = pass(question, bodies, body, numbers, 0, n, calls - 1, i);

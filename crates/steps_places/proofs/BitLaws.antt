@@ -1,7 +1,7 @@
 -- The bits of a number, one set and the first one that another number has not. Assumes nothing.
 use mathlib.Core.Bool.{true, false, true≢false, false≢true}
 use mathlib.Core.Logic.{◌⊎◌, ◌≢◌, inl, inr, ⊎_elim}
-use mathlib.Core.Path.{◌≡◌, refl, ap, ◌∙◌}
+use mathlib.Core.Path.{◌≡◌, refl, sym, ap, subst, ◌∙◌}
 use native.Mathlib.Decide.{ℕ_discrete, dec_le}
 use native.Mathlib.Nat.{eq-or-lt_of_le, not-suc-le-zero, div-eq_of_lt, div_self, zero-div, zero-mod, mod-lt, mul-div_cancel, pow-suc, one-le-pow}
 use native.Mathlib.Omega.{arith}
@@ -10,6 +10,8 @@ use Prim.Native.Nat.{ℕ, suc, max, ◌+◌, ◌-◌, ◌*◌, ◌/◌, ◌%◌,
 use lib.Arith.{digits_mod}
 use lib.Bits.{bit_or, or_step, or_shr, or_lt, or_add_and, and_le_r}
 use lib.Pow.{pow-lt, pow-add}
+use Rattle.std.specs.Prelude.{Some, None}
+use Rattle.steps_reach.proofs.WalkLaws.{some_none, some_is}
 use Rattle.steps_reach.specs.CallTable.{most_calls}
 use Rattle.steps_places.specs.PlaceTable.{bit}
 use Rattle.steps_places.specs.PlaceWalks.{WithBit, PendingIs, NextIs}
@@ -92,9 +94,12 @@ module _ (x y : ℕ) where
   unfolding DoneBelow
   done_more n p h = below_more (λ j. bit x j ≡ 1 → bit y j ≡ 1) n h (p.done refl)
 
-  pub next_there : (n : ℕ) → n < most_calls → PendingIs x y n true → NextIs x y n
-  next_there n l p = record { pending = λ h. p.there refl; none = λ h. absurd (omega arith) }
+  pub next_there : (n : ℕ) → n < most_calls → PendingIs x y n true → NextIs x y (Some n)
+  next_there n l p = record {
+    pending = λ j e. subst (λ (j : ℕ). (j < most_calls) × (bit x j ≡ 1) × (¬ (bit y j ≡ 1))) (some_is e) (l, (p.there refl).0, (p.there refl).1);
+    none = λ e. absurd (some_none e);
+  }
 
-  pub next_none : (n : ℕ) → most_calls ≤ n → DoneBelow n → NextIs x y most_calls
+  pub next_none : (n : ℕ) → most_calls ≤ n → DoneBelow n → NextIs x y None
   unfolding DoneBelow
-  next_none n l h = record { pending = λ k. absurd (omega arith); none = λ k j i. h j (omega arith) }
+  next_none n l h = record { pending = λ j e. absurd (some_none (sym e)); none = λ e j i. h j (omega arith) }

@@ -3,7 +3,7 @@ use mathlib.Core.List.{List}
 use mathlib.Core.Logic.{⊎_elim}
 use mathlib.Core.Path.{◌≡◌, sym, ap, subst, ◌∙◌}
 use native.Mathlib.Omega.{arith}
-use Prim.Native.Nat.{ℕ, ◌<◌, ◌≤◌}
+use Prim.Native.Nat.{ℕ, ◌<◌}
 use lib.ListN.{length, get_or}
 use lib.Seq.{ext_get_or}
 use Rattle.calculus.specs.Definitions.{Defs, opened}
@@ -14,7 +14,7 @@ use Rattle.steps_partitions.specs.Partition.{rank, Partition, continuations}
 use Rattle.steps_partitions.proofs.RankLaws.{rank_once}
 use Rattle.steps_reach.specs.CallTable.{most_calls, RowIs}
 use Rattle.steps_places.specs.PlaceTable.{bit, Has, along}
-use Rattle.steps_places.specs.PlaceWalks.{WithBit, NextIs, Onto, Adds, Scene, Reachable, SoundTable, ClosedAt, OpenPlaceIs, CloseRowIs}
+use Rattle.steps_places.specs.PlaceWalks.{WithBit, Onto, Adds, Scene, Reachable, SoundTable, ClosedAt, OpenPlaceIs, CloseRowIs}
 use Rattle.steps_places.proofs.BitLaws.{no_bit}
 use Rattle.steps_places.proofs.Meanings.{along_partition, along-rank}
 use Rattle.steps_places.proofs.OpenLaws.{goes_on}
@@ -65,44 +65,42 @@ pub record ClosingIn (q : Question) (Δ : Defs) (k : ℕ) (xs t : List ℕ) (cou
   pub above : (r i : ℕ) → row < r → Has f r i → Has f₀ r i
   pub closed : (j : ℕ) → j < most_calls → bit done j ≡ 1 → ClosedAt Δ xs t count f row j
 
-pub record Closing (question : List ℕ) (row count : ℕ) (t f₀ f : List ℕ) (done j : ℕ) : Type 0 where
+pub record Closing (question : List ℕ) (row count : ℕ) (t f₀ f : List ℕ) (done : ℕ) : Type 0 where
   pub kept : (r i : ℕ) → Has f₀ r i → Has f r i
-  pub next : NextIs (get_or f row 0) done j
   pub is : (q : Question) (Δ : Defs) (k : ℕ) (xs : List ℕ) → Scene question q Δ k xs t count → SoundTable q Δ k xs t count f₀
       → ClosingIn q Δ k xs t count row f₀ f done
 
 module _ (question : List ℕ) (row count : ℕ) (t f₀ : List ℕ) where
-  pub close_start : (j : ℕ) → NextIs (get_or f₀ row 0) 0 j → Closing question row count t f₀ f₀ 0 j
-  close_start j N = record {
+  pub close_start : Closing question row count t f₀ f₀ 0
+  close_start = record {
     kept = λ r i x. x;
-    next = N;
     is = λ q Δ k xs S s. record { sound = s; above = λ r i l x. x; closed = λ j l b. absurd (no_bit j b) };
   }
 
-  pub close_more : (f : List ℕ) (done j done' : ℕ) (f' : List ℕ) (j' : ℕ) → row < continuations count 0 → j < most_calls → WithBit done j done'
-      → OpenPlaceIs question j row count t f f' → NextIs (get_or f' row 0) done' j' → Closing question row count t f₀ f done j
-      → Closing question row count t f₀ f' done' j'
-  close_more f done j done' f' j' room l W O N C = record {
+  pub close_more : (f : List ℕ) (done j done' : ℕ) (f' : List ℕ) → row < continuations count 0 → j < most_calls → bit (get_or f row 0) j ≡ 1
+      → WithBit done j done' → OpenPlaceIs question j row count t f f' → Closing question row count t f₀ f done
+      → Closing question row count t f₀ f' done'
+  close_more f done j done' f' room l b W O C = record {
     kept = λ r i x. O.kept r i (C.kept r i x);
-    next = N;
     is = λ q Δ k xs S s.
         let I = C.is q Δ k xs S s in
-        let (v, p, e, R) = I.sound row j room l (C.next.pending l).0 in
+        let (v, p, e, R) = I.sound row j room l b in
         let A = O.is q Δ k xs v S p e R in
         record {
           sound = sound_more question q Δ k xs t count S f f' v p j R A I.sound;
           above = λ r i h x. I.above r i h (above_kept question q Δ k xs t count S f f' v p j R A r i (omega (arith, e)) x);
-          closed = λ i h b. ⊎_elim
+          closed = λ i h d. ⊎_elim
               (λ (z : i ≡ j). subst (λ a. ClosedAt Δ xs t count f' row a) (sym z)
               (subst (λ a. ClosedAt Δ xs t count f' a j) e (closed_now question q Δ k xs t count S f f' v p j R A)))
-              (λ (z : bit done i ≡ 1). closed_kept Δ xs t count f f' row i O.kept (I.closed i h z)) (W.only i b);
+              (λ (z : bit done i ≡ 1). closed_kept Δ xs t count f f' row i O.kept (I.closed i h z)) (W.only i d);
         };
   }
 
-  pub close_end : (f : List ℕ) (done j : ℕ) → most_calls ≤ j → Closing question row count t f₀ f done j → CloseRowIs question row count t f₀ f
-  close_end f done j l C = record {
+  pub close_end : (f : List ℕ) (done : ℕ) → ((j : ℕ) → j < most_calls → bit (get_or f row 0) j ≡ 1 → bit done j ≡ 1)
+      → Closing question row count t f₀ f done → CloseRowIs question row count t f₀ f
+  close_end f done none C = record {
     kept = C.kept;
     is = λ q Δ k xs S s.
         let I = C.is q Δ k xs S s in
-        record { sound = I.sound; above = I.above; closed = λ i h x. I.closed i h (C.next.none l i h x) };
+        record { sound = I.sound; above = I.above; closed = λ i h x. I.closed i h (none i h x) };
   }

@@ -1,19 +1,26 @@
 -- The weights of rows and of the table, and the place of a number. Assumes nothing.
 use mathlib.Core.List.{List}
-use mathlib.Core.Path.{◌≡◌, refl, sym, ap, ◌∙◌}
+use mathlib.Core.Path.{◌≡◌, refl, sym, ap, subst, ◌∙◌}
 use native.Mathlib.Nat.{one-mul, zero-mul}
 use native.Mathlib.Omega.{arith}
 use Prim.Native.Nat.{ℕ, suc, ◌+◌, ◌-◌, ◌*◌, ◌<◌, ◌≤◌}
-use mathlib.Core.Bool.{Bool, true, false}
-use lib.Dec.{leb}
 use lib.ListN.{length, get_or, get_or-eq_default}
-use borrow.Author.Tests.{leb-true, leb-false}
+use Rattle.std.specs.Prelude.{Option, Some, None}
 use Rattle.steps_reach.specs.CallTable.{most_calls}
 use Rattle.steps_places.specs.PlaceTable.{bit}
 use Rattle.steps_places.specs.PlaceNumbers.{weight_below, table_weight, WeightIs, RowWeightIs, TableWeightIs, RowAtIs, CallAtIs, PlaceAtIs}
 use Rattle.steps_places.specs.declared.numbers.Offset.{Offset}
 use Rattle.steps_places.specs.declared.numbers.Placed.{Placed}
 use Rattle.steps_places.proofs.BitLaws.{bit_small}
+
+offset_none : {p : Offset} → ◌≡◌ {A = Option Offset} (Some p) None → ⊥
+offset_none e = let z : ◌≡◌ {A = ℕ} 0 1 = cc in omega arith
+
+offset_is : {p q : Offset} → ◌≡◌ {A = Option Offset} (Some p) (Some q) → p ≡ q
+offset_is e = cc
+
+at_most : {a b : ℕ} → a ≤ b → b ≤ a → b ≡ a
+at_most h k = omega arith
 
 module _ (x : ℕ) (w : List ℕ) (j : ℕ) where
   pub weight_none : ¬ (bit x j ≡ 1) → WeightIs x w j 0
@@ -54,17 +61,20 @@ module _ (x : ℕ) (w : List ℕ) where
   pub left-more : (number j left a : ℕ) → WeightIs x w j a → a ≤ left → Left number j left → Left number (j + 1) (left - a)
   left-more number j left a A l L = record { sum = omega (arith, A.is, L.sum, below_next j) }
 
-  pub call_there : (number j left a : ℕ) → j < most_calls → WeightIs x w j a → left < a → Left number j left → CallAtIs x w number (record { index = j; left = left })
+  pub call_there : (number j left a : ℕ) → j < most_calls → WeightIs x w j a → left < a → Left number j left → CallAtIs x w number (Some (record { index = j; left = left }))
   call_there number j left a h A l L =
       let b = A.some (omega arith) in
       let e = A.is ∙ ap (λ y. y * get_or w j 0) b ∙ one-mul (get_or w j 0) in
-      record { sum = L.sum; within = omega arith; there = λ o. (b, omega (arith, e, l)) }
+      record {
+        some = λ p q. subst (λ (p : Offset). (number ≡ weight_below x w p.index + p.left) × (p.index < most_calls) × (bit x p.index ≡ 1) × (p.left < get_or w p.index 0))
+            (offset_is q) (L.sum, h, b, omega (arith, e, l));
+        none = λ q. absurd (offset_none q);
+      }
 
-  pub call_none : (number j left : ℕ) → most_calls ≤ j → j ≤ most_calls → Left number j left → CallAtIs x w number (record { index = most_calls; left = left })
+  pub call_none : (number j left : ℕ) → most_calls ≤ j → j ≤ most_calls → Left number j left → CallAtIs x w number None
   call_none number j left h k L = record {
-    sum = L.sum ∙ ap (λ y. weight_below x w y + left) (omega arith);
-    within = omega arith;
-    there = λ o. absurd (omega arith);
+    some = λ p q. absurd (offset_none (sym q));
+    none = λ q. omega (arith, L.sum, ap (weight_below x w) (at_most h k));
   }
 
 module _ (f w : List ℕ) where
@@ -92,35 +102,32 @@ module _ (f w : List ℕ) where
 
   module _ (rows number : ℕ) where
     pub row_there : (r left a : ℕ) → r < rows → RowWeightIs (get_or f r 0) w most_calls a → left < a → RowsLeft number r left
-        → RowAtIs f w rows number (record { index = r; left = left })
-    row_there r left a h A l L = record { sum = L.sum; within = omega arith; there = λ o. omega (arith, A.is, l) }
-
-    pub row-none : (r left : ℕ) → rows ≤ r → r ≤ rows → RowsLeft number r left → RowAtIs f w rows number (record { index = rows; left = left })
-    row-none r left h k L = record {
-      sum = L.sum ∙ ap (λ y. table_weight f w y + left) (omega arith);
-      within = omega arith;
-      there = λ o. absurd (omega arith);
+        → RowAtIs f w rows number (Some (record { index = r; left = left }))
+    row_there r left a h A l L = record {
+      some = λ p q. subst (λ (p : Offset). (number ≡ table_weight f w p.index + p.left) × (p.index < rows) × (p.left < weight_below (get_or f p.index 0) w most_calls))
+          (offset_is q) (L.sum, h, omega (arith, A.is, l));
+      none = λ q. absurd (offset_none q);
     }
 
-    pub place_none : (p : Offset) → RowAtIs f w rows number p → rows ≤ p.index → (r : Placed) → PlaceAtIs f w rows number r
-    unfolding PlaceAtIs
-    place_none p R l r h =
-        let e : p.index ≡ rows = omega (arith, R.within) in
-        absurd (omega (arith, R.sum, ap (table_weight f w) e))
+    pub row-none : (r left : ℕ) → rows ≤ r → r ≤ rows → RowsLeft number r left → RowAtIs f w rows number None
+    row-none r left h k L = record {
+      some = λ p q. absurd (offset_none (sym q));
+      none = λ q. omega (arith, L.sum, ap (table_weight f w) (at_most h k));
+    }
 
-    pub place_there : (p : Offset) → RowAtIs f w rows number p → p.index < rows → (c : Offset) → CallAtIs (get_or f p.index 0) w p.left c
-        → PlaceAtIs f w rows number (record { row = p.index; call = c.index; left = c.left })
+    pub place_none : (p : Option Offset) → RowAtIs f w rows number p → p ≡ None → (r : Option Placed) → PlaceAtIs f w rows number r
     unfolding PlaceAtIs
-    place_there p R l c C h =
-        let k : c.index < most_calls = inside in
-        let (b, s) = C.there k in
-        (l, k, b, s, R.sum ∙ ap (λ y. table_weight f w p.index + y) C.sum)
-      where
-        inside : c.index < most_calls
-        inside = go (leb most_calls c.index) refl
-          where
-            go : (t : Bool) → leb most_calls c.index ≡ t → c.index < most_calls
-            go false e = leb-false most_calls c.index e
-            go true e =
-                let z : c.index ≡ most_calls = omega (arith, C.within, leb-true most_calls c.index e) in
-                absurd (omega (arith, C.sum, R.there l, ap (weight_below (get_or f p.index 0) w) z))
+    place_none p R e r h = absurd (omega (arith, R.none e))
+
+    module _ (o : Option Offset) (R : RowAtIs f w rows number o) (p : Offset) (e : o ≡ Some p) (d : Option Offset) (C : CallAtIs (get_or f p.index 0) w p.left d) where
+      -- a row has the number that is left for it
+      pub place_past : d ≡ None → (r : Option Placed) → PlaceAtIs f w rows number r
+      unfolding PlaceAtIs
+      place_past q r h = let a = R.some p e in absurd (omega (arith, a.2, C.none q))
+
+      pub place_there : (c : Offset) → d ≡ Some c → PlaceAtIs f w rows number (Some (record { row = p.index; call = c.index; left = c.left }))
+      unfolding PlaceAtIs
+      place_there c q h =
+          let a = R.some p e in
+          let b = C.some c q in
+          (record { row = p.index; call = c.index; left = c.left }, refl, a.1, b.1, b.2, b.3, a.0 ∙ ap (λ y. table_weight f w p.index + y) b.0)

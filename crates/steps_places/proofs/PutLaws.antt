@@ -7,6 +7,7 @@ use native.Mathlib.Omega.{arith}
 use Prim.Native.Nat.{ℕ, suc, ◌+◌, ◌<◌, ◌≤◌}
 use lib.ListN.{length, get_or, set, length-map}
 use lib.Seq.{get_or-set_same, get_or-set_other}
+use Rattle.std.specs.Prelude.{Option, Some, None}
 use Rattle.calculus.specs.Cond.{Cond}
 use Rattle.calculus.specs.Definitions.{Defs, opened}
 use Rattle.calculus.specs.Term.{Term, call}
@@ -95,26 +96,26 @@ module _ (question s : List ℕ) (at j row count : ℕ) (t f : List ℕ) (k : �
         (omega (arith, length-map ns (name_byte (length ys)))) (get_d_map (name_byte (length ys)) ns e i) (omega (arith, m))
         ∙ sym (get_d_map (λ x. get_or (reverse ys) x 0) ns e i)
 
-    module _ (i : ℕ) (C : CallNumberIs t k names n i) where
+    module _ (o : Option ℕ) (C : CallNumberIs t k names n o) where
       -- It has a row.
-      pub put_unlisted : most_calls ≤ i → FindTermIs question s at j row count t f f
+      pub put_unlisted : o ≡ None → FindTermIs question s at j row count t f f
       unfolding Named
-      put_unlisted o = each-call far f (λ r i x. x) (λ q Δ d xs ys v l ns S p e.
+      put_unlisted none = each-call far f (λ r i x. x) (λ q Δ d xs ys v l ns S p e.
           let (y, h, R) = S.listed [] l (given ys ns) b_call in
-          absurd (C.absent o y h (
+          absurd (C.absent none y h (
             R.definition ∙ same_definition q Δ d xs ys l ns S,
             λ z u. R.names z (omega (arith, given-length q Δ d xs ys l ns S))
                 ∙ sym (given-names q Δ d xs ys l ns S z u),
           )))
 
       pub put-outside : count ≤ greatest_arity → length f ≡ most_partitions → length f ≤ row → FindTermIs question s at j row count t f f
-      put-outside few whole o = each-call far f (λ r i x. x) (λ q Δ d xs ys v l ns S p e.
+      put-outside few whole past = each-call far f (λ r i x. x) (λ q Δ d xs ys v l ns S p e.
           absurd (omega (arith, partition_below count v p, (way_at count 0 (omega arith)).1, e)))
 
-      pub put_there : i < most_calls → row < length f → (w : ℕ) → WithBit (get_or f row 0) i w → FindTermIs question s at j row count t f (set f row w)
+      pub put_there : (i : ℕ) → o ≡ Some i → row < length f → (w : ℕ) → WithBit (get_or f row 0) i w → FindTermIs question s at j row count t f (set f row w)
       unfolding along Named
-      put_there o room w W = each-call far (set f row w) (set-kept f row i w W room) (λ q Δ d xs ys v l ns S p e.
-          let H = C.held o in
+      put_there i got room w W = each-call far (set f row w) (set-kept f row i w W room) (λ q Δ d xs ys v l ns S p e.
+          let H = (C.held i got).1 in
           let R : RowIs t i (l, given ys ns) = record {
             definition = H.0 ∙ sym (same_definition q Δ d xs ys l ns S);
             names = λ z u. let g : z < n = omega (arith, given-length q Δ d xs ys l ns S) in H.1 z g ∙ given-names q Δ d xs ys l ns S z g;
@@ -133,4 +134,4 @@ module _ (question s : List ℕ) (at j row count : ℕ) (t f : List ℕ) (k : �
         where
           all' : (xs v : List ℕ) (l : ℕ) (ys : List ℕ) → RowIs t i (l, ys) → rank v ≡ row → (C : Cond) (m : ℕ) (zs : List ℕ) → Bare (call l ys) C m zs
               → (x : ℕ) × (x < most_calls) × RowIs t x (m, zs) × Has (set f row w) (rank (along xs v C)) x
-          all' xs v l ys R e C m zs b_call = (i, o, R, subst (λ a. Has (set f row w) a i) (sym e) (set_there f row i w W room))
+          all' xs v l ys R e D m zs b_call = (i, (C.held i got).0, R, subst (λ a. Has (set f row w) a i) (sym e) (set_there f row i w W room))

@@ -1,5 +1,5 @@
 -- The places of a table by number: rows ascending, calls ascending in a row, each place as often as its call weighs.
-use Rattle.std.specs.Prelude.{List, ◌≡◌, ℕ, zero, suc, ◌+◌, ◌*◌, ◌<◌, ◌≤◌, get_or}
+use Rattle.std.specs.Prelude.{Option, Some, None, List, ◌≡◌, ℕ, zero, suc, ◌+◌, ◌*◌, ◌<◌, ◌≤◌, get_or}
 use Rattle.steps_reach.specs.CallTable.{most_calls}
 use Rattle.steps_places.specs.PlaceTable.{bit, Has}
 use Rattle.steps_places.specs.declared.numbers.Offset.{Offset}
@@ -29,19 +29,19 @@ pub record TableWeightIs (f w : List ℕ) (rows r : ℕ) : Type 0 where
   pub is : r ≡ table_weight f w rows
 
 -- the row of a number, if there is one
-pub record RowAtIs (f w : List ℕ) (rows number : ℕ) (r : Offset) : Type 0 where
-  pub sum : number ≡ table_weight f w r.index + r.left
-  pub within : r.index ≤ rows
-  pub there : r.index < rows → r.left < weight_below (get_or f r.index 0) w most_calls
+pub record RowAtIs (f w : List ℕ) (rows number : ℕ) (r : Option Offset) : Type 0 where
+  pub some : (p : Offset) → r ≡ Some p
+      → (number ≡ table_weight f w p.index + p.left) × (p.index < rows) × (p.left < weight_below (get_or f p.index 0) w most_calls)
+  pub none : r ≡ None → table_weight f w rows ≤ number
 
 -- the call of a number in a row, if there is one
-pub record CallAtIs (x : ℕ) (w : List ℕ) (number : ℕ) (r : Offset) : Type 0 where
-  pub sum : number ≡ weight_below x w r.index + r.left
-  pub within : r.index ≤ most_calls
-  pub there : r.index < most_calls → (bit x r.index ≡ 1) × (r.left < get_or w r.index 0)
+pub record CallAtIs (x : ℕ) (w : List ℕ) (number : ℕ) (r : Option Offset) : Type 0 where
+  pub some : (p : Offset) → r ≡ Some p
+      → (number ≡ weight_below x w p.index + p.left) × (p.index < most_calls) × (bit x p.index ≡ 1) × (p.left < get_or w p.index 0)
+  pub none : r ≡ None → weight_below x w most_calls ≤ number
 
 -- The place of a number below the weight of the table.
-unfoldable pub PlaceAtIs : List ℕ → List ℕ → ℕ → ℕ → Placed → Type 0
+unfoldable pub PlaceAtIs : List ℕ → List ℕ → ℕ → ℕ → Option Placed → Type 0
 PlaceAtIs f w rows number r = number < table_weight f w rows
-    → (r.row < rows) × (r.call < most_calls) × Has f r.row r.call × (r.left < get_or w r.call 0)
-    × (number ≡ table_weight f w r.row + (weight_below (get_or f r.row 0) w r.call + r.left))
+    → (p : Placed) × (r ≡ Some p) × (p.row < rows) × (p.call < most_calls) × Has f p.row p.call × (p.left < get_or w p.call 0)
+    × (number ≡ table_weight f w p.row + (weight_below (get_or f p.row 0) w p.call + p.left))

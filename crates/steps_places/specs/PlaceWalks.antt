@@ -1,5 +1,5 @@
 -- What the walk of a body puts into the table of places (document 02, request 2026-01): its unprefixed calls, each beneath the matches above it.
-use Rattle.std.specs.Prelude.{Bool, true, false, List, ◌++◌, reverse, ◌⊎◌, ◌≡◌, ℕ, ◌+◌, ◌-◌, ◌^◌, ◌<◌, ◌≤◌, length, get_or, drop}
+use Rattle.std.specs.Prelude.{Option, Some, None, Bool, true, false, List, ◌++◌, reverse, ◌⊎◌, ◌≡◌, ℕ, ◌+◌, ◌-◌, ◌^◌, ◌<◌, ◌≤◌, length, get_or, drop}
 use Rattle.calculus.specs.Cond.{Cond}
 use Rattle.calculus.specs.Definitions.{Defs, opened}
 use Rattle.calculus.specs.Free.{In}
@@ -27,9 +27,9 @@ pub record PendingIs (x y j : ℕ) (r : Bool) : Type 0 where
   pub done : r ≡ false → bit x j ≡ 1 → bit y j ≡ 1
 
 -- the first bit of x that y has not, if there is one
-pub record NextIs (x y r : ℕ) : Type 0 where
-  pub pending : r < most_calls → (bit x r ≡ 1) × (¬ (bit y r ≡ 1))
-  pub none : most_calls ≤ r → (j : ℕ) → j < most_calls → bit x j ≡ 1 → bit y j ≡ 1
+pub record NextIs (x y : ℕ) (r : Option ℕ) : Type 0 where
+  pub pending : (j : ℕ) → r ≡ Some j → (j < most_calls) × (bit x j ≡ 1) × (¬ (bit y j ≡ 1))
+  pub none : r ≡ None → (j : ℕ) → j < most_calls → bit x j ≡ 1 → bit y j ≡ 1
 
 -- the names of the first call are those of the first row
 unfoldable pub FirstNames : List ℕ → ℕ → List ℕ → Type 0
@@ -38,10 +38,15 @@ FirstNames t count xs = (length xs ≡ count) × ((j : ℕ) → j < count → ge
 unfoldable pub SlotIs : List ℕ → ℕ → ℕ → ℕ → Type 0
 SlotIs t count name r = (xs : List ℕ) → FirstNames t count xs → r ≡ slot_of xs name
 
+-- the first of those names that is this one, if one is
+pub record SlotFound (t : List ℕ) (count name : ℕ) (r : Option ℕ) : Type 0 where
+  pub some : (j : ℕ) → r ≡ Some j → (j < count) × SlotIs t count name j
+  pub none : r ≡ None → SlotIs t count name count
+
 -- the first row that has the call, if one has
-pub record CallNumberIs (t : List ℕ) (k : ℕ) (names : List ℕ) (n r : ℕ) : Type 0 where
-  pub held : r < most_calls → Held t r k names n
-  pub absent : most_calls ≤ r → (i : ℕ) → i < most_calls → ¬ Held t i k names n
+pub record CallNumberIs (t : List ℕ) (k : ℕ) (names : List ℕ) (n : ℕ) (r : Option ℕ) : Type 0 where
+  pub held : (i : ℕ) → r ≡ Some i → (i < most_calls) × Held t i k names n
+  pub absent : r ≡ None → (i : ℕ) → i < most_calls → ¬ Held t i k names n
 
 -- P stands at `at` in the body of the call of number j, whose names ys are among those of the first call; its unprefixed calls have rows.
 pub record Standing (q : Question) (s : List ℕ) (at j : ℕ) (t : List ℕ) (count : ℕ) (xs ys : List ℕ) (P : Term) : Type 0 where

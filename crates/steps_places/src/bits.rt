@@ -36,16 +36,14 @@ fn is_pending(set: u64, done: u64, j: usize) -> bool
     true
 }
 
-// The first member of a set that the other has not, and 64 if there is none.
-pub fn next_pending(set: u64, done: u64) -> usize
+// The first member of a set that the other has not, if there is one.
+pub fn next_pending(set: u64, done: u64) -> Option<usize>
     ensures { NextIs set done result }
 {
-    let mut j = 0;
-    while j < MOST_CALLS {
+    for j in 0..MOST_CALLS {
         if is_pending(set, done, j) {
-            return j;
+            return Some(j);
         }
-        j += 1;
     }
-    MOST_CALLS
+    None
 }

@@ -27,10 +27,8 @@ fn row_weight(set: u64, weights: &[u32]) -> usize
     ensures { RowWeightIs set weights.now most_calls result }
 {
     let mut sum = 0;
-    let mut j = 0;
-    while j < MOST_CALLS {
+    for j in 0..MOST_CALLS {
         sum += weight_in(set, weights, j);
-        j += 1;
     }
     sum
 }
@@ -41,10 +39,8 @@ pub fn table_weight(found: &[u64], rows: usize, weights: &[u32]) -> usize
     ensures { TableWeightIs found.now weights.now rows result }
 {
     let mut sum = 0;
-    let mut r = 0;
-    while r < rows {
+    for r in 0..rows {
         sum += row_weight(found[r], weights);
-        r += 1;
     }
     sum
 }
@@ -56,42 +52,35 @@ pub struct Offset {
     pub left: usize,
 }
 
-// The row of this number.
-fn row_at(found: &[u64], rows: usize, weights: &[u32], number: usize) -> Offset
+// The row of this number, if there is one.
+fn row_at(found: &[u64], rows: usize, weights: &[u32], number: usize) -> Option<Offset>
     requires { rows ≤ length found.now }
     ensures { RowAtIs found.now weights.now rows number result }
 {
-    let mut r = 0;
     let mut left = number;
-    while r < rows {
+    for r in 0..rows {
         let w = row_weight(found[r], weights);
         if left < w {
-            return Offset { index: r, left };
+            return Some(Offset { index: r, left });
         }
         left -= w;
-        r += 1;
     }
-    Offset { index: rows, left }
+    None
 }
 
-// The call of this number in a row.
-fn call_at(set: u64, weights: &[u32], number: usize) -> Offset
+// The call of this number in a row, if there is one.
+fn call_at(set: u64, weights: &[u32], number: usize) -> Option<Offset>
     ensures { CallAtIs set weights.now number result }
 {
-    let mut j = 0;
     let mut left = number;
-    while j < MOST_CALLS {
+    for j in 0..MOST_CALLS {
         let w = weight_in(set, weights, j);
         if left < w {
-            return Offset { index: j, left };
+            return Some(Offset { index: j, left });
         }
         left -= w;
-        j += 1;
     }
-    Offset {
-        index: MOST_CALLS,
-        left,
-    }
+    None
 }
 
 // A place: its row, its call, and the number left within what the call weighs.
@@ -102,24 +91,17 @@ pub struct Placed {
     pub left: usize,
 }
 
-// The place of this number.
-pub fn place_at(found: &[u64], rows: usize, weights: &[u32], number: usize) -> Placed
+// The place of this number, if there is one.
+pub fn place_at(found: &[u64], rows: usize, weights: &[u32], number: usize) -> Option<Placed>
     requires { rows ≤ length found.now }
     ensures { PlaceAtIs found.now weights.now rows number result }
 {
-    let at = row_at(found, rows, weights, number);
+    let at = row_at(found, rows, weights, number)?;
     let row = at.index;
-    if rows <= row {
-        return Placed {
-            row,
-            call: MOST_CALLS,
-            left: at.left,
-        };
-    }
-    let c = call_at(found[row], weights, at.left);
-    Placed {
+    let c = call_at(found[row], weights, at.left)?;
+    Some(Placed {
         row,
         call: c.index,
         left: c.left,
-    }
+    })
 }

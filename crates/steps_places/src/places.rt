@@ -1,4 +1,4 @@
-// The table of the places of a call (request 2026-01). Matches lead to rows of smaller number, so that each row is closed once, the last one first.
+// The table of the places of a call. Matches lead to rows of smaller number, so that each row is closed once, the last one first.
 ghost use Rattle.std.specs.Prelude.{◌≡◌, ◌≤◌, ◌<◌, length};
 ghost use Rattle.terms.specs.Limits.{greatest_arity};
 ghost use Rattle.steps_tallies.specs.Tally.{BodiesTallied};
@@ -9,7 +9,7 @@ ghost use Rattle.steps_places.specs.PlaceWalks.{OpenPlaceIs, CloseRowIs, Cleared
 use crate::bits::{next_pending, with_bit};
 use crate::walk::{Spot, find_term};
 use steps_partitions::partition::ways;
-use steps_reach::table::{CALL_BYTES, MOST_CALLS};
+use steps_reach::table::CALL_BYTES;
 use steps_tallies::bodies::body_at;
 use steps_tallies::tally::{body_tally, place_of};
 use terms_bytes::bytes::get;
@@ -45,8 +45,7 @@ fn close_row(
     ensures { CloseRowIs question.now row count table.now found.old found.new }
 {
     let mut done: u64 = 0;
-    let mut j = next_pending(found[row], done);
-    while j < MOST_CALLS {
+    while let Some(j) = next_pending(found[row], done) {
         done = with_bit(done, j);
         open_place(
             question,
@@ -59,7 +58,6 @@ fn close_row(
             table,
             found,
         );
-        j = next_pending(found[row], done);
     }
 }
 
@@ -68,11 +66,7 @@ fn clear(found: &mut [u64], rows: usize)
     requires { rows ≤ length found.old }
     ensures { Cleared found.new rows }
 {
-    let mut r = 0;
-    while r < rows {
-        found[r] = 0;
-        r += 1;
-    }
+    found[..rows].fill(0);
 }
 
 // The table with the first call alone, under no condition: the last row.
@@ -90,10 +84,9 @@ pub fn find_places(question: &[u8], bodies: &[u32], count: usize, table: &[u8], 
     requires { (count ≤ greatest_arity) × (length found.old ≡ most_partitions) × BodiesTallied question.now bodies.now }
     ensures { FindPlacesIs question.now count table.now found.new }
 {
-    let mut row = ways(count, 0);
-    start(found, row);
-    while 0 < row {
-        row -= 1;
+    let rows = ways(count, 0);
+    start(found, rows);
+    for row in (0..rows).rev() {
         close_row(question, bodies, row, count, table, found);
     }
 }

@@ -1,10 +1,10 @@
-// The unprefixed calls of a body, put into the table of places, each beneath the matches above it (request 2026-01).
+// The unprefixed calls of a body, put into the table of places, each beneath the matches above it.
 ghost use Rattle.std.specs.Prelude.{◌≡◌, ◌≤◌, ◌<◌, length, get_or};
 ghost use Rattle.terms.specs.Limits.{longest_term, greatest_arity};
 ghost use Rattle.steps_tallies.specs.Tally.{TallyIs};
 ghost use Rattle.steps_partitions.specs.Partition.{most_partitions};
 ghost use Rattle.steps_reach.specs.CallTable.{most_calls};
-ghost use Rattle.steps_places.specs.PlaceWalks.{SlotIs, CallNumberIs, MatchedIs, FindTermIs};
+ghost use Rattle.steps_places.specs.PlaceWalks.{SlotFound, CallNumberIs, MatchedIs, FindTermIs};
 
 use crate::bits::with_bit;
 use steps_partitions::partition::merged_row;
@@ -25,33 +25,29 @@ pub struct Spot {
 }
 
 // The first of the first call's names that is this one.
-fn slot_of(table: &[u8], count: usize, name: u8) -> usize
+fn slot_of(table: &[u8], count: usize, name: u8) -> Option<usize>
     requires { count ≤ greatest_arity }
-    ensures { SlotIs table.now count name result }
+    ensures { SlotFound table.now count name result }
 {
-    let mut j = 0;
-    while j < count {
+    for j in 0..count {
         if get(table, 1 + j) == name {
-            return j;
+            return Some(j);
         }
-        j += 1;
     }
-    count
+    None
 }
 
-// The number of a call in the table of calls, and 64 if it is not there.
-fn call_number(table: &[u8], definition: usize, names: &[u8], count: usize) -> usize
+// The number of a call in the table of calls, if it is there.
+fn call_number(table: &[u8], definition: usize, names: &[u8], count: usize) -> Option<usize>
     requires { count ≤ greatest_arity }
     ensures { CallNumberIs table.now definition names.now count result }
 {
-    let mut i = 0;
-    while i < MOST_CALLS {
+    for i in 0..MOST_CALLS {
         if is_call(table, i, definition, names, count) {
-            return i;
+            return Some(i);
         }
-        i += 1;
     }
-    MOST_CALLS
+    None
 }
 
 // The row behind the match at `at`.
@@ -62,14 +58,12 @@ fn matched(question: &[u8], src: &[u8], at: usize, spot: Spot, table: &[u8]) -> 
     let row = spot.row;
     let count = spot.count;
     let names = called_names(question, src, at + 1, 2, table, spot.call);
-    let i = slot_of(table, count, names[0]);
-    let j = slot_of(table, count, names[1]);
-    if count <= i {
+    let Some(i) = slot_of(table, count, names[0]) else {
         return row;
-    }
-    if count <= j {
+    };
+    let Some(j) = slot_of(table, count, names[1]) else {
         return row;
-    }
+    };
     merged_row(row, count, i, j)
 }
 
@@ -85,10 +79,9 @@ fn put_place(question: &[u8], src: &[u8], at: usize, spot: Spot, table: &[u8], f
         return;
     }
     let names = called_names(question, src, at + 2, n, table, spot.call);
-    let i = call_number(table, k, &names, n);
-    if MOST_CALLS <= i {
+    let Some(i) = call_number(table, k, &names, n) else {
         return;
-    }
+    };
     if found.len() <= row {
         return;
     }

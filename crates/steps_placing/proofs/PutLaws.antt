@@ -54,7 +54,7 @@ use Rattle.steps_placing.proofs.PlainResults.{tidied-canonical, plain_at}
 use Rattle.steps_placing.proofs.RawRoom.{raw_room}
 use Rattle.steps_placing.proofs.ResultScope.{within, silent_scope}
 use Rattle.steps_placing.proofs.TidiedResults.{result_scope}
-use Rattle.steps_placing.proofs.WrittenLaws.{whole-bytes}
+use Rattle.steps_placing.proofs.WrittenLaws.{whole-bytes, written_plain}
 
 pub opposed : {T : Type 0} → true ≡ false → T
 opposed f = let z : ◌≡◌ {A = ℕ} 0 1 = cc in absurd (omega arith)
@@ -88,6 +88,15 @@ module _ (class : List ℕ) (action : ActionBytes) (result : List ℕ) (n : ℕ)
           go true d = let k = leb-true b longest_term d in absurd (omega (arith, f k))
           go false d = leb-false b longest_term d
 
+  -- A number past the limit says the same as any other.
+  pub put_result_passed : (m : ℕ) (area' : List ℕ) → most_steps < m → PutResultIs class action result n area count m area'
+      → PutResultIs class action result n area count (most_steps + 1) area'
+  unfolding PutIs
+  put_result_passed m area' h p = record {
+    is = λ out x M α A size w classes acts found s.
+        record { stands = λ k. absurd (omega arith); passed = λ _ cs. (p.is out x M α A size w classes acts found s).passed h cs };
+  }
+
   pub put_result_inserted : n ≤ longest_term → name_count ≤ length class → (entry : List ℕ) → entry ≡ entry_bytes class action (take n result)
       → (r : ℕ) (area' : List ℕ) → InsertIs area count entry r area' → PutResultIs class action result n area count r area'
   unfolding PutIs
@@ -107,6 +116,12 @@ module _ (class : List ℕ) (action : ActionBytes) (result : List ℕ) (n : ℕ)
           go : (t : Bool) → leb b o ≡ t → b ≤ longest_term
           go true d = omega (arith, f (leb-true b o d))
           go false d = absurd (omega (arith, g (leb-false b o d)))
+
+-- Without restrictions a result that is too long before it is tidied passes a limit.
+pub written_long : (question class : List ℕ) (action : ActionBytes) (written : List ℕ) (n : ℕ) (restricted : Bool) (area : List ℕ) (count : ℕ) → longest_term < n
+    → restricted ≡ false → (area' : List ℕ) → PutWrittenIs question class action written n restricted area count (most_steps + 1) area'
+written_long question class action written n restricted area count long f area' =
+    written_plain question class action written n restricted area count (most_steps + 1) area' f (put_result_long class action written n area count long area')
 
 -- By the way in which its result was written: by the classes of its condition,
 module _ (question part : List ℕ) (restricted : Bool) (U : restricted ≡ false → PartUnrestricted question part) (silently : Bool) (i : ℕ) (class : List ℕ) (action : ActionBytes) (x : ℕ)

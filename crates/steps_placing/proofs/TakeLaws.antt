@@ -1,6 +1,7 @@
 -- A candidate by its number, from its label and the bytes of its result: what is put into the list. Assumes nothing.
 use mathlib.Core.Bool.{Bool, false}
 use mathlib.Core.List.{List, [], ◌++◌, append-nil}
+use mathlib.Core.Logic.{inr}
 use mathlib.Core.Path.{◌≡◌, refl, sym, ◌∙◌, ap, subst}
 use native.Mathlib.Omega.{arith}
 use Prim.Native.Nat.{ℕ, ◌+◌, ◌<◌, ◌≤◌}
@@ -21,7 +22,7 @@ use Rattle.steps_tallies.specs.Candidates.{candidates}
 use Rattle.steps.specs.Raw.{Candidate, step, blocked}
 use Rattle.steps_plans.specs.Plans.{receiving, chosen, WriteIs}
 use Rattle.steps_conditions.specs.declared.action.Label.{Label}
-use Rattle.steps_conditions.specs.declared.action.Status.TheVariants.{Blocked, Found}
+use Rattle.std.specs.Prelude.{Option, Some, None}
 use Rattle.steps_labels.proofs.ArgumentSlots.{slots_part}
 use Rattle.steps_splicing.specs.Collecting.{PutIs}
 use Rattle.steps_entries.specs.EntryBytes.{action_bytes}
@@ -80,6 +81,17 @@ result-written question part silently i class x names has out r out' w low q P l
       bounded = omega arith;
     }) shallow
 
+-- An end past the area says the same as any other.
+pub result_past : (question part : List ℕ) (silently : Bool) (i : ℕ) (class : List ℕ) (x : ℕ) (out : List ℕ) (r : ℕ) (out' : List ℕ) → length out < r
+    → ResultIs question part silently i class x out r out' → ResultIs question part silently i class x out (length out + 1) out'
+unfolding ResultIs
+result_past question part silently i class x out r out' h p low q P l M α A e ρ is shallow =
+    let w = p low q P l M α A e ρ is shallow in
+    record {
+      ends = inr (omega arith);
+      fits = λ t k. absurd (omega (arith, (w.fits t k).0));
+    }
+
 -- A step is put into the list by its header.
 pub step-put : (question part : List ℕ) (silently : Bool) (i : ℕ) (h : Label) (x : ℕ) (area : List ℕ) (count : ℕ) (action : ActionBytes)
     → action ≡ action_bytes h.condition.class x h.action → (r : ℕ) (area' : List ℕ)
@@ -91,7 +103,7 @@ step-put question part silently i h x area count action made r area' p q P l M �
     p.is q P l M α A e classes (made ∙ ap (action_bytes class x) hd.action ∙ action_is class M classes x α hd.names)
 
 -- The label of the candidate of a number over the bytes of a part.
-pub label_is : (question part : List ℕ) (silently : Bool) (i : ℕ) (args : List ℕ) (h : Label) → NthIs question part 0 i silently args 0 0 1 h
+pub label_is : (question part : List ℕ) (silently : Bool) (i : ℕ) (args : List ℕ) (h : Option Label) → NthIs question part 0 i silently args 0 0 1 h
     → LabelIs question part silently i h
 unfolding candidates_of
 label_is question part silently i args h label = record {
@@ -101,21 +113,25 @@ label_is question part silently i args h label = record {
 }
 
 -- What is put into the list, by the label.
-module _ (question part : List ℕ) (silently : Bool) (i : ℕ) (h : Label) (label : LabelIs question part silently i h) (x : ℕ) (area : List ℕ) (count : ℕ) where
-  pub takes_blocked : count ≤ most_steps → h.status ≡ Blocked
+module _ (question part : List ℕ) (silently : Bool) (i : ℕ) (h : Option Label) (label : LabelIs question part silently i h) (x : ℕ) (area : List ℕ) (count : ℕ) where
+  pub takes_blocked : count ≤ most_steps → h ≡ None
       → TakeIs question part silently i x area count count area
   unfolding TakeIs Labels PutIs
-  takes_blocked few b q P l k = go (get_or (candidates_of silently q P) i blocked) (label.is x q P l k)
+  takes_blocked few b q P l k =
+      go (get_or (candidates_of silently q P) i blocked)
+      (subst (λ (h : Option Label). Labels 0 (get_or (candidates_of silently q P) i blocked) h) b (label.is x q P l k))
     where
-      go : (c : Candidate) → Labels 0 c h → PutIs c x area count count area
-      go (step M α A) t = let f = t.found in let z : ◌≡◌ {A = ℕ} 0 1 = cc in absurd (omega arith)
+      go : (c : Candidate) → Labels 0 c None → PutIs c x area count count area
+      go (step M α A) t = elim t [ ]
       go blocked t = λ found s. put-blocked area x count found s few
 
-  pub takes_found : h.status ≡ Found → (m : ℕ) (area' : List ℕ) → PutStepIs question part silently i h x area count m area'
+  pub takes_found : (r : Label) → h ≡ Some r → (m : ℕ) (area' : List ℕ) → PutStepIs question part silently i r x area count m area'
       → TakeIs question part silently i x area count m area'
   unfolding TakeIs PutStepIs Labels
-  takes_found s m area' put q P l k = go (get_or (candidates_of silently q P) i blocked) refl (label.is x q P l k)
+  takes_found r s m area' put q P l k =
+      go (get_or (candidates_of silently q P) i blocked) refl
+      (subst (λ (h : Option Label). Labels 0 (get_or (candidates_of silently q P) i blocked) h) s (label.is x q P l k))
     where
-      go : (c : Candidate) → get_or (candidates_of silently q P) i blocked ≡ c → Labels 0 c h → PutIs c x area count m area'
+      go : (c : Candidate) → get_or (candidates_of silently q P) i blocked ≡ c → Labels 0 c (Some r) → PutIs c x area count m area'
       go (step M α A) d t = put q P l M α A d t
       go blocked d t = let z : ◌≡◌ {A = ℕ} 0 1 = cc in absurd (omega arith)

@@ -4,7 +4,7 @@ use mathlib.Core.Bool.{Bool, true, false}
 use mathlib.Core.List.{List, ◌++◌}
 use mathlib.Core.Path.{◌≡◌, refl, sym, ◌∙◌, ap, subst, fun_ext}
 use native.Mathlib.Omega.{arith}
-use Prim.Native.Nat.{ℕ, suc, ◌≤◌}
+use Prim.Native.Nat.{ℕ, suc, ◌≤◌, ◌<◌}
 use lib.Dec.{leb}
 use lib.ListN.{length, take, drop}
 use lib.Seq.{take_at}
@@ -116,6 +116,18 @@ module _ (question class written : List ℕ) (n : ℕ) (merges restricted : Bool
       silent-put written
       (λ q out M B ok size c scope w.
       subst (λ (R : Term). Written out 0 (encode 0 R) n written) (sym (ap (λ (ρ : ℕ → ℕ). ren ρ B) (fun_ext (c.trivial f)) ∙ ren_id B)) w)
+
+  -- Where there was no room for it, merged or not, nothing was.
+  pub silent_long : longest_term < n → PutWrittenIs question class (record { kind = 0; channel = 0; object = 0 }) written n restricted area count r area'
+      → PutSilentIs question class written n merges restricted area count r area'
+  silent_long long =
+      silent-put written
+      (λ q out M B ok size c scope w.
+      let same : length (encode 0 (ren (cls M) B)) ≡ length (encode 0 B) = length-ren 0 0 (cls M) B in
+      record {
+        fits = λ h. absurd (omega (arith, (w.fits (omega (arith, same))).0, same));
+        over = λ h. w.over (omega (arith, same));
+      })
 
   pub silent-merged : (arities : List ℕ) → AritiesIs question arities → (merged : List ℕ) → MergedIs written n arities class merged
       → PutWrittenIs question class (record { kind = 0; channel = 0; object = 0 }) merged n restricted area count r area'

@@ -1,6 +1,6 @@
 -- The steps of a part put into an area, one candidate after the other: what the functions that do so promise. The definitions are those of an
 -- accepted question; the part need not be one of its sides.
-use Rattle.std.specs.Prelude.{Bool, true, List, ◌≡◌, ℕ, ◌<◌, ◌≤◌, length, get_or}
+use Rattle.std.specs.Prelude.{Bool, true, List, ◌≡◌, ℕ, ◌<◌, ◌≤◌, length, get_or, ◌+◌, Option, Some, None}
 use Rattle.calculus.specs.Abstraction.{Act}
 use Rattle.calculus.specs.Cond.{Cond}
 use Rattle.calculus.specs.Term.{Term, ren}
@@ -25,6 +25,16 @@ candidates_of silently q P = candidates silently (body_of q.bodies) 1 P
 unfoldable pub NamesAre : List ℕ → List ℕ → Type 0
 NamesAre class names = (n : ℕ) → n < name_count → get_or names n 0 ≡ get_or class n 0
 
+-- Where the bytes end that were written into an area; where the answer is none there was no room for them: past its end.
+abbrev pub ended_in : List ℕ → Option ℕ → ℕ
+ended_in out (Some e) = e
+ended_in out None = length out + 1
+
+-- An end that an answer says is in the area.
+abbrev pub InArea : List ℕ → Option ℕ → Type 0
+InArea out (Some e) = e ≤ length out
+InArea out None = Unit {0}
+
 -- The result of a candidate, rewritten by a table of the free names. By the classes of the condition it is that in canonical form (document 01,
 -- "Action and result are rewritten by the condition").
 unfoldable pub ResultIs : List ℕ → List ℕ → Bool → ℕ → List ℕ → ℕ → List ℕ → ℕ → List ℕ → Type 0
@@ -43,7 +53,7 @@ PutStepIs question part silently i h x area count r area' =
     → PutIs (step M α A) x area count r area'
 
 -- The label of one candidate by its number.
-pub record LabelIs (question part : List ℕ) (silently : Bool) (i : ℕ) (h : Label) : Type 0 where
+pub record LabelIs (question part : List ℕ) (silently : Bool) (i : ℕ) (h : Option Label) : Type 0 where
   pub is : (x : ℕ) (q : Question) (P : Term) → Lists question part x q P → i < length (candidates_of silently q P)
       → Labels 0 (get_or (candidates_of silently q P) i blocked) h
 

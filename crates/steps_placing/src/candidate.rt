@@ -1,10 +1,11 @@
 // A candidate put into the list by its number.
+ghost use Rattle.steps_splicing.specs.Collecting.{counted, Few};
 ghost use Rattle.steps_splicing.specs.Ready.{Tallied};
 ghost use Rattle.steps_placing.specs.Putting.{CanPut};
 ghost use Rattle.steps_placing.specs.Taking.{PutStepIs, LabelIs, TakeIs};
 
 use crate::put::{Step, put_classed};
-use steps_conditions::action::{Label, Status};
+use steps_conditions::action::Label;
 use steps_entries::listed::action_bytes;
 use steps_labels::label::{Scope, nth};
 use steps_splicing::splice::Selection;
@@ -20,14 +21,13 @@ fn put_step(
     header: Label,
     area: &mut [u8],
     count: usize,
-) -> usize
+) -> Option<usize>
     requires { CanPut question.now bodies.now part.now tally.now area.old count }
-    ensures { PutStepIs question.now part.now candidate.silently candidate.number header candidate.x area.old count result area.new }
+    ensures few { Few result }
+    ensures is { PutStepIs question.now part.now candidate.silently candidate.number header candidate.x area.old count (counted result) area.new }
 {
-    let condition = header.condition;
-    let class = condition.class;
-    let action = header.action;
-    let bytes = action_bytes(&class, action, candidate.x);
+    let class = header.condition.class;
+    let bytes = action_bytes(&class, header.action, candidate.x);
     let step = Step {
         candidate,
         action: bytes,
@@ -42,7 +42,7 @@ pub fn label_of(
     part: &[u8],
     tally: &[u32],
     candidate: Selection,
-) -> Label
+) -> Option<Label>
     requires { Tallied question.now bodies.now part.now tally.now }
     ensures { LabelIs question.now part.now candidate.silently candidate.number result }
 {
@@ -66,7 +66,7 @@ pub fn label_of(
     )
 }
 
-// Puts a candidate of the part into the list. Answers how many steps there are then.
+// Puts a candidate of the part into the list. Answers how many steps there are then; none where a limit is passed.
 pub fn take_candidate(
     question: &[u8],
     bodies: &[u32],
@@ -75,14 +75,16 @@ pub fn take_candidate(
     candidate: Selection,
     area: &mut [u8],
     count: usize,
-) -> usize
+) -> Option<usize>
     requires { CanPut question.now bodies.now part.now tally.now area.old count }
-    ensures { TakeIs question.now part.now candidate.silently candidate.number candidate.x area.old count result area.new }
+    ensures few { Few result }
+    ensures is { TakeIs question.now part.now candidate.silently candidate.number candidate.x area.old count (counted result) area.new }
 {
     let label = label_of(question, bodies, part, tally, candidate);
-    let status = label.status;
-    match status {
-        Status::Blocked => count,
-        Status::Found => put_step(question, bodies, part, tally, candidate, label, area, count),
+    match label {
+        None => Some(count),
+        Some(header) => put_step(
+            question, bodies, part, tally, candidate, header, area, count,
+        ),
     }
 }

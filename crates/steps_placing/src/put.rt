@@ -1,7 +1,7 @@
 // Steps put into the list: from the classes of the condition, the bytes of the action and those written for the result.
-ghost use Rattle.std.specs.Prelude.{◌≡◌, true, false, ◌+◌, ◌≤◌, length, take};
-ghost use Rattle.calculus.specs.Distinction.{among};
+ghost use Rattle.std.specs.Prelude.{◌≡◌, true, ◌+◌, ◌≤◌, length};
 ghost use Rattle.terms.specs.Limits.{name_count, longest_term};
+ghost use Rattle.steps_splicing.specs.Collecting.{counted, Few};
 ghost use Rattle.steps_splicing.specs.Ready.{Inside, FoundIn};
 ghost use Rattle.steps_placing.specs.Placing.{PutResultIs, PutWrittenIs, PutSilentIs, PutPlacedIs, PutClassedIs, PutMetIs};
 ghost use Rattle.steps_placing.specs.Putting.{HasRoom, CanPut, most_candidates};
@@ -18,6 +18,13 @@ use terms_bytes::limits::{LONGEST_TERM, NAME_COUNT};
 use terms_restrictions::occurs::occurs;
 use terms_tidying::tidied::is_tidied;
 use terms_tidying::tidy::{LONGEST_RAW, tidy};
+
+// A silent action's bytes.
+pub const SILENT: ActionBytes = ActionBytes {
+    kind: 0,
+    channel: 0,
+    object: 0,
+};
 
 // A step to be put into the list: its candidate, and the bytes of its action.
 #[derive(Clone, Copy)]
@@ -39,7 +46,8 @@ pub struct Communication {
     pub x: u8,
 }
 
-// Puts a step into the list whose result was written up to `n`. A result that is too long passes a limit.
+// Puts a step into the list whose result was written up to `n`, and answers how many steps there are then; none where a limit is passed. A result that is
+// too long passes one.
 fn put_result(
     class: &[u8],
     action: ActionBytes,
@@ -47,15 +55,17 @@ fn put_result(
     n: usize,
     area: &mut [u8],
     count: usize,
-) -> usize
+) -> Option<usize>
     requires { HasRoom area.old count × (name_count ≤ length class.now) × (longest_term ≤ length res.now) }
-    ensures { PutResultIs class.now action res.now n area.old count result area.new }
+    ensures few { Few result }
+    ensures is { PutResultIs class.now action res.now n area.old count (counted result) area.new }
 {
     if LONGEST_TERM < n {
-        return MOST_STEPS + 1;
+        return None;
     }
     let entry = entry_of(class, action, res, n);
-    insert(area, count, &entry)
+    let m = insert(area, count, &entry);
+    if MOST_STEPS < m { None } else { Some(m) }
 }
 
 // Puts a step into the list whose result was written up to `n`, where it may have restrictions: it is tidied first, unless it is so as it stands
@@ -69,9 +79,10 @@ fn put_written(
     restricted: bool,
     area: &mut [u8],
     count: usize,
-) -> usize
+) -> Option<usize>
     requires { HasRoom area.old count × (name_count ≤ length class.now) × (length res.now ≡ longest_term) × (restricted ≡ true → n ≤ longest_term) }
-    ensures { PutWrittenIs question.now class.now action res.now n restricted area.old count result area.new }
+    ensures few { Few result }
+    ensures is { PutWrittenIs question.now class.now action res.now n restricted area.old count (counted result) area.new }
 {
     if restricted {
         let arities = arities_of(question);
@@ -95,29 +106,15 @@ fn put_silent(
     restricted: bool,
     area: &mut [u8],
     count: usize,
-) -> usize
+) -> Option<usize>
     requires { HasRoom area.old count × (name_count ≤ length class.now) × (length res.old ≡ longest_term) × (restricted ≡ true → n ≤ longest_term) }
-    ensures { PutSilentIs question.now class.now res.old n merges restricted area.old count result area.new }
+    ensures few { Few result }
+    ensures is { PutSilentIs question.now class.now res.old n merges restricted area.old count (counted result) area.new }
 {
     if merges {
         merge_names(res, n, arities_of(question), class);
     }
-    let silent = ActionBytes {
-        kind: 0,
-        channel: 0,
-        object: 0,
-    };
-    put_written(question, class, silent, res, n, restricted, area, count)
-}
-
-// Whether the tidied form of a result has to say whether it is too long: it has restrictions, and there was no room for it as it is.
-fn is_raw(restricted: bool, n: usize) -> bool
-    ensures { result ≡ false → restricted ≡ true → n ≤ longest_term }
-{
-    if restricted {
-        return LONGEST_TERM < n;
-    }
-    false
+    put_written(question, class, SILENT, res, n, restricted, area, count)
 }
 
 // Puts a step of the part into the list whose result is too long as it is, but has restrictions, so that its tidied form need not be (request 2026-04): it
@@ -131,15 +128,22 @@ fn put_tidied(
     class: &[u8],
     area: &mut [u8],
     count: usize,
-) -> usize
+) -> Option<usize>
     requires { CanPut question.now bodies.now part.now tally.now area.old count × (name_count ≤ length class.now) }
-    ensures { PutClassedIs question.now part.now step.candidate.silently step.candidate.number class.now step.action step.candidate.x area.old count result area.new }
+    ensures few { Few result }
+    ensures is { PutClassedIs question.now part.now step.candidate.silently step.candidate.number class.now step.action step.candidate.x area.old count (counted result) area.new }
 {
-    let candidate = step.candidate;
-    let action = step.action;
     let mut result = [0u8; LONGEST_RAW];
-    let n = write_tidied(question, bodies, part, tally, candidate, class, &mut result);
-    put_result(class, action, &result, n, area, count)
+    let n = write_tidied(
+        question,
+        bodies,
+        part,
+        tally,
+        step.candidate,
+        class,
+        &mut result,
+    );
+    put_result(class, step.action, &result, n, area, count)
 }
 
 // Puts a step of the part into the list, `class` being the classes of its condition. A silent one's result has no new name: it is written with its own
@@ -153,20 +157,23 @@ pub fn put_classed(
     class: &[u8],
     area: &mut [u8],
     count: usize,
-) -> usize
+) -> Option<usize>
     requires { CanPut question.now bodies.now part.now tally.now area.old count × (name_count ≤ length class.now) }
-    ensures { PutClassedIs question.now part.now step.candidate.silently step.candidate.number class.now step.action step.candidate.x area.old count result area.new }
+    ensures few { Few result }
+    ensures is { PutClassedIs question.now part.now step.candidate.silently step.candidate.number class.now step.action step.candidate.x area.old count (counted result) area.new }
 {
     let candidate = step.candidate;
-    let action = step.action;
     let restricted = is_restricted(tally);
     let mut result = [0u8; LONGEST_TERM];
     if candidate.silently {
         let own = own_names();
-        let m = write_result(question, bodies, part, tally, candidate, &own, &mut result);
-        if is_raw(restricted, m) {
-            return put_tidied(question, bodies, part, tally, step, class, area, count);
-        }
+        let Some(m) = write_result(question, bodies, part, tally, candidate, &own, &mut result)
+        else {
+            if restricted {
+                return put_tidied(question, bodies, part, tally, step, class, area, count);
+            }
+            return None;
+        };
         return put_silent(
             question,
             class,
@@ -178,11 +185,22 @@ pub fn put_classed(
             count,
         );
     }
-    let n = write_result(question, bodies, part, tally, candidate, class, &mut result);
-    if is_raw(restricted, n) {
-        return put_tidied(question, bodies, part, tally, step, class, area, count);
-    }
-    put_written(question, class, action, &result, n, restricted, area, count)
+    let Some(n) = write_result(question, bodies, part, tally, candidate, class, &mut result) else {
+        if restricted {
+            return put_tidied(question, bodies, part, tally, step, class, area, count);
+        }
+        return None;
+    };
+    put_written(
+        question,
+        class,
+        step.action,
+        &result,
+        n,
+        restricted,
+        area,
+        count,
+    )
 }
 
 // Puts the step that a candidate of the term at a place is in the part into the list. Its condition merges nothing.
@@ -195,49 +213,40 @@ pub fn put_placed(
     step: Step,
     area: &mut [u8],
     count: usize,
-) -> usize
+) -> Option<usize>
     requires { CanPut question.now bodies.now part.now tally.now area.old count × Inside part.now place.at place.depth × (place.first + step.candidate.number ≤ most_candidates) }
-    ensures { PutPlacedIs question.now part.now place.at place.depth place.first step.candidate.silently step.candidate.number step.action step.candidate.x area.old count result area.new }
+    ensures few { Few result }
+    ensures is { PutPlacedIs question.now part.now place.at place.depth place.first step.candidate.silently step.candidate.number step.action step.candidate.x area.old count (counted result) area.new }
 {
     let candidate = step.candidate;
-    let action = step.action;
     let restricted = is_restricted(tally);
     let mut result = [0u8; LONGEST_TERM];
-    let n = write_placed(question, bodies, part, tally, place, candidate, &mut result);
     let class = own_names();
-    if is_raw(restricted, n) {
-        let whole = Selection {
-            silently: candidate.silently,
-            number: place.first + candidate.number,
-            x: candidate.x,
-        };
-        let numbered = Step {
-            candidate: whole,
-            action,
-        };
-        return put_tidied(question, bodies, part, tally, numbered, &class, area, count);
-    }
-    if restricted {
-        return put_written(
-            question, &class, action, &result, n, restricted, area, count,
-        );
-    }
-    put_result(&class, action, &result, n, area, count)
-}
-
-// Whether what was written for a communication up to `n` does not stand for its result: there was no room for it, or the restriction of [Close] binds a
-// name in it.
-fn falls_short(res: &[u8], n: usize, closes: bool) -> bool
-    requires { longest_term ≤ length res.now }
-    ensures { result ≡ false → (n ≤ longest_term) × (closes ≡ true → among (take n res.now) name_count ≡ false) }
-{
-    if LONGEST_TERM < n {
-        return true;
-    }
-    if closes {
-        return occurs(&res[..n], NAME_COUNT as u8);
-    }
-    false
+    let Some(n) = write_placed(question, bodies, part, tally, place, candidate, &mut result) else {
+        if restricted {
+            let whole = Selection {
+                silently: candidate.silently,
+                number: place.first + candidate.number,
+                x: candidate.x,
+            };
+            let numbered = Step {
+                candidate: whole,
+                action: step.action,
+            };
+            return put_tidied(question, bodies, part, tally, numbered, &class, area, count);
+        }
+        return None;
+    };
+    put_written(
+        question,
+        &class,
+        step.action,
+        &result,
+        n,
+        restricted,
+        area,
+        count,
+    )
 }
 
 // Puts a communication into the list by its number in the part.
@@ -250,23 +259,19 @@ fn put_numbered(
     class: &[u8],
     area: &mut [u8],
     count: usize,
-) -> usize
+) -> Option<usize>
     requires { CanPut question.now bodies.now part.now tally.now area.old count × (name_count ≤ length class.now) }
-    ensures { PutMetIs question.now part.now met class.now area.old count result area.new }
+    ensures few { Few result }
+    ensures is { PutMetIs question.now part.now met class.now area.old count (counted result) area.new }
 {
     let candidate = Selection {
         silently: true,
         number: met.number,
         x: met.x,
     };
-    let silent = ActionBytes {
-        kind: 0,
-        channel: 0,
-        object: 0,
-    };
     let step = Step {
         candidate,
-        action: silent,
+        action: SILENT,
     };
     put_classed(question, bodies, part, tally, step, class, area, count)
 }
@@ -281,14 +286,15 @@ pub fn put_met(
     class: &[u8],
     area: &mut [u8],
     count: usize,
-) -> usize
+) -> Option<usize>
     requires { CanPut question.now bodies.now part.now tally.now area.old count × FoundIn part.now met.left × FoundIn part.now met.right × (name_count ≤ length class.now) }
-    ensures { PutMetIs question.now part.now met class.now area.old count result area.new }
+    ensures few { Few result }
+    ensures is { PutMetIs question.now part.now met class.now area.old count (counted result) area.new }
 {
     let closes = met.closes;
     let restricted = closes | is_restricted(tally);
     let mut result = [0u8; LONGEST_TERM];
-    let n = write_met(
+    let Some(n) = write_met(
         question,
         bodies,
         part,
@@ -297,28 +303,24 @@ pub fn put_met(
         met.right,
         met.new,
         &mut result,
-    );
-    if restricted {
-        if falls_short(&result, n, closes) {
+    ) else {
+        if restricted {
             return put_numbered(question, bodies, part, tally, met, class, area, count);
         }
-    }
-    if restricted | met.merges {
-        return put_silent(
-            question,
-            class,
-            &mut result,
-            n,
-            met.merges,
-            restricted,
-            area,
-            count,
-        );
-    }
-    let silent = ActionBytes {
-        kind: 0,
-        channel: 0,
-        object: 0,
+        return None;
     };
-    put_result(class, silent, &result, n, area, count)
+    // the restriction of [Close] binds a name in what was written
+    if closes && occurs(&result[..n], NAME_COUNT as u8) {
+        return put_numbered(question, bodies, part, tally, met, class, area, count);
+    }
+    put_silent(
+        question,
+        class,
+        &mut result,
+        n,
+        met.merges,
+        restricted,
+        area,
+        count,
+    )
 }

@@ -1,9 +1,9 @@
-// The result of a candidate, as it is and tidied (document 02, request 2026-04).
+// The result of a candidate, as it is and tidied.
 ghost use Rattle.std.specs.Prelude.{◌≤◌, length};
 ghost use Rattle.terms.specs.Limits.{name_count};
 ghost use Rattle.terms_tidying.specs.Tidying.{longest_raw};
 ghost use Rattle.steps_splicing.specs.Ready.{Tallied};
-ghost use Rattle.steps_placing.specs.Taking.{NamesAre, ResultIs};
+ghost use Rattle.steps_placing.specs.Taking.{NamesAre, ResultIs, ended_in, InArea};
 ghost use Rattle.steps_placing.specs.TidiedResults.{TidiedResultIs};
 
 use steps_passing::names::NAME_SLOTS;
@@ -26,8 +26,8 @@ fn result_names(class: &[u8]) -> [u8; NAME_SLOTS]
     names
 }
 
-// The result of a candidate of the part, rewritten by the classes of its condition, or with its own names. The answer is where its bytes end, or past
-// the end of `out` where there is no room.
+// The result of a candidate of the part, rewritten by the classes of its condition, or with its own names. The answer is where its bytes end, if there is
+// room for them.
 pub fn write_result(
     question: &[u8],
     bodies: &[u32],
@@ -36,9 +36,10 @@ pub fn write_result(
     candidate: Selection,
     class: &[u8],
     out: &mut [u8],
-) -> usize
+) -> Option<usize>
     requires { Tallied question.now bodies.now part.now tally.now × (name_count ≤ length class.now) }
-    ensures { ResultIs question.now part.now candidate.silently candidate.number class.now candidate.x out.old result out.new }
+    ensures room { InArea out.old result }
+    ensures is { ResultIs question.now part.now candidate.silently candidate.number class.now candidate.x out.old (ended_in out.old result) out.new }
 {
     let task = Task {
         new: candidate.x,
@@ -54,7 +55,8 @@ pub fn write_result(
         binders: 0,
         put: 0,
     };
-    write(question, bodies, part, tally, whole, task, &mut names, out)
+    let end = write(question, bodies, part, tally, whole, task, &mut names, out);
+    if out.len() < end { None } else { Some(end) }
 }
 
 // The result of a candidate of the part, rewritten by the classes of its condition and tidied. The answer is where its bytes end.

@@ -21,7 +21,7 @@ use Rattle.terms.proofs.ReadEncoded.{encode-some}
 use Rattle.terms.proofs.RenamingKeeps.{length-ren}
 use Rattle.terms_bytes.proofs.Heights.{height-bytes}
 use Rattle.terms_bytes.proofs.Stores.{sets-join}
-use Rattle.steps_tallies.specs.Bodies.{AritiesIs, BodyIs, OpeningIs}
+use Rattle.steps_tallies.specs.Bodies.{AritiesIs, BodyIs, OpeningIs, Unopened}
 use Rattle.terms.specs.Question.{body_of}
 use Rattle.steps_passing.specs.Branching.{Reaches, BranchIs}
 use Rattle.steps_tallies.specs.Candidates.{candidates}
@@ -35,7 +35,7 @@ use Rattle.steps_passing.specs.declared.pass.Branch.{Branch}
 use Rattle.steps_passing.specs.declared.pass.Passed.{Passed}
 use Rattle.steps_plans.specs.declared.plan.Plan.{Plan}
 use Rattle.steps_plans.specs.declared.plan.Task.{Task}
-use Rattle.steps_passing.proofs.CalledPasses.{params, names-call, at_call}
+use Rattle.steps_passing.proofs.CalledPasses.{at_closed, params, names-call, at_call}
 use Rattle.steps_tallies.proofs.CallLaws.{body_scope, opened-candidates}
 use Rattle.steps_tallies.proofs.OwnNames.{own_part, own-under, own_body}
 use Rattle.steps_plans.proofs.AskLaws.{chosen_is, asks_still, ask_open, res_part, ask-res}
@@ -379,23 +379,24 @@ module _ (question s : List ℕ) (at D : ℕ) (names : List ℕ) (task : Task) (
             P (sym (tag_at s at D P rest st) ∙ g) scope st K;
       }
 
+  -- no call is left to open, or the question is not accepted
+  pub write_closed : 8 < get_or s at 0 → Unopened question s at task.calls → (r : ℕ) (out' : List ℕ) → put ≤ r → WriteIs question s at D names task out put r out'
+  write_closed g U r out' on = record {
+    on = on;
+    is = λ low q free σ P rest bs top ok few scope st K shallow. at_closed question s at D task.calls task.silently task.number g U
+        (λ (P : Term). Asks names task (body_of q.bodies) free D σ P bs top → Writes low out put bs r out') q free P rest ok scope st
+        (λ xs z K.
+        let body = body_of q.bodies in
+        let k = get_or s (at + 1) 0 in
+        let c : candidates task.silently body task.calls (call k (map σ xs)) ≡ [] =
+        ap (λ (c : ℕ). candidates task.silently body c (call k (map σ xs))) z
+        ∙ candidates_no_call body task.silently k (map σ xs) in
+        never K.condition K.action K.result (picked body free σ (call k xs) bs top K [] c))
+        K;
+  }
+
   -- [Con]
   module _ (g : 8 < get_or s at 0) (o : Opening) (O : OpeningIs question s at task.calls o) where
-    -- no call is left to open
-    pub write_closed : o.allowed ≡ false → (r : ℕ) (out' : List ℕ) → put ≤ r → WriteIs question s at D names task out put r out'
-    write_closed z r out' on = record {
-      on = on;
-      is = λ low q free σ P rest bs top ok few scope st K shallow. at_call question s at D task.calls task.silently task.number g o.definition o.arity O.definition O.arity
-          (λ (P : Term). Asks names task (body_of q.bodies) free D σ P bs top → Writes low out put bs r out') q free P rest ok scope st
-          (λ xs m a l scoped st K.
-          let body = body_of q.bodies in
-          let c : candidates task.silently body task.calls (call o.definition (map σ xs)) ≡ [] =
-          ap (λ (c : ℕ). candidates task.silently body c (call o.definition (map σ xs))) (O.not z q ok l)
-          ∙ candidates_no_call body task.silently o.definition (map σ xs) in
-          never K.condition K.action K.result (picked body free σ (call o.definition xs) bs top K [] c))
-          K;
-    }
-
     pub write-opened : (bytes : List ℕ) → BodyIs question o.definition bytes → task.calls ≤ 1 → (c : ℕ) → task.calls ≡ suc c → (t : Task) → t ≡ inside task
         → (given : List ℕ) → CalledIs s (at + 2) o.arity D names given
         → (r : ℕ) (out' : List ℕ) → WriteIs question bytes 0 o.arity given t out put r out' → WriteIs question s at D names task out put r out'

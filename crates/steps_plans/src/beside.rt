@@ -16,6 +16,7 @@ pub fn component_of(src: &[u8], tally: &[u32], at: usize, silently: bool, number
 {
     let mut b = at;
     let mut n = number;
+    // no range: where the walk goes on is computed each turn
     while b < src.len() {
         if src[b] != PARALLEL {
             return Branch { at: b, number: n };

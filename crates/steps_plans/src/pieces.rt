@@ -79,24 +79,18 @@ pub fn write_prefix(
 {
     let at = cursor.at;
     let binders = cursor.binders;
-    let put = cursor.put;
     let t = get(src, at);
     let levels = task.levels;
     if t == SILENT {
         let next = at + 1;
-        let rest = Cursor {
-            at: next,
-            binders,
-            put,
-        };
+        let rest = Cursor { at: next, ..cursor };
         return write_term(question, src, tally, rest, levels, names, out);
     }
     if t == OUTPUT {
         let behind = at + 3;
         let rest = Cursor {
             at: behind,
-            binders,
-            put,
+            ..cursor
         };
         return write_term(question, src, tally, rest, levels, names, out);
     }
@@ -106,7 +100,7 @@ pub fn write_prefix(
     let rest = Cursor {
         at: bound,
         binders: inner,
-        put,
+        ..cursor
     };
     write_term(question, src, tally, rest, levels, names, out)
 }

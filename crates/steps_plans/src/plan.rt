@@ -78,14 +78,7 @@ pub fn alone(
 pub fn with_number(task: Task, n: usize) -> Task
     ensures { result ≡ numbered n task }
 {
-    Task {
-        new: task.new,
-        levels: task.levels,
-        calls: task.calls,
-        still: task.still,
-        silently: task.silently,
-        number: n,
-    }
+    Task { number: n, ..task }
 }
 
 // The term itself.
@@ -93,12 +86,9 @@ fn rest(task: Task) -> Task
     ensures { result ≡ resting task }
 {
     Task {
-        new: task.new,
-        levels: task.levels,
-        calls: task.calls,
         still: true,
-        silently: task.silently,
         number: 0,
+        ..task
     }
 }
 
@@ -107,12 +97,10 @@ fn side(task: Task, n: usize) -> Task
     ensures { result ≡ visibly n task }
 {
     Task {
-        new: task.new,
-        levels: task.levels,
-        calls: task.calls,
         still: false,
         silently: false,
         number: n,
+        ..task
     }
 }
 
@@ -122,12 +110,8 @@ pub fn restrict(task: Task) -> Task
     ensures { result ≡ beneath task }
 {
     Task {
-        new: task.new,
         levels: task.levels + 1,
-        calls: task.calls,
-        still: task.still,
-        silently: task.silently,
-        number: task.number,
+        ..task
     }
 }
 
@@ -138,11 +122,7 @@ fn receive(task: Task, names: &[u8], slot: usize) -> Task
     let received = get(names, slot);
     Task {
         new: received,
-        levels: task.levels,
-        calls: task.calls,
-        still: task.still,
-        silently: task.silently,
-        number: task.number,
+        ..task
     }
 }
 
@@ -154,10 +134,7 @@ pub fn close(task: Task) -> Task
     Task {
         new: (TABLE_NAMES + task.levels) as u8,
         levels: task.levels + 1,
-        calls: task.calls,
-        still: task.still,
-        silently: task.silently,
-        number: task.number,
+        ..task
     }
 }
 
@@ -167,12 +144,8 @@ pub fn enter(task: Task) -> Task
     ensures { result ≡ inside task }
 {
     Task {
-        new: task.new,
-        levels: task.levels,
         calls: task.calls - 1,
-        still: task.still,
-        silently: task.silently,
-        number: task.number,
+        ..task
     }
 }
 

@@ -8,6 +8,7 @@ use Prim.Native.Nat.{ℕ, suc, ◌+◌, ◌-◌, ◌*◌, ◌<◌, ◌≤◌}
 use lib.ListN.{length, get_or, length-map}
 use lib.Seq.{ext_get_or}
 use borrow.Author.Tests.{lt-ltb}
+use Rattle.std.specs.Prelude.{Option, Some, None}
 use Rattle.calculus.specs.Definitions.{Defs, at, opened}
 use Rattle.calculus.specs.Lists.{◌∈◌}
 use Rattle.calculus.specs.Term.{Term, call}
@@ -25,6 +26,7 @@ use Rattle.steps_reach.specs.CallTable.{most_calls, table_bytes, RowIs, name_in,
 use Rattle.steps_reach.specs.Walks.{Defines, CalledNamesIs, Sized, Answers, Stands, ReachTermIs}
 use Rattle.steps_reach.proofs.Rows.{FewNames, table_kept, row-call, call-row, put_into, put-below, put-row}
 use Rattle.steps_reach.proofs.TableLaws.{name_there}
+use Rattle.steps_reach.proofs.WalkLaws.{some_none, some_is}
 use Rattle.steps_reach.proofs.Walking.{known-walked, opened-walked, opened_exceeded, one_too_many}
 
 pub called_names_are : (question s : List ℕ) (at count : ℕ) (t : List ℕ) (row : ℕ) (arities : List ℕ) (k arity : ℕ) (r : List ℕ)
@@ -72,25 +74,24 @@ module _ (question s : List ℕ) (at row : ℕ) (t : List ℕ) (size k : ℕ) (e
     unfolding InScope
     is_there = omega (arith, S.scope.0, same_definition)
 
-  abbrev Here : Question → Defs → List ℕ → List Call → List ℕ → ℕ → Term → Type 0
+  abbrev Here : Question → Defs → List ℕ → List Call → List ℕ → Option ℕ → Term → Type 0
   Here q Δ xs cs t' r P = Stands q Δ s at row t size xs P cs → Answers Δ (opened xs P) cs t' r
 
   module _ (far : 8 < get_or s at 0) where
     -- It is enough to look at calls.
-    each-call : (t' : List ℕ) (r : ℕ) → size ≤ r → r ≤ most_calls + 1 → ((i : ℕ) → i < 9 * size → get_or t' i 0 ≡ get_or t i 0)
+    each-call : (t' : List ℕ) (r : Option ℕ) → ((n : ℕ) → r ≡ Some n → (size ≤ n) × (n ≤ most_calls)) → ((i : ℕ) → i < 9 * size → get_or t' i 0 ≡ get_or t i 0)
         → ((q : Question) (Δ : Defs) → Defines question q Δ → (xs : List ℕ) (l : ℕ) (ns : List ℕ) (cs : List Call)
         → Stands q Δ s at row t size xs (call l ns) cs → Answers Δ (call l (given xs ns)) cs t' r) → ReachTermIs question s at row t size t' r
-    each-call t' r on few kept h = record {
+    each-call t' r on kept h = record {
       on = on;
-      few = few;
       kept = kept;
       is = λ q Δ d xs P cs S. only_call (Here q Δ xs cs t' r) (λ l ns S. h q Δ d xs l ns cs S) P
           (subst (λ i. 8 < i) (tag_at s at (length xs) P S.rest S.bytes) far) S;
     }
 
     -- A call that may not be opened is none of an accepted question.
-    pub reach_closed : size ≤ most_calls → ((q : Question) → check_of question ≡ result q → k < length q.arities → ⊥) → ReachTermIs question s at row t size t size
-    reach_closed held none = each-call t size (omega arith) (omega arith) (λ i l. refl)
+    pub reach_closed : size ≤ most_calls → ((q : Question) → check_of question ≡ result q → k < length q.arities → ⊥) → ReachTermIs question s at row t size t (Some size)
+    reach_closed held none = each-call t (Some size) (λ n e. let z = some_is e in (omega arith, omega arith)) (λ i l. refl)
         (λ q Δ d xs l ns cs S. absurd (none q d.accepted (is_there q Δ xs l ns cs S)))
 
   -- with n names.
@@ -140,19 +141,19 @@ module _ (question s : List ℕ) (at row : ℕ) (t : List ℕ) (size k : ℕ) (e
           (λ j g. R.names j (omega (arith, given-length)) ∙ sym (given-names j g))
 
     module _ (far : 8 < get_or s at 0) (held : size ≤ most_calls) where
-      pub reach_listed : ListedIs t size k names n true → ReachTermIs question s at row t size t size
-      reach_listed L = each-call far t size (omega arith) (omega arith) (λ i l. refl) (λ q Δ d xs l ns cs S.
+      pub reach_listed : ListedIs t size k names n true → ReachTermIs question s at row t size t (Some size)
+      reach_listed L = each-call far t (Some size) (λ n e. let z = some_is e in (omega arith, omega arith)) (λ i l. refl) (λ q Δ d xs l ns cs S.
           let (i, f, H) = L.held refl in
           let m = listed-call q Δ d xs l ns cs S i f H.0 H.1 in
           record {
-            within = λ z. record {
+            within = λ n e. record {
               list = cs;
-              size = S.count;
+              size = S.count ∙ some_is e;
               table = S.table;
               sized = S.sized;
               walked = known-walked Δ l (given xs ns) cs m S.distinct;
             };
-            past = λ z. absurd (omega arith);
+            past = λ e. absurd (some_none e);
           })
 
       module _ (L : ListedIs t size k names n false) where
@@ -160,14 +161,14 @@ module _ (question s : List ℕ) (at row : ℕ) (t : List ℕ) (size k : ℕ) (e
             (S : Stands q Δ s at row t size xs (call l ns) cs) → ¬ (◌∈◌ {A = Call} (l, given xs ns) cs)
         fresh q Δ d xs l ns cs S = new-call q Δ d xs l ns cs S (λ i f e M. L.absent refl i f (e, M))
 
-        pub reach_full : most_calls ≤ size → ReachTermIs question s at row t size t (most_calls + 1)
-        reach_full full = each-call far t (most_calls + 1) (omega arith) (omega arith) (λ i l. refl) (λ q Δ d xs l ns cs S. record {
-          within = λ z. absurd (omega arith);
-          past = λ z. one_too_many Δ l (given xs ns) cs S.distinct (fresh q Δ d xs l ns cs S) (omega (arith, S.count));
+        pub reach_full : most_calls ≤ size → ReachTermIs question s at row t size t None
+        reach_full full = each-call far t None (λ n e. absurd (some_none (sym e))) (λ i l. refl) (λ q Δ d xs l ns cs S. record {
+          within = λ n e. absurd (some_none (sym e));
+          past = λ e. one_too_many Δ l (given xs ns) cs S.distinct (fresh q Δ d xs l ns cs S) (omega (arith, S.count));
         })
 
         module _ (room : size < most_calls) (whole : length t ≡ table_bytes) (few : n ≤ greatest_arity) (there : n ≤ length names) (body : List ℕ)
-            (B : BodyIs question k body) (t₁ : List ℕ) (e₁ : t₁ ≡ put_into t size k n names room whole few there) (t₂ : List ℕ) (r : ℕ)
+            (B : BodyIs question k body) (t₁ : List ℕ) (e₁ : t₁ ≡ put_into t size k n names room whole few there) (t₂ : List ℕ) (r : Option ℕ)
             (R₁ : ReachTermIs question body 0 size t₁ (size + 1) t₂ r) where
           abbrev put : List ℕ
           put = put_into t size k n names room whole few there
@@ -207,13 +208,13 @@ module _ (question s : List ℕ) (at row : ℕ) (t : List ℕ) (size k : ℕ) (e
               sized' g c (inr m) = S.sized c m
 
           pub reach_opened : ReachTermIs question s at row t size t₂ r
-          reach_opened = each-call far t₂ r (omega (arith, R.on)) R.few (λ i l. R.kept i (omega arith) ∙ put-below t size k n names room whole few there i l)
+          reach_opened = each-call far t₂ r (λ n e. let o = R.on n e in (omega arith, o.1)) (λ i l. R.kept i (omega arith) ∙ put-below t size k n names room whole few there i l)
               (λ q Δ d xs l ns cs S.
               let A = R.is q Δ d (given xs ns) (Δ.body l) ((l, given xs ns) ∷ cs) (body_stands q Δ d xs l ns cs S) in
               let a = given_arity q Δ d xs l ns cs S in
               record {
-                within = λ z.
-                    let T = A.within z in
+                within = λ n z.
+                    let T = A.within n z in
                     record {
                       list = T.list;
                       size = T.size;

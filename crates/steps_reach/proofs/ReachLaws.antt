@@ -5,6 +5,7 @@ use mathlib.Core.Path.{◌≡◌, refl, sym, ap, subst, ◌∙◌}
 use native.Mathlib.Omega.{arith}
 use Prim.Native.Nat.{ℕ, ◌<◌, ◌≤◌}
 use lib.ListN.{length, get_or}
+use Rattle.std.specs.Prelude.{Option, Some}
 use Rattle.calculus.specs.Definitions.{Defs, opened}
 use Rattle.calls.specs.ReachLimit.{Call}
 use Rattle.terms.specs.Limits.{most_definitions, greatest_arity, longest_term}
@@ -16,6 +17,7 @@ use Rattle.steps_reach.specs.CallTable.{table_bytes, RowIs}
 use Rattle.steps_reach.specs.Walks.{Defines, Sized, Answers, Stands, ReachTermIs, ReachCallsIs}
 use Rattle.steps_reach.proofs.CallWalks.{body_in_scope, body_bytes}
 use Rattle.steps_reach.proofs.Rows.{row_kept, put_into, put-row}
+use Rattle.steps_reach.proofs.WalkLaws.{some_none, some_is}
 use Rattle.steps_reach.proofs.Walking.{opened-walked, opened_exceeded, reached_only, reached-all, reached-many}
 
 -- The tally of a body.
@@ -27,15 +29,15 @@ body-tallied question bodies N k l body B short t e =
 
 module _ (question : List ℕ) (k : ℕ) (xs : List ℕ) (body : List ℕ) (B : BodyIs question k body) where
   -- No body of an accepted question is too long.
-  pub reach_long : longest_term < length body → (t : List ℕ) → ReachCallsIs question k xs t 1
+  pub reach_long : longest_term < length body → (t : List ℕ) → ReachCallsIs question k xs t (Some 1)
   reach_long long t = record {
-    few = omega arith;
-    within = λ q Δ d there a l. absurd (omega (arith, ap length (B.is q d.accepted there), body-size question q d.accepted k));
-    past = λ q Δ d there a l. absurd (omega arith);
+    few = λ n e. let z = some_is e in omega arith;
+    within = λ q Δ d there a n e. absurd (omega (arith, ap length (B.is q d.accepted there), body-size question q d.accepted k));
+    past = λ q Δ d there a e. absurd (some_none e);
   }
 
   module _ (t : List ℕ) (whole : length t ≡ table_bytes) (few : length xs ≤ greatest_arity) (t₁ : List ℕ)
-      (e : t₁ ≡ put_into t 0 k (length xs) xs (omega arith) whole few (omega arith)) (t₂ : List ℕ) (r : ℕ) (R : ReachTermIs question body 0 0 t₁ 1 t₂ r) where
+      (e : t₁ ≡ put_into t 0 k (length xs) xs (omega arith) whole few (omega arith)) (t₂ : List ℕ) (r : Option ℕ) (R : ReachTermIs question body 0 0 t₁ 1 t₂ r) where
     first : RowIs t₁ 0 (k, xs)
     first = subst (λ x. RowIs x 0 (k, xs)) (sym e) (put-row t 0 k (length xs) xs (omega arith) whole few (omega arith) xs refl (λ j h. refl))
 
@@ -66,9 +68,9 @@ module _ (question : List ℕ) (k : ℕ) (xs : List ℕ) (body : List ℕ) (B : 
 
     pub reach_calls_are : ReachCallsIs question k xs t₂ r
     reach_calls_are = record {
-      few = R.few;
-      within = λ q Δ d there a l.
-          let T = (answers q Δ d there a).within l in
+      few = λ n e. (R.on n e).1;
+      within = λ q Δ d there a n e.
+          let T = (answers q Δ d there a).within n e in
           let w = opened-walked Δ k xs [] T.list (own q Δ d there a) T.walked in
           record {
             list = T.list;

@@ -5,6 +5,7 @@ use native.Mathlib.Omega.{arith}
 use Prim.Native.Nat.{ℕ, ◌+◌, ◌<◌, ◌≤◌}
 use lib.ListN.{length, get_or, drop, length-append}
 use lib.Seq.{drop-drop}
+use Rattle.std.specs.Prelude.{Option, Some, None}
 use Rattle.calculus.specs.Cond.{Cond}
 use Rattle.calculus.specs.Definitions.{Defs, at, opened}
 use Rattle.calculus.specs.Term.{Term, nil, tau, inp, out, bout, mat, sum, par, res, call, ren}
@@ -23,6 +24,12 @@ use Rattle.steps_reach.specs.Walks.{Defines, Tabled, Answers, Stands, ReachTermI
 use Rattle.steps_reach.proofs.Rows.{row_kept}
 use Rattle.steps_reach.proofs.Walking.{quiet_walked, mat-walked, sum-walked, mat_exceeded, left_exceeded, right_exceeded}
 
+pub some_none : {a : ℕ} → ◌≡◌ {A = Option ℕ} (Some a) None → ⊥
+some_none e = let z : ◌≡◌ {A = ℕ} 0 1 = cc in omega arith
+
+pub some_is : {a b : ℕ} → ◌≡◌ {A = Option ℕ} (Some a) (Some b) → a ≡ b
+some_is e = cc
+
 -- Only matches, choices and calls have unprefixed calls that a walk goes on to.
 pub no_bare : (σ : ℕ → ℕ) (P : Term) → (tag P ≡ 5 → ⊥) → (tag P ≡ 6 → ⊥) → (tag P ≡ 9 → ⊥) → (C : Cond) (l : ℕ) (ys : List ℕ) → ¬ Bare (ren σ P) C l ys
 no_bare σ nil m s c C l ys b = elim b [ ]
@@ -36,17 +43,17 @@ no_bare σ (par P Q) m s c C l ys b = elim b [ ]
 no_bare σ (res P) m s c C l ys b = elim b [ ]
 no_bare σ (call k xs) m s c C l ys b = absurd (c refl)
 
-mat-answers : (Δ : Defs) (a b : ℕ) (P : Term) (cs : List Call) (t : List ℕ) (r : ℕ) → Answers Δ P cs t r → Answers Δ (mat a b P) cs t r
+mat-answers : (Δ : Defs) (a b : ℕ) (P : Term) (cs : List Call) (t : List ℕ) (r : Option ℕ) → Answers Δ P cs t r → Answers Δ (mat a b P) cs t r
 mat-answers Δ a b P cs t r A = record {
-  within = λ l. let T = A.within l in record { list = T.list; size = T.size; table = T.table; sized = T.sized; walked = mat-walked Δ a b T.walked };
+  within = λ n l. let T = A.within n l in record { list = T.list; size = T.size; table = T.table; sized = T.sized; walked = mat-walked Δ a b T.walked };
   past = λ l. mat_exceeded Δ a b (A.past l);
 }
 
-sum-answers : (Δ : Defs) (P Q : Term) (cs : List Call) (t₁ : List ℕ) (n : ℕ) (T : Tabled Δ P cs t₁ n) (t₂ : List ℕ) (r : ℕ) → Answers Δ Q T.list t₂ r
+sum-answers : (Δ : Defs) (P Q : Term) (cs : List Call) (t₁ : List ℕ) (n : ℕ) (T : Tabled Δ P cs t₁ n) (t₂ : List ℕ) (r : Option ℕ) → Answers Δ Q T.list t₂ r
     → Answers Δ (sum P Q) cs t₂ r
 sum-answers Δ P Q cs t₁ n T t₂ r A = record {
-  within = λ l.
-      let U = A.within l in
+  within = λ m l.
+      let U = A.within m l in
       record { list = U.list; size = U.size; table = U.table; sized = U.sized; walked = sum-walked Δ T.walked U.walked };
   past = λ l. right_exceeded Δ T.walked (A.past l);
 }
@@ -57,32 +64,31 @@ module _ (question s : List ℕ) (at row : ℕ) (t : List ℕ) (size : ℕ) (hel
 
   -- Nothing stands unprefixed there.
   still : ((q : Question) (Δ : Defs) (xs : List ℕ) (P : Term) (cs : List Call) → here q Δ xs P cs → (C : Cond) (l : ℕ) (ys : List ℕ)
-      → ¬ Bare (opened xs P) C l ys) → ReachTermIs question s at row t size t size
+      → ¬ Bare (opened xs P) C l ys) → ReachTermIs question s at row t size t (Some size)
   still h = record {
-    on = omega arith;
-    few = omega arith;
+    on = λ n e. let z = some_is e in (omega arith, omega arith);
     kept = λ i l. refl;
     is = λ q Δ d xs P cs S. record {
-      within = λ l. record {
+      within = λ n e. record {
         list = cs;
-        size = S.count;
+        size = S.count ∙ some_is e;
         table = S.table;
         sized = S.sized;
         walked = quiet_walked Δ (opened xs P) cs (h q Δ xs P cs S) S.distinct;
       };
-      past = λ l. absurd (omega arith);
+      past = λ e. absurd (some_none e);
     };
   }
 
-  pub reach_past : length s ≤ at → ReachTermIs question s at row t size t size
+  pub reach_past : length s ≤ at → ReachTermIs question s at row t size t (Some size)
   reach_past p = still (λ q Δ xs P cs S C l ys b. let z = stands s at (length xs) P S.rest S.bytes in absurd (omega arith))
 
-  pub reach_other : (get_or s at 0 ≡ 5 → ⊥) → (get_or s at 0 ≡ 9 → ⊥) → (get_or s at 0 ≡ 6 → ⊥) → ReachTermIs question s at row t size t size
+  pub reach_other : (get_or s at 0 ≡ 5 → ⊥) → (get_or s at 0 ≡ 9 → ⊥) → (get_or s at 0 ≡ 6 → ⊥) → ReachTermIs question s at row t size t (Some size)
   reach_other m c x = still (λ q Δ xs P cs S.
       let g = tag_at s at (length xs) P S.rest S.bytes in
       no_bare _ P (λ e. m (g ∙ e)) (λ e. x (g ∙ e)) (λ e. c (g ∙ e)))
 
-  pub reach_short : length s ≤ at + 1 → get_or s at 0 ≡ 6 → ReachTermIs question s at row t size t size
+  pub reach_short : length s ≤ at + 1 → get_or s at 0 ≡ 6 → ReachTermIs question s at row t size t (Some size)
   unfolding encode
   reach_short p e = still (λ q Δ xs P cs S C l ys b.
       let g = tag_at s at (length xs) P S.rest S.bytes in
@@ -93,12 +99,11 @@ module _ (question s : List ℕ) (at row : ℕ) (t : List ℕ) (size : ℕ) (hel
       long D = only_sum (λ P. length (encode D P) ≤ 1 → ⊥) (λ P Q l. omega (arith, encode-some D P, length-append (encode D P) (encode D Q)))
 
 -- A match: the continuation stands behind three bytes.
-pub reach_mat : (question s : List ℕ) (at row : ℕ) (t : List ℕ) (size : ℕ) (t' : List ℕ) (r : ℕ) → get_or s at 0 ≡ 5
+pub reach_mat : (question s : List ℕ) (at row : ℕ) (t : List ℕ) (size : ℕ) (t' : List ℕ) (r : Option ℕ) → get_or s at 0 ≡ 5
     → ReachTermIs question s (at + 3) row t size t' r → ReachTermIs question s at row t size t' r
 unfolding encode InScope
 reach_mat question s at row t size t' r g R = record {
   on = R.on;
-  few = R.few;
   kept = R.kept;
   is = λ q Δ d xs P cs S. only_mat (λ P. Stands q Δ s at row t size xs P cs → Answers Δ (opened xs P) cs t' r)
       (λ a b Q S. mat-answers Δ _ _ (opened xs Q) cs t' r (R.is q Δ d xs Q cs (record {
@@ -116,8 +121,8 @@ reach_mat question s at row t size t' r g R = record {
       P (sym (tag_at s at (length xs) P S.rest S.bytes) ∙ g) S;
 }
 
-module _ (question s : List ℕ) (at row : ℕ) (t : List ℕ) (size : ℕ) (g : get_or s at 0 ≡ 6) (t₁ : List ℕ) (n : ℕ)
-    (R : ReachTermIs question s (at + 1) row t size t₁ n) where
+module _ (question s : List ℕ) (at row : ℕ) (t : List ℕ) (size : ℕ) (g : get_or s at 0 ≡ 6) (t₁ : List ℕ) (left : Option ℕ)
+    (R : ReachTermIs question s (at + 1) row t size t₁ left) where
   -- The left side of a choice.
   left_stands : (q : Question) (Δ : Defs) (xs : List ℕ) (P Q : Term) (cs : List Call) → Stands q Δ s at row t size xs (sum P Q) cs
       → Stands q Δ s (at + 1) row t size xs P cs
@@ -136,22 +141,21 @@ module _ (question s : List ℕ) (at row : ℕ) (t : List ℕ) (size : ℕ) (g :
   }
 
   -- A choice whose left side reaches more calls than the table holds.
-  pub reach_left : most_calls < n → ReachTermIs question s at row t size t₁ n
+  pub reach_left : left ≡ None → ReachTermIs question s at row t size t₁ None
   reach_left over = record {
-    on = R.on;
-    few = R.few;
+    on = λ n e. absurd (some_none (sym e));
     kept = R.kept;
-    is = λ q Δ d xs P cs S. only_sum (λ P. Stands q Δ s at row t size xs P cs → Answers Δ (opened xs P) cs t₁ n)
+    is = λ q Δ d xs P cs S. only_sum (λ P. Stands q Δ s at row t size xs P cs → Answers Δ (opened xs P) cs t₁ None)
         (λ P Q S. record {
-          within = λ l. absurd (omega arith);
-          past = λ l. left_exceeded Δ ((R.is q Δ d xs P cs (left_stands q Δ xs P Q cs S)).past l);
+          within = λ n e. absurd (some_none (sym e));
+          past = λ e. left_exceeded Δ ((R.is q Δ d xs P cs (left_stands q Δ xs P Q cs S)).past over);
         })
         P (sym (tag_at s at (length xs) P S.rest S.bytes) ∙ g) S;
   }
 
   -- A choice of both sides.
-  module _ (before : row < size) (few : n ≤ most_calls) (tally : List ℕ) (T : TallyIs question s 0 tally) (e : ℕ) (end : e ≡ end_at tally (at + 1))
-      (t₂ : List ℕ) (r : ℕ) (R₂ : ReachTermIs question s e row t₁ n t₂ r) where
+  module _ (before : row < size) (n : ℕ) (got : left ≡ Some n) (tally : List ℕ) (T : TallyIs question s 0 tally) (e : ℕ) (end : e ≡ end_at tally (at + 1))
+      (t₂ : List ℕ) (r : Option ℕ) (R₂ : ReachTermIs question s e row t₁ n t₂ r) where
     right_stands : (q : Question) (Δ : Defs) → Defines question q Δ → (xs : List ℕ) (P Q : Term) (cs : List Call) → Stands q Δ s at row t size xs (sum P Q) cs
         → (U : Tabled Δ (opened xs P) cs t₁ n) → Stands q Δ s e row t₁ n xs Q U.list
     unfolding encode InScope
@@ -174,12 +178,11 @@ module _ (question s : List ℕ) (at row : ℕ) (t : List ℕ) (size : ℕ) (g :
 
     pub reach_both : ReachTermIs question s at row t size t₂ r
     reach_both = record {
-      on = omega (arith, R.on, R₂.on);
-      few = R₂.few;
-      kept = λ i l. R₂.kept i (omega (arith, R.on)) ∙ R.kept i l;
+      on = λ m e. let a = R.on n got in let b = R₂.on m e in (omega arith, b.1);
+      kept = λ i l. R₂.kept i (let a = R.on n got in omega arith) ∙ R.kept i l;
       is = λ q Δ d xs P cs S. only_sum (λ P. Stands q Δ s at row t size xs P cs → Answers Δ (opened xs P) cs t₂ r)
           (λ P Q S.
-          let U = (R.is q Δ d xs P cs (left_stands q Δ xs P Q cs S)).within few in
+          let U = (R.is q Δ d xs P cs (left_stands q Δ xs P Q cs S)).within n got in
           sum-answers Δ (opened xs P) (opened xs Q) cs t₁ n U t₂ r (R₂.is q Δ d xs Q U.list (right_stands q Δ d xs P Q cs S U)))
           P (sym (tag_at s at (length xs) P S.rest S.bytes) ∙ g) S;
     }

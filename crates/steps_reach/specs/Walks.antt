@@ -1,5 +1,5 @@
 -- What the walk of a body puts into the table of calls (document 02, request 2026-01): the calls that its unprefixed calls reach.
-use Rattle.std.specs.Prelude.{◌⊎◌, ◌≡◌, List, ◌++◌, ℕ, ◌+◌, ◌*◌, ◌<◌, ◌≤◌, length, get_or, drop}
+use Rattle.std.specs.Prelude.{◌⊎◌, ◌≡◌, Option, Some, None, List, ◌++◌, ℕ, ◌*◌, ◌<◌, ◌≤◌, length, get_or, drop}
 use Rattle.calculus.specs.Cond.{Cond}
 use Rattle.calculus.specs.Definitions.{Defs, opened}
 use Rattle.calculus.specs.Lists.{◌∈◌, Distinct}
@@ -63,9 +63,9 @@ module _ (Δ : Defs) where
     pub sized : Sized list
     pub walked : Walked P cs list
 
-  pub record Answers (P : Term) (cs : List Call) (t : List ℕ) (r : ℕ) : Type 0 where
-    pub within : r ≤ most_calls → Tabled P cs t r
-    pub past : most_calls < r → Exceeded P cs
+  pub record Answers (P : Term) (cs : List Call) (t : List ℕ) (r : Option ℕ) : Type 0 where
+    pub within : (n : ℕ) → r ≡ Some n → Tabled P cs t n
+    pub past : r ≡ None → Exceeded P cs
 
 -- P stands at `at` in the body of the call in row `row`, whose names are xs; the first `size` rows have the calls cs.
 pub record Stands (q : Question) (Δ : Defs) (s : List ℕ) (at row : ℕ) (t : List ℕ) (size : ℕ) (xs : List ℕ) (P : Term) (cs : List Call) : Type 0 where
@@ -80,9 +80,8 @@ pub record Stands (q : Question) (Δ : Defs) (s : List ℕ) (at row : ℕ) (t : 
   pub sized : Sized Δ cs
   pub distinct : Distinct cs
 
-pub record ReachTermIs (question s : List ℕ) (at row : ℕ) (t : List ℕ) (size : ℕ) (t' : List ℕ) (r : ℕ) : Type 0 where
-  pub on : size ≤ r
-  pub few : r ≤ most_calls + 1
+pub record ReachTermIs (question s : List ℕ) (at row : ℕ) (t : List ℕ) (size : ℕ) (t' : List ℕ) (r : Option ℕ) : Type 0 where
+  pub on : (n : ℕ) → r ≡ Some n → (size ≤ n) × (n ≤ most_calls)
   pub kept : (i : ℕ) → i < 9 * size → get_or t' i 0 ≡ get_or t i 0
   pub is : (q : Question) (Δ : Defs) → Defines question q Δ → (xs : List ℕ) (P : Term) (cs : List Call)
       → Stands q Δ s at row t size xs P cs → Answers Δ (opened xs P) cs t' r
@@ -98,9 +97,9 @@ pub record Reaches (Δ : Defs) (k : ℕ) (xs : List ℕ) (t : List ℕ) (r : ℕ
   pub sound : (c : Call) → c ∈ list → (C : Cond) × Reached Δ k xs C c.0 c.1
   pub all : (C : Cond) (l : ℕ) (ys : List ℕ) → Reached Δ k xs C l ys → ◌∈◌ {A = Call} (l, ys) list
 
-pub record ReachCallsIs (question : List ℕ) (k : ℕ) (xs : List ℕ) (t : List ℕ) (r : ℕ) : Type 0 where
-  pub few : r ≤ most_calls + 1
+pub record ReachCallsIs (question : List ℕ) (k : ℕ) (xs : List ℕ) (t : List ℕ) (r : Option ℕ) : Type 0 where
+  pub few : (n : ℕ) → r ≡ Some n → n ≤ most_calls
   pub within : (q : Question) (Δ : Defs) → Defines question q Δ → k < length q.arities → length xs ≡ get_or q.arities k 0
-      → r ≤ most_calls → Reaches Δ k xs t r
+      → (n : ℕ) → r ≡ Some n → Reaches Δ k xs t n
   pub past : (q : Question) (Δ : Defs) → Defines question q Δ → k < length q.arities → length xs ≡ get_or q.arities k 0
-      → most_calls < r → ManyCalls Δ most_calls k xs
+      → r ≡ None → ManyCalls Δ most_calls k xs

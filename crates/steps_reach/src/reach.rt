@@ -1,4 +1,4 @@
-// The calls that opening a call reaches through unprefixed calls (request 2026-01): a body and the body of a call that stands unprefixed in it are
+// The calls that opening a call reaches through unprefixed calls : a body and the body of a call that stands unprefixed in it are
 // walked by turns. The calls that may still be opened fall, and then the bytes left.
 ghost use Rattle.std.specs.Prelude.{◌≡◌, ◌≤◌, ◌<◌, length, get_or};
 ghost use Rattle.terms.specs.Limits.{longest_term, greatest_arity, most_definitions};
@@ -31,7 +31,7 @@ pub fn called_names(
 }
 
 // The call at `at` in the body of the call in row `row`: if it is new, it is put into row `size`, and its body is walked. Answers how many calls the
-// table has then, and one more than the most if it cannot hold them.
+// table has then, if it can hold them.
 #[cycle(open_call_reach_term)]
 fn open_call(
     question: &[u8],
@@ -41,22 +41,21 @@ fn open_call(
     row: usize,
     table: &mut [u8],
     size: usize,
-) -> usize
+) -> Option<usize>
     requires { (at < length src.now) × (8 < get_or src.now at 0) × (length src.now ≤ longest_term) × (row < size) × (size ≤ most_calls) × (length table.old ≡ table_bytes) × BodiesTallied question.now bodies.now }
     ensures { ReachTermIs question.now src.now at row table.old size table.new result }
 {
-    let o = call_at(question, bodies, src, at, 1);
+    let Some(o) = call_at(question, bodies, src, at, 1) else {
+        return Some(size);
+    };
     let k = o.definition;
     let n = o.arity;
-    if !o.allowed {
-        return size;
-    }
     let names = called_names(question, src, at + 2, n, table, row);
     if is_listed(table, size, k, &names, n) {
-        return size;
+        return Some(size);
     }
     if MOST_CALLS <= size {
-        return MOST_CALLS + 1;
+        return None;
     }
     put_call(table, size, k as u8, &names, n);
     let body = body_at(question, o.place);
@@ -75,12 +74,12 @@ fn reach_term(
     row: usize,
     table: &mut [u8],
     size: usize,
-) -> usize
+) -> Option<usize>
     requires { (length src.now ≤ longest_term) × (row < size) × (size ≤ most_calls) × (length table.old ≡ table_bytes) × TallyIs question.now src.now 0 tally.now × BodiesTallied question.now bodies.now }
     ensures { ReachTermIs question.now src.now at row table.old size table.new result }
 {
     if src.len() <= at {
-        return size;
+        return Some(size);
     }
     let t = src[at];
     if t == MATCH {
@@ -90,16 +89,13 @@ fn reach_term(
         return open_call(question, bodies, src, at, row, table, size);
     }
     if t != CHOICE {
-        return size;
+        return Some(size);
     }
     let left = at + 1;
     if src.len() <= left {
-        return size;
+        return Some(size);
     }
-    let n = reach_term(question, bodies, src, tally, left, row, table, size);
-    if MOST_CALLS < n {
-        return n;
-    }
+    let n = reach_term(question, bodies, src, tally, left, row, table, size)?;
     reach_term(
         question,
         bodies,
@@ -112,22 +108,21 @@ fn reach_term(
     )
 }
 
-// Fills the table with the calls that opening this call reaches, itself first, and answers how many they are; one more than the most if they are
-// more than that.
+// Fills the table with the calls that opening this call reaches, itself first, and answers how many they are, if the table can hold them.
 pub fn reach_calls(
     question: &[u8],
     bodies: &[u32],
     definition: usize,
     names: &[u8],
     table: &mut [u8],
-) -> usize
+) -> Option<usize>
     requires { (definition < most_definitions) × (length names.now ≤ greatest_arity) × (length table.old ≡ table_bytes) × BodiesTallied question.now bodies.now }
     ensures { ReachCallsIs question.now definition names.now table.new result }
 {
     put_call(table, 0, definition as u8, names, names.len());
     let body = body_at(question, place_of(question, bodies, definition));
     if LONGEST_TERM < body.len() {
-        return 1;
+        return Some(1);
     }
     let numbers = body_tally(bodies, definition);
     reach_term(question, bodies, body, numbers, 0, 0, table, 1)

@@ -41,10 +41,8 @@ pub fn names_in(
     ensures { NamesIs src.now at count table.now row arity result }
 {
     let mut names = [0u8; GREATEST_ARITY];
-    let mut j = 0;
-    while j < count {
+    for j in 0..count {
         names[j] = name_in(table, row, arity, get(src, at + j));
-        j += 1;
     }
     names
 }
@@ -54,12 +52,10 @@ fn same_names(table: &[u8], row: usize, names: &[u8], count: usize) -> bool
     requires { (row < most_calls) × (count ≤ greatest_arity) }
     ensures { SameNamesIs table.now row names.now count result }
 {
-    let mut j = 0;
-    while j < count {
+    for j in 0..count {
         if get(table, CALL_BYTES * row + 1 + j) != get(names, j) {
             return false;
         }
-        j += 1;
     }
     true
 }
@@ -81,12 +77,10 @@ pub fn is_listed(table: &[u8], size: usize, definition: usize, names: &[u8], cou
     requires { (size ≤ most_calls) × (count ≤ greatest_arity) }
     ensures { ListedIs table.now size definition names.now count result }
 {
-    let mut i = 0;
-    while i < size {
+    for i in 0..size {
         if is_call(table, i, definition, names, count) {
             return true;
         }
-        i += 1;
     }
     false
 }

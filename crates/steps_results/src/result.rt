@@ -1,5 +1,5 @@
 // The bytes of a candidate's result, written in place from left to right. A table says what each name of the bytes at hand is written as, so
-// that nothing is renamed afterwards: document 01, "Action and result are rewritten by the condition". There is one table for a part: what is
+// that nothing is renamed afterwards: action and result are rewritten by the condition. There is one table for a part: what is
 // within a binder has the binder's slot to itself. The body of a call has a table of its own.
 ghost use Rattle.std.specs.Prelude.{◌≡◌, false, ◌+◌, ◌≤◌, ◌<◌, length, get_or};
 ghost use Rattle.terms.specs.Limits.{greatest_arity, longest_term};
@@ -46,8 +46,8 @@ fn write_parallel(
     let next = at + 1;
     let one = Cursor {
         at: next,
-        binders,
         put: e,
+        ..cursor
     };
     let m = write(question, bodies, src, tally, one, left, names, out);
     if out.len() < m {
@@ -56,8 +56,8 @@ fn write_parallel(
     let right = plan.right;
     let other = Cursor {
         at: plan.middle,
-        binders,
         put: m,
+        ..cursor
     };
     write(question, bodies, src, tally, other, right, names, out)
 }
@@ -94,8 +94,8 @@ fn write_beside(
     let behind = put + n;
     let component = Cursor {
         at: b,
-        binders,
         put: behind,
+        ..cursor
     };
     let e = write(
         question, bodies, src, tally, component, stepping, names, out,
@@ -159,7 +159,7 @@ fn write_restriction(
         let opened = Cursor {
             at: next,
             binders: inner,
-            put,
+            ..cursor
         };
         return write(question, bodies, src, tally, opened, task, names, out);
     }
@@ -194,11 +194,10 @@ fn write_call(
     let at = cursor.at;
     let binders = cursor.binders;
     let put = cursor.put;
-    let o = call_at(question, bodies, src, at, task.calls);
-    let n = o.arity;
-    if !o.allowed {
+    let Some(o) = call_at(question, bodies, src, at, task.calls) else {
         return out.len() + 1;
-    }
+    };
+    let n = o.arity;
     let inner = enter(task);
     let body = body_at(question, o.place);
     let numbers = body_tally(bodies, o.definition);
@@ -243,22 +242,14 @@ pub fn write(
     }
     if t == MATCH {
         let next = at + 3;
-        let beneath = Cursor {
-            at: next,
-            binders,
-            put,
-        };
+        let beneath = Cursor { at: next, ..cursor };
         return write(question, bodies, src, tally, beneath, task, names, out);
     }
     if t == CHOICE {
         let b = branch_of(src, tally, at, task.silently, task.number);
         let n = b.number;
         let taken = with_number(task, n);
-        let branch = Cursor {
-            at: b.at,
-            binders,
-            put,
-        };
+        let branch = Cursor { at: b.at, ..cursor };
         return write(question, bodies, src, tally, branch, taken, names, out);
     }
     if t == PARALLEL {

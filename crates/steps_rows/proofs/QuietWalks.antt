@@ -12,14 +12,14 @@ use Rattle.calculus.specs.Abstraction.{tau_a}
 use Rattle.calculus.specs.Term.{Term, res, call, lift, ren}
 use Rattle.terms.specs.Encoding.{encode, InScope}
 use Rattle.terms.specs.Question.{Question}
-use Rattle.steps_tallies.specs.Bodies.{BodyIs, OpeningIs}
+use Rattle.steps_tallies.specs.Bodies.{BodyIs, OpeningIs, Unopened}
 use Rattle.terms.specs.Question.{body_of}
 use Rattle.steps_tallies.specs.Candidates.{candidates}
 use Rattle.steps_passing.specs.Passing.{MiddleIs}
 use Rattle.steps.specs.Raw.{Candidate, step, blocked, restricted_alone, restricted_action, restricted, silent, silent_of, silent_calls}
 use Rattle.steps_tallies.specs.Tally.{silent_at, TallyIs}
 use Rattle.steps_tallies.specs.declared.bodies.Opening.{Opening}
-use Rattle.steps_passing.proofs.CalledPasses.{params, at_call}
+use Rattle.steps_passing.proofs.CalledPasses.{at_closed, params, at_call}
 use Rattle.steps_tallies.proofs.CallLaws.{body_scope, opened-candidates}
 use Rattle.steps_tallies.proofs.CandidateForms.{tag_at, only_sum, only_res, only_prefix}
 use Rattle.steps_tallies.proofs.OwnNames.{own-under, own_body}
@@ -114,17 +114,17 @@ module _ (question s : List ℕ) (at calls : ℕ) where
           P (sym (tag_at s at D P rest st) ∙ g) scope st;
     }
 
+    -- no call is left to open, or the question is not accepted
+    pub unconditional_closed : 8 < get_or s at 0 → Unopened question s at calls → UnconditionalIs question s at calls r
+    unfolding silent silent_of silent_calls
+    unconditional_closed g U = record {
+      is = λ q free D σ own P rest t ok scope st.
+          at_closed question s at D calls true 0 g U (Shows q σ) q free P rest ok scope st
+          (λ xs z. subst (λ (c : ℕ). Unconditional (silent (body_of q.bodies) c (call (get_or s (at + 1) 0) (map σ xs)))) (sym z) (no_condition [] refl));
+    }
+
     -- [Con]
     module _ (g : 8 < get_or s at 0) (o : Opening) (O : OpeningIs question s at calls o) where
-      -- no call is left to open, or the question is not accepted
-      pub unconditional_closed : o.allowed ≡ false → UnconditionalIs question s at calls r
-      unfolding silent silent_of silent_calls
-      unconditional_closed z = record {
-        is = λ q free D σ own P rest t ok scope st.
-            at_call question s at D calls true 0 g o.definition o.arity O.definition O.arity (Shows q σ) q free P rest ok scope st
-            (λ xs e a k names st. subst (λ (c : ℕ). Unconditional (silent (body_of q.bodies) c (call o.definition (map σ xs)))) (sym (O.not z q ok k)) (no_condition [] refl));
-      }
-
       pub unconditional-called : 0 < calls → calls ≤ 1 → (bytes : List ℕ) → BodyIs question o.definition bytes → UnconditionalIs question bytes 0 (calls - 1) r → UnconditionalIs question s at calls r
       unfolding candidates
       unconditional-called z once bytes B X = record {

@@ -18,7 +18,7 @@ use Rattle.terms.specs.Encoding.{name_byte, encode, InScope}
 use Rattle.terms.specs.Limits.{name_count}
 use Rattle.terms.specs.Question.{Question, check_of}
 use Rattle.terms_bytes.proofs.Stores.{get_d_front}
-use Rattle.steps_tallies.specs.Bodies.{BodyIs, OpeningIs}
+use Rattle.steps_tallies.specs.Bodies.{BodyIs, OpeningIs, Unopened}
 use Rattle.terms.specs.Question.{body_of}
 use Rattle.steps_conditions.specs.Labels.{input_on, new_output_on, action_of, ActionBelow}
 use Rattle.steps_labels.specs.LabelWalk.{slot_at, HasSlots, ArgumentsIs}
@@ -30,7 +30,7 @@ use Rattle.steps_tallies.specs.Tally.{visible_at, TallyIs}
 use Rattle.steps_conditions.specs.declared.action.Action.TheVariants.{Output}
 use Rattle.steps_tallies.specs.declared.bodies.Opening.{Opening}
 use Rattle.steps_labels.proofs.ArgumentSlots.{slots_lift, slot_read, slots_call}
-use Rattle.steps_passing.proofs.CalledPasses.{params, at_call}
+use Rattle.steps_passing.proofs.CalledPasses.{at_closed, params, at_call}
 use Rattle.steps_tallies.proofs.CallLaws.{body_scope, opened-candidates}
 use Rattle.steps_tallies.proofs.CandidateForms.{tag, tag_at, only_mat, only_res, only_two, only_prefix}
 use Rattle.steps_tallies.proofs.OwnNames.{own-under, own_body}
@@ -429,20 +429,20 @@ module _ (question s : List ℕ) (root at : ℕ) (asked : Bool) (args : List ℕ
           P (omega arith) (omega arith) k scope st;
     }
 
+  -- no call is left to open, or the question is not accepted
+  pub scan_closed : 8 < get_or s at 0 → Unopened question s at calls → n ≤ most_rows + 1 → ScanIs question s root at asked args inner depth calls n rows n rows
+  unfolding visible visible_of visible_calls
+  scan_closed g U m = record {
+    on = omega arith;
+    inside = m;
+    kept = kept-all n rows;
+    is = λ q free D σ own P rest before ok few has scope st _.
+        at_closed question s at D calls false 0 g U (Shows before q σ n rows) q free P rest ok scope st
+        (λ xs z h. subst (λ (c : ℕ). Has before n rows (visible (body_of q.bodies) c (call (get_or s (at + 1) 0) (map σ xs)))) (sym z) (has_none before));
+  }
+
   -- [Con]
   module _ (g : 8 < get_or s at 0) (o : Opening) (O : OpeningIs question s at calls o) where
-    -- no call is left to open, or the question is not accepted
-    pub scan_closed : n ≤ most_rows + 1 → o.allowed ≡ false → ScanIs question s root at asked args inner depth calls n rows n rows
-    unfolding visible visible_of visible_calls
-    scan_closed m z = record {
-      on = omega arith;
-      inside = m;
-      kept = kept-all n rows;
-      is = λ q free D σ own P rest before ok few has scope st _.
-          at_call question s at D calls false 0 g o.definition o.arity O.definition O.arity (Shows before q σ n rows) q free P rest ok scope st
-          (λ xs e a k names st h. subst (λ (c : ℕ). Has before n rows (visible (body_of q.bodies) c (call o.definition (map σ xs)))) (sym (O.not z q ok k)) (has_none before));
-    }
-
     -- the call's names do not all stand there
     pub scan_cut : n ≤ most_rows + 1 → length s < o.end → ScanIs question s root at asked args inner depth calls n rows n rows
     unfolding encode

@@ -63,10 +63,8 @@ fn put_repeated(rows: &mut [u8], n: usize, count: usize) -> usize
     ensures { PutRepeatedIs count n rows.old result rows.new }
 {
     let mut m = n;
-    let mut i = 0;
-    while i < count {
+    for i in 0..count {
         m = put_row(rows, m, REPEATED, 0, 0);
-        i += 1;
     }
     m
 }
@@ -76,10 +74,7 @@ fn prefix_kind(t: u8, asked: bool) -> u8
     requires { (1 < t) × (t < 5) }
     ensures { result ≡ prefix_kind t asked }
 {
-    if asked {
-        return t - 1 + MATCHED;
-    }
-    t - 1
+    if asked { t - 1 + MATCHED } else { t - 1 }
 }
 
 // The row of the visible prefix at `at`.
@@ -110,10 +105,7 @@ fn scan_prefix(
 fn root_of(t: u8, root: usize, at: usize) -> usize
     ensures { result ≡ root_of t root at }
 {
-    if t == CHOICE {
-        return root;
-    }
-    at
+    if t == CHOICE { root } else { at }
 }
 
 // Where a choice that begins at `root` begins for what stands at `next`, behind its byte or match at `at`: the first of them is no branch, and is not
@@ -121,10 +113,7 @@ fn root_of(t: u8, root: usize, at: usize) -> usize
 fn behind_root(root: usize, at: usize, next: usize) -> usize
     ensures { result ≡ behind_root root at next }
 {
-    if root == at {
-        return next;
-    }
-    root
+    if root == at { next } else { root }
 }
 
 // Whether a match of a name with itself stands at `at`: it asks nothing.
@@ -186,13 +175,7 @@ fn begin_alike(src: &[u8], p: usize, at: usize) -> bool
     requires { (p < at) × (at ≤ length src.now + 3) }
 {
     let t = get(src, at);
-    if get(src, p) != t {
-        return false;
-    }
-    if t != CALL {
-        return true;
-    }
-    get(src, p + 1) == get(src, at + 1)
+    get(src, p) == t && (t != CALL || get(src, p + 1) == get(src, at + 1))
 }
 
 // Whether the branches at `p` and at `at` may be the same: they begin alike, and what follows a prefix does. Most that differ differ here. A match of
@@ -230,6 +213,7 @@ fn is_repeated(
     ensures { EndsTallied question.now src.now tally.now → RepeatedIs question.now src.now args.now inner depth root at result }
 {
     let mut p = root;
+    // A piece's length says where the next begins, so no range or iterator walks them.
     while p < at {
         if may_be_same(src, p, at, args, inner, depth) {
             if same_branch(src, p, at, arities_of(question), args, inner, depth) {
@@ -279,10 +263,9 @@ fn scan_call(
     let depth = scope.depth;
     let calls = scope.calls;
     let n = branch.row;
-    let o = call_at(question, bodies, src, at, calls);
-    if !o.allowed {
+    let Some(o) = call_at(question, bodies, src, at, calls) else {
         return n;
-    }
+    };
     if src.len() < o.end {
         return n;
     }
@@ -438,10 +421,9 @@ fn unconditional_call(question: &[u8], bodies: &[u32], src: &[u8], at: usize, ca
     requires { (at < length src.now) × (8 < get_or src.now at 0) × (calls ≤ 1) × BodiesTallied question.now bodies.now }
     ensures { UnconditionalIs question.now src.now at calls result }
 {
-    let o = call_at(question, bodies, src, at, calls);
-    if !o.allowed {
+    let Some(o) = call_at(question, bodies, src, at, calls) else {
         return true;
-    }
+    };
     let body = body_at(question, o.place);
     let within = body_tally(bodies, o.definition);
     unconditional(question, bodies, body, within, 0, calls - 1)

@@ -46,6 +46,14 @@ module _ (question part : List ℕ) (from : ℕ) (l : Located) (new : ℕ) (out 
   pub hole_shallow : put + (l.at - from) < l.depth → (r : ℕ) (out' : List ℕ) → HoleIs question part from l new out put r out'
   hole_shallow h r out' = record { is = λ q before bs after ok H deep. absurd (omega (arith, H.place)) }
 
+  -- An answer past the end says the same as any other.
+  pub hole_past_end : (e : ℕ) → length out < e → (out' : List ℕ) → HoleIs question part from l new out put e out' → (r : ℕ) → length out < r
+      → HoleIs question part from l new out put r out'
+  hole_past_end e h out' w r o = record {
+    is = λ q before bs after ok H deep.
+        record { fits = λ k. absurd (omega (arith, ((w.is q before bs after ok H deep).fits k).0)); over = λ k. o };
+  }
+
   pub hole_written : length out ≤ longest_term → put + (l.at - from) ≤ length out → (names : List ℕ) → OwnNames l.depth names → (out₁ : List ℕ)
       → out₁ ≡ sets out put (take (l.at - from) (drop from part)) → (r : ℕ) (out₂ : List ℕ)
       → WriteIs question part l.at l.depth names

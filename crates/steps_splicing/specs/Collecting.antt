@@ -1,5 +1,5 @@
 -- A list of steps as it stands in an area, and what becomes of it when candidates are put into it one by one.
-use Rattle.std.specs.Prelude.{List, [], ◌∷◌, ◌≡◌, ℕ, ◌<◌, ◌≤◌, length}
+use Rattle.std.specs.Prelude.{List, [], ◌∷◌, ◌≡◌, ℕ, ◌+◌, ◌<◌, ◌≤◌, length, Option, Some, None}
 use Rattle.terms.specs.Limits.{name_count, longest_term}
 use Rattle.steps.specs.Forms.{result_form}
 use Rattle.calculus.specs.Lists.{All}
@@ -9,6 +9,16 @@ use Rattle.steps_entries.specs.Entries.{Sized, Indexed}
 use Rattle.steps.specs.Limits.{most_steps}
 use Rattle.steps.specs.Listed.{ListedStep, result_bytes}
 use Rattle.steps.specs.Listing.{collect, unsettled, limited}
+
+-- The number of steps that an answer says; where it is none, a limit is passed, and so is that of the number.
+abbrev pub counted : Option ℕ → ℕ
+counted (Some n) = n
+counted None = most_steps + 1
+
+-- A number that an answer says passes no limit.
+abbrev pub Few : Option ℕ → Type 0
+Few (Some n) = n ≤ most_steps
+Few None = Unit {0}
 
 -- The entries of the area, in the order of the index, are the steps found, which pass no limit.
 pub record Stands (area : List ℕ) (count : ℕ) (found : List ListedStep) : Type 0 where

@@ -1,9 +1,9 @@
 -- The steps of a part put into an area on one walk of its parallels and restrictions: what the functions that do so promise.
-use Rattle.std.specs.Prelude.{◌≡◌, Bool, List, ℕ, ◌≤◌, get_or}
+use Rattle.std.specs.Prelude.{◌≡◌, Bool, List, ℕ, ◌+◌, ◌≤◌, get_or, Option, Some, None}
 use Rattle.calculus.specs.Abstraction.{Act, tau_a, inp_a, out_a, bout_a}
 use Rattle.calculus.specs.Cond.{Cond, cls}
 use Rattle.calculus.specs.Term.{Term}
-use Rattle.terms.specs.Limits.{name_count}
+use Rattle.terms.specs.Limits.{name_count, longest_term}
 use Rattle.terms.specs.Question.{Question}
 use Rattle.terms.specs.Question.{body_of}
 use Rattle.steps_tallies.specs.Candidates.{candidates}
@@ -14,6 +14,16 @@ use Rattle.steps_plans.specs.Plans.{Written}
 use Rattle.steps_splicing.specs.Contexts.{Frame, raised, Placed}
 use Rattle.steps.specs.Listed.{canon_step, result_bytes}
 use Rattle.steps_splicing.specs.ListedParts.{Lists}
+
+-- Where the bytes end that were written into an area of the longest term's length; where the answer is none there was no room for them: past its end.
+abbrev pub ended : Option ℕ → ℕ
+ended (Some e) = e
+ended None = longest_term + 1
+
+-- An end that an answer says is in the area.
+abbrev pub InRoom : Option ℕ → Type 0
+InRoom (Some e) = e ≤ longest_term
+InRoom None = Unit {0}
 
 -- Each name stands for itself in the table, beneath however many binders.
 abbrev pub OwnTable : List ℕ → Type 0

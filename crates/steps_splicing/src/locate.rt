@@ -24,26 +24,23 @@ pub fn locate(src: &[u8], tally: &[u32], at: usize, depth: usize, i: usize) -> L
     let mut a = at;
     let mut d = depth;
     let mut n = i;
+    // Each turn goes on at a place that the term's own bytes and the tally say, so no range or iterator walks it.
     while a < src.len() {
-        let t = src[a];
-        if t == RESTRICTION {
-            a += 1;
-            d += 1;
-        } else {
-            if t != PARALLEL {
-                return Located {
-                    at: a,
-                    depth: d,
-                    number: n,
-                };
-            }
-            let left = visible_at(tally, a + 1);
-            if n < left {
+        match src[a] {
+            RESTRICTION => {
                 a += 1;
-            } else {
-                n -= left;
-                a = middle_of(src, tally, a);
+                d += 1;
             }
+            PARALLEL => {
+                let left = visible_at(tally, a + 1);
+                if n < left {
+                    a += 1;
+                } else {
+                    n -= left;
+                    a = middle_of(src, tally, a);
+                }
+            }
+            _ => break,
         }
     }
     Located {

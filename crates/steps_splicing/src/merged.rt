@@ -9,10 +9,7 @@ use terms_bytes::shape::shape_at;
 fn merged_byte(b: u8, class: &[u8]) -> u8
     ensures { result ≡ merged_byte class.now b }
 {
-    if b < 128 {
-        return get(class, b as usize);
-    }
-    b
+    if b < 128 { get(class, b as usize) } else { b }
 }
 
 // Merges the names of the term that the first `n` bytes are. Classes have free names alone, which have the same bytes beneath any binders: so the
@@ -26,6 +23,7 @@ pub fn merge_names(bytes: &mut [u8], n: usize, arities: &[u8], class: &[u8])
     let mut at = 0;
     // the names of a front that are still to be passed
     let mut names = 0;
+    // A front's length says where the next begins, so no range or iterator walks them.
     while at < n {
         if names == 0 {
             let h = shape_at(bytes, at, arities);

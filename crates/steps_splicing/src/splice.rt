@@ -2,7 +2,7 @@
 ghost use Rattle.std.specs.Prelude.{◌≡◌, ◌≤◌, length};
 ghost use Rattle.terms.specs.Limits.{longest_term};
 ghost use Rattle.steps_splicing.specs.Locating.{HoleIs, MetResultIs};
-ghost use Rattle.steps_splicing.specs.PlacedResults.{OwnTable, PlacedResultIs};
+ghost use Rattle.steps_splicing.specs.PlacedResults.{OwnTable, PlacedResultIs, ended, InRoom};
 ghost use Rattle.steps_splicing.specs.Ready.{Tallied, Inside, FoundIn};
 
 use crate::locate::Located;
@@ -41,16 +41,13 @@ pub fn own_names() -> [u8; NAME_SLOTS]
     ensures { OwnTable result }
 {
     let mut names = [0u8; NAME_SLOTS];
-    let mut i = 0;
-    while i < NAME_SLOTS {
+    for i in 0..NAME_SLOTS {
         names[i] = i as u8;
-        i += 1;
     }
     names
 }
 
-// The part with the result of a term's candidate in the term's place. The answer is where the bytes end, or past the end of `out` where there is no
-// room.
+// The part with the result of a term's candidate in the term's place. The answer is where the bytes end, if there is room for them.
 pub fn write_placed(
     question: &[u8],
     bodies: &[u32],
@@ -59,9 +56,10 @@ pub fn write_placed(
     place: Position,
     candidate: Selection,
     out: &mut [u8],
-) -> usize
+) -> Option<usize>
     requires { Tallied question.now bodies.now part.now tally.now × Inside part.now place.at place.depth × (length out.old ≡ longest_term) }
-    ensures { PlacedResultIs question.now part.now place.at place.depth candidate.silently candidate.number candidate.x out.old result out.new }
+    ensures room { InRoom result }
+    ensures is { PlacedResultIs question.now part.now place.at place.depth candidate.silently candidate.number candidate.x out.old (ended result) out.new }
 {
     let at = place.at;
     let depth = place.depth;
@@ -83,15 +81,15 @@ pub fn write_placed(
     let put = write(question, bodies, part, tally, cursor, task, &mut names, out);
     let end = end_at(tally, at);
     let n = part.len() - end;
-    if room(LONGEST_TERM, put, n) {
-        copy(part, end, n, out, put);
-        return put + n;
+    if !room(LONGEST_TERM, put, n) {
+        return None;
     }
-    LONGEST_TERM + 1
+    copy(part, end, n, out, put);
+    Some(put + n)
 }
 
-// The part's bytes from a seam up to a component, and the result of its candidate, where `new` is received. The answer is where the bytes end, or
-// past the end of `out` where there is no room.
+// The part's bytes from a seam up to a component, and the result of its candidate, where `new` is received. The answer is where the bytes end, if
+// there is room for them.
 fn write_hole(
     question: &[u8],
     bodies: &[u32],
@@ -101,24 +99,25 @@ fn write_hole(
     hole: Located,
     new: u8,
     out: &mut [u8],
-) -> usize
+) -> Option<usize>
     requires { Tallied question.now bodies.now part.now tally.now × FoundIn part.now hole × (length out.old ≡ longest_term) × (seam.put ≤ longest_term) }
-    ensures { HoleIs question.now part.now seam.from hole new out.old seam.put result out.new }
+    ensures room { InRoom result }
+    ensures is { HoleIs question.now part.now seam.from hole new out.old seam.put (ended result) out.new }
 {
     let from = seam.from;
     let put = seam.put;
     let at = hole.at;
     let levels = hole.depth;
     if at < from {
-        return LONGEST_TERM + 1;
+        return None;
     }
     let n = at - from;
     if !room(LONGEST_TERM, put, n) {
-        return LONGEST_TERM + 1;
+        return None;
     }
     let e = put + n;
     if e < levels {
-        return LONGEST_TERM + 1;
+        return None;
     }
     copy(part, from, n, out, put);
     let task = Task {
@@ -135,7 +134,8 @@ fn write_hole(
         binders: levels,
         put: e,
     };
-    write(question, bodies, part, tally, cursor, task, &mut names, out)
+    let end = write(question, bodies, part, tally, cursor, task, &mut names, out);
+    if LONGEST_TERM < end { None } else { Some(end) }
 }
 
 // The part with the results of two components that communicate in their places: [Com]. The answer is as above.
@@ -148,29 +148,24 @@ pub fn write_met(
     right: Located,
     new: u8,
     out: &mut [u8],
-) -> usize
+) -> Option<usize>
     requires { Tallied question.now bodies.now part.now tally.now × FoundIn part.now left × FoundIn part.now right × (length out.old ≡ longest_term) }
-    ensures { MetResultIs question.now part.now left right new out.old result out.new }
+    ensures room { InRoom result }
+    ensures is { MetResultIs question.now part.now left right new out.old (ended result) out.new }
 {
     let start = Seam { from: 0, put: 0 };
-    let m = write_hole(question, bodies, part, tally, start, left, new, out);
-    if LONGEST_TERM < m {
-        return m;
-    }
+    let m = write_hole(question, bodies, part, tally, start, left, new, out)?;
     let from = end_at(tally, left.at);
     let between = Seam { from, put: m };
-    let e = write_hole(question, bodies, part, tally, between, right, new, out);
-    if LONGEST_TERM < e {
-        return e;
-    }
+    let e = write_hole(question, bodies, part, tally, between, right, new, out)?;
     let end = end_at(tally, right.at);
     if part.len() < end {
-        return LONGEST_TERM + 1;
+        return None;
     }
     let n = part.len() - end;
-    if room(LONGEST_TERM, e, n) {
-        copy(part, end, n, out, e);
-        return e + n;
+    if !room(LONGEST_TERM, e, n) {
+        return None;
     }
-    LONGEST_TERM + 1
+    copy(part, end, n, out, e);
+    Some(e + n)
 }

@@ -1,5 +1,5 @@
 -- A call and the body that it opens: where its names stand, what they stand for in the body, and its candidates. Assumes nothing.
-use mathlib.Core.Path.{◌≡◌, refl, ap, subst, ◌∙◌}
+use mathlib.Core.Path.{◌≡◌, refl, sym, ap, subst, ◌∙◌}
 use mathlib.Core.Bool.{Bool, true, false}
 use mathlib.Core.List.{List, [], ◌∷◌}
 use Prim.Native.Nat.{ℕ, zero, suc, ◌+◌, ◌<◌, ◌≤◌}
@@ -17,7 +17,9 @@ use Rattle.terms.proofs.Answers.{Every}
 use Rattle.terms.proofs.WellFormed.{WellFormed, accepted_well_formed}
 use Rattle.steps_tallies.specs.Candidates.{candidates}
 use Rattle.steps_tallies.proofs.CandidateForms.{candidates-call}
-use Rattle.steps_tallies.specs.Bodies.{AritiesIs, BodyIs, MayOpenIs, OpeningIs}
+use Rattle.std.specs.Prelude.{Some, None}
+use Rattle.steps_tallies.specs.declared.bodies.Opening.{Opening}
+use Rattle.steps_tallies.specs.Bodies.{AritiesIs, BodyIs, MayOpenIs, OpeningIs, Unopened, CallIs}
 use Rattle.terms.specs.Question.{body_of}
 use Rattle.steps.proofs.QuestionDefinitions.{body_at}
 
@@ -57,22 +59,40 @@ module _ (question : List ℕ) (q : Question) (ok : check_of question ≡ result
       ap (λ (n : ℕ). candidates t body n (call k xs)) one ∙ candidates-call body t k xs body-guarded
       ∙ ap (λ (n : ℕ). candidates t body n (opened xs (body k))) none
 
--- A call, and whether it may be opened.
-pub opening_is : (question s : List ℕ) (at calls : ℕ) (arities body : List ℕ) (k n place : ℕ) (may : Bool) → AritiesIs question arities → BodyIs question k body
-    → k ≡ get_or s (at + 1) 0 → n ≡ get_or arities k 0 → place ≡ field_place question k → MayOpenIs calls k n (length body) may
-    → OpeningIs question s at calls (record { allowed = may; definition = k; arity = n; end = at + 2 + n; place = place })
-unfolding AritiesIs
-opening_is question s at calls arities body k n place may ar B ek en there M = record {
-  definition = ek;
-  arity = λ q ok. en ∙ ap (λ (l : List ℕ). get_or l k 0) (ar q ok);
-  end = refl;
-  place = there;
-  may = λ t. let m = M.may t in (m.0, m.1, subst (λ (l : List ℕ). length l ≤ longest_term) B.piece m.2, m.3);
-  not = λ t q ok l. go t q ok l calls refl;
-}
-  where
-    go : may ≡ false → (q : Question) → check_of question ≡ result q → k < length q.arities → (c : ℕ) → calls ≡ c → calls ≡ 0
-    go t q ok l zero z = z
-    go t q ok l (suc c) z =
-        let a : n ≡ get_or q.arities k 0 = en ∙ ap (λ (l : List ℕ). get_or l k 0) (ar q ok) in
-        absurd (M.not t (omega arith) (omega (arith, few_parameters question q ok k)) (omega (arith, ap length (B.is q ok l), body-size question q ok k)) (omega (arith, (accepted_well_formed question q ok).definitions)))
+-- A call that may be opened, and one that may not.
+module _ (question s : List ℕ) (at calls : ℕ) (arities body : List ℕ) (k n place : ℕ) (may : Bool) (ar : AritiesIs question arities) (B : BodyIs question k body)
+    (ek : k ≡ get_or s (at + 1) 0) (en : n ≡ get_or arities k 0) (there : place ≡ field_place question k) (M : MayOpenIs calls k n (length body) may) where
+  opening_is : may ≡ true → OpeningIs question s at calls (record { definition = k; arity = n; end = at + 2 + n; place = place })
+  unfolding AritiesIs
+  opening_is t = record {
+    definition = ek;
+    arity = λ q ok. en ∙ ap (λ (l : List ℕ). get_or l k 0) (ar q ok);
+    end = refl;
+    place = there;
+    may = let m = M.may t in (m.0, m.1, subst (λ (l : List ℕ). length l ≤ longest_term) B.piece m.2, m.3);
+  }
+
+  unopened : may ≡ false → Unopened question s at calls
+  unfolding AritiesIs
+  unopened t q ok l = go calls refl
+    where
+      go : (c : ℕ) → calls ≡ c → calls ≡ 0
+      go zero z = z
+      go (suc c) z =
+          let a : n ≡ get_or q.arities k 0 = en ∙ ap (λ (l : List ℕ). get_or l k 0) (ar q ok) in
+          let h : k < length q.arities = omega arith in
+          absurd (M.not t (omega arith) (omega (arith, few_parameters question q ok k)) (omega (arith, ap length (B.is q ok h), body-size question q ok k)) (omega (arith, (accepted_well_formed question q ok).definitions)))
+
+  pub call_opened : may ≡ true → (o : Opening) → o ≡ record { definition = k; arity = n; end = at + 2 + n; place = place } → CallIs question s at calls (Some o)
+  call_opened t o e = record {
+    some = λ p h.
+        let z : ◌≡◌ {A = Opening} o p = cc in
+        subst (OpeningIs question s at calls) (sym e ∙ z) (opening_is t);
+    none = λ h. let z : ◌≡◌ {A = ℕ} 0 1 = cc in absurd (omega arith);
+  }
+
+  pub call_closed : may ≡ false → CallIs question s at calls None
+  call_closed t = record {
+    some = λ p h. let z : ◌≡◌ {A = ℕ} 0 1 = cc in absurd (omega arith);
+    none = λ h. unopened t;
+  }

@@ -1,5 +1,5 @@
 -- Where a term stands, and its front. Assumes nothing.
-use mathlib.Core.Path.{◌≡◌, sym, ap, ◌∙◌}
+use mathlib.Core.Path.{◌≡◌, sym, ap, subst, ◌∙◌}
 use mathlib.Core.List.{List, ◌∷◌, ◌++◌, append_assoc}
 use Prim.Native.Nat.{ℕ, ◌+◌, ◌<◌, ◌≤◌}
 use native.Mathlib.Omega.{arith}
@@ -11,7 +11,9 @@ use Rattle.terms_bytes.specs.Shape.{ShapeIs}
 use Rattle.terms_bytes.specs.declared.shape.Shape.{Shape}
 use Rattle.terms.proofs.ReadEncoded.{encode-some}
 use Rattle.terms_bytes.proofs.Shapes.{front_of, length_front, front-inside}
-use Rattle.steps_tallies.specs.Fronts.{TermFrontIs}
+use Rattle.std.specs.Prelude.{Some, None}
+use Rattle.terms.specs.Encoding.{InScope}
+use Rattle.steps_tallies.specs.Fronts.{TermFrontIs, FrontIs}
 use Rattle.steps_tallies.specs.declared.front.TermFront.{TermFront}
 
 -- A term that stands somewhere is there whole.
@@ -33,25 +35,30 @@ module _ (D : ℕ) (s : List ℕ) (at : ℕ) (P Q : Term) (rest : List ℕ) (h :
   at_right e q = rw (q, ← drop-drop, at_left, drop-append_seam)
 
 -- The front.
-module _ (s : List ℕ) (at : ℕ) (arities : List ℕ) (r : TermFront) where
-  pub front-past : length s ≤ at → r.tag ≡ 0 → r.next ≡ at → TermFrontIs s at arities r
-  front-past h t n = record {
-    inside = omega arith;
-    some = omega arith;
-    is = λ free D P rest g e. let z = stands s at D P rest e in absurd (omega arith);
+module _ (s : List ℕ) (at : ℕ) (arities : List ℕ) where
+  no_front : ((free D : ℕ) (P : Term) (rest : List ℕ) → InScope free arities D P → drop at s ≡ encode D P ++ rest → ⊥) → FrontIs s at arities None
+  no_front none = record {
+    some = λ h e. let z : ◌≡◌ {A = ℕ} 0 1 = cc in absurd (omega arith);
+    none = λ e. none;
   }
 
-  module _ (h : Shape) (shape : ShapeIs s at arities h) (lt : at < length s) where
-    pub front_short : length s < at + (h.fixed + h.names) → r.tag ≡ 0 → r.next ≡ at → TermFrontIs s at arities r
-    front_short short t n = record {
-      inside = omega arith;
-      some = omega arith;
-      is = λ free D P rest g e. absurd (omega (arith, front-inside s at arities h shape D P (front_of free arities D P g) rest e lt));
-    }
+  pub front-past : length s ≤ at → FrontIs s at arities None
+  front-past h = no_front (λ free D P rest g e. let z = stands s at D P rest e in omega arith)
 
-    pub front_there : at + (h.fixed + h.names) ≤ length s → r.tag ≡ get_or s at 0 → r.next ≡ at + (h.fixed + h.names) → TermFrontIs s at arities r
-    front_there fits t n = record {
-      inside = omega arith;
-      some = let z = shape.some in omega arith;
-      is = λ free D P rest g e. (t, n ∙ ap (λ (m : ℕ). at + m) (length_front s at arities h shape D P (front_of free arities D P g) rest e));
+  module _ (h : Shape) (shape : ShapeIs s at arities h) (lt : at < length s) where
+    pub front_short : length s < at + (h.fixed + h.names) → FrontIs s at arities None
+    front_short short =
+        no_front (λ free D P rest g e. omega (arith, front-inside s at arities h shape D P (front_of free arities D P g) rest e lt))
+
+    pub front_there : (r : TermFront) → at + (h.fixed + h.names) ≤ length s → r.tag ≡ get_or s at 0 → r.next ≡ at + (h.fixed + h.names) → FrontIs s at arities (Some r)
+    front_there r fits t n = record {
+      some = λ p e. let z : ◌≡◌ {A = TermFront} r p = cc in subst (TermFrontIs s at arities) z there;
+      none = λ e. let z : ◌≡◌ {A = ℕ} 0 1 = cc in absurd (omega arith);
     }
+      where
+        there : TermFrontIs s at arities r
+        there = record {
+          inside = omega arith;
+          some = let z = shape.some in omega arith;
+          is = λ free D P rest g e. (t, n ∙ ap (λ (m : ℕ). at + m) (length_front s at arities h shape D P (front_of free arities D P g) rest e));
+        }

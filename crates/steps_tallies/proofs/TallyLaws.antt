@@ -380,3 +380,10 @@ module _ (s arities called t : List ℕ) (at : ℕ) (h : TermFront) (F : TermFro
       let j = F.some in
       let o = front-behind.on in
       subst (EntryIs s arities called p.end) (sym k) (tallied_is s arities called t (1 + at) p.end T (omega arith))
+
+-- No term stands there.
+pub entry-absent : (s arities called : List ℕ) (at : ℕ) → ((free D : ℕ) (P : Term) (rest : List ℕ) → InScope free arities D P → drop at s ≡ encode D P ++ rest → ⊥)
+    → at < length s → (at < at + 1) × EntryIs s arities called at (nothing_at (at + 1))
+entry-absent s arities called at none lt =
+    entry-none s arities called at (record { tag = 0; next = at })
+    (record { inside = omega arith; some = omega arith; is = λ free D P rest g e. absurd (none free D P rest g e) }) lt refl

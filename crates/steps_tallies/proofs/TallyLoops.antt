@@ -12,6 +12,7 @@ use lib.Dec.{eqb, leb}
 use lib.Seq.{get_or-set_same, get_or-set_other, get_or-append-add, get_or-take, get_or-drop, length-take-le, ext_get_or}
 use borrow.Rule.Slice.PartMut.{put_mid, Post-is}
 use borrow.Author.Tests.{eqb-true, eqb-false, leb-true, leb-false}
+use mir.Val.{bool_byte}
 use Rattle.calculus.specs.Term.{Term}
 use Rattle.terms.specs.Answer.{result}
 use Rattle.terms.specs.Encoding.{encode, InScope}
@@ -349,14 +350,19 @@ calls_are question t N q c k xs l =
     )
 
 -- The tally of the body of a call that is opened.
-pub called_tally : (question bodies s : List ℕ) (at calls : ℕ) → BodiesTallied question bodies → (o : Opening) → OpeningIs question s at calls o → o.allowed ≡ true
+pub called_tally : (question bodies s : List ℕ) (at calls : ℕ) → BodiesTallied question bodies → (o : Opening) → OpeningIs question s at calls o
     → calls ≤ 1 → (body : List ℕ) → BodyIs question o.definition body → (t : List ℕ) → t ≡ body_tally bodies o.definition → (n : ℕ) → n ≡ calls - 1
     → TallyIs question body n t
-called_tally question bodies s at calls N o O may l body B t e n z =
-    let m = O.may may in
+called_tally question bodies s at calls N o O l body B t e n z =
+    let m = O.may in
     let y : 0 ≡ n = omega (arith, m) in
     subst (λ (n : ℕ). TallyIs question body n t) y
     (subst (TallyIs question body 0) (sym e) (subst (λ (s : List ℕ). TallyIs question s 0 (body_tally bodies o.definition)) (sym B.piece) (N.are o.definition m.3 m.2)))
+
+-- A truth value as a number.
+pub no_byte : (b : Bool) → bool_byte b ≡ 0 → b ≡ false
+no_byte true e = absurd (omega arith)
+no_byte false e = refl
 
 -- The tally of a part, with a number put behind it.
 pub part_tallied : (question s : List ℕ) (restricted : Bool) (t : List ℕ) (v : ℕ) → length s ≤ longest_term → length t ≡ tally_size → TallyIs question s 1 t

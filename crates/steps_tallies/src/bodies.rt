@@ -1,7 +1,7 @@
 // The definitions of an accepted question: their arities and bodies as pieces of it.
 ghost use Rattle.std.specs.Prelude.{◌≡◌, ℕ, ◌<◌, length};
 ghost use Rattle.terms_bytes.specs.FieldPlaces.{field_place};
-ghost use Rattle.steps_tallies.specs.Bodies.{AritiesIs, BodyIs, MayOpenIs, OpeningIs};
+ghost use Rattle.steps_tallies.specs.Bodies.{AritiesIs, BodyIs, MayOpenIs, CallIs};
 ghost use Rattle.steps_tallies.specs.Tally.{BodiesTallied};
 
 use crate::tally::place_of;
@@ -27,46 +27,40 @@ pub fn body_at(question: &[u8], place: usize) -> &[u8]
 fn may_open(calls: usize, definition: usize, arity: usize, size: usize) -> bool
     ensures { MayOpenIs calls definition arity size result }
 {
-    if calls == 0 {
-        return false;
-    }
-    if MOST_DEFINITIONS <= definition {
-        return false;
-    }
-    if GREATEST_ARITY < arity {
-        return false;
-    }
-    if LONGEST_TERM < size {
-        return false;
-    }
-    true
+    0 < calls && definition < MOST_DEFINITIONS && arity <= GREATEST_ARITY && size <= LONGEST_TERM
 }
 
-// A call: its definition and how many names it has, where it ends, whether it may be opened, and where the field of its body begins.
+// A call that may be opened: its definition and how many names it has, where it ends, and where the field of its body begins.
 #[derive(Clone, Copy)]
 pub struct Opening {
-    pub allowed: bool,
     pub definition: usize,
     pub arity: usize,
     pub end: usize,
     pub place: usize,
 }
 
-// The call at `at`, where so many calls may be opened one within the other.
-pub fn call_at(question: &[u8], bodies: &[u32], src: &[u8], at: usize, calls: usize) -> Opening
+// The call at `at`, where so many calls may be opened one within the other, if it may be opened.
+pub fn call_at(
+    question: &[u8],
+    bodies: &[u32],
+    src: &[u8],
+    at: usize,
+    calls: usize,
+) -> Option<Opening>
     requires { (at < length src.now) × BodiesTallied question.now bodies.now }
-    ensures { OpeningIs question.now src.now at calls result }
+    ensures { CallIs question.now src.now at calls result }
 {
     let k = get(src, at + 1) as usize;
     let n = get(arities_of(question), k) as usize;
     let place = place_of(question, bodies, k);
     let body = body_at(question, place);
-    let allowed = may_open(calls, k, n, body.len());
-    Opening {
-        allowed,
+    if !may_open(calls, k, n, body.len()) {
+        return None;
+    }
+    Some(Opening {
         definition: k,
         arity: n,
         end: at + 2 + n,
         place,
-    }
+    })
 }

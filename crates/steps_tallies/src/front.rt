@@ -1,5 +1,5 @@
 // The front of a term: its first byte and its own names.
-ghost use Rattle.steps_tallies.specs.Fronts.{TermFrontIs};
+ghost use Rattle.steps_tallies.specs.Fronts.{FrontIs};
 
 use terms_bytes::bytes::room;
 use terms_bytes::shape::shape_at;
@@ -11,20 +11,20 @@ pub struct TermFront {
     pub next: usize,
 }
 
-// The front of the term at `at`; where there is none, byte 0 and no names.
-pub fn front_at(src: &[u8], at: usize, arities: &[u8]) -> TermFront
-    ensures { TermFrontIs src.now at arities.now result }
+// The front of the term at `at`, if there is one.
+pub fn front_at(src: &[u8], at: usize, arities: &[u8]) -> Option<TermFront>
+    ensures { FrontIs src.now at arities.now result }
 {
     if src.len() <= at {
-        return TermFront { tag: 0, next: at };
+        return None;
     }
     let h = shape_at(src, at, arities);
     let n = h.fixed + h.names;
     if !room(src.len(), at, n) {
-        return TermFront { tag: 0, next: at };
+        return None;
     }
-    TermFront {
+    Some(TermFront {
         tag: src[at],
         next: at + n,
-    }
+    })
 }

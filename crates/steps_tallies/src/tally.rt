@@ -3,7 +3,7 @@ ghost use Rattle.std.specs.Prelude.{◌≡◌, false, ◌+◌, ◌<◌, ◌≤�
 ghost use Rattle.terms_bytes.specs.FieldPlaces.{field_place};
 ghost use Rattle.terms.specs.Limits.{longest_term, most_definitions};
 ghost use Rattle.steps_tallies.specs.Tally.{tally_size, body_tallies, visible_at, silent_at, end_at, restricted_bodies, restricted_at, FewCalls, body_tally, TalliedBelow, PlacesBelow, BodiesTidied, BodiesUnrestricted, BodiesTallied, PartTallied};
-ghost use Rattle.steps_tallies.specs.Tallying.{number_at, EntryIs, tallied_entry, prefix_entry, call_entry, choice_entry, parallel_entry, Small, Filled};
+ghost use Rattle.steps_tallies.specs.Tallying.{number_at, EntryIs, nothing_at, tallied_entry, prefix_entry, call_entry, choice_entry, parallel_entry, Small, Filled};
 
 use crate::bodies::{arities_of, body_at};
 use crate::front::front_at;
@@ -63,13 +63,15 @@ pub fn end_at(tally: &[u32], at: usize) -> usize
     number(tally, LONGEST_TERM + LONGEST_TERM, at)
 }
 
+#[tactic(auto, unfolding(crate::specs::Tallying::number_at))]
 pub fn number_at(tally: &[u32], at: usize, silently: bool) -> usize
     ensures { result ≡ number_at tally.now at silently }
 {
     if silently {
-        return silent_at(tally, at);
+        silent_at(tally, at)
+    } else {
+        visible_at(tally, at)
     }
-    visible_at(tally, at)
 }
 
 // The candidates of a term, and where it ends.
@@ -80,16 +82,24 @@ pub struct Entry {
     pub end: usize,
 }
 
+// No candidates, up to `end`.
+#[tactic(auto, unfolding(crate::specs::Tallying::nothing_at))]
+fn nothing(end: usize) -> Entry
+    ensures { result ≡ nothing_at end }
+{
+    Entry {
+        visible: 0,
+        silent: 0,
+        end,
+    }
+}
+
 // The entry of a place that is tallied. Past the bytes there is nothing.
 fn tallied(tally: &[u32], at: usize, size: usize) -> Entry
     ensures { result ≡ tallied_entry tally.now at size }
 {
     if size <= at {
-        return Entry {
-            visible: 0,
-            silent: 0,
-            end: at,
-        };
+        return nothing(at);
     }
     Entry {
         visible: visible_at(tally, at),
@@ -157,15 +167,13 @@ fn entry_at(src: &[u8], at: usize, arities: &[u8], bodies: &[u32], tally: &[u32]
     requires { (at < length src.now) × (length src.now ≤ longest_term) × FewCalls longest_term bodies.now × Filled src.now arities.now bodies.now (1 + at) tally.now }
     ensures { (at < result.end) × EntryIs src.now arities.now bodies.now at result }
 {
-    let h = front_at(src, at, arities);
+    let Some(h) = front_at(src, at, arities) else {
+        return nothing(at + 1);
+    };
     let t = h.tag;
     let next = h.next;
     if t == INACTION {
-        return Entry {
-            visible: 0,
-            silent: 0,
-            end: at + 1,
-        };
+        return nothing(at + 1);
     }
     if t == CALL {
         return call_entry(bodies, get(src, at + 1), next);
@@ -189,9 +197,7 @@ fn fill(src: &[u8], arities: &[u8], bodies: &[u32], tally: &mut [u32])
     requires { (length src.now ≤ longest_term) × FewCalls longest_term bodies.now × (length tally.old ≡ tally_size) }
     ensures { Filled src.now arities.now bodies.now 0 tally.new }
 {
-    let mut at = src.len();
-    while 0 < at {
-        at -= 1;
+    for at in (0..src.len()).rev() {
         let e = entry_at(src, at, arities, bodies, tally);
         tally[at] = e.visible as u32;
         tally[LONGEST_TERM + at] = e.silent as u32;
@@ -234,11 +240,9 @@ fn put_places(question: &[u8], bodies: &mut [u32])
     ensures { TalliedBelow question.now most_definitions bodies.new × PlacesBelow question.now most_definitions bodies.new }
 {
     let mut place = field_place(question, 0);
-    let mut k = 0;
-    while k < MOST_DEFINITIONS {
+    for k in 0..MOST_DEFINITIONS {
         put_place(question, bodies, k, place);
         place = after_field(question, place);
-        k += 1;
     }
 }
 
@@ -248,14 +252,12 @@ fn has_restricted_body(question: &[u8]) -> bool
 {
     let arities = arities_of(question);
     let mut place = field_place(question, 0);
-    let mut k = 0;
-    while k < arities.len() {
+    for k in 0..arities.len() {
         let body = body_at(question, place);
         if has_restriction(body, arities) {
             return true;
         }
         place = after_field(question, place);
-        k += 1;
     }
     false
 }
@@ -277,11 +279,9 @@ pub fn body_tallies(question: &[u8]) -> [u32; BODY_TALLIES]
 {
     let mut bodies = [0u32; BODY_TALLIES];
     let mut place = field_place(question, 0);
-    let mut k = 0;
-    while k < MOST_DEFINITIONS {
+    for k in 0..MOST_DEFINITIONS {
         tally_body(question, k, place, &mut bodies);
         place = after_field(question, place);
-        k += 1;
     }
     put_places(question, &mut bodies);
     note_restrictions(question, &mut bodies);
@@ -316,20 +316,14 @@ pub fn body_tally(bodies: &[u32], k: usize) -> &[u32]
 pub fn bodies_restricted(bodies: &[u32]) -> bool
     ensures { result ≡ false → get_or bodies.now restricted_bodies 0 ≡ 0 }
 {
-    if number(bodies, 0, RESTRICTED_BODIES) == 0 {
-        return false;
-    }
-    true
+    number(bodies, 0, RESTRICTED_BODIES) != 0
 }
 
 // Whether it is noted that the part that is tallied, or a body, has a restriction.
 pub fn is_restricted(tally: &[u32]) -> bool
     ensures { result ≡ false → get_or tally.now restricted_at 0 ≡ 0 }
 {
-    if number(tally, 0, RESTRICTED) == 0 {
-        return false;
-    }
-    true
+    number(tally, 0, RESTRICTED) != 0
 }
 
 // Tallies the candidates of a part, in which one call may be opened, and notes whether the part or a body has a restriction. What `numbers` has before is not read.
@@ -338,9 +332,5 @@ pub fn tally(question: &[u8], bodies: &[u32], src: &[u8], restricted: bool, numb
     ensures { PartTallied question.now src.now restricted numbers.new }
 {
     fill(src, arities_of(question), bodies, numbers);
-    if restricted {
-        numbers[RESTRICTED] = 1;
-        return;
-    }
-    numbers[RESTRICTED] = 0;
+    numbers[RESTRICTED] = restricted as u32;
 }

@@ -335,6 +335,21 @@ unfolding raised
 none_around [] = refl
 none_around (c ∷ cs) = ap (λ (l : List Candidate). c ∷ l) (none_around cs)
 
+-- A walk that ends at a limit says nothing of the rows behind those before it.
+pub walk_stopped : (question part : List ℕ) (at depth number x : ℕ) (rows : List ℕ) (n : ℕ) (rows' area : List ℕ) (count : ℕ) (r : Walked) (area' : List ℕ)
+    → n ≤ most_rows + 1 → most_steps < r.count → WalkIs question part at depth number x rows n rows' area count r area'
+    → WalkIs question part at depth number x rows n rows' area count (record { rows = n; count = most_steps + 1 }) area'
+unfolding CollectIs
+walk_stopped question part at depth number x rows n rows' area count r area' few h w = record {
+  inside = few;
+  on = omega arith;
+  kept = w.kept;
+  is = λ q P l K C p. (
+    λ found s. record { stands = λ k. absurd (omega arith); passed = λ _. ((w.is q P l K C p).0 found s).passed h },
+    λ k. absurd (omega arith),
+  );
+}
+
 pub walk_part : (question part : List ℕ) (x : ℕ) (rows rows' area : List ℕ) (r : Walked) (area' : List ℕ)
     → WalkIs question part 0 0 0 x rows 0 rows' area 0 r area' → WalksPart question part x area r.count area'
 walk_part question part x rows rows' area r area' w q P l =

@@ -1,5 +1,5 @@
 -- The steps of a part put into an area on one walk of its parallels and restrictions: what the functions that do so promise.
-use Rattle.std.specs.Prelude.{◌≡◌, Bool, cond, ◌&&◌, List, ◌++◌, map, ℕ, ◌+◌, ◌<◌, ◌≤◌, eqb, leb, length, get_or}
+use Rattle.std.specs.Prelude.{◌≡◌, Bool, cond, ◌&&◌, List, ◌++◌, map, ℕ, ◌+◌, ◌<◌, ◌≤◌, eqb, leb, length, get_or, Option, Some, None}
 use Rattle.calculus.specs.Term.{Term, nil, tau, inp, out, bout, mat, sum, par, res, call}
 use Rattle.terms.specs.Limits.{name_count}
 use Rattle.terms.specs.Question.{Question}
@@ -68,6 +68,16 @@ pub record TakeSilentIs (question part : List ℕ) (at depth number x : ℕ) (ar
       → (K : List Frame) (C : Term) (first : ℕ)
       → Placed q.arities (body_of q.bodies) P K C at depth first number
       → CollectIs (map (raised K) (silent (body_of q.bodies) 1 C)) x area count r area'
+
+-- What an answer says; where it says none a limit is passed, and no more rows are known.
+abbrev pub walked_or : ℕ → Option Walked → Walked
+walked_or n (Some w) = w
+walked_or n None = record { rows = n; count = most_steps + 1 }
+
+-- A number that an answer says passes no limit.
+abbrev pub FewWalked : Option Walked → Type 0
+FewWalked (Some w) = w.count ≤ most_steps
+FewWalked None = Unit {0}
 
 -- All of its candidates; where no limit is passed its visible ones are in the rows from n on, and the rows behind them begin at the answer.
 pub record WalkIs (question part : List ℕ) (at depth number x : ℕ) (rows : List ℕ) (n : ℕ) (rows' area : List ℕ) (count : ℕ) (r : Walked) (area' : List ℕ) : Type 0 where

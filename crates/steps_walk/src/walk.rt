@@ -2,17 +2,17 @@
 // after both sides, their communications.
 ghost use Rattle.std.specs.Prelude.{◌≡◌, true, ℕ, ◌+◌, ◌*◌, ◌≤◌, ◌<◌, length, get_or};
 ghost use Rattle.steps_rows.specs.Rows.{row_bytes, most_rows, UnconditionalIs};
+ghost use Rattle.steps_splicing.specs.Collecting.{counted, Few};
 ghost use Rattle.steps_splicing.specs.Ready.{Inside};
 ghost use Rattle.steps_placing.specs.Putting.{CanPut};
-ghost use Rattle.steps_walk.specs.Walking.{most_number, row_opens, row_object, TakeRowIs, TakeRowsIs, TakeSilentIs, WalkIs};
+ghost use Rattle.steps_walk.specs.Walking.{most_number, row_opens, row_object, TakeRowIs, TakeRowsIs, TakeSilentIs, FewWalked, walked_or, WalkIs};
 
 use steps_communications::meet::{Node, SideRows, meet};
-use steps_entries::limits::MOST_STEPS;
 use steps_entries::listed::ActionBytes;
 use steps_labels::label::{Scope, restrictions_at};
 use steps_passing::pass::middle_of;
 use steps_placing::candidate::take_candidate;
-use steps_placing::put::{Step, put_classed, put_placed};
+use steps_placing::put::{SILENT, Step, put_classed, put_placed};
 use steps_rows::rows::{
     MATCHED, MOST_ROWS, REPEATED, ROW_BYTES, RowBranch, scan_component, unconditional,
 };
@@ -49,20 +49,14 @@ struct OwnRow {
 fn row_opens(kind: u8, object: u8) -> bool
     ensures { result ≡ row_opens kind object }
 {
-    if kind == 2 {
-        return NAME_COUNT <= object as usize;
-    }
-    false
+    kind == 2 && NAME_COUNT <= object as usize
 }
 
 // The object byte of an action: an output's own, and else the new name.
 fn row_object(kind: u8, object: u8, x: u8) -> u8
     ensures { result ≡ row_object kind object x }
 {
-    if kind == 2 {
-        return object;
-    }
-    x
+    if kind == 2 { object } else { x }
 }
 
 // Puts a visible candidate of a component into the list by its row. One that adds no step is passed over; one beneath a match of free names is found by
@@ -76,9 +70,10 @@ fn take_row(
     rows: &[u8],
     own: OwnRow,
     area: &mut [u8],
-) -> usize
+) -> Option<usize>
     requires { CanPut question.now bodies.now part.now tally.now area.old own.count × Inside part.now node.at node.depth × (own.first + own.number ≤ most_rows) }
-    ensures { TakeRowIs question.now part.now node.at node.depth rows.now own.first own.number node.x area.old own.count result area.new }
+    ensures few { Few result }
+    ensures is { TakeRowIs question.now part.now node.at node.depth rows.now own.first own.number node.x area.old own.count (counted result) area.new }
 {
     let count = own.count;
     let x = node.x;
@@ -88,10 +83,10 @@ fn take_row(
     let channel = get(rows, row + 1);
     let object = get(rows, row + 2);
     if kind == REPEATED {
-        return count;
+        return Some(count);
     }
     if NAME_COUNT <= channel as usize {
-        return count;
+        return Some(count);
     }
     let whole = Selection {
         silently: false,
@@ -134,7 +129,7 @@ fn take_row(
     put_placed(question, bodies, part, tally, place, step, area, count)
 }
 
-// Puts all visible candidates of a component into the list by their rows, until a limit is passed.
+// Puts all visible candidates of a component into the list by their rows.
 fn take_rows(
     question: &[u8],
     bodies: &[u32],
@@ -144,29 +139,24 @@ fn take_rows(
     rows: &[u8],
     own: OwnRows,
     area: &mut [u8],
-) -> usize
+) -> Option<usize>
     requires { CanPut question.now bodies.now part.now tally.now area.old own.count × Inside part.now node.at node.depth × (own.first ≤ own.last) × (own.last ≤ most_rows + 1) }
-    ensures { TakeRowsIs question.now part.now node.at node.depth rows.now own.first own.last node.x area.old own.count result area.new }
+    ensures few { Few result }
+    ensures is { TakeRowsIs question.now part.now node.at node.depth rows.now own.first own.last node.x area.old own.count (counted result) area.new }
 {
     let first = own.first;
     let last = own.last;
     let number = last - first;
     let mut n = own.count;
-    let mut j = 0;
-    while j < number {
+    for j in 0..number {
         let one = OwnRow {
             first,
             number: j,
             count: n,
         };
-        let m = take_row(question, bodies, part, tally, node, rows, one, area);
-        if MOST_STEPS < m {
-            return m;
-        }
-        n = m;
-        j += 1;
+        n = take_row(question, bodies, part, tally, node, rows, one, area)?;
     }
-    n
+    Some(n)
 }
 
 // Puts the silent candidates of a component into the list, where they have no condition.
@@ -178,20 +168,15 @@ fn take_unconditional(
     node: Node,
     area: &mut [u8],
     count: usize,
-) -> usize
+) -> Option<usize>
     requires { CanPut question.now bodies.now part.now tally.now area.old count × Inside part.now node.at node.depth × (node.number ≤ node.at * most_number) × UnconditionalIs question.now part.now node.at 1 true }
-    ensures { TakeSilentIs question.now part.now node.at node.depth node.number node.x area.old count result area.new }
+    ensures few { Few result }
+    ensures is { TakeSilentIs question.now part.now node.at node.depth node.number node.x area.old count (counted result) area.new }
 {
     let at = node.at;
     let number = silent_at(tally, at);
     let mut n = count;
-    let mut j = 0;
-    while j < number {
-        let silent = ActionBytes {
-            kind: 0,
-            channel: 0,
-            object: 0,
-        };
+    for j in 0..number {
         let candidate = Selection {
             silently: true,
             number: j,
@@ -199,21 +184,16 @@ fn take_unconditional(
         };
         let step = Step {
             candidate,
-            action: silent,
+            action: SILENT,
         };
         let place = Position {
             at,
             depth: node.depth,
             first: node.number,
         };
-        let m = put_placed(question, bodies, part, tally, place, step, area, n);
-        if MOST_STEPS < m {
-            return m;
-        }
-        n = m;
-        j += 1;
+        n = put_placed(question, bodies, part, tally, place, step, area, n)?;
     }
-    n
+    Some(n)
 }
 
 // Puts the silent candidates of a component into the list by their numbers in the part.
@@ -225,29 +205,24 @@ fn take_numbered(
     node: Node,
     area: &mut [u8],
     count: usize,
-) -> usize
+) -> Option<usize>
     requires { CanPut question.now bodies.now part.now tally.now area.old count × (node.at < length part.now) × (node.number ≤ node.at * most_number) }
-    ensures { TakeSilentIs question.now part.now node.at node.depth node.number node.x area.old count result area.new }
+    ensures few { Few result }
+    ensures is { TakeSilentIs question.now part.now node.at node.depth node.number node.x area.old count (counted result) area.new }
 {
     let first = node.number;
     let number = silent_at(tally, node.at);
     let mut n = count;
-    let mut j = 0;
-    while j < number {
+    for j in 0..number {
         let i = first + j;
         let candidate = Selection {
             silently: true,
             number: i,
             x: node.x,
         };
-        let m = take_candidate(question, bodies, part, tally, candidate, area, n);
-        if MOST_STEPS < m {
-            return m;
-        }
-        n = m;
-        j += 1;
+        n = take_candidate(question, bodies, part, tally, candidate, area, n)?;
     }
-    n
+    Some(n)
 }
 
 // Puts the silent candidates of a component into the list.
@@ -259,9 +234,10 @@ fn take_silent(
     node: Node,
     area: &mut [u8],
     count: usize,
-) -> usize
+) -> Option<usize>
     requires { CanPut question.now bodies.now part.now tally.now area.old count × Inside part.now node.at node.depth × (node.number ≤ node.at * most_number) }
-    ensures { TakeSilentIs question.now part.now node.at node.depth node.number node.x area.old count result area.new }
+    ensures few { Few result }
+    ensures is { TakeSilentIs question.now part.now node.at node.depth node.number node.x area.old count (counted result) area.new }
 {
     if unconditional(question, bodies, part, tally, node.at, 1) {
         return take_unconditional(question, bodies, part, tally, node, area, count);
@@ -279,9 +255,10 @@ fn component(
     rows: &mut [u8],
     walked: Walked,
     area: &mut [u8],
-) -> Walked
+) -> Option<Walked>
     requires { CanPut question.now bodies.now part.now tally.now area.old walked.count × Inside part.now node.at node.depth × (node.number ≤ node.at * most_number) × (walked.rows ≤ most_rows + 1) × (row_bytes * most_rows ≤ length rows.old) × (get_or part.now node.at 0 ≡ 7 → ⊥) × (get_or part.now node.at 0 ≡ 8 → ⊥) }
-    ensures { WalkIs question.now part.now node.at node.depth node.number node.x rows.old walked.rows rows.new area.old walked.count result area.new }
+    ensures few { FewWalked result }
+    ensures is { WalkIs question.now part.now node.at node.depth node.number node.x rows.old walked.rows rows.new area.old walked.count (walked_or walked.rows result) area.new }
 {
     let at = node.at;
     let depth = node.depth;
@@ -304,18 +281,12 @@ fn component(
         last,
         count: walked.count,
     };
-    let visible = take_rows(question, bodies, part, tally, node, rows, own, area);
-    if MOST_STEPS < visible {
-        return Walked {
-            rows: last,
-            count: visible,
-        };
-    }
-    let all = take_silent(question, bodies, part, tally, node, area, visible);
-    Walked {
+    let visible = take_rows(question, bodies, part, tally, node, rows, own, area)?;
+    let all = take_silent(question, bodies, part, tally, node, area, visible)?;
+    Some(Walked {
         rows: last,
         count: all,
-    }
+    })
 }
 
 // A parallel: its sides, and then their communications.
@@ -329,9 +300,10 @@ fn walk_parallel(
     rows: &mut [u8],
     walked: Walked,
     area: &mut [u8],
-) -> Walked
+) -> Option<Walked>
     requires { CanPut question.now bodies.now part.now tally.now area.old walked.count × Inside part.now node.at node.depth × (node.number ≤ node.at * most_number) × (walked.rows ≤ most_rows + 1) × (row_bytes * most_rows ≤ length rows.old) × (get_or part.now node.at 0 ≡ 7) }
-    ensures { WalkIs question.now part.now node.at node.depth node.number node.x rows.old walked.rows rows.new area.old walked.count result area.new }
+    ensures few { FewWalked result }
+    ensures is { WalkIs question.now part.now node.at node.depth node.number node.x rows.old walked.rows rows.new area.old walked.count (walked_or walked.rows result) area.new }
 {
     let at = node.at;
     let number = node.number;
@@ -343,10 +315,7 @@ fn walk_parallel(
         number,
         x: node.x,
     };
-    let left = walk(question, bodies, part, tally, one, rows, walked, area);
-    if MOST_STEPS < left.count {
-        return left;
-    }
+    let left = walk(question, bodies, part, tally, one, rows, walked, area)?;
     let before = silent_at(tally, next);
     let further = number + before;
     let other = Node {
@@ -355,13 +324,10 @@ fn walk_parallel(
         number: further,
         x: node.x,
     };
-    let right = walk(question, bodies, part, tally, other, rows, left, area);
-    if MOST_STEPS < right.count {
-        return right;
-    }
+    let right = walk(question, bodies, part, tally, other, rows, left, area)?;
     // No part that is accepted has so many.
     if MOST_ROWS < right.rows {
-        return right;
+        return Some(right);
     }
     let silent = before + silent_at(tally, middle);
     let sides = SideRows {
@@ -371,15 +337,15 @@ fn walk_parallel(
         before: silent,
         count: right.count,
     };
-    let all = meet(question, bodies, part, tally, node, rows, sides, area);
-    Walked {
+    let all = meet(question, bodies, part, tally, node, rows, sides, area)?;
+    Some(Walked {
         rows: right.rows,
         count: all,
-    }
+    })
 }
 
 // A term of the part: its candidates, of which the visible ones are put into the rows behind those that are filled. Where a limit is passed the walk
-// ends.
+// ends, and answers none.
 #[cycle(walk_walk_parallel)]
 pub fn walk(
     question: &[u8],
@@ -390,9 +356,10 @@ pub fn walk(
     rows: &mut [u8],
     walked: Walked,
     area: &mut [u8],
-) -> Walked
+) -> Option<Walked>
     requires { CanPut question.now bodies.now part.now tally.now area.old walked.count × (node.depth ≤ node.at) × (node.number ≤ node.at * most_number) × (walked.rows ≤ most_rows + 1) × (row_bytes * most_rows ≤ length rows.old) }
-    ensures { WalkIs question.now part.now node.at node.depth node.number node.x rows.old walked.rows rows.new area.old walked.count result area.new }
+    ensures few { FewWalked result }
+    ensures is { WalkIs question.now part.now node.at node.depth node.number node.x rows.old walked.rows rows.new area.old walked.count (walked_or walked.rows result) area.new }
 {
     // Restrictions that stand one within the other are passed at once: only the sides of parallels are walked by recursion.
     let at = node.at;
@@ -400,7 +367,7 @@ pub fn walk(
     let place = at + k;
     let under = node.depth + k;
     if part.len() <= place {
-        return walked;
+        return Some(walked);
     }
     let inner = Node {
         at: place,

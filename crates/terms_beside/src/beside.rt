@@ -7,13 +7,13 @@ ghost use Rattle.terms.specs.Limits.{longest_term};
 ghost use Rattle.terms.specs.Operations.{beside_of};
 ghost use Rattle.terms_bytes.specs.Writing.{IsAccepted, Does, MayBeBeside, MayPlaceBeside, WritesBeside};
 
-use terms_bytes::answer::Written;
-use terms_bytes::bytes::copy;
+use terms_bytes::answer::Refusal;
+use terms_bytes::bytes::{copy, put_size};
 use terms_bytes::frame::{after_field, arities, definitions, field_place, size_at};
 use terms_bytes::limits::{LONGEST_TERM, NAME_COUNT};
 use terms_bytes::tags::PARALLEL;
-use terms_checks::check::{Checked, check, is_counted};
-use terms_scanning::scan::{Scan, scan_whole};
+use terms_checks::check::{check, is_counted};
+use terms_scanning::scan::scan_whole;
 
 // Writes one side as a field: its length, byte 07, the `size` bytes of the side at `at`, the third part. Answers where the field ends.
 fn write_side(
@@ -28,8 +28,7 @@ fn write_side(
     ensures { (result ≡ put + (3 + size + length third.now)) × (area.new ≡ sets area.old put (sized (7 ∷ (take size (drop at question.now) ++ third.now)))) }
 {
     let n = 1 + size + third.len();
-    area[put] = (n / 256) as u8;
-    area[put + 1] = (n % 256) as u8;
+    put_size(area, put, n);
     area[put + 2] = PARALLEL;
     copy(question, at, size, area, put + 3);
     copy(third, 0, third.len(), area, put + 3 + size);
@@ -57,35 +56,26 @@ fn sides_fit(first: usize, second: usize, third: usize) -> bool
     requires { (first < 65536) × (second < 65536) }
     ensures { result ≡ (leb 1 third && leb third longest_term && leb (1 + first + third) longest_term && leb (1 + second + third) longest_term) }
 {
-    if third < 1 {
+    if third < 1 || LONGEST_TERM < third {
         return false;
     }
-    if LONGEST_TERM < third {
-        return false;
-    }
-    if LONGEST_TERM < 1 + first + third {
-        return false;
-    }
-    if LONGEST_TERM < 1 + second + third {
-        return false;
-    }
-    true
+    1 + first + third <= LONGEST_TERM && 1 + second + third <= LONGEST_TERM
 }
 
 // Check 15, then the question with the third part on each side.
-fn beside_allowed(question: &[u8], third: &[u8], area: &mut [u8]) -> Written
+fn beside_allowed(question: &[u8], third: &[u8], area: &mut [u8]) -> Result<usize, Refusal>
     requires { MayBeBeside question.now third.now }
     ensures { Does (beside_of question.now third.now (length area.old)) area.old result area.new }
 {
     let more = 1 + third.len();
     if area.len() < question.len() + (more + more) {
-        return Written::Refused(15);
+        return Err(Refusal::ResultArea);
     }
-    Written::Length(write_beside(question, third, area))
+    Ok(write_beside(question, third, area))
 }
 
 // Checks 6 to 10 of the third part beside an accepted question.
-fn beside_accepted(question: &[u8], third: &[u8], area: &mut [u8]) -> Written
+fn beside_accepted(question: &[u8], third: &[u8], area: &mut [u8]) -> Result<usize, Refusal>
     requires { IsAccepted question.now }
     ensures { Does (beside_of question.now third.now (length area.old)) area.old result area.new }
 {
@@ -96,34 +86,25 @@ fn beside_accepted(question: &[u8], third: &[u8], area: &mut [u8]) -> Written
         size_at(question, second),
         third.len(),
     ) {
-        return Written::Refused(6);
+        return Err(Refusal::TermLength);
     }
-    let scanned = scan_whole(
+    let c = scan_whole(
         third,
         0,
         NAME_COUNT,
         arities(question),
         is_counted(question),
-    );
-    match scanned {
-        Scan::Fault(k) => Written::Refused(k),
-        Scan::End(_, c) => {
-            let outermost = c.outermost;
-            if !outermost {
-                return Written::Refused(10);
-            }
-            beside_allowed(question, third, area)
-        }
+    )?;
+    if !c.outermost {
+        return Err(Refusal::Parallel);
     }
+    beside_allowed(question, third, area)
 }
 
 // Sets the third part beside both sides of the question, into the area.
-pub fn beside(question: &[u8], third: &[u8], area: &mut [u8]) -> Written
+pub fn beside(question: &[u8], third: &[u8], area: &mut [u8]) -> Result<usize, Refusal>
     ensures { Does (beside_of question.now third.now (length area.old)) area.old result area.new }
 {
-    let checked = check(question);
-    match checked {
-        Checked::Refused(k) => Written::Refused(k),
-        Checked::Accepted => beside_accepted(question, third, area),
-    }
+    check(question)?;
+    beside_accepted(question, third, area)
 }

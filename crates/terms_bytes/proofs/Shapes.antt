@@ -11,7 +11,7 @@ use lib.Dec.{leb, eqb}
 use borrow.Author.Tests.{leb-true}
 use Rattle.calculus.specs.Term.{Term, nil, tau, inp, out, bout, mat, sum, par, res, call, ren}
 use Rattle.terms.specs.Encoding.{name_byte, encode, NamesInScope, InScope}
-use Rattle.terms_bytes.specs.Shape.{fixed_bytes, own_names, binders, subterms, front_bytes, fixed_at, names_behind, names_at, binders_at, subterms_at, ShapeIs}
+use Rattle.terms_bytes.specs.Shape.{fixed_bytes, own_names, binders, subterms, front_bytes, fixed_at, names_at, binders_at, subterms_at, ShapeIs}
 use Rattle.terms_bytes.specs.declared.shape.Shape.{Shape}
 use Rattle.terms_bytes.proofs.Stores.{span, get_d_front}
 use Rattle.terms_bytes.proofs.NameTables.{lift_by}
@@ -34,45 +34,6 @@ pub all-at : (b : ℕ) (l : List ℕ) (i : ℕ) → all_le b l ≡ true → get_
 all-at b [] i h = zero-le
 all-at b (x ∷ xs) zero h = leb-true x b (and_left (leb x b) (all_le b xs) h)
 all-at b (x ∷ xs) (suc i) h = all-at b xs i (and_right (leb x b) (all_le b xs) h)
-
--- The tables of shapes where no test of the code holds.
-pub names_else : (t : ℕ) → (t ≡ 2 → ⊥) → (t ≡ 3 → ⊥) → (t ≡ 4 → ⊥) → (t ≡ 5 → ⊥) → 0 ≡ names_behind t
-names_else zero a b c d = refl
-names_else (suc zero) a b c d = refl
-names_else (suc (suc zero)) a b c d = absurd (a refl)
-names_else (suc (suc (suc zero))) a b c d = absurd (b refl)
-names_else (suc (suc (suc (suc zero)))) a b c d = absurd (c refl)
-names_else (suc (suc (suc (suc (suc zero))))) a b c d = absurd (d refl)
-names_else (suc (suc (suc (suc (suc (suc zero)))))) a b c d = refl
-names_else (suc (suc (suc (suc (suc (suc (suc zero))))))) a b c d = refl
-names_else (suc (suc (suc (suc (suc (suc (suc (suc zero)))))))) a b c d = refl
-names_else (suc (suc (suc (suc (suc (suc (suc (suc (suc t))))))))) a b c d = refl
-
-pub binders_else : (t : ℕ) → (t ≡ 2 → ⊥) → (t ≡ 4 → ⊥) → (t ≡ 8 → ⊥) → 0 ≡ binders_at t
-unfolding binders_at
-binders_else zero a b c = refl
-binders_else (suc zero) a b c = refl
-binders_else (suc (suc zero)) a b c = absurd (a refl)
-binders_else (suc (suc (suc zero))) a b c = refl
-binders_else (suc (suc (suc (suc zero)))) a b c = absurd (b refl)
-binders_else (suc (suc (suc (suc (suc zero))))) a b c = refl
-binders_else (suc (suc (suc (suc (suc (suc zero)))))) a b c = refl
-binders_else (suc (suc (suc (suc (suc (suc (suc zero))))))) a b c = refl
-binders_else (suc (suc (suc (suc (suc (suc (suc (suc zero)))))))) a b c = absurd (c refl)
-binders_else (suc (suc (suc (suc (suc (suc (suc (suc (suc t))))))))) a b c = refl
-
-pub parts_one : (t : ℕ) → (t ≡ 0 → ⊥) → (t ≡ 6 → ⊥) → (t ≡ 7 → ⊥) → t < 9 → 1 ≡ subterms_at t
-unfolding subterms_at
-parts_one zero a b c h = absurd (a refl)
-parts_one (suc zero) a b c h = refl
-parts_one (suc (suc zero)) a b c h = refl
-parts_one (suc (suc (suc zero))) a b c h = refl
-parts_one (suc (suc (suc (suc zero)))) a b c h = refl
-parts_one (suc (suc (suc (suc (suc zero))))) a b c h = refl
-parts_one (suc (suc (suc (suc (suc (suc zero)))))) a b c h = absurd (b refl)
-parts_one (suc (suc (suc (suc (suc (suc (suc zero))))))) a b c h = absurd (c refl)
-parts_one (suc (suc (suc (suc (suc (suc (suc (suc zero)))))))) a b c h = refl
-parts_one (suc (suc (suc (suc (suc (suc (suc (suc (suc t))))))))) a b c h = absurd (omega arith)
 
 -- The bytes of terms that follow one another.
 unfoldable pub encode_all : ℕ → List Term → List ℕ

@@ -6,6 +6,7 @@ use Prim.Native.Nat.{ℕ, zero, suc, ◌+◌, ◌-◌, ◌<◌, ◌≤◌}
 use native.Mathlib.Nat.{add-zero, zero-add, not-suc-le-zero, le_of_suc-le-suc, eq-or-lt_of_le}
 use native.Mathlib.Numerals.{add-one}
 use native.Mathlib.Omega.{arith}
+use borrow.Rule.Slice.PartMut.{put_mid}
 use lib.ListN.{length, get_or, take, drop, set, length-append, length-take, length-drop, length-set, get_or-append}
 use lib.Seq.{sets, sets-eq, drop-drop, drop-append_seam, take-append_seam, take-suc, get_or-take, get_or-drop, length-take-le, take_all, get_or-set_same, get_or-set_other}
 
@@ -49,6 +50,10 @@ get_d_front s at xs rest k e h = sym (get_or-drop at s k 0) ∙ ap (λ (l : List
 -- A run that went on to its end.
 pub run_whole : (l xs : List ℕ) (p i : ℕ) (l' : List ℕ) → length xs ≤ i → l' ≡ sets l p (take i xs) → l' ≡ sets l p xs
 run_whole l xs p i l' h e = e ∙ ap (sets l p) (take_all i xs h)
+
+-- A part of a list with other elements in it is a run of stores.
+pub put-run : (l xs : List ℕ) (p k : ℕ) → p + length xs ≤ length l → k ≡ length xs → put_mid p k l xs ≡ sets l p xs
+put-run l xs p k h e = rw (e, drop-drop) (sym (append_assoc (take p l) xs (drop (p + length xs) l)) ∙ sym (sets-eq xs l p h))
 
 -- A run over as many elements in the middle of a list.
 pub sets_middle : (A B C B' : List ℕ) (p : ℕ) → p ≡ length A → length B' ≡ length B → sets (A ++ (B ++ C)) p B' ≡ A ++ (B' ++ C)

@@ -1,5 +1,5 @@
 -- What an operation that writes a question promises, and its writing half where no check turns it back.
-use Rattle.std.specs.Prelude.{◌≡◌, true, ◌&&◌, List, ℕ, ◌+◌, ◌<◌, ◌≤◌, length}
+use Rattle.std.specs.Prelude.{◌≡◌, true, ◌&&◌, List, ℕ, ◌+◌, ◌<◌, ◌≤◌, length, Result, Ok, Err}
 use Rattle.calculus.specs.Term.{Term}
 use Rattle.terms.specs.Limits.{name_count, longest_term}
 use Rattle.terms.specs.Answer.{Answer, refused, result}
@@ -8,16 +8,16 @@ use Rattle.terms.specs.Reading.{numbered}
 use Rattle.terms.specs.Grammar.{parallel_outermost}
 use Rattle.terms.specs.Operations.{merged_question, beside_question, fits_beside, length_written, area_after}
 use Rattle.terms.specs.Question.{Question, fits, read_part, check_of, edition_of, question_of, write_in}
-use Rattle.terms_bytes.specs.declared.answer.Written.{Written}
-use Rattle.terms_bytes.specs.declared.answer.Written.TheVariants.{Length, Refused}
+use Rattle.terms_bytes.specs.Refusals.{number_of}
+use Rattle.terms_bytes.specs.declared.answer.Refusal.{Refusal}
 
--- The enum's cases as answers of document 01.
-unfoldable pub written_answer : Written → Answer ℕ
-written_answer (Length n) = result n
-written_answer (Refused k) = refused k
+-- The length written, or the number of the check that turned the operation back, as an answer of document 01.
+unfoldable pub written_answer : Result ℕ Refusal → Answer ℕ
+written_answer (Ok n) = result n
+written_answer (Err k) = refused (number_of k)
 
 -- The answer and the whole area, where m is what the operation writes or the check that turns it back.
-pub record Does (m : Answer (List ℕ)) (area : List ℕ) (r : Written) (area' : List ℕ) : Type 0 where
+pub record Does (m : Answer (List ℕ)) (area : List ℕ) (r : Result ℕ Refusal) (area' : List ℕ) : Type 0 where
   pub answer : written_answer r ≡ length_written m
   pub left : area' ≡ area_after m area
 

@@ -1,5 +1,5 @@
 // Reading and copying bytes at positions, safe at any position.
-ghost use Rattle.std.specs.Prelude.{◌≡◌, ◌+◌, ◌≤◌, length, get_or, take, drop, leb};
+ghost use Rattle.std.specs.Prelude.{◌≡◌, ◌+◌, ◌/◌, ◌%◌, ◌<◌, ◌≤◌, length, get_or, take, drop, set, leb};
 ghost use Rattle.std.proofs.lemmas.List.Edits.{sets};
 
 // The byte at `i`, and 0 past the end.
@@ -13,13 +13,7 @@ pub fn get(s: &[u8], i: usize) -> u8
 pub fn room(len: usize, at: usize, n: usize) -> bool
     ensures { result ≡ leb (at + n) len }
 {
-    if len < at {
-        return false;
-    }
-    if n <= len - at {
-        return true;
-    }
-    false
+    at <= len && n <= len - at
 }
 
 // Copies `n` bytes.
@@ -27,9 +21,14 @@ pub fn copy(src: &[u8], at: usize, n: usize, out: &mut [u8], put: usize)
     requires { (at + n ≤ length src.now) × (put + n ≤ length out.old) }
     ensures { out.new ≡ sets out.old put (take n (drop at src.now)) }
 {
-    let mut i = 0;
-    while i < n {
-        out[put + i] = src[at + i];
-        i += 1;
-    }
+    out[put..put + n].copy_from_slice(&src[at..at + n]);
+}
+
+// Writes a length as two bytes, the greater half first.
+pub fn put_size(out: &mut [u8], at: usize, n: usize)
+    requires { (at + 2 ≤ length out.old) × (n < 65536) }
+    ensures { out.new ≡ set (set out.old at (n / 256)) (at + 1) (n % 256) }
+{
+    out[at] = (n / 256) as u8;
+    out[at + 1] = (n % 256) as u8;
 }

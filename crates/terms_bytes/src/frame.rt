@@ -54,10 +54,8 @@ pub fn field_place(question: &[u8], k: usize) -> usize
     ensures { result ≡ field_place question.now k }
 {
     let mut at = 2 + definitions(question);
-    let mut i = 0;
-    while i < k {
+    for i in 0..k {
         at = after_field(question, at);
-        i += 1;
     }
     at
 }

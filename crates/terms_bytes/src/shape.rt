@@ -4,7 +4,7 @@ ghost use Rattle.terms_bytes.specs.Shape.{names_behind, binders_at, subterms_at,
 
 use crate::bytes::get;
 use crate::tags::{
-    CALL, CHOICE, INACTION, INPUT, MATCH, NEW_OUTPUT, OUTPUT, PARALLEL, RESTRICTION,
+    CALL, CHOICE, INACTION, INPUT, MATCH, NEW_OUTPUT, OUTPUT, PARALLEL, RESTRICTION, SILENT,
 };
 
 #[derive(Clone, Copy)]
@@ -19,56 +19,48 @@ pub struct Shape {
     pub subterms: usize,
 }
 
+// What a walk needs to know of a front that it has passed.
+#[derive(Clone, Copy)]
+pub struct Front {
+    // its bytes
+    pub len: usize,
+    // the binders before the subterms
+    pub binds: usize,
+    // the subterms
+    pub subterms: usize,
+}
+
 // How many names stand behind the first byte, unless it is a call's. Tests take less than a table, which would be made anew at each call.
 fn names_of(t: u8) -> usize
     ensures { result ≡ names_behind t }
 {
-    if t == INPUT {
-        return 1;
+    match t {
+        INPUT | NEW_OUTPUT => 1,
+        OUTPUT | MATCH => 2,
+        _ => 0,
     }
-    if t == OUTPUT {
-        return 2;
-    }
-    if t == NEW_OUTPUT {
-        return 1;
-    }
-    if t == MATCH {
-        return 2;
-    }
-    0
 }
 
+#[tactic(auto, unfolding(crate::specs::Shape::binders_at))]
 fn binders_of(t: u8) -> usize
     ensures { result ≡ binders_at t }
 {
-    if t == INPUT {
-        return 1;
+    match t {
+        INPUT | NEW_OUTPUT | RESTRICTION => 1,
+        _ => 0,
     }
-    if t == NEW_OUTPUT {
-        return 1;
-    }
-    if t == RESTRICTION {
-        return 1;
-    }
-    0
 }
 
+#[tactic(auto, unfolding(crate::specs::Shape::subterms_at))]
 fn subterm_count(t: u8) -> usize
     ensures { result ≡ subterms_at t }
 {
-    if t == INACTION {
-        return 0;
+    match t {
+        INACTION => 0,
+        CHOICE | PARALLEL => 2,
+        SILENT..=RESTRICTION => 1,
+        _ => 0,
     }
-    if t == CHOICE {
-        return 2;
-    }
-    if t == PARALLEL {
-        return 2;
-    }
-    if t < CALL {
-        return 1;
-    }
-    0
 }
 
 // The shape of what begins at `at`.

@@ -1,7 +1,7 @@
 -- The loops of checks 5, 6 and 12: what has been passed does not matter to the answer.
 use mathlib.Core.Path.{◌≡◌, refl, ap, ◌∙◌}
-use mathlib.Core.Bool.{Bool, true, false}
-use mathlib.Core.List.{List, ◌∷◌}
+use mathlib.Core.Bool.{Bool, true, false, ◌&&◌}
+use mathlib.Core.List.{List, [], ◌∷◌}
 use Prim.Native.Nat.{ℕ, zero, suc, ◌+◌, ◌-◌, ◌≤◌, ◌<◌}
 use native.Mathlib.Omega.{arith}
 use lib.ListN.{length, get_or, drop, drop_of_length-le}
@@ -17,23 +17,17 @@ use Rattle.terms.specs.Question.{every, fits, different_names, different_names_w
 use Rattle.terms.specs.Reading.{numbered, read_whole}
 use Rattle.terms_scanning.specs.Scanning.{control_of, passing, scanned_whole, whole_answer}
 use Rattle.terms_scanning.specs.declared.scan.Control.{Control}
-use Rattle.terms_scanning.specs.declared.scan.Scan.TheVariants.{End, Fault}
+use Rattle.std.specs.List.{list_all}
+use Rattle.std.specs.Prelude.{Ok, Err}
+use Rattle.terms_bytes.specs.declared.answer.Refusal.{Refusal}
 use Rattle.terms.proofs.Answers.{bind_to, bind-refused}
 use Rattle.terms_scanning.proofs.ScanLaws.{drop_here}
 
--- A test over a list, from a position on.
-module _ (p : ℕ → Bool) (s : List ℕ) (i : ℕ) where
-  pub all-fails : i < length s → p (get_or s i 0) ≡ false → every p (drop i s) ≡ false
-  unfolding every
-  all-fails h e = rw (drop_here s i h, e)
-
-  pub all-passes : i < length s → p (get_or s i 0) ≡ true → every p (drop i s) ≡ every p (drop (i + 1) s)
-  unfolding every
-  all-passes h e = rw (drop_here s i h, e)
-
-  pub all_done : length s ≤ i → every p (drop i s) ≡ true
-  unfolding every
-  all_done h = rw (drop_of_length-le s h)
+-- A test over a list.
+pub all_every : (p : ℕ → Bool) (s : List ℕ) → list_all p s ≡ every p s
+unfolding every
+all_every p [] = refl
+all_every p (x ∷ s) = ap (λ (b : Bool). p x && b) (all_every p s)
 
 -- Check 6 over fields that follow one another.
 module _ (s : List ℕ) (at m : ℕ) where
@@ -56,37 +50,6 @@ module _ (s : List ℕ) (at m : ℕ) where
   pub sizes_done : m ≡ 0 → every fits (fields_from s at m) ≡ true
   unfolding every fields_from
   sizes_done e = rw e
-
-module _ (bs : List ℕ) where
-  pub fits_short : length bs < 1 → fits bs ≡ false
-  unfolding fits
-  fits_short h = rw (lt-leb 1 (length bs) h)
-
-  pub fits_long : longest_term < length bs → fits bs ≡ false
-  unfolding fits
-  fits_long h = rw (le-leb 1 (length bs) (omega arith), lt-leb (length bs) longest_term h)
-
-  pub fits_both : 1 ≤ length bs → length bs ≤ longest_term → fits bs ≡ true
-  unfolding fits
-  fits_both l h = rw (le-leb 1 (length bs) l, le-leb (length bs) longest_term h)
-
--- Check 12 of one pair.
-module _ (a b : ℕ) where
-  pub left_not : name_count ≤ a → different_names a b ≡ false
-  unfolding different_names_with
-  left_not h = rw (le-ltb a name_count h)
-
-  pub right_not : a < name_count → name_count ≤ b → different_names a b ≡ false
-  unfolding different_names_with
-  right_not l h = rw (lt-ltb a name_count l, le-ltb b name_count h)
-
-  pub same_not : a < name_count → b < name_count → a ≡ b → different_names a b ≡ false
-  unfolding different_names_with
-  same_not l h e = rw (lt-ltb a name_count l, lt-ltb b name_count h, eq-eqb a b e)
-
-  pub names_different : a < name_count → b < name_count → (a ≡ b → ⊥) → different_names a b ≡ true
-  unfolding different_names_with
-  names_different l h e = rw (lt-ltb a name_count l, lt-ltb b name_count h, ne_eqb a b e)
 
 -- Check 12 of the pairs from a position on.
 module _ (s : List ℕ) (i : ℕ) where
@@ -141,7 +104,7 @@ module _ (ed : Edition) (s list : List ℕ) (i at : ℕ) where
   abbrev bodies_left : Answer Control
   bodies_left = bodies_scanned ed list (drop i list) (fields_from s at (length (drop i list)))
 
-  pub bodies_none : length list ≤ i → bodies_left ≡ whole_answer (End at passing)
+  pub bodies_none : length list ≤ i → bodies_left ≡ whole_answer (Ok passing)
   unfolding bodies_scanned read_bodies control_of_all whole_answer fields_from ◌>>=◌
   bodies_none h = rw (drop_of_length-le list h)
 
@@ -153,15 +116,15 @@ module _ (ed : Edition) (s list : List ℕ) (i at : ℕ) where
     unfolding fields_from
     one_more = rw (drop_here list i h) (bodies_step ed list (get_or list i 0) (drop (i + 1) list) (field_at s at) _)
 
-    pub bodies_fault : (k : ℕ) → scanned_whole ed 0 list (get_or list i 0) (field_at s at) ≡ whole_answer (Fault k) → bodies_left ≡ whole_answer (Fault k)
+    pub bodies_fault : (k : Refusal) → scanned_whole ed 0 list (get_or list i 0) (field_at s at) ≡ whole_answer (Err k) → bodies_left ≡ whole_answer (Err k)
     unfolding whole_answer
     bodies_fault k e = one_more ∙ bind-refused _ e
 
-    module _ (e : ℕ) (p : Control) (one : scanned_whole ed 0 list (get_or list i 0) (field_at s at) ≡ whole_answer (End e p)) where
-      pub bodies_later_fault : (k : ℕ) → later ≡ whole_answer (Fault k) → bodies_left ≡ whole_answer (Fault k)
+    module _ (p : Control) (one : scanned_whole ed 0 list (get_or list i 0) (field_at s at) ≡ whole_answer (Ok p)) where
+      pub bodies_later_fault : (k : Refusal) → later ≡ whole_answer (Err k) → bodies_left ≡ whole_answer (Err k)
       unfolding whole_answer
       bodies_later_fault k w = one_more ∙ bind_to _ one ∙ bind-refused _ w
 
-      pub bodies_all : (l l' : ℕ) (q c : Control) → later ≡ whole_answer (End l q) → c ≡ joint_of p q → bodies_left ≡ whole_answer (End l' c)
+      pub bodies_all : (q c : Control) → later ≡ whole_answer (Ok q) → c ≡ joint_of p q → bodies_left ≡ whole_answer (Ok c)
       unfolding whole_answer
-      bodies_all l l' q c w m = one_more ∙ bind_to _ one ∙ bind_to _ w ∙ rw m
+      bodies_all q c w m = one_more ∙ bind_to _ one ∙ bind_to _ w ∙ rw m

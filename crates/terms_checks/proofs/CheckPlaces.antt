@@ -8,16 +8,18 @@ use Rattle.terms_bytes.specs.FieldPlaces.{arities_of, after_field, field_at, fie
 use Rattle.terms.specs.Edition.{Edition}
 use Rattle.terms.specs.Question.{every, fits}
 use Rattle.terms_scanning.specs.Scanning.{whole_answer}
-use Rattle.terms_scanning.specs.declared.scan.Scan.{Scan}
+use Rattle.std.specs.Prelude.{Result}
+use Rattle.terms_bytes.specs.declared.answer.Refusal.{Refusal}
+use Rattle.terms_scanning.specs.declared.scan.Control.{Control}
 
 module _ (ed : Edition) (s list : List ℕ) (is : list ≡ arities_of s) where
-  pub bodies_at : (at : ℕ) (r : Scan) → at ≡ field_place s 0 →
+  pub bodies_at : (at : ℕ) (r : Result Control Refusal) → at ≡ field_place s 0 →
       bodies_scanned ed list (drop 0 list) (fields_from s at (length (drop 0 list))) ≡ whole_answer r →
       bodies_scanned ed (fields_at s).arities (fields_at s).arities (fields_at s).bodies ≡ whole_answer r
   unfolding fields_at
   bodies_at at r p e = rw (← is, ← p) e
 
-  pub parts_at : (first : ℕ) (r : Scan) → first ≡ first_place s →
+  pub parts_at : (first : ℕ) (r : Result Control Refusal) → first ≡ first_place s →
       parts_scanned ed list (field_at s first) (field_at s (after_field s first)) ≡ whole_answer r →
       parts_scanned ed (fields_at s).arities (fields_at s).first (fields_at s).second ≡ whole_answer r
   unfolding fields_at second_place

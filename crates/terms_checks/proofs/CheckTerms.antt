@@ -17,9 +17,11 @@ use Rattle.terms.specs.Limits.{name_count, most_definitions, greatest_arity}
 use Rattle.terms.specs.Question.{Question, every, fits, read_bodies, read_part, read_part_with, read_apart, check_terms, check_terms_with, check_fields, check_fields_with}
 use Rattle.terms.specs.Reading.{numbered, read_whole}
 use Rattle.terms_scanning.specs.Scanning.{control_of, passing, scanned_whole, whole_answer}
-use Rattle.terms_checks.specs.declared.check.Checked.TheVariants.{Accepted, Refused}
 use Rattle.terms_scanning.specs.declared.scan.Control.{Control}
-use Rattle.terms_scanning.specs.declared.scan.Scan.TheVariants.{End, Fault}
+use Rattle.std.specs.Prelude.{Ok, Err}
+use Rattle.terms_bytes.specs.Refusals.{number_of}
+use Rattle.terms_bytes.specs.declared.answer.Refusal.{Refusal}
+use Rattle.terms_bytes.specs.declared.answer.Refusal.TheVariants.{Definitions, TermLength, Parallel, Unguarded, ApartList}
 use Rattle.terms.proofs.Answers.{bind_to, bind-refused}
 
 -- Both parts.
@@ -35,36 +37,36 @@ module _ (ed : Edition) (arities first second : List ℕ) where
       go (result P) (refused k) = refl
       go (result P) (result Q) = refl
 
-  pub first_fault : (k : ℕ) → scanned_whole ed name_count arities 0 first ≡ whole_answer (Fault k) → parts_scanned ed arities first second ≡ whole_answer (Fault k)
+  pub first_fault : (k : Refusal) → scanned_whole ed name_count arities 0 first ≡ whole_answer (Err k) → parts_scanned ed arities first second ≡ whole_answer (Err k)
   unfolding whole_answer
   first_fault k e = parts-step ∙ bind-refused _ e
 
-  module _ (l : ℕ) (p : Control) (one : scanned_whole ed name_count arities 0 first ≡ whole_answer (End l p)) where
-    pub second_fault : (k : ℕ) → scanned_whole ed name_count arities 0 second ≡ whole_answer (Fault k) →
-        parts_scanned ed arities first second ≡ whole_answer (Fault k)
+  module _ (p : Control) (one : scanned_whole ed name_count arities 0 first ≡ whole_answer (Ok p)) where
+    pub second_fault : (k : Refusal) → scanned_whole ed name_count arities 0 second ≡ whole_answer (Err k) →
+        parts_scanned ed arities first second ≡ whole_answer (Err k)
     unfolding whole_answer
     second_fault k e = parts-step ∙ bind_to _ one ∙ bind-refused _ e
 
-    pub parts-both : (l₁ l₂ : ℕ) (q c : Control) → scanned_whole ed name_count arities 0 second ≡ whole_answer (End l₁ q) → c ≡ joint_of p q →
-        parts_scanned ed arities first second ≡ whole_answer (End l₂ c)
+    pub parts-both : (q c : Control) → scanned_whole ed name_count arities 0 second ≡ whole_answer (Ok q) → c ≡ joint_of p q →
+        parts_scanned ed arities first second ≡ whole_answer (Ok c)
     unfolding whole_answer
-    parts-both l₁ l₂ q c e m = parts-step ∙ bind_to _ one ∙ bind_to _ e ∙ rw m
+    parts-both q c e m = parts-step ∙ bind_to _ one ∙ bind_to _ e ∙ rw m
 
 -- All terms.
 module _ (ed : Edition) (f : Fields) where
-  pub bodies_wrong : (k : ℕ) → bodies_scanned ed f.arities f.arities f.bodies ≡ whole_answer (Fault k) → terms_scanned ed f ≡ whole_answer (Fault k)
+  pub bodies_wrong : (k : Refusal) → bodies_scanned ed f.arities f.arities f.bodies ≡ whole_answer (Err k) → terms_scanned ed f ≡ whole_answer (Err k)
   unfolding terms_scanned whole_answer
   bodies_wrong k e = bind-refused _ e
 
-  module _ (l : ℕ) (p : Control) (bodies : bodies_scanned ed f.arities f.arities f.bodies ≡ whole_answer (End l p)) where
-    pub parts_wrong : (k : ℕ) → parts_scanned ed f.arities f.first f.second ≡ whole_answer (Fault k) → terms_scanned ed f ≡ whole_answer (Fault k)
+  module _ (p : Control) (bodies : bodies_scanned ed f.arities f.arities f.bodies ≡ whole_answer (Ok p)) where
+    pub parts_wrong : (k : Refusal) → parts_scanned ed f.arities f.first f.second ≡ whole_answer (Err k) → terms_scanned ed f ≡ whole_answer (Err k)
     unfolding terms_scanned whole_answer
     parts_wrong k e = bind_to _ bodies ∙ bind-refused _ e
 
-    pub terms_right : (l₁ l₂ : ℕ) (q : Control) → parts_scanned ed f.arities f.first f.second ≡ whole_answer (End l₁ q) →
-        terms_scanned ed f ≡ whole_answer (End l₂ (record { sequential = p.sequential; outermost = q.outermost; guarded = p.guarded }))
+    pub terms_right : (q : Control) → parts_scanned ed f.arities f.first f.second ≡ whole_answer (Ok q) →
+        terms_scanned ed f ≡ whole_answer (Ok (record { sequential = p.sequential; outermost = q.outermost; guarded = p.guarded }))
     unfolding terms_scanned whole_answer of_both
-    terms_right l₁ l₂ q e = bind_to _ bodies ∙ bind_to _ e
+    terms_right q e = bind_to _ bodies ∙ bind_to _ e
 
 -- The tests over all bodies.
 all-sequential : (Ps : List Term) → (control_of_all Ps).sequential ≡ every sequential Ps
@@ -120,22 +122,22 @@ module _ (ed : Edition) (f : Fields) where
           (sym (all-guarded B))
 
   -- The ways out behind the walk.
-  pub terms_fault : (k : ℕ) → terms_scanned ed f ≡ whole_answer (Fault k) → zero_for (check_terms ed f) ≡ checked_answer (Refused k)
-  unfolding whole_answer checked_answer
+  pub terms_fault : (k : Refusal) → terms_scanned ed f ≡ whole_answer (Err k) → zero_for (check_terms ed f) ≡ checked_answer (Err k)
+  unfolding whole_answer checked_answer number_of
   terms_fault k e = terms_first ∙ bind-refused _ e
 
-  module _ (l : ℕ) (c : Control) (walked : terms_scanned ed f ≡ whole_answer (End l c)) where
+  module _ (c : Control) (walked : terms_scanned ed f ≡ whole_answer (Ok c)) where
     behind : zero_for (check_terms ed f) ≡ behind_terms f.apart c
     unfolding whole_answer
     behind = terms_first ∙ bind_to _ walked
 
-    pub parallel_refused : (c.sequential && c.outermost) ≡ false → zero_for (check_terms ed f) ≡ checked_answer (Refused 10)
-    unfolding behind_terms checked_answer need ◌>>◌
+    pub parallel_refused : (c.sequential && c.outermost) ≡ false → zero_for (check_terms ed f) ≡ checked_answer (Err Parallel)
+    unfolding behind_terms checked_answer number_of need ◌>>◌
     parallel_refused e = behind ∙ rw e
 
     module _ (t : (c.sequential && c.outermost) ≡ true) where
-      pub call-refused : c.guarded ≡ false → zero_for (check_terms ed f) ≡ checked_answer (Refused 11)
-      unfolding behind_terms checked_answer need ◌>>◌
+      pub call-refused : c.guarded ≡ false → zero_for (check_terms ed f) ≡ checked_answer (Err Unguarded)
+      unfolding behind_terms checked_answer number_of need ◌>>◌
       call-refused e = behind ∙ rw (t, e)
 
       module _ (g : c.guarded ≡ true) where
@@ -143,28 +145,28 @@ module _ (ed : Edition) (f : Fields) where
         unfolding behind_terms need ◌>>◌
         last_check = behind ∙ rw (t, g)
 
-        pub apart_refused : zero_for (read_apart f.apart) ≡ zero_for (need 12 false) → zero_for (check_terms ed f) ≡ checked_answer (Refused 12)
-        unfolding checked_answer need zero_for ◌>>=◌
+        pub apart_refused : zero_for (read_apart f.apart) ≡ zero_for (need 12 false) → zero_for (check_terms ed f) ≡ checked_answer (Err ApartList)
+        unfolding checked_answer number_of need zero_for ◌>>=◌
         apart_refused e = last_check ∙ e
 
-        pub all_accepted : zero_for (read_apart f.apart) ≡ zero_for (need 12 true) → zero_for (check_terms ed f) ≡ checked_answer Accepted
-        unfolding checked_answer need zero_for ◌>>=◌
+        pub all_accepted : zero_for (read_apart f.apart) ≡ zero_for (need 12 true) → zero_for (check_terms ed f) ≡ checked_answer (Ok tt)
+        unfolding checked_answer number_of need zero_for ◌>>=◌
         all_accepted e = last_check ∙ e
 
 -- Checks 5 and 6.
 module _ (ed : Edition) (f : Fields) where
-  pub many-refused : most_definitions < length f.arities → zero_for (check_fields ed f) ≡ checked_answer (Refused 5)
-  unfolding check_fields_with checked_answer zero_for need ◌>>◌ ◌>>=◌
+  pub many-refused : most_definitions < length f.arities → zero_for (check_fields ed f) ≡ checked_answer (Err Definitions)
+  unfolding check_fields_with checked_answer number_of zero_for need ◌>>◌ ◌>>=◌
   many-refused h = rw (lt-leb (length f.arities) most_definitions h)
 
   module _ (few : length f.arities ≤ most_definitions) where
-    pub arity_refused : every (λ a. leb a greatest_arity) f.arities ≡ false → zero_for (check_fields ed f) ≡ checked_answer (Refused 5)
-    unfolding check_fields_with checked_answer zero_for need ◌>>◌ ◌>>=◌
+    pub arity_refused : every (λ a. leb a greatest_arity) f.arities ≡ false → zero_for (check_fields ed f) ≡ checked_answer (Err Definitions)
+    unfolding check_fields_with checked_answer number_of zero_for need ◌>>◌ ◌>>=◌
     arity_refused e = rw (le-leb (length f.arities) most_definitions few, e)
 
     module _ (small : every (λ a. leb a greatest_arity) f.arities ≡ true) where
-      pub size-refused : all_fit f ≡ false → zero_for (check_fields ed f) ≡ checked_answer (Refused 6)
-      unfolding all_fit check_fields_with checked_answer zero_for need ◌>>◌ ◌>>=◌
+      pub size-refused : all_fit f ≡ false → zero_for (check_fields ed f) ≡ checked_answer (Err TermLength)
+      unfolding all_fit check_fields_with checked_answer number_of zero_for need ◌>>◌ ◌>>=◌
       size-refused e = rw (le-leb (length f.arities) most_definitions few, small, e)
 
       pub fields_right : all_fit f ≡ true → zero_for (check_fields ed f) ≡ zero_for (check_terms ed f)

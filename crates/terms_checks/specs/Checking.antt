@@ -1,5 +1,5 @@
 -- What the code of check answers, and the fields that it takes a question's bytes for.
-use Rattle.std.specs.Prelude.{Bool, ◌&&◌, List, [], ◌∷◌, ℕ, zero, suc, length}
+use Rattle.std.specs.Prelude.{Bool, ◌&&◌, List, [], ◌∷◌, ℕ, zero, suc, length, Result, Ok, Err, ⊤}
 use Rattle.calculus.specs.Term.{Term}
 use Rattle.terms.specs.Answer.{Answer, refused, result, ◌>>=◌}
 use Rattle.terms_bytes.specs.FieldPlaces.{definitions_of, arities_of, after_field, field_at, field_place}
@@ -8,14 +8,14 @@ use Rattle.terms.specs.Framing.{Fields}
 use Rattle.terms.specs.Question.{every, fits, read_bodies, read_part}
 use Rattle.terms.specs.Reading.{numbered}
 use Rattle.terms_scanning.specs.Scanning.{control_of, passing}
-use Rattle.terms_checks.specs.declared.check.Checked.{Checked}
-use Rattle.terms_checks.specs.declared.check.Checked.TheVariants.{Accepted, Refused}
+use Rattle.terms_bytes.specs.Refusals.{number_of}
+use Rattle.terms_bytes.specs.declared.answer.Refusal.{Refusal}
 use Rattle.terms_scanning.specs.declared.scan.Control.{Control}
 
 -- Check answers 0, or the number of the check that turns the question back.
-unfoldable pub checked_answer : Checked → Answer ℕ
-checked_answer Accepted = result 0
-checked_answer (Refused k) = refused k
+unfoldable pub checked_answer : Result ⊤ Refusal → Answer ℕ
+checked_answer (Ok _) = result 0
+checked_answer (Err k) = refused (number_of k)
 
 -- The same answer of a question read.
 module _ {A : Type 0} where

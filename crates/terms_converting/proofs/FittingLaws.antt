@@ -21,8 +21,10 @@ use Rattle.terms.proofs.WellFormed.{WellFormed, fits-size, terms_fit, accepted_i
 use Rattle.terms_bytes.specs.Counted.{edition_from}
 use Rattle.terms_bytes.specs.FieldPlaces.{arities_of, after_field, field_place}
 use Rattle.terms_bytes.specs.Writing.{written_answer, Does, Writes}
-use Rattle.terms_bytes.specs.declared.answer.Written.{Written}
-use Rattle.terms_bytes.specs.declared.answer.Written.TheVariants.{Length, Refused}
+use Rattle.std.specs.Prelude.{Result, Ok, Err}
+use Rattle.terms_bytes.specs.Refusals.{number_of}
+use Rattle.terms_bytes.specs.declared.answer.Refusal.{Refusal}
+use Rattle.terms_bytes.specs.declared.answer.Refusal.TheVariants.{ResultArea, ConvertedLength}
 use Rattle.terms_bytes.proofs.Places.{field_of_lem, behind_of, all_fields, all-sized-append, arities_of_lem, at_place}
 use Rattle.terms_bytes.proofs.QuestionPlaces.{first_field, second-field, apart_field}
 use Rattle.terms_bytes.proofs.Stores.{span, sets-start}
@@ -32,12 +34,12 @@ use Rattle.terms_converting.specs.Questions.{AcceptedFrom, MayConvert, WritesFit
 use Rattle.terms_converting.proofs.QuestionLaws.{other_length, count_fields}
 
 -- An operation that is turned back, and one that writes.
-pub does_refused : (m : Answer (List ℕ)) (area : List ℕ) (k : ℕ) → m ≡ refused k → Does m area (Refused k) area
+pub does_refused : (m : Answer (List ℕ)) (area : List ℕ) (k : Refusal) → m ≡ refused (number_of k) → Does m area (Err k) area
 unfolding written_answer length_written area_after ◌>>=◌
 does_refused m area k e = record { answer = rw e; left = rw e }
 
 pub does_write : (e : Edition) (m : Answer (List ℕ)) (area area' : List ℕ) (q : Question) (n : ℕ) → m ≡ result (write_in e q) → Writes e q area n area'
-    → Does m area (Length n) area'
+    → Does m area (Ok n) area'
 unfolding Writes written_answer length_written ◌>>=◌
 does_write e m area area' q n h w = record { answer = rw h (ap result w.0); left = rw h w.1 }
 
@@ -133,20 +135,20 @@ module _ (converted area : List ℕ) where
       let (w, fit) = accepted_in (other e) question q a in
       sym (fit_found e q (framable_other e q w fit)) ∙ ap (λ (s : List ℕ). all_fit (fields_at s)) (sym c) ∙ sym h
 
-  pub too_long : false ≡ all_fit (fields_at converted) → WritesFitting converted area (Refused 17) area
-  unfolding WritesFitting
-  too_long h e question q a c = does_refused _ area 17 (need_failed 17 (fits_in e q) _ (tested false h e question q a c))
+  pub too_long : false ≡ all_fit (fields_at converted) → WritesFitting converted area (Err ConvertedLength) area
+  unfolding WritesFitting number_of
+  too_long h e question q a c = does_refused _ area ConvertedLength (need_failed 17 (fits_in e q) _ (tested false h e question q a c))
 
   module _ (h : true ≡ all_fit (fields_at converted)) where
-    pub no_room : length area < length converted → WritesFitting converted area (Refused 15) area
-    unfolding WritesFitting written_within
+    pub no_room : length area < length converted → WritesFitting converted area (Err ResultArea) area
+    unfolding WritesFitting written_within number_of
     no_room l e question q a c =
-        does_refused _ area 15 (
+        does_refused _ area ResultArea (
         need-passed 17 (fits_in e q) _ (tested true h e question q a c)
         ∙ need_failed 15 (leb (length (write_in e q)) (length area)) _ (lt-leb _ _ (rw c at l)))
 
     pub fitting_written : (area' : List ℕ) → length converted ≤ length area → area' ≡ sets area 0 (span converted 0 (length converted))
-        → WritesFitting converted area (Length (length converted)) area'
+        → WritesFitting converted area (Ok (length converted)) area'
     unfolding WritesFitting written_within Writes area_after
     fitting_written area' l w e question q a c =
         does_write e _ area area' q (length converted)
@@ -179,7 +181,7 @@ module _ (question : List ℕ) (counted : Bool) (q : Question) (a : check_in (ed
   aside_bytes out out' n w =
       rw (w.0, w.1) (take-append_seam (write_in e' q) (drop (length (write_in e' q)) out))
 
-  pub converted_does : (area area' : List ℕ) (r : Written) → Does (need 17 (fits_in (other (edition_from counted)) q)
+  pub converted_does : (area area' : List ℕ) (r : Result ℕ Refusal) → Does (need 17 (fits_in (other (edition_from counted)) q)
       >> written_within (other (edition_from counted)) (length area) q) area r area' → Does (convert_of (other (edition_from counted)) question (length area)) area r area'
   unfolding convert_of
   converted_does area area' r h =

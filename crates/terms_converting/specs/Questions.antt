@@ -1,5 +1,5 @@
 -- What the code that writes a question in the other edition promises.
-use Rattle.std.specs.Prelude.{◌≡◌, Bool, List, [], ◌∷◌, ◌++◌, ℕ, ◌+◌, ◌<◌, ◌≤◌, length}
+use Rattle.std.specs.Prelude.{◌≡◌, Bool, List, [], ◌∷◌, ◌++◌, ℕ, ◌+◌, ◌<◌, ◌≤◌, length, Result}
 use Rattle.std.proofs.lemmas.List.Edits.{sets}
 use Rattle.calculus.specs.Term.{Term}
 use Rattle.terms.specs.Answer.{result, ◌>>◌, need}
@@ -11,7 +11,7 @@ use Rattle.terms.specs.Question.{Question, check_in, body_fields_in, write_in, f
 use Rattle.terms_bytes.specs.Counted.{edition_from}
 use Rattle.terms_bytes.specs.FieldPlaces.{field_at, field_place}
 use Rattle.terms_bytes.specs.Writing.{Does, Writes}
-use Rattle.terms_bytes.specs.declared.answer.Written.{Written}
+use Rattle.terms_bytes.specs.declared.answer.Refusal.{Refusal}
 
 -- The field at `at` is the bytes of a term in scope, and there is room for the other edition behind a length of two bytes.
 pub record MayConvertField (question : List ℕ) (at : ℕ) (arities : List ℕ) (counted : Bool) (out : List ℕ) (put : ℕ) : Type 0 where
@@ -53,7 +53,7 @@ ConvertsQuestion question counted out r out' =
     (q : Question) → check_in (edition_from counted) question ≡ result q → Writes (other (edition_from counted)) q out r out'
 
 -- Checks 17 and 15, of the bytes of a question that is accepted in the other edition.
-unfoldable pub WritesFitting : List ℕ → List ℕ → Written → List ℕ → Type 0
+unfoldable pub WritesFitting : List ℕ → List ℕ → Result ℕ Refusal → List ℕ → Type 0
 WritesFitting converted area r area' =
     (e : Edition) (question : List ℕ) (q : Question) → check_in (other e) question ≡ result q → converted ≡ write_in e q
     → Does (need 17 (fits_in e q) >> written_within e (length area) q) area r area'

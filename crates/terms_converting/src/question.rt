@@ -7,11 +7,11 @@ ghost use Rattle.terms_bytes.specs.Writing.{Does};
 ghost use Rattle.terms_converting.specs.Questions.{AcceptedFrom, MayConvertField, ConvertsField, MayConvert, ConvertsTerms, ConvertsQuestion, WritesFitting};
 
 use crate::term::convert_term;
-use terms_bytes::answer::Written;
-use terms_bytes::bytes::copy;
+use terms_bytes::answer::Refusal;
+use terms_bytes::bytes::{copy, put_size};
 use terms_bytes::frame::{after_field, arities, definitions, field_at, field_place};
 use terms_bytes::limits::LONGEST_QUESTION;
-use terms_checks::check::{Checked, check_in, terms_fit};
+use terms_checks::check::{check_in, terms_fit};
 
 // Writes the body or part that is the field at `at` in the other edition, as a field at `put`; answers where it ends.
 fn convert_field(
@@ -27,8 +27,7 @@ fn convert_field(
 {
     let end = convert_term(field_at(question, at), list, counted, out, put + 2);
     let n = end - (put + 2);
-    out[put] = (n / 256) as u8;
-    out[put + 1] = (n % 256) as u8;
+    put_size(out, put, n);
     end
 }
 
@@ -41,11 +40,9 @@ fn convert_terms(question: &[u8], counted: bool, out: &mut [u8]) -> usize
     let last = definitions(question) + 2;
     let mut at = field_place(question, 0);
     let mut put = at;
-    let mut k = 0;
-    while k < last {
+    for k in 0..last {
         put = convert_field(question, at, list, counted, out, put);
         at = after_field(question, at);
-        k += 1;
     }
     put
 }
@@ -73,22 +70,22 @@ pub fn convert_question(question: &[u8], counted: bool, out: &mut [u8]) -> usize
 }
 
 // Checks 17 and 15 of a converted question, then its bytes.
-fn write_fitting(converted: &[u8], area: &mut [u8]) -> Written
+fn write_fitting(converted: &[u8], area: &mut [u8]) -> Result<usize, Refusal>
     ensures { WritesFitting converted.now area.old result area.new }
 {
     if !terms_fit(converted) {
-        return Written::Refused(17);
+        return Err(Refusal::ConvertedLength);
     }
     let n = converted.len();
     if area.len() < n {
-        return Written::Refused(15);
+        return Err(Refusal::ResultArea);
     }
     copy(converted, 0, n, area, 0);
-    Written::Length(n)
+    Ok(n)
 }
 
 // The other edition of an accepted question: made aside, so that a refusal leaves the area as it was.
-fn convert_accepted(question: &[u8], counted: bool, area: &mut [u8]) -> Written
+fn convert_accepted(question: &[u8], counted: bool, area: &mut [u8]) -> Result<usize, Refusal>
     requires { AcceptedFrom question.now counted }
     ensures { Does (convert_of (other (edition_from counted)) question.now (length area.old)) area.old result area.new }
 {
@@ -98,12 +95,9 @@ fn convert_accepted(question: &[u8], counted: bool, area: &mut [u8]) -> Written
 }
 
 // Writes the question in the other edition into the area: down to edition one where its calls are counted, else up to edition two.
-pub fn convert(question: &[u8], counted: bool, area: &mut [u8]) -> Written
+pub fn convert(question: &[u8], counted: bool, area: &mut [u8]) -> Result<usize, Refusal>
     ensures { Does (convert_of (other (edition_from counted)) question.now (length area.old)) area.old result area.new }
 {
-    let checked = check_in(question, counted);
-    match checked {
-        Checked::Refused(k) => Written::Refused(k),
-        Checked::Accepted => convert_accepted(question, counted, area),
-    }
+    check_in(question, counted)?;
+    convert_accepted(question, counted, area)
 }

@@ -5,6 +5,7 @@ ghost use Rattle.terms_converting.specs.Converting.{RunIs, ConvertsFront, Conver
 
 use terms_bytes::bytes::{copy, get, room};
 use terms_bytes::shape::shape_at;
+use terms_bytes::tags::CALL;
 
 // Where the next front stands, and where its copy goes.
 #[derive(Clone, Copy)]
@@ -84,7 +85,7 @@ fn convert_front(
     requires { at < length src.now }
     ensures { ConvertsFront src.now at arities.now counted out.old to result out.new }
 {
-    if get(src, at) == 9 {
+    if get(src, at) == CALL {
         let count = get(arities, get(src, at + 1) as usize);
         if counted {
             return call_down(src, at, count, out, to);
@@ -103,6 +104,7 @@ pub fn convert_term(src: &[u8], arities: &[u8], counted: bool, out: &mut [u8], p
 {
     let mut at = 0;
     let mut to = put;
+    // The step is the front's length, so no range or iterator takes it.
     while at < src.len() {
         let c = convert_front(src, at, arities, counted, out, to);
         at = c.at;

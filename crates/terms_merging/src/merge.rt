@@ -6,33 +6,20 @@ ghost use Rattle.terms.specs.Question.{pair_bytes};
 ghost use Rattle.terms_bytes.specs.Writing.{IsAccepted, Does, MayMerge, WritesMerged};
 ghost use Rattle.terms_merging.specs.Counted.{MayMergeCounted, WritesMergedCounted};
 
-use terms_bytes::answer::Written;
+use terms_bytes::answer::Refusal;
 use terms_bytes::bytes::{copy, get};
 use terms_bytes::frame::{after_field, arities, definitions, field_at, field_place, size_at};
 use terms_bytes::limits::{LONGEST_QUESTION, NAME_COUNT};
-use terms_checks::check::{Checked, check, is_counted};
+use terms_checks::check::{check, is_counted};
 use terms_converting::question::convert_question;
 use terms_renaming::rename::{rename, rename_bytes};
 use terms_renaming::tables::merging;
 
-// Whether x and y are a and b, in this order.
-fn is_pair(x: u8, y: u8, a: u8, b: u8) -> bool
-    ensures { result ≡ (eqb x a && eqb y b) }
-{
-    if x == a {
-        return y == b;
-    }
-    false
-}
-
-// In either order.
+// Whether x and y are a and b, in either order.
 fn same_pair(x: u8, y: u8, a: u8, b: u8) -> bool
     ensures { result ≡ ((eqb x a && eqb y b) || (eqb x b && eqb y a)) }
 {
-    if is_pair(x, y, a, b) {
-        return true;
-    }
-    is_pair(x, y, b, a)
+    (x == a && y == b) || (x == b && y == a)
 }
 
 // Whether the apart list holds a and b apart.
@@ -83,38 +70,35 @@ fn write_merged_counted(question: &[u8], a: u8, b: u8, area: &mut [u8]) -> usize
 }
 
 // Checks 14 and 15 of an accepted question, then the merged question.
-fn merge_accepted(question: &[u8], a: u64, b: u64, area: &mut [u8]) -> Written
+fn merge_accepted(question: &[u8], a: u64, b: u64, area: &mut [u8]) -> Result<usize, Refusal>
     requires { IsAccepted question.now }
     ensures { Does (merge_of question.now a b (length area.old)) area.old result area.new }
 {
     if NAME_COUNT as u64 <= a {
-        return Written::Refused(14);
+        return Err(Refusal::MergedNames);
     }
     if NAME_COUNT as u64 <= b {
-        return Written::Refused(14);
+        return Err(Refusal::MergedNames);
     }
     let first = field_place(question, definitions(question));
     let second = after_field(question, first);
     let pairs = field_at(question, after_field(question, second));
     if holds_apart(pairs, a as u8, b as u8) {
-        return Written::Refused(14);
+        return Err(Refusal::MergedNames);
     }
     if area.len() < question.len() {
-        return Written::Refused(15);
+        return Err(Refusal::ResultArea);
     }
     if is_counted(question) {
-        return Written::Length(write_merged_counted(question, a as u8, b as u8, area));
+        return Ok(write_merged_counted(question, a as u8, b as u8, area));
     }
-    Written::Length(write_merged(question, a as u8, b as u8, area))
+    Ok(write_merged(question, a as u8, b as u8, area))
 }
 
 // Merges the names `a` and `b` of the question into the area.
-pub fn merge(question: &[u8], a: u64, b: u64, area: &mut [u8]) -> Written
+pub fn merge(question: &[u8], a: u64, b: u64, area: &mut [u8]) -> Result<usize, Refusal>
     ensures { Does (merge_of question.now a b (length area.old)) area.old result area.new }
 {
-    let checked = check(question);
-    match checked {
-        Checked::Refused(k) => Written::Refused(k),
-        Checked::Accepted => merge_accepted(question, a, b, area),
-    }
+    check(question)?;
+    merge_accepted(question, a, b, area)
 }

@@ -10,19 +10,14 @@ use Rattle.terms_bytes.specs.NameTable.{table_names}
 use Rattle.terms.specs.Encoding.{name_byte, encode, InScope}
 use Rattle.terms_bytes.specs.NameTable.{renamed_byte, RepresentsBeneath}
 use Rattle.terms_bytes.specs.Shape.{fixed_bytes, own_names, binders, subterms, height, front_bytes, ShapeIs}
-use Rattle.terms_renaming.specs.Renaming.{RenameIs, RenamedFrontIs, RenamedBeneath}
+use Rattle.terms_renaming.specs.Renaming.{RenameIs, RenamedFront, NoTerm, RenamedBeneath}
 use Rattle.terms_bytes.specs.declared.shape.Shape.{Shape}
-use Rattle.terms_renaming.specs.declared.rename.RenamedFront.{RenamedFront}
+use Rattle.terms_bytes.specs.declared.shape.Front.{Front}
 use Rattle.terms_bytes.proofs.Stores.{span, sets-join}
 use Rattle.terms_bytes.proofs.Heights.{height_one, height_two}
 use Rattle.terms_bytes.proofs.NameTables.{lift_by, renamed-names, represents_under, represents_whole}
 use Rattle.terms_bytes.proofs.Shapes.{encode_all, encode-parts, front-ren, encode-ren, length-front-ren, front_of, AllInScope, names_scope, subterms_scope, shape_fixed, shape_binds, shape_parts, span_fixed, span-names, length_front, front-inside, front-some, at_most_two}
 use Rattle.terms.proofs.RenamingKeeps.{length-ren}
-
--- No term in scope stands at `at` whose copy fits at `put`.
-abbrev NoTerm : List ℕ → ℕ → List ℕ → List ℕ → ℕ → Type 0
-NoTerm s at arities out put =
-    (free d : ℕ) (P : Term) (rest : List ℕ) → InScope free arities d P → drop at s ≡ encode d P ++ rest → put + length (encode d P) ≤ length out → ⊥
 
 length-parts : (d : ℕ) (P : Term) → length (encode d P) ≡ length (front_bytes d P) + length (encode_all (binders P + d) (subterms P))
 length-parts d P = ap length (encode-parts d P) ∙ length-append (front_bytes d P) (encode_all (binders P + d) (subterms P))
@@ -41,23 +36,13 @@ pub none_full : (s : List ℕ) (at : ℕ) (arities out : List ℕ) (put : ℕ) (
 none_full s at arities out put h is short free d P rest scope e room =
     omega (arith, length_front s at arities h is d P (front_of free arities d P scope) rest e, length-parts d P)
 
-pub front_nothing : (s : List ℕ) (at : ℕ) (arities : List ℕ) (inner : ℕ) (table out : List ℕ) (put : ℕ) → NoTerm s at arities out put
-    → RenamedFrontIs s at arities inner table out put (record { len = 0; binds = 0; subterms = 0 }) out
-front_nothing s at arities inner table out put never = record {
-  inside = omega arith;
-  room = omega arith;
-  step = omega arith;
-  binds = omega arith;
-  is = λ free d d' ρ P rest few rep scope e room. absurd (never free d P rest scope e room);
-}
-
 pub front-renamed : (s : List ℕ) (at : ℕ) (arities : List ℕ) (inner : ℕ) (table out : List ℕ) (put : ℕ) (h : Shape) (out₁ out₂ : List ℕ)
     → ShapeIs s at arities h
     → at + (h.fixed + h.names) ≤ length s
     → put + (h.fixed + h.names) ≤ length out
     → out₁ ≡ sets out put (span s at h.fixed)
     → out₂ ≡ sets out₁ (put + h.fixed) (map (renamed_byte inner table) (span s (at + h.fixed) h.names))
-    → RenamedFrontIs s at arities inner table out put (record { len = h.fixed + h.names; binds = h.binds; subterms = h.subterms }) out₂
+    → RenamedFront s at arities inner table out put (record { len = h.fixed + h.names; binds = h.binds; subterms = h.subterms }) out₂
 front-renamed s at arities inner table out put h out₁ out₂ is fs fo w₁ w₂ = record {
   inside = omega arith;
   room = omega arith;
@@ -128,8 +113,8 @@ unfolding encode_all
 ren_two d ρ P Q R e = encode-ren d ρ P ∙ rw (e, append-nil)
 
 -- The walk of a term whose front is renamed: h is what the front's renaming answered.
-module _ (s : List ℕ) (at : ℕ) (arities : List ℕ) (inner : ℕ) (table out : List ℕ) (put : ℕ) (h : RenamedFront) (out₁ : List ℕ)
-    (F : RenamedFrontIs s at arities inner table out put h out₁) where
+module _ (s : List ℕ) (at : ℕ) (arities : List ℕ) (inner : ℕ) (table out : List ℕ) (put : ℕ) (h : Front) (out₁ : List ℕ)
+    (F : RenamedFront s at arities inner table out put h out₁) where
   pub renamed-none : h.subterms ≡ 0 → RenamedBeneath s at arities inner table out put (at + h.len) out₁
   unfolding RenamedBeneath
   renamed-none z free d d' ρ P rest few rep scope st deep room = go (subterms P) refl
@@ -209,6 +194,12 @@ module _ (s : List ℕ) (at : ℕ) (arities : List ℕ) (inner : ℕ) (table out
             (omega (arith, w.0), w.1 ∙ ap (sets out put) (append_assoc G' E₁' E₂' ∙ sym (ren_two d' ρ P Q₁ Q₂ q)))
         go (Q₁ ∷ Q₂ ∷ Q₃ ∷ Qs) q = absurd (omega (arith, at_most_two P, ap length q))
 
+-- No front, and so no term.
+pub renamed_nowhere : (s : List ℕ) (at : ℕ) (arities : List ℕ) (inner : ℕ) (table out : List ℕ) (put : ℕ) (r : ℕ) (out' : List ℕ)
+    → NoTerm s at arities out put → RenamedBeneath s at arities inner table out put r out'
+unfolding RenamedBeneath
+renamed_nowhere s at arities inner table out put r out' never free d d' ρ P rest few rep scope st deep room = absurd (never free d P rest scope st room)
+
 -- The whole term.
 pub renamed-whole : (s : List ℕ) (at : ℕ) (arities table out : List ℕ) (put e : ℕ) (out' : List ℕ)
     → RenamedBeneath s at arities 0 table out put e out' → RenameIs s at arities table out put (e - at) out'
@@ -216,18 +207,3 @@ unfolding RenamedBeneath RenameIs
 renamed-whole s at arities table out put e out' R free D D' ρ P rest few rep scope st deep room =
     let y = R free D D' ρ P rest few (represents_whole free D D' table ρ few (omega arith) rep) scope st deep room in
     (omega (arith, y.0), y.1)
-
--- Numbers of the walk's second subterm: it starts at e, within L, and what it writes at put + (e - at) fits.
-pub second-put : (at n e L put M subterms : ℕ) → at + n ≤ max at L → put + n ≤ max put M → min 1 subterms ≤ n → (subterms ≡ 0 → ⊥)
-    → at + n ≤ e → e ≤ max (at + n) L → L * 1 < 2 ^ 63 → M * 1 < 2 ^ 63 → put + (e - at) < 2 ^ 64
-second-put at n e L put M subterms i r s z o u l m =
-    let p : 0 < n = omega (arith, s, z) in
-    let q : at + n ≤ L = omega (arith, p, i) in
-    let v : put + n ≤ M = omega (arith, p, r) in
-    omega (arith, p, q, v)
-
-pub second_falls : (at n e L subterms : ℕ) → at + n ≤ max at L → min 1 subterms ≤ n → (subterms ≡ 0 → ⊥) → at + n ≤ e → L - e < L - at
-second_falls at n e L subterms i s z o =
-    let p : 0 < n = omega (arith, s, z) in
-    let q : at + n ≤ L = omega (arith, p, i) in
-    omega arith

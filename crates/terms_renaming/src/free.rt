@@ -1,5 +1,5 @@
 // The free names of a part. A term's bytes are its fronts in order, and a free name has the same byte beneath any binders, so one loop finds them.
-ghost use Rattle.std.specs.Prelude.{◌≡◌, ◌+◌, ◌≤◌, length, take, drop, set};
+ghost use Rattle.std.specs.Prelude.{◌≡◌, set};
 ghost use Rattle.terms_renaming.specs.FreeFlags.{marks, MarksFreeOf, FreeFlagsOf, IsFreeOf};
 
 use terms_bytes::bytes::{get, room};
@@ -16,15 +16,12 @@ fn mark(flags: &mut [u8], b: u8)
     }
 }
 
-// Sets the flags of `n` name bytes.
-fn mark_names(src: &[u8], at: usize, n: usize, flags: &mut [u8])
-    requires { at + n ≤ length src.now }
-    ensures { flags.new ≡ marks flags.old (take n (drop at src.now)) }
+// Sets the flags of the name bytes.
+fn mark_names(names: &[u8], flags: &mut [u8])
+    ensures { flags.new ≡ marks flags.old names.now }
 {
-    let mut i = 0;
-    while i < n {
-        mark(flags, src[at + i]);
-        i += 1;
+    for x in names {
+        mark(flags, *x);
     }
 }
 
@@ -33,15 +30,15 @@ pub fn mark_free(part: &[u8], arities: &[u8], flags: &mut [u8])
     ensures { MarksFreeOf part.now arities.now flags.old flags.new }
 {
     let mut at = 0;
+    // The step is the front's length, so no range or iterator takes it.
     while at < part.len() {
         let h = shape_at(part, at, arities);
         let fixed = h.fixed;
-        let names = h.names;
-        let n = fixed + names;
+        let n = fixed + h.names;
         if !room(part.len(), at, n) {
             return;
         }
-        mark_names(part, at + fixed, names, flags);
+        mark_names(&part[at + fixed..at + n], flags);
         at += n;
     }
 }
@@ -59,9 +56,5 @@ fn free_names(part: &[u8], arities: &[u8]) -> [u8; NAME_COUNT]
 pub fn is_free(part: &[u8], arities: &[u8], x: usize) -> bool
     ensures { IsFreeOf part.now arities.now x result }
 {
-    if x < NAME_COUNT {
-        let flags = free_names(part, arities);
-        return get(&flags, x) == 1;
-    }
-    false
+    x < NAME_COUNT && get(&free_names(part, arities), x) == 1
 }

@@ -6,7 +6,7 @@ ghost use Rattle.terms_renaming.specs.Renaming.{RenameIs, RenamedFrontIs, Rename
 
 use terms_bytes::bytes::{copy, get, room};
 use terms_bytes::limits::TABLE_NAMES;
-use terms_bytes::shape::shape_at;
+use terms_bytes::shape::{Front, shape_at};
 
 // A byte of the table beneath `inner` binders more.
 fn byte_beneath(b: u8, inner: usize) -> u8
@@ -50,23 +50,13 @@ pub fn rename_bytes(
     requires { (at + n ≤ length src.now) × (put + n ≤ length out.old) }
     ensures { out.new ≡ sets out.old put (map (renamed_byte inner table.now) (take n (drop at src.now))) }
 {
-    let mut i = 0;
-    while i < n {
+    for i in 0..n {
         let b = renamed_byte(src[at + i], inner, table);
         out[put + i] = b;
-        i += 1;
     }
 }
 
-// What the walk needs to know of a front that it has renamed.
-#[derive(Clone, Copy)]
-pub struct RenamedFront {
-    pub len: usize,
-    pub binds: usize,
-    pub subterms: usize,
-}
-
-// Copies the front of the term at `at` to `put`, its names renamed.
+// Copies the front of the term at `at` to `put`, its names renamed; none where it is not all there, or doesn't fit.
 fn rename_front(
     src: &[u8],
     at: usize,
@@ -75,41 +65,29 @@ fn rename_front(
     table: &[u8],
     out: &mut [u8],
     put: usize,
-) -> RenamedFront
+) -> Option<Front>
     ensures { RenamedFrontIs src.now at arities.now inner table.now out.old put result out.new }
 {
     if src.len() <= at {
-        return RenamedFront {
-            len: 0,
-            binds: 0,
-            subterms: 0,
-        };
+        return None;
     }
     let h = shape_at(src, at, arities);
     let fixed = h.fixed;
     let names = h.names;
     let n = fixed + names;
     if !room(src.len(), at, n) {
-        return RenamedFront {
-            len: 0,
-            binds: 0,
-            subterms: 0,
-        };
+        return None;
     }
     if !room(out.len(), put, n) {
-        return RenamedFront {
-            len: 0,
-            binds: 0,
-            subterms: 0,
-        };
+        return None;
     }
     copy(src, at, fixed, out, put);
     rename_bytes(src, at + fixed, names, inner, table, out, put + fixed);
-    RenamedFront {
+    Some(Front {
         len: n,
         binds: h.binds,
         subterms: h.subterms,
-    }
+    })
 }
 
 // Copies the subterm at `at`, which stands beneath `inner` binders of the term, to `put`, renamed; answers where it ends.
@@ -125,7 +103,9 @@ fn rename_beneath(
     requires { inner ≤ at }
     ensures { RenamedBeneathIs src.now at arities.now inner table.now out.old put result out.new }
 {
-    let h = rename_front(src, at, arities, inner, table, out, put);
+    let Some(h) = rename_front(src, at, arities, inner, table, out, put) else {
+        return at;
+    };
     let n = h.len;
     let subterms = h.subterms;
     if subterms == 0 {

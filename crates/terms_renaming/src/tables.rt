@@ -9,16 +9,7 @@ use terms_bytes::limits::NAME_COUNT;
 pub fn merged_name(a: u8, b: u8, n: u8) -> u8
     ensures { result ≡ join a b n }
 {
-    if a <= b {
-        if n == b {
-            return a;
-        }
-        return n;
-    }
-    if n == a {
-        return b;
-    }
-    n
+    if n == a.max(b) { a.min(b) } else { n }
 }
 
 // The table that merges `a` and `b` in a part, which stands under no binder.
@@ -26,11 +17,9 @@ pub fn merging(a: u8, b: u8) -> [u8; NAME_COUNT]
     ensures { (n : ℕ) → n < name_count → get_or result n 0 ≡ join a b n }
 {
     let mut table = [0u8; NAME_COUNT];
-    let mut i = 0;
-    while i < NAME_COUNT {
+    for i in 0..NAME_COUNT {
         let n = merged_name(a, b, i as u8);
         table[i] = n;
-        i += 1;
     }
     table
 }

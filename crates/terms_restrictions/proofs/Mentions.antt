@@ -14,16 +14,9 @@ use Rattle.calculus.specs.Free.{lower_l, fn}
 use Rattle.calculus.specs.Term.{Term, nil, tau, inp, out, bout, mat, sum, par, res, call}
 use Rattle.terms.specs.Encoding.{name_byte, encode, NamesInScope, InScope}
 use Rattle.terms_bytes.proofs.NameTables.{byte_free}
-use Rattle.terms_restrictions.proofs.UnusedWalk.{or_false, or_neither, among_lower, among-append}
+use Rattle.terms_restrictions.proofs.UnusedWalk.{or_false, or_neither, among_lower, among-append, eqb_sym}
 
 -- One byte more is looked at.
-eqb_sym : (a b : ℕ) → eqb a b ≡ eqb b a
-eqb_sym a b = go (eqb b a) refl
-  where
-    go : (t : Bool) → eqb b a ≡ t → eqb a b ≡ t
-    go true e = eq-eqb a b (sym (eqb-true b a e))
-    go false e = ne_eqb a b (λ q. eqb-false b a e (sym q))
-
 pub occurs_more : (s : List ℕ) (i b : ℕ) → i < length s → among (take i s) b || eqb (get_or s i 0) b ≡ among (take (i + 1) s) b
 unfolding among
 occurs_more s i b l =

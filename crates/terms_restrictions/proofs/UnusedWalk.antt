@@ -21,8 +21,10 @@ use Rattle.terms.proofs.ReadEncoded.{encode-some}
 use Rattle.terms_bytes.proofs.NameTables.{byte_bound, byte_free}
 use Rattle.terms_bytes.proofs.Shapes.{encode_all, encode-parts, AllInScope, names_scope, subterms_scope, front_of, shape_binds, shape_parts, span-names, length_front, front-inside, front-some, at_most_two}
 use Rattle.terms_bytes.proofs.Stores.{span, length-span, get_d_span, get_d_front}
-use Rattle.terms_restrictions.specs.Unused.{UseFrontIs, UnusedTo, binds_nothing, BindsNothing}
-use Rattle.terms_restrictions.specs.declared.unused.UseFront.{UseFront}
+use Rattle.std.specs.List.{list_any}
+use Rattle.std.specs.Prelude.{Option, Some, None, is_some}
+use Rattle.terms_restrictions.specs.Unused.{UnusedFront, UnusedFrontIs, UnusedTo, binds_nothing, BindsNothing}
+use Rattle.terms_bytes.specs.declared.shape.Front.{Front}
 
 eqb_suc : (i n : ℕ) → eqb (1 + i) (suc n) ≡ eqb i n
 eqb_suc i n = go (eqb i n) refl
@@ -93,62 +95,57 @@ unfolding among NamesInScope
 among-bytes free d inner few h [] s = refl
 among-bytes free d inner few h (n ∷ ns) s = rw (byte_is free d n inner few s.0 h, among-bytes free d inner few h ns s.1)
 
--- A byte looked for among n.
-has : (xs : List ℕ) (i b : ℕ) → i < length xs → get_or xs i 0 ≡ b → among xs b ≡ true
-unfolding among
-has [] i b l e = absurd (omega arith)
-has (x ∷ xs) zero b l e = rw (eq-eqb b x (sym e))
-has (x ∷ xs) (suc i) b l e = rw (has xs i b (omega arith) e) (or_true (eqb b x))
+-- Whether a byte is looked for and found.
+pub eqb_sym : (a b : ℕ) → eqb a b ≡ eqb b a
+eqb_sym a b = go (eqb b a) refl
   where
-    or_true : (a : Bool) → a || true ≡ true
-    or_true true = refl
-    or_true false = refl
+    go : (t : Bool) → eqb b a ≡ t → eqb a b ≡ t
+    go true e = eq-eqb a b (sym (eqb-true b a e))
+    go false e = ne_eqb a b (λ q. eqb-false b a e (sym q))
 
-module _ (s : List ℕ) (at n : ℕ) (fit : at + n ≤ length s) (i b : ℕ) where
-  pub byte_there : i < n → get_or s (at + i) 0 ≡ b → true ≡ among (span s at n) b
-  byte_there l e = sym (has (span s at n) i b (omega (arith, length-span s at n fit)) (get_d_span s at n i l ∙ e))
+pub any_among : (xs : List ℕ) (b : ℕ) → list_any (λ x. eqb x b) xs ≡ among xs b
+unfolding among
+any_among [] b = refl
+any_among (x ∷ xs) b = rw (eqb_sym x b, any_among xs b)
 
-  pub byte_more : i < n → ¬ (get_or s (at + i) 0 ≡ b) → among (take i (span s at n)) b ≡ false → among (take (i + 1) (span s at n)) b ≡ false
-  unfolding among
-  byte_more l other none =
-      rw (
-        add-one,
-        take-suc (span s at n) i 0 (omega (arith, length-span s at n fit)),
-        among-append (take i (span s at n)) (get_or (span s at n) i 0 ∷ []) b,
-        none,
-        get_d_span s at n i l,
-        ne_eqb b (get_or s (at + i) 0) (λ q. other (sym q)),
-      )
+-- An end is none, or another.
+pub none_not_some : {A : Type 0} {e : ℕ} → Some e ≡ None → A
+none_not_some q = let z : ◌≡◌ {A = ℕ} 1 0 = ap (λ (o : Option ℕ). elim o [ Some x ↦ 1 | None ↦ 0 ]) q in absurd (omega arith)
 
-  pub byte-none : n ≤ i → among (take i (span s at n)) b ≡ false → false ≡ among (span s at n) b
-  byte-none l none = sym (sym (ap (λ (xs : List ℕ). among xs b) (take_all i (span s at n) (omega (arith, length-span s at n fit)))) ∙ none)
+some_is : {e n : ℕ} → Some e ≡ Some n → e ≡ n
+some_is q = ap (λ (o : Option ℕ). elim o [ Some x ↦ x | None ↦ 0 ]) q
 
 -- The front.
-pub use_front_none : (s : List ℕ) (at : ℕ) (arities : List ℕ) (inner : ℕ)
+pub front_nowhere : (s : List ℕ) (at : ℕ) (arities : List ℕ) (inner : ℕ)
     → ((free d : ℕ) (P : Term) (rest : List ℕ) → InScope free arities d P → drop at s ≡ encode d P ++ rest → ⊥)
-    → UseFrontIs s at arities inner (record { len = 0; binds = 0; subterms = 0; used = true })
-use_front_none s at arities inner never = record {
-  inside = omega arith;
-  step = omega arith;
-  binds = omega arith;
-  is = λ free d P rest few scope e h. absurd (never free d P rest scope e);
-}
+    → UnusedFrontIs s at arities inner None
+front_nowhere s at arities inner never = λ free d P rest few scope e h. absurd (never free d P rest scope e)
 
-pub use_front_read : (s : List ℕ) (at : ℕ) (arities : List ℕ) (inner : ℕ) (h : Shape) (used : Bool) → ShapeIs s at arities h
-    → at + (h.fixed + h.names) ≤ length s → used ≡ among (span s (at + h.fixed) h.names) (128 + inner)
-    → UseFrontIs s at arities inner (record { len = h.fixed + h.names; binds = h.binds; subterms = h.subterms; used = used })
-use_front_read s at arities inner h used is fit found = record {
-  inside = omega arith;
-  step = omega (arith, is.some);
-  binds = omega (arith, is.some, is.one);
-  is = λ free d P rest few scope e l.
-      let f = front_of free arities d P scope in (
-        length_front s at arities h is d P f rest e,
-        shape_binds s at arities h is d P f rest e,
-        shape_parts s at arities h is d P f rest e,
-        found ∙ rw (span-names s at arities h is d P f rest e) (among-bytes free d inner few l (own_names P) (names_scope free arities d P scope)),
-      );
-}
+-- The names of a front that is all there.
+module _ (s : List ℕ) (at : ℕ) (arities : List ℕ) (inner : ℕ) (h : Shape) (is : ShapeIs s at arities h) (fit : at + (h.fixed + h.names) ≤ length s) where
+  names_tested : (t : Bool) → t ≡ among (span s (at + h.fixed) h.names) (128 + inner) → (free d : ℕ) (P : Term) (rest : List ℕ) → free ≤ table_names
+      → InScope free arities d P → drop at s ≡ encode d P ++ rest → inner < d → among (own_names P) inner ≡ t
+  names_tested t found free d P rest few scope e l =
+      let f = front_of free arities d P scope in
+      sym (found ∙ rw (span-names s at arities h is d P f rest e) (among-bytes free d inner few l (own_names P) (names_scope free arities d P scope)))
+
+  pub front_used : true ≡ among (span s (at + h.fixed) h.names) (128 + inner) → UnusedFrontIs s at arities inner None
+  front_used found = names_tested true found
+
+  pub front_unused : false ≡ among (span s (at + h.fixed) h.names) (128 + inner)
+      → UnusedFront s at arities inner (record { len = h.fixed + h.names; binds = h.binds; subterms = h.subterms })
+  front_unused found = record {
+    inside = fit;
+    some = omega (arith, is.some);
+    binds = is.one;
+    is = λ free d P rest few scope e l.
+        let f = front_of free arities d P scope in (
+          length_front s at arities h is d P f rest e,
+          shape_binds s at arities h is d P f rest e,
+          shape_parts s at arities h is d P f rest e,
+          names_tested false found free d P rest few scope e l,
+        );
+  }
 
 length-parts : (d : ℕ) (P : Term) → length (encode d P) ≡ length (front_bytes d P) + length (encode_all (binders P + d) (subterms P))
 length-parts d P = ap length (encode-parts d P) ∙ length-append (front_bytes d P) (encode_all (binders P + d) (subterms P))
@@ -174,123 +171,121 @@ none_short s at arities h is lt short free d P rest scope e =
     omega (arith, front-inside s at arities h is d P (front_of free arities d P scope) rest e lt)
 
 -- The walk of a term whose front was looked at.
-module _ (s : List ℕ) (at : ℕ) (arities : List ℕ) (inner : ℕ) (h : UseFront) (F : UseFrontIs s at arities inner h) where
-  pub unused_not : h.used ≡ true → UnusedTo s at arities inner 0
-  unfolding UnusedTo
-  unused_not t free d P rest few scope e l = rw (among-parts P inner, ← (F.is free d P rest few scope e l).3, t)
+module _ (s : List ℕ) (at : ℕ) (arities : List ℕ) (inner : ℕ) (h : Front) (F : UnusedFront s at arities inner h) where
+  module _ (free d : ℕ) (P : Term) (rest : List ℕ) (few : free ≤ table_names) (scope : InScope free arities d P) (st : drop at s ≡ encode d P ++ rest)
+      (l : inner < d) where
+    x : (h.len ≡ length (front_bytes d P)) × (h.binds ≡ binders P) × (h.subterms ≡ length (subterms P)) × (among (own_names P) inner ≡ false)
+    x = F.is free d P rest few scope st l
 
-  module _ (unused : h.used ≡ false) where
-    module _ (free d : ℕ) (P : Term) (rest : List ℕ) (few : free ≤ table_names) (scope : InScope free arities d P) (st : drop at s ≡ encode d P ++ rest)
-        (l : inner < d) where
-      x : (h.len ≡ length (front_bytes d P)) × (h.binds ≡ binders P) × (h.subterms ≡ length (subterms P)) × (h.used ≡ among (own_names P) inner)
-      x = F.is free d P rest few scope st l
+    -- whether the name is free goes by the subterms alone
+    beneath : (Ps : List Term) → subterms P ≡ Ps → among (fn P) inner ≡ used_by Ps (binders P + inner)
+    beneath Ps q = rw (among-parts P inner, x.3, q)
 
-      -- whether the name is free goes by the subterms alone
-      beneath : (Ps : List Term) → subterms P ≡ Ps → among (fn P) inner ≡ used_by Ps (binders P + inner)
-      beneath Ps q = rw (among-parts P inner, ← x.3, unused, q)
+    part : (Ps : List Term) → subterms P ≡ Ps → drop (at + h.len) s ≡ encode_all (binders P + d) Ps ++ rest
+    part Ps q = behind s at h.len d P rest Ps x.0 st q
 
-      part : (Ps : List Term) → subterms P ≡ Ps → drop (at + h.len) s ≡ encode_all (binders P + d) Ps ++ rest
-      part Ps q = behind s at h.len d P rest Ps x.0 st q
+    size : (Ps : List Term) → subterms P ≡ Ps → length (encode d P) ≡ h.len + length (encode_all (binders P + d) Ps)
+    size Ps q = size-behind h.len d P Ps x.0 q
 
-      size : (Ps : List Term) → subterms P ≡ Ps → length (encode d P) ≡ h.len + length (encode_all (binders P + d) Ps)
-      size Ps q = size-behind h.len d P Ps x.0 q
+  pub unused-none : h.subterms ≡ 0 → UnusedTo s at arities inner (Some (at + h.len))
+  unfolding UnusedTo used_by encode_all
+  unused-none z free d P rest few scope e l = go (subterms P) refl
+    where
+      go : (Ps : List Term) → subterms P ≡ Ps → Some (at + h.len) ≡ cond (among (fn P) inner) None (Some (at + length (encode d P)))
+      go [] q = rw (beneath free d P rest few scope e l [] q) (ap Some (omega (arith, size free d P rest few scope e l [] q)))
+      go (Q ∷ Qs) q =
+          let n : length (subterms P) ≡ suc (length Qs) = ap length q in
+          absurd (omega (arith, (F.is free d P rest few scope e l).2))
 
-    pub unused-none : h.subterms ≡ 0 → UnusedTo s at arities inner (at + h.len)
+  -- The first subterm, and whether the name is free in it.
+  module _ (e : ℕ) (R : UnusedTo s (at + h.len) arities (inner + h.binds) (Some e)) where
+    first_is : (free d : ℕ) (P : Term) (rest : List ℕ) → free ≤ table_names → InScope free arities d P → drop at s ≡ encode d P ++ rest → inner < d
+        → (Q : Term) (Qs : List Term) → subterms P ≡ Q ∷ Qs
+        → Some e ≡ cond (among (fn Q) (binders P + inner)) None (Some (at + h.len + length (encode (binders P + d) Q)))
+    unfolding UnusedTo encode_all
+    first_is free d P rest few scope st l Q Qs q =
+        let b = (F.is free d P rest few scope st l).1 in
+        let c : inner + h.binds ≡ binders P + inner = omega (arith, b) in
+        let R' : UnusedTo s (at + h.len) arities (binders P + inner) (Some e) = subst (λ (k : ℕ). UnusedTo s (at + h.len) arities k (Some e)) c R in
+        R' free (binders P + d) Q (encode_all (binders P + d) Qs ++ rest) few
+        (subst (AllInScope free arities (binders P + d)) q (subterms_scope free arities d P scope)).0
+        (part free d P rest few scope st l (Q ∷ Qs) q ∙ append_assoc (encode (binders P + d) Q) (encode_all (binders P + d) Qs) rest)
+        (omega arith)
+
+    pub unused_one : h.subterms ≡ 1 → UnusedTo s at arities inner (Some e)
     unfolding UnusedTo used_by encode_all
-    unused-none z free d P rest few scope e l = go (subterms P) refl
+    unused_one z free d P rest few scope st l = go (subterms P) refl
       where
-        go : (Ps : List Term) → subterms P ≡ Ps → at + h.len ≡ cond (among (fn P) inner) 0 (at + length (encode d P))
-        go [] q = rw (beneath free d P rest few scope e l [] q) (omega (arith, size free d P rest few scope e l [] q))
-        go (Q ∷ Qs) q =
-            let n : length (subterms P) ≡ suc (length Qs) = ap length q in
-            absurd (omega (arith, (F.is free d P rest few scope e l).2))
+        go : (Ps : List Term) → subterms P ≡ Ps → Some e ≡ cond (among (fn P) inner) None (Some (at + length (encode d P)))
+        go [] q = let n : length (subterms P) ≡ 0 = ap length q in absurd (omega (arith, (F.is free d P rest few scope st l).2))
+        go (Q ∷ []) q =
+            let m : at + h.len + length (encode (binders P + d) Q) ≡ at + length (encode d P) =
+            (let k = size free d P rest few scope st l (Q ∷ []) q in omega (arith, length-append (encode (binders P + d) Q) [])) in
+            first_is free d P rest few scope st l Q [] q
+            ∙ rw (beneath free d P rest few scope st l (Q ∷ []) q, or_false, m)
+        go (Q ∷ Q₂ ∷ Qs) q =
+            let n : length (subterms P) ≡ suc (suc (length Qs)) = ap length q in
+            absurd (omega (arith, (F.is free d P rest few scope st l).2))
 
-    -- The first subterm, and whether the name is free in it.
-    module _ (e : ℕ) (R : UnusedTo s (at + h.len) arities (inner + h.binds) e) where
-      first_is : (free d : ℕ) (P : Term) (rest : List ℕ) → free ≤ table_names → InScope free arities d P → drop at s ≡ encode d P ++ rest → inner < d
-          → (Q : Term) (Qs : List Term) → subterms P ≡ Q ∷ Qs
-          → e ≡ cond (among (fn Q) (binders P + inner)) 0 (at + h.len + length (encode (binders P + d) Q))
-      unfolding UnusedTo encode_all
-      first_is free d P rest few scope st l Q Qs q =
-          let b = (F.is free d P rest few scope st l).1 in
-          let c : inner + h.binds ≡ binders P + inner = omega (arith, b) in
-          let R' : UnusedTo s (at + h.len) arities (binders P + inner) e = subst (λ (k : ℕ). UnusedTo s (at + h.len) arities k e) c R in
-          R' free (binders P + d) Q (encode_all (binders P + d) Qs ++ rest) few
-          (subst (AllInScope free arities (binders P + d)) q (subterms_scope free arities d P scope)).0
-          (part free d P rest few scope st l (Q ∷ Qs) q ∙ append_assoc (encode (binders P + d) Q) (encode_all (binders P + d) Qs) rest)
-          (omega arith)
+    pub unused_two : (h.subterms ≡ 0 → ⊥) → (h.subterms ≡ 1 → ⊥) → (r : Option ℕ) → UnusedTo s e arities (inner + h.binds) r → UnusedTo s at arities inner r
+    unfolding UnusedTo used_by encode_all
+    unused_two z o r S free d P rest few scope st l = go (subterms P) refl
+      where
+        go : (Ps : List Term) → subterms P ≡ Ps → r ≡ cond (among (fn P) inner) None (Some (at + length (encode d P)))
+        go [] q = absurd (z ((F.is free d P rest few scope st l).2 ∙ ap length q))
+        go (Q ∷ []) q = absurd (o ((F.is free d P rest few scope st l).2 ∙ ap length q))
+        go (Q₁ ∷ Q₂ ∷ []) q = rw (beneath free d P rest few scope st l (Q₁ ∷ Q₂ ∷ []) q, or_false) (at_first (among (fn Q₁) (binders P + inner)) refl)
+          where
+            E₁ : List ℕ
+            E₁ = encode (binders P + d) Q₁
 
-      pub unused_one : h.subterms ≡ 1 → UnusedTo s at arities inner e
-      unfolding UnusedTo used_by encode_all
-      unused_one z free d P rest few scope st l = go (subterms P) refl
+            E₂ : List ℕ
+            E₂ = encode (binders P + d) Q₂
+
+            at_first : (t : Bool) → among (fn Q₁) (binders P + inner) ≡ t
+                → r ≡ cond (t || among (fn Q₂) (binders P + inner)) None (Some (at + length (encode d P)))
+            at_first true t = none_not_some (first_is free d P rest few scope st l Q₁ (Q₂ ∷ []) q ∙ rw t)
+            at_first false t =
+                let k : e ≡ at + h.len + length E₁ = some_is (first_is free d P rest few scope st l Q₁ (Q₂ ∷ []) q ∙ rw t) in
+                let b = (F.is free d P rest few scope st l).1 in
+                let c : inner + h.binds ≡ binders P + inner = omega (arith, b) in
+                let S' : UnusedTo s e arities (binders P + inner) r = subst (λ (k : ℕ). UnusedTo s e arities k r) c S in
+                let p : drop (at + h.len) s ≡ E₁ ++ (E₂ ++ rest) =
+                part free d P rest few scope st l (Q₁ ∷ Q₂ ∷ []) q ∙ rw (append-nil) (append_assoc E₁ E₂ rest) in
+                let st₂ : drop e s ≡ E₂ ++ rest = rw (k, ← drop-drop (length E₁) (at + h.len) s, p, drop-append_seam) in
+                let m : e + length E₂ ≡ at + length (encode d P) =
+                (let y = size free d P rest few scope st l (Q₁ ∷ Q₂ ∷ []) q in
+                omega (arith, length-append E₁ (E₂ ++ []), length-append E₂ [])) in
+                S' free (binders P + d) Q₂ rest few
+                (subst (AllInScope free arities (binders P + d)) q (subterms_scope free arities d P scope)).1.0 st₂ (omega arith)
+                ∙ ap (λ (k : ℕ). cond (among (fn Q₂) (binders P + inner)) None (Some k)) m
+        go (Q₁ ∷ Q₂ ∷ Q₃ ∷ Qs) q = absurd (omega (arith, at_most_two P, ap length q))
+
+  -- The name is free in the first subterm.
+  pub unused-first : (h.subterms ≡ 0 → ⊥) → UnusedTo s (at + h.len) arities (inner + h.binds) None → UnusedTo s at arities inner None
+  unfolding UnusedTo used_by encode_all
+  unused-first z R free d P rest few scope st l = go (subterms P) refl
+    where
+      go : (Ps : List Term) → subterms P ≡ Ps → None ≡ cond (among (fn P) inner) None (Some (at + length (encode d P)))
+      go [] q = absurd (z ((F.is free d P rest few scope st l).2 ∙ ap length q))
+      go (Q ∷ Qs) q = rw (beneath free d P rest few scope st l (Q ∷ Qs) q) (at_first (among (fn Q) (binders P + inner)) refl)
         where
-          go : (Ps : List Term) → subterms P ≡ Ps → e ≡ cond (among (fn P) inner) 0 (at + length (encode d P))
-          go [] q = let n : length (subterms P) ≡ 0 = ap length q in absurd (omega (arith, (F.is free d P rest few scope st l).2))
-          go (Q ∷ []) q =
-              let m : at + h.len + length (encode (binders P + d) Q) ≡ at + length (encode d P) =
-              (let k = size free d P rest few scope st l (Q ∷ []) q in omega (arith, length-append (encode (binders P + d) Q) [])) in
-              first_is free d P rest few scope st l Q [] q
-              ∙ rw (beneath free d P rest few scope st l (Q ∷ []) q, or_false, m)
-          go (Q ∷ Q₂ ∷ Qs) q =
-              let n : length (subterms P) ≡ suc (suc (length Qs)) = ap length q in
-              absurd (omega (arith, (F.is free d P rest few scope st l).2))
+          at_first : (t : Bool) → among (fn Q) (binders P + inner) ≡ t
+              → None ≡ cond (t || used_by Qs (binders P + inner)) None (Some (at + length (encode d P)))
+          at_first true t = refl
+          at_first false t =
+              let b = (F.is free d P rest few scope st l).1 in
+              let c : inner + h.binds ≡ binders P + inner = omega (arith, b) in
+              let R' : UnusedTo s (at + h.len) arities (binders P + inner) None = subst (λ (k : ℕ). UnusedTo s (at + h.len) arities k None) c R in
+              none_not_some {e = at + h.len + length (encode (binders P + d) Q)} (sym (R' free (binders P + d) Q (encode_all (binders P + d) Qs ++ rest) few
+              (subst (AllInScope free arities (binders P + d)) q (subterms_scope free arities d P scope)).0
+              (part free d P rest few scope st l (Q ∷ Qs) q ∙ append_assoc (encode (binders P + d) Q) (encode_all (binders P + d) Qs) rest)
+              (omega arith) ∙ rw t))
 
-      pub unused-first : (h.subterms ≡ 0 → ⊥) → e ≤ at → UnusedTo s at arities inner 0
-      unfolding UnusedTo used_by
-      unused-first z le free d P rest few scope st l = go (subterms P) refl
-        where
-          go : (Ps : List Term) → subterms P ≡ Ps → 0 ≡ cond (among (fn P) inner) 0 (at + length (encode d P))
-          go [] q = absurd (z ((F.is free d P rest few scope st l).2 ∙ ap length q))
-          go (Q ∷ Qs) q = rw (beneath free d P rest few scope st l (Q ∷ Qs) q) (at_first (among (fn Q) (binders P + inner)) refl)
-            where
-              at_first : (t : Bool) → among (fn Q) (binders P + inner) ≡ t
-                  → 0 ≡ cond (t || used_by Qs (binders P + inner)) 0 (at + length (encode d P))
-              at_first true t = refl
-              at_first false t =
-                  let k : e ≡ at + h.len + length (encode (binders P + d) Q) = first_is free d P rest few scope st l Q Qs q ∙ rw t in
-                  absurd (omega (arith, F.step, z, (F.is free d P rest few scope st l).2, ap length q, encode-some (binders P + d) Q))
-
-      pub unused_two : (h.subterms ≡ 0 → ⊥) → (h.subterms ≡ 1 → ⊥) → at < e → (r : ℕ) → UnusedTo s e arities (inner + h.binds) r → UnusedTo s at arities inner r
-      unfolding UnusedTo used_by encode_all
-      unused_two z o lt r S free d P rest few scope st l = go (subterms P) refl
-        where
-          go : (Ps : List Term) → subterms P ≡ Ps → r ≡ cond (among (fn P) inner) 0 (at + length (encode d P))
-          go [] q = absurd (z ((F.is free d P rest few scope st l).2 ∙ ap length q))
-          go (Q ∷ []) q = absurd (o ((F.is free d P rest few scope st l).2 ∙ ap length q))
-          go (Q₁ ∷ Q₂ ∷ []) q = rw (beneath free d P rest few scope st l (Q₁ ∷ Q₂ ∷ []) q, or_false) (at_first (among (fn Q₁) (binders P + inner)) refl)
-            where
-              E₁ : List ℕ
-              E₁ = encode (binders P + d) Q₁
-
-              E₂ : List ℕ
-              E₂ = encode (binders P + d) Q₂
-
-              at_first : (t : Bool) → among (fn Q₁) (binders P + inner) ≡ t
-                  → r ≡ cond (t || among (fn Q₂) (binders P + inner)) 0 (at + length (encode d P))
-              at_first true t = let k : e ≡ 0 = first_is free d P rest few scope st l Q₁ (Q₂ ∷ []) q ∙ rw t in absurd (omega arith)
-              at_first false t =
-                  let k : e ≡ at + h.len + length E₁ = first_is free d P rest few scope st l Q₁ (Q₂ ∷ []) q ∙ rw t in
-                  let b = (F.is free d P rest few scope st l).1 in
-                  let c : inner + h.binds ≡ binders P + inner = omega (arith, b) in
-                  let S' : UnusedTo s e arities (binders P + inner) r = subst (λ (k : ℕ). UnusedTo s e arities k r) c S in
-                  let p : drop (at + h.len) s ≡ E₁ ++ (E₂ ++ rest) =
-                  part free d P rest few scope st l (Q₁ ∷ Q₂ ∷ []) q ∙ rw (append-nil) (append_assoc E₁ E₂ rest) in
-                  let st₂ : drop e s ≡ E₂ ++ rest = rw (k, ← drop-drop (length E₁) (at + h.len) s, p, drop-append_seam) in
-                  let m : e + length E₂ ≡ at + length (encode d P) =
-                  (let y = size free d P rest few scope st l (Q₁ ∷ Q₂ ∷ []) q in
-                  omega (arith, length-append E₁ (E₂ ++ []), length-append E₂ [])) in
-                  S' free (binders P + d) Q₂ rest few
-                  (subst (AllInScope free arities (binders P + d)) q (subterms_scope free arities d P scope)).1.0 st₂ (omega arith)
-                  ∙ ap (cond (among (fn Q₂) (binders P + inner)) 0) m
-          go (Q₁ ∷ Q₂ ∷ Q₃ ∷ Qs) q = absurd (omega (arith, at_most_two P, ap length q))
-
--- The second subterm begins further on, within the bytes.
-pub second_place_lem : (at n e L inner b t : ℕ) → at ≤ L → at + n ≤ max at L → e ≤ max (at + n) L → at < e → inner ≤ at → b ≤ min 1 n → L - at ≡ t
-    → (L - e < t) × (inner + b ≤ e) × (e ≤ L)
-second_place_lem at n e L inner b t inside front first on deep few m =
-    let f : at + n ≤ L = omega arith in
-    let l : e ≤ L = omega (arith, f) in
-    (omega arith, omega arith, l)
+-- The name is one of those at the front, or no term stands there.
+pub unused_not : (s : List ℕ) (at : ℕ) (arities : List ℕ) (inner : ℕ) → UnusedFrontIs s at arities inner None → UnusedTo s at arities inner None
+unfolding UnusedTo
+unused_not s at arities inner F free d P rest few scope e l = rw (among-parts P inner, F free d P rest few scope e l)
 
 -- A restriction that binds nothing, by its first byte and where the search for its name ends.
 module _ (s : List ℕ) (at : ℕ) (arities : List ℕ) where
@@ -326,32 +321,20 @@ module _ (s : List ℕ) (at : ℕ) (arities : List ℕ) where
   unfolding BindsNothing
   binds_other not8 free d P rest few scope st = forms free d rest false (λ X q. refl) (λ Q t. absurd (not8 t)) P scope st
 
-  module _ (tag : get_or s at 0 ≡ 8) (e : ℕ) (U : UnusedTo s (at + 1) arities 0 e) where
+  module _ (tag : get_or s at 0 ≡ 8) (e : Option ℕ) (U : UnusedTo s (at + 1) arities 0 e) where
     search : (free d : ℕ) (Q : Term) (rest : List ℕ) → free ≤ table_names → InScope free arities d (res Q) → drop at s ≡ encode d (res Q) ++ rest
-        → e ≡ cond (among (fn Q) 0) 0 (at + 1 + length (encode (1 + d) Q))
+        → e ≡ cond (among (fn Q) 0) None (Some (at + 1 + length (encode (1 + d) Q)))
     unfolding UnusedTo encode InScope
     search free d Q rest few scope st = U free (1 + d) Q rest few scope (sym (drop-drop 1 at s) ∙ ap (drop 1) st) (omega arith)
 
-    pub binds_nothing_lem : at < e → BindsNothing s at arities true
+    -- the answer is whether there is an end
+    pub binds_found : BindsNothing s at arities (is_some e)
     unfolding BindsNothing binds_nothing
-    binds_nothing_lem lt free d P rest few scope st = forms free d rest true (λ X q. absurd (q tag)) unused P scope st
+    binds_found free d P rest few scope st = forms free d rest (is_some e) (λ X q. absurd (q tag)) found P scope st
       where
-        unused : (Q : Term) → get_or s at 0 ≡ 8 → Says free d rest true (res Q)
-        unused Q t scope st = go (among (fn Q) 0) refl
+        found : (Q : Term) → get_or s at 0 ≡ 8 → Says free d rest (is_some e) (res Q)
+        found Q t scope st = go (among (fn Q) 0) refl
           where
-            go : (b : Bool) → among (fn Q) 0 ≡ b → true ≡ not b
-            go true b = let k : e ≡ 0 = search free d Q rest few scope st ∙ rw b in absurd (omega arith)
-            go false b = refl
-
-    pub binds_used : ¬ (at < e) → BindsNothing s at arities false
-    unfolding BindsNothing binds_nothing
-    binds_used low free d P rest few scope st = forms free d rest false (λ X q. absurd (q tag)) used P scope st
-      where
-        used : (Q : Term) → get_or s at 0 ≡ 8 → Says free d rest false (res Q)
-        used Q t scope st = go (among (fn Q) 0) refl
-          where
-            go : (b : Bool) → among (fn Q) 0 ≡ b → false ≡ not b
-            go true b = refl
-            go false b =
-                let k : e ≡ at + 1 + length (encode (1 + d) Q) = search free d Q rest few scope st ∙ rw b in
-                absurd (low (omega arith))
+            go : (b : Bool) → among (fn Q) 0 ≡ b → is_some e ≡ not b
+            go true b = let k : e ≡ None = search free d Q rest few scope st ∙ rw b in rw k
+            go false b = let k : e ≡ Some (at + 1 + length (encode (1 + d) Q)) = search free d Q rest few scope st ∙ rw b in rw k

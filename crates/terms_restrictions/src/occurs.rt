@@ -7,10 +7,8 @@ pub fn occurs(src: &[u8], b: u8) -> bool
     ensures { result ≡ among src.now b }
 {
     let mut found = false;
-    let mut i = 0;
-    while i < src.len() {
-        found |= src[i] == b;
-        i += 1;
+    for x in src {
+        found |= *x == b;
     }
     found
 }

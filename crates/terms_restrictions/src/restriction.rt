@@ -9,6 +9,7 @@ pub fn has_restriction(src: &[u8], arities: &[u8]) -> bool
     ensures { HasRestrictionIs src.now arities.now result }
 {
     let mut at = 0;
+    // The step is the front's length, so no range or iterator takes it.
     while at < src.len() {
         let t = src[at];
         if t == RESTRICTION {

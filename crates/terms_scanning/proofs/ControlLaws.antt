@@ -11,32 +11,31 @@ use Rattle.terms_scanning.specs.Scanning.{control_of, passing, combined}
 use Rattle.terms_scanning.specs.declared.scan.Control.{Control}
 
 -- By the first byte, as the code tells them apart.
-module _ (t : ℕ) (p q : Control) (s o g : Bool) (es : s ≡ (p.sequential && q.sequential)) (eo : o ≡ (p.outermost && q.outermost))
-    (eg : g ≡ (p.guarded && q.guarded)) where
-  pub combined_parallel : t ≡ 7 → record { sequential = false; outermost = o; guarded = g } ≡ combined t p q
+module _ (t : ℕ) (p q : Control) where
+  pub combined_parallel : t ≡ 7 → record { sequential = false; outermost = p.outermost && q.outermost; guarded = p.guarded && q.guarded } ≡ combined t p q
   unfolding combined
-  combined_parallel e = rw (e, eo, eg)
+  combined_parallel e = rw e
 
-  pub combined_restriction : t ≡ 8 → record { sequential = s; outermost = o; guarded = g } ≡ combined t p q
+  pub combined_restriction : t ≡ 8 → record { sequential = p.sequential && q.sequential; outermost = p.outermost && q.outermost; guarded = p.guarded && q.guarded } ≡ combined t p q
   unfolding combined
-  combined_restriction e = rw (e, es, eo, eg)
+  combined_restriction e = rw e
 
-  pub combined-call : t ≡ 9 → record { sequential = s; outermost = s; guarded = false } ≡ combined t p q
+  pub combined-call : t ≡ 9 → record { sequential = p.sequential && q.sequential; outermost = p.sequential && q.sequential; guarded = false } ≡ combined t p q
   unfolding combined
-  combined-call e = rw (e, es)
+  combined-call e = rw e
 
-  pub combined-prefix : 1 ≤ t → t < 5 → record { sequential = s; outermost = s; guarded = true } ≡ combined t p q
+  pub combined-prefix : 1 ≤ t → t < 5 → record { sequential = p.sequential && q.sequential; outermost = p.sequential && q.sequential; guarded = true } ≡ combined t p q
   unfolding combined
   combined-prefix l h =
-      rw (ne_eqb t 7 (λ e. omega arith), ne_eqb t 8 (λ e. omega arith), le-leb 1 t l, le-leb t 4 (omega arith), es)
+      rw (ne_eqb t 7 (λ e. omega arith), ne_eqb t 8 (λ e. omega arith), le-leb 1 t l, le-leb t 4 (omega arith))
 
-  pub combined_inaction : t < 1 → record { sequential = s; outermost = s; guarded = g } ≡ combined t p q
+  pub combined_inaction : t < 1 → record { sequential = p.sequential && q.sequential; outermost = p.sequential && q.sequential; guarded = p.guarded && q.guarded } ≡ combined t p q
   unfolding combined
-  combined_inaction h = let z : t ≡ 0 = omega arith in rw (z, es, eg)
+  combined_inaction h = let z : t ≡ 0 = omega arith in rw z
 
-  pub combined-other : 5 ≤ t → (t ≡ 7 → ⊥) → (t ≡ 8 → ⊥) → (t ≡ 9 → ⊥) → record { sequential = s; outermost = s; guarded = g } ≡ combined t p q
+  pub combined-other : 5 ≤ t → (t ≡ 7 → ⊥) → (t ≡ 8 → ⊥) → (t ≡ 9 → ⊥) → record { sequential = p.sequential && q.sequential; outermost = p.sequential && q.sequential; guarded = p.guarded && q.guarded } ≡ combined t p q
   unfolding combined
-  combined-other h a b c = rw (ne_eqb t 7 a, ne_eqb t 8 b, ne_eqb t 9 c, le-leb 1 t (omega arith), lt-leb t 4 (omega arith), es, eg)
+  combined-other h a b c = rw (ne_eqb t 7 a, ne_eqb t 8 b, ne_eqb t 9 c, le-leb 1 t (omega arith), lt-leb t 4 (omega arith))
 
 -- By the constructor.
 and_true : (x : Bool) → (x && true) ≡ x

@@ -15,8 +15,10 @@ use Rattle.terms.specs.Reading.{byte, read_name, read_names, numbered, read_coun
 use Rattle.terms_scanning.specs.Scanning.{name_allowed, behind_names, behind_call, behind_front, front_answer, NextWithin, NamesIs, CallIs, FrontIs}
 use Rattle.terms_bytes.specs.Shape.{names_at}
 use Rattle.terms.proofs.Answers.{bind_assoc}
-use Rattle.terms_scanning.specs.declared.scan.Front.{Front}
-use Rattle.terms_scanning.specs.declared.scan.Front.TheVariants.{Next, Wrong}
+use Rattle.std.specs.Prelude.{Result, Ok, Err}
+use Rattle.terms_bytes.specs.Refusals.{number_of}
+use Rattle.terms_bytes.specs.declared.answer.Refusal.{Refusal}
+use Rattle.terms_bytes.specs.declared.answer.Refusal.TheVariants.{Grammar, UnknownDefinition, UnknownName, NameCount}
 
 pub drop_here : (s : List ℕ) (at : ℕ) → at < length s → drop at s ≡ get_or s at 0 ∷ drop (at + 1) s
 drop_here s at h = rw (add-one, drop-cons s at 0)
@@ -82,36 +84,36 @@ module _ (free d : ℕ) where
 
     -- The ways out of the loop: `count` names were to be read from `from` on, and n are left from `at` on.
     module _ (count from n at : ℕ) (same : behind_names free d count (drop from s) ≡ behind_names free d n (drop at s)) where
-      pub names_out_short : 0 < n → length s ≤ at → NamesIs free d count s from (Wrong 7)
-      unfolding front_answer NextWithin
+      pub names_out_short : 0 < n → length s ≤ at → NamesIs free d count s from (Err Grammar)
+      unfolding front_answer number_of NextWithin
       names_out_short z h = record { is = same ∙ names_short n at z h; within = tt }
 
-      pub names_out_wrong : 0 < n → at < length s → name_allowed free d (get_or s at 0) ≡ false → NamesIs free d count s from (Wrong 9)
-      unfolding front_answer NextWithin
+      pub names_out_wrong : 0 < n → at < length s → name_allowed free d (get_or s at 0) ≡ false → NamesIs free d count s from (Err UnknownName)
+      unfolding front_answer number_of NextWithin
       names_out_wrong z h e = record { is = same ∙ names_wrong n at z h e; within = tt }
 
-      pub names-out : n ≡ 0 → from ≤ at → at ≤ max from (length s) → NamesIs free d count s from (Next at)
-      unfolding front_answer NextWithin behind_names read_names ◌>>=◌
+      pub names-out : n ≡ 0 → from ≤ at → at ≤ max from (length s) → NamesIs free d count s from (Ok at)
+      unfolding front_answer number_of NextWithin behind_names read_names ◌>>=◌
       names-out z l h = record { is = same ∙ rw z; within = (l, h) }
 
-next_weaken : (low low' high high' : ℕ) (r : Front) → low ≤ low' → high' ≤ high → NextWithin low' high' r → NextWithin low high r
+next_weaken : (low low' high high' : ℕ) (r : Result ℕ Refusal) → low ≤ low' → high' ≤ high → NextWithin low' high' r → NextWithin low high r
 unfolding NextWithin
-next_weaken low low' high high' (Next e) l h w = let p = w.0 in let q = w.1 in (omega arith, omega arith)
-next_weaken low low' high high' (Wrong k) l h w = tt
+next_weaken low low' high high' (Ok e) l h w = let p = w.0 in let q = w.1 in (omega arith, omega arith)
+next_weaken low low' high high' (Err k) l h w = tt
 
-pub next_within : (low high e : ℕ) (r : Front) → NextWithin low high r → r ≡ Next e → (low ≤ e) × (e ≤ high)
+pub next_within : (low high e : ℕ) → NextWithin low high (Ok e) → (low ≤ e) × (e ≤ high)
 unfolding NextWithin
-next_within low high e r w q = subst (λ (x : Front). NextWithin low high x) q w
+next_within low high e w = w
 
 -- A call from its definition's number on.
 module _ (ed : Edition) (free : ℕ) (arities : List ℕ) (d : ℕ) (s : List ℕ) (at : ℕ) where
-  pub call_short : length s ≤ at → CallIs ed free arities d s at (Wrong 7)
-  unfolding behind_call front_answer NextWithin byte ◌>>=◌
+  pub call_short : length s ≤ at → CallIs ed free arities d s at (Err Grammar)
+  unfolding behind_call front_answer number_of NextWithin byte ◌>>=◌
   call_short h = record { is = rw (drop_of_length-le s h); within = tt }
 
   module _ (h : at < length s) where
-    pub call_unknown : length arities ≤ get_or s at 0 → CallIs ed free arities d s at (Wrong 8)
-    unfolding behind_call numbered front_answer NextWithin byte ◌>>=◌ ◌>>◌ need
+    pub call_unknown : length arities ≤ get_or s at 0 → CallIs ed free arities d s at (Err UnknownDefinition)
+    unfolding behind_call numbered front_answer number_of NextWithin byte ◌>>=◌ ◌>>◌ need
     call_unknown u = record { is = rw (drop_here s at h, le-ltb (get_or s at 0) (length arities) u); within = tt }
 
     module _ (n : ℕ) (known : get_or s at 0 < length arities) (count : n ≡ get_or arities (get_or s at 0) 0) where
@@ -122,7 +124,7 @@ module _ (ed : Edition) (free : ℕ) (arities : List ℕ) (d : ℕ) (s : List �
 -- In edition one the names follow, in edition two their number first: check 16.
 module _ (free : ℕ) (arities : List ℕ) (d : ℕ) (s : List ℕ) (at : ℕ) (h : at < length s) (n : ℕ) (known : get_or s at 0 < length arities)
     (count : n ≡ get_or arities (get_or s at 0) 0) where
-  pub call-names : (r : Front) → NamesIs free d n s (at + 1) r → CallIs one free arities d s at r
+  pub call-names : (r : Result ℕ Refusal) → NamesIs free d n s (at + 1) r → CallIs one free arities d s at r
   unfolding read_count ◌>>=◌
   call-names r w =
       record {
@@ -130,8 +132,8 @@ module _ (free : ℕ) (arities : List ℕ) (d : ℕ) (s : List ℕ) (at : ℕ) (
         within = next_weaken at (at + 1) (max at (length s)) (max (at + 1) (length s)) r (omega arith) (omega arith) w.within;
       }
 
-  pub count_missing : length s ≤ at + 1 → CallIs two free arities d s at (Wrong 7)
-  unfolding read_count byte front_answer NextWithin ◌>>=◌
+  pub count_missing : length s ≤ at + 1 → CallIs two free arities d s at (Err Grammar)
+  unfolding read_count byte front_answer number_of NextWithin ◌>>=◌
   count_missing l = record { is = at_count two free arities d s at h n known count ∙ rw (drop_of_length-le s l); within = tt }
 
   module _ (l : at + 1 < length s) where
@@ -140,11 +142,11 @@ module _ (free : ℕ) (arities : List ℕ) (d : ℕ) (s : List ℕ) (at : ℕ) (
         let p : at + 1 + 1 ≡ at + 2 = omega arith in
         drop_here s (at + 1) l ∙ ap (λ n. get_or s (at + 1) 0 ∷ drop n s) p
 
-    pub count_wrong : (get_or s (at + 1) 0 ≡ n → ⊥) → CallIs two free arities d s at (Wrong 16)
-    unfolding read_count byte front_answer NextWithin need ◌>>◌ ◌>>=◌
+    pub count_wrong : (get_or s (at + 1) 0 ≡ n → ⊥) → CallIs two free arities d s at (Err NameCount)
+    unfolding read_count byte front_answer number_of NextWithin need ◌>>◌ ◌>>=◌
     count_wrong e = record { is = at_count two free arities d s at h n known count ∙ rw (next_two, ne_eqb (get_or s (at + 1) 0) n e); within = tt }
 
-    pub counted-names : (r : Front) → get_or s (at + 1) 0 ≡ n → NamesIs free d n s (at + 2) r → CallIs two free arities d s at r
+    pub counted-names : (r : Result ℕ Refusal) → get_or s (at + 1) 0 ≡ n → NamesIs free d n s (at + 2) r → CallIs two free arities d s at r
     unfolding read_count byte need ◌>>◌ ◌>>=◌
     counted-names r e w =
         record {
@@ -154,16 +156,16 @@ module _ (free : ℕ) (arities : List ℕ) (d : ℕ) (s : List ℕ) (at : ℕ) (
 
 -- The front of a term.
 module _ (ed : Edition) (free : ℕ) (arities : List ℕ) (d : ℕ) (s : List ℕ) (at : ℕ) where
-  pub front_short : length s ≤ at → FrontIs ed free arities d s at (Wrong 7)
-  unfolding behind_front front_answer NextWithin byte ◌>>=◌
+  pub front_short : length s ≤ at → FrontIs ed free arities d s at (Err Grammar)
+  unfolding behind_front front_answer number_of NextWithin byte ◌>>=◌
   front_short h = record { is = rw (drop_of_length-le s h); within = tt }
 
   module _ (h : at < length s) where
-    pub front_unknown : 9 < get_or s at 0 → FrontIs ed free arities d s at (Wrong 7)
-    unfolding behind_front front_answer NextWithin byte ◌>>=◌ ◌>>◌ need
+    pub front_unknown : 9 < get_or s at 0 → FrontIs ed free arities d s at (Err Grammar)
+    unfolding behind_front front_answer number_of NextWithin byte ◌>>=◌ ◌>>◌ need
     front_unknown u = record { is = rw (drop_here s at h, lt-leb (get_or s at 0) 9 u); within = tt }
 
-    pub front-call : (r : Front) → get_or s at 0 ≡ 9 → CallIs ed free arities d s (at + 1) r → FrontIs ed free arities d s at r
+    pub front-call : (r : Result ℕ Refusal) → get_or s at 0 ≡ 9 → CallIs ed free arities d s (at + 1) r → FrontIs ed free arities d s at r
     unfolding behind_front byte ◌>>=◌ ◌>>◌ need
     front-call r e w =
         record {
@@ -171,7 +173,7 @@ module _ (ed : Edition) (free : ℕ) (arities : List ℕ) (d : ℕ) (s : List �
           within = next_weaken (at + 1) (at + 1) (length s) (max (at + 1) (length s)) r (omega arith) (omega arith) w.within;
         }
 
-    pub front-names : (n : ℕ) (r : Front) → get_or s at 0 ≤ 9 → (get_or s at 0 ≡ 9 → ⊥) → n ≡ names_at arities (get_or s at 0) (get_or s (at + 1) 0) →
+    pub front-names : (n : ℕ) (r : Result ℕ Refusal) → get_or s at 0 ≤ 9 → (get_or s at 0 ≡ 9 → ⊥) → n ≡ names_at arities (get_or s at 0) (get_or s (at + 1) 0) →
         NamesIs free d n s (at + 1) r → FrontIs ed free arities d s at r
     unfolding behind_front names_at byte ◌>>=◌ ◌>>◌ need
     front-names n r l e m w =

@@ -14,16 +14,17 @@ use Rattle.terms.specs.Reading.{byte, numbered, read_term, read_whole}
 use Rattle.terms_scanning.specs.Scanning.{behind_front, front_answer, NextWithin, FrontIs, control_of, passing, combined, scanned, scan_answer, EndWithin, ScanIs, scanned_whole, whole_answer}
 use Rattle.terms_bytes.specs.Shape.{binders_at, subterms_at}
 use Rattle.terms_scanning.specs.declared.scan.Control.{Control}
-use Rattle.terms_scanning.specs.declared.scan.Front.TheVariants.{Next, Wrong}
-use Rattle.terms_scanning.specs.declared.scan.Scan.{Scan}
-use Rattle.terms_scanning.specs.declared.scan.Scan.TheVariants.{End, Fault}
+use Rattle.std.specs.Prelude.{Result, Ok, Err}
+use Rattle.terms_bytes.specs.Refusals.{number_of}
+use Rattle.terms_bytes.specs.declared.answer.Refusal.{Refusal}
+use Rattle.terms_bytes.specs.declared.answer.Refusal.TheVariants.{Grammar}
 use Rattle.terms.proofs.Answers.{bind_to, bind-refused}
 use Rattle.terms_scanning.proofs.ScanLaws.{drop_here}
 use Rattle.terms_scanning.proofs.ScanShapes.{kept, subterms_scanned, scanned_by_shape}
 
-pub end_within : (low high e : ℕ) (c : Control) (r : Scan) → EndWithin low high r → r ≡ End e c → (low ≤ e) × (e ≤ high)
+pub end_within : (low high e : ℕ) (c : Control) → EndWithin low high (Ok (e, c)) → (low ≤ e) × (e ≤ high)
 unfolding EndWithin
-end_within low high e c r w q = subst (λ (x : Scan). EndWithin low high x) q w
+end_within low high e c w = w
 
 -- Where no byte is left, both the term and its front fail check 7.
 scanned_nothing : (ed : Edition) (free : ℕ) (arities : List ℕ) (n d : ℕ) → scanned ed free arities n d [] ≡ refused 7
@@ -55,11 +56,11 @@ module _ (ed : Edition) (free : ℕ) (arities : List ℕ) (d : ℕ) (s : List �
           let p : suc m - 1 ≡ m = omega arith in
           rw (drop_here s at l, p) (scanned_by_shape ed free arities m d first_byte (drop (at + 1) s))
 
-  pub scan_wrong : (k : ℕ) → FrontIs ed free arities d s at (Wrong k) → ScanIs ed free arities d s at (Fault k)
+  pub scan_wrong : (k : Refusal) → FrontIs ed free arities d s at (Err k) → ScanIs ed free arities d s at (Err k)
   unfolding front_answer scan_answer EndWithin
   scan_wrong k f = record { is = λ n h. scanned-at n h ∙ bind-refused _ f.is; within = tt }
 
-  module _ (e : ℕ) (front : FrontIs ed free arities d s at (Next e)) where
+  module _ (e : ℕ) (front : FrontIs ed free arities d s at (Ok e)) where
     inside : (at + 1 ≤ e) × (e ≤ length s)
     unfolding NextWithin
     inside = front.within
@@ -73,7 +74,7 @@ module _ (ed : Edition) (free : ℕ) (arities : List ℕ) (d : ℕ) (s : List �
     enough : (n l : ℕ) → length s ≤ at + n → e ≤ l → length s ≤ l + (n - 1)
     enough n l h g = let i = inside in omega arith
 
-    pub scan_leaf : (c : Control) → subterms_at first_byte ≡ 0 → c ≡ combined first_byte passing passing → ScanIs ed free arities d s at (End e c)
+    pub scan_leaf : (c : Control) → subterms_at first_byte ≡ 0 → c ≡ combined first_byte passing passing → ScanIs ed free arities d s at (Ok (e, c))
     unfolding scan_answer EndWithin subterms_scanned
     scan_leaf c z q = record { is = λ n h. behind n h ∙ rw (z, q); within = inside }
 
@@ -89,16 +90,16 @@ module _ (ed : Edition) (free : ℕ) (arities : List ℕ) (d : ℕ) (s : List �
       unfolding subterms_scanned
       at_first n h = behind n h ∙ rw (depth_is, ne_eqb (subterms_at first_byte) 0 some)
 
-      pub scan_first_wrong : (k : ℕ) → ScanIs ed free arities d' s e (Fault k) → ScanIs ed free arities d s at (Fault k)
+      pub scan_first_wrong : (k : Refusal) → ScanIs ed free arities d' s e (Err k) → ScanIs ed free arities d s at (Err k)
       unfolding scan_answer EndWithin
       scan_first_wrong k p = record { is = λ n h. at_first n h ∙ bind-refused _ (p.is (n - 1) (enough n e h (omega arith))); within = tt }
 
-      module _ (l : ℕ) (p : Control) (first : ScanIs ed free arities d' s e (End l p)) where
+      module _ (l : ℕ) (p : Control) (first : ScanIs ed free arities d' s e (Ok (l, p))) where
         first-inside : (e + 1 ≤ l) × (l ≤ length s)
         unfolding EndWithin
         first-inside = first.within
 
-        pub scan_one : (c : Control) → subterms_at first_byte ≡ 1 → c ≡ combined first_byte p passing → ScanIs ed free arities d s at (End l c)
+        pub scan_one : (c : Control) → subterms_at first_byte ≡ 1 → c ≡ combined first_byte p passing → ScanIs ed free arities d s at (Ok (l, c))
         unfolding scan_answer EndWithin
         scan_one c o q =
             let i = inside in
@@ -115,14 +116,14 @@ module _ (ed : Edition) (free : ℕ) (arities : List ℕ) (d : ℕ) (s : List �
           at_second n h =
               at_first n h ∙ bind_to _ (first.is (n - 1) (enough n e h (omega arith))) ∙ rw (ne_eqb (subterms_at first_byte) 1 more)
 
-          pub scan_second_wrong : (k : ℕ) → ScanIs ed free arities d' s l (Fault k) → ScanIs ed free arities d s at (Fault k)
+          pub scan_second_wrong : (k : Refusal) → ScanIs ed free arities d' s l (Err k) → ScanIs ed free arities d s at (Err k)
           unfolding scan_answer EndWithin
           scan_second_wrong k q =
               let j = first-inside in
               record { is = λ n h. at_second n h ∙ bind-refused _ (q.is (n - 1) (enough n l h (omega arith))); within = tt }
 
-          pub scan_two : (m : ℕ) (q c : Control) → ScanIs ed free arities d' s l (End m q) → c ≡ combined first_byte p q →
-              ScanIs ed free arities d s at (End m c)
+          pub scan_two : (m : ℕ) (q c : Control) → ScanIs ed free arities d' s l (Ok (m, q)) → c ≡ combined first_byte p q →
+              ScanIs ed free arities d s at (Ok (m, c))
           unfolding scan_answer EndWithin
           scan_two m q c second w =
               let i = inside in
@@ -150,19 +151,19 @@ module _ (ed : Edition) (free : ℕ) (arities : List ℕ) (d : ℕ) (s : List �
       go (refused k) = refl
       go (result x) = tested (eqb (length x.1) 0) x.0
 
-  pub whole_wrong : (k : ℕ) → ScanIs ed free arities d s 0 (Fault k) → scanned_whole ed free arities d s ≡ whole_answer (Fault k)
+  pub whole_wrong : (k : Refusal) → ScanIs ed free arities d s 0 (Err k) → scanned_whole ed free arities d s ≡ whole_answer (Err k)
   unfolding scan_answer whole_answer
   whole_wrong k w = whole_by_scan ∙ bind-refused _ (w.is (length s) (omega arith))
 
-  module _ (e : ℕ) (c : Control) (w : ScanIs ed free arities d s 0 (End e c)) where
+  module _ (e : ℕ) (c : Control) (w : ScanIs ed free arities d s 0 (Ok (e, c))) where
     at_end : scanned_whole ed free arities d s ≡ (need 7 (eqb (length (drop e s)) 0) >> result c)
     unfolding scan_answer
     at_end = whole_by_scan ∙ bind_to _ (w.is (length s) (omega arith))
 
-    pub whole-more : e < length s → scanned_whole ed free arities d s ≡ whole_answer (Fault 7)
-    unfolding whole_answer need ◌>>◌
+    pub whole-more : e < length s → scanned_whole ed free arities d s ≡ whole_answer (Err Grammar)
+    unfolding whole_answer number_of need ◌>>◌
     whole-more h = at_end ∙ rw (ne_eqb (length (drop e s)) 0 (λ z. omega (arith, length-drop e s)))
 
-    pub whole_term : (l : ℕ) → length s ≤ e → scanned_whole ed free arities d s ≡ whole_answer (End l c)
+    pub whole_term : length s ≤ e → scanned_whole ed free arities d s ≡ whole_answer (Ok c)
     unfolding whole_answer need ◌>>◌
-    whole_term l h = at_end ∙ rw (eq-eqb (length (drop e s)) 0 (omega (arith, length-drop e s)))
+    whole_term h = at_end ∙ rw (eq-eqb (length (drop e s)) 0 (omega (arith, length-drop e s)))

@@ -1,16 +1,14 @@
 -- The grammar walk over bytes at positions, said by reading (specs/Reading): what it answers of a term, of the front of a term and of names.
-use Rattle.std.specs.Prelude.{◌≡◌, Bool, true, false, cond, ◌&&◌, ◌||◌, List, ℕ, ◌+◌, ◌-◌, ◌≤◌, max, length, drop, ltb, leb, eqb}
+use Rattle.std.specs.Prelude.{◌≡◌, Bool, true, false, cond, ◌&&◌, ◌||◌, List, ℕ, ◌+◌, ◌-◌, ◌≤◌, max, length, drop, ltb, leb, eqb, Result, Ok, Err}
 use Rattle.calculus.specs.Term.{Term}
 use Rattle.terms.specs.Answer.{Answer, refused, result, ◌>>=◌, ◌>>◌, need}
 use Rattle.terms.specs.Edition.{Edition}
 use Rattle.terms.specs.Grammar.{sequential, parallel_outermost, guarded}
 use Rattle.terms.specs.Reading.{byte, read_names, numbered, read_count, read_term, read_whole}
+use Rattle.terms_bytes.specs.Refusals.{number_of}
 use Rattle.terms_bytes.specs.Shape.{names_at}
+use Rattle.terms_bytes.specs.declared.answer.Refusal.{Refusal}
 use Rattle.terms_scanning.specs.declared.scan.Control.{Control}
-use Rattle.terms_scanning.specs.declared.scan.Front.{Front}
-use Rattle.terms_scanning.specs.declared.scan.Front.TheVariants.{Next, Wrong}
-use Rattle.terms_scanning.specs.declared.scan.Scan.{Scan}
-use Rattle.terms_scanning.specs.declared.scan.Scan.TheVariants.{End, Fault}
 
 -- Check 9 of one byte.
 unfoldable pub name_allowed : ℕ → ℕ → ℕ → Bool
@@ -37,23 +35,23 @@ behind_front e free arities d bs = do
   cond (eqb t 9) (behind_call e free arities d bs) (behind_names free d (names_at arities t 0) bs)
 
 -- The paper's number, or the bytes from the position answered on.
-unfoldable pub front_answer : List ℕ → Front → Answer (List ℕ)
-front_answer s (Next e) = result (drop e s)
-front_answer s (Wrong k) = refused k
+unfoldable pub front_answer : List ℕ → Result ℕ Refusal → Answer (List ℕ)
+front_answer s (Ok e) = result (drop e s)
+front_answer s (Err k) = refused (number_of k)
 
-unfoldable pub NextWithin : ℕ → ℕ → Front → Type 0
-NextWithin low high (Next e) = (low ≤ e) × (e ≤ high)
-NextWithin low high (Wrong k) = Unit {0}
+unfoldable pub NextWithin : ℕ → ℕ → Result ℕ Refusal → Type 0
+NextWithin low high (Ok e) = (low ≤ e) × (e ≤ high)
+NextWithin low high (Err k) = Unit {0}
 
-pub record NamesIs (free d n : ℕ) (s : List ℕ) (at : ℕ) (r : Front) : Type 0 where
+pub record NamesIs (free d n : ℕ) (s : List ℕ) (at : ℕ) (r : Result ℕ Refusal) : Type 0 where
   pub is : behind_names free d n (drop at s) ≡ front_answer s r
   pub within : NextWithin at (max at (length s)) r
 
-pub record CallIs (e : Edition) (free : ℕ) (arities : List ℕ) (d : ℕ) (s : List ℕ) (at : ℕ) (r : Front) : Type 0 where
+pub record CallIs (e : Edition) (free : ℕ) (arities : List ℕ) (d : ℕ) (s : List ℕ) (at : ℕ) (r : Result ℕ Refusal) : Type 0 where
   pub is : behind_call e free arities d (drop at s) ≡ front_answer s r
   pub within : NextWithin at (max at (length s)) r
 
-pub record FrontIs (e : Edition) (free : ℕ) (arities : List ℕ) (d : ℕ) (s : List ℕ) (at : ℕ) (r : Front) : Type 0 where
+pub record FrontIs (e : Edition) (free : ℕ) (arities : List ℕ) (d : ℕ) (s : List ℕ) (at : ℕ) (r : Result ℕ Refusal) : Type 0 where
   pub is : behind_front e free arities d (drop at s) ≡ front_answer s r
   pub within : NextWithin (at + 1) (length s) r
 
@@ -80,16 +78,16 @@ scanned e free arities n d bs = do
   (P, rest) ← read_term e (numbered arities) free n d bs
   result (control_of P, rest)
 
-unfoldable pub scan_answer : List ℕ → Scan → Answer (Control × List ℕ)
-scan_answer s (End e c) = result (c, drop e s)
-scan_answer s (Fault k) = refused k
+unfoldable pub scan_answer : List ℕ → Result (ℕ × Control) Refusal → Answer (Control × List ℕ)
+scan_answer s (Ok (e, c)) = result (c, drop e s)
+scan_answer s (Err k) = refused (number_of k)
 
-unfoldable pub EndWithin : ℕ → ℕ → Scan → Type 0
-EndWithin low high (End e c) = (low ≤ e) × (e ≤ high)
-EndWithin low high (Fault k) = Unit {0}
+unfoldable pub EndWithin : ℕ → ℕ → Result (ℕ × Control) Refusal → Type 0
+EndWithin low high (Ok (e, c)) = (low ≤ e) × (e ≤ high)
+EndWithin low high (Err k) = Unit {0}
 
 -- Any n that is at least the number of bytes left will do for reading.
-pub record ScanIs (e : Edition) (free : ℕ) (arities : List ℕ) (d : ℕ) (s : List ℕ) (at : ℕ) (r : Scan) : Type 0 where
+pub record ScanIs (e : Edition) (free : ℕ) (arities : List ℕ) (d : ℕ) (s : List ℕ) (at : ℕ) (r : Result (ℕ × Control) Refusal) : Type 0 where
   pub is : (n : ℕ) → length s ≤ at + n → scanned e free arities n d (drop at s) ≡ scan_answer s r
   pub within : EndWithin (at + 1) (length s) r
 
@@ -99,6 +97,6 @@ scanned_whole e free arities d bs = do
   P ← read_whole e (numbered arities) free d bs
   result (control_of P)
 
-unfoldable pub whole_answer : Scan → Answer Control
-whole_answer (End e c) = result c
-whole_answer (Fault k) = refused k
+unfoldable pub whole_answer : Result Control Refusal → Answer Control
+whole_answer (Ok c) = result c
+whole_answer (Err k) = refused (number_of k)

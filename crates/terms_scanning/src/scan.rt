@@ -1,9 +1,10 @@
 // The grammar walk: checks 7, 8, 16 and 9 in one pass over a term's bytes from left to right, the first fault deciding. It gathers what checks 10
 // and 11 will ask of the term, so that no later check walks again. Calls are counted in edition two: the number of names stands before them.
-ghost use Rattle.std.specs.Prelude.{◌≡◌, ◌&&◌, ◌+◌, ◌≤◌};
+ghost use Rattle.std.specs.Prelude.{◌≡◌, ◌+◌, ◌≤◌};
 ghost use Rattle.terms_bytes.specs.Counted.{edition_from};
 ghost use Rattle.terms_scanning.specs.Scanning.{name_allowed, NamesIs, CallIs, FrontIs, passing, combined, ScanIs, scanned_whole, whole_answer};
 
+use terms_bytes::answer::Refusal;
 use terms_bytes::bytes::get;
 use terms_bytes::shape::shape_at;
 use terms_bytes::tags::{CALL, NEW_OUTPUT, PARALLEL, RESTRICTION, SILENT};
@@ -16,54 +17,34 @@ pub struct Control {
     pub guarded: bool,
 }
 
-// Where the bytes before the subterms end, or the check that they fail.
-#[derive(Clone, Copy)]
-pub enum Front {
-    Next(usize),
-    Wrong(u8),
-}
-
-// Where a term ends and what it is, or the check that it fails.
-#[derive(Clone, Copy)]
-pub enum Scan {
-    End(usize, Control),
-    Fault(u8),
-}
-
 // Whether `b` is a name under `depth` binders, where `free` names may stand free.
+#[tactic(auto, unfolding(crate::specs::Scanning::name_allowed))]
 fn is_name(b: u8, depth: usize, free: usize) -> bool
     ensures { result ≡ name_allowed free depth b }
 {
     let n = b as usize;
-    if n < free {
-        return true;
-    }
-    if n < 128 {
-        return false;
-    }
-    if n - 128 < depth {
-        return true;
-    }
-    false
+    n < free || (128 <= n && n - 128 < depth)
 }
 
-// The `count` names that begin at `from`.
-fn scan_names(src: &[u8], from: usize, count: usize, depth: usize, free: usize) -> Front
+// The `count` names that begin at `from`; answers where they end.
+fn scan_names(
+    src: &[u8],
+    from: usize,
+    count: usize,
+    depth: usize,
+    free: usize,
+) -> Result<usize, Refusal>
     ensures { NamesIs free depth count src.now from result }
 {
-    let mut at = from;
-    let mut left = count;
-    while 0 < left {
-        if src.len() <= at {
-            return Front::Wrong(7);
+    for i in 0..count {
+        if src.len() <= from + i {
+            return Err(Refusal::Grammar);
         }
-        if !is_name(src[at], depth, free) {
-            return Front::Wrong(9);
+        if !is_name(src[from + i], depth, free) {
+            return Err(Refusal::UnknownName);
         }
-        at += 1;
-        left -= 1;
     }
-    Front::Next(at)
+    Ok(from + count)
 }
 
 // A call from its definition's number on, which stands at `at`: in edition two the number of names, which must be the arity, then the names.
@@ -74,23 +55,23 @@ fn scan_call(
     free: usize,
     arities: &[u8],
     counted: bool,
-) -> Front
+) -> Result<usize, Refusal>
     ensures { CallIs (edition_from counted) free arities.now depth src.now at result }
 {
     if src.len() <= at {
-        return Front::Wrong(7);
+        return Err(Refusal::Grammar);
     }
     let k = get(src, at) as usize;
     if arities.len() <= k {
-        return Front::Wrong(8);
+        return Err(Refusal::UnknownDefinition);
     }
     let names = get(arities, k);
     if counted {
         if src.len() <= at + 1 {
-            return Front::Wrong(7);
+            return Err(Refusal::Grammar);
         }
         if get(src, at + 1) != names {
-            return Front::Wrong(16);
+            return Err(Refusal::NameCount);
         }
         return scan_names(src, at + 2, names as usize, depth, free);
     }
@@ -105,15 +86,15 @@ fn scan_front(
     free: usize,
     arities: &[u8],
     counted: bool,
-) -> Front
+) -> Result<usize, Refusal>
     ensures { FrontIs (edition_from counted) free arities.now depth src.now at result }
 {
     if src.len() <= at {
-        return Front::Wrong(7);
+        return Err(Refusal::Grammar);
     }
     let t = get(src, at);
     if CALL < t {
-        return Front::Wrong(7);
+        return Err(Refusal::Grammar);
     }
     if t == CALL {
         return scan_call(src, at + 1, depth, free, arities, counted);
@@ -121,13 +102,6 @@ fn scan_front(
     let h = shape_at(src, at, arities);
     let names = h.names;
     scan_names(src, at + 1, names, depth, free)
-}
-
-// Both tests.
-pub fn both(x: bool, y: bool) -> bool
-    ensures { result ≡ (x && y) }
-{
-    if x { y } else { false }
 }
 
 // The tests of a subterm that is not there.
@@ -145,9 +119,9 @@ pub fn passed() -> Control
 fn combine(t: u8, p: Control, q: Control) -> Control
     ensures { result ≡ combined t p q }
 {
-    let s = both(p.sequential, q.sequential);
-    let o = both(p.outermost, q.outermost);
-    let g = both(p.guarded, q.guarded);
+    let s = p.sequential & q.sequential;
+    let o = p.outermost & q.outermost;
+    let g = p.guarded & q.guarded;
     match t {
         SILENT..=NEW_OUTPUT => Control {
             sequential: s,
@@ -177,7 +151,7 @@ fn combine(t: u8, p: Control, q: Control) -> Control
     }
 }
 
-// The term at `at`.
+// The term at `at`: where it ends, and what checks 10 and 11 ask of it.
 fn scan_term(
     src: &[u8],
     at: usize,
@@ -185,52 +159,40 @@ fn scan_term(
     free: usize,
     arities: &[u8],
     counted: bool,
-) -> Scan
+) -> Result<(usize, Control), Refusal>
     requires { depth ≤ at + 255 }
     ensures { ScanIs (edition_from counted) free arities.now depth src.now at result }
 {
-    let f = scan_front(src, at, depth, free, arities, counted);
-    match f {
-        Front::Wrong(k) => Scan::Fault(k),
-        Front::Next(n) => {
-            let h = shape_at(src, at, arities);
-            let subterms = h.subterms;
-            let deeper = depth + h.binds;
-            let t = get(src, at);
-            if subterms == 0 {
-                return Scan::End(n, combine(t, passed(), passed()));
-            }
-            let one = scan_term(src, n, deeper, free, arities, counted);
-            match one {
-                Scan::Fault(k) => Scan::Fault(k),
-                Scan::End(e, p) => {
-                    if subterms == 1 {
-                        return Scan::End(e, combine(t, p, passed()));
-                    }
-                    let two = scan_term(src, e, deeper, free, arities, counted);
-                    match two {
-                        Scan::Fault(k) => Scan::Fault(k),
-                        Scan::End(last, q) => Scan::End(last, combine(t, p, q)),
-                    }
-                }
-            }
-        }
+    let n = scan_front(src, at, depth, free, arities, counted)?;
+    let h = shape_at(src, at, arities);
+    let subterms = h.subterms;
+    let deeper = depth + h.binds;
+    let t = get(src, at);
+    if subterms == 0 {
+        return Ok((n, combine(t, passed(), passed())));
     }
+    let (e, p) = scan_term(src, n, deeper, free, arities, counted)?;
+    if subterms == 1 {
+        return Ok((e, combine(t, p, passed())));
+    }
+    let (last, q) = scan_term(src, e, deeper, free, arities, counted)?;
+    Ok((last, combine(t, p, q)))
 }
 
 // A whole body or part: nothing may follow its term.
-pub fn scan_whole(src: &[u8], depth: usize, free: usize, arities: &[u8], counted: bool) -> Scan
+pub fn scan_whole(
+    src: &[u8],
+    depth: usize,
+    free: usize,
+    arities: &[u8],
+    counted: bool,
+) -> Result<Control, Refusal>
     requires { depth ≤ 255 }
     ensures { scanned_whole (edition_from counted) free arities.now depth src.now ≡ whole_answer result }
 {
-    let r = scan_term(src, 0, depth, free, arities, counted);
-    match r {
-        Scan::Fault(k) => Scan::Fault(k),
-        Scan::End(e, c) => {
-            if e < src.len() {
-                return Scan::Fault(7);
-            }
-            Scan::End(e, c)
-        }
+    let (e, c) = scan_term(src, 0, depth, free, arities, counted)?;
+    if e < src.len() {
+        return Err(Refusal::Grammar);
     }
+    Ok(c)
 }

@@ -2,7 +2,7 @@
 ghost use Rattle.std.specs.Prelude.{true, ◌≡◌};
 ghost use Rattle.terms_tidied.specs.TidiedBodies.{HasTidied, HasBody, TidiesBody, MayTidyBodies, TidiesBodies, WritesTidied};
 
-use terms_bytes::bytes::copy;
+use terms_bytes::bytes::{copy, put_size};
 use terms_bytes::frame::{after_field, arities, definitions, field_at, field_place};
 use terms_tidying::tidied::is_tidied;
 use terms_tidying::tidy::{Ends, tidy};
@@ -14,13 +14,11 @@ pub fn has_tidied_bodies(question: &[u8]) -> bool
     let list = arities(question);
     let last = definitions(question);
     let mut at = field_place(question, 0);
-    let mut definition = 0;
-    while definition < last {
+    for definition in 0..last {
         if !is_tidied(field_at(question, at), list) {
             return false;
         }
         at = after_field(question, at);
-        definition += 1;
     }
     true
 }
@@ -33,8 +31,7 @@ fn tidy_body(question: &[u8], at: usize, list: &[u8], out: &mut [u8], put: usize
     let e = tidy(field_at(question, at), 0, list, out, put + 2);
     let end = e.written;
     let n = end - (put + 2);
-    out[put] = (n / 256) as u8;
-    out[put + 1] = (n % 256) as u8;
+    put_size(out, put, n);
     end
 }
 
@@ -47,11 +44,9 @@ fn tidy_all(question: &[u8], out: &mut [u8]) -> Ends
     let last = definitions(question);
     let mut at = field_place(question, 0);
     let mut put = at;
-    let mut k = 0;
-    while k < last {
+    for k in 0..last {
         put = tidy_body(question, at, list, out, put);
         at = after_field(question, at);
-        k += 1;
     }
     Ends {
         read: at,

@@ -21,8 +21,8 @@ use Rattle.terms_bytes.specs.Shape.{own_names, binders, subterms, fixed_at, name
 use Rattle.terms_bytes.specs.declared.shape.Shape.{Shape}
 use Rattle.terms_bytes.proofs.Shapes.{all-at, encode_all, AllInScope, names_scope, subterms_scope, front_of, shape_binds, shape_parts, span-names, length_front, front-inside, at_most_two}
 use Rattle.terms_bytes.proofs.Stores.{span, length-span, get_d_span}
-use Rattle.terms_tidying.specs.TidiedTerms.{Keeps, KeepsBytes, FrontOf, NextFrontIs, FollowIs, IsTidiedIs}
-use Rattle.terms_tidying.specs.declared.tidied.NextFront.{NextFront}
+use Rattle.terms_tidying.specs.TidiedTerms.{Keeps, KeepsBytes, FrontOf, NextFront, FollowIs, IsTidiedIs}
+use Rattle.terms_bytes.specs.declared.shape.Front.{Front}
 use Rattle.terms_tidying.specs.declared.tidied.Place.{Place}
 use Rattle.terms_restrictions.proofs.UnusedWalk.{or_false, or_neither, among-append, among-bytes, among-parts, used_by, none_short, first_byte_lem, behind}
 
@@ -46,33 +46,25 @@ keeps_one depth b waits named inner l x t = get_or-set_other waits (depth - 1 - 
         let n : true ≡ false = sym o ∙ (or_neither (eqb (128 + (b - 128)) b) false (t (b - 128) (omega arith))).0 in
         let z : ◌≡◌ {A = ℕ} 0 1 = cc in omega arith
 
-pub keeps_more : (s : List ℕ) (at n depth i : ℕ) (u v w : List ℕ) → at + n ≤ length s → i < n → KeepsBytes depth (take i (span s at n)) u v
-    → KeepsBytes depth (get_or s (at + i) 0 ∷ []) v w → KeepsBytes depth (take (i + 1) (span s at n)) u w
-keeps_more s at n depth i u v w fit l a b =
-    keeps_then depth (λ k. among (take i (span s at n)) (128 + k)) (λ k. among (get_or s (at + i) 0 ∷ []) (128 + k))
-    (λ k. among (take (i + 1) (span s at n)) (128 + k)) u v w a b
-    (λ k t. or_neither (among (take i (span s at n)) (128 + k)) (among (get_or s (at + i) 0 ∷ []) (128 + k))
-    (sym (among-append (take i (span s at n)) (get_or s (at + i) 0 ∷ []) (128 + k)) ∙ sym (ap (λ (xs : List ℕ). among xs (128 + k)) more) ∙ t))
+pub keeps_more : (xs : List ℕ) (depth i : ℕ) (u v w : List ℕ) → i < length xs → KeepsBytes depth (take i xs) u v
+    → KeepsBytes depth (get_or xs i 0 ∷ []) v w → KeepsBytes depth (take (i + 1) xs) u w
+keeps_more xs depth i u v w l a b =
+    keeps_then depth (λ k. among (take i xs) (128 + k)) (λ k. among (get_or xs i 0 ∷ []) (128 + k))
+    (λ k. among (take (i + 1) xs) (128 + k)) u v w a b
+    (λ k t. or_neither (among (take i xs) (128 + k)) (among (get_or xs i 0 ∷ []) (128 + k))
+    (sym (among-append (take i xs) (get_or xs i 0 ∷ []) (128 + k)) ∙ sym (ap (λ (ys : List ℕ). among ys (128 + k)) more) ∙ t))
   where
-    more : take (i + 1) (span s at n) ≡ take i (span s at n) ++ (get_or s (at + i) 0 ∷ [])
-    more = rw (add-one, take-suc (span s at n) i 0 (omega (arith, length-span s at n fit)), get_d_span s at n i l)
+    more : take (i + 1) xs ≡ take i xs ++ (get_or xs i 0 ∷ [])
+    more = rw (add-one, take-suc xs i 0 l)
 
 -- The front by its first byte, and what was used of the names that the bytes have room for.
-pub front-none : (s : List ℕ) (at : ℕ) (arities : List ℕ) (depth : ℕ) (waits : List ℕ) (h : NextFront) → FrontOf 0 0 0 h
-    → ((free d : ℕ) (P : Term) (rest : List ℕ) → InScope free arities d P → drop at s ≡ encode d P ++ rest → ⊥)
-    → NextFrontIs s at arities depth waits h waits
-front-none s at arities depth waits h of never = record {
-  few = omega (arith, of.len);
-  one = omega (arith, of.binds);
-  is = λ free d P rest few scope e h. absurd (never free d P rest scope e);
-}
-
-front-used : (s : List ℕ) (at : ℕ) (arities : List ℕ) (depth : ℕ) (waits : List ℕ) (sh : Shape) (waits' : List ℕ) (h : NextFront) → at < length s
+front-used : (s : List ℕ) (at : ℕ) (arities : List ℕ) (depth : ℕ) (waits : List ℕ) (sh : Shape) (waits' : List ℕ) (h : Front) → at < length s
     → ShapeIs s at arities sh → FrontOf (sh.fixed + sh.names) sh.binds sh.subterms h
     → (at + (sh.fixed + sh.names) ≤ length s → KeepsBytes depth (span s (at + sh.fixed) sh.names) waits waits')
-    → NextFrontIs s at arities depth waits h waits'
+    → NextFront s at arities depth waits h waits'
 unfolding Keeps
 front-used s at arities depth waits sh waits' h inside is of used = record {
+  some = omega (arith, of.len, is.some);
   few = omega (arith, of.len, is.few);
   one = omega (arith, of.binds, is.one);
   is = λ free d P rest few scope e low.
@@ -113,8 +105,8 @@ module _ (s : List ℕ) (at : ℕ) (arities : List ℕ) (inside : at < length s)
   pub call_none : length s < at + (2 + n) → (free d : ℕ) (P : Term) (rest : List ℕ) → InScope free arities d P → drop at s ≡ encode d P ++ rest → ⊥
   call_none short = none_short s at arities (record { fixed = 2; names = n; binds = 0; subterms = 0 }) call_shape inside short
 
-  pub call-used : (depth : ℕ) (waits waits' : List ℕ) (h : NextFront) → FrontOf (2 + n) 0 0 h → KeepsBytes depth (span s (at + 2) n) waits waits'
-      → NextFrontIs s at arities depth waits h waits'
+  pub call-used : (depth : ℕ) (waits waits' : List ℕ) (h : Front) → FrontOf (2 + n) 0 0 h → KeepsBytes depth (span s (at + 2) n) waits waits'
+      → NextFront s at arities depth waits h waits'
   call-used depth waits waits' h of used =
       front-used s at arities depth waits (record { fixed = 2; names = n; binds = 0; subterms = 0 }) waits' h inside call_shape of (λ fit. used)
 
@@ -128,9 +120,9 @@ only_match : (t : ℕ) → 3 ≤ t → t ≤ 5 → ¬ (t ≡ 3) → ¬ (t ≡ 4)
 only_match t l h a b = omega arith
 
 -- A prefix, or what has no names.
-module _ (s : List ℕ) (at : ℕ) (arities : List ℕ) (depth : ℕ) (waits waits' : List ℕ) (h : NextFront) (inside : at < length s) where
+module _ (s : List ℕ) (at : ℕ) (arities : List ℕ) (depth : ℕ) (waits waits' : List ℕ) (h : Front) (inside : at < length s) where
   front_at : (t : ℕ) → get_or s at 0 ≡ t → ¬ (t ≡ 9) → FrontOf (1 + names_behind t) (binders_at t) (subterms_at t) h
-      → (at + (1 + names_behind t) ≤ length s → KeepsBytes depth (span s (at + 1) (names_behind t)) waits waits') → NextFrontIs s at arities depth waits h waits'
+      → (at + (1 + names_behind t) ≤ length s → KeepsBytes depth (span s (at + 1) (names_behind t)) waits waits') → NextFront s at arities depth waits h waits'
   unfolding fixed_at names_at binders_at
   front_at t e n of used =
       front-used s at arities depth waits (record { fixed = 1; names = names_behind t; binds = binders_at t; subterms = subterms_at t }) waits' h inside
@@ -145,7 +137,7 @@ module _ (s : List ℕ) (at : ℕ) (arities : List ℕ) (depth : ℕ) (waits wai
       }) of used
 
   pub front_one : (t : ℕ) → get_or s at 0 ≡ t → ¬ (t ≡ 9) → names_behind t ≡ 1 → FrontOf 2 (binders_at t) (subterms_at t) h → (x : ℕ) → x ≡ get_or s (at + 1) 0
-      → KeepsBytes depth (x ∷ []) waits waits' → NextFrontIs s at arities depth waits h waits'
+      → KeepsBytes depth (x ∷ []) waits waits' → NextFront s at arities depth waits h waits'
   front_one t e n z of x q used = front_at t e n (rw z of) (λ fit. rw (z, span_one s (at + 1) (omega (arith, z)), ← q) used)
 
   module _ (x y : ℕ) (first : x ≡ get_or s (at + 1) 0) (second : y ≡ get_or s (at + 2) 0) (u : List ℕ) (a : KeepsBytes depth (x ∷ []) waits u)
@@ -156,21 +148,21 @@ module _ (s : List ℕ) (at : ℕ) (arities : List ℕ) (depth : ℕ) (waits wai
         keeps_then depth (λ k. among (x ∷ []) (128 + k)) (λ k. among (y ∷ []) (128 + k)) (λ k. among (x ∷ y ∷ []) (128 + k)) waits u waits' a b
         (λ k q. let (g, r) = or_neither (eqb (128 + k) x) (eqb (128 + k) y || false) q in (or_false (eqb (128 + k) x) ∙ g, r))
 
-    front_two : (t : ℕ) → get_or s at 0 ≡ t → ¬ (t ≡ 9) → names_behind t ≡ 2 → FrontOf 3 (binders_at t) (subterms_at t) h → NextFrontIs s at arities depth waits h waits'
+    front_two : (t : ℕ) → get_or s at 0 ≡ t → ¬ (t ≡ 9) → names_behind t ≡ 2 → FrontOf 3 (binders_at t) (subterms_at t) h → NextFront s at arities depth waits h waits'
     front_two t e n z of = front_at t e n (rw z of) (λ fit. rw (z, span_two s at (omega (arith, z)), ← first, ← second) both)
 
     -- an output or a match: no other byte is left
     pub front-last : (t : ℕ) → get_or s at 0 ≡ t → ¬ (t ≡ 0) → ¬ (t ≡ 1) → ¬ (t ≡ 2) → ¬ (t ≡ 4) → ¬ (t ≡ 6) → ¬ (t ≡ 7) → ¬ (t ≡ 8) → ¬ (t ≡ 9) → t ≤ 9
-        → FrontOf 3 0 1 h → NextFrontIs s at arities depth waits h waits'
+        → FrontOf 3 0 1 h → NextFront s at arities depth waits h waits'
     unfolding binders_at subterms_at
     front-last t e n0 n1 n2 n4 n6 n7 n8 n9 l of = go (eqb t 3) refl
       where
-        go : (q : Bool) → eqb t 3 ≡ q → NextFrontIs s at arities depth waits h waits'
+        go : (q : Bool) → eqb t 3 ≡ q → NextFront s at arities depth waits h waits'
         go true q = front_two 3 (e ∙ eqb-true t 3 q) (λ z. omega arith) refl of
         go false q = front_two 5 (e ∙ only_match t (above t n0 n1 n2) (below t n6 n7 n8 n9 l) (eqb-false t 3 q) n4) (λ z. omega arith) refl of
 
-pub front_plain : (s : List ℕ) (at : ℕ) (arities : List ℕ) (depth : ℕ) (waits : List ℕ) (h : NextFront) → at < length s → (t : ℕ) → get_or s at 0 ≡ t → ¬ (t ≡ 9)
-    → names_behind t ≡ 0 → FrontOf 1 (binders_at t) (subterms_at t) h → NextFrontIs s at arities depth waits h waits
+pub front_plain : (s : List ℕ) (at : ℕ) (arities : List ℕ) (depth : ℕ) (waits : List ℕ) (h : Front) → at < length s → (t : ℕ) → get_or s at 0 ≡ t → ¬ (t ≡ 9)
+    → names_behind t ≡ 0 → FrontOf 1 (binders_at t) (subterms_at t) h → NextFront s at arities depth waits h waits
 front_plain s at arities depth waits h inside t e n z of =
     front_at s at arities depth waits waits h inside t e n (rw z of) (λ fit. keeps_none depth (λ i. among (span s (at + 1) (names_behind t)) (128 + i)) waits)
 
@@ -434,7 +426,7 @@ module _ (s arities : List ℕ) where
           ))
 
   module _ (at depth pending : ℕ) (depths waits : List ℕ) (inside : at < length s) (W : Walking at depth pending depths waits)
-      (h : NextFront) (waits₁ : List ℕ) (F : NextFrontIs s at arities depth waits h waits₁) (room : depth < length waits₁) (idle : ¬ (get_or waits₁ depth 0 ≡ 1))
+      (h : Front) (waits₁ : List ℕ) (F : NextFront s at arities depth waits h waits₁) (room : depth < length waits₁) (idle : ¬ (get_or waits₁ depth 0 ≡ 1))
       (r : Place) (depths₁ : List ℕ) (N : FollowIs h.subterms (depth + h.binds) pending depths r depths₁) (fits : pending < length depths) where
     next : (free d : ℕ) (P : Term) → free ≤ table_names → (w : WalksOn free d P at depth pending depths waits) (p : Ahead) (ps : List Ahead) → w.ahead ≡ p ∷ ps
         → WalksOn free d P (at + h.len) r.depth r.pending depths₁ (set waits₁ depth (cond (eqb (get_or s at 0) 8) 1 0))

@@ -26,9 +26,10 @@ use Rattle.terms_bytes.proofs.NameTables.{byte_bound, byte_free}
 use Rattle.terms_bytes.proofs.Shapes.{encode_all, encode-parts, AllInScope, subterms_scope, front_of, shape_parts, length_front, at_most_two}
 use Rattle.terms_bytes.proofs.Stores.{span, sets-join, sets-start}
 use Rattle.terms_renaming.specs.Renaming.{RenameIs}
-use Rattle.terms_tidying.specs.Tidying.{longest_raw, CopiedFrontIs, Tidied, TidiedBeneath}
+use Rattle.terms_tidying.specs.Tidying.{longest_raw, CopiedFront, Tidied, TidiedBeneath}
 use Rattle.terms_restrictions.specs.Unused.{binds_nothing, BindsNothing}
-use Rattle.terms_tidying.specs.declared.tidy.CopiedFront.{CopiedFront}
+use Rattle.terms_bytes.specs.declared.shape.Front.{Front}
+use Rattle.terms_renaming.specs.Renaming.{NoTerm}
 use Rattle.terms_tidying.specs.declared.tidy.Ends.{Ends}
 use Rattle.terms_restrictions.proofs.UnusedWalk.{behind, size-behind}
 
@@ -173,16 +174,6 @@ kept-parts d (res P) k = ap (encode d) (restrict-used (tidy P) (free_tidy 0 P (k
 kept-parts d (call c ns) k = encode-parts d (call c ns)
 
 -- The front.
-pub front-none : (s : List ℕ) (at : ℕ) (arities area : List ℕ) (put : ℕ)
-    → ((free d : ℕ) (P : Term) (rest : List ℕ) → InScope free arities d P → drop at s ≡ encode d P ++ rest → put + length (encode d P) ≤ length area → ⊥)
-    → CopiedFrontIs s at arities area put (record { len = 0; subterms = 0 }) area
-front-none s at arities area put never = record {
-  inside = omega arith;
-  room = omega arith;
-  step = omega arith;
-  is = λ free d P rest scope e room. absurd (never free d P rest scope e room);
-}
-
 pub none_full : (s : List ℕ) (at : ℕ) (arities area : List ℕ) (put : ℕ) (h : Shape) → ShapeIs s at arities h → length area < put + (h.fixed + h.names)
     → (free d : ℕ) (P : Term) (rest : List ℕ) → InScope free arities d P → drop at s ≡ encode d P ++ rest → put + length (encode d P) ≤ length area → ⊥
 none_full s at arities area put h is short free d P rest scope e room =
@@ -194,7 +185,7 @@ none_full s at arities area put h is short free d P rest scope e room =
 
 pub front-copied : (s : List ℕ) (at : ℕ) (arities area : List ℕ) (put : ℕ) (h : Shape) (out₁ : List ℕ) → ShapeIs s at arities h
     → at + (h.fixed + h.names) ≤ length s → put + (h.fixed + h.names) ≤ length area → out₁ ≡ sets area put (span s at (h.fixed + h.names))
-    → CopiedFrontIs s at arities area put (record { len = h.fixed + h.names; subterms = h.subterms }) out₁
+    → CopiedFront s at arities area put (record { len = h.fixed + h.names; binds = h.binds; subterms = h.subterms }) out₁
 front-copied s at arities area put h out₁ is fs fo w = record {
   inside = omega arith;
   room = omega arith;
@@ -209,8 +200,14 @@ front-copied s at arities area put h out₁ is fs fo w = record {
       );
 }
 
+-- No front, and so no term.
+pub tidied_nowhere : (s : List ℕ) (at : ℕ) (arities area : List ℕ) (put : ℕ) (r : Ends) (area' : List ℕ) → NoTerm s at arities area put
+    → Tidied s at arities area put r area'
+unfolding Tidied
+tidied_nowhere s at arities area put r area' never free d P rest few scope st deep long room = absurd (never free d P rest scope st room)
+
 -- The walk of a term whose front is copied.
-module _ (s : List ℕ) (at : ℕ) (arities area : List ℕ) (put : ℕ) (h : CopiedFront) (out₁ : List ℕ) (F : CopiedFrontIs s at arities area put h out₁)
+module _ (s : List ℕ) (at : ℕ) (arities area : List ℕ) (put : ℕ) (h : Front) (out₁ : List ℕ) (F : CopiedFront s at arities area put h out₁)
     (keeps : StaysOn s at arities) where
   module _ (free d : ℕ) (P : Term) (rest : List ℕ) (few : free ≤ table_names) (scope : InScope free arities d P) (st : drop at s ≡ encode d P ++ rest)
       (room : put + length (encode d P) ≤ length area) where

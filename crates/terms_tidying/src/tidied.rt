@@ -1,8 +1,9 @@
 // Whether a term is tidied already, in one walk from front to front.
-ghost use Rattle.std.specs.Prelude.{cond, [], ◌∷◌, ◌≡◌, ◌+◌, ◌<◌, ◌≤◌, eqb, length, get_or, take, drop};
+ghost use Rattle.std.specs.Prelude.{cond, [], ◌∷◌, ◌≡◌, ◌<◌, ◌≤◌, eqb, length, get_or};
 ghost use Rattle.terms_tidying.specs.TidiedTerms.{KeepsBytes, FrontOf, NextFrontIs, FollowIs, IsTidiedIs};
 
 use terms_bytes::bytes::{get, room};
+use terms_bytes::shape::Front;
 use terms_bytes::tags::{CALL, CHOICE, INACTION, INPUT, NEW_OUTPUT, PARALLEL, RESTRICTION, SILENT};
 use terms_restrictions::occurs::occurs;
 
@@ -24,30 +25,20 @@ fn use_name(b: u8, depth: usize, waits: &mut [u8])
     waits[depth - 1 - inner] = 0;
 }
 
-// The same of `n` names.
-fn use_names(src: &[u8], at: usize, n: usize, depth: usize, waits: &mut [u8])
-    requires { (at + n ≤ length src.now) × (depth ≤ length waits.old) }
-    ensures { KeepsBytes depth (take n (drop at src.now)) waits.old waits.new }
+// The same of several names.
+fn use_names(names: &[u8], depth: usize, waits: &mut [u8])
+    requires { depth ≤ length waits.old }
+    ensures { KeepsBytes depth names.now waits.old waits.new }
 {
-    let mut i = 0;
-    while i < n {
-        use_name(src[at + i], depth, waits);
-        i += 1;
+    for x in names {
+        use_name(*x, depth, waits);
     }
 }
 
-// What the walk needs to know of a front: its length, binders and subterms.
-#[derive(Clone, Copy)]
-pub struct NextFront {
-    pub len: usize,
-    pub binds: usize,
-    pub subterms: usize,
-}
-
-fn front(len: usize, binds: usize, subterms: usize) -> NextFront
+fn front(len: usize, binds: usize, subterms: usize) -> Front
     ensures { FrontOf len binds subterms result }
 {
-    NextFront {
+    Front {
         len,
         binds,
         subterms,
@@ -55,55 +46,61 @@ fn front(len: usize, binds: usize, subterms: usize) -> NextFront
 }
 
 // The call at `at`, whose names are used.
-fn use_call(src: &[u8], at: usize, arities: &[u8], depth: usize, waits: &mut [u8]) -> NextFront
+fn use_call(src: &[u8], at: usize, arities: &[u8], depth: usize, waits: &mut [u8]) -> Option<Front>
     requires { (at < length src.now) × (get_or src.now at 0 ≡ 9) × (depth ≤ length waits.old) }
     ensures { NextFrontIs src.now at arities.now depth waits.old result waits.new }
 {
     let k = get(src, at + 1) as usize;
     let n = get(arities, k) as usize;
     if !room(src.len(), at, 2 + n) {
-        return front(0, 0, 0);
+        return None;
     }
-    use_names(src, at + 2, n, depth, waits);
-    front(2 + n, 0, 0)
+    use_names(&src[at + 2..at + (2 + n)], depth, waits);
+    Some(front(2 + n, 0, 0))
 }
 
 // The front of the term at `at`, whose names are used. The tests are its own: by `shape_at` the walk takes 1.4 times the instructions.
-fn next_front(src: &[u8], at: usize, arities: &[u8], depth: usize, waits: &mut [u8]) -> NextFront
+fn next_front(
+    src: &[u8],
+    at: usize,
+    arities: &[u8],
+    depth: usize,
+    waits: &mut [u8],
+) -> Option<Front>
     requires { (at < length src.now) × (depth ≤ length waits.old) }
     ensures { NextFrontIs src.now at arities.now depth waits.old result waits.new }
 {
     let t = get(src, at);
     if t == INACTION {
-        return front(1, 0, 0);
+        return Some(front(1, 0, 0));
     }
     if t == SILENT {
-        return front(1, 0, 1);
+        return Some(front(1, 0, 1));
     }
     if t == CHOICE {
-        return front(1, 0, 2);
+        return Some(front(1, 0, 2));
     }
     if t == PARALLEL {
-        return front(1, 0, 2);
+        return Some(front(1, 0, 2));
     }
     if t == RESTRICTION {
-        return front(1, 1, 1);
+        return Some(front(1, 1, 1));
     }
     if t == CALL {
         return use_call(src, at, arities, depth, waits);
     }
     if CALL < t {
-        return front(0, 0, 0);
+        return None;
     }
     use_name(get(src, at + 1), depth, waits);
     if t == INPUT {
-        return front(2, 1, 1);
+        return Some(front(2, 1, 1));
     }
     if t == NEW_OUTPUT {
-        return front(2, 1, 1);
+        return Some(front(2, 1, 1));
     }
     use_name(get(src, at + 2), depth, waits);
-    front(3, 0, 1)
+    Some(front(3, 0, 1))
 }
 
 // How many binders stand around a term, and how many second subterms are still to come behind it.
@@ -142,10 +139,7 @@ fn follow(subterms: usize, depth: usize, pending: usize, depths: &mut [u8]) -> P
 fn waiting(t: u8) -> u8
     ensures { result ≡ cond (eqb t 8) 1 0 }
 {
-    if t == RESTRICTION {
-        return 1;
-    }
-    0
+    if t == RESTRICTION { 1 } else { 0 }
 }
 
 // Whether the name of each restriction of the term that `src` is is used. One that waits at the depth of a further front has come to its end.
@@ -158,15 +152,14 @@ fn all_used(src: &[u8], arities: &[u8]) -> bool
     let mut depth = 0;
     let mut pending = 0;
     let mut at = 0;
+    // The step is the front's length, so no range or iterator takes it.
     while at < src.len() {
         if BINDERS <= depth {
             return false;
         }
-        let h = next_front(src, at, arities, depth, &mut waits);
-        let n = h.len;
-        if n == 0 {
+        let Some(h) = next_front(src, at, arities, depth, &mut waits) else {
             return false;
-        }
+        };
         if waits[depth] == 1 {
             return false;
         }
@@ -174,7 +167,7 @@ fn all_used(src: &[u8], arities: &[u8]) -> bool
         let p = follow(h.subterms, depth + h.binds, pending, &mut depths);
         depth = p.depth;
         pending = p.pending;
-        at += n;
+        at += h.len;
     }
     !occurs(&waits, 1)
 }

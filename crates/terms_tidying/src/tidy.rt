@@ -4,7 +4,7 @@ ghost use Rattle.terms_tidying.specs.Tidying.{CopiedFrontIs, TidiedIs, TidiedBen
 
 use terms_bytes::bytes::{copy, room};
 use terms_bytes::limits::TABLE_NAMES;
-use terms_bytes::shape::shape_at;
+use terms_bytes::shape::{Front, shape_at};
 use terms_renaming::rename::rename;
 use terms_restrictions::unused::binds_nothing;
 
@@ -23,12 +23,6 @@ const OUTSIDE: [u8; TABLE_NAMES + 129] = [
     249, 250, 251, 252, 253, 254, 255,
 ];
 
-#[derive(Clone, Copy)]
-pub struct CopiedFront {
-    pub len: usize,
-    pub subterms: usize,
-}
-
 // Where the term ends that was read, and where the bytes end that were written.
 #[derive(Clone, Copy)]
 pub struct Ends {
@@ -36,37 +30,29 @@ pub struct Ends {
     pub written: usize,
 }
 
-// Copies the front of the term at `at` to `put`.
-fn copy_front(src: &[u8], at: usize, arities: &[u8], out: &mut [u8], put: usize) -> CopiedFront
+// Copies the front of the term at `at` to `put`; none where it is not all there, or doesn't fit.
+fn copy_front(src: &[u8], at: usize, arities: &[u8], out: &mut [u8], put: usize) -> Option<Front>
     ensures { CopiedFrontIs src.now at arities.now out.old put result out.new }
 {
     if src.len() <= at {
-        return CopiedFront {
-            len: 0,
-            subterms: 0,
-        };
+        return None;
     }
     let h = shape_at(src, at, arities);
     let fixed = h.fixed;
     let names = h.names;
     let n = fixed + names;
     if !room(src.len(), at, n) {
-        return CopiedFront {
-            len: 0,
-            subterms: 0,
-        };
+        return None;
     }
     if !room(out.len(), put, n) {
-        return CopiedFront {
-            len: 0,
-            subterms: 0,
-        };
+        return None;
     }
     copy(src, at, n, out, put);
-    CopiedFront {
+    Some(Front {
         len: n,
+        binds: h.binds,
         subterms: h.subterms,
-    }
+    })
 }
 
 // The term at `at`, which stands beneath a restriction that binds nothing, tidied outside of it.
@@ -105,7 +91,12 @@ pub fn tidy(src: &[u8], at: usize, arities: &[u8], out: &mut [u8], put: usize) -
     if binds_nothing(src, at, arities) {
         return tidy_unrestricted(src, at + 1, arities, out, put);
     }
-    let h = copy_front(src, at, arities, out, put);
+    let Some(h) = copy_front(src, at, arities, out, put) else {
+        return Ends {
+            read: at,
+            written: put,
+        };
+    };
     let n = h.len;
     let subterms = h.subterms;
     if subterms == 0 {

@@ -14,12 +14,11 @@ use Rattle.field.specs.Exploration.{found}
 use Rattle.field_slots.specs.Key.{key_at, FoundIs}
 use Rattle.field.specs.Situation.{Situation}
 use Rattle.field_pairs.specs.Slot.{key_of, key_bytes, struck_at, LeftAtIs}
-use Rattle.field_slots.specs.declared.find.Found.{Found}
-use Rattle.field_slots.specs.declared.find.Found.TheVariants.{At, Nothing}
+use Rattle.std.specs.Prelude.{Option, Some, None, is_some}
 use Rattle.field.proofs.Unseen.{∈-found, found-∈}
 use Rattle.field.proofs.Members.{get_d_∈}
 use Rattle.field_growth.proofs.KeysDiffer.{slot_key}
-use Rattle.verdict_answers.specs.Striking.{left_of, marks, Standing, left_at, LeftIs, is_at}
+use Rattle.verdict_answers.specs.Striking.{left_of, marks, Standing, left_at, LeftIs}
 use Rattle.verdict_answers.proofs.Living.{living-at, at-living}
 use Rattle.verdict_answers.proofs.Marks.{length-marks, marks-at}
 
@@ -60,42 +59,42 @@ module _ {capacity : ℕ} (work : List ℕ) (known : List Situation) (st : Stand
           ∙ sym k
       go false k = dies (found (left_of work known) s) refl k ∙ sym k
 
-no_slot : {X : Type 0} (i : ℕ) → ◌≡◌ {A = Found} Nothing (At i) → X
+no_slot : {X : Type 0} (i : ℕ) → ◌≡◌ {A = Option ℕ} None (Some i) → X
 no_slot i e = let z : ◌≡◌ {A = ℕ} 0 1 = cc in absurd (omega arith)
 
 -- find_left
 module _ (capacity : ℕ) (work : List ℕ) (count : ℕ) (key : List ℕ) where
   -- the slot that was found, by its byte
-  module _ (k : ℕ) (r : Bool) (f : FindsIn capacity work count key (At k)) (l : LeftAtIs work k r) where
-    left_there : (x : Found) → cond r (At k) Nothing ≡ x → Chained capacity work count → (i : ℕ)
+  module _ (k : ℕ) (r : Bool) (f : FindsIn capacity work count key (Some k)) (l : LeftAtIs work k r) where
+    left_there : (x : Option ℕ) → cond r (Some k) None ≡ x → Chained capacity work count → (i : ℕ)
         → ((j : ℕ) → j < count → key_at work j ≡ take key_bytes key → j ≡ i) → x ≡ left_at work i
     unfolding FoundIs LeftAtIs left_at
     left_there x e C i only =
         let (h, q) = f.is C in
-        sym e ∙ ap (λ b. cond b (At k) Nothing) l ∙ ap (left_at work) (only k h q)
+        sym e ∙ ap (λ b. cond b (Some k) None) l ∙ ap (left_at work) (only k h q)
 
-    pub found_left : r ≡ true → LeftIs capacity work count key (At k)
-    found_left e = record { within = f.within; is = λ C i m q. left_there (At k) (ap (λ b. cond b (At k) Nothing) e) C i }
+    pub found_left : r ≡ true → LeftIs capacity work count key (Some k)
+    found_left e = record { within = f.within; is = λ C i m q. left_there (Some k) (ap (λ b. cond b (Some k) None) e) C i }
 
-    pub found_struck : r ≡ false → LeftIs capacity work count key Nothing
-    found_struck e = record { within = λ i z. no_slot i z; is = λ C i m q. left_there Nothing (ap (λ b. cond b (At k) Nothing) e) C i }
+    pub found_struck : r ≡ false → LeftIs capacity work count key None
+    found_struck e = record { within = λ i z. no_slot i z; is = λ C i m q. left_there None (ap (λ b. cond b (Some k) None) e) C i }
 
-  pub nothing_left : FindsIn capacity work count key Nothing → LeftIs capacity work count key Nothing
+  pub nothing_left : FindsIn capacity work count key None → LeftIs capacity work count key None
   unfolding FoundIs
   nothing_left f = record { within = f.within; is = λ C i m q only. absurd (f.is C i m q) }
 
-pub left-test : (work : List ℕ) (i : ℕ) → is_at (left_at work i) ≡ eqb (get_or work (struck_at i) 0) 0
-unfolding is_at left_at
+pub left-test : (work : List ℕ) (i : ℕ) → is_some (left_at work i) ≡ eqb (get_or work (struck_at i) 0) 0
+unfolding left_at
 left-test work i = go (eqb (get_or work (struck_at i) 0) 0)
   where
-    go : (b : Bool) → is_at (cond b (At i) Nothing) ≡ b
+    go : (b : Bool) → is_some (cond b (Some i) None) ≡ b
     go true = refl
     go false = refl
 
-pub left-slot : (work : List ℕ) (i j : ℕ) → left_at work i ≡ At j → i ≡ j
+pub left-slot : (work : List ℕ) (i j : ℕ) → left_at work i ≡ Some j → i ≡ j
 unfolding left_at
 left-slot work i j e = go (eqb (get_or work (struck_at i) 0) 0) e
   where
-    go : (b : Bool) → cond b (At i) Nothing ≡ At j → i ≡ j
+    go : (b : Bool) → cond b (Some i) None ≡ Some j → i ≡ j
     go true q = cc
     go false q = no_slot j q

@@ -6,4 +6,4 @@ pub mod Marks
 mod LotLaws
 mod RunLaws
 mod SideLaws
-mod Sweeping
+pub mod Sweeping

@@ -5,6 +5,7 @@ use mathlib.Core.Logic.{inl, inr}
 use mathlib.Core.Path.{◌≡◌, refl, sym, ap, ◌∙◌, subst}
 use native.Mathlib.Decide.{ℕ_discrete}
 use native.Mathlib.Omega.{arith}
+use Rattle.std.specs.Prelude.{Option, Some, None, is_some}
 use Prim.Native.Nat.{ℕ, zero, suc, ◌+◌, ◌-◌, ◌*◌, ◌<◌, ◌≤◌}
 use lib.Dec.{ltb}
 use lib.ListN.{get_or, take}
@@ -30,19 +31,17 @@ use Rattle.field_pairs.specs.PairFlags.{AllowedIs}
 use Rattle.field_pairs.specs.Slot.{slot_bytes, key_bytes}
 use Rattle.field_slots.specs.Chains.{Chained}
 use Rattle.field_slots.specs.Key.{SituationAt, key_at}
-use Rattle.field_slots.specs.declared.find.Found.{Found}
-use Rattle.field_slots.specs.declared.find.Found.TheVariants.{At, Nothing}
 use Rattle.field_successors.specs.Leading.{placed, leading, SuccessorIs}
 use Rattle.field_growth.proofs.GrowingLaws.{whole_key}
 use Rattle.field_growth.proofs.KeysDiffer.{slot_key}
 use Rattle.verdict.specs.Verdict.{all_found}
 use Rattle.verdict.proofs.Rounds.{true_not_false}
 use Rattle.verdict_notes.specs.Notes.{Has, Few, Numbers, Within, WithIs}
-use Rattle.verdict_answers.specs.Striking.{left_of, left_at, LeftIs, is_at, counted, lot_of, some_of, asked, CountsIs, AskedIs, StepAndReply, NumberIn, LotLeftIs}
+use Rattle.verdict_answers.specs.Striking.{left_of, left_at, LeftIs, counted, lot_of, some_of, asked, CountsIs, AskedIs, StepAndReply, NumberIn, LotLeftIs}
 use Rattle.verdict_notes.specs.declared.relied.Relied.{Relied}
 use Rattle.verdict_answers.proofs.Demands.{all_left, one_gone}
 use Rattle.verdict_answers.proofs.LeftLaws.{left-found, left-test, left-slot}
-use Rattle.verdict_answers.proofs.Sweeping.{within_itself, within_then}
+use Rattle.verdict_answers.proofs.Sweeping.{none_not_some, same_some, within_itself, within_then}
 
 -- The names of a run.
 pub names_in : (n k y : ℕ) → n ≤ y → y < n + k → y ∈ names_from n k
@@ -168,14 +167,14 @@ module _ (arities : List ℕ) (capacity : ℕ) (work : List ℕ) (count : ℕ) (
       (in_answers c.differ name_count (placed second) F D c.side.replies c.step z c.reply c.theirs a))
 
   -- what the code finds for one name
-  module _ (name : ℕ) (key : List ℕ) (x : Found) (k : SuccessorIs arities free apart second area at others place name key) (l : LeftIs capacity work count key x)
+  module _ (name : ℕ) (key : List ℕ) (x : Option ℕ) (k : SuccessorIs arities free apart second area at others place name key) (l : LeftIs capacity work count key x)
       (c : Both) (a : Answers c) (i : name ∈ lot c) where
     abbrev here : Situation
     here = reached c name
 
     record NameIs : Type 0 where
-      is : is_at x ≡ found (left c) here
-      there : (n : ℕ) → x ≡ At n → (d : Situation) → get_or c.side.known n d ≡ here
+      is : is_some x ≡ found (left c) here
+      there : (n : ℕ) → x ≡ Some n → (d : Situation) → get_or c.side.known n d ≡ here
 
     name_is : NameIs
     unfolding SuccessorIs
@@ -192,7 +191,7 @@ module _ (arities : List ℕ) (capacity : ℕ) (work : List ℕ) (count : ℕ) (
         l.is (subst (Chained capacity work) c.side.number st.chained) m.0 (omega (arith, m.1, c.side.number)) there
         (λ j b q. st.once j m.0 (omega (arith, c.side.number)) m.1 (q ∙ sym there)) in
         record {
-          is = ap is_at z ∙ left-test work m.0 ∙ sym (left-found work known st m.0 here here m.1 (sym (m.2 here)));
+          is = ap is_some z ∙ left-test work m.0 ∙ sym (left-found work known st m.0 here here m.1 (sym (m.2 here)));
           there = λ n y d. ap (λ j. get_or known j d) (sym (left-slot work m.0 n (sym z ∙ y))) ∙ sym (m.2 d);
         }
 
@@ -224,45 +223,44 @@ module _ (arities : List ℕ) (capacity : ℕ) (work : List ℕ) (count : ℕ) (
         out : (c : Both) → name ∈ lot c → ⊥
         out c i = true_not_false (n c.side.names c.step c.side.names_free c.entry ∙ (of_lot from to (names c) c.step name i).2) e
 
-    module _ (key : List ℕ) (x : Found) (k : SuccessorIs arities free apart second area at others place name key) (l : LeftIs capacity work count key x) where
-      pub lot-more : (r : Relied) (j : ℕ) (r' : Relied) → x ≡ At j → WithIs r j r' → LotSwept before r name → LotSwept before r' (name + 1)
-      unfolding is_at
+    module _ (key : List ℕ) (x : Option ℕ) (k : SuccessorIs arities free apart second area at others place name key) (l : LeftIs capacity work count key x) where
+      pub lot-more : (r : Relied) (j : ℕ) (r' : Relied) → x ≡ Some j → WithIs r j r' → LotSwept before r name → LotSwept before r' (name + 1)
       lot-more r j r' e w s = record {
         numbers = w.numbers;
         more = within_then s.more w.more;
-        found_all = below_more _ name s.found_all (λ c a i. sym (name_is name key x k l c a i).is ∙ ap is_at e);
+        found_all = below_more _ name s.found_all (λ c a i. sym (name_is name key x k l c a i).is ∙ ap is_some e);
         relies = below_more _ name
             (λ y h f c a i. let (n, b, g, z) = s.relies y h (w.more.few f) c a i in (n, b, w.more.has f n g, z))
             (λ f c a i. (j, omega (arith, l.within j e, c.side.number), w.has f, (name_is name key x k l c a i).there j e));
       }
 
-      pub lot-fails : from ≤ name → name < to → b ≡ true → (t : Bool) → AnswersIs area at others place t → t ≡ true → x ≡ Nothing → Numbers before
-          → LotLeftIs arities capacity work count free apart second area at others place from to before (record { all = false; relied = before })
-      unfolding AnswersIs CountsIs is_at
-      lot-fails g h on t q p e m = record {
+      pub lot-fails : from ≤ name → name < to → b ≡ true → (t : Bool) → AnswersIs area at others place t → t ≡ true → x ≡ None
+          → LotLeftIs arities capacity work count free apart second area at others place from to before None
+      unfolding AnswersIs CountsIs
+      lot-fails g h on t q p e = record {
         is = λ c.
             let a : Answers c = sym (q c.step c.reply c.entry c.entry₂) ∙ p in
             let i : name ∈ lot c = in_lot from to (names c) c.step name g h (sym (n c.side.names c.step c.side.names_free c.entry) ∙ on) in
             sym (rw a (one_gone (left c) (map (reached c) (lot c)) (reached c name) (∈-map (reached c) name (lot c) i)
-            (sym (name_is name key x k l c a i).is ∙ ap is_at e)));
-        numbers = m;
-        more = within_itself before;
-        relies = λ z. true_not_false z refl;
+            (sym (name_is name key x k l c a i).is ∙ ap is_some e)));
+        numbers = λ s z. none_not_some s z;
+        more = λ s z. none_not_some s z;
+        relies = λ s z. none_not_some s z;
       }
 
   module _ (t : Bool) (q : AnswersIs area at others place t) where
-    pub lot-none : (before : Relied) → t ≡ false → Numbers before
-        → LotLeftIs arities capacity work count free apart second area at others place from to before (record { all = false; relied = before })
+    pub lot-none : (before : Relied) → t ≡ false
+        → LotLeftIs arities capacity work count free apart second area at others place from to before None
     unfolding AnswersIs
-    lot-none before e m = record {
+    lot-none before e = record {
       is = λ c. ap (λ b. b && all_found (left c) (map (reached c) (lot c))) (sym e ∙ q c.step c.reply c.entry c.entry₂);
-      numbers = m;
-      more = within_itself before;
-      relies = λ z. true_not_false z refl;
+      numbers = λ s z. none_not_some s z;
+      more = λ s z. none_not_some s z;
+      relies = λ s z. none_not_some s z;
     }
 
     pub lot-all : (before r : Relied) (name : ℕ) → t ≡ true → to ≤ name → LotSwept before r name
-        → LotLeftIs arities capacity work count free apart second area at others place from to before (record { all = true; relied = r })
+        → LotLeftIs arities capacity work count free apart second area at others place from to before (Some r)
     unfolding AnswersIs
     lot-all before r name e h s = record {
       is = λ c.
@@ -270,9 +268,10 @@ module _ (arities : List ℕ) (capacity : ℕ) (work : List ℕ) (count : ℕ) (
           sym (rw a (all_left (left c) (map (reached c) (lot c)) (λ u i.
           let (y, j, d) = map-∈ (reached c) u (lot c) i in
           subst (λ u. found (left c) u ≡ true) (sym d) (s.found_all y (below c y j) c a j))));
-      numbers = s.numbers;
-      more = s.more;
-      relies = λ z f c y i. s.relies y (below c y i) f c (answers_is c) i;
+      numbers = λ u z. same_some Numbers r u z s.numbers;
+      more = λ u z. same_some (Within before) r u z s.more;
+      relies = λ u z. same_some (λ u. Few u → (c : Both) (y : ℕ) → y ∈ lot c → NumberIn (Has u) c.side.known (reached c y)) r u z
+          (λ f c y i. s.relies y (below c y i) f c (answers_is c) i);
     }
       where
         answers_is : (c : Both) → Answers c

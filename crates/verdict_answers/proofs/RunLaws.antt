@@ -4,6 +4,7 @@ use mathlib.Core.List.{List, [], ◌∷◌, map}
 use mathlib.Core.Logic.{inl, inr}
 use mathlib.Core.Path.{◌≡◌, refl, sym, ap, ◌∙◌, subst}
 use native.Mathlib.Omega.{arith}
+use Rattle.std.specs.Prelude.{Option, Some, None}
 use Prim.Native.Nat.{ℕ, ◌+◌, ◌-◌, ◌<◌, ◌≤◌}
 use lib.Dec.{ltb}
 use borrow.Author.Tests.{lt-ltb, le-ltb}
@@ -33,7 +34,6 @@ use Rattle.verdict_notes.specs.Notes.{Numbers}
 use Rattle.verdict_answers.specs.declared.manner.Manner.{Manner}
 use Rattle.verdict_answers.specs.declared.manner.Manner.TheVariants.{Open, Late, Early}
 use Rattle.verdict_notes.specs.declared.relied.Relied.{Relied}
-use Rattle.verdict_answers.specs.declared.answered.Answered.{Answered}
 use Rattle.verdict_answers.proofs.DemandedMoves.{some-received}
 use Rattle.verdict_answers.proofs.LotLaws.{in_names, of_lot, counted-received, some_there}
 use Rattle.verdict_answers.proofs.Sweeping.{same-demands, Swept, swept_none, swept_more, swept_fails, swept_all}
@@ -197,7 +197,7 @@ module _ (arities : List ℕ) (capacity : ℕ) (work : List ℕ) (count : ℕ) (
       let k = ∈-number s p.steps i in
       subst (λ s. s.object < name_count) (sym (k.2 s)) (p.mine.objects k.0 s (omega (arith, k.1, p.mine.number)))
 
-  module _ (manner : Manner) (r : Answered) where
+  module _ (manner : Manner) (r : Option Relied) where
     pub answered-openly : manner ≡ Open → RunAnsweredIs name_count (name_count + 1) arities capacity work count free apart second area n others m before r
         → SideAnsweredIs (manner_of manner) arities capacity work count free apart second area n others m before r
     unfolding manner_of differs ReliesOn
@@ -232,24 +232,23 @@ module _ (arities : List ℕ) (capacity : ℕ) (work : List ℕ) (count : ℕ) (
   pub early_none : Numbers before → EarlySwept before 0
   early_none = swept_none {C = Named} work (λ p. p.known) for_name before
 
-  module _ (r : Relied) (name : ℕ) (b : name < name_count) (a : Answered)
+  module _ (r : Relied) (name : ℕ) (b : name < name_count) (a : Option Relied)
       (h : RunAnsweredIs name (name + 1) arities capacity work count free apart second area n others m r a) where
     this : AnsweredIs Named work (λ p. p.known) (for_name name) r a
     this = subst (λ d. AnsweredIs (Side d arities capacity work count free apart second area n others m) work (λ p. p.known)
         (λ p. run_demands d name (name + 1) second (free_from p.names 0 name_count) p.pairs p.steps p.replies) r a) (lt-ltb name name_count b) h
 
-    pub early_more : a.all ≡ true → EarlySwept r name → EarlySwept a.relied (name + 1)
-    early_more = swept_more {C = Named} work (λ p. p.known) for_name before r name a this
+    pub early_more : (s : Relied) → a ≡ Some s → EarlySwept r name → EarlySwept s (name + 1)
+    early_more s = swept_more {C = Named} work (λ p. p.known) for_name before r name a s this
 
-    pub early_fails : a.all ≡ false → EarlySwept r name
-        → SideAnsweredIs (manner_of Early) arities capacity work count free apart second area n others m before (record { all = false; relied = a.relied })
+    pub early_fails : a ≡ None → SideAnsweredIs (manner_of Early) arities capacity work count free apart second area n others m before None
     unfolding manner_of differs
     early_fails = swept_fails {C = Named} work (λ p. p.known) for_name
         (λ p. side_demands (named early) second (free_from p.names 0 name_count) p.pairs p.steps p.replies) before r name
         (λ p. of_early second p.names p.pairs p.replies p.steps (small_objects p) name b) a this
 
   pub early_all : (r : Relied) (name : ℕ) → name_count ≤ name → EarlySwept r name
-      → SideAnsweredIs (manner_of Early) arities capacity work count free apart second area n others m before (record { all = true; relied = r })
+      → SideAnsweredIs (manner_of Early) arities capacity work count free apart second area n others m before (Some r)
   unfolding manner_of differs
   early_all r name h = swept_all {C = Named} work (λ p. p.known) for_name
       (λ p. side_demands (named early) second (free_from p.names 0 name_count) p.pairs p.steps p.replies) before r name

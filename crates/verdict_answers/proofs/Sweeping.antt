@@ -3,6 +3,7 @@ use mathlib.Core.Bool.{Bool, true, false}
 use mathlib.Core.List.{List, []}
 use mathlib.Core.Path.{◌≡◌, refl, sym, ap, ◌∙◌, subst}
 use native.Mathlib.Omega.{arith}
+use Rattle.std.specs.Prelude.{Option, Some, None, is_some}
 use Prim.Native.Nat.{ℕ, ◌+◌, ◌<◌}
 use borrow.Author.Count.{below_more}
 use Rattle.calculus.specs.Lists.{◌∈◌}
@@ -10,10 +11,16 @@ use Rattle.field.specs.Situation.{Situation}
 use Rattle.verdict.specs.Verdict.{all_answered}
 use Rattle.verdict.proofs.Rounds.{true_not_false}
 use Rattle.verdict_notes.specs.Notes.{Has, Few, Numbers, Within}
-use Rattle.verdict_answers.specs.Striking.{left_of, ReliesOn, AnsweredIs}
+use Rattle.verdict_answers.specs.Striking.{left_of, NumberIn, SomeAnswer, ReliesOn, AnsweredIs}
 use Rattle.verdict_notes.specs.declared.relied.Relied.{Relied}
-use Rattle.verdict_answers.specs.declared.answered.Answered.{Answered}
 use Rattle.verdict_answers.proofs.Demands.{each-answered, member-answered, fewer_answered, same-answered}
+
+-- nothing is said of what is not there, and what is there is one
+pub none_not_some : {A : Type 0} (s : Relied) → ◌≡◌ {A = Option Relied} None (Some s) → A
+none_not_some s q = let z : ◌≡◌ {A = ℕ} 0 1 = cc in absurd (omega arith)
+
+pub same_some : (P : Relied → Type 0) (r s : Relied) → ◌≡◌ {A = Option Relied} (Some r) (Some s) → P r → P s
+same_some P r s q = let z : r ≡ s = cc in subst P z
 
 pub within_itself : (r : Relied) → Within r r
 within_itself r = record { few = λ f. f; has = λ f j x. x }
@@ -28,28 +35,28 @@ relies_more known ds w f a m i = let (l, j, x) = a m i in (l, j, λ t k. let (n,
 module _ {C : Type 0} (work : List ℕ) (known : C → List Situation) where
   -- the same demands in another order
   pub same-demands : (ds es : C → List (List (List Situation))) → ((c : C) (m : List (List Situation)) → m ∈ ds c → m ∈ es c)
-      → ((c : C) (m : List (List Situation)) → m ∈ es c → m ∈ ds c) → (before : Relied) (r : Answered) → AnsweredIs C work known ds before r → AnsweredIs C work known es before r
+      → ((c : C) (m : List (List Situation)) → m ∈ es c → m ∈ ds c) → (before : Relied) (r : Option Relied) → AnsweredIs C work known ds before r → AnsweredIs C work known es before r
   unfolding ReliesOn
   same-demands ds es to from before r a = record {
     is = λ c. a.is c ∙ same-answered (left_of work (known c)) (ds c) (es c) (to c) (from c);
     numbers = a.numbers;
     more = a.more;
-    relies = λ e f c m i. a.relies e f c m (from c m i);
+    relies = λ s e f c m i. a.relies s e f c m (from c m i);
   }
 
   -- two lots of demands
   pub demands_fail : (ds es : C → List (List (List Situation))) → ((c : C) (m : List (List Situation)) → m ∈ ds c → m ∈ es c)
-      → (before : Relied) (r : Answered) → AnsweredIs C work known ds before r → r.all ≡ false → AnsweredIs C work known es before (record { all = false; relied = r.relied })
-  demands_fail ds es to before r a e = record {
+      → (before first : Relied) (r : Option Relied) → AnsweredIs C work known ds before r → r ≡ None → AnsweredIs C work known es first None
+  demands_fail ds es to before first r a e = record {
     is = λ c. sym (fails c (all_answered (left_of work (known c)) (es c)) refl);
-    numbers = a.numbers;
-    more = a.more;
-    relies = λ q. true_not_false q refl;
+    numbers = λ s q. none_not_some s q;
+    more = λ s q. none_not_some s q;
+    relies = λ s q. none_not_some s q;
   }
     where
       fails : (c : C) (b : Bool) → all_answered (left_of work (known c)) (es c) ≡ b → all_answered (left_of work (known c)) (es c) ≡ false
       fails c false q = q
-      fails c true q = true_not_false (fewer_answered (left_of work (known c)) (es c) (ds c) (to c) q) (sym (a.is c) ∙ e)
+      fails c true q = true_not_false (fewer_answered (left_of work (known c)) (es c) (ds c) (to c) q) (sym (a.is c) ∙ ap is_some e)
 
   -- those of the numbers below i are answered
   module _ (D : ℕ → C → List (List (List Situation))) where
@@ -76,29 +83,30 @@ module _ {C : Type 0} (work : List ℕ) (known : C → List Situation) where
       relies = below_more _ i s.relies (λ f c m j. absurd (subst (λ ds. m ∈ ds) (e c) j));
     }
 
-    pub swept_more : (before r : Relied) (i : ℕ) (a : Answered) → AnsweredIs C work known (D i) r a → a.all ≡ true → Swept before r i → Swept before a.relied (i + 1)
-    swept_more before r i a h e s = record {
-      every_answer = below_more _ i s.every_answer (λ c. sym (h.is c) ∙ e);
-      numbers = h.numbers;
-      more = within_then s.more h.more;
-      relies = below_more _ i (λ k b f c. relies_more (known c) (D k c) h.more f (s.relies k b (h.more.few f) c)) (h.relies e);
-    }
+    pub swept_more : (before r : Relied) (i : ℕ) (a : Option Relied) (t : Relied) → AnsweredIs C work known (D i) r a → a ≡ Some t → Swept before r i → Swept before t (i + 1)
+    swept_more before r i a t h e s =
+        let more = h.more t e in
+        record {
+          every_answer = below_more _ i s.every_answer (λ c. sym (h.is c) ∙ ap is_some e);
+          numbers = h.numbers t e;
+          more = within_then s.more more;
+          relies = below_more _ i (λ k b f c. relies_more (known c) (D k c) more f (s.relies k b (more.few f) c)) (h.relies t e);
+        }
 
     module _ (ds : C → List (List (List Situation))) where
-      pub swept_fails : (before r : Relied) (i : ℕ) → ((c : C) (m : List (List Situation)) → m ∈ D i c → m ∈ ds c) → (a : Answered) → AnsweredIs C work known (D i) r a → a.all ≡ false
-          → Swept before r i → AnsweredIs C work known ds before (record { all = false; relied = a.relied })
-      swept_fails before r i to a h e s =
-          let d = demands_fail (D i) ds to r a h e in
-          record { is = d.is; numbers = d.numbers; more = within_then s.more d.more; relies = d.relies }
+      pub swept_fails : (before r : Relied) (i : ℕ) → ((c : C) (m : List (List Situation)) → m ∈ D i c → m ∈ ds c) → (a : Option Relied) → AnsweredIs C work known (D i) r a → a ≡ None
+          → AnsweredIs C work known ds before None
+      swept_fails before r i to a h e = demands_fail (D i) ds to r before a h e
 
       pub swept_all : (before r : Relied) (i : ℕ) → ((c : C) (m : List (List Situation)) → m ∈ ds c → (k : ℕ) × (k < i) × (m ∈ D k c)) → Swept before r i
-          → AnsweredIs C work known ds before (record { all = true; relied = r })
+          → AnsweredIs C work known ds before (Some r)
       unfolding ReliesOn
       swept_all before r i from s = record {
         is = λ c. sym (each-answered (left_of work (known c)) (ds c) (λ m j.
             let (k, b, x) = from c m j in
             member-answered (left_of work (known c)) (D k c) (s.every_answer k b c) m x));
-        numbers = s.numbers;
-        more = s.more;
-        relies = λ e f c m j. let (k, b, x) = from c m j in s.relies k b f c m x;
+        numbers = λ t q. same_some Numbers r t q s.numbers;
+        more = λ t q. same_some (Within before) r t q s.more;
+        relies = λ t q. same_some (λ t. Few t → (c : C) (m : List (List Situation)) → m ∈ ds c → SomeAnswer (NumberIn (Has t) (known c)) m) r t q
+            (λ f c m j. let (k, b, x) = from c m j in s.relies k b f c m x);
       }

@@ -1,6 +1,6 @@
 -- Strike-out in the work area (document 01, "The field and the verdict", and request 2026-02): which situations are left, and what the code promises
 -- of them, in each manner of judging.
-use Rattle.std.specs.Prelude.{Bool, true, false, cond, ◌&&◌, ◌||◌, List, [], ◌∷◌, map, ◌≡◌, ℕ, zero, suc, ◌+◌, ◌-◌, ◌*◌, ◌<◌, ◌≤◌, eqb, ltb, length, get_or, set, take}
+use Rattle.std.specs.Prelude.{Bool, true, false, cond, ◌&&◌, ◌||◌, List, [], ◌∷◌, map, ◌≡◌, ℕ, zero, suc, ◌+◌, ◌-◌, ◌*◌, ◌<◌, ◌≤◌, eqb, ltb, length, get_or, set, take, Option, Some, None, is_some}
 use Rattle.calculus.specs.Cond.{Pairs}
 use Rattle.calculus.specs.Distinction.{Irr, among}
 use Rattle.terms.specs.Answer.{result}
@@ -26,14 +26,11 @@ use Rattle.field.specs.Situation.{Situation, free_from, same_situation}
 use Rattle.field_pairs.specs.Slot.{flags_of, key_bytes, slot_bytes, struck_at}
 use Rattle.field.specs.Successors.{select, answers, allowed, received, moves, leads, successors}
 use Rattle.field_growth.specs.Below.{ListAt}
-use Rattle.field_slots.specs.declared.find.Found.{Found}
-use Rattle.field_slots.specs.declared.find.Found.TheVariants.{At, Nothing}
 use Rattle.verdict.specs.Judge.{greatest_capacity}
 use Rattle.verdict.specs.Received.{named_moves}
 use Rattle.verdict.specs.Verdict.{Manner, openly, named, differs, demands_of, all_found, all_answered}
 use Rattle.verdict_notes.specs.Notes.{NotedIn, Has, Few, Numbers, Within, SoleStruckIs}
 use Rattle.verdict_notes.specs.declared.relied.Relied.{Relied}
-use Rattle.verdict_answers.specs.declared.answered.Answered.{Answered}
 use Rattle.verdict_answers.specs.declared.answered.Search.{Search}
 use Rattle.verdict_answers.specs.declared.answered.SideLists.{SideLists}
 use Rattle.verdict_answers.specs.declared.answered.SideRun.{SideRun}
@@ -82,18 +79,14 @@ pub record Standing (capacity : ℕ) (work : List ℕ) (known : List Situation) 
   pub exact : (s t : Situation) → s ∈ known → t ∈ known → same_situation s t ≡ true → s ≡ t
 
 -- slot i, if it is left
-unfoldable pub left_at : List ℕ → ℕ → Found
-left_at work i = cond (eqb (get_or work (struck_at i) 0) 0) (At i) Nothing
+unfoldable pub left_at : List ℕ → ℕ → Option ℕ
+left_at work i = cond (eqb (get_or work (struck_at i) 0) 0) (Some i) None
 
 -- Where the key stands in one slot of the first `count`, and these are chained; one of them in any case.
-pub record LeftIs (capacity : ℕ) (work : List ℕ) (count : ℕ) (key : List ℕ) (r : Found) : Type 0 where
-  pub within : (i : ℕ) → r ≡ At i → i < count
+pub record LeftIs (capacity : ℕ) (work : List ℕ) (count : ℕ) (key : List ℕ) (r : Option ℕ) : Type 0 where
+  pub within : (i : ℕ) → r ≡ Some i → i < count
   pub is : Chained capacity work count → (i : ℕ) → i < count → key_at work i ≡ take key_bytes key
       → ((j : ℕ) → j < count → key_at work j ≡ take key_bytes key → j ≡ i) → r ≡ left_at work i
-
-unfoldable pub is_at : Found → Bool
-is_at (At i) = true
-is_at Nothing = false
 
 -- The code goes over runs of names, `from` to `to` without it: openly the number behind the names, late all names, early one name at a time. Of a run
 -- count that number and the names that the step receives.
@@ -178,17 +171,17 @@ pub record StepAndReply (arities : List ℕ) (capacity : ℕ) (work : List ℕ) 
 abbrev pub NumberIn : (ℕ → Type 0) → List Situation → Situation → Type 0
 NumberIn H known t = (j : ℕ) × (j < length known) × H j × ((d : Situation) → get_or known j d ≡ t)
 
--- Whether the reply answers the step and every situation that it leads to is left, and that r has those.
-pub record LotLeftIs (arities : List ℕ) (capacity : ℕ) (work : List ℕ) (count : ℕ) (free apart : List ℕ) (second : Bool) (area : List ℕ) (at : ℕ) (others : List ℕ) (place from to : ℕ) (before : Relied) (r : Answered) : Type 0 where
+-- What is relied on, where the reply answers the step and every situation that it leads to is left: it has those, too.
+pub record LotLeftIs (arities : List ℕ) (capacity : ℕ) (work : List ℕ) (count : ℕ) (free apart : List ℕ) (second : Bool) (area : List ℕ) (at : ℕ) (others : List ℕ) (place from to : ℕ) (before : Relied) (r : Option Relied) : Type 0 where
   pub is : (c : StepAndReply arities capacity work count free apart second area at others place from to)
       → (let F = free_from c.side.names 0 name_count in
-      r.all ≡ (answers name_count c.step c.reply
+      is_some r ≡ (answers name_count c.step c.reply
       && all_found (left_of work c.side.known) (map (leading second F c.side.pairs c.step c.reply) (lot_of from to F c.step))))
-  pub numbers : Numbers r.relied
-  pub more : Within before r.relied
-  pub relies : r.all ≡ true → Few r.relied → (c : StepAndReply arities capacity work count free apart second area at others place from to)
+  pub numbers : (s : Relied) → r ≡ Some s → Numbers s
+  pub more : (s : Relied) → r ≡ Some s → Within before s
+  pub relies : (s : Relied) → r ≡ Some s → Few s → (c : StepAndReply arities capacity work count free apart second area at others place from to)
       → (let F = free_from c.side.names 0 name_count in
-      (y : ℕ) → y ∈ lot_of from to F c.step → NumberIn (Has r.relied) c.side.known (leading second F c.side.pairs c.step c.reply y))
+      (y : ℕ) → y ∈ lot_of from to F c.step → NumberIn (Has s) c.side.known (leading second F c.side.pairs c.step c.reply y))
 
 -- an answer all of whose situations have X answers the demand
 abbrev pub SomeAnswer : (Situation → Type 0) → List (List Situation) → Type 0
@@ -198,20 +191,20 @@ SomeAnswer X m = (l : List Situation) × (l ∈ m) × ((t : Situation) → t ∈
 unfoldable pub ReliesOn : (ℕ → Type 0) → List Situation → List (List (List Situation)) → Type 0
 ReliesOn H known ms = (m : List (List Situation)) → m ∈ ms → SomeAnswer (NumberIn H known) m
 
--- Whether those left answer each demand, and what that relies on, beside what was relied on before.
-pub record AnsweredIs (C : Type 0) (work : List ℕ) (known : C → List Situation) (demands : C → List (List (List Situation))) (before : Relied) (r : Answered) : Type 0 where
-  pub is : (c : C) → r.all ≡ all_answered (left_of work (known c)) (demands c)
-  pub numbers : Numbers r.relied
-  pub more : Within before r.relied
-  pub relies : r.all ≡ true → Few r.relied → (c : C) → ReliesOn (Has r.relied) (known c) (demands c)
+-- What is relied on beside what was before, where those left answer each demand.
+pub record AnsweredIs (C : Type 0) (work : List ℕ) (known : C → List Situation) (demands : C → List (List (List Situation))) (before : Relied) (r : Option Relied) : Type 0 where
+  pub is : (c : C) → is_some r ≡ all_answered (left_of work (known c)) (demands c)
+  pub numbers : (s : Relied) → r ≡ Some s → Numbers s
+  pub more : (s : Relied) → r ≡ Some s → Within before s
+  pub relies : (s : Relied) → r ≡ Some s → Few s → (c : C) → ReliesOn (Has s) (known c) (demands c)
 
 -- the demands of a run of names, and those of one side
-abbrev pub RunAnsweredIs : ℕ → ℕ → List ℕ → ℕ → List ℕ → ℕ → List ℕ → List ℕ → Bool → List ℕ → ℕ → List ℕ → ℕ → Relied → Answered → Type 0
+abbrev pub RunAnsweredIs : ℕ → ℕ → List ℕ → ℕ → List ℕ → ℕ → List ℕ → List ℕ → Bool → List ℕ → ℕ → List ℕ → ℕ → Relied → Option Relied → Type 0
 RunAnsweredIs from to arities capacity work count free apart second area n others m before r =
     AnsweredIs (Side (ltb from name_count) arities capacity work count free apart second area n others m) work (λ p. p.known)
     (λ p. run_demands (ltb from name_count) from to second (free_from p.names 0 name_count) p.pairs p.steps p.replies) before r
 
-abbrev pub SideAnsweredIs : Manner → List ℕ → ℕ → List ℕ → ℕ → List ℕ → List ℕ → Bool → List ℕ → ℕ → List ℕ → ℕ → Relied → Answered → Type 0
+abbrev pub SideAnsweredIs : Manner → List ℕ → ℕ → List ℕ → ℕ → List ℕ → List ℕ → Bool → List ℕ → ℕ → List ℕ → ℕ → Relied → Option Relied → Type 0
 SideAnsweredIs manner arities capacity work count free apart second area n others m before r =
     AnsweredIs (Side (differs manner) arities capacity work count free apart second area n others m) work (λ p. p.known)
     (λ p. side_demands manner second (free_from p.names 0 name_count) p.pairs p.steps p.replies) before r
@@ -271,10 +264,10 @@ Relies manner question capacity work count i H =
     (f : FieldIn manner question capacity work count) (d : Situation) (ms : List (List Situation)) → LeadsTo f i d ms
     → ReliesOn H f.known (demands_at manner f.read (get_or f.known i d) ms)
 
-pub record ExaminedIs (manner : Manner) (question : List ℕ) (capacity : ℕ) (work : List ℕ) (count i : ℕ) (r : Answered) : Type 0 where
-  pub is : AllAnsweredIs manner question capacity work count i r.all
-  pub numbers : Numbers r.relied
-  pub relies : r.all ≡ true → Few r.relied → Relies manner question capacity work count i (Has r.relied)
+pub record ExaminedIs (manner : Manner) (question : List ℕ) (capacity : ℕ) (work : List ℕ) (count i : ℕ) (r : Option Relied) : Type 0 where
+  pub is : AllAnsweredIs manner question capacity work count i (is_some r)
+  pub numbers : (s : Relied) → r ≡ Some s → Numbers s
+  pub relies : (s : Relied) → r ≡ Some s → Few s → Relies manner question capacity work count i (Has s)
 
 -- What is noted is enough for each situation to rely on.
 unfoldable pub AllNoted : Manner → List ℕ → ℕ → List ℕ → ℕ → Type 0
@@ -340,9 +333,9 @@ pub record PassIs (examine : Bool) (manner : Manner) (question : List ℕ) (capa
   pub noted : NotesHold examine manner question capacity work' count
 
 -- The first situation that is struck out, of the first `count`.
-pub record FirstStruckIs (work : List ℕ) (count : ℕ) (r : Found) : Type 0 where
-  pub some : (i : ℕ) → r ≡ At i → (i < count) × (get_or work (struck_at i) 0 ≡ 0 → ⊥) × ((j : ℕ) → j < i → get_or work (struck_at j) 0 ≡ 0)
-  pub none : r ≡ Nothing → (i : ℕ) → i < count → get_or work (struck_at i) 0 ≡ 0
+pub record FirstStruckIs (work : List ℕ) (count : ℕ) (r : Option ℕ) : Type 0 where
+  pub some : (i : ℕ) → r ≡ Some i → (i < count) × (get_or work (struck_at i) 0 ≡ 0 → ⊥) × ((j : ℕ) → j < i → get_or work (struck_at j) 0 ≡ 0)
+  pub none : r ≡ None → (i : ℕ) → i < count → get_or work (struck_at i) 0 ≡ 0
 
 -- Whether the start is left, where none is left to strike out or the start is not left.
 pub record StartSurvivesIs (manner : Manner) (question : List ℕ) (capacity : ℕ) (work : List ℕ) (count : ℕ) (r : Bool) (work' : List ℕ) : Type 0 where

@@ -1,4 +1,4 @@
-// Whether the situations that are left answer each demand of one side (document 01, "The field and the verdict", and request 2026-02).
+// Whether the situations that are left answer each demand of one side, and on which of them that relies.
 ghost use Rattle.std.specs.Prelude.{◌+◌, ◌*◌, ◌<◌, ◌≤◌, length};
 ghost use Rattle.field_pairs.specs.Slot.{key_bytes, slot_bytes};
 ghost use Rattle.terms.specs.Limits.{name_count};
@@ -13,19 +13,11 @@ use field_pairs::entries::answers;
 use field_pairs::names::is_received;
 use field_pairs::pairs::{PAIR_COUNT, allowed};
 use field_slots::chains::find_chained;
-use field_slots::find::Found;
 use field_slots::slot::left_at;
 use field_successors::results::{Answering, successor};
 use steps_entries::limits::STEP_BYTES;
 use terms_bytes::limits::NAME_COUNT;
 use verdict_notes::relied::{Relied, relied_with};
-
-// Whether all demands are answered, and what that relies on.
-#[derive(Clone, Copy)]
-pub struct Answered {
-    pub all: bool,
-    pub relied: Relied,
-}
 
 // A search: how it judges, how many slots there are, and how many of them have situations.
 #[derive(Clone, Copy)]
@@ -61,20 +53,15 @@ pub struct StepReply {
 }
 
 // The slot of the situation with this key, of the first `count`, if it is left.
-fn find_left(work: &[u8], capacity: usize, count: usize, key: &[u8]) -> Found
+fn find_left(work: &[u8], capacity: usize, count: usize, key: &[u8]) -> Option<usize>
     requires { (1 ≤ capacity) × (count ≤ capacity) × (slot_bytes * capacity ≤ length work.now) × (key_bytes ≤ length key.now) }
     ensures { LeftIs capacity work.now count key.now result }
 {
-    let found = find_chained(work, capacity, count, key);
-    match found {
-        Found::Nothing => Found::Nothing,
-        Found::At(i) => {
-            if left_at(work, i) {
-                return Found::At(i);
-            }
-            Found::Nothing
-        }
+    let i = find_chained(work, capacity, count, key)?;
+    if !left_at(work, i) {
+        return None;
     }
+    Some(i)
 }
 
 // Whether `name` counts for the step at `at`: the number behind the names, which stands for none, or a name that the step receives.
@@ -103,18 +90,16 @@ fn is_asked(
     if !allowed(from < NAME_COUNT, apart, area, at) {
         return false;
     }
-    let mut name = from;
-    while name < to {
+    for name in from..to {
         if counts(free, area, at, name) {
             return true;
         }
-        name += 1;
     }
     false
 }
 
-// Whether the reply answers the step, and leads to a situation that is left for every name of the run that counts. What was relied on before is relied
-// on still, and those situations if they are left.
+// What is relied on, where the reply answers the step and leads to a situation that is left for every name of the run that counts: those situations
+// beside what was relied on before.
 fn lot_left(
     arities: &[u8],
     work: &[u8],
@@ -124,17 +109,14 @@ fn lot_left(
     others: &[u8],
     pair: StepReply,
     before: Relied,
-) -> Answered
+) -> Option<Relied>
     requires { Slots work.now pair.run.side.search × (pair.at + step_bytes ≤ length area.now) × (pair.place + step_bytes ≤ length others.now) × OfNames pair.run × Numbers before }
     ensures { LotLeftIs arities.now pair.run.side.search.capacity work.now pair.run.side.search.count free.now apart pair.run.side.second area.now pair.at others.now pair.place pair.run.from pair.run.to before result }
 {
     let at = pair.at;
     let place = pair.place;
     if !answers(area, at, others, place) {
-        return Answered {
-            all: false,
-            relied: before,
-        };
+        return None;
     }
     let run = pair.run;
     let from = run.from;
@@ -145,38 +127,25 @@ fn lot_left(
     let capacity = search.capacity;
     let count = search.count;
     let mut relied = before;
-    let mut name = from;
-    'names: while name < to {
-        let y = name;
-        name += 1;
-        if !counts(free, area, at, y) {
+    'names: for name in from..to {
+        if !counts(free, area, at, name) {
             continue 'names;
         }
         let answer = Answering {
             second,
             at,
             place,
-            name: y,
+            name,
         };
         let key = successor(arities, free, &apart, area, others, answer);
-        let found = find_left(work, capacity, count, &key);
-        match found {
-            Found::At(slot) => {
-                relied = relied_with(relied, slot);
-            }
-            Found::Nothing => {
-                return Answered {
-                    all: false,
-                    relied: before,
-                };
-            }
-        }
+        let slot = find_left(work, capacity, count, &key)?;
+        relied = relied_with(relied, slot);
     }
-    Answered { all: true, relied }
+    Some(relied)
 }
 
-// Whether each step of one side that is asked for the run of names has an answer that leads to situations that are left; what was relied on before
-// is relied on still.
+// What is relied on beside what was before, where each step of one side that is asked for the run of names has an answer that leads to situations that
+// are left.
 fn run_answered(
     arities: &[u8],
     work: &[u8],
@@ -186,7 +155,7 @@ fn run_answered(
     others: &[u8],
     run: SideRun,
     before: Relied,
-) -> Answered
+) -> Option<Relied>
     requires { SideIn work.now area.now others.now run.side × OfNames run × Numbers before }
     ensures { RunAnsweredIs run.from run.to arities.now run.side.search.capacity work.now run.side.search.count free.now apart run.side.second area.now run.side.steps others.now run.side.replies before result }
 {
@@ -196,31 +165,26 @@ fn run_answered(
     let n = side.steps;
     let m = side.replies;
     let mut relied = before;
-    let mut i = 0;
-    'steps: while i < n {
+    'steps: for i in 0..n {
         let at = STEP_BYTES * i;
-        i += 1;
         if !is_asked(free, &apart, area, at, from, to) {
             continue 'steps;
         }
-        let mut j = 0;
-        while j < m {
+        for j in 0..m {
             let place = STEP_BYTES * j;
             let pair = StepReply { run, at, place };
             let lot = lot_left(arities, work, free, apart, area, others, pair, relied);
-            let all = lot.all;
-            if all {
-                relied = lot.relied;
+            if let Some(more) = lot {
+                relied = more;
                 continue 'steps;
             }
-            j += 1;
         }
-        return Answered { all: false, relied };
+        return None;
     }
-    Answered { all: true, relied }
+    Some(relied)
 }
 
-// Whether those left answer each demand of one side early: each name has answers of its own.
+// What is relied on, where those left answer each demand of one side early: each name has answers of its own.
 fn side_early(
     arities: &[u8],
     work: &[u8],
@@ -230,31 +194,24 @@ fn side_early(
     others: &[u8],
     side: SideLists,
     before: Relied,
-) -> Answered
+) -> Option<Relied>
     requires { SideIn work.now area.now others.now side × Numbers before }
     ensures { SideAnsweredIs (manner_of Early) arities.now side.search.capacity work.now side.search.count free.now apart side.second area.now side.steps others.now side.replies before result }
 {
     let mut relied = before;
-    let mut name = 0;
-    while name < NAME_COUNT {
+    for name in 0..NAME_COUNT {
         let to = name + 1;
         let run = SideRun {
             side,
             from: name,
             to,
         };
-        let answered = run_answered(arities, work, free, apart, area, others, run, relied);
-        let all = answered.all;
-        relied = answered.relied;
-        if !all {
-            return Answered { all: false, relied };
-        }
-        name += 1;
+        relied = run_answered(arities, work, free, apart, area, others, run, relied)?;
     }
-    Answered { all: true, relied }
+    Some(relied)
 }
 
-// Whether those left answer each demand of one side: openly a run that is behind the names, late one of all names, for which one answer must do.
+// What is relied on, where those left answer each demand of one side: openly a run that is behind the names, late one of all names, for which one answer must do.
 pub fn side_answered(
     arities: &[u8],
     work: &[u8],
@@ -264,7 +221,7 @@ pub fn side_answered(
     others: &[u8],
     side: SideLists,
     before: Relied,
-) -> Answered
+) -> Option<Relied>
     requires { SideIn work.now area.now others.now side × Numbers before }
     ensures { SideAnsweredIs (manner_of side.search.manner) arities.now side.search.capacity work.now side.search.count free.now apart side.second area.now side.steps others.now side.replies before result }
 {

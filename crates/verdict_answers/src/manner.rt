@@ -1,9 +1,9 @@
-// How a question is judged: request 2026-02.
+// How a question is judged.
 ghost use Rattle.std.specs.Prelude.{◌≡◌};
 ghost use Rattle.verdict.specs.Verdict.{differs};
 ghost use Rattle.verdict_answers.specs.Manners.{manner_of};
 
-// By Definition 13, or, where all names differ, by Definitions 7 and 8, or 9 and 10.
+// By open bisimilarity, or, where all names differ, by late or by early bisimilarity.
 #[derive(Clone, Copy)]
 pub enum Manner {
     Open,

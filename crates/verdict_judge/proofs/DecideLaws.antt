@@ -27,8 +27,7 @@ use Rattle.field.specs.Setting.{Setting, setting_of}
 use Rattle.field.specs.Situation.{Situation, same_situation, start_of}
 use Rattle.field_pairs.specs.Slot.{slot_bytes, struck_at}
 use Rattle.field.specs.Successors.{leads, successors}
-use Rattle.field_exploration.specs.declared.explore.Explored.{Explored}
-use Rattle.field_exploration.specs.declared.explore.Explored.TheVariants.{Incomplete, Field}
+use Rattle.std.specs.Prelude.{Option, Some, None}
 use Rattle.field.proofs.Explored.{Rows, row_of}
 use Rattle.field.proofs.Link.{SettingFor}
 use Rattle.field.specs.Situation.{Proper}
@@ -38,11 +37,11 @@ use Rattle.field.proofs.Run.{selves}
 use Rattle.field.proofs.Unseen.{∈-found}
 use Rattle.field.proofs.Members.{get_d_∈}
 use Rattle.field_exploration.proofs.Below.{key_equal, slot_key}
-use Rattle.verdict_judge.specs.Judging.{judged_answer, DecidesIs}
+use Rattle.verdict_judge.specs.Judging.{verdict_told, DecidesIs}
 use Rattle.verdict_answers.specs.Striking.{left_of, marks, Standing, EqualParts, demands_at, LeadsToEqual, FieldIn, Searching, SurvivesIs, AllSole, Strikes, AllSurvive, StartSurvivesIs}
 use Rattle.verdict.specs.Verdict.{Manner, differs, demands_of, all_answered, same, different, decided, verdict_by}
-use Rattle.verdict_judge.specs.declared.judge.Judged.{Judged}
-use Rattle.verdict_judge.specs.declared.judge.Judged.TheVariants.{Unsettled, Same, Different}
+use Rattle.verdict_judge.specs.declared.judge.Verdict as told
+use Rattle.verdict_judge.specs.declared.judge.Verdict.TheVariants.{Unsettled, Same, Different}
 use Rattle.verdict_start.proofs.Below.{StrikesTo, NoneToStrike, survivors-left, same-found}
 use Rattle.verdict_judge.proofs.ByNumber.{distinct_number}
 use Rattle.verdict_start.proofs.Below.{equal_answered}
@@ -295,22 +294,22 @@ module _ (manner : Manner) (question : List ℕ) (q : Question) (accepted : chec
       ap (decided demands (start_of (differs manner) q)) field ∙ ap (λ b. cond b (same (length rs)) (different (length rs))) (start_verdict r v s)
 
 -- decide
-module _ (manner : Manner) (question : List ℕ) (capacity : ℕ) (work w : List ℕ) (x : Explored) (differ : Bool) (which : differ ≡ differs manner)
+module _ (manner : Manner) (question : List ℕ) (capacity : ℕ) (work w : List ℕ) (x : Option ℕ) (differ : Bool) (which : differ ≡ differs manner)
     (given : ExploreIs differ question capacity work x w) where
   e : ExploreIs (differs manner) question capacity work x w
   e = subst (λ d. ExploreIs d question capacity work x w) which given
 
-  pub unsettled_is : x ≡ Incomplete → DecidesIs manner question capacity work Unsettled w
-  unfolding judged_answer verdict_by decided Explores
+  pub unsettled_is : x ≡ None → DecidesIs manner question capacity work Unsettled w
+  unfolding verdict_told verdict_by decided Explores
   unsettled_is h = record { rest = e.rest; is = λ q a. go q (field_of (setting_of (differs manner) q.bodies) capacity (start_of (differs manner) q)) refl (e.is q a) }
     where
       go : (q : Question) (y : Exploration) → field_of (setting_of (differs manner) q.bodies) capacity (start_of (differs manner) q) ≡ y → Explores y x w
-          → judged_answer Unsettled ≡ result (verdict_by manner q capacity)
-      go q incomplete f k = sym (ap (λ y. result (decided (demands_of manner (setting_of (differs manner) q.bodies)) (start_of (differs manner) q) y)) f)
+          → verdict_told Unsettled ≡ verdict_by manner q capacity
+      go q incomplete f k = sym (ap (decided (demands_of manner (setting_of (differs manner) q.bodies)) (start_of (differs manner) q)) f)
       go q (explored rs) f k = let z : ◌≡◌ {A = ℕ} 0 1 = cc k.0 in absurd (omega arith)
 
   -- what is noted when strike-out begins
-  pub sole_all : (n : ℕ) → x ≡ Field n → slot_bytes * capacity ≤ length w → AllSole manner question capacity w n
+  pub sole_all : (n : ℕ) → x ≡ Some n → slot_bytes * capacity ≤ length w → AllSole manner question capacity w n
   unfolding AllSole Explores
   sole_all n h room i k l g f =
       go f.read f.accepted (field_of (setting_of (differs manner) f.read.bodies) capacity (start_of (differs manner) f.read)) refl (e.is f.read f.accepted) i k l g f
@@ -323,8 +322,8 @@ module _ (manner : Manner) (question : List ℕ) (capacity : ℕ) (work w : List
           subst (AllSole manner question capacity w) (sym z)
           (explored_sole manner question q a capacity rs f w k.1 k.2 (subst (Chained capacity w) z (e.chained q a n h)) (omega (arith, (e.within n h).1)) k.3)
 
-  module _ (n : ℕ) (h : x ≡ Field n) (room : slot_bytes * capacity ≤ length w) (r : Bool) (u : List ℕ) (s : StartSurvivesIs manner question capacity w n r u) where
-    settled : (o : Judged) → judged_answer o ≡ result (cond r (same n) (different n)) → DecidesIs manner question capacity work o u
+  module _ (n : ℕ) (h : x ≡ Some n) (room : slot_bytes * capacity ≤ length w) (r : Bool) (u : List ℕ) (s : StartSurvivesIs manner question capacity w n r u) where
+    settled : (o : told.Verdict) → verdict_told o ≡ cond r (same n) (different n) → DecidesIs manner question capacity work o u
     unfolding Explores
     settled o j = record {
       rest = strikes_rest manner question capacity n capacity (e.within n h).1 s.strikes ∙ e.rest;
@@ -332,18 +331,18 @@ module _ (manner : Manner) (question : List ℕ) (capacity : ℕ) (work w : List
     }
       where
         go : (q : Question) → check_of question ≡ result q → (y : Exploration) → field_of (setting_of (differs manner) q.bodies) capacity (start_of (differs manner) q) ≡ y → Explores y x w
-            → judged_answer o ≡ result (verdict_by manner q capacity)
+            → verdict_told o ≡ verdict_by manner q capacity
         go q a incomplete f k = let z : ◌≡◌ {A = ℕ} 0 1 = cc in absurd (omega arith)
         go q a (explored rs) f k =
             let z : n ≡ length rs = cc k.0 in
-            j ∙ ap (λ m. result (cond r (same m) (different m))) z
-            ∙ sym (ap result (verdict_is manner question q a capacity rs f w k.1 k.2 (subst (Chained capacity w) z (e.chained q a n h)) (omega (arith, (e.within n h).1)) r u
-            (subst (λ m. StartSurvivesIs manner question capacity w m r u) z s)))
+            j ∙ ap (λ m. cond r (same m) (different m)) z
+            ∙ sym (verdict_is manner question q a capacity rs f w k.1 k.2 (subst (Chained capacity w) z (e.chained q a n h)) (omega (arith, (e.within n h).1)) r u
+            (subst (λ m. StartSurvivesIs manner question capacity w m r u) z s))
 
     pub same_is : r ≡ true → DecidesIs manner question capacity work (Same n) u
-    unfolding judged_answer
-    same_is t = settled (Same n) (ap (λ b. result (cond b (same n) (different n))) (sym t))
+    unfolding verdict_told
+    same_is t = settled (Same n) (ap (λ b. cond b (same n) (different n)) (sym t))
 
     pub different_is : r ≡ false → DecidesIs manner question capacity work (Different n) u
-    unfolding judged_answer
-    different_is t = settled (Different n) (ap (λ b. result (cond b (same n) (different n))) (sym t))
+    unfolding verdict_told
+    different_is t = settled (Different n) (ap (λ b. cond b (same n) (different n)) (sym t))

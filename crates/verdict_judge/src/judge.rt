@@ -1,5 +1,5 @@
-// Judging: checks 1 and 2 of document 01, those of check, then the verdict.
-ghost use Rattle.std.specs.Prelude.{true, ◌≡◌, ◌++◌, ◌*◌, ◌≤◌, length, drop, replicate};
+// Judging: checks 1 and 2, those of check, then the verdict.
+ghost use Rattle.std.specs.Prelude.{true, ◌*◌, ◌≤◌, length};
 ghost use Rattle.verdict.specs.Judge.{slot_bytes, greatest_capacity};
 ghost use Rattle.late_early.specs.LateEarly.{late, early};
 ghost use Rattle.verdict.specs.Verdict.{openly, named};
@@ -9,13 +9,14 @@ ghost use Rattle.steps_tallies.specs.Tally.{BodiesTidied};
 ghost use Rattle.terms_converting.specs.Questions.{AcceptedFrom};
 ghost use Rattle.verdict_judge.specs.Judging.{DecidesIs, AcceptedIs, OwnIs, JudgedIs};
 
-use field_exploration::explore::{Explored, Extent, explore};
+use field_exploration::explore::{Extent, explore};
 use field_kept_lists::list_area::LIST_AREA;
 use field_slots::slot::SLOT_BYTES;
 use steps_lister::list::{SCRATCH_NUMBERS, SCRATCH_ROWS};
 use steps_tallies::tally::body_tallies;
+use terms_bytes::answer::Refusal;
 use terms_bytes::limits::LONGEST_QUESTION;
-use terms_checks::check::{Checked, check, is_counted};
+use terms_checks::check::{check, is_counted};
 use terms_converting::question::convert_question;
 use terms_tidied::question::{has_tidied_bodies, tidy_bodies};
 use verdict_answers::answered::Search;
@@ -23,30 +24,17 @@ use verdict_answers::manner::{Manner, names_differ};
 use verdict_capacity::capacity::capacity_check;
 use verdict_start::passes::start_survives;
 
-// The number of the check that turns back, or the verdict and the size of the field.
-#[derive(Clone, Copy)]
-pub enum Judged {
-    Refused(u8),
+// The verdict and the size of the field.
+#[derive(Clone, Copy, Debug, PartialEq, Eq)]
+pub enum Verdict {
     Unsettled,
     Same(usize),
     Different(usize),
 }
 
-// Sets the first `n` bytes to 0.
-fn clear(work: &mut [u8], n: usize)
-    requires { n ≤ length work.old }
-    ensures { work.new ≡ replicate n 0 ++ drop n work.old }
-{
-    let mut i = 0;
-    while i < n {
-        work[i] = 0;
-        i += 1;
-    }
-}
-
 // The verdict on an accepted question of edition one. The tallies of the bodies, the lister's tables and the lists of the two sides serve exploration
 // and passes.
-fn decide(question: &[u8], capacity: usize, work: &mut [u8], manner: Manner) -> Judged
+fn decide(question: &[u8], capacity: usize, work: &mut [u8], manner: Manner) -> Verdict
     requires { (1 ≤ capacity) × (capacity ≤ greatest_capacity) × (slot_bytes * capacity ≤ length work.old) × BodiesTidied question.now }
     ensures { DecidesIs (manner_of manner) question.now capacity work.old result work.new }
 {
@@ -66,43 +54,41 @@ fn decide(question: &[u8], capacity: usize, work: &mut [u8], manner: Manner) -> 
         work,
         Extent { differ, capacity },
     );
-    match explored {
-        Explored::Incomplete => Judged::Unsettled,
-        Explored::Field(n) => {
-            let search = Search {
-                manner,
-                capacity,
-                count: n,
-            };
-            if start_survives(
-                question,
-                &bodies,
-                &mut tallies,
-                &mut rows,
-                &mut firsts,
-                &mut seconds,
-                work,
-                search,
-            ) {
-                return Judged::Same(n);
-            }
-            Judged::Different(n)
-        }
+    let Some(count) = explored else {
+        return Verdict::Unsettled;
+    };
+    let search = Search {
+        manner,
+        capacity,
+        count,
+    };
+    if start_survives(
+        question,
+        &bodies,
+        &mut tallies,
+        &mut rows,
+        &mut firsts,
+        &mut seconds,
+        work,
+        search,
+    ) {
+        return Verdict::Same(count);
     }
+    Verdict::Different(count)
 }
 
 // The verdict on an accepted question of edition one whose bodies are tidied; the work area is cleared behind it.
-fn judge_tidied(question: &[u8], capacity: usize, work: &mut [u8], manner: Manner) -> Judged
+fn judge_tidied(question: &[u8], capacity: usize, work: &mut [u8], manner: Manner) -> Verdict
     requires { (1 ≤ capacity) × (capacity ≤ greatest_capacity) × (slot_bytes * capacity ≤ length work.old) × BodiesTidied question.now }
     ensures { AcceptedIs (manner_of manner) question.now capacity work.old result work.new }
 {
     let verdict = decide(question, capacity, work, manner);
-    clear(work, SLOT_BYTES * capacity);
+    work[..SLOT_BYTES * capacity].fill(0);
     verdict
 }
 
-// The verdict on an accepted question of edition one: that of the question with tidied bodies (request 2026-04).
-fn judge_accepted(question: &[u8], capacity: usize, work: &mut [u8], manner: Manner) -> Judged
+// The verdict on an accepted question of edition one: that of the question with tidied bodies.
+fn judge_accepted(question: &[u8], capacity: usize, work: &mut [u8], manner: Manner) -> Verdict
     requires { (1 ≤ capacity) × (capacity ≤ greatest_capacity) × (slot_bytes * capacity ≤ length work.old) × Plain question.now }
     ensures { AcceptedIs (manner_of manner) question.now capacity work.old result work.new }
 {
@@ -115,7 +101,7 @@ fn judge_accepted(question: &[u8], capacity: usize, work: &mut [u8], manner: Man
 }
 
 // The same of edition two, by its edition-one form.
-fn judge_counted(question: &[u8], capacity: usize, work: &mut [u8], manner: Manner) -> Judged
+fn judge_counted(question: &[u8], capacity: usize, work: &mut [u8], manner: Manner) -> Verdict
     requires { (1 ≤ capacity) × (capacity ≤ greatest_capacity) × (slot_bytes * capacity ≤ length work.old) × AcceptedFrom question.now true }
     ensures { OwnIs (manner_of manner) question.now capacity work.old result work.new }
 {
@@ -125,7 +111,7 @@ fn judge_counted(question: &[u8], capacity: usize, work: &mut [u8], manner: Mann
 }
 
 // The verdict on an accepted question of either edition.
-fn judge_either(question: &[u8], capacity: usize, work: &mut [u8], manner: Manner) -> Judged
+fn judge_either(question: &[u8], capacity: usize, work: &mut [u8], manner: Manner) -> Verdict
     requires { (1 ≤ capacity) × (capacity ≤ greatest_capacity) × (slot_bytes * capacity ≤ length work.old) × IsAccepted question.now }
     ensures { OwnIs (manner_of manner) question.now capacity work.old result work.new }
 {
@@ -136,37 +122,35 @@ fn judge_either(question: &[u8], capacity: usize, work: &mut [u8], manner: Manne
 }
 
 // Judges a question within the capacity, in one of the manners.
-fn judge_as(question: &[u8], capacity: u64, work: &mut [u8], manner: Manner) -> Judged
+pub fn judge_as(
+    question: &[u8],
+    capacity: u64,
+    work: &mut [u8],
+    manner: Manner,
+) -> Result<Verdict, Refusal>
     ensures { JudgedIs (manner_of manner) question.now capacity work.old result work.new }
 {
-    let turned = capacity_check(capacity, work.len());
-    if turned != 0 {
-        return Judged::Refused(turned);
-    }
-    let slots = capacity as usize;
-    let checked = check(question);
-    match checked {
-        Checked::Refused(k) => Judged::Refused(k),
-        Checked::Accepted => judge_either(question, slots, work, manner),
-    }
+    capacity_check(capacity, work.len())?;
+    check(question)?;
+    Ok(judge_either(question, capacity as usize, work, manner))
 }
 
-// Openly: Definition 13.
-pub fn judge(question: &[u8], capacity: u64, work: &mut [u8]) -> Judged
+// Judges it openly: by open bisimilarity.
+pub fn judge(question: &[u8], capacity: u64, work: &mut [u8]) -> Result<Verdict, Refusal>
     ensures { JudgedIs openly question.now capacity work.old result work.new }
 {
     judge_as(question, capacity, work, Manner::Open)
 }
 
-// Where all names differ: Definitions 7 and 8.
-pub fn judge_late(question: &[u8], capacity: u64, work: &mut [u8]) -> Judged
+// Judges it where all names differ, by late bisimilarity. This name and the next stay: docs/CHANGES.md has them.
+pub fn judge_late(question: &[u8], capacity: u64, work: &mut [u8]) -> Result<Verdict, Refusal>
     ensures { JudgedIs (named late) question.now capacity work.old result work.new }
 {
     judge_as(question, capacity, work, Manner::Late)
 }
 
-// Where all names differ: Definitions 9 and 10.
-pub fn judge_early(question: &[u8], capacity: u64, work: &mut [u8]) -> Judged
+// By early bisimilarity.
+pub fn judge_early(question: &[u8], capacity: u64, work: &mut [u8]) -> Result<Verdict, Refusal>
     ensures { JudgedIs (named early) question.now capacity work.old result work.new }
 {
     judge_as(question, capacity, work, Manner::Early)

@@ -1,13 +1,15 @@
 -- What is relied on, gathered and noted in a slot's spare bytes. Assumes nothing.
-use mathlib.Core.Bool.{Bool, true, false}
-use mathlib.Core.List.{List}
+use mathlib.Core.Bool.{Bool, true, false, ◌||◌}
+use mathlib.Core.List.{List, [], ◌∷◌}
 use mathlib.Core.Path.{◌≡◌, refl, sym, ap, ◌∙◌}
 use native.Mathlib.Decide.{ℕ_discrete}
 use native.Mathlib.Omega.{arith}
-use Prim.Native.Nat.{ℕ, ◌+◌, ◌-◌, ◌*◌, ◌<◌, ◌≤◌}
+use Prim.Native.Nat.{ℕ, zero, suc, ◌+◌, ◌-◌, ◌*◌, ◌<◌, ◌≤◌}
 use borrow.Author.Count.{below_more}
 use borrow.Author.Tests.{eqb-true, eqb-false}
-use lib.ListN.{length, get_or, set, replicate, get_or-replicate}
+use lib.Dec.{eqb}
+use Rattle.std.specs.List.{list_any}
+use lib.ListN.{length, get_or, take, set, replicate, get_or-replicate}
 use lib.Seq.{get_or-set_same, get_or-set_other}
 use Rattle.field_slots.specs.Chains.{put_number}
 use Rattle.field_slots.specs.Noted.{noted_count, note_place, note_at, SpareOnly, OtherNotes}
@@ -31,11 +33,26 @@ none_numbers i h = record {
   small = λ k l. omega (arith, get_or-replicate {A = ℕ} noted_count k (i + 1) 0 l);
 }
 
+-- one of the first numbers
+any_place : (xs : List ℕ) (c n : ℕ) → list_any (λ x. eqb x n) (take c xs) ≡ true → (k : ℕ) × (k < c) × (get_or xs k 0 ≡ n)
+any_place xs zero n e = true_not_false e refl
+any_place [] (suc c) n e = true_not_false e refl
+any_place (x ∷ xs) (suc c) n e = go (eqb x n) refl (any_place xs c n)
+  where
+    go : (b : Bool) → eqb x n ≡ b → (list_any (λ x. eqb x n) (take c xs) ≡ true → (k : ℕ) × (k < c) × (get_or xs k 0 ≡ n))
+        → (k : ℕ) × (k < suc c) × (get_or (x ∷ xs) k 0 ≡ n)
+    go true t rest = (0, omega arith, eqb-true x n t)
+    go false t rest = let (k, h, f) = rest (sym (ap (λ b. b || list_any (λ x. eqb x n) (take c xs)) t) ∙ e) in (suc k, omega arith, f)
+
 -- relied_with
 module _ (r : Relied) (j : ℕ) (n : Numbers r) where
-  pub with_there : (k : ℕ) → k < r.count → get_or r.slots k 0 ≡ j + 1 → WithIs r j r
+  pub with_one : (b : Bool) → b ≡ list_any (λ x. eqb x (j + 1)) (take r.count r.slots) → b ≡ true → WithIs r j r
   unfolding Has
-  with_there k h e = record { numbers = n; more = record { few = λ f. f; has = λ f m x. x }; has = λ f. (k, h, e) }
+  with_one b is on = record {
+    numbers = n;
+    more = record { few = λ f. f; has = λ f m x. x };
+    has = λ f. any_place r.slots r.count (j + 1) (sym is ∙ on);
+  }
 
   pub with_many : noted_count ≤ r.count → length r.slots ≡ noted_count → WithIs r j (record { count = r.count; slots = set r.slots 0 0 })
   with_many full l = record {

@@ -33,12 +33,8 @@ pub fn relied_with(relied: Relied, j: usize) -> Relied
 {
     let count = relied.count;
     let mut slots = relied.slots;
-    let mut k = 0;
-    while k < count {
-        if slots[k] == j + 1 {
-            return Relied { count, slots };
-        }
-        k += 1;
+    if slots[..count].contains(&(j + 1)) {
+        return relied;
     }
     if count == NOTED {
         slots[0] = 0;
@@ -57,10 +53,8 @@ pub fn note(work: &mut [u8], i: usize, relied: Relied)
     ensures { NoteIs work.old i relied work.new }
 {
     let slots = relied.slots;
-    let mut k = 0;
-    while k < NOTED {
+    for k in 0..NOTED {
         put_note(work, i, k, slots[k]);
-        k += 1;
     }
 }
 
@@ -69,8 +63,7 @@ pub fn relies_on_left(work: &[u8], count: usize, i: usize) -> bool
     requires { (i < count) × (slot_bytes * count ≤ length work.now) }
     ensures { ReliesOnLeftIs work.now count i result }
 {
-    let mut k = 0;
-    while k < NOTED {
+    for k in 0..NOTED {
         let n = note_at(work, i, k);
         if n == 0 {
             return false;
@@ -81,7 +74,6 @@ pub fn relies_on_left(work: &[u8], count: usize, i: usize) -> bool
         if !left_at(work, n - 1) {
             return false;
         }
-        k += 1;
     }
     true
 }
@@ -91,8 +83,7 @@ pub fn sole_struck(work: &[u8], count: usize, i: usize) -> bool
     requires { (i < count) × (slot_bytes * count ≤ length work.now) }
     ensures { SoleStruckIs work.now count i result }
 {
-    let mut k = 0;
-    while k < NOTED {
+    for k in 0..NOTED {
         let number = note_at(work, i, k);
         // the numbers stand before the places that are free
         if number == 0 {
@@ -104,7 +95,6 @@ pub fn sole_struck(work: &[u8], count: usize, i: usize) -> bool
         if !left_at(work, number - 1) {
             return true;
         }
-        k += 1;
     }
     false
 }
@@ -114,9 +104,7 @@ pub fn clear_notes(work: &mut [u8], count: usize)
     requires { slot_bytes * count ≤ length work.old }
     ensures { ClearsNotes count work.old work.new }
 {
-    let mut i = 0;
-    while i < count {
+    for i in 0..count {
         put_note(work, i, 0, 0);
-        i += 1;
     }
 }

@@ -1,10 +1,9 @@
-// Passes of strike-out over the whole field: whether the start survives. Document 01, "The field and the verdict".
+// Passes of strike-out over the whole field: whether the start survives.
 ghost use Rattle.std.specs.Prelude.{◌*◌, ◌≤◌, length};
 ghost use Rattle.field_pairs.specs.Slot.{slot_bytes};
 ghost use Rattle.verdict_answers.specs.Manners.{manner_of};
 ghost use Rattle.verdict_answers.specs.Striking.{Slots, Listing, AllSole, FirstStruckIs, StartSurvivesIs};
 
-use field_slots::find::Found;
 use field_slots::slot::left_at;
 use verdict_answers::answered::Search;
 use verdict_notes::relied::clear_notes;
@@ -36,8 +35,7 @@ fn survives_passes(
     let count = search.count;
     clear_notes(work, count);
     let mut up = passes.rising;
-    let mut again = true;
-    while again {
+    loop {
         let pass = Pass {
             search,
             examine: true,
@@ -46,13 +44,15 @@ fn survives_passes(
             from: 0,
             size: count,
         };
-        again = strike_blocks(question, bodies, work, tallies, rows, firsts, seconds, pass);
-        up = !up;
+        let struck = strike_blocks(question, bodies, work, tallies, rows, firsts, seconds, pass);
         if !left_at(work, 0) {
             return false;
         }
+        if !struck {
+            return true;
+        }
+        up = !up;
     }
-    true
 }
 
 // Whether the start survives, where some are struck out. Those that fail by what exploration noted are struck out before any steps are listed; then
@@ -92,18 +92,16 @@ fn survives_struck(
 }
 
 // The first situation that is struck out, of the first `count`.
-fn first_struck(work: &[u8], count: usize) -> Found
+fn first_struck(work: &[u8], count: usize) -> Option<usize>
     requires { slot_bytes * count ≤ length work.now }
     ensures { FirstStruckIs work.now count result }
 {
-    let mut i = 0;
-    while i < count {
+    for i in 0..count {
         if !left_at(work, i) {
-            return Found::At(i);
+            return Some(i);
         }
-        i += 1;
     }
-    Found::Nothing
+    None
 }
 
 // Whether the start survives. Exploration struck out the situations with a step that has no answer at all; if there are none, all survive, since
@@ -125,15 +123,12 @@ pub fn start_survives(
         return false;
     }
     let count = search.count;
-    let first = first_struck(work, count);
-    match first {
-        Found::Nothing => true,
-        Found::At(i) => {
-            let rising = 2 * i < count;
-            let passes = Passes { search, rising };
-            survives_struck(
-                question, bodies, tallies, rows, firsts, seconds, work, passes,
-            )
-        }
-    }
+    let Some(first) = first_struck(work, count) else {
+        return true;
+    };
+    let rising = 2 * first < count;
+    let passes = Passes { search, rising };
+    survives_struck(
+        question, bodies, tallies, rows, firsts, seconds, work, passes,
+    )
 }

@@ -21,7 +21,8 @@ use Rattle.field_slots.proofs.NotedLaws.{note_flag}
 use Rattle.field_exploration.proofs.Below.{situation-kept}
 use Rattle.verdict_notes.specs.Notes.{NotedIn, Has, NoteIs, ClearsNotes, ReliesOnLeftIs, SoleStruckIs}
 use Rattle.verdict_answers.specs.Striking.{living, left_of, Standing, SomeAnswer, ReliesOn, demands_at, FieldIn, Searching, SurvivesIs, Relies, ExaminedIs, AllNoted, AllSole, NotesHold}
-use Rattle.verdict_answers.specs.declared.answered.Answered.{Answered}
+use Rattle.std.specs.Prelude.{Option, Some}
+use Rattle.verdict_notes.specs.declared.relied.Relied.{Relied}
 use Rattle.verdict_answers.proofs.LeftLaws.{left-found}
 use Rattle.verdict_answers.proofs.Marks.{marks-kept}
 use Rattle.verdict_answers.proofs.DemandedMoves.{move_demanded}
@@ -103,19 +104,19 @@ module _ (manner : Manner) (question : List ℕ) (capacity count : ℕ) where
   notes_struck true v i n = noted_struck v i n
   notes_struck false v i n = sole_struck v i n
 
-  pub noted_one : (v u : List ℕ) (i : ℕ) (r : Answered) → ExaminedIs manner question capacity v count i r → r.all ≡ true → NoteIs v i r.relied u
+  pub noted_one : (v u : List ℕ) (i : ℕ) (r : Option Relied) (s : Relied) → ExaminedIs manner question capacity v count i r → r ≡ Some s → NoteIs v i s u
       → AllNoted manner question capacity v count → AllNoted manner question capacity u count
   unfolding AllNoted Has NotedIn
-  noted_one v u i r x all note n j h = go (ℕ_discrete j i)
+  noted_one v u i r s x e note n j h = go (ℕ_discrete j i)
     where
       same : SameField v u
       same = spare_same v u note.spare
 
-      has : (k : ℕ) → Has r.relied k → NotedIn u i k
-      has k (l, g, e) = (l, omega (arith, x.numbers.used), note.here l (omega (arith, x.numbers.used)) ∙ e)
+      has : (k : ℕ) → Has s k → NotedIn u i k
+      has k (l, g, f) = let m = x.numbers s e in (l, omega (arith, m.used), note.here l (omega (arith, m.used)) ∙ f)
 
       own : 0 < note_at u i 0 → Relies manner question capacity u count i (NotedIn u i)
-      own g = relies_kept i (Has r.relied) (NotedIn u i) same has (x.relies all (omega (arith, note.here 0 (omega arith))))
+      own g = relies_kept i (Has s) (NotedIn u i) same has (x.relies s e (omega (arith, note.here 0 (omega arith))))
 
       go : Dec (j ≡ i) → 0 < note_at u j 0 → Relies manner question capacity u count j (NotedIn u j)
       go (yes e) = subst (λ j. 0 < note_at u j 0 → Relies manner question capacity u count j (NotedIn u j)) (sym e) own

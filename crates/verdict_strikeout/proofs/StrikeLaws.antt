@@ -5,6 +5,7 @@ use mathlib.Core.Logic.{◌⊎◌, inl, inr}
 use mathlib.Core.Path.{◌≡◌, refl, sym, ap, ◌∙◌, subst}
 use native.Mathlib.Decide.{ℕ_discrete, dec_lt}
 use native.Mathlib.Omega.{arith}
+use Rattle.std.specs.Prelude.{Option, Some, None, is_some}
 use Prim.Native.Nat.{ℕ, ◌+◌, ◌-◌, ◌*◌, ◌/◌, ◌<◌, ◌≤◌}
 use lib.ListN.{length, get_or, set, drop, replicate, length-set, length-map, length-replicate, get_or-replicate, get_or-map}
 use lib.Seq.{drop-set-lt, get_or-set_other, ext_get_or}
@@ -20,8 +21,6 @@ use Rattle.field.specs.Setting.{setting_of}
 use Rattle.field.specs.Situation.{Situation}
 use Rattle.field_pairs.specs.Slot.{key_of, slot_bytes, struck_at, LeftAtIs}
 use Rattle.field.specs.Successors.{leads, successors}
-use Rattle.field_slots.specs.declared.find.Found.{Found}
-use Rattle.field_slots.specs.declared.find.Found.TheVariants.{At, Nothing}
 use Rattle.field_exploration.proofs.Below.{slot_key}
 use Rattle.field_slots.proofs.NotedLaws.{spare_none, spare_then}
 use Rattle.field.proofs.Run.{selves}
@@ -32,7 +31,7 @@ use Rattle.verdict_answers.specs.Striking.{demands_at, marks, living, zeros, lef
 use Rattle.verdict_answers.specs.Striking.{EqualPartsIs, Strikes, none_struck, one_struck, notes_changed, StrikesSole, StrikesOne, AllSurvive, Run}
 use Rattle.verdict_answers.specs.Striking.{PassIs, FirstStruckIs, StartSurvivesIs, block_slots, turned}
 use Rattle.verdict.specs.Verdict.{Manner, differs, demands_of, all_answered}
-use Rattle.verdict_answers.specs.declared.answered.Answered.{Answered}
+use Rattle.verdict_notes.specs.declared.relied.Relied.{Relied}
 use Rattle.verdict_strikeout.proofs.AnyOrder.{StrikesTo}
 use Rattle.verdict_strikeout.proofs.AnyOrder as order
 use Rattle.verdict_strikeout.proofs.BlockLaws.{Blocks, block_of, in_block}
@@ -53,7 +52,7 @@ answered_survives manner question capacity work count i r h f = h f.field
 
 -- first_struck
 pub first_gone : (work : List ℕ) (count i : ℕ) (r : Bool) → i < count → LeftAtIs work i r → r ≡ false → ((j : ℕ) → j < i → get_or work (struck_at j) 0 ≡ 0)
-    → FirstStruckIs work count (At i)
+    → FirstStruckIs work count (Some i)
 unfolding LeftAtIs
 first_gone work count i r h l e before = record {
   some = λ k q. let z : i ≡ k = cc in subst (λ k. (k < count) × (get_or work (struck_at k) 0 ≡ 0 → ⊥) × ((j : ℕ) → j < k → get_or work (struck_at j) 0 ≡ 0)) z
@@ -61,7 +60,7 @@ first_gone work count i r h l e before = record {
   none = λ q. let z : ◌≡◌ {A = ℕ} 0 1 = cc in absurd (omega arith);
 }
 
-pub none_gone : (work : List ℕ) (count : ℕ) → ((i : ℕ) → i < count → get_or work (struck_at i) 0 ≡ 0) → FirstStruckIs work count Nothing
+pub none_gone : (work : List ℕ) (count : ℕ) → ((i : ℕ) → i < count → get_or work (struck_at i) 0 ≡ 0) → FirstStruckIs work count None
 none_gone work count h = record { some = λ k q. let z : ◌≡◌ {A = ℕ} 0 1 = cc in absurd (omega arith); none = λ q. h }
 
 -- All are left where no byte says otherwise.
@@ -214,22 +213,23 @@ module _ (manner : Manner) (question : List ℕ) (capacity count : ℕ) where
         noted = n;
       }
 
-      pub survivor_noted : (r : Answered) (v : List ℕ) → i < count → ExaminedIs manner question capacity work count i r → r.all ≡ true → NoteIs work i r.relied v
+      pub survivor_noted : (r : Option Relied) (noted : Relied) (v : List ℕ) → i < count → ExaminedIs manner question capacity work count i r → r ≡ Some noted
+          → NoteIs work i noted v
           → StrikesOne examine manner question capacity work count i false v
       unfolding NotesHold
-      survivor_noted r v h s e t = record {
+      survivor_noted r noted v h s e t = record {
         struck = λ q. true_not_false q refl;
-        kept = λ q. (spare_more work v h t.spare, λ x z. subst (SurvivesIs manner question capacity work count i) e (answered_survives manner question capacity work count i r.all s.is));
-        noted = subst (λ b. NotesHold b manner question capacity v count) (sym on) (noted_one manner question capacity count work v i r s e t relied);
+        kept = λ q. (spare_more work v h t.spare, λ x z. subst (SurvivesIs manner question capacity work count i) (ap is_some e) (answered_survives manner question capacity work count i (is_some r) s.is));
+        noted = subst (λ b. NotesHold b manner question capacity v count) (sym on) (noted_one manner question capacity count work v i r noted s e t relied);
       }
         where
           spare_more : (work v : List ℕ) → i < count → SpareOnly (i + 1) work v → SpareOnly count work v
           spare_more work v h c = record { len = c.len; slots = c.slots; rest = λ k g. c.rest k (omega arith) }
 
-    pub one_strikes : (r : Answered) → get_or work (struck_at i) 0 ≡ 0 → ExaminedIs manner question capacity work count i r → r.all ≡ false
+    pub one_strikes : (r : Option Relied) → get_or work (struck_at i) 0 ≡ 0 → ExaminedIs manner question capacity work count i r → r ≡ None
         → StrikesOne examine manner question capacity work count i true (set work (struck_at i) 1)
     one_strikes r z s e = record {
-      struck = λ q. (z, subst (SurvivesIs manner question capacity work count i) e (answered_survives manner question capacity work count i r.all s.is), refl);
+      struck = λ q. (z, subst (SurvivesIs manner question capacity work count i) (ap is_some e) (answered_survives manner question capacity work count i (is_some r) s.is), refl);
       kept = λ q. true_not_false refl q;
       noted = notes_struck manner question capacity count examine work i n;
     }
@@ -382,7 +382,7 @@ module _ (manner : Manner) (question : List ℕ) (capacity count : ℕ) where
     goes = λ q z. eqb-false (get_or work (struck_at 0) 0) 0 (sym l ∙ e) z;
   }
 
-  pub none_struck_stays : (work : List ℕ) (r : Found) → 1 ≤ count → FirstStruckIs work count r → r ≡ Nothing → StartSurvivesIs manner question capacity work count true work
+  pub none_struck_stays : (work : List ℕ) (r : Option ℕ) → 1 ≤ count → FirstStruckIs work count r → r ≡ None → StartSurvivesIs manner question capacity work count true work
   unfolding AllSurvive SurvivesIs
   none_struck_stays work r some s e = start_stays work work none_struck (s.none e 0 some) each
     where

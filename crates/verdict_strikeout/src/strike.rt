@@ -1,4 +1,4 @@
-// Strike-out over the situations of the field, in place: document 01, "The field and the verdict".
+// Strike-out over the situations of the field, in place.
 ghost use Rattle.std.specs.Prelude.{◌≡◌, ◌+◌, ◌-◌, ◌*◌, ◌<◌, ◌≤◌, min, length};
 ghost use Rattle.field_kept_lists.specs.ListArea.{Labelled};
 ghost use Rattle.field_pairs.specs.Slot.{slot_bytes};
@@ -10,7 +10,7 @@ use field_kept_lists::list_area::same_part;
 use field_slots::slot::{SLOT_BYTES, left_at, strike};
 use field_slots::slots::{first_part, second_part};
 use verdict_answers::answered::Search;
-use verdict_notes::relied::{Relied, note, relies_on_left, sole_struck};
+use verdict_notes::relied::{note, relies_on_left, sole_struck};
 use verdict_survival::survive::{Candidate, survives};
 
 // The level of the largest blocks.
@@ -92,9 +92,7 @@ fn strike_one(
     let answered = survives(
         question, bodies, work, tallies, rows, firsts, seconds, candidate,
     );
-    let all = answered.all;
-    let relied = answered.relied;
-    if all {
+    if let Some(relied) = answered {
         note(work, i, relied);
         return false;
     }
@@ -117,13 +115,11 @@ fn turn(rising: bool, count: usize, i: usize) -> usize
 fn width(level: usize) -> usize
     ensures { result ≡ block_slots level }
 {
-    if level == 0 {
-        return 1;
+    match level {
+        0 => 1,
+        1 => 16,
+        _ => 256,
     }
-    if level == 1 {
-        return 16;
-    }
-    256
 }
 
 // How many of the slots before `end` belong to the block of this width that begins at `from`.
@@ -131,10 +127,7 @@ fn block_size(end: usize, from: usize, width: usize) -> usize
     requires { from < end }
     ensures { result ≡ min width (end - from) }
 {
-    if end - from < width {
-        return end - from;
-    }
-    width
+    width.min(end - from)
 }
 
 // One pass, block by block, from the last to the first or the other way round; whether it struck any out.
@@ -161,9 +154,7 @@ pub fn strike_blocks(
     let block = width(level);
     let blocks = (size + block - 1) / block;
     let mut struck = false;
-    let mut i = blocks;
-    while 0 < i {
-        i -= 1;
+    for i in (0..blocks).rev() {
         let at = from + block * turn(rising, blocks, i);
         let part = block_size(from + size, at, block);
         let inner = Pass {

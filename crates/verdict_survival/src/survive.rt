@@ -1,14 +1,14 @@
-// Whether a situation survives: those left answer each demand on it. Document 01, "The field and the verdict", and request 2026-02.
+// Whether a situation survives: those left answer each demand on it.
 ghost use Rattle.std.specs.Prelude.{◌*◌, ◌<◌};
 ghost use Rattle.field_taking_up.specs.Below.{Labelled};
 ghost use Rattle.verdict_answers.specs.Striking.{Slots, Listing, ExaminedIs};
 ghost use Rattle.verdict_answers.specs.Manners.{manner_of};
 
 use field_slots::slot::SLOT_BYTES;
-use field_taking_up::taking::{Lists, take_up};
+use field_taking_up::taking::take_up;
 use steps_tallies::bodies::arities_of;
-use verdict_answers::answered::{Answered, Search, SideLists, side_answered};
-use verdict_notes::relied::relied_none;
+use verdict_answers::answered::{Search, SideLists, side_answered};
+use verdict_notes::relied::{Relied, relied_none};
 
 // Situation `i` of a search, which may have to be struck out.
 #[derive(Clone, Copy)]
@@ -17,7 +17,7 @@ pub struct Candidate {
     pub i: usize,
 }
 
-// Whether those left answer each demand on a situation; the two areas have the lists of the one before, `tallies` and `rows` are for the lister.
+// What a situation relies on, if those left answer each demand on it; the two areas have the lists of the one before, `tallies` and `rows` are for the lister.
 pub fn survives(
     question: &[u8],
     bodies: &[u32],
@@ -27,7 +27,7 @@ pub fn survives(
     firsts: &mut [u8],
     seconds: &mut [u8],
     candidate: Candidate,
-) -> Answered
+) -> Option<Relied>
     requires { (candidate.i < candidate.search.count) × Slots work.now candidate.search × Listing question.now bodies.now tallies.old rows.old firsts.old seconds.old }
     ensures { ExaminedIs (manner_of candidate.search.manner) question.now candidate.search.capacity work.now candidate.search.count candidate.i result × Labelled question.now firsts.new × Labelled question.now seconds.new }
 {
@@ -47,44 +47,32 @@ pub fn survives(
     let apart = taken.apart;
     let lists = taken.lists;
     let none = relied_none(i);
-    match lists {
-        // no situation of an explored field is past a limit
-        Lists::Past => Answered {
-            all: false,
-            relied: none,
-        },
-        Lists::Listed(n, m) => {
-            let arities = arities_of(question);
-            let first_side = SideLists {
-                search,
-                second: false,
-                steps: n,
-                replies: m,
-            };
-            let first = side_answered(
-                arities, work, &free, apart, firsts, seconds, first_side, none,
-            );
-            let all = first.all;
-            let relied = first.relied;
-            if !all {
-                return Answered { all: false, relied };
-            }
-            let second_side = SideLists {
-                search,
-                second: true,
-                steps: m,
-                replies: n,
-            };
-            side_answered(
-                arities,
-                work,
-                &free,
-                apart,
-                seconds,
-                firsts,
-                second_side,
-                relied,
-            )
-        }
-    }
+    // no situation of an explored field is past a limit
+    let (n, m) = lists?;
+    let arities = arities_of(question);
+    let first_side = SideLists {
+        search,
+        second: false,
+        steps: n,
+        replies: m,
+    };
+    let relied = side_answered(
+        arities, work, &free, apart, firsts, seconds, first_side, none,
+    )?;
+    let second_side = SideLists {
+        search,
+        second: true,
+        steps: m,
+        replies: n,
+    };
+    side_answered(
+        arities,
+        work,
+        &free,
+        apart,
+        seconds,
+        firsts,
+        second_side,
+        relied,
+    )
 }

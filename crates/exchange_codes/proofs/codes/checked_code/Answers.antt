@@ -3,10 +3,10 @@ use Rattle.terms_checks.specs.Checking.{checked_answer}
 use Rattle.verdict.specs.Outcome.{code_of, of_number}
 use Rattle.exchange_codes.proofs.codes.checked_code.Goals as goal
 
-pub returns-in-Accepted : goal.returns-in-Accepted
+pub returns-in-Ok : goal.returns-in-Ok
 unfolding of_number checked_answer
-returns-in-Accepted c = c.given.ensures ∙ ap (λ a. code_of (of_number (checked_answer a))) (sym c.in-Accepted.is)
+returns-in-Ok c = c.given.ensures ∙ ap (λ a. code_of (of_number (checked_answer a))) (sym c.in-Ok.is)
 
-pub returns-in-Refused : goal.returns-in-Refused
+pub returns-in-Err : goal.returns-in-Err
 unfolding of_number checked_answer
-returns-in-Refused c = c.refusal.ensures ∙ ap (λ a. code_of (of_number (checked_answer a))) (sym c.in-Refused.is)
+returns-in-Err c = c.refusal.ensures ∙ ap (λ a. code_of (of_number (checked_answer a))) (sym c.in-Err.is)

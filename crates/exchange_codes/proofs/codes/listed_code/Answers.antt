@@ -1,16 +1,17 @@
 use mathlib.Core.Path.{sym, ◌∙◌, ap}
+use Rattle.std.specs.Prelude.{Ok}
 use Rattle.verdict.specs.Outcome.{code_of}
 use Rattle.exchange_codes.specs.Listed.{of_steps}
 use Rattle.exchange_codes.proofs.codes.listed_code.Goals as goal
 
-pub returns-in-Refused : goal.returns-in-Refused
+pub returns-in-None : goal.returns-in-None
 unfolding of_steps
-returns-in-Refused c = c.refusal.ensures ∙ ap (λ a. code_of (of_steps a)) (sym c.in-Refused.is)
+returns-in-None c = c.unsettled.ensures ∙ ap (λ a. code_of (of_steps (Ok a))) (sym c.in-None.is) ∙ ap (λ a. code_of (of_steps a)) (sym c.in-Ok.is)
 
-pub returns-in-Unsettled : goal.returns-in-Unsettled
+pub returns-in-Some : goal.returns-in-Some
 unfolding of_steps
-returns-in-Unsettled c = c.unsettled.ensures ∙ ap (λ a. code_of (of_steps a)) (sym c.in-Unsettled.is)
+returns-in-Some c = c.given.ensures ∙ ap (λ a. code_of (of_steps (Ok a))) (sym c.in-Some.is) ∙ ap (λ a. code_of (of_steps a)) (sym c.in-Ok.is)
 
-pub returns-in-Count : goal.returns-in-Count
+pub returns-in-Err : goal.returns-in-Err
 unfolding of_steps
-returns-in-Count c = c.given.ensures ∙ ap (λ a. code_of (of_steps a)) (sym c.in-Count.is)
+returns-in-Err c = c.refusal.ensures ∙ ap (λ a. code_of (of_steps a)) (sym c.in-Err.is)

@@ -3,10 +3,10 @@ use Rattle.terms_bytes.specs.Writing.{written_answer}
 use Rattle.verdict.specs.Outcome.{code_of, of_number}
 use Rattle.exchange_codes.proofs.codes.written_code.Goals as goal
 
-pub returns-in-Length : goal.returns-in-Length
+pub returns-in-Ok : goal.returns-in-Ok
 unfolding of_number written_answer
-returns-in-Length c = c.given.ensures ∙ ap (λ a. code_of (of_number (written_answer a))) (sym c.in-Length.is)
+returns-in-Ok c = c.given.ensures ∙ ap (λ a. code_of (of_number (written_answer a))) (sym c.in-Ok.is)
 
-pub returns-in-Refused : goal.returns-in-Refused
+pub returns-in-Err : goal.returns-in-Err
 unfolding of_number written_answer
-returns-in-Refused c = c.refusal.ensures ∙ ap (λ a. code_of (of_number (written_answer a))) (sym c.in-Refused.is)
+returns-in-Err c = c.refusal.ensures ∙ ap (λ a. code_of (of_number (written_answer a))) (sym c.in-Err.is)

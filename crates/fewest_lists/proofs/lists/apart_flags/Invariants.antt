@@ -1,5 +1,5 @@
 use mathlib.Core.Path.{◌≡◌}
-use Prim.Native.Nat.{◌-◌, ◌≤◌}
+use Prim.Native.Nat.{◌≤◌}
 use lib.ListN.{length}
 use Rattle.calculus.specs.Cond.{Pairs}
 use Rattle.terms.specs.Operations.{holds_apart}
@@ -13,6 +13,3 @@ use Rattle.fewest_lists.proofs.lists.apart_flags.Given as goal
 
 abbrev pub invariant-loop-k : goal.invariant-loop-k
 invariant-loop-k l = (l.k ≤ pair_count) × (length l.flags ≡ pair_count) × ((D : Pairs) → l.list ≡ pair_bytes D → Filling (λ m. flag (holds_apart D (pair_at name_count m).0 (pair_at name_count m).1)) l.initial.flags l.flags l.k)
-
-abbrev pub decreases-loop-k : goal.decreases-loop-k
-decreases-loop-k l = pair_count - l.k

@@ -1,5 +1,5 @@
 use mathlib.Core.Path.{◌≡◌}
-use Prim.Native.Nat.{◌+◌, ◌-◌, ◌*◌, ◌≤◌}
+use Prim.Native.Nat.{◌+◌, ◌*◌, ◌≤◌}
 use lib.ListN.{length}
 use Rattle.field_pairs.specs.PairFlags.{pair_count}
 use Rattle.fewest_lists.specs.Lists.{PairsPut}
@@ -8,6 +8,3 @@ use Rattle.fewest_lists.proofs.lists.write_pairs.Given as goal
 
 abbrev pub invariant-loop-k : goal.invariant-loop-k
 invariant-loop-k l = (l.k ≤ pair_count) × (l.end ≤ l.put + 2 * l.k) × (length l.out ≡ length l.initial.out) × PairsPut (below l.flags l.k) l.initial.out l.put l.end l.out
-
-abbrev pub decreases-loop-k : goal.decreases-loop-k
-decreases-loop-k l = pair_count - l.k

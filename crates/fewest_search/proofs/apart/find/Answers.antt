@@ -1,4 +1,5 @@
-use mathlib.Core.Path.{ap, subst, ◌∙◌}
+use mathlib.Core.Path.{ap, subst, sym, ◌∙◌}
+use lib.Seq.{length-take-le}
 use native.Mathlib.Omega.{arith}
 use borrow.Author.Rules.{rules}
 use Rattle.terms_bytes.specs.FieldPlaces.{field_place}
@@ -8,10 +9,15 @@ use Rattle.fewest_search.specs.Searching.{SizesIs}
 use Rattle.fewest_search.proofs.ApartLaws.{found_is}
 use Rattle.fewest_search.proofs.apart.find.Goals as goal
 
-pub front-requires : goal.front-requires
+pub slice_bounds-pairs-end : goal.slice_bounds-pairs-end
 unfolding PairsWritten
-front-requires c =
+slice_bounds-pairs-end c =
     omega (arith, c.write_pairs-end.ensures.ends, flagged-bytes c.open_flags-choosable.result)
+
+pub slice_bounds-search_sizes-end : goal.slice_bounds-search_sizes-end
+unfolding PairsWritten
+slice_bounds-search_sizes-end c =
+    sym (length-take-le _ _ (omega (arith, c.write_pairs-end.ensures.ends, flagged-bytes c.open_flags-choosable.result)))
 
 pub search_sizes-requires : goal.search_sizes-requires
 search_sizes-requires c =
@@ -36,7 +42,4 @@ returns c =
     c.field_at.ensures
     c.apart_flags-flags.ensures
     c.open_flags-choosable.ensures (search rules)
-    c.write_pairs-end.ensures (subst (λ p. SizesIs v.question.now p
-    c.apart_flags-flags.result v.capacity
-    v.work.now c.search_sizes.result c.search_sizes.new.work)
-    c.front.ensures c.search_sizes.ensures)
+    c.write_pairs-end.ensures c.search_sizes.ensures

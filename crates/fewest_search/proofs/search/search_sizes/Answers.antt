@@ -1,53 +1,56 @@
+use Prim.Native.Nat.{◌+◌}
 use mathlib.Core.Path.{refl}
 use native.Mathlib.Omega.{arith}
 use borrow.Author.Rules.{rules}
-use Prim.Native.Nat.{◌-◌}
-use Rattle.fewest_search.proofs.SearchLaws.{sizes_start, sizes_more, sizes_whole}
+use Rattle.std.proofs.lemmas.Result.{err_from_is_err_and}
+use Rattle.fewest_search.proofs.SearchLaws.{sizes_start, sizes_more, sizes_whole, sizes_fail}
 use Rattle.fewest_search.proofs.search.search_sizes.Goals as goal
 
-pub judge_next-best-requires : goal.judge_next-best-requires
-judge_next-best-requires c = c.requires
+pub judge_next-requires : goal.judge_next-requires
+judge_next-requires c = c.requires
+
+pub returns-in_err-best : goal.returns-in_err-best
+returns-in_err-best c =
+    let v = c.args in
+    let e = err_from_is_err_and c.from_residual.result c.from_residual.ensures.1 in
+    rw (e.1, e.2) (sizes_fail v.question.now v.pairs.now v.flags v.capacity v.work.now _ _ c.in_err-best.ensures 0 _ _ (omega arith)
+    (sizes_start v.question.now v.pairs.now v.flags v.capacity v.work.now _ _ c.in_err-best.ensures))
 
 pub loop-size-init : goal.loop-size-init
 loop-size-init c =
     let v = c.args in (
-      search rules,
       refl,
-      sizes_start v.question.now v.pairs.now v.flags v.capacity v.work.now
-          c.nothing.result c.judge_next-best.result c.judge_next-best.new.work
-          c.nothing.ensures c.judge_next-best.ensures,
+      sizes_start v.question.now v.pairs.now v.flags v.capacity v.work.now _ _ c.in_ok-best.ensures,
     )
 
-pub search-best-requires : goal.search-best-requires
-search-best-requires c = (
+pub search-requires : goal.search-requires
+search-requires c = (
   c.requires.0,
   record {
     some = c.requires.1.some;
     most = c.requires.1.most;
-    fits = omega (
-      arith,
-      c.requires.1.fits,
-      c.loop-size.invariant.1,
-      c.judge_next-best.auto.work,
-    );
+    fits = omega (arith, c.requires.1.fits, c.loop-size.invariant.0, c.judge_next.auto.work);
   },
 )
+
+pub returns-in_err-best-2 : goal.returns-in_err-best-2
+returns-in_err-best-2 c =
+    let v = c.args in
+    let e = err_from_is_err_and c.from_residual-in_err-best-2.result c.from_residual-in_err-best-2.ensures.1 in
+    rw (e.1, e.2) (sizes_fail v.question.now v.pairs.now v.flags v.capacity v.work.now _ _ c.in_ok-best.ensures (c.loop-size.size + 1) _ _ (omega arith)
+    (sizes_more v.question.now v.pairs.now v.flags v.capacity _ c.loop-size.size c.loop-size.best _ c.loop-size.work _ c.loop-size.invariant.1
+    c.in_err-best-2.ensures))
 
 pub loop-size-preserved : goal.loop-size-preserved
 loop-size-preserved c =
     let v = c.args in (
       search rules,
-      search rules,
-      sizes_more v.question.now v.pairs.now v.flags v.capacity
-          c.judge_next-best.new.work
-          c.loop-size.size c.loop-size.best
-          c.search-best.result c.loop-size.work _
-          c.loop-size.invariant.2 c.search-best.ensures,
+      sizes_more v.question.now v.pairs.now v.flags v.capacity _ c.loop-size.size c.loop-size.best _ c.loop-size.work _ c.loop-size.invariant.1
+          c.in_ok-best-2.ensures,
     )
 
 pub returns : goal.returns
 returns c =
     let v = c.args in
-    sizes_whole v.question.now v.pairs.now v.flags v.capacity v.work.now c.nothing.result c.judge_next-best.result
-    c.judge_next-best.new.work c.loop-size.size c.loop-size.best c.loop-size.work c.nothing.ensures c.judge_next-best.ensures (omega
-    arith) c.loop-size.invariant.2
+    sizes_whole v.question.now v.pairs.now v.flags v.capacity v.work.now _ _ c.in_ok-best.ensures c.loop-size.size _ c.loop-size.work (omega arith)
+    c.loop-size.invariant.1

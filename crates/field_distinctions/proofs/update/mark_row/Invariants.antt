@@ -8,6 +8,3 @@ use Rattle.field_distinctions.proofs.update.mark_row.Given as goal
 
 abbrev pub invariant-loop-n : goal.invariant-loop-n
 invariant-loop-n l = (l.n ≤ name_count) × (length l.flags ≡ pair_count) × Row l.initial.flags l.free l.x l.flags l.n
-
-abbrev pub decreases-loop-n : goal.decreases-loop-n
-decreases-loop-n l = l.n

@@ -7,6 +7,3 @@ use Rattle.field_distinctions.proofs.update.rewrite.Given as goal
 
 abbrev pub invariant-loop-k : goal.invariant-loop-k
 invariant-loop-k l = (l.k ≤ pair_count) × (length l.new ≡ pair_count) × Rewritten l.flags l.area l.at l.initial.new l.new l.k
-
-abbrev pub decreases-loop-k : goal.decreases-loop-k
-decreases-loop-k l = l.k

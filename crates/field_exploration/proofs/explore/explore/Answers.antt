@@ -23,8 +23,8 @@ loop-taken-init c =
       refl,
     )
 
-pub grow-growth-requires : goal.grow-growth-requires
-grow-growth-requires c =
+pub grow-requires : goal.grow-requires
+grow-requires c =
     let i = c.loop-taken.invariant in (
       record { waits = c.loop-taken-test.true; few = i.2; most = c.requires.1; room = omega (arith, c.requires.2, i.3, c.clear_slot.auto.work) },
       c.requires.3,
@@ -34,13 +34,13 @@ grow-growth-requires c =
       i.7,
     )
 
-pub returns-in_default : goal.returns-in_default
-returns-in_default c = (
-  explored_from _ _ _ c.requires.0 _ c.requires.2 _ (omega (arith, c.start_key-key.type_inv)) _ c.put.ensures _ _ (explorers_full _ _ _ _ _ _ _
+pub returns-in_err-known : goal.returns-in_err-known
+returns-in_err-known c = (
+  rw c.from_residual.ensures (explored_from _ _ _ c.requires.0 _ c.requires.2 _ (omega (arith, c.start_key-key.type_inv)) _ c.put.ensures _ _ (explorers_full _ _ _ _ _ _ _
       (explorers_cleared _ _ _ _ _ _ _ _ (omega (arith, c.loop-taken-test.true, c.loop-taken.invariant.2)) c.clear_slot.ensures c.loop-taken.invariant.8)
-      c.loop-taken-test.true _ (rw c.in_default.is at c.grow-growth.ensures.0)),
-  c.grow-growth.ensures.1,
-  c.grow-growth.ensures.2,
+      c.loop-taken-test.true _ (rw c.in_err-known.was at c.grow.ensures.0))),
+  c.grow.ensures.1,
+  c.grow.ensures.2,
 )
 
 pub overflow_add-taken : goal.overflow_add-taken
@@ -49,8 +49,8 @@ overflow_add-taken c =
 
 pub loop-taken-preserved : goal.loop-taken-preserved
 loop-taken-preserved c =
-    let g = rw c.in-Known.is at
-    c.grow-growth.ensures.0 in let b =
+    let g = rw c.in_ok-known.was at
+    c.grow.ensures.0 in let b =
     g.grows.within _ refl in (
       omega (
         arith,
@@ -66,8 +66,8 @@ loop-taken-preserved c =
       search rules,
       search rules,
       search rules,
-      c.grow-growth.ensures.1,
-      c.grow-growth.ensures.2,
+      c.grow.ensures.1,
+      c.grow.ensures.2,
       explorers_next _ _ _
           _ _ _ _ (explorers_cleared _ _ _ _ _ _ _ _ (omega (
             arith,
@@ -83,22 +83,22 @@ loop-taken-preserved c =
       omega (
         arith,
         c.loop-taken.invariant.9,
-        c.grow-growth.auto,
+        c.grow.auto,
       ),
       omega (
         arith,
         c.loop-taken.invariant.10,
-        c.grow-growth.auto,
+        c.grow.auto,
       ),
       omega (
         arith,
         c.loop-taken.invariant.11,
-        c.grow-growth.auto,
+        c.grow.auto,
       ),
       omega (
         arith,
         c.loop-taken.invariant.12,
-        c.grow-growth.auto,
+        c.grow.auto,
       ),
     )
 

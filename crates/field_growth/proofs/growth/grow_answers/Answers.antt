@@ -15,15 +15,15 @@ loop-j-init c = (
       _ _ _,
 )
 
-pub returns-in_default : goal.returns-in_default
-returns-in_default c =
-    looked_full _ _ _ _ _ _ _ _ _ _ _ _ _ _ (answers_full _ _ _ _ _ _ _ _ _ _ _ _ _ _ _ _ _ c.loop-j.invariant.4 c.loop-j-test.true (rw
-    c.in_default.is at c.grow_answer-added.ensures.grown))
+pub returns-in_err-added : goal.returns-in_err-added
+returns-in_err-added c =
+    rw c.from_residual.ensures (looked_full _ _ _ _ _ _ _ _ _ _ _ _ _ _ (answers_full _ _ _ _ _ _ _ _ _ _ _ _ _ _ _ _ _ c.loop-j.invariant.4 c.loop-j-test.true (rw
+    c.in_err-added.was at c.grow_answer.ensures).grown))
 
 pub loop-j-preserved : goal.loop-j-preserved
 loop-j-preserved c =
-    let g = rw c.in-Known.is at
-    c.grow_answer-added.ensures.grown in (
+    let a = rw c.in_ok-added.was at c.grow_answer.ensures in
+    let g = a.grown in (
       search rules,
       search rules,
       omega (arith, (g.grows.within _ refl).0, c.loop-j.invariant.2),
@@ -32,12 +32,11 @@ loop-j-preserved c =
           c.loop-j.invariant.4
           c.loop-j-test.true g,
       looked_next _ _ _ _ _ _ _ _ _ _ _ _ _ _ _ _
-          c.loop-j.left _
-          c.grow_answer-added.result _ _ _
+          c.loop-j.left _ _ _ _
           c.loop-j.invariant.4
           c.loop-j.invariant.5
-          c.loop-j-test.true c.in-Known.is
-          c.join-led.ensures c.grow_answer-added.ensures,
+          c.loop-j-test.true
+          c.join-led.ensures a,
     )
 
 pub returns : goal.returns

@@ -14,14 +14,14 @@ loop-name-init c = (
       c.requires.slots.few,
 )
 
-pub returns-in_default : goal.returns-in_default
-returns-in_default c =
-    names_full _ _ _ _ _ _ _ _ _ _ _ _ _ c.requires.slots.waits _ _ _ _ c.loop-name.invariant.4 (omega (arith, c.loop-name-test.true)) (rw
-    c.in_default.is at c.grow_name-growth.ensures)
+pub returns-in_err-so_far : goal.returns-in_err-so_far
+returns-in_err-so_far c =
+    rw c.from_residual.ensures (names_full _ _ _ _ _ _ _ _ _ _ _ _ _ c.requires.slots.waits _ _ _ _ c.loop-name.invariant.4 (omega (arith, c.loop-name-test.true)) (rw
+    c.in_err-so_far.was at c.grow_name.ensures))
 
 pub loop-name-preserved : goal.loop-name-preserved
 loop-name-preserved c =
-    let g = rw c.in-Known.is at c.grow_name-growth.ensures in let b = g.grows.within _ refl in (
+    let g = rw c.in_ok-so_far.was at c.grow_name.ensures in let b = g.grows.within _ refl in (
       search rules,
       search rules,
       omega (arith, b.0, c.loop-name.invariant.2),

@@ -7,8 +7,8 @@ overflow_add-sum c = omega (arith, c.word-sum.ensures.below)
 pub overflow_add-sums : goal.overflow_add-sums
 overflow_add-sums c = omega (arith, c.word-sum.ensures.below)
 
-pub loop-i-preserved : goal.loop-i-preserved
-loop-i-preserved c = omega (arith, c.word-sum.ensures.below)
+pub loop-k-preserved : goal.loop-k-preserved
+loop-k-preserved c = omega (arith, c.word-sum.ensures.below)
 
 pub overflow_mul-result : goal.overflow_mul-result
 overflow_mul-result c = omega (arith, c.word.ensures.below)

@@ -9,7 +9,7 @@ loop-i-init c = (fill_start _ _, search rules, refl)
 
 pub loop-i-preserved : goal.loop-i-preserved
 loop-i-preserved c =
-    (fill_step _ _ _ c.loop-i.i _ (omega arith) c.replaced-n.ensures c.loop-i.invariant.0, search rules, refl)
+    (fill_step _ _ _ c.loop-i.i _ (omega arith) c.replaced.ensures c.loop-i.invariant.0, search rules, refl)
 
 pub returns : goal.returns
 returns c = λ n h. c.loop-i.invariant.0.done n (omega arith)

@@ -4,5 +4,5 @@ use Rattle.field_pairs.proofs.pairs.allowed.Goals as goal
 pub returns-then-differ : goal.returns-then-differ
 returns-then-differ c = allowed_trivial _ _ _ _ _ c.if-differ.true c.is_trivial.ensures
 
-pub returns : goal.returns
-returns c = allowed-permitted _ _ _ _ _ c.if-differ.false c.permitted.ensures
+pub returns-else-differ : goal.returns-else-differ
+returns-else-differ c = allowed-permitted _ _ _ _ _ c.if-differ.false c.permitted.ensures

@@ -14,9 +14,9 @@ returns-then-held_apart c =
 pub loop-m-preserved : goal.loop-m-preserved
 loop-m-preserved c = (
   search rules,
-  elim c.if-not-respects.branch [
-    | goal.then-not-respects+else-held_apart t ↦ spared_held _ _ _ _ _ (omega arith) (omega arith) _ t.held_apart.ensures t.if-held_apart.false c.loop-m.invariant.1
-    | goal.else-not-respects t ↦ spared_respected _ _ _ _ _ (omega arith) (omega arith) _ c.respects.ensures t.if-not-respects.false
+  elim c.else-not-respects.branch [
+    | goal.else-not-respects-via-then-not-respects+else-held_apart t ↦ spared_held _ _ _ _ _ (omega arith) (omega arith) _ t.held_apart.ensures t.if-held_apart.false c.loop-m.invariant.1
+    | goal.else-not-respects-via-else-not-respects t ↦ spared_respected _ _ _ _ _ (omega arith) (omega arith) _ c.respects.ensures t.if-not-respects.false
         c.loop-m.invariant.1
   ],
 )

@@ -1,10 +1,7 @@
-use Prim.Native.Nat.{◌-◌, ◌≤◌}
+use Prim.Native.Nat.{◌≤◌}
 use Rattle.terms.specs.Limits.{name_count}
 use Rattle.field_pairs.proofs.PairLaws.{Spared}
 use Rattle.field_pairs.proofs.pairs.merges_apart.Given as goal
 
 abbrev pub invariant-loop-m : goal.invariant-loop-m
 invariant-loop-m l = (l.m ≤ name_count) × Spared l.apart l.area l.at l.n l.m
-
-abbrev pub decreases-loop-m : goal.decreases-loop-m
-decreases-loop-m l = name_count - l.m

@@ -1,4 +1,4 @@
-use Prim.Native.Nat.{◌-◌, ◌≤◌}
+use Prim.Native.Nat.{◌≤◌}
 use Rattle.field_pairs.specs.PairFlags.{pair_count}
 use Rattle.field_pairs.proofs.Counting.{Passing}
 use Rattle.field_pairs.proofs.PairLaws.{Unset}
@@ -6,6 +6,3 @@ use Rattle.field_pairs.proofs.pairs.none_apart.Given as goal
 
 abbrev pub invariant-loop-k : goal.invariant-loop-k
 invariant-loop-k l = (l.k ≤ pair_count) × Passing (Unset l.flags) l.k l.none
-
-abbrev pub decreases-loop-k : goal.decreases-loop-k
-decreases-loop-k l = pair_count - l.k

@@ -4,10 +4,11 @@ use borrow.Author.Rules.{rules}
 use Rattle.field_pairs.proofs.pairs.permitted.Goals as goal
 
 pub returns-then-is_trivial : goal.returns-then-is_trivial
-returns-then-is_trivial c = permitted_trivial _ _ _ _ c.is_trivial.ensures c.if-is_trivial.true
-
-pub returns-then-none_apart : goal.returns-then-none_apart
-returns-then-none_apart c = permitted-none _ _ _ _ c.none_apart.ensures c.if-none_apart.true
+returns-then-is_trivial c =
+    elim c.then-is_trivial.branch [
+      | goal.then-is_trivial-via-then-is_trivial w ↦ permitted_trivial _ _ _ _ c.is_trivial.ensures w.if-is_trivial.true
+      | goal.then-is_trivial-via-else-is_trivial+then-none_apart w ↦ permitted-none _ _ _ _ w.none_apart.ensures w.if-none_apart.true
+    ]
 
 pub loop-n-init : goal.loop-n-init
 loop-n-init c = (search rules, λ D s e f j h. absurd (omega arith))
@@ -18,9 +19,9 @@ returns-then-merges_apart c = merged-found _ _ _ _ _ c.merges_apart.ensures c.if
 pub loop-n-preserved : goal.loop-n-preserved
 loop-n-preserved c = (
   search rules,
-  elim c.if-class_of-n.branch [
-    | goal.then-class_of-n+else-merges_apart t ↦ respected_next _ _ _ _ _ t.merges_apart.ensures t.if-merges_apart.false c.loop-n.invariant.1
-    | goal.else-class_of-n t ↦ respected_own _ _ _ _ _ c.class_of.ensures t.if-class_of-n.false c.loop-n.invariant.1
+  elim c.else-class_of-n.branch [
+    | goal.else-class_of-n-via-then-class_of-n+else-merges_apart t ↦ respected_next _ _ _ _ _ t.merges_apart.ensures t.if-merges_apart.false c.loop-n.invariant.1
+    | goal.else-class_of-n-via-else-class_of-n t ↦ respected_own _ _ _ _ _ c.class_of.ensures t.if-class_of-n.false c.loop-n.invariant.1
   ],
 )
 

@@ -1,15 +1,9 @@
 use native.Mathlib.Omega.{arith}
-use mathlib.Core.Path.{sym, ◌≡◌}
-use mathlib.Core.List.{List, ◌++◌}
-use Prim.Native.Nat.{ℕ, ◌≤◌}
-use lib.ListN.{length, take, drop}
-use lib.Seq.{length-take-le, length_front}
-use Rattle.field_kept_lists.specs.ListArea.{label_place, list_area}
-use Rattle.field_kept_lists.proofs.ListAreaLaws.{side_unlabelled, listed_at_hand, side_is}
+use mathlib.Core.Path.{sym}
+use lib.Seq.{length-take-le}
+use Rattle.field_kept_lists.specs.ListArea.{label_place}
+use Rattle.field_kept_lists.proofs.ListAreaLaws.{room_kept, side_unlabelled, listed_at_hand, side_is}
 use Rattle.field_relisting.proofs.relisting.list_anew.Goals as goal
-
-room_kept : (area new : List ℕ) → length new ≡ length (take label_place area) → list_area ≤ length area → list_area ≤ length (new ++ drop label_place area)
-room_kept area new e r = omega (arith, length_front area new label_place e)
 
 pub slice_bounds-list_tallied-end-2 : goal.slice_bounds-list_tallied-end-2
 slice_bounds-list_tallied-end-2 c =
@@ -24,7 +18,7 @@ bounds-area-34048 c = omega (arith, room_kept c.args.area.now c.list_tallied-ans
 
 pub put_label-requires : goal.put_label-requires
 put_label-requires c =
-    (omega (arith, room_kept c.args.area.now c.list_tallied-answer.new.area c.list_tallied-answer.auto.area c.requires.6.room), c.requires.4, c.requires.0, c.list_tallied-answer.ensures.few _ c.in-Count.is)
+    (omega (arith, room_kept c.args.area.now c.list_tallied-answer.new.area c.list_tallied-answer.auto.area c.requires.6.room), c.requires.4, c.requires.0, c.list_tallied-answer.ensures.few _ c.in-Some.is)
 
 pub keep-requires : goal.keep-requires
 keep-requires c = (
@@ -33,15 +27,15 @@ keep-requires c = (
   c.requires.4,
   c.requires.0,
   c.list_tallied-answer.ensures.few _
-      c.in-Count.is,
+      c.in-Some.is,
 )
 
-pub returns-in-Unsettled : goal.returns-in-Unsettled
-returns-in-Unsettled c =
-    side_unlabelled _ _ _ _ _ _ c.list_tallied-answer.ensures c.list_tallied-answer.auto.area c.requires.6 c.in-Unsettled.is
+pub returns-in-None : goal.returns-in-None
+returns-in-None c =
+    side_unlabelled _ _ _ _ _ _ c.list_tallied-answer.ensures c.list_tallied-answer.auto.area c.requires.6 c.in-None.is
 
-pub returns-in-Count : goal.returns-in-Count
-returns-in-Count c =
+pub returns-in-Some : goal.returns-in-Some
+returns-in-Some c =
     let made = listed_at_hand _ _ _ _ _ _ c.list_tallied-answer.ensures c.list_tallied-answer.auto.area c.requires.6 _
-    c.in-Count.is _ c.put_label.ensures (omega (arith, room_kept c.args.area.now c.list_tallied-answer.new.area c.list_tallied-answer.auto.area c.requires.6.room, c.put_label.auto.area)) in
+    c.in-Some.is _ c.put_label.ensures (omega (arith, room_kept c.args.area.now c.list_tallied-answer.new.area c.list_tallied-answer.auto.area c.requires.6.room, c.put_label.auto.area)) in
     side_is _ _ _ _ _ c.requires.4 (c.keep.ensures _ made.1 made.0)

@@ -1,28 +1,17 @@
-use mathlib.Core.List.{List, ◌++◌}
-use mathlib.Core.Path.{sym, ◌≡◌}
+use mathlib.Core.Path.{sym}
 use native.Mathlib.Omega.{arith}
-use Prim.Native.Nat.{ℕ, ◌-◌, ◌+◌, ◌≤◌}
-use lib.ListN.{length, take, drop}
-use lib.Seq.{length-take-le, length_front}
+use Prim.Native.Nat.{◌-◌}
+use lib.ListN.{length}
+use lib.Seq.{length-take-le}
 use Rattle.terms_bytes.proofs.Stores.{length-span}
 use Rattle.field_kept_lists.specs.ListArea.{label_place, label_bytes}
-use Rattle.field_kept_lists.proofs.ListAreaLaws.{lent_size, lent_unlabelled, lent_labelled}
+use Rattle.field_kept_lists.proofs.ListAreaLaws.{room_kept, lent_size, lent_unlabelled, lent_labelled}
 use Rattle.field_renewal.proofs.RenewingLaws.{list_renewed, not_renewed, list_at_hand}
 use borrow.Author.Rules.{rules}
 use Rattle.field_renewal.proofs.renewing.renew.Goals as goal
 
-front_size : (area new : List ℕ) → length new ≡ length (take label_place area) → length (new ++ drop label_place area) ≡ length area
-front_size area new e = length_front area new label_place e
-
-room_kept : (area new : List ℕ) → length new ≡ length (take label_place area) → label_place + label_bytes ≤ length area
-    → label_place + label_bytes ≤ length (new ++ drop label_place area)
-room_kept area new e r = omega (arith, front_size area new e)
-
 pub returns-then-y-ge-NAME_COUNT : goal.returns-then-y-ge-NAME_COUNT
 returns-then-y-ge-NAME_COUNT c = not_renewed _ _ _ _ c.requires.4
-
-pub returns-then-x-ge-NAME_COUNT : goal.returns-then-x-ge-NAME_COUNT
-returns-then-x-ge-NAME_COUNT c = not_renewed _ _ _ _ c.requires.4
 
 pub returns-then-is_free : goal.returns-then-is_free
 returns-then-is_free c = not_renewed _ _ _ _ c.requires.4
@@ -68,11 +57,11 @@ renew_steps-requires c =
 
 pub ascends-requires : goal.ascends-requires
 ascends-requires c =
-    omega (arith, room_kept c.args.area.now c.renew_steps.new.area c.renew_steps.auto.area (omega (arith, c.requires.4.room)), c.steps_in-n.ensures, c.requires.2.few)
+    omega (arith, room_kept c.args.area.now c.renew_steps.new.area c.renew_steps.auto.area c.requires.4.room, c.steps_in-n.ensures, c.requires.2.few)
 
 pub bounds-area-34048 : goal.bounds-area-34048
 bounds-area-34048 c =
-    omega (arith, room_kept c.args.area.now c.renew_steps.new.area c.renew_steps.auto.area (omega (arith, c.requires.4.room)), c.steps_in-n.ensures, c.requires.2.few)
+    omega (arith, room_kept c.args.area.now c.renew_steps.new.area c.renew_steps.auto.area c.requires.4.room, c.steps_in-n.ensures, c.requires.2.few)
 
 pub returns-then-not-ascends : goal.returns-then-not-ascends
 returns-then-not-ascends c =
@@ -81,7 +70,7 @@ returns-then-not-ascends c =
 
 pub put_label-requires : goal.put_label-requires
 put_label-requires c = (
-  omega (arith, room_kept c.args.area.now c.renew_steps.new.area c.renew_steps.auto.area (omega (arith, c.requires.4.room)), c.steps_in-n.ensures, c.requires.2.few),
+  omega (arith, room_kept c.args.area.now c.renew_steps.new.area c.renew_steps.auto.area c.requires.4.room, c.steps_in-n.ensures, c.requires.2.few),
   c.requires.0,
   omega arith,
   omega (
@@ -117,5 +106,5 @@ returns c =
     c.put_label.ensures (omega (
       arith,
       c.put_label.auto.area,
-      room_kept c.args.area.now c.renew_steps.new.area c.renew_steps.auto.area (omega (arith, c.requires.4.room)),
+      room_kept c.args.area.now c.renew_steps.new.area c.renew_steps.auto.area c.requires.4.room,
     )))

@@ -1,20 +1,20 @@
+use mathlib.Core.Bool.{true, false, true≢false}
+use mathlib.Core.Path.{◌≡◌, ap, sym, ◌∙◌}
 use native.Mathlib.Omega.{arith}
-use borrow.Author.Rules.{rules}
-use Rattle.field_pairs.proofs.Counting.{deciding_start, deciding_failed, deciding_next}
-use Rattle.field_slots.proofs.KeyLaws.{key_is}
+use Prim.Native.Nat.{◌+◌, ◌-◌}
+use lib.ListN.{take, drop}
+use lib.Dec.{eqb}
+use lib.Pointwise.{pointwise, bytes_decides}
+use Rattle.field_pairs.specs.Slot.{key_bytes}
 use Rattle.field_slots.proofs.find.same_key.Goals as goal
 
-pub loop-i-init : goal.loop-i-init
-loop-i-init c = (search rules, deciding_start _)
-
-pub loop-i-preserved : goal.loop-i-preserved
-loop-i-preserved c = (
-  search rules,
-  elim c.if-area-at.branch [
-    | goal.then-area-at w ↦ rw w.same-is (deciding_failed _ _ w.if-area-at.true)
-    | goal.else-area-at w ↦ rw w.same-is (deciding_next _ _ _ c.loop-i.invariant.1 w.if-area-at.false)
-  ],
-)
-
 pub returns : goal.returns
-returns c = key_is _ _ _ (search rules) (search rules) c.loop-i.i _ (omega arith) c.loop-i.invariant.1
+returns c =
+    let a = c.args in
+    let size : a.at + key_bytes - a.at ≡ key_bytes = omega arith in
+    let e = c.eq.ensures ∙ ap (λ n. pointwise eqb (take n (drop a.at a.area.now)) (take key_bytes a.key.now)) size in
+    let same = bytes_decides (take key_bytes (drop a.at a.area.now)) (take key_bytes a.key.now) in
+    record {
+      same = λ q. same.0 (sym e ∙ q);
+      other = λ q k. let t : true ≡ false = sym (same.1 k) ∙ sym e ∙ q in true≢false t;
+    }

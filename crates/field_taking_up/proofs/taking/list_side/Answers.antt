@@ -51,17 +51,17 @@ returns-then-has_list-3 c =
     side_is _ _ _ _ _ c.if-part-gt-LONGEST_TERM.false (c.copy_kept.ensures _ c.requires.4 (c.has_list-3.ensures c.if-has_list-3.true)
     c.requires.5)
 
-pub renew_kept-made-requires : goal.renew_kept-made-requires
-renew_kept-made-requires c =
+pub renew_kept-requires : goal.renew_kept-requires
+renew_kept-requires c =
     (c.if-part-gt-LONGEST_TERM.false, c.kept_place-p.ensures, c.requires.4, c.requires.5)
 
 pub list_anew-requires : goal.list_anew-requires
 list_anew-requires c =
-    (c.requires.0, c.requires.1, c.requires.2, c.requires.3, c.if-part-gt-LONGEST_TERM.false, c.kept_place-p.ensures, c.renew_kept-made.ensures.1)
+    (c.requires.0, c.requires.1, c.requires.2, c.requires.3, c.if-part-gt-LONGEST_TERM.false, c.kept_place-p.ensures, c.renew_kept.ensures.1)
 
-pub returns-in-Unsettled : goal.returns-in-Unsettled
-returns-in-Unsettled c = c.list_anew.ensures
+pub returns-in-Some : goal.returns-in-Some
+returns-in-Some c =
+    (side_renewed _ _ _ _ _ c.renew_kept.ensures.0 _ c.in-Some.is c.if-part-gt-LONGEST_TERM.false, c.renew_kept.ensures.1)
 
-pub returns-in-Count : goal.returns-in-Count
-returns-in-Count c =
-    (side_renewed _ _ _ _ _ c.renew_kept-made.ensures.0 _ c.in-Count.is c.if-part-gt-LONGEST_TERM.false, c.renew_kept-made.ensures.1)
+pub returns : goal.returns
+returns c = c.list_anew.ensures

@@ -11,20 +11,20 @@ plus-requires-in-Same c = record { small = c.requires.small; one = omega arith }
 pub plus-requires-in-Different : goal.plus-requires-in-Different
 plus-requires-in-Different c = record { small = c.requires.small; one = omega arith }
 
-pub returns-in-Refused : goal.returns-in-Refused
-returns-in-Refused c = add_refused c.args.tally c.args.judged c.in-Refused.field-0 c.in-Refused.is
+pub returns-in_default : goal.returns-in_default
+returns-in_default c = add_refused c.args.tally c.args.judged _ c.in_default.is
 
 pub returns-in-Unsettled : goal.returns-in-Unsettled
 returns-in-Unsettled c =
     let a = c.args in
-    add_unsettled a.tally a.judged c.plus.result c.plus.ensures c.in-Unsettled.is
+    add_unsettled a.tally a.judged _ c.in-Ok.is c.plus.result c.plus.ensures c.in-Unsettled.is
 
 pub returns-in-Same : goal.returns-in-Same
 returns-in-Same c =
     let a = c.args in
-    add_same a.tally a.judged c.plus-in-Same.result c.in-Same.field-0 c.plus-in-Same.ensures c.in-Same.is
+    add_same a.tally a.judged _ c.in-Ok.is c.plus-in-Same.result _ c.plus-in-Same.ensures c.in-Same.is
 
 pub returns-in-Different : goal.returns-in-Different
 returns-in-Different c =
     let a = c.args in
-    add_different a.tally a.judged c.plus-in-Different.result c.in-Different.field-0 c.plus-in-Different.ensures c.in-Different.is
+    add_different a.tally a.judged _ c.in-Ok.is c.plus-in-Different.result _ c.plus-in-Different.ensures c.in-Different.is

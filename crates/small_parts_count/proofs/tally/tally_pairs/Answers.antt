@@ -26,10 +26,6 @@ tally_row-tally-requires c =
       );
     }
 
-pub overflow_add-i : goal.overflow_add-i
-overflow_add-i c =
-    omega (arith, c.requires.few, c.loop-i-test.true)
-
 pub loop-i-preserved : goal.loop-i-preserved
 loop-i-preserved c =
     let l = c.loop-i in let r = c.tally_row-tally in let s = pairs-step c.args.size c.args.kept.now l.i l.tally r.result (search rules)

@@ -10,6 +10,3 @@ abbrev pub invariant-loop-i : goal.invariant-loop-i
 invariant-loop-i l =
     (l.i ≤ length l.kept) × (length l.work ≡ length l.initial.work) × (total l.tally ≤ most_parts * l.i)
     × (tallied l.tally (pairs_from l.size l.kept l.i) ≡ tallied none (word_pairs l.size l.kept l.kept))
-
-abbrev pub decreases-loop-i : goal.decreases-loop-i
-decreases-loop-i l = length l.kept - l.i

@@ -26,10 +26,6 @@ pub add-tally-requires : goal.add-tally-requires
 add-tally-requires c =
     record { small = omega (arith, c.requires.small, c.loop-j.invariant.2, c.loop-j-test.true) }
 
-pub overflow_add-j : goal.overflow_add-j
-overflow_add-j c =
-    omega (arith, c.requires.few, c.loop-j-test.true)
-
 pub loop-j-preserved : goal.loop-j-preserved
 loop-j-preserved c =
     let v = c.args in

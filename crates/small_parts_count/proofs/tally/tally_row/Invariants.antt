@@ -8,6 +8,3 @@ abbrev pub invariant-loop-j : goal.invariant-loop-j
 invariant-loop-j l =
     (l.j ≤ length l.kept) × (length l.work ≡ length l.initial.work) × (total l.tally ≤ total l.initial.tally + l.j)
     × (tallied l.tally (drop l.j (row_of l.size l.row l.kept)) ≡ tallied l.initial.tally (row_of l.size l.row l.kept))
-
-abbrev pub decreases-loop-j : goal.decreases-loop-j
-decreases-loop-j l = length l.kept - l.j

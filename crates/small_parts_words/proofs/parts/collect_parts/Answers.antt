@@ -1,6 +1,6 @@
 use native.Mathlib.Omega.{arith}
 use borrow.Author.Rules.{rules}
-use Rattle.small_parts_words.proofs.PartLaws.{none_kept, may_keep, count_few, kept_more, collected}
+use Rattle.small_parts_words.proofs.PartLaws.{none_kept, may_keep, kept_more, collected}
 use Rattle.small_parts_words.proofs.parts.collect_parts.Goals as goal
 
 pub loop-number-init : goal.loop-number-init
@@ -13,10 +13,6 @@ keep_part-count-requires c =
       c.word_count-words.ensures,
       c.loop-number-test.true,
     )) c.loop-number.invariant.1 c.loop-number.invariant.2
-
-pub overflow_add-number : goal.overflow_add-number
-overflow_add-number c =
-    omega (arith, c.word_count-words.ensures, c.loop-number-test.true, count_few c.args.size c.requires.0)
 
 pub loop-number-preserved : goal.loop-number-preserved
 loop-number-preserved c =

@@ -11,21 +11,21 @@ pub slice_bounds-scan_whole-end : goal.slice_bounds-scan_whole-end
 slice_bounds-scan_whole-end c =
     sym (length-take-le c.args.size c.write_word.new.out (omega (arith, c.write_word.auto.out, c.requires)))
 
-pub returns-in-Fault : goal.returns-in-Fault
+pub returns-in-Err : goal.returns-in-Err
 unfolding edition_from
-returns-in-Fault c =
+returns-in-Err c =
     faulty_word c.args.size
     c.args.number (replicate 5 0)
-    c.write_word.new.out c.scan_whole-scan.result c.in-Fault.field-0
-    (search rules) c.write_word.ensures c.scan_whole-scan.ensures
-    c.in-Fault.is
+    c.write_word.new.out c.scan_whole.result c.in-Err.field-0
+    (search rules) c.write_word.ensures c.scan_whole.ensures
+    c.in-Err.is
 
-pub returns-in-End : goal.returns-in-End
+pub returns-in-Ok : goal.returns-in-Ok
 unfolding edition_from
-returns-in-End c =
+returns-in-Ok c =
     whole_word c.args.size
     c.args.number (replicate 5 0)
-    c.write_word.new.out c.scan_whole-scan.result
-    c.in-End.field-0 c.in-End.control (search rules)
-    c.write_word.ensures c.scan_whole-scan.ensures
-    c.in-End.is
+    c.write_word.new.out c.scan_whole.result
+    c.in-Ok.control (search rules)
+    c.write_word.ensures c.scan_whole.ensures
+    c.in-Ok.is

@@ -6,6 +6,6 @@ pub returns-then-kind-gt-MATCHED : goal.returns-then-kind-gt-MATCHED
 unfolding action_kind
 returns-then-kind-gt-MATCHED c = simp (lt-ltb 4 c.args.kind c.if-kind-gt-MATCHED.true)
 
-pub returns : goal.returns
+pub returns-else-kind-gt-MATCHED : goal.returns-else-kind-gt-MATCHED
 unfolding action_kind
-returns c = simp (le-ltb 4 c.args.kind c.if-kind-gt-MATCHED.false)
+returns-else-kind-gt-MATCHED c = simp (le-ltb 4 c.args.kind c.if-kind-gt-MATCHED.false)

@@ -7,6 +7,6 @@ pub returns-then-c-le-LAST_NAME : goal.returns-then-c-le-LAST_NAME
 unfolding first_merged
 returns-then-c-le-LAST_NAME c = simp (le-leb c.args.c last_name c.if-c-le-LAST_NAME.true)
 
-pub returns : goal.returns
+pub returns-else-c-le-LAST_NAME : goal.returns-else-c-le-LAST_NAME
 unfolding first_merged
-returns c = simp (lt-leb c.args.c last_name c.if-c-le-LAST_NAME.false)
+returns-else-c-le-LAST_NAME c = simp (lt-leb c.args.c last_name c.if-c-le-LAST_NAME.false)

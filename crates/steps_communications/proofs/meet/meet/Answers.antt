@@ -1,5 +1,6 @@
 use borrow.Author.Rules.{rules}
 use mathlib.Core.Path.{refl}
+use native.Mathlib.Omega.{arith}
 use Rattle.steps_communications.proofs.MeetRows.{met_start, met_done, met-more, met-passed}
 use Rattle.steps_communications.proofs.meet.meet.Goals as goal
 
@@ -17,8 +18,8 @@ loop-row-init c =
           c.requires.0.0.0,
     )
 
-pub meet_row-m-requires : goal.meet_row-m-requires
-meet_row-m-requires c =
+pub meet_row-requires : goal.meet_row-requires
+meet_row-requires c =
     let g = c.requires in (
       (
         (c.loop-row.invariant.0, search rules),
@@ -32,13 +33,13 @@ meet_row-m-requires c =
       search rules,
     )
 
-pub returns-then-m-gt-MOST_STEPS : goal.returns-then-m-gt-MOST_STEPS
-returns-then-m-gt-MOST_STEPS c =
+pub returns-in_err-n-clause-is : goal.returns-in_err-n-clause-is
+returns-in_err-n-clause-is c =
     let v = c.args in
-    met-passed v.question.now v.part.now v.node.at v.node.depth v.node.number v.sides.before v.node.x v.rows.now
+    rw c.from_residual.ensures (met-passed v.question.now v.part.now v.node.at v.node.depth v.node.number v.sides.before v.node.x v.rows.now
     v.sides.first v.sides.middle v.sides.last v.area.now v.sides.count c.loop-row.row c.loop-row.n c.loop-row.j
-    c.loop-row.area c.loop-row.invariant.5 c.loop-row.invariant.2 c.loop-row.invariant.0 c.loop-row-test.true c.meet_row-m.result _ c.meet_row-m.ensures
-    c.if-m-gt-MOST_STEPS.true
+    c.loop-row.area c.loop-row.invariant.5 c.loop-row.invariant.2 c.loop-row.invariant.0 c.loop-row-test.true _ _ c.in_err-n.ensures.is
+    (omega arith))
 
 pub loop-row-preserved : goal.loop-row-preserved
 loop-row-preserved c =
@@ -55,11 +56,11 @@ loop-row-preserved c =
           c.loop-row.j c.loop-row.area
           c.loop-row.invariant.5 c.loop-row.invariant.2
           c.loop-row.invariant.0 c.loop-row-test.true
-          c.meet_row-m.result _ c.meet_row-m.ensures c.if-m-gt-MOST_STEPS.false,
+          _ _ c.in_ok-n.ensures.is c.in_ok-n.ensures.few,
     )
 
-pub returns : goal.returns
-returns c =
+pub returns-clause-is : goal.returns-clause-is
+returns-clause-is c =
     let v = c.args in
     met_done v.question.now v.part.now v.node.at v.node.depth v.node.number v.sides.before v.node.x v.rows.now
     v.sides.first v.sides.middle v.sides.last v.area.now v.sides.count c.loop-row.row c.loop-row.n c.loop-row.j

@@ -7,8 +7,8 @@ use Rattle.steps_communications.proofs.meet.next_met.Goals as goal
 pub loop-w-init : goal.loop-w-init
 loop-w-init c = (search rules, search rules, λ v h l. absurd (omega arith))
 
-pub returns-then-may_meet : goal.returns-then-may_meet
-returns-then-may_meet c =
+pub returns-then-may_meet-clause-is : goal.returns-then-may_meet-clause-is
+returns-then-may_meet-clause-is c =
     let v = c.args in
     record {
       on = c.loop-w.invariant.0;
@@ -33,6 +33,11 @@ loop-w-preserved c =
           c.if-may_meet.false),
     )
 
-pub returns : goal.returns
-returns c =
-    record { on = c.loop-w.invariant.0; inside = c.loop-w.invariant.1; apart = c.loop-w.invariant.2; meets = λ h. absurd (omega arith) }
+pub returns-clause-is : goal.returns-clause-is
+returns-clause-is c =
+    record {
+      on = c.requires.0;
+      inside = omega arith;
+      apart = λ v h l. c.loop-w.invariant.2 v h (omega (arith, c.loop-w-test.false));
+      meets = λ h. absurd (omega arith);
+    }

@@ -2,10 +2,10 @@ use borrow.Author.Tests.{eq-eqb, ne_eqb}
 use Rattle.steps_communications.specs.Met.{sending_of}
 use Rattle.steps_communications.proofs.meet.sending.Goals as goal
 
-pub returns-then-a-eq-INPUT : goal.returns-then-a-eq-INPUT
+pub returns-then-pair-eq-INPUT : goal.returns-then-pair-eq-INPUT
 unfolding sending_of
-returns-then-a-eq-INPUT c = simp (eq-eqb c.args.pair.left.kind 1 c.if-a-eq-INPUT.true)
+returns-then-pair-eq-INPUT c = simp (eq-eqb c.args.pair.left.kind 1 c.if-pair-eq-INPUT.true)
 
-pub returns : goal.returns
+pub returns-else-pair-eq-INPUT : goal.returns-else-pair-eq-INPUT
 unfolding sending_of
-returns c = simp (ne_eqb c.args.pair.left.kind 1 c.if-a-eq-INPUT.false)
+returns-else-pair-eq-INPUT c = simp (ne_eqb c.args.pair.left.kind 1 c.if-pair-eq-INPUT.false)

@@ -7,6 +7,6 @@ pub returns-then-slot-le-LAST_NAME : goal.returns-then-slot-le-LAST_NAME
 unfolding table_slot
 returns-then-slot-le-LAST_NAME c = simp (le-leb c.args.slot last_name c.if-slot-le-LAST_NAME.true)
 
-pub returns : goal.returns
+pub returns-else-slot-le-LAST_NAME : goal.returns-else-slot-le-LAST_NAME
 unfolding table_slot
-returns c = simp (lt-leb c.args.slot last_name c.if-slot-le-LAST_NAME.false)
+returns-else-slot-le-LAST_NAME c = simp (lt-leb c.args.slot last_name c.if-slot-le-LAST_NAME.false)

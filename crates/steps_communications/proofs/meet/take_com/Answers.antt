@@ -1,3 +1,4 @@
+use Rattle.steps_splicing.specs.Collecting.{counted}
 use Rattle.steps_communications.proofs.ComLaws.{free_slot, com_taken}
 use native.Mathlib.Omega.{arith}
 use Rattle.steps_communications.specs.Meeting.{sender_of}
@@ -20,10 +21,10 @@ put_met-requires c =
     let e = c.components_of-both.ensures in
     (g.0.0, (e.left.deep, e.left.inside), (e.right.deep, e.right.inside), g.0.2)
 
-pub returns : goal.returns
-returns c =
+pub returns-clause-is : goal.returns-clause-is
+returns-clause-is c =
     let v = c.args in
     let g = c.requires in
     com_taken v.question.now v.part.now v.met.node v.met.pair v.met.merges v.class.now v.area.now v.count
-    c.put_met.result _ v.tally.now g.0.0.1.1 c.components_of-both.result c.components_of-both.ensures c.sender-from.result
-    c.sender-from.ensures g.1 c.table_slot-new.result c.table_slot-new.ensures c.put_met.ensures
+    (counted c.put_met.result) _ v.tally.now g.0.0.1.1 c.components_of-both.result c.components_of-both.ensures c.sender-from.result
+    c.sender-from.ensures g.1 c.table_slot-new.result c.table_slot-new.ensures c.put_met.ensures.is

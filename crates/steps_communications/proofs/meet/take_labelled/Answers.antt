@@ -10,5 +10,5 @@ take_met-requires c =
     let l : length c.args.label.condition.class ≡ 256 = search rules in
     (g.0, g.1, omega (arith, l), g.2)
 
-pub returns : goal.returns
-returns c = c.take_met.ensures
+pub returns-clause-is : goal.returns-clause-is
+returns-clause-is c = c.take_met.ensures.is

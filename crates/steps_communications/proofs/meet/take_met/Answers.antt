@@ -11,13 +11,13 @@ sends_free-requires c =
 pub take_com-requires : goal.take_com-requires
 take_com-requires c = (
   c.requires,
-  ap (sends_free c.args.met.node.depth) (sym c.sender-from.ensures) ∙ sym c.sends_free.ensures ∙
+  ap (sends_free c.args.met.node.depth) (sym c.sender.ensures) ∙ sym c.sends_free.ensures ∙
       c.if-sends_free.true,
 )
 
 pub take_close-requires : goal.take_close-requires
 take_close-requires c = (
   c.requires,
-  ap (sends_free c.args.met.node.depth) (sym c.sender-from.ensures) ∙ sym c.sends_free.ensures ∙
+  ap (sends_free c.args.met.node.depth) (sym c.sender.ensures) ∙ sym c.sends_free.ensures ∙
       c.if-sends_free.false,
 )

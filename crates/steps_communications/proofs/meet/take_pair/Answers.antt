@@ -4,9 +4,6 @@ use Rattle.steps_communications.proofs.meet.take_pair.Goals as goal
 pub returns-then-a-ge-MATCHED : goal.returns-then-a-ge-MATCHED
 returns-then-a-ge-MATCHED c = c.take_matched.ensures
 
-pub returns-then-b-ge-MATCHED : goal.returns-then-b-ge-MATCHED
-returns-then-b-ge-MATCHED c = c.take_matched-then-b-ge-MATCHED.ensures
-
 pub take_same-requires : goal.take_same-requires
 take_same-requires c =
     (c.requires.0, c.requires.1, omega (arith, c.if-a-ge-MATCHED.false), omega (arith, c.if-b-ge-MATCHED.false), c.if-a-b.true, c.requires.2)

@@ -1,14 +1,14 @@
 use Rattle.steps_conditions.proofs.LabelRules.{communication-left, communication_right, communication-found}
 use Rattle.steps_conditions.proofs.rules.communication.Goals as goal
 
-pub returns-in-Blocked : goal.returns-in-Blocked
-returns-in-Blocked c =
-    communication-left c.args.p c.args.q _ c.blocked.ensures c.in-Blocked.is
+pub returns-in_err-p : goal.returns-in_err-p
+returns-in_err-p c =
+    rw c.from_residual.ensures (communication-left c.args.p c.args.q c.in_err-p.was)
 
-pub returns-in-Blocked-right : goal.returns-in-Blocked-right
-returns-in-Blocked-right c =
-    communication_right c.args.p c.args.q _ c.blocked-in-Blocked-right.ensures c.in-Blocked-right.is
+pub returns-in_err-q : goal.returns-in_err-q
+returns-in_err-q c =
+    rw c.from_residual-in_err-q.ensures (communication_right c.args.p c.args.q c.in_err-q.was)
 
-pub returns-in-Found-right : goal.returns-in-Found-right
-returns-in-Found-right c =
-    communication-found c.args.p c.args.q _ c.in-Found.is c.in-Found-right.is c.met.ensures
+pub returns : goal.returns
+returns c =
+    communication-found c.args.p c.args.q _ _ _ c.in_ok-p.was c.in_ok-q.was c.met.ensures

@@ -1,9 +1,10 @@
 use Rattle.steps_conditions.proofs.LabelRules.{restricted-blocked, restricted-found}
 use Rattle.steps_conditions.proofs.rules.restricted.Goals as goal
 
-pub returns-in-Blocked : goal.returns-in-Blocked
-returns-in-Blocked c = restricted-blocked c.args.label c.args.level c.in-Blocked.is
+pub returns-in_err-label : goal.returns-in_err-label
+returns-in_err-label c =
+    rw c.from_residual.ensures (restricted-blocked c.args.label c.args.level c.in_err-label.was)
 
-pub returns-in-Found : goal.returns-in-Found
-returns-in-Found c =
-    restricted-found c.args.label c.args.level _ c.in-Found.is c.outside.ensures
+pub returns : goal.returns
+returns c =
+    restricted-found c.args.label c.args.level _ _ c.in_ok-label.was c.outside.ensures

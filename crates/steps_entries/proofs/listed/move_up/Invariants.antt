@@ -6,6 +6,3 @@ use Rattle.steps_entries.proofs.listed.move_up.Given as goal
 
 abbrev pub invariant-loop-i : goal.invariant-loop-i
 invariant-loop-i l = (l.i ≤ l.n) × (l.list ≡ sets l.initial.list (l.i + 1) (span l.initial.list l.i (l.n - l.i)))
-
-abbrev pub decreases-loop-i : goal.decreases-loop-i
-decreases-loop-i l = l.i

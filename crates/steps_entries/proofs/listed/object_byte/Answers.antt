@@ -7,6 +7,6 @@ pub returns-then-object-eq-NEW_NAME : goal.returns-then-object-eq-NEW_NAME
 unfolding object_byte
 returns-then-object-eq-NEW_NAME c = rw (eq-eqb _ _ c.if-object-eq-NEW_NAME.true) refl
 
-pub returns : goal.returns
+pub returns-else-object-eq-NEW_NAME : goal.returns-else-object-eq-NEW_NAME
 unfolding object_byte
-returns c = rw (ne_eqb _ _ c.if-object-eq-NEW_NAME.false) c.get.ensures
+returns-else-object-eq-NEW_NAME c = rw (ne_eqb _ _ c.if-object-eq-NEW_NAME.false) c.get.ensures

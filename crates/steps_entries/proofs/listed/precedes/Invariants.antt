@@ -1,4 +1,4 @@
-use Prim.Native.Nat.{◌-◌, ◌≤◌}
+use Prim.Native.Nat.{◌≤◌}
 use Rattle.steps_entries.proofs.EntryOrder.{Passed}
 use Rattle.steps_entries.specs.Entries.{entry_from}
 use Rattle.steps.specs.Limits.{step_bytes}
@@ -6,6 +6,3 @@ use Rattle.steps_entries.proofs.listed.precedes.Given as goal
 
 abbrev pub invariant-loop-k : goal.invariant-loop-k
 invariant-loop-k l = (l.k ≤ step_bytes) × Passed (entry_from l.a l.i) (entry_from l.b l.j) l.k
-
-abbrev pub decreases-loop-k : goal.decreases-loop-k
-decreases-loop-k l = step_bytes - l.k

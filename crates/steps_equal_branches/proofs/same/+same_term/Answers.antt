@@ -4,8 +4,8 @@ use native.Mathlib.Omega.{arith}
 use lib.ListN.{length}
 use Rattle.steps_equal_branches.proofs.same.+same_term.Goals as goal
 
-pub returns-then-src-at : goal.returns-then-src-at
-returns-then-src-at t c =
+pub returns-then-src-at-clause-is : goal.returns-then-src-at-clause-is
+returns-then-src-at-clause-is t c =
     let a = c.args in
     same_not a.src.now a.p a.at a.arities.now a.args.now a.inner a.depth
 
@@ -16,8 +16,8 @@ same_front-requires t c =
     let is = c.shape_at-h.ensures in
     (c.requires.0, is.few, c.requires.1, omega (arith, c.requires.2))
 
-pub returns-then-not-same_front : goal.returns-then-not-same_front
-returns-then-not-same_front t c =
+pub returns-then-not-same_front-clause-is : goal.returns-then-not-same_front-clause-is
+returns-then-not-same_front-clause-is t c =
     let a = c.args in
     same_not a.src.now a.p a.at a.arities.now a.args.now a.inner a.depth
 
@@ -29,8 +29,8 @@ overflow_add-n t c =
     let w = is.few in
     omega arith
 
-pub returns-then-subterms-eq0 : goal.returns-then-subterms-eq0
-returns-then-subterms-eq0 t c =
+pub returns-then-subterms-eq0-clause-is : goal.returns-then-subterms-eq0-clause-is
+returns-then-subterms-eq0-clause-is t c =
     let a = c.args in
     let h = c.shape_at-h.result in
     let is = c.shape_at-h.ensures in
@@ -78,8 +78,8 @@ overflow_add-at t c =
     let i = F.inside in
     omega arith
 
-pub same_term-e-requires : goal.same_term-e-requires
-same_term-e-requires t c =
+pub same_term-requires : goal.same_term-requires
+same_term-requires t c =
     let a = c.args in
     let h = c.shape_at-h.result in
     let is = c.shape_at-h.ensures in
@@ -94,10 +94,10 @@ same_term-e-requires t c =
     let l = c.if-src-at.false in
     (omega arith, (omega arith, omega arith, omega arith))
 
-pub returns-then-e-eq0 : goal.returns-then-e-eq0
-returns-then-e-eq0 t c =
+pub returns-in_err-e-clause-is : goal.returns-in_err-e-clause-is
+returns-in_err-e-clause-is t c =
     let a = c.args in
-    same_not a.src.now a.p a.at a.arities.now a.args.now a.inner a.depth
+    rw c.from_residual.ensures (same_not a.src.now a.p a.at a.arities.now a.args.now a.inner a.depth)
 
 pub overflow_add-m : goal.overflow_add-m
 overflow_add-m t c =
@@ -106,22 +106,22 @@ overflow_add-m t c =
     let is = c.shape_at-h.ensures in
     let F = c.same_front.ensures (c.if-not-same_front.false) in
     let i = F.inside in
-    let S = c.same_term-e.ensures in
+    let S = c.in_ok-e.ensures.is in
     let j = S.inside in
-    let e = c.same_term-e.result in
-    let ne = c.if-e-eq0.false in
+    let e = c.in_ok-e.e in
+    let ne = c.in_ok-e.ensures.some in
     omega arith
 
-pub returns-then-subterms-eq1 : goal.returns-then-subterms-eq1
-returns-then-subterms-eq1 t c =
+pub returns-then-subterms-eq1-clause-is : goal.returns-then-subterms-eq1-clause-is
+returns-then-subterms-eq1-clause-is t c =
     let a = c.args in
     let h = c.shape_at-h.result in
     let is = c.shape_at-h.ensures in
     let F = c.same_front.ensures (c.if-not-same_front.false) in
-    let S = c.same_term-e.ensures in
+    let S = c.in_ok-e.ensures.is in
     let j = S.inside in
-    let e = c.same_term-e.result in
-    let ne = c.if-e-eq0.false in
+    let e = c.in_ok-e.e in
+    let ne = c.in_ok-e.ensures.some in
     same_one a.src.now a.p a.at a.arities.now a.args.now a.inner a.depth c.requires.0 h is F e (omega arith) S c.if-subterms-eq1.true
 
 pub overflow_add-p-2 : goal.overflow_add-p-2
@@ -131,10 +131,10 @@ overflow_add-p-2 t c =
     let is = c.shape_at-h.ensures in
     let F = c.same_front.ensures (c.if-not-same_front.false) in
     let i = F.inside in
-    let S = c.same_term-e.ensures in
+    let S = c.in_ok-e.ensures.is in
     let j = S.inside in
-    let e = c.same_term-e.result in
-    let ne = c.if-e-eq0.false in
+    let e = c.in_ok-e.e in
+    let ne = c.in_ok-e.ensures.some in
     let b = c.requires.0 in
     omega arith
 
@@ -145,14 +145,14 @@ overflow_add-at-2 t c =
     let is = c.shape_at-h.ensures in
     let F = c.same_front.ensures (c.if-not-same_front.false) in
     let i = F.inside in
-    let S = c.same_term-e.ensures in
+    let S = c.in_ok-e.ensures.is in
     let j = S.inside in
-    let e = c.same_term-e.result in
-    let ne = c.if-e-eq0.false in
+    let e = c.in_ok-e.e in
+    let ne = c.in_ok-e.ensures.some in
     omega arith
 
-pub same_term-f-requires : goal.same_term-f-requires
-same_term-f-requires t c =
+pub same_term-requires-2 : goal.same_term-requires-2
+same_term-requires-2 t c =
     let a = c.args in
     let h = c.shape_at-h.result in
     let is = c.shape_at-h.ensures in
@@ -162,19 +162,19 @@ same_term-f-requires t c =
     let s = is.some in
     let w = c.requires.1 in
     let v = c.requires.2 in
-    let S = c.same_term-e.ensures in
+    let S = c.in_ok-e.ensures.is in
     let j = S.inside in
-    let e = c.same_term-e.result in
-    let ne = c.if-e-eq0.false in
+    let e = c.in_ok-e.e in
+    let ne = c.in_ok-e.ensures.some in
     let b = c.requires.0 in
     let m = c.decreases in
     let l = c.if-src-at.false in
     (omega arith, (omega arith, omega arith, omega arith))
 
-pub returns-then-f-eq0 : goal.returns-then-f-eq0
-returns-then-f-eq0 t c =
+pub returns-in_err-f-clause-is : goal.returns-in_err-f-clause-is
+returns-in_err-f-clause-is t c =
     let a = c.args in
-    same_not a.src.now a.p a.at a.arities.now a.args.now a.inner a.depth
+    rw c.from_residual-in_err-f.ensures (same_not a.src.now a.p a.at a.arities.now a.args.now a.inner a.depth)
 
 pub overflow_add-result : goal.overflow_add-result
 overflow_add-result t c =
@@ -183,23 +183,32 @@ overflow_add-result t c =
     let is = c.shape_at-h.ensures in
     let F = c.same_front.ensures (c.if-not-same_front.false) in
     record {
-      fits = lengths_fit a.at (h.fixed + h.names) c.same_term-e.result c.same_term-f.result (length a.src.now) F.inside
-          c.same_term-e.ensures.inside c.same_term-f.ensures.inside c.well_formed.0.1;
+      fits = lengths_fit a.at (h.fixed + h.names) c.in_ok-e.e c.in_ok-f.f (length a.src.now) F.inside
+          c.in_ok-e.ensures.is.inside c.in_ok-f.ensures.is.inside c.well_formed.0.1;
     }
 
-pub returns : goal.returns
-returns t c =
+pub returns-clause-is : goal.returns-clause-is
+returns-clause-is t c =
     let a = c.args in
     let h = c.shape_at-h.result in
     let is = c.shape_at-h.ensures in
     let F = c.same_front.ensures (c.if-not-same_front.false) in
-    let S = c.same_term-e.ensures in
+    let S = c.in_ok-e.ensures.is in
     let j = S.inside in
-    let e = c.same_term-e.result in
-    let ne = c.if-e-eq0.false in
-    let T = c.same_term-f.ensures in
+    let e = c.in_ok-e.e in
+    let ne = c.in_ok-e.ensures.some in
+    let T = c.in_ok-f.ensures.is in
     let k = T.inside in
-    let f = c.same_term-f.result in
-    let nf = c.if-f-eq0.false in
+    let f = c.in_ok-f.f in
+    let nf = c.in_ok-f.ensures.some in
     same_two a.src.now a.p a.at a.arities.now a.args.now a.inner a.depth c.requires.0 h is F e (omega arith) S c.if-subterms-eq0.false
     c.if-subterms-eq1.false f (omega arith) T
+
+pub returns-then-subterms-eq0-clause-some : goal.returns-then-subterms-eq0-clause-some
+returns-then-subterms-eq0-clause-some t c = let s = c.shape_at-h.ensures.some in omega arith
+
+pub returns-then-subterms-eq1-clause-some : goal.returns-then-subterms-eq1-clause-some
+returns-then-subterms-eq1-clause-some t c = let s = c.shape_at-h.ensures.some in omega arith
+
+pub returns-clause-some : goal.returns-clause-some
+returns-clause-some t c = let s = c.shape_at-h.ensures.some in omega arith

@@ -24,8 +24,8 @@ same_term-requires c =
     let w = c.requires.2 in
     (omega arith, c.requires.1, omega arith)
 
-pub returns-then-same_term-eq0 : goal.returns-then-same_term-eq0
-returns-then-same_term-eq0 c =
+pub returns-in_default : goal.returns-in_default
+returns-in_default c =
     let v = c.args in
     branch_not v.src.now v.p v.at v.arities.now v.args.now v.inner v.depth
 
@@ -33,14 +33,14 @@ pub returns-then-n-eq0 : goal.returns-then-n-eq0
 returns-then-n-eq0 c =
     let v = c.args in
     branch_plain v.src.now v.p v.at v.arities.now v.args.now v.inner v.depth c.chain_length-m.result
-    c.chain_length-n.result c.chain_length-m.ensures c.chain_length-n.ensures c.same_term.result c.if-same_term-eq0.false
-    c.same_term.ensures c.if-n-eq0.true
+    c.chain_length-n.result c.chain_length-m.ensures c.chain_length-n.ensures c.in-Some.k (λ z. let p = c.in-Some.ensures.some in omega arith)
+    c.in-Some.ensures.is c.if-n-eq0.true
 
 pub same_condition-requires : goal.same_condition-requires
 same_condition-requires c =
     let w = c.requires.2 in
-    let i = c.same_term.ensures.inside in
-    let k = c.if-same_term-eq0.false in
+    let i = c.in-Some.ensures.is.inside in
+    let k = c.in-Some.ensures.some in
     let l = c.if-end-behind.false in
     (omega arith, omega arith, c.requires.1, omega arith)
 
@@ -48,5 +48,5 @@ pub returns : goal.returns
 returns c =
     let v = c.args in
     branch_same v.src.now v.p v.at v.arities.now v.args.now v.inner v.depth c.chain_length-m.result
-    c.chain_length-n.result c.chain_length-m.ensures c.chain_length-n.ensures c.same_term.result c.if-same_term-eq0.false
-    c.same_term.ensures c.same_condition.result c.same_condition.ensures
+    c.chain_length-n.result c.chain_length-m.ensures c.chain_length-n.ensures c.in-Some.k (λ z. let p = c.in-Some.ensures.some in omega arith)
+    c.in-Some.ensures.is c.same_condition.result c.same_condition.ensures

@@ -3,7 +3,6 @@ use mathlib.Core.Path.{◌≡◌, refl, sym, ap, ◌∙◌}
 use Prim.Native.Nat.{◌+◌, ◌*◌, ◌≤◌}
 use native.Mathlib.Omega.{arith}
 use lib.ListN.{length, get_or}
-use borrow.Author.Tests.{not-true, not-false}
 use Rattle.terms.specs.Limits.{longest_term}
 use Rattle.steps_labels.specs.LabelWalk.{Leads}
 use Rattle.steps_labels.proofs.LabelWalks.{weight_on, weight_down, weight_body, room_on, room_under, room_body, nth_none, nth_prefix, nth_closed, nth_cut, nth_called, meet-none, meet-both}
@@ -18,7 +17,7 @@ nth-nth_meeting-requires t c =
     let a = c.args in
     let p = c.origin_of-p.result in
     let S = c.origin_of-p.ensures in
-    let i = S.inside c.if-middle-gt0.true in (
+    let i = S.inside _ c.in-Some.is in (
       weight_down (a.scope.calls * 113) (length a.src.now) a.scope.at p.at t 1 c.decreases S.on (omega arith),
       (
         i.0,
@@ -30,10 +29,10 @@ nth-nth_meeting-requires t c =
       ),
     )
 
-pub nth-returns-then-middle-gt0 : goal.nth-returns-then-middle-gt0
-nth-returns-then-middle-gt0 t c =
+pub nth-returns-in-Some : goal.nth-returns-in-Some
+nth-returns-in-Some t c =
     let a = c.args in
-    c.origin_of-p.ensures.met c.if-middle-gt0.true a.question.now a.args.now a.scope.inner a.scope.depth
+    c.origin_of-p.ensures.met _ c.in-Some.is a.question.now a.args.now a.scope.inner a.scope.depth
     a.scope.calls _ c.requires.1 c.nth_meeting.ensures
 
 pub nth-returns-then-src-b : goal.nth-returns-then-src-b
@@ -42,7 +41,7 @@ nth-returns-then-src-b t c =
     let a = c.args in
     let p = c.origin_of-p.result in
     let S = c.origin_of-p.ensures in
-    S.is (omega (arith, c.if-middle-gt0.false)) a.question.now a.args.now a.scope.inner a.scope.depth a.scope.calls _
+    S.is c.in_default.is a.question.now a.args.now a.scope.inner a.scope.depth a.scope.calls _
     c.requires.1 (nth_none a.question.now a.src.now p.at p.number a.silent a.args.now a.scope.inner a.scope.depth
     a.scope.calls _ c.if-src-b.true)
 
@@ -57,7 +56,7 @@ nth-returns-then-t-lt-MATCH t c =
     let a = c.args in
     let p = c.origin_of-p.result in
     let S = c.origin_of-p.ensures in
-    S.is (omega (arith, c.if-middle-gt0.false)) a.question.now a.args.now a.scope.inner a.scope.depth a.scope.calls _ c.requires.1
+    S.is c.in_default.is a.question.now a.args.now a.scope.inner a.scope.depth a.scope.calls _ c.requires.1
     (nth_prefix a.question.now a.src.now p.at p.number a.silent a.args.now a.scope.inner a.scope.depth a.scope.calls
     c.if-t-lt-MATCH.true _ c.nth_prefix.ensures)
 
@@ -81,7 +80,7 @@ nth-returns-then-t-gt-RESTRICTION t c =
     let a = c.args in
     let p = c.origin_of-p.result in
     let S = c.origin_of-p.ensures in
-    S.is (omega (arith, c.if-middle-gt0.false)) a.question.now a.args.now a.scope.inner a.scope.depth a.scope.calls _ c.requires.1
+    S.is c.in_default.is a.question.now a.args.now a.scope.inner a.scope.depth a.scope.calls _ c.requires.1
     c.nth_call.ensures
 
 pub nth-overflow_add-next : goal.nth-overflow_add-next
@@ -117,10 +116,7 @@ nth-nth-label-requires t c =
     let n = c.past.result in
     let R = c.restrictions_at-k.ensures in
     let h = c.if-src-b.false in
-    let z : n ≡ 0 → ⊥ = λ e. past-some a.src.now p.at k R c.if-src-b.false c.if-t-lt-MATCH.false c.if-t-gt-RESTRICTION.false (S.one (omega (
-      arith,
-      c.if-middle-gt0.false,
-    )) c.if-src-b.false) (sym c.past.ensures ∙ e) in (
+    let z : n ≡ 0 → ⊥ = λ e. past-some a.src.now p.at k R c.if-src-b.false c.if-t-lt-MATCH.false c.if-t-gt-RESTRICTION.false (S.one c.in_default.is c.if-src-b.false) (sym c.past.ensures ∙ e) in (
       weight_on (a.scope.calls * 113) (length a.src.now) a.scope.at (p.at + n) t 3 c.decreases (omega (arith, S.on)) (omega (
         arith,
         S.on,
@@ -159,55 +155,55 @@ nth-returns t c =
     let S = c.origin_of-p.ensures in
     let k = c.restrictions_at-k.result in
     let R = c.restrictions_at-k.ensures in
-    S.is (omega (arith, c.if-middle-gt0.false)) a.question.now a.args.now a.scope.inner a.scope.depth a.scope.calls _ c.requires.1
+    S.is c.in_default.is a.question.now a.args.now a.scope.inner a.scope.depth a.scope.calls _ c.requires.1
     (c.outside_of.ensures.is a.question.now p.number a.silent a.scope.calls (past-some a.src.now p.at k R c.if-src-b.false
-    c.if-t-lt-MATCH.false c.if-t-gt-RESTRICTION.false (S.one (omega (arith, c.if-middle-gt0.false)) c.if-src-b.false)) R.are (rw c.past.ensures at
+    c.if-t-lt-MATCH.false c.if-t-gt-RESTRICTION.false (S.one c.in_default.is c.if-src-b.false)) R.are (rw c.past.ensures at
     c.nth-label.ensures))
 
-pub nth_call-returns-then-not-o : goal.nth_call-returns-then-not-o
-nth_call-returns-then-not-o t c =
+pub nth_call-returns-in_err-o : goal.nth_call-returns-in_err-o
+nth_call-returns-in_err-o t c =
     let a = c.args in
     nth_closed a.question.now a.src.now a.scope.at a.i a.silent a.args.now a.scope.inner a.scope.depth a.scope.calls
-    c.requires.1 c.call_at-o.result c.call_at-o.ensures _ (not-true _ c.if-not-o.true)
+    c.requires.1 (c.call_at.ensures.none c.in_err-o.was) _
 
 pub nth_call-returns-then-src-o : goal.nth_call-returns-then-src-o
 nth_call-returns-then-src-o t c =
     let a = c.args in
     nth_cut a.question.now a.src.now a.scope.at a.i a.silent a.args.now a.scope.inner a.scope.depth a.scope.calls
-    c.requires.1 c.call_at-o.result c.call_at-o.ensures _ c.if-src-o.true
+    c.requires.1 c.in_ok-o.o (c.call_at.ensures.some _ c.in_ok-o.was) _ c.if-src-o.true
 
 pub nth_call-arguments-given-requires : goal.nth_call-arguments-given-requires
 nth_call-arguments-given-requires t c =
-    let m = c.call_at-o.ensures.may (not-false _ c.if-not-o.false) in
+    let m = (c.call_at.ensures.some _ c.in_ok-o.was).may in
     let w = c.requires.2.room in
-    (omega (arith, c.if-src-o.false, c.call_at-o.ensures.end), m.1, c.requires.2.outer, omega arith)
+    (omega (arith, c.if-src-o.false, (c.call_at.ensures.some _ c.in_ok-o.was).end), m.1, c.requires.2.outer, omega arith)
 
 pub nth_call-body_tally-within-requires : goal.nth_call-body_tally-within-requires
 nth_call-body_tally-within-requires t c =
-    ((c.call_at-o.ensures.may (not-false _ c.if-not-o.false)).3, c.requires.3.size)
+    (((c.call_at.ensures.some _ c.in_ok-o.was).may).3, c.requires.3.size)
 
 pub nth_call-overflow_sub-left : goal.nth_call-overflow_sub-left
 nth_call-overflow_sub-left t c =
-    let m = c.call_at-o.ensures.may (not-false _ c.if-not-o.false) in
+    let m = (c.call_at.ensures.some _ c.in_ok-o.was).may in
     omega (arith, m)
 
 pub nth_call-nth-requires : goal.nth_call-nth-requires
 nth_call-nth-requires t c =
     let a = c.args in
-    let m = c.call_at-o.ensures.may (not-false _ c.if-not-o.false) in
+    let m = (c.call_at.ensures.some _ c.in_ok-o.was).may in
     let b : length c.body_at-body.result.now ≤ longest_term = omega (
       arith,
       m,
-      ap length (c.body_at-body.ensures c.call_at-o.result.definition
-          c.call_at-o.ensures.place).piece,
+      ap length (c.body_at-body.ensures c.in_ok-o.o.definition
+          (c.call_at.ensures.some _ c.in_ok-o.was).place).piece,
     ) in (
       weight_body a.scope.calls (length a.src.now) a.scope.at (length c.body_at-body.result.now) t 2 c.decreases m.0 b,
       (
         room_body
             a.src.now a.scope.at a.scope.inner a.scope.depth a.scope.calls c.body_at-body.result.now c.requires.2 m.0 b,
-        called_tally a.question.now a.bodies.now a.src.now a.scope.at a.scope.calls c.requires.3 c.call_at-o.result
-            c.call_at-o.ensures (not-false _ c.if-not-o.false) c.requires.2.once c.body_at-body.result.now (c.body_at-body.ensures
-            c.call_at-o.result.definition c.call_at-o.ensures.place) c.body_tally-within.result.now c.body_tally-within.ensures _ refl,
+        called_tally a.question.now a.bodies.now a.src.now a.scope.at a.scope.calls c.requires.3 c.in_ok-o.o
+            (c.call_at.ensures.some _ c.in_ok-o.was) c.requires.2.once c.body_at-body.result.now (c.body_at-body.ensures
+            c.in_ok-o.o.definition (c.call_at.ensures.some _ c.in_ok-o.was).place) c.body_tally-within.result.now c.body_tally-within.ensures _ refl,
         c.requires.3,
       ),
     )
@@ -215,10 +211,10 @@ nth_call-nth-requires t c =
 pub nth_call-returns : goal.nth_call-returns
 nth_call-returns t c =
     let a = c.args in
-    let m = c.call_at-o.ensures.may (not-false _ c.if-not-o.false) in
+    let m = (c.call_at.ensures.some _ c.in_ok-o.was).may in
     nth_called a.question.now a.src.now a.scope.at a.i a.silent a.args.now a.scope.inner a.scope.depth a.scope.calls
-    c.requires.1 c.call_at-o.result c.call_at-o.ensures _ m.0 c.requires.2.once c.body_at-body.result.now (c.body_at-body.ensures
-    c.call_at-o.result.definition c.call_at-o.ensures.place) c.arguments-given.result c.arguments-given.ensures c.nth.ensures
+    c.requires.1 c.in_ok-o.o (c.call_at.ensures.some _ c.in_ok-o.was) _ m.0 c.requires.2.once c.body_at-body.result.now (c.body_at-body.ensures
+    c.in_ok-o.o.definition (c.call_at.ensures.some _ c.in_ok-o.was).place) c.arguments-given.result c.arguments-given.ensures c.nth.ensures
 
 pub nth_meeting-returns-then-n-eq0 : goal.nth_meeting-returns-then-n-eq0
 nth_meeting-returns-then-n-eq0 t c =

@@ -1,3 +1,6 @@
+use mathlib.Core.Path.{◌≡◌, subst}
+use Prim.Native.Nat.{◌-◌}
+use Rattle.steps_labels.specs.LabelWalk.{RestrictionsIs}
 use native.Mathlib.Omega.{arith}
 use borrow.Author.Rules.{rules}
 use Rattle.steps_labels.proofs.RestrictionRuns.{eights_none, eights_more, run_ended, run_whole}
@@ -19,4 +22,7 @@ loop-k-preserved c =
     )
 
 pub returns : goal.returns
-returns c = let I = c.loop-k.invariant in run_whole _ _ _ I.0 I.1 I.2 c.loop-k-test.false
+returns c =
+    let I = c.loop-k.invariant in
+    let e : c.loop-k.k - c.args.at ≡ c.saturating_sub.result = omega (arith, I.0, I.1, c.loop-k-test.false, c.saturating_sub.ensures) in
+    subst (RestrictionsIs c.args.src.now c.args.at) e (run_whole _ _ _ I.0 I.1 I.2 c.loop-k-test.false)

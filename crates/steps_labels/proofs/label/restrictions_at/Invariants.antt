@@ -5,6 +5,3 @@ use Rattle.steps_labels.proofs.label.restrictions_at.Given as goal
 
 abbrev pub invariant-loop-k : goal.invariant-loop-k
 invariant-loop-k l = (l.at ≤ l.k) × (l.k ≤ max l.at (length l.src)) × Eights l.src l.at (l.k - l.at)
-
-abbrev pub decreases-loop-k : goal.decreases-loop-k
-decreases-loop-k l = length l.src - l.k

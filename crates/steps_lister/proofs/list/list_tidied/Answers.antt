@@ -1,24 +1,27 @@
+use Prim.Native.Nat.{◌+◌}
+use native.Mathlib.Omega.{arith}
+use Rattle.steps.specs.Limits.{most_steps}
 use Rattle.steps_lister.proofs.WalkedList.{list_passed, list_given}
 use Rattle.steps_walk.proofs.WalkLaws.{walk_part}
 use borrow.Author.Rules.{rules}
 use Rattle.steps_lister.proofs.list.list_tidied.Goals as goal
 
-pub walk-walked-requires : goal.walk-walked-requires
-walk-walked-requires c =
+pub walk-requires : goal.walk-requires
+walk-requires c =
     let p = c.requires in
     let t = c.tally.ensures in
     (((search rules, search rules), (search rules, t.is, p.0.2, record { plain = λ e. p.1.plain (t.noted e) })), search rules, search rules, search rules, search rules)
 
-pub returns-then-n-gt-MOST_STEPS : goal.returns-then-n-gt-MOST_STEPS
-returns-then-n-gt-MOST_STEPS c =
+pub returns-in_err-walked : goal.returns-in_err-walked
+returns-in_err-walked c =
     let v = c.args in
-    list_passed v.question.now v.part.now v.x v.area.now c.walk-walked.result.count _ (walk_part v.question.now v.part.now
-    v.x _ _ v.area.now c.walk-walked.result _ c.walk-walked.ensures) c.if-n-gt-MOST_STEPS.true
+    rw c.from_residual.ensures (list_passed v.question.now v.part.now v.x v.area.now (most_steps + 1) _ (walk_part v.question.now v.part.now
+    v.x _ _ v.area.now (record { rows = 0; count = most_steps + 1 }) _ c.in_err-walked.ensures.is) (omega arith))
 
 pub returns : goal.returns
 returns c =
     let v = c.args in
     list_given v.question.now v.part.now v.x v.area.now
-    c.walk-walked.result.count _ (walk_part v.question.now v.part.now
-    v.x _ _ v.area.now c.walk-walked.result _
-    c.walk-walked.ensures) (search rules) _ c.arrange.ensures
+    c.in_ok-walked.walked.count _ (walk_part v.question.now v.part.now
+    v.x _ _ v.area.now c.in_ok-walked.walked _
+    c.in_ok-walked.ensures.is) c.in_ok-walked.ensures.few _ c.arrange.ensures

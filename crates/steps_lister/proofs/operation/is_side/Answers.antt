@@ -4,8 +4,5 @@ use Rattle.steps_lister.proofs.operation.is_side.Goals as goal
 pub returns-then-side-eq1 : goal.returns-then-side-eq1
 returns-then-side-eq1 c = simp (eq-eqb _ _ c.if-side-eq1.true)
 
-pub returns-then-side-eq2 : goal.returns-then-side-eq2
-returns-then-side-eq2 c = simp (ne_eqb _ _ c.if-side-eq1.false, eq-eqb _ _ c.if-side-eq2.true)
-
-pub returns : goal.returns
-returns c = simp (ne_eqb _ _ c.if-side-eq1.false, ne_eqb _ _ c.if-side-eq2.false)
+pub returns-else-side-eq1 : goal.returns-else-side-eq1
+returns-else-side-eq1 c = simp (ne_eqb _ _ c.if-side-eq1.false)

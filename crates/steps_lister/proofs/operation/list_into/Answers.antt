@@ -7,22 +7,22 @@ use Rattle.steps_lister.proofs.operation.list_into.Goals as goal
 
 pub overflow_mul-n : goal.overflow_mul-n
 overflow_mul-n c =
-    let few : c.in-Count.n ≤ most_steps = c.list_part-answer.ensures.few c.in-Count.n c.in-Count.is in
+    let few : c.in_ok-n.n ≤ most_steps = c.list_part.ensures.few c.in_ok-n.n c.in_ok-n.was in
     omega arith
 
 pub copy-requires : goal.copy-requires
 copy-requires c =
-    let few : c.in-Count.n ≤ most_steps = c.list_part-answer.ensures.few
-    c.in-Count.n c.in-Count.is in (search rules, search rules)
+    let few : c.in_ok-n.n ≤ most_steps = c.list_part.ensures.few
+    c.in_ok-n.n c.in_ok-n.was in (search rules, search rules)
 
-pub returns-in-Unsettled : goal.returns-in-Unsettled
-returns-in-Unsettled c =
+pub returns-in_err-n : goal.returns-in_err-n
+returns-in_err-n c =
     let v = c.args in
-    into_unsettled v.question.now v.part.now v.x _ v.area.now c.requires.0 c.list_part-answer.result c.in-Unsettled.is
-    c.list_part-answer.ensures
+    rw c.from_residual.ensures (into_unsettled v.question.now v.part.now v.x _ v.area.now c.requires.0 c.list_part.result c.in_err-n.was
+    c.list_part.ensures)
 
-pub returns-in-Count : goal.returns-in-Count
-returns-in-Count c =
+pub returns : goal.returns
+returns c =
     let v = c.args in
-    into_count v.question.now v.part.now v.x _ v.area.now c.requires.0 c.in-Count.n c.list_part-answer.result
-    c.in-Count.is c.list_part-answer.ensures _ c.copy.ensures
+    into_count v.question.now v.part.now v.x _ v.area.now c.requires.0 c.in_ok-n.n c.list_part.result
+    c.in_ok-n.was c.list_part.ensures _ c.copy.ensures

@@ -25,7 +25,7 @@ loop-i-preserved c =
       omega (arith, c.class_weight-number.ensures.few),
       subst (λ k. Ranked v.classes.now v.count
           (c.loop-i.i + 1) k (c.loop-i.number + c.class_weight-number.result))
-          (sym c.larger-m.ensures) (rank-more v.classes.now v.count c.loop-i.i
+          (sym c.max-m.ensures) (rank-more v.classes.now v.count c.loop-i.i
           c.loop-i.m c.loop-i.number c.get-c.result
           c.class_weight-number.result c.loop-i-test.true c.get-c.ensures c.class_weight-number.ensures.is
           c.loop-i.invariant.2),

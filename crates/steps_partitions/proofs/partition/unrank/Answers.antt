@@ -30,14 +30,14 @@ pub loop-i-preserved : goal.loop-i-preserved
 loop-i-preserved c =
     let v = c.args in (
       search rules,
-      omega (arith, c.class_in-c.ensures.few, c.larger-m.ensures),
+      omega (arith, c.class_in-c.ensures.few, c.max-m.ensures),
       omega arith,
       length-set
           c.loop-i.classes _ _ ∙ c.loop-i.invariant.3,
       subst (λ k. Unranked v.row v.count
           (c.loop-i.i + 1) k (c.loop-i.left - c.class_in-c.result *
           c.ways-size.result) (set c.loop-i.classes c.loop-i.i
-          c.class_in-c.result)) (sym c.larger-m.ensures) (unrank_more v.row v.count c.loop-i.i
+          c.class_in-c.result)) (sym c.max-m.ensures) (unrank_more v.row v.count c.loop-i.i
           c.loop-i.m c.loop-i.left c.loop-i.classes
           c.ways-size.result c.class_in-c.result c.loop-i-test.true (omega arith)
           c.ways-size.ensures c.class_in-c.ensures c.loop-i.invariant.4),

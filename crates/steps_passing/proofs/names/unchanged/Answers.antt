@@ -14,8 +14,8 @@ pub loop-i-init : goal.loop-i-init
 unfolding Selves
 loop-i-init c = (omega arith, λ e n h. absurd (omega arith))
 
-pub overflow_add-binders : goal.overflow_add-binders
-overflow_add-binders c = omega (arith, c.requires)
+pub overflow_add-i-end : goal.overflow_add-i-end
+overflow_add-i-end c = omega (arith, c.requires)
 
 pub loop-i-preserved : goal.loop-i-preserved
 loop-i-preserved c = (

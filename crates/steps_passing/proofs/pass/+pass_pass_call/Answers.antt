@@ -4,7 +4,6 @@ use mathlib.Core.Path.{refl, ap}
 use Prim.Native.Nat.{◌-◌, ◌<◌}
 use native.Mathlib.Omega.{arith}
 use lib.ListN.{length, get_or}
-use borrow.Author.Tests.{not-true, not-false}
 use Rattle.steps_passing.specs.Branching.{Acts}
 use Rattle.steps_passing.proofs.PassLaws.{pass_none, pass_prefix, pass_res}
 use Rattle.steps_passing.proofs.SourceLaws.{far_byte}
@@ -94,49 +93,48 @@ pass-returns t c =
     let S = c.source_of-source.ensures in
     S.is a.question.now a.binders a.calls _ c.requires.3 c.pass_call.ensures
 
-pub pass_call-call_at-o-requires : goal.pass_call-call_at-o-requires
-pass_call-call_at-o-requires t c = (c.requires.0, c.requires.5)
+pub pass_call-call_at-requires : goal.pass_call-call_at-requires
+pass_call-call_at-requires t c = (c.requires.0, c.requires.5)
 
-pub pass_call-returns-then-not-o : goal.pass_call-returns-then-not-o
-pass_call-returns-then-not-o t c =
+pub pass_call-returns-in_default : goal.pass_call-returns-in_default
+pass_call-returns-in_default t c =
     let a = c.args in
     rw c.silent.ensures (pass_closed a.question.now a.src.now a.at a.binders a.calls false a.i c.requires.1
-    c.call_at-o.result.definition c.call_at-o.result.arity c.call_at-o.ensures.definition c.call_at-o.ensures.arity
-    (c.call_at-o.ensures.not (not-true _ c.if-not-o.true)))
+    (c.call_at.ensures.none c.in_default.is))
 
 pub pass_call-body_tally-numbers-requires : goal.pass_call-body_tally-numbers-requires
 pass_call-body_tally-numbers-requires t c =
-    ((c.call_at-o.ensures.may (not-false _ c.if-not-o.false)).3, c.requires.5.size)
+    (((c.call_at.ensures.some _ c.in-Some.is).may).3, c.requires.5.size)
 
 pub pass_call-overflow_sub-calls : goal.pass_call-overflow_sub-calls
 pass_call-overflow_sub-calls t c =
-    let m = c.call_at-o.ensures.may (not-false _ c.if-not-o.false) in
+    let m = (c.call_at.ensures.some _ c.in-Some.is).may in
     omega (arith, m)
 
 pub pass_call-pass-p-requires : goal.pass_call-pass-p-requires
 pass_call-pass-p-requires t c =
     let a = c.args in
-    let m = c.call_at-o.ensures.may (not-false _ c.if-not-o.false) in (
+    let m = (c.call_at.ensures.some _ c.in-Some.is).may in (
       omega (
         arith,
         c.decreases,
         c.requires.0,
         m,
-        ap length (c.body_at-body.ensures c.call_at-o.result.definition
-            c.call_at-o.ensures.place).piece,
+        ap length (c.body_at-body.ensures c.in-Some.o.definition
+            (c.call_at.ensures.some _ c.in-Some.is).place).piece,
       ),
       (
         omega (
           arith,
           m,
-          ap length (c.body_at-body.ensures c.call_at-o.result.definition
-              c.call_at-o.ensures.place).piece,
+          ap length (c.body_at-body.ensures c.in-Some.o.definition
+              (c.call_at.ensures.some _ c.in-Some.is).place).piece,
         ),
         omega (arith, m),
         omega (arith, c.requires.4),
         called_tally a.question.now a.bodies.now
-            a.src.now a.at a.calls c.requires.5 c.call_at-o.result c.call_at-o.ensures (not-false _ c.if-not-o.false) c.requires.4
-            c.body_at-body.result.now (c.body_at-body.ensures c.call_at-o.result.definition c.call_at-o.ensures.place) c.body_tally-numbers.result.now
+            a.src.now a.at a.calls c.requires.5 c.in-Some.o (c.call_at.ensures.some _ c.in-Some.is) c.requires.4
+            c.body_at-body.result.now (c.body_at-body.ensures c.in-Some.o.definition (c.call_at.ensures.some _ c.in-Some.is).place) c.body_tally-numbers.result.now
             c.body_tally-numbers.ensures _ refl,
         c.requires.5,
       ),
@@ -152,10 +150,10 @@ pass_call-returned-requires t c =
 pub pass_call-returns : goal.pass_call-returns
 pass_call-returns t c =
     let a = c.args in
-    let m = c.call_at-o.ensures.may (not-false _ c.if-not-o.false) in
+    let m = (c.call_at.ensures.some _ c.in-Some.is).may in
     rw c.returned.ensures (pass_opened a.question.now a.src.now a.at a.binders a.calls false a.i c.requires.1
-    c.call_at-o.result.definition c.call_at-o.result.arity c.call_at-o.ensures.definition c.call_at-o.ensures.arity
-    c.body_at-body.result.now (c.body_at-body.ensures c.call_at-o.result.definition c.call_at-o.ensures.place) (omega (
+    c.in-Some.o.definition c.in-Some.o.arity (c.call_at.ensures.some _ c.in-Some.is).definition (c.call_at.ensures.some _ c.in-Some.is).arity
+    c.body_at-body.result.now (c.body_at-body.ensures c.in-Some.o.definition (c.call_at.ensures.some _ c.in-Some.is).place) (omega (
       arith,
       c.requires.0,
       c.requires.2,

@@ -6,7 +6,7 @@ use lib.ListN.{length}
 use Rattle.steps_places.proofs.places.close_row.Given as goal
 
 abbrev pub invariant-loop-j : goal.invariant-loop-j
-invariant-loop-j l = (length l.found ≡ most_partitions) × (l.done < 18446744073709551616) × Closing l.question l.row l.count l.table l.initial.found l.found l.done l.j
+invariant-loop-j l = (length l.found ≡ most_partitions) × (l.done < 18446744073709551616) × Closing l.question l.row l.count l.table l.initial.found l.found l.done
 
 abbrev pub decreases-loop-j : goal.decreases-loop-j
 decreases-loop-j l = 18446744073709551616 - l.done

@@ -8,10 +8,10 @@ use Rattle.steps_places.proofs.places.find_places.Goals as goal
 
 pub start-requires : goal.start-requires
 start-requires c = (
-  subst (λ k. 0 < k) (sym c.ways-row.ensures) (some_way c.args.count 0),
+  subst (λ k. 0 < k) (sym c.ways-rows.ensures) (some_way c.args.count 0),
   omega (
     arith,
-    c.ways-row.ensures,
+    c.ways-rows.ensures,
     c.requires.1,
     (way_at
         c.args.count 0 (omega (arith, c.requires.0))).1,
@@ -21,11 +21,11 @@ start-requires c = (
 pub loop-row-init : goal.loop-row-init
 loop-row-init c =
     let v = c.args in (
-      omega (arith, c.ways-row.ensures),
+      omega (arith, c.ways-rows.ensures),
       c.start.auto.found ∙ c.requires.1,
       subst (λ k. Going v.question.now v.count v.table.now k
-          c.start.new.found) (sym c.ways-row.ensures) (going_start v.question.now v.count v.table.now c.start.new.found (subst (StartedIs
-          c.start.new.found) c.ways-row.ensures c.start.ensures)),
+          c.start.new.found) (sym c.ways-rows.ensures) (going_start v.question.now v.count v.table.now c.start.new.found (subst (StartedIs
+          c.start.new.found) c.ways-rows.ensures c.start.ensures)),
     )
 
 pub close_row-requires : goal.close_row-requires

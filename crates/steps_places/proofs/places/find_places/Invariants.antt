@@ -7,6 +7,3 @@ use Rattle.steps_places.proofs.places.find_places.Given as goal
 
 abbrev pub invariant-loop-row : goal.invariant-loop-row
 invariant-loop-row l = (l.row ≤ continuations l.count 0) × (length l.found ≡ most_partitions) × Going l.question l.count l.table l.row l.found
-
-abbrev pub decreases-loop-row : goal.decreases-loop-row
-decreases-loop-row l = l.row

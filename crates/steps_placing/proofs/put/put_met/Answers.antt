@@ -1,45 +1,42 @@
 use lib.ListN.{replicate}
 use mathlib.Core.Bool.{◌||◌}
 use mathlib.Core.Path.{refl, sym, ◌∙◌}
+use native.Mathlib.Omega.{arith}
 use Rattle.terms.specs.Limits.{longest_term}
-use Rattle.steps_placing.proofs.PutLaws.{opposed, neither, met-put}
-use Rattle.steps_placing.proofs.WrittenLaws.{written_plain, silent_apart}
+use Rattle.steps_splicing.specs.Collecting.{counted}
+use Rattle.steps.specs.Limits.{most_steps}
+use Prim.Native.Nat.{◌+◌}
+use Rattle.steps_placing.proofs.PutLaws.{opposed, neither, met-put, written_long}
+use Rattle.steps_placing.proofs.WrittenLaws.{silent_long}
 use borrow.Author.Rules.{rules}
 use Rattle.steps_placing.proofs.put.put_met.Goals as goal
-
-pub returns-then-falls_short : goal.returns-then-falls_short
-returns-then-falls_short c = c.put_numbered.ensures
 
 pub put_silent-requires : goal.put_silent-requires
 put_silent-requires c = (
   search rules,
   search rules,
   search rules,
-  elim c.if-restricted.branch [
-    | goal.then-restricted+else-falls_short w ↦ λ t. (w.falls_short.ensures w.if-falls_short.false).0
-    | goal.else-restricted w ↦ λ t. opposed (sym t ∙ w.if-restricted.false)
-  ],
+  λ _. c.in-Some.ensures.room,
 )
 
-pub returns-then-restricted-met : goal.returns-then-restricted-met
-returns-then-restricted-met c =
+pub returns-in_default-clause-is : goal.returns-in_default-clause-is
+returns-in_default-clause-is c =
     let a = c.args in
     let closes = a.met.closes in
     let restricted = c.is_restricted.result in
-    met-put a.question.now a.part.now a.met a.class.now a.area.now a.count c.put_silent.result _ (closes || restricted) (λ
+    met-put a.question.now a.part.now a.met a.class.now a.area.now a.count (most_steps + 1) _ (closes || restricted) (λ
     f. let (g, h) = neither closes restricted f in (g, c.requires.0.1.3.plain (c.is_restricted.ensures h))) (replicate longest_term 0) refl _
-    c.write_met-n.result c.write_met-n.ensures (elim c.if-restricted.branch [
-      | goal.then-restricted+else-falls_short w ↦ λ t. let (l, n) = w.falls_short.ensures w.if-falls_short.false in (l, n t)
-      | goal.else-restricted w ↦ λ t. opposed (sym t ∙ (neither closes restricted w.if-restricted.false).0)
-    ]) c.put_silent.ensures
+    (longest_term + 1) c.in_default.ensures.is (λ t. opposed (sym t ∙ (neither closes restricted c.if-restricted.false).0))
+    (silent_long _ _ _ _ _ _ _ _ _ _ (omega arith) (written_long _ _ _ _ _ _ _ _ (omega arith) c.if-restricted.false _))
 
-pub returns : goal.returns
-returns c =
+pub returns-clause-is : goal.returns-clause-is
+returns-clause-is c =
     let a = c.args in
     let closes = a.met.closes in
     let restricted = c.is_restricted.result in
-    let (f, m) = neither (closes || restricted) a.met.merges c.if-restricted-met.false in
-    met-put a.question.now a.part.now a.met a.class.now a.area.now a.count c.put_result.result _ (closes || restricted) (λ
+    met-put a.question.now a.part.now a.met a.class.now a.area.now a.count (counted c.put_silent.result) _ (closes || restricted) (λ
     f. let (g, h) = neither closes restricted f in (g, c.requires.0.1.3.plain (c.is_restricted.ensures h))) (replicate longest_term 0) refl _
-    c.write_met-n.result c.write_met-n.ensures (λ t. opposed (sym t ∙ (neither closes restricted f).0))
-    (silent_apart _ _ _ _ _ _ _ _ _ _ m (written_plain _ _ _ _ _ _ _ _ _ _ f c.put_result.ensures))
+    c.in-Some.n c.in-Some.ensures.is (elim c.else-closes.branch [
+      | goal.else-closes-via-then-closes+else-occurs w ↦ λ t. (c.in-Some.ensures.room, sym w.occurs.ensures ∙ w.if-occurs.false)
+      | goal.else-closes-via-else-closes w ↦ λ t. opposed (sym t ∙ w.if-closes.false)
+    ]) c.put_silent.ensures.is

@@ -1,29 +1,27 @@
-use mathlib.Core.Path.{◌≡◌, ap, subst, ◌∙◌}
+use mathlib.Core.Path.{◌≡◌, refl, ap, subst, ◌∙◌}
 use Prim.Native.Nat.{◌+◌}
 use native.Mathlib.Omega.{arith}
-use lib.ListN.{length}
+use lib.ListN.{length, get_or}
 use borrow.Author.Rules.{rules}
-use borrow.Author.Tests.{not-true, not-false}
 use Rattle.steps_reach.specs.CallTable.{ListedIs}
 use Rattle.steps_reach.proofs.CallWalks.{reach_closed, reach_listed, reach_full, reach_opened}
 use Rattle.steps_reach.proofs.WalkLaws.{reach_past, reach_other, reach_short, reach_mat, reach_left, reach_both}
 use Rattle.steps_tallies.proofs.TallyLoops.{called_tally}
 use Rattle.steps_reach.proofs.reach.+open_call_reach_term.Goals as goal
 
-pub open_call-call_at-o-requires : goal.open_call-call_at-o-requires
-open_call-call_at-o-requires t c = (c.requires.0, c.requires.6)
+pub open_call-call_at-requires : goal.open_call-call_at-requires
+open_call-call_at-requires t c = (c.requires.0, c.requires.6)
 
-pub open_call-returns-then-not-o : goal.open_call-returns-then-not-o
-open_call-returns-then-not-o t c =
+pub open_call-returns-in_default : goal.open_call-returns-in_default
+open_call-returns-in_default t c =
     let a = c.args in
-    reach_closed a.question.now a.src.now a.at a.row a.table.now a.size c.call_at-o.result.definition
-    c.call_at-o.ensures.definition c.requires.1 c.requires.4 (λ q ok l. let z = c.call_at-o.ensures.not (not-true _ c.if-not-o.true) q ok
-    l in omega arith)
+    reach_closed a.question.now a.src.now a.at a.row a.table.now a.size (get_or a.src.now (a.at + 1) 0)
+    refl c.requires.1 c.requires.4 (λ q ok l. let z = c.call_at.ensures.none c.in_default.is q ok l in omega arith)
 
 pub open_call-called_names-names-requires : goal.open_call-called_names-names-requires
 open_call-called_names-names-requires t c = (
   omega (arith, c.requires.0, c.requires.2),
-  (c.call_at-o.ensures.may (not-false _ c.if-not-o.false)).1,
+  ((c.call_at.ensures.some _ c.in-Some.is).may).1,
   omega (
     arith,
     c.requires.3,
@@ -33,33 +31,32 @@ open_call-called_names-names-requires t c = (
 
 pub open_call-is_listed-requires : goal.open_call-is_listed-requires
 open_call-is_listed-requires t c =
-    (c.requires.4, (c.call_at-o.ensures.may (not-false _ c.if-not-o.false)).1)
+    (c.requires.4, ((c.call_at.ensures.some _ c.in-Some.is).may).1)
 
 pub open_call-returns-then-is_listed : goal.open_call-returns-then-is_listed
 open_call-returns-then-is_listed t c =
     let a = c.args in
-    reach_listed a.question.now a.src.now a.at a.row a.table.now a.size c.call_at-o.result.definition
-    c.call_at-o.ensures.definition c.call_at-o.result.arity c.called_names-names.result (λ q ok. c.call_at-o.ensures.arity q ok)
-    c.called_names-names.ensures c.requires.1 c.requires.4 (subst (ListedIs a.table.now a.size c.call_at-o.result.definition
-    c.called_names-names.result c.call_at-o.result.arity) c.if-is_listed.true c.is_listed.ensures)
+    reach_listed a.question.now a.src.now a.at a.row a.table.now a.size c.in-Some.o.definition
+    (c.call_at.ensures.some _ c.in-Some.is).definition c.in-Some.o.arity c.called_names-names.result (λ q ok. (c.call_at.ensures.some _ c.in-Some.is).arity q ok)
+    c.called_names-names.ensures c.requires.1 c.requires.4 (subst (ListedIs a.table.now a.size c.in-Some.o.definition
+    c.called_names-names.result c.in-Some.o.arity) c.if-is_listed.true c.is_listed.ensures)
 
 pub open_call-returns-then-size-ge-MOST_CALLS : goal.open_call-returns-then-size-ge-MOST_CALLS
 open_call-returns-then-size-ge-MOST_CALLS t c =
     let a = c.args in
-    reach_full a.question.now a.src.now a.at a.row a.table.now a.size c.call_at-o.result.definition
-    c.call_at-o.ensures.definition c.call_at-o.result.arity c.called_names-names.result (λ q ok. c.call_at-o.ensures.arity q ok)
-    c.called_names-names.ensures c.requires.1 c.requires.4 (subst (ListedIs a.table.now a.size c.call_at-o.result.definition
-    c.called_names-names.result c.call_at-o.result.arity) c.if-is_listed.false c.is_listed.ensures) c.if-size-ge-MOST_CALLS.true
+    reach_full a.question.now a.src.now a.at a.row a.table.now a.size c.in-Some.o.definition
+    (c.call_at.ensures.some _ c.in-Some.is).definition c.in-Some.o.arity c.called_names-names.result (λ q ok. (c.call_at.ensures.some _ c.in-Some.is).arity q ok)
+    c.called_names-names.ensures c.requires.1 c.requires.4 (subst (ListedIs a.table.now a.size c.in-Some.o.definition
+    c.called_names-names.result c.in-Some.o.arity) c.if-is_listed.false c.is_listed.ensures) c.if-size-ge-MOST_CALLS.true
 
 pub open_call-overflow_cast-k : goal.open_call-overflow_cast-k
 open_call-overflow_cast-k t c =
-    let m = c.call_at-o.ensures.may (not-false _ c.if-not-o.false) in
+    let m = (c.call_at.ensures.some _ c.in-Some.is).may in
     omega (arith, m)
 
 pub open_call-put_call-requires : goal.open_call-put_call-requires
 open_call-put_call-requires t c =
-    let m = c.call_at-o.ensures.may (not-false _
-    c.if-not-o.false) in let l : length
+    let m = (c.call_at.ensures.some _ c.in-Some.is).may in let l : length
     c.called_names-names.result ≡ 8 = search rules in (
       c.if-size-ge-MOST_CALLS.false,
       c.requires.5,
@@ -69,13 +66,13 @@ open_call-put_call-requires t c =
 
 pub open_call-body_tally-numbers-requires : goal.open_call-body_tally-numbers-requires
 open_call-body_tally-numbers-requires t c =
-    ((c.call_at-o.ensures.may (not-false _ c.if-not-o.false)).3, c.requires.6.size)
+    (((c.call_at.ensures.some _ c.in-Some.is).may).3, c.requires.6.size)
 
 pub open_call-reach_term-requires : goal.open_call-reach_term-requires
 open_call-reach_term-requires t c =
     let a = c.args in
-    let m = c.call_at-o.ensures.may (not-false _ c.if-not-o.false) in
-    let b = ap length (c.body_at-body.ensures c.call_at-o.result.definition c.call_at-o.ensures.place).piece in (
+    let m = (c.call_at.ensures.some _ c.in-Some.is).may in
+    let b = ap length (c.body_at-body.ensures c.in-Some.o.definition (c.call_at.ensures.some _ c.in-Some.is).place).piece in (
       omega (arith, c.decreases, c.if-size-ge-MOST_CALLS.false, m, b),
       (
         omega (arith, m, b),
@@ -83,9 +80,9 @@ open_call-reach_term-requires t c =
         omega (arith, c.if-size-ge-MOST_CALLS.false),
         c.put_call.auto.table ∙
             c.requires.5,
-        called_tally a.question.now a.bodies.now a.src.now a.at 1 c.requires.6 c.call_at-o.result
-            c.call_at-o.ensures (not-false _ c.if-not-o.false) (omega arith) c.body_at-body.result.now (c.body_at-body.ensures
-            c.call_at-o.result.definition c.call_at-o.ensures.place) c.body_tally-numbers.result.now c.body_tally-numbers.ensures 0 (omega arith),
+        called_tally a.question.now a.bodies.now a.src.now a.at 1 c.requires.6 c.in-Some.o
+            (c.call_at.ensures.some _ c.in-Some.is) (omega arith) c.body_at-body.result.now (c.body_at-body.ensures
+            c.in-Some.o.definition (c.call_at.ensures.some _ c.in-Some.is).place) c.body_tally-numbers.result.now c.body_tally-numbers.ensures 0 (omega arith),
         c.requires.6,
       ),
     )
@@ -94,12 +91,12 @@ pub open_call-returns : goal.open_call-returns
 open_call-returns t c =
     let l : length c.called_names-names.result ≡ 8 = search rules in
     let a = c.args in
-    let k = c.call_at-o.result.definition in
-    let O = c.call_at-o.ensures in
-    let m = O.may (not-false _ c.if-not-o.false) in
-    reach_opened a.question.now a.src.now a.at a.row a.table.now a.size k O.definition c.call_at-o.result.arity
+    let k = c.in-Some.o.definition in
+    let O = (c.call_at.ensures.some _ c.in-Some.is) in
+    let m = O.may in
+    reach_opened a.question.now a.src.now a.at a.row a.table.now a.size k O.definition c.in-Some.o.arity
     c.called_names-names.result (λ q ok. O.arity q ok) c.called_names-names.ensures c.requires.1 c.requires.4
-    (subst (ListedIs a.table.now a.size k c.called_names-names.result c.call_at-o.result.arity) c.if-is_listed.false
+    (subst (ListedIs a.table.now a.size k c.called_names-names.result c.in-Some.o.arity) c.if-is_listed.false
     c.is_listed.ensures) c.if-size-ge-MOST_CALLS.false c.requires.5 m.1 (omega (arith, m.1, l)) c.body_at-body.result.now
     (c.body_at-body.ensures k O.place) _ c.put_call.ensures _ _ c.reach_term.ensures
 
@@ -142,32 +139,30 @@ reach_term-returns-then-src-left t c =
     let a = c.args in
     reach_short a.question.now a.src.now a.at a.row a.table.now a.size c.requires.2 c.if-src-left.true c.if-t-ne-CHOICE.false
 
-pub reach_term-returns-then-n-gt-MOST_CALLS : goal.reach_term-returns-then-n-gt-MOST_CALLS
-reach_term-returns-then-n-gt-MOST_CALLS t c =
+pub reach_term-returns-in_err-n : goal.reach_term-returns-in_err-n
+reach_term-returns-in_err-n t c =
     let a = c.args in
-    reach_left a.question.now a.src.now a.at a.row a.table.now a.size c.if-t-ne-CHOICE.false _ _ c.reach_term-n.ensures
-    c.if-n-gt-MOST_CALLS.true
+    rw c.from_residual.ensures (reach_left a.question.now a.src.now a.at a.row a.table.now a.size c.if-t-ne-CHOICE.false _ _ c.reach_term-2.ensures
+    c.in_err-n.was)
 
-pub reach_term-reach_term-requires-2 : goal.reach_term-reach_term-requires-2
-reach_term-reach_term-requires-2 t c =
-    let a =
-    c.args
-    in let o = c.reach_term-n.ensures.on in let e = c.requires.4.on (a.at + 1)
-    c.if-src-left.false in (
+pub reach_term-reach_term-requires-3 : goal.reach_term-reach_term-requires-3
+reach_term-reach_term-requires-3 t c =
+    let a = c.args in
+    let o = c.reach_term-2.ensures.on _ c.in_ok-n.was in
+    let e = c.requires.4.on (a.at + 1) c.if-src-left.false in (
       omega (
         arith,
         c.decreases,
         o,
         e,
         c.end_at.ensures,
-        c.if-n-gt-MOST_CALLS.false,
       ),
-      (c.requires.0, omega (arith, c.requires.1, o), c.if-n-gt-MOST_CALLS.false, search rules, c.requires.4, c.requires.5),
+      (c.requires.0, omega (arith, c.requires.1, o), o.1, search rules, c.requires.4, c.requires.5),
     )
 
 pub reach_term-returns : goal.reach_term-returns
 reach_term-returns t c =
     let a = c.args in
-    reach_both a.question.now a.src.now a.at a.row a.table.now a.size c.if-t-ne-CHOICE.false _ _ c.reach_term-n.ensures
-    c.requires.1 c.if-n-gt-MOST_CALLS.false a.tally.now c.requires.4 c.end_at.result c.end_at.ensures _ _
-    c.reach_term-2.ensures
+    reach_both a.question.now a.src.now a.at a.row a.table.now a.size c.if-t-ne-CHOICE.false _ _ c.reach_term-2.ensures
+    c.requires.1 _ c.in_ok-n.was a.tally.now c.requires.4 c.end_at.result c.end_at.ensures _ _
+    c.reach_term-3.ensures

@@ -6,6 +6,6 @@ pub returns-then-root-at : goal.returns-then-root-at
 unfolding behind_root
 returns-then-root-at c = simp (eq-eqb _ _ c.if-root-at.true)
 
-pub returns : goal.returns
+pub returns-else-root-at : goal.returns-else-root-at
 unfolding behind_root
-returns c = simp (ne_eqb _ _ c.if-root-at.false)
+returns-else-root-at c = simp (ne_eqb _ _ c.if-root-at.false)

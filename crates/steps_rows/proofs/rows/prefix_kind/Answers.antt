@@ -7,6 +7,6 @@ pub returns-then-asked : goal.returns-then-asked
 unfolding prefix_kind
 returns-then-asked c = rw c.if-asked.true (omega (arith, c.requires.0))
 
-pub returns : goal.returns
+pub returns-else-asked : goal.returns-else-asked
 unfolding prefix_kind
-returns c = rw c.if-asked.false refl
+returns-else-asked c = rw c.if-asked.false refl

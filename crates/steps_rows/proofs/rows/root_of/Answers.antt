@@ -6,6 +6,6 @@ pub returns-then-t-eq-CHOICE : goal.returns-then-t-eq-CHOICE
 unfolding root_of
 returns-then-t-eq-CHOICE c = simp (eq-eqb _ _ c.if-t-eq-CHOICE.true)
 
-pub returns : goal.returns
+pub returns-else-t-eq-CHOICE : goal.returns-else-t-eq-CHOICE
 unfolding root_of
-returns c = simp (ne_eqb _ _ c.if-t-eq-CHOICE.false)
+returns-else-t-eq-CHOICE c = simp (ne_eqb _ _ c.if-t-eq-CHOICE.false)

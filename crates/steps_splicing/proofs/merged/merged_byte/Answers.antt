@@ -7,6 +7,6 @@ pub returns-then-b-lt128 : goal.returns-then-b-lt128
 unfolding merged_byte
 returns-then-b-lt128 c = rw (lt-ltb c.args.b 128 c.if-b-lt128.true) c.get.ensures
 
-pub returns : goal.returns
+pub returns-else-b-lt128 : goal.returns-else-b-lt128
 unfolding merged_byte
-returns c = rw (le-ltb c.args.b 128 c.if-b-lt128.false) refl
+returns-else-b-lt128 c = rw (le-ltb c.args.b 128 c.if-b-lt128.false) refl

@@ -3,17 +3,17 @@ use Prim.Native.Nat.{◌+◌, ◌-◌, ◌≤◌}
 use native.Mathlib.Omega.{arith}
 use borrow.Author.Tests.{leb-true, leb-false}
 use Rattle.terms.specs.Limits.{longest_term}
-use Rattle.steps_splicing.proofs.MetResults.{hole_past, hole_full, hole_shallow, hole_written}
+use Rattle.steps_splicing.proofs.MetResults.{hole_past, hole_past_end, hole_full, hole_shallow, hole_written}
 use borrow.Author.Rules.{rules}
 use Rattle.steps_splicing.proofs.splice.write_hole.Goals as goal
 
-pub returns-then-at-from : goal.returns-then-at-from
-returns-then-at-from c =
+pub returns-then-at-from-clause-is : goal.returns-then-at-from-clause-is
+returns-then-at-from-clause-is c =
     let v = c.args in
     hole_past v.question.now v.part.now v.seam.from v.hole v.new v.out.now v.seam.put c.if-at-from.true _ _
 
-pub returns-then-not-room : goal.returns-then-not-room
-returns-then-not-room c =
+pub returns-then-not-room-clause-is : goal.returns-then-not-room-clause-is
+returns-then-not-room-clause-is c =
     let v = c.args in
     hole_full v.question.now v.part.now v.seam.from v.hole v.new v.out.now v.seam.put (let h = leb-false (v.seam.put +
     (v.hole.at - v.seam.from)) longest_term (sym c.room.ensures ∙ c.if-not-room.true) in omega (arith, c.requires.2)) _ (omega
@@ -26,8 +26,8 @@ overflow_add-e c =
       fits = let h : v.seam.put + (v.hole.at - v.seam.from) ≤ longest_term = leb-true _ _ (sym c.room.ensures ∙ c.if-not-room.false) in omega arith;
     }
 
-pub returns-then-e-levels : goal.returns-then-e-levels
-returns-then-e-levels c =
+pub returns-then-e-levels-clause-is : goal.returns-then-e-levels-clause-is
+returns-then-e-levels-clause-is c =
     let v = c.args in
     hole_shallow v.question.now v.part.now v.seam.from v.hole v.new v.out.now v.seam.put c.if-e-levels.true _ _
 
@@ -37,8 +37,8 @@ copy-requires c =
     let h : v.seam.put + (v.hole.at - v.seam.from) ≤ longest_term = leb-true _ _ (sym c.room.ensures ∙ c.if-not-room.false) in
     (omega (arith, c.requires.1.1, c.if-at-from.false), omega (arith, c.requires.2))
 
-pub write-requires : goal.write-requires
-write-requires c =
+pub write-end-requires : goal.write-end-requires
+write-end-requires c =
     let v = c.args in
     let g = c.requires in
     let h : v.seam.put + (v.hole.at - v.seam.from) ≤ longest_term = leb-true _ _ (sym
@@ -55,9 +55,16 @@ write-requires c =
       g.0.2,
     )
 
-pub returns : goal.returns
-returns c =
+pub returns-else-end-gt-LONGEST_TERM-clause-is : goal.returns-else-end-gt-LONGEST_TERM-clause-is
+returns-else-end-gt-LONGEST_TERM-clause-is c =
     let v = c.args in
     let h : v.seam.put + (v.hole.at - v.seam.from) ≤ longest_term = leb-true _ _ (sym c.room.ensures ∙ c.if-not-room.false) in
     hole_written v.question.now v.part.now v.seam.from v.hole v.new v.out.now v.seam.put
-    (omega (arith, c.requires.2)) (omega (arith, c.requires.2)) c.own_names-names.result (c.own_names-names.ensures _ (search rules)) _ c.copy.ensures c.write.result _ c.write.ensures.0
+    (omega (arith, c.requires.2)) (omega (arith, c.requires.2)) c.own_names-names.result (c.own_names-names.ensures _ (search rules)) _ c.copy.ensures c.write-end.result _ c.write-end.ensures.0
+
+pub returns-then-end-gt-LONGEST_TERM-clause-is : goal.returns-then-end-gt-LONGEST_TERM-clause-is
+returns-then-end-gt-LONGEST_TERM-clause-is c =
+    let v = c.args in
+    let h : v.seam.put + (v.hole.at - v.seam.from) ≤ longest_term = leb-true _ _ (sym c.room.ensures ∙ c.if-not-room.false) in
+    hole_past_end v.question.now v.part.now v.seam.from v.hole v.new v.out.now v.seam.put _ (omega (arith, c.requires.2, c.if-end-gt-LONGEST_TERM.true)) _ (hole_written v.question.now v.part.now v.seam.from v.hole v.new v.out.now v.seam.put
+    (omega (arith, c.requires.2)) (omega (arith, c.requires.2)) c.own_names-names.result (c.own_names-names.ensures _ (search rules)) _ c.copy.ensures c.write-end.result _ c.write-end.ensures.0) _ (omega (arith, c.requires.2))

@@ -16,12 +16,8 @@ pub tally_body-requires : goal.tally_body-requires
 tally_body-requires c = (c.loop-k-test.true, c.loop-k.invariant.1, c.loop-k.invariant.2)
 
 -- src/tally.rt:293:9
-pub overflow_add-k : goal.overflow_add-k
-overflow_add-k c = omega (arith, c.loop-k-test.true)
 
 -- src/tally.rt:290:5
-pub loop-k-smaller : goal.loop-k-smaller
-loop-k-smaller c = omega (arith, c.loop-k-test.true)
 
 -- src/tally.rt:290:5
 pub loop-k-preserved : goal.loop-k-preserved

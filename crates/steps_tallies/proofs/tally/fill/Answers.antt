@@ -106,9 +106,6 @@ bounds-tally-at-in-loop-at-2 c =
           (c.loop-at.at - 1)) c.entry_at-e.result.silent,
     )
 
-pub loop-at-smaller : goal.loop-at-smaller
-loop-at-smaller c = omega (arith, c.loop-at-test.true)
-
 pub loop-at-preserved : goal.loop-at-preserved
 loop-at-preserved c =
     let v = c.args in (

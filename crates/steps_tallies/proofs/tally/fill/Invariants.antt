@@ -7,6 +7,3 @@ use Rattle.steps_tallies.proofs.tally.fill.Given as goal
 
 abbrev pub invariant-loop-at : goal.invariant-loop-at
 invariant-loop-at l = (l.at ≤ length l.src) × (length l.tally ≡ tally_size) × Filled l.src l.arities l.bodies l.at l.tally
-
-abbrev pub decreases-loop-at : goal.decreases-loop-at
-decreases-loop-at l = l.at

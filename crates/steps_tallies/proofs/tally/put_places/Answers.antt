@@ -15,12 +15,6 @@ pub put_place-requires : goal.put_place-requires
 put_place-requires c =
     (c.loop-k-test.true, c.loop-k.invariant.1, c.loop-k.invariant.2, c.loop-k.invariant.3)
 
-pub overflow_add-k : goal.overflow_add-k
-overflow_add-k c = omega (arith, c.loop-k-test.true)
-
-pub loop-k-smaller : goal.loop-k-smaller
-loop-k-smaller c = omega (arith, c.loop-k-test.true)
-
 pub loop-k-preserved : goal.loop-k-preserved
 unfolding field_place
 loop-k-preserved c = (

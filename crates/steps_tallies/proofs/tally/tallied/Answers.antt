@@ -5,7 +5,7 @@ use Rattle.steps_tallies.proofs.tally.tallied.Goals as goal
 
 pub returns-then-size-at : goal.returns-then-size-at
 unfolding tallied_entry nothing_at
-returns-then-size-at c = simp (le-leb _ _ c.if-size-at.true)
+returns-then-size-at c = rw c.nothing.ensures (simp (le-leb _ _ c.if-size-at.true))
 
 pub returns : goal.returns
 unfolding tallied_entry entry_at

@@ -6,6 +6,6 @@ pub returns-then-kind-eq2 : goal.returns-then-kind-eq2
 unfolding row_object
 returns-then-kind-eq2 c = simp (eq-eqb c.args.kind 2 c.if-kind-eq2.true)
 
-pub returns : goal.returns
+pub returns-else-kind-eq2 : goal.returns-else-kind-eq2
 unfolding row_object
-returns c = simp (ne_eqb c.args.kind 2 c.if-kind-eq2.false)
+returns-else-kind-eq2 c = simp (ne_eqb c.args.kind 2 c.if-kind-eq2.false)

@@ -1,5 +1,5 @@
 use mathlib.Core.Path.{◌≡◌}
-use Prim.Native.Nat.{◌-◌, ◌≤◌}
+use Prim.Native.Nat.{◌≤◌}
 use lib.ListN.{length}
 use Rattle.steps.specs.Limits.{most_steps}
 use Rattle.steps_walk.proofs.ComponentLaws.{SilentGo}
@@ -8,6 +8,3 @@ use Rattle.steps_walk.proofs.walk.take_numbered.Given as goal
 abbrev pub invariant-loop-j : goal.invariant-loop-j
 invariant-loop-j l =
     (l.n ≤ most_steps) × (length l.area ≡ length l.initial.area) × SilentGo l.question l.part l.node.at l.node.depth l.node.number l.node.x l.initial.area l.count l.j l.n l.area
-
-abbrev pub decreases-loop-j : goal.decreases-loop-j
-decreases-loop-j l = l.number - l.j

@@ -1,3 +1,5 @@
+use Prim.Native.Nat.{◌+◌}
+use Rattle.steps.specs.Limits.{most_steps}
 use mathlib.Core.Path.{refl}
 use native.Mathlib.Omega.{arith}
 use borrow.Author.Rules.{rules}
@@ -13,32 +15,32 @@ loop-j-init c =
           v.node.at v.node.depth v.rows.now v.own.first v.own.last v.node.x v.area.now v.own.count,
     )
 
-pub take_row-m-requires : goal.take_row-m-requires
-take_row-m-requires c =
+pub take_row-requires : goal.take_row-requires
+take_row-requires c =
     let g = c.requires in let l = c.loop-j-test.true in let a = g.2 in let b = g.3 in (((search rules, search rules), g.0.1), g.1, omega arith)
 
-pub returns-then-m-gt-MOST_STEPS : goal.returns-then-m-gt-MOST_STEPS
-returns-then-m-gt-MOST_STEPS c =
+pub returns-in_err-n-clause-is : goal.returns-in_err-n-clause-is
+returns-in_err-n-clause-is c =
     let v = c.args in
-    rows-passed v.question.now v.part.now v.node.at v.node.depth v.rows.now v.own.first v.own.last v.node.x
-    v.area.now v.own.count c.loop-j.j c.loop-j.n c.loop-j.area c.loop-j.invariant.2 c.loop-j-test.true c.take_row-m.result _
-    c.take_row-m.ensures c.loop-j.invariant.0 c.if-m-gt-MOST_STEPS.true
+    rw c.from_residual.ensures (rows-passed v.question.now v.part.now v.node.at v.node.depth v.rows.now v.own.first v.own.last v.node.x
+    v.area.now v.own.count c.loop-j.j c.loop-j.n c.loop-j.area c.loop-j.invariant.2 c.loop-j-test.true (most_steps + 1) _
+    c.in_err-n.ensures.is c.loop-j.invariant.0 (omega arith))
 
 pub loop-j-preserved : goal.loop-j-preserved
 loop-j-preserved c =
     let v = c.args in (
-      search rules,
+      c.in_ok-n.ensures.few,
       search
           rules,
       rows_next v.question.now v.part.now v.node.at v.node.depth v.rows.now v.own.first v.own.last v.node.x
           v.area.now v.own.count c.loop-j.j
           c.loop-j.n c.loop-j.area
           c.loop-j.invariant.2 c.loop-j-test.true
-          c.take_row-m.result _ c.take_row-m.ensures (search rules),
+          _ _ c.in_ok-n.ensures.is (c.in_ok-n.ensures.few),
     )
 
-pub returns : goal.returns
-returns c =
+pub returns-clause-is : goal.returns-clause-is
+returns-clause-is c =
     let v = c.args in
     rows_done v.question.now v.part.now v.node.at v.node.depth v.rows.now v.own.first v.own.last v.node.x
     v.area.now v.own.count c.loop-j.j c.loop-j.n c.loop-j.area c.loop-j.invariant.2 c.loop-j-test.false c.loop-j.invariant.0

@@ -1,3 +1,4 @@
+use Rattle.steps.specs.Limits.{most_steps}
 use mathlib.Core.Path.{refl}
 use native.Mathlib.Omega.{arith}
 use Prim.Native.Nat.{◌+◌}
@@ -16,9 +17,9 @@ loop-j-init c =
           v.node.at v.node.depth v.node.number v.node.x v.area.now v.count,
     )
 
-pub put_placed-m-requires : goal.put_placed-m-requires
+pub put_placed-requires : goal.put_placed-requires
 unfolding silent_at
-put_placed-m-requires c =
+put_placed-requires c =
     let g = c.requires in
     let b = c.shared_slice_known-4-1.given (longest_term + c.args.node.at) in
     let e = c.silent_at-number.ensures in
@@ -28,18 +29,18 @@ put_placed-m-requires c =
     let l = c.loop-j-test.true in
     (((c.loop-j.invariant.0, search rules), g.0.1), g.1, omega arith)
 
-pub returns-then-m-gt-MOST_STEPS : goal.returns-then-m-gt-MOST_STEPS
-returns-then-m-gt-MOST_STEPS c =
+pub returns-in_err-n-clause-is : goal.returns-in_err-n-clause-is
+returns-in_err-n-clause-is c =
     let v = c.args in
-    silent-passed v.question.now v.part.now v.node.at v.node.depth v.node.number v.node.x v.area.now v.count v.tally.now
+    rw c.from_residual.ensures (silent-passed v.question.now v.part.now v.node.at v.node.depth v.node.number v.node.x v.area.now v.count v.tally.now
     c.requires.0.1.1 c.loop-j.j c.loop-j.n c.loop-j.area c.loop-j.invariant.2 (rw c.silent_at-number.ensures at c.loop-j-test.true)
-    c.put_placed-m.result _ (silent-placed v.question.now v.part.now v.node.at v.node.depth v.node.number c.loop-j.j v.node.x
-    c.loop-j.area c.loop-j.n c.put_placed-m.result _ c.requires.3 c.put_placed-m.ensures) c.if-m-gt-MOST_STEPS.true
+    (most_steps + 1) _ (silent-placed v.question.now v.part.now v.node.at v.node.depth v.node.number c.loop-j.j v.node.x
+    c.loop-j.area c.loop-j.n (most_steps + 1) _ c.requires.3 c.in_err-n.ensures.is) (omega arith))
 
 pub loop-j-preserved : goal.loop-j-preserved
 loop-j-preserved c =
     let v = c.args in (
-      search rules,
+      c.in_ok-n.ensures.few,
       search
           rules,
       silent_next v.question.now v.part.now v.node.at v.node.depth v.node.number v.node.x v.area.now v.count v.tally.now
@@ -47,15 +48,15 @@ loop-j-preserved c =
           c.loop-j.j c.loop-j.n
           c.loop-j.area c.loop-j.invariant.2 (rw
           c.silent_at-number.ensures at c.loop-j-test.true)
-          c.put_placed-m.result _ (silent-placed v.question.now v.part.now v.node.at v.node.depth v.node.number
+          _ _ (silent-placed v.question.now v.part.now v.node.at v.node.depth v.node.number
           c.loop-j.j v.node.x c.loop-j.area
-          c.loop-j.n c.put_placed-m.result _
+          c.loop-j.n _ _
           c.requires.3
-          c.put_placed-m.ensures) (search rules),
+          c.in_ok-n.ensures.is) (c.in_ok-n.ensures.few),
     )
 
-pub returns : goal.returns
-returns c =
+pub returns-clause-is : goal.returns-clause-is
+returns-clause-is c =
     let v = c.args in
     silent_done v.question.now v.part.now v.node.at v.node.depth v.node.number v.node.x v.area.now v.count v.tally.now
     c.requires.0.1.1 c.loop-j.j c.loop-j.n c.loop-j.area c.loop-j.invariant.2 (rw c.silent_at-number.ensures at

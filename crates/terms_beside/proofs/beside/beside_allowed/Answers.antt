@@ -3,6 +3,8 @@ use lib.ListN.{length}
 use Rattle.terms.specs.Operations.{beside_question}
 use Rattle.terms.specs.Question.{edition_of}
 use Rattle.terms_bytes.specs.Writing.{WritesBeside}
+use Rattle.terms_bytes.specs.Refusals.{number_of}
+use Rattle.terms_bytes.specs.declared.answer.Refusal.TheVariants.{ResultArea}
 use Rattle.terms_converting.proofs.FittingLaws.{does_refused, does_write}
 use Rattle.terms_beside.proofs.BesideChecks.{third_bytes_lem, written-length, beside_short, beside_writes, sides_bounds}
 use Rattle.terms_beside.proofs.beside.beside_allowed.Goals as goal
@@ -41,6 +43,7 @@ overflow_add-question c =
     omega (arith, b, c.well_formed)
 
 pub returns-then-area-question : goal.returns-then-area-question
+unfolding number_of
 returns-then-area-question c =
     let v = c.args in
     let s = v.question.now in
@@ -51,7 +54,7 @@ returns-then-area-question c =
     let b = sides_bounds s q e third room c.requires.sizes in
     let t = third_bytes_lem (edition_of s) q.arities third c.requires.part c.requires.reads in
     let l = written-length s q e third c.requires.part t in
-    does_refused _ _ 15 (beside_short s q e third room c.requires.sizes c.requires.part c.requires.reads c.requires.parallels (omega (
+    does_refused _ _ ResultArea (beside_short s q e third room c.requires.sizes c.requires.part c.requires.reads c.requires.parallels (omega (
       arith,
       l,
       c.if-area-question.true,

@@ -5,12 +5,6 @@ use lib.ListN.{length-set, length}
 use Rattle.terms_beside.proofs.BesideWriting.{side_stored}
 use Rattle.terms_beside.proofs.beside.write_side.Goals as goal
 
-pub bounds-area-put-2 : goal.bounds-area-put-2
-bounds-area-put-2 c = simp length-set (omega arith)
-
-pub bounds-area-put-3 : goal.bounds-area-put-3
-bounds-area-put-3 c = simp length-set (omega arith)
-
 pub copy-requires : goal.copy-requires
 copy-requires c = simp length-set (omega arith)
 
@@ -24,5 +18,5 @@ returns c =
     let a = c.args in (
       omega (arith, c.requires),
       side_stored a.question.now a.at a.size a.third.now a.area.now a.put (1 + a.size + length
-          a.third.now) _ _ c.requires.0 refl c.copy.ensures c.copy-2.ensures,
+          a.third.now) _ _ c.requires.0 refl (rw c.put_size.ensures at c.copy.ensures) c.copy-2.ensures,
     )

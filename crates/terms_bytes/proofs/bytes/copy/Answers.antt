@@ -1,27 +1,18 @@
-use mathlib.Core.Path.{ap}
-use Prim.Native.Nat.{◌<◌}
+use mathlib.Core.Path.{◌≡◌, ap, ◌∙◌}
+use Prim.Native.Nat.{◌+◌, ◌-◌}
 use native.Mathlib.Omega.{arith}
+use borrow.Rule.Slice.PartMut.{put_mid}
 use lib.ListN.{length}
-use lib.Seq.{length-sets}
-use borrow.Author.Rules.{rules}
-use Rattle.terms_bytes.proofs.Stores.{span, length-span, get_d_span, sets_more, run_whole}
+use lib.Seq.{sets}
+use Rattle.terms_bytes.proofs.Stores.{span, length-span, put-run}
 use Rattle.terms_bytes.proofs.bytes.copy.Goals as goal
-
-pub bounds-out-put : goal.bounds-out-put
-bounds-out-put c = omega (arith, simp length-sets at (ap length c.loop-i.invariant.1))
-
-pub loop-i-preserved : goal.loop-i-preserved
-loop-i-preserved c =
-    let a = c.args in
-    let l = c.loop-i in
-    let h : l.i < a.n = search rules in
-    let xs = span a.src.now a.at a.n in
-    let n : l.i < length xs = omega (arith, length-span a.src.now a.at a.n (search rules)) in
-    (search rules, rw (l.invariant.1, ← get_d_span a.src.now a.at a.n l.i h) (sets_more a.out.now xs a.put l.i n))
 
 pub returns : goal.returns
 returns c =
     let a = c.args in
-    let l = c.loop-i in
+    let k : a.put + a.n - a.put ≡ a.n = omega arith in
+    let m : a.at + a.n - a.at ≡ a.n = omega arith in
     let xs = span a.src.now a.at a.n in
-    run_whole a.out.now xs a.put l.i _ (omega (arith, length-span a.src.now a.at a.n (search rules))) l.invariant.1
+    let l = length-span a.src.now a.at a.n c.requires.0 in
+    let y : c.copy_from_slice.new.self ≡ xs = rw (← m) c.copy_from_slice.ensures.after in
+    ap (put_mid a.put (a.put + a.n - a.put) a.out.now) y ∙ put-run a.out.now xs a.put (a.put + a.n - a.put) (omega (arith, l, c.requires.1)) (omega (arith, l, k))

@@ -1,3 +1,4 @@
+use Rattle.std.proofs.lemmas.Result.{err_from_is_err_and}
 use native.Mathlib.Omega.{arith}
 use Rattle.terms_bytes.specs.Counted.{edition_from}
 use Rattle.terms_checks.proofs.CheckLaws.{bodies_none, bodies_fault, bodies_later_fault, bodies_all}
@@ -8,29 +9,22 @@ returns-then-list-i t c =
     let a = c.args in
     rw c.passed.ensures (bodies_none (edition_from a.counted) a.question.now a.list.now a.i a.at c.if-list-i.true)
 
-pub scan_bodies-more-requires : goal.scan_bodies-more-requires
-scan_bodies-more-requires t c = omega (arith, c.requires)
+pub scan_bodies-requires : goal.scan_bodies-requires
+scan_bodies-requires t c = omega (arith, c.requires)
 
-pub returns-in-Fault : goal.returns-in-Fault
-returns-in-Fault t c =
+pub returns-in_err-p : goal.returns-in_err-p
+returns-in_err-p t c =
     let a = c.args in
-    bodies_fault (edition_from a.counted) a.question.now a.list.now a.i a.at c.if-list-i.false c.in-Fault.k (rw (
-      c.get-parameters.ensures,
-      c.field_at.ensures,
-      c.in-Fault.is,
-    ) at c.scan_whole-one.ensures)
+    let e = err_from_is_err_and c.from_residual.result c.from_residual.ensures.1 in
+    rw (e.1, e.2) (bodies_fault (edition_from a.counted) a.question.now a.list.now a.i a.at c.if-list-i.false c.in_err-p.field-0.0 (rw (c.get-parameters.ensures, c.field_at.ensures) at c.in_err-p.ensures))
 
-pub returns-in-Fault-more : goal.returns-in-Fault-more
-returns-in-Fault-more t c =
+pub returns-in_err-q : goal.returns-in_err-q
+returns-in_err-q t c =
     let a = c.args in
-    bodies_later_fault (edition_from a.counted) a.question.now a.list.now a.i a.at c.if-list-i.false c.in-End.field-0 c.in-End.p (rw
-    (c.get-parameters.ensures, c.field_at.ensures, c.in-End.is) at c.scan_whole-one.ensures) c.in-Fault-more.k (rw
-    (c.after_field.ensures, c.in-Fault-more.is) at c.scan_bodies-more.ensures)
+    let e = err_from_is_err_and c.from_residual-in_err-q.result c.from_residual-in_err-q.ensures.1 in
+    rw (e.1, e.2) (bodies_later_fault (edition_from a.counted) a.question.now a.list.now a.i a.at c.if-list-i.false c.in_ok-p.p (rw (c.get-parameters.ensures, c.field_at.ensures) at c.in_ok-p.ensures) c.in_err-q.field-0.0 (rw c.after_field.ensures at c.in_err-q.ensures))
 
-pub returns-in-End-more : goal.returns-in-End-more
-returns-in-End-more t c =
+pub returns : goal.returns
+returns t c =
     let a = c.args in
-    bodies_all (edition_from a.counted) a.question.now a.list.now a.i a.at c.if-list-i.false c.in-End.field-0 c.in-End.p (rw
-    (c.get-parameters.ensures, c.field_at.ensures, c.in-End.is) at c.scan_whole-one.ensures) c.in-End-more.e c.in-End-more.e
-    c.in-End-more.q c.joint.result (rw (c.after_field.ensures, c.in-End-more.is) at c.scan_bodies-more.ensures)
-    c.joint.ensures
+    bodies_all (edition_from a.counted) a.question.now a.list.now a.i a.at c.if-list-i.false c.in_ok-p.p (rw (c.get-parameters.ensures, c.field_at.ensures) at c.in_ok-p.ensures) c.in_ok-q.q c.joint.result (rw c.after_field.ensures at c.in_ok-q.ensures) c.joint.ensures

@@ -1,15 +1,11 @@
-use mathlib.Core.Path.{sym}
-use Rattle.terms_checks.proofs.CheckLaws.{left_not, right_not, same_not, names_different}
+use Rattle.std.proofs.Common.{rules}
+use Rattle.terms.specs.Question.{different_names_with}
 use Rattle.terms_checks.proofs.check.different_names.Goals as goal
 
-pub returns-then-a-ge-NAME_COUNT : goal.returns-then-a-ge-NAME_COUNT
-returns-then-a-ge-NAME_COUNT c = sym (left_not _ _ c.if-a-ge-NAME_COUNT.true)
+pub returns-then-b-lt-NAME_COUNT : goal.returns-then-b-lt-NAME_COUNT
+unfolding different_names_with
+returns-then-b-lt-NAME_COUNT c = search rules
 
-pub returns-then-b-ge-NAME_COUNT : goal.returns-then-b-ge-NAME_COUNT
-returns-then-b-ge-NAME_COUNT c = sym (right_not _ _ c.if-a-ge-NAME_COUNT.false c.if-b-ge-NAME_COUNT.true)
-
-pub returns-then-a-b : goal.returns-then-a-b
-returns-then-a-b c = sym (same_not _ _ c.if-a-ge-NAME_COUNT.false c.if-b-ge-NAME_COUNT.false c.if-a-b.true)
-
-pub returns : goal.returns
-returns c = sym (names_different _ _ c.if-a-ge-NAME_COUNT.false c.if-b-ge-NAME_COUNT.false c.if-a-b.false)
+pub returns-else-b-lt-NAME_COUNT : goal.returns-else-b-lt-NAME_COUNT
+unfolding different_names_with
+returns-else-b-lt-NAME_COUNT c = search rules

@@ -4,4 +4,4 @@ use Rattle.terms_checks.proofs.check.joint.Goals as goal
 
 pub returns : goal.returns
 unfolding joint_of
-returns c = rw (c.both.ensures, c.both-2.ensures, c.both-3.ensures) refl
+returns c = refl

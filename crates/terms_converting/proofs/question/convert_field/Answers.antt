@@ -1,7 +1,6 @@
 use mathlib.Core.Path.{refl, ◌∙◌}
 use native.Mathlib.Omega.{arith}
 use Prim.Native.Nat.{◌+◌, ◌-◌}
-use lib.ListN.{length-set}
 use Rattle.terms.specs.Edition.{other, encode_in}
 use Rattle.terms_bytes.specs.Counted.{edition_from}
 use Rattle.terms_converting.specs.Questions.{ConvertsField}
@@ -18,20 +17,14 @@ overflow_sub-n c =
     )) in
     omega (arith, y.0)
 
--- src/question.rt:37:16
-pub overflow_cast-out : goal.overflow_cast-out
-overflow_cast-out c =
+pub put_size-requires : goal.put_size-requires
+put_size-requires c =
     let p = c.requires in
     let y = c.convert_term-end.ensures.is p.free p.depth p.term p.scope (c.field_at.ensures ∙ p.bytes) (omega (
       arith,
       p.room,
     )) in
-    omega (arith, y.0, p.short)
-
--- src/question.rt:38:5
-pub bounds-out-put-2 : goal.bounds-out-put-2
-bounds-out-put-2 c =
-    simp length-set (omega (arith, c.convert_term-end.auto.out, c.requires.room))
+    (omega (arith, c.convert_term-end.auto.out, p.room), omega (arith, y.0, p.short))
 
 -- src/question.rt:24:1
 pub returns : goal.returns
@@ -41,5 +34,5 @@ returns c =
     λ free d P s b room. let y = c.convert_term-end.ensures.is free d P s (c.field_at.ensures ∙ b) (omega arith) in (
       omega (arith, y.0),
       field_stored a.out.now (encode_in (other (edition_from a.counted)) d P) a.put (c.convert_term-end.result - (a.put + 2)) _ _ _ y.1
-          (omega (arith, y.0)) refl refl,
+          (omega (arith, y.0)) refl c.put_size.ensures,
     )

@@ -18,8 +18,6 @@ convert_field-put-requires c =
     )) c.loop-k.invariant.0 c.loop-k.invariant.2 c.arities-list.result.now c.arities-list.ensures
 
 -- src/question.rt:52:5
-pub loop-k-smaller : goal.loop-k-smaller
-loop-k-smaller c = omega arith
 
 -- src/question.rt:52:5
 pub loop-k-preserved : goal.loop-k-preserved

@@ -1,21 +1,17 @@
-use mathlib.Core.Path.{ap, ◌∙◌}
 use lib.ListN.{length}
+use Rattle.std.proofs.lemmas.Result.{err_from_is_err_and}
 use Rattle.terms_checks.specs.Checking.{checked_answer}
 use Rattle.terms_converting.proofs.FittingLaws.{does_refused}
 use Rattle.terms_converting.proofs.TurnedBack.{check_accepted, merge_turned_back}
 use Rattle.terms_merging.proofs.merge.merge.Goals as goal
 
+pub returns-in_err-check : goal.returns-in_err-check
+unfolding checked_answer
+returns-in_err-check c =
+    let a = c.args in
+    let e = err_from_is_err_and c.from_residual.result c.from_residual.ensures.1 in
+    rw (e.1, e.2) (does_refused _ _ _ (merge_turned_back a.question.now a.a a.b (length a.area.now) _ c.in_err-check.ensures))
+
 pub merge_accepted-requires : goal.merge_accepted-requires
 unfolding checked_answer
-merge_accepted-requires c =
-    check_accepted c.args.question.now (c.check-checked.ensures ∙ ap checked_answer c.in-Accepted.is)
-
-pub returns-in-Refused : goal.returns-in-Refused
-unfolding checked_answer
-returns-in-Refused c =
-    let a = c.args in
-    does_refused _ _ _ (merge_turned_back a.question.now a.a a.b (length a.area.now) _ (c.check-checked.ensures ∙ ap checked_answer
-    c.in-Refused.is))
-
-pub returns-in-Accepted : goal.returns-in-Accepted
-returns-in-Accepted c = c.merge_accepted.ensures
+merge_accepted-requires c = check_accepted c.args.question.now c.in_ok-check.ensures

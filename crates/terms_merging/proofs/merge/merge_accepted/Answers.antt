@@ -8,6 +8,8 @@ use Rattle.terms.specs.Operations.{merged_question}
 use Rattle.terms.specs.Question.{edition_of, question_with}
 use Rattle.terms_bytes.specs.FieldPlaces.{field_place}
 use Rattle.terms_bytes.specs.Writing.{IsAccepted, Plain, WritesMerged}
+use Rattle.terms_bytes.specs.Refusals.{number_of}
+use Rattle.terms_bytes.specs.declared.answer.Refusal.TheVariants.{MergedNames, ResultArea}
 use Rattle.terms_bytes.proofs.CountedLaws.{is_two, is_one}
 use Rattle.terms_bytes.proofs.QuestionPlaces.{apart_in}
 use Rattle.terms_converting.proofs.FittingLaws.{does_refused, does_write}
@@ -18,7 +20,7 @@ use Rattle.terms_merging.proofs.MergeCounted.{merged-own-length, writes_as}
 use Rattle.terms_merging.proofs.merge.merge_accepted.Goals as goal
 
 pub returns-then-a : goal.returns-then-a
-unfolding IsAccepted
+unfolding IsAccepted number_of
 returns-then-a c =
     let v = c.args in
     let s = v.question.now in
@@ -27,10 +29,10 @@ returns-then-a c =
     let a = v.a in
     let b = v.b in
     let room = length v.area.now in
-    does_refused _ _ 14 (merge_turned s q e a b room (name_too_large s q e a b room (inl c.if-a.true)))
+    does_refused _ _ MergedNames (merge_turned s q e a b room (name_too_large s q e a b room (inl c.if-a.true)))
 
 pub returns-then-b : goal.returns-then-b
-unfolding IsAccepted
+unfolding IsAccepted number_of
 returns-then-b c =
     let v = c.args in
     let s = v.question.now in
@@ -39,10 +41,10 @@ returns-then-b c =
     let a = v.a in
     let b = v.b in
     let room = length v.area.now in
-    does_refused _ _ 14 (merge_turned s q e a b room (name_too_large s q e a b room (inr c.if-b.true)))
+    does_refused _ _ MergedNames (merge_turned s q e a b room (name_too_large s q e a b room (inr c.if-b.true)))
 
 pub returns-then-holds_apart : goal.returns-then-holds_apart
-unfolding IsAccepted question_with
+unfolding IsAccepted question_with number_of
 returns-then-holds_apart c =
     let v = c.args in let s = v.question.now in let q =
     c.requires.0 in let e =
@@ -53,10 +55,10 @@ returns-then-holds_apart c =
     c.after_field.result x c.after_field-second.ensures
     c.after_field.ensures in let t = c.holds_apart.ensures q.apart (c.field_at-pairs.ensures ∙
     p) in let h = may_merge_lem s q e a b room c.holds_apart.result t (search rules) (search rules) in let l = merged-own-length s q e a b in
-    does_refused _ _ 14 (merge_turned s q e a b room (h ∙ ap not c.if-holds_apart.true))
+    does_refused _ _ MergedNames (merge_turned s q e a b room (h ∙ ap not c.if-holds_apart.true))
 
 pub returns-then-area-question : goal.returns-then-area-question
-unfolding IsAccepted question_with
+unfolding IsAccepted question_with number_of
 returns-then-area-question c =
     let v = c.args in let s = v.question.now in let
     q = c.requires.0 in let e =
@@ -67,7 +69,7 @@ returns-then-area-question c =
     c.after_field.result x c.after_field-second.ensures
     c.after_field.ensures in let t = c.holds_apart.ensures q.apart
     (c.field_at-pairs.ensures ∙ p) in let h = may_merge_lem s q e a b room c.holds_apart.result t (search rules)
-    (search rules) in let l = merged-own-length s q e a b in does_refused _ _ 15 (merge_short s q e a b room (h ∙ ap not c.if-holds_apart.false)
+    (search rules) in let l = merged-own-length s q e a b in does_refused _ _ ResultArea (merge_short s q e a b room (h ∙ ap not c.if-holds_apart.false)
     (omega (arith, l)))
 
 pub write_merged_counted-requires : goal.write_merged_counted-requires

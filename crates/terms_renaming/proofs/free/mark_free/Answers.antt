@@ -1,9 +1,10 @@
-use mathlib.Core.Path.{refl, sym, ◌∙◌}
-use Prim.Native.Nat.{◌+◌}
+use mathlib.Core.Path.{◌≡◌, refl, sym, ap, ◌∙◌}
+use Prim.Native.Nat.{ℕ, ◌+◌, ◌-◌}
 use native.Mathlib.Omega.{arith}
-use lib.ListN.{length}
+use lib.ListN.{length, take, drop}
 use borrow.Author.Rules.{rules}
 use borrow.Author.Tests.{leb-true, leb-false}
+use Rattle.terms_renaming.specs.FreeFlags.{marks}
 use Rattle.terms_renaming.proofs.FreeMarks.{going_starts, going_on, going_stuck, going_ends}
 use Rattle.terms_renaming.proofs.free.mark_free.Goals as goal
 
@@ -20,14 +21,6 @@ returns-then-not-room c =
 
 pub overflow_add-at : goal.overflow_add-at
 overflow_add-at c =
-    let a = c.args in
-    let l = c.loop-at in
-    let h = c.shape_at-h.result in
-    let o = leb-true (l.at + (h.fixed + h.names)) (length a.part.now) (sym c.room.ensures ∙ c.if-not-room.false) in
-    omega (arith, o)
-
-pub mark_names-requires : goal.mark_names-requires
-mark_names-requires c =
     let a = c.args in
     let l = c.loop-at in
     let h = c.shape_at-h.result in
@@ -56,11 +49,12 @@ loop-at-preserved c =
     let l = c.loop-at in
     let h = c.shape_at-h.result in
     let o = leb-true (l.at + (h.fixed + h.names)) (length a.part.now) (sym c.room.ensures ∙
-    c.if-not-room.false) in (
+    c.if-not-room.false) in
+    let n : l.at + (h.fixed + h.names) - (l.at + h.fixed) ≡ h.names = omega arith in (
       omega (arith, o),
       c.mark_names.auto.flags ∙ l.invariant.1,
       going_on a.part.now a.arities.now l.at h
-          c.shape_at-h.ensures (search rules) _ _ _ c.mark_names.ensures
+          c.shape_at-h.ensures (search rules) _ _ _ (c.mark_names.ensures ∙ ap (λ (k : ℕ). marks l.flags (take k (drop (l.at + h.fixed) a.part.now))) n)
           l.invariant.2,
     )
 

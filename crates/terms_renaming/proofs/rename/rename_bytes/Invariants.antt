@@ -9,6 +9,3 @@ use Rattle.terms_renaming.proofs.rename.rename_bytes.Given as goal
 
 abbrev pub invariant-loop-i : goal.invariant-loop-i
 invariant-loop-i l = (l.i ≤ l.n) × (l.out ≡ sets l.initial.out l.put (take l.i (map (renamed_byte l.inner l.table) (span l.src l.at l.n))))
-
-abbrev pub decreases-loop-i : goal.decreases-loop-i
-decreases-loop-i l = l.n - l.i

@@ -3,24 +3,24 @@ use Prim.Native.Nat.{◌+◌}
 use native.Mathlib.Omega.{arith}
 use lib.ListN.{length}
 use borrow.Author.Tests.{leb-true, leb-false}
-use Rattle.terms_renaming.proofs.RenamingWalk.{none-past, none_short, none_full, front_nothing, front-renamed}
+use Rattle.terms_renaming.proofs.RenamingWalk.{none-past, none_short, none_full, front-renamed}
 use Rattle.terms_renaming.proofs.rename.rename_front.Goals as goal
 
 pub returns-then-src-at : goal.returns-then-src-at
 returns-then-src-at c =
     let a = c.args in
-    front_nothing _ _ _ _ _ _ _ (none-past a.src.now a.at a.arities.now a.out.now a.put c.if-src-at.true)
+    (none-past a.src.now a.at a.arities.now a.out.now a.put c.if-src-at.true)
 
 pub returns-then-not-room : goal.returns-then-not-room
 returns-then-not-room c =
     let a = c.args in
-    front_nothing _ _ _ _ _ _ _ (none_short a.src.now a.at a.arities.now a.out.now a.put c.shape_at-h.result
+    (none_short a.src.now a.at a.arities.now a.out.now a.put c.shape_at-h.result
     c.shape_at-h.ensures c.if-src-at.false (leb-false _ _ (sym c.room.ensures ∙ c.if-not-room.true)))
 
 pub returns-then-not-room-2 : goal.returns-then-not-room-2
 returns-then-not-room-2 c =
     let a = c.args in
-    front_nothing _ _ _ _ _ _ _ (none_full a.src.now a.at a.arities.now a.out.now a.put c.shape_at-h.result
+    (none_full a.src.now a.at a.arities.now a.out.now a.put c.shape_at-h.result
     c.shape_at-h.ensures (leb-false _ _ (sym c.room-2.ensures ∙ c.if-not-room-2.true)))
 
 pub copy-requires : goal.copy-requires

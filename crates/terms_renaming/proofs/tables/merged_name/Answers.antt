@@ -1,24 +1,13 @@
-use mathlib.Core.Logic.{⊎_elim}
-use native.Mathlib.Omega.{arith}
-use Rattle.calculus.proofs.Conditions.{join_cases}
+use mathlib.Core.Path.{sym, ◌∙◌}
+use Prim.Native.Nat.{max}
+use borrow.Author.Tests.{eq-eqb, ne_eqb}
+use Rattle.calculus.specs.Cond.{join}
 use Rattle.terms_renaming.proofs.tables.merged_name.Goals as goal
 
-pub returns-then-n-b : goal.returns-then-n-b
-returns-then-n-b c =
-    let v = c.args in
-    ⊎_elim (λ h. omega (arith, h)) (λ h. omega (arith, h)) (join_cases v.a v.b v.n)
+pub returns-then-n-max : goal.returns-then-n-max
+unfolding join
+returns-then-n-max c = let v = c.args in rw (eq-eqb v.n (max v.a v.b) (c.if-n-max.true ∙ c.max.ensures)) c.min.ensures
 
-pub returns-then-a-b : goal.returns-then-a-b
-returns-then-a-b c =
-    let v = c.args in
-    ⊎_elim (λ h. omega (arith, h)) (λ h. omega (arith, h)) (join_cases v.a v.b v.n)
-
-pub returns-then-n-a : goal.returns-then-n-a
-returns-then-n-a c =
-    let v = c.args in
-    ⊎_elim (λ h. omega (arith, h)) (λ h. omega (arith, h)) (join_cases v.a v.b v.n)
-
-pub returns : goal.returns
-returns c =
-    let v = c.args in
-    ⊎_elim (λ h. omega (arith, h)) (λ h. omega (arith, h)) (join_cases v.a v.b v.n)
+pub returns-else-n-max : goal.returns-else-n-max
+unfolding join
+returns-else-n-max c = let v = c.args in rw (ne_eqb v.n (max v.a v.b) (λ q. c.if-n-max.false (q ∙ sym c.max.ensures)))

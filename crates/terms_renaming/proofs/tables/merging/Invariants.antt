@@ -8,6 +8,3 @@ use Rattle.terms_renaming.proofs.tables.merging.Given as goal
 
 abbrev pub invariant-loop-i : goal.invariant-loop-i
 invariant-loop-i l = Filling (join l.a l.b) l.initial.table l.table l.i × (l.i ≤ name_count) × (length l.initial.table ≡ name_count)
-
-abbrev pub decreases-loop-i : goal.decreases-loop-i
-decreases-loop-i l = name_count - l.i

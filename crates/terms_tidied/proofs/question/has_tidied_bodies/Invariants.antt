@@ -6,6 +6,3 @@ use Rattle.terms_tidied.proofs.question.has_tidied_bodies.Given as goal
 
 abbrev pub invariant-loop-definition : goal.invariant-loop-definition
 invariant-loop-definition l = TidiedBelow l.question l.definition × (l.at ≡ field_place l.question l.definition) × (l.definition ≤ l.last)
-
-abbrev pub decreases-loop-definition : goal.decreases-loop-definition
-decreases-loop-definition l = l.last - l.definition

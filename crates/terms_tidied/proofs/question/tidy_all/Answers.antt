@@ -19,8 +19,6 @@ tidy_body-put-requires c =
     c.arities-list.ensures
 
 -- src/question.rt:35:5
-pub loop-k-smaller : goal.loop-k-smaller
-loop-k-smaller c = omega arith
 
 -- src/question.rt:35:5
 pub loop-k-preserved : goal.loop-k-preserved

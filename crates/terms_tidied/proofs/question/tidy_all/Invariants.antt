@@ -6,6 +6,3 @@ use Rattle.terms_tidied.proofs.question.tidy_all.Given as goal
 
 abbrev pub invariant-loop-k : goal.invariant-loop-k
 invariant-loop-k l = (length l.out ≡ length l.initial.out) × (l.k ≤ l.last) × Writing l.question l.initial.out l.k l.at l.put l.out
-
-abbrev pub decreases-loop-k : goal.decreases-loop-k
-decreases-loop-k l = l.last - l.k

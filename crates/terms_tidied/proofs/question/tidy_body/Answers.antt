@@ -1,7 +1,6 @@
 use mathlib.Core.Path.{refl}
 use native.Mathlib.Omega.{arith}
 use Prim.Native.Nat.{◌+◌, ◌-◌}
-use lib.ListN.{length-set}
 use Rattle.calculus.specs.Tidy.{tidy}
 use Rattle.terms.specs.Encoding.{encode}
 use Rattle.terms_converting.proofs.QuestionLaws.{field_stored}
@@ -18,19 +17,15 @@ overflow_sub-n c =
     c.tidy-e.result _ c.tidy-e.ensures in
     omega (arith, b.0)
 
--- src/question.rt:20:16
-pub overflow_cast-out : goal.overflow_cast-out
-overflow_cast-out c =
+pub put_size-requires : goal.put_size-requires
+put_size-requires c =
     let a = c.args in
     let p = c.requires in
     let b = body-tidied a.question.now a.at a.list.now a.out.now a.put p.depth p.term p.body _ c.field_at.ensures
-    c.tidy-e.result _ c.tidy-e.ensures in
-    omega (arith, b.0, body_shorter a.question.now a.at a.list.now a.out.now a.put p.depth p.term p.body)
-
--- src/question.rt:21:5
-pub bounds-out-put-2 : goal.bounds-out-put-2
-bounds-out-put-2 c =
-    simp length-set (omega (arith, c.tidy-e.auto.out, c.requires.body.room))
+    c.tidy-e.result _ c.tidy-e.ensures in (
+      omega (arith, c.tidy-e.auto.out, p.body.room),
+      omega (arith, b.0, body_shorter a.question.now a.at a.list.now a.out.now a.put p.depth p.term p.body),
+    )
 
 -- src/question.rt:13:1
 pub returns : goal.returns
@@ -41,5 +36,5 @@ returns c =
     c.tidy-e.ensures in (
       omega (arith, y.0),
       field_stored a.out.now (encode d (tidy P)) a.put (c.tidy-e.result.written - (a.put + 2)) _
-          _ _ y.1 (omega (arith, y.0)) refl refl,
+          _ _ y.1 (omega (arith, y.0)) refl c.put_size.ensures,
     )

@@ -14,8 +14,8 @@ pub returns-then-depth-ge-BINDERS : goal.returns-then-depth-ge-BINDERS
 returns-then-depth-ge-BINDERS c = untold _ _
 
 -- src/tidied.rt:130:13
-pub returns-then-n-eq0 : goal.returns-then-n-eq0
-returns-then-n-eq0 c = untold _ _
+pub returns-in_default : goal.returns-in_default
+returns-in_default c = untold _ _
 
 -- src/tidied.rt:133:13
 pub returns-then-waits-depth-eq1 : goal.returns-then-waits-depth-eq1
@@ -26,13 +26,13 @@ pub loop-at-preserved : goal.loop-at-preserved
 loop-at-preserved c =
     let a = c.args in
     let v = c.loop-at in
-    let l = c.next_front-h.auto.waits ∙ v.invariant.0 in (
-      length-set {A = ℕ} c.next_front-h.new.waits v.depth c.waiting.result ∙ l,
+    let l = c.next_front.auto.waits ∙ v.invariant.0 in (
+      length-set {A = ℕ} c.next_front.new.waits v.depth c.waiting.result ∙ l,
       c.follow-p.auto.depths ∙ v.invariant.1,
       omega
-          (arith, c.follow-p.ensures.few, v.invariant.2, c.if-n-eq0.false),
+          (arith, c.follow-p.ensures.few, v.invariant.2, c.in-Some.ensures.some),
       walking_again a.src.now a.arities.now v.at v.depth v.pending
-          v.depths v.waits c.loop-at-test.true v.invariant.3 c.next_front-h.result _ c.next_front-h.ensures (omega (arith, l, c.if-depth-ge-BINDERS.false))
+          v.depths v.waits c.loop-at-test.true v.invariant.3 c.in-Some.h _ c.in-Some.ensures (omega (arith, l, c.if-depth-ge-BINDERS.false))
           c.if-waits-depth-eq1.false c.follow-p.result _ c.follow-p.ensures (omega (arith, v.invariant.1, v.invariant.2, c.loop-at-test.true, c.requires))
           c.waiting.result c.waiting.ensures,
     )

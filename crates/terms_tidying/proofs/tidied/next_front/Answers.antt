@@ -1,7 +1,7 @@
 use mathlib.Core.Path.{refl, sym, ◌∙◌}
 use native.Mathlib.Omega.{arith}
 use Rattle.terms_bytes.specs.Shape.{binders_at, subterms_at}
-use Rattle.terms_tidying.proofs.TidiedWalk.{front-none, front_plain, front_one, front-last, no_term}
+use Rattle.terms_tidying.proofs.TidiedWalk.{front_plain, front_one, front-last, no_term}
 use Rattle.terms_tidying.proofs.tidied.next_front.Goals as goal
 
 -- src/tidied.rt:85:9
@@ -48,8 +48,7 @@ returns-then-t-eq-RESTRICTION c =
 pub returns-then-t-gt-CALL : goal.returns-then-t-gt-CALL
 returns-then-t-gt-CALL c =
     let a = c.args in
-    front-none a.src.now a.at a.arities.now a.depth a.waits.now c.front-then-t-gt-CALL.result c.front-then-t-gt-CALL.ensures (no_term a.src.now
-    a.at a.arities.now (omega (arith, c.get-t.ensures, c.if-t-gt-CALL.true)))
+    no_term a.src.now a.at a.arities.now (omega (arith, c.get-t.ensures, c.if-t-gt-CALL.true))
 
 -- src/tidied.rt:107:9
 pub returns-then-t-eq-INPUT : goal.returns-then-t-eq-INPUT

@@ -4,7 +4,7 @@ use native.Mathlib.Omega.{arith}
 use lib.ListN.{length, take}
 use borrow.Author.Tests.{leb-true, leb-false}
 use Rattle.terms_restrictions.specs.Unused.{BindsNothing}
-use Rattle.terms_tidying.proofs.TidyWalk.{agrees, outside_byte, stays, goes, tidied-none, tidied_one, tidied_two, beneath-inside, beneath-fits, beneath-tidied, beneath_place, first_place_lem, second_place_lem, taken, lowered_place}
+use Rattle.terms_tidying.proofs.TidyWalk.{agrees, outside_byte, stays, goes, tidied_nowhere, tidied-none, tidied_one, tidied_two, beneath-inside, beneath-fits, beneath-tidied, beneath_place, first_place_lem, second_place_lem, taken, lowered_place}
 use Rattle.terms_tidying.proofs.tidy.+tidy_tidy_unrestricted.Goals as goal
 
 -- src/tidy.rt:93:39
@@ -34,22 +34,32 @@ tidy-returns-then-binds_nothing t c =
           R.is;
     }
 
+pub tidy-returns-in_default : goal.tidy-returns-in_default
+tidy-returns-in_default t c =
+    let a = c.args in
+    record {
+      on = omega arith;
+      inside = omega arith;
+      room = omega arith;
+      is = tidied_nowhere a.src.now a.at a.arities.now a.out.now a.put _ _ c.in_default.ensures;
+    }
+
 -- src/tidy.rt:100:19
 pub tidy-overflow_add-result : goal.tidy-overflow_add-result
 tidy-overflow_add-result t c =
-    omega (arith, c.copy_front-h.ensures, c.well_formed)
+    omega (arith, c.in-Some.ensures, c.well_formed)
 
 -- src/tidy.rt:101:22
 pub tidy-overflow_add-result-then-subterms-eq0 : goal.tidy-overflow_add-result-then-subterms-eq0
 tidy-overflow_add-result-then-subterms-eq0 t c =
-    omega (arith, c.copy_front-h.ensures, c.well_formed)
+    omega (arith, c.in-Some.ensures, c.well_formed)
 
 -- src/tidy.rt:99:9
 pub tidy-returns-then-subterms-eq0 : goal.tidy-returns-then-subterms-eq0
 tidy-returns-then-subterms-eq0 t c =
     let a = c.args in
-    let h = c.copy_front-h.result in
-    let F = c.copy_front-h.ensures in
+    let h = c.in-Some.h in
+    let F = c.in-Some.ensures in
     record {
       on = omega arith;
       inside = F.inside;
@@ -62,29 +72,29 @@ tidy-returns-then-subterms-eq0 t c =
 -- src/tidy.rt:104:27
 pub tidy-overflow_add-at-2 : goal.tidy-overflow_add-at-2
 tidy-overflow_add-at-2 t c =
-    omega (arith, c.copy_front-h.ensures, c.well_formed)
+    omega (arith, c.in-Some.ensures, c.well_formed)
 
 -- src/tidy.rt:104:49
 pub tidy-overflow_add-put : goal.tidy-overflow_add-put
 tidy-overflow_add-put t c =
-    omega (arith, c.copy_front-h.ensures, c.well_formed)
+    omega (arith, c.in-Some.ensures, c.well_formed)
 
 -- src/tidy.rt:104:9
 pub tidy-tidy-first-requires : goal.tidy-tidy-first-requires
 tidy-tidy-first-requires t c =
     let a = c.args in
-    let h = c.copy_front-h.result in
-    let F = c.copy_front-h.ensures in
+    let h = c.in-Some.h in
+    let F = c.in-Some.ensures in
     let r = first_place_lem a.at h.len (length a.src.now) a.put (length a.out.now) h.subterms t c.requires.0 c.requires.1
     F.inside F.room F.step c.if-subterms-eq0.false c.decreases in
-    (r.0, (r.1, rw c.copy_front-h.auto.out r.2))
+    (r.0, (r.1, rw c.copy_front.auto.out r.2))
 
 -- src/tidy.rt:106:9
 pub tidy-returns-then-subterms-eq1 : goal.tidy-returns-then-subterms-eq1
 tidy-returns-then-subterms-eq1 t c =
     let a = c.args in
-    let h = c.copy_front-h.result in
-    let F = c.copy_front-h.ensures in
+    let h = c.in-Some.h in
+    let F = c.in-Some.ensures in
     let R = c.tidy-first.ensures in
     record {
       on = omega (arith, R.on);
@@ -93,7 +103,7 @@ tidy-returns-then-subterms-eq1 t c =
         arith,
         R.room,
         F.room,
-        c.copy_front-h.auto.out,
+        c.copy_front.auto.out,
       );
       is = tidied_one a.src.now a.at a.arities.now a.out.now a.put h _ F (stays a.src.now
           a.at a.arities.now (subst (BindsNothing a.src.now a.at a.arities.now) c.if-binds_nothing.false c.binds_nothing.ensures.is))
@@ -104,10 +114,10 @@ tidy-returns-then-subterms-eq1 t c =
 pub tidy-tidy-requires : goal.tidy-tidy-requires
 tidy-tidy-requires t c =
     let a = c.args in
-    let h = c.copy_front-h.result in
-    let F = c.copy_front-h.ensures in
+    let h = c.in-Some.h in
+    let F = c.in-Some.ensures in
     let R = c.tidy-first.ensures in
-    let k = c.copy_front-h.auto.out in
+    let k = c.copy_front.auto.out in
     let r = second_place_lem a.at h.len c.tidy-first.result.read (length a.src.now) a.put c.tidy-first.result.written (length a.out.now)
     h.subterms t c.requires.0 c.requires.1 F.inside F.room F.step c.if-subterms-eq0.false R.on R.inside (rw (← k) R.room)
     c.decreases in
@@ -117,8 +127,8 @@ tidy-tidy-requires t c =
 pub tidy-returns : goal.tidy-returns
 tidy-returns t c =
     let a = c.args in
-    let h = c.copy_front-h.result in
-    let F = c.copy_front-h.ensures in
+    let h = c.in-Some.h in
+    let F = c.in-Some.ensures in
     let R = c.tidy-first.ensures in
     let S = c.tidy.ensures in
     record {
@@ -129,7 +139,7 @@ tidy-returns t c =
         R.room,
         S.room,
         F.room,
-        c.copy_front-h.auto.out,
+        c.copy_front.auto.out,
         c.tidy-first.auto.out,
       );
       is = tidied_two a.src.now a.at a.arities.now a.out.now

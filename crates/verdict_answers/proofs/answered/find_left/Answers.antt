@@ -2,16 +2,16 @@ use native.Mathlib.Omega.{arith}
 use Rattle.verdict_answers.proofs.LeftLaws.{nothing_left, found_left, found_struck}
 use Rattle.verdict_answers.proofs.answered.find_left.Goals as goal
 
+pub returns-in_err-i : goal.returns-in_err-i
+returns-in_err-i c = rw c.from_residual.ensures (nothing_left _ _ _ _ (rw c.in_err-i.was at c.find_chained.ensures))
+
 pub left_at-requires : goal.left_at-requires
-left_at-requires c = omega (arith, c.find_chained-found.ensures.within _ c.in-At.is)
+left_at-requires c = omega (arith, c.find_chained.ensures.within _ c.in_ok-i.was)
 
-pub returns-then-left_at : goal.returns-then-left_at
-returns-then-left_at c =
-    found_left _ _ _ _ _ _ (rw c.in-At.is at c.find_chained-found.ensures) c.left_at.ensures c.if-left_at.true
+pub returns-then-not-left_at : goal.returns-then-not-left_at
+returns-then-not-left_at c =
+    found_struck _ _ _ _ _ _ (rw c.in_ok-i.was at c.find_chained.ensures) c.left_at.ensures c.if-not-left_at.true
 
-pub returns-in-Nothing : goal.returns-in-Nothing
-returns-in-Nothing c = nothing_left _ _ _ _ (rw c.in-Nothing.is at c.find_chained-found.ensures)
-
-pub returns-else-left_at : goal.returns-else-left_at
-returns-else-left_at c =
-    found_struck _ _ _ _ _ _ (rw c.in-At.is at c.find_chained-found.ensures) c.left_at.ensures c.if-left_at.false
+pub returns : goal.returns
+returns c =
+    found_left _ _ _ _ _ _ (rw c.in_ok-i.was at c.find_chained.ensures) c.left_at.ensures c.if-not-left_at.false

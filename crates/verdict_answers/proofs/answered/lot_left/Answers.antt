@@ -4,33 +4,29 @@ use Rattle.verdict_answers.proofs.answered.lot_left.Goals as goal
 
 pub returns-then-not-answers : goal.returns-then-not-answers
 returns-then-not-answers c =
-    lot-none _ _ _ _ _ _ _ _ _ _ _ _ _ _ c.answers.ensures _ (c.if-not-answers.true) c.requires.4
+    lot-none _ _ _ _ _ _ _ _ _ _ _ _ _ _ c.answers.ensures _ (c.if-not-answers.true)
 
 pub names-init : goal.names-init
-names-init c =
-    (omega arith, lot-start _ _ _ _ _ _ _ _ _ _ _ _ _ _ c.requires.4)
+names-init c = lot-start _ _ _ _ _ _ _ _ _ _ _ _ _ _ c.requires.4
 
 pub names-preserved-then-not-counts : goal.names-preserved-then-not-counts
 names-preserved-then-not-counts c =
-    (omega arith, lot_skips _ _ _ _ _ _ _ _ _ _ _ _ _ _ _ _ c.counts.ensures _ (c.if-not-counts.true) c.names.invariant.1)
+    lot_skips _ _ _ _ _ _ _ _ _ _ _ _ _ _ _ _ c.counts.ensures _ (c.if-not-counts.true) c.names.invariant
 
 pub relied_with-relied-requires : goal.relied_with-relied-requires
 relied_with-relied-requires c =
-    (c.names.invariant.1.numbers, omega (arith, c.find_left-found.ensures.within _ c.in-At.is, c.requires.0.1, c.requires.0.2))
+    (c.names.invariant.numbers, omega (arith, c.find_left.ensures.within _ c.in_ok-slot.was, c.requires.0.1, c.requires.0.2))
 
 pub names-preserved : goal.names-preserved
-names-preserved c = (
-  omega arith,
-  lot-more _ _ _ _ _ _ _ _ _ _ _ _ _ _ _ _ c.counts.ensures _ _ c.successor-key.ensures c.find_left-found.ensures _ _ _
-      c.in-At.is c.relied_with-relied.ensures c.names.invariant.1,
-)
+names-preserved c =
+    lot-more _ _ _ _ _ _ _ _ _ _ _ _ _ _ _ _ c.counts.ensures _ _ c.successor-key.ensures c.find_left.ensures _ _ _
+    c.in_ok-slot.was c.relied_with-relied.ensures c.names.invariant
 
-pub returns-in-Nothing : goal.returns-in-Nothing
-returns-in-Nothing c =
-    lot-fails _ _ _ _ _ _ _ _ _ _ _ _ _ _ _ _ c.counts.ensures _ _ c.successor-key.ensures c.find_left-found.ensures
-    c.names.invariant.0 (omega arith) (c.if-not-counts.false) _ c.answers.ensures (c.if-not-answers.false) c.in-Nothing.is
-    c.requires.4
+pub returns-in_err-slot : goal.returns-in_err-slot
+returns-in_err-slot c =
+    rw c.from_residual.ensures (lot-fails _ _ _ _ _ _ _ _ _ _ _ _ _ _ _ _ c.counts.ensures _ _ c.successor-key.ensures c.find_left.ensures
+    (omega arith) (omega arith) (c.if-not-counts.false) _ c.answers.ensures (c.if-not-answers.false) c.in_err-slot.was)
 
 pub returns : goal.returns
 returns c =
-    lot-all _ _ _ _ _ _ _ _ _ _ _ _ _ _ c.answers.ensures _ _ _ (c.if-not-answers.false) (omega arith) c.names.invariant.1
+    lot-all _ _ _ _ _ _ _ _ _ _ _ _ _ _ c.answers.ensures _ _ _ (c.if-not-answers.false) (omega arith) c.names.invariant

@@ -3,22 +3,19 @@ use native.Mathlib.Omega.{arith}
 use Rattle.verdict_answers.proofs.answered.side_early.Goals as goal
 
 pub loop-name-init : goal.loop-name-init
-loop-name-init c = (omega arith, early_none _ _ _ _ _ _ _ _ _ _ _ _ c.requires.1)
+loop-name-init c = early_none _ _ _ _ _ _ _ _ _ _ _ _ c.requires.1
 
-pub run_answered-answered-requires : goal.run_answered-answered-requires
-run_answered-answered-requires c =
-    (c.requires.0, (omega arith, omega arith, early_run _), c.loop-name.invariant.1.numbers)
+pub run_answered-requires : goal.run_answered-requires
+run_answered-requires c =
+    (c.requires.0, (omega arith, omega arith, early_run _), c.loop-name.invariant.numbers)
 
-pub returns-then-not-all : goal.returns-then-not-all
-returns-then-not-all c =
-    early_fails _ _ _ _ _ _ _ _ _ _ _ _ _ _ (omega arith) _ c.run_answered-answered.ensures (c.if-not-all.true) c.loop-name.invariant.1
+pub returns-in_err-relied : goal.returns-in_err-relied
+returns-in_err-relied c =
+    rw c.from_residual.ensures (early_fails _ _ _ _ _ _ _ _ _ _ _ _ _ _ (omega arith) _ c.run_answered.ensures c.in_err-relied.was)
 
 pub loop-name-preserved : goal.loop-name-preserved
-loop-name-preserved c = (
-  omega arith,
-  early_more _ _ _ _ _ _ _ _ _ _ _ _ _ _ (omega arith) _ c.run_answered-answered.ensures (c.if-not-all.false)
-      c.loop-name.invariant.1,
-)
+loop-name-preserved c =
+    early_more _ _ _ _ _ _ _ _ _ _ _ _ _ _ (omega arith) _ c.run_answered.ensures _ c.in_ok-relied.was c.loop-name.invariant
 
 pub returns : goal.returns
-returns c = early_all _ _ _ _ _ _ _ _ _ _ _ _ _ c.loop-name.name (omega arith) c.loop-name.invariant.1
+returns c = early_all _ _ _ _ _ _ _ _ _ _ _ _ _ c.loop-name.name (omega arith) c.loop-name.invariant

@@ -2,12 +2,12 @@ use native.Mathlib.Omega.{arith}
 use mathlib.Core.Path.{◌≡◌}
 use lib.ListN.{length}
 use Rattle.field_slots.specs.Noted.{noted_count}
-use Rattle.verdict_notes.proofs.NoteLaws.{with_there, with_many, with_more}
+use Rattle.verdict_notes.proofs.NoteLaws.{with_one, with_many, with_more}
 use borrow.Author.Rules.{rules}
 use Rattle.verdict_notes.proofs.relied.relied_with.Goals as goal
 
-pub returns-then-slots-k : goal.returns-then-slots-k
-returns-then-slots-k c = with_there _ _ c.requires.0 _ c.loop-k-test.true c.if-slots-k.true
+pub returns-then-contains : goal.returns-then-contains
+returns-then-contains c = with_one _ _ c.requires.0 _ c.contains.ensures.value c.if-contains.true
 
 pub returns-then-count-eq-NOTED : goal.returns-then-count-eq-NOTED
 returns-then-count-eq-NOTED c =

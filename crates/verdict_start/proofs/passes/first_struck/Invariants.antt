@@ -1,5 +1,5 @@
 use mathlib.Core.Path.{◌≡◌}
-use Prim.Native.Nat.{ℕ, ◌-◌, ◌<◌, ◌≤◌}
+use Prim.Native.Nat.{ℕ, ◌<◌, ◌≤◌}
 use lib.ListN.{get_or}
 use Rattle.field_pairs.specs.Slot.{struck_at}
 use Rattle.verdict_start.proofs.passes.first_struck.Given as goal
@@ -7,6 +7,3 @@ use Rattle.verdict_start.proofs.passes.first_struck.Given as goal
 abbrev pub invariant-loop-i : goal.invariant-loop-i
 invariant-loop-i l =
     (l.i ≤ l.count) × ((k : ℕ) → k < l.i → get_or l.work (struck_at k) 0 ≡ 0)
-
-abbrev pub decreases-loop-i : goal.decreases-loop-i
-decreases-loop-i l = l.count - l.i

@@ -7,7 +7,7 @@ returns-then-not-left_at c = start_gone _ _ _ _ _ _ c.left_at.ensures (c.if-not-
 
 pub overflow_mul-rising : goal.overflow_mul-rising
 overflow_mul-rising c =
-    omega (arith, (c.first_struck-first.ensures.some c.in-At.i c.in-At.is).0, c.requires.0.1, c.requires.0.2)
+    omega (arith, (c.first_struck.ensures.some _ c.in-Some.is).0, c.requires.0.1, c.requires.0.2)
 
-pub returns-in-Nothing : goal.returns-in-Nothing
-returns-in-Nothing c = none_struck_stays _ _ _ _ _ _ (omega arith) c.first_struck-first.ensures c.in-Nothing.is
+pub returns-in_default : goal.returns-in_default
+returns-in_default c = none_struck_stays _ _ _ _ _ _ (omega arith) c.first_struck.ensures c.in_default.is

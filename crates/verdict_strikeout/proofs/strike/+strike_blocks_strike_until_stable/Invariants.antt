@@ -31,6 +31,3 @@ invariant-strike_blocks-loop-i l =
     × Labelled l.question l.seconds
     × PassIs l.examine (manner_of l.search.manner) l.question l.search.capacity l.initial.work l.search.count
     (TakenUp l.rising l.blocks (Blocks l.from l.size l.block) l.i) l.struck l.work
-
-abbrev pub decreases-strike_blocks-loop-i : goal.decreases-strike_blocks-loop-i
-decreases-strike_blocks-loop-i l = l.i

@@ -42,11 +42,11 @@ survives-answered-requires c =
 
 pub note-requires : goal.note-requires
 note-requires c =
-    (omega (arith, c.requires.0, c.requires.1.1, c.requires.1.3), c.survives-answered.ensures.0.numbers)
+    (omega (arith, c.requires.0, c.requires.1.1, c.requires.1.3), c.survives-answered.ensures.0.numbers _ c.in-Some.is)
 
-pub returns-then-all : goal.returns-then-all
-returns-then-all c = (
-  survivor_noted _ _ _ _ _ _ c.requires.3 (c.if-not-examine.false) _ _ c.requires.0 c.survives-answered.ensures.0 c.if-all.true
+pub returns-in-Some : goal.returns-in-Some
+returns-in-Some c = (
+  survivor_noted _ _ _ _ _ _ c.requires.3 (c.if-not-examine.false) _ _ _ c.requires.0 c.survives-answered.ensures.0 c.in-Some.is
       c.note.ensures,
   c.survives-answered.ensures.1,
   c.survives-answered.ensures.2,
@@ -58,7 +58,7 @@ strike-requires c =
 
 pub returns : goal.returns
 returns c = (
-  rw c.strike.ensures (one_strikes _ _ _ _ _ _ c.requires.3 _ (left_zero _ _ _ c.left_at.ensures (c.if-not-left_at.false)) c.survives-answered.ensures.0 c.if-all.false),
+  rw c.strike.ensures (one_strikes _ _ _ _ _ _ c.requires.3 _ (left_zero _ _ _ c.left_at.ensures (c.if-not-left_at.false)) c.survives-answered.ensures.0 c.in_default.is),
   c.survives-answered.ensures.1,
   c.survives-answered.ensures.2,
 )

@@ -1,5 +1,5 @@
 use mathlib.Core.Path.{◌≡◌}
-use Prim.Native.Nat.{◌-◌, ◌≤◌}
+use Prim.Native.Nat.{◌≤◌}
 use lib.ListN.{length}
 use Rattle.terms_renaming.proofs.Filling.{Filling}
 use Rattle.steps_conditions.specs.Slots.{slot_count}
@@ -7,6 +7,3 @@ use Rattle.steps_conditions.proofs.condition.Condition.empty.Given as goal
 
 abbrev pub invariant-loop-i : goal.invariant-loop-i
 invariant-loop-i l = Filling (λ n. n) l.initial.class l.class l.i × (l.i ≤ slot_count) × (length l.initial.class ≡ slot_count)
-
-abbrev pub decreases-loop-i : goal.decreases-loop-i
-decreases-loop-i l = slot_count - l.i

@@ -1,7 +1,0 @@
-use mathlib.Core.Path.{refl}
-use Rattle.fewest_lists.specs.Bests.{BestIs}
-use Rattle.fewest_lists.proofs.best.nothing.Goals as goal
-
-pub returns : goal.returns
-unfolding BestIs
-returns c = (refl, refl)

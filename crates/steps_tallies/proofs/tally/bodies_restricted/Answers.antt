@@ -1,6 +1,0 @@
-use mathlib.Core.Bool.{true≢false}
-use Rattle.steps_tallies.proofs.tally.bodies_restricted.Goals as goal
-
--- src/tally.rt:325:1
-pub returns : goal.returns
-returns c = λ e. absurd (true≢false e)
