@@ -5,7 +5,7 @@
 
 use fewest_lists::best::Choice;
 use fewest_search::apart::apart;
-use questions::{MOST_INPUT, for_each_question};
+use questions::{MOST_INPUT, question_at};
 use std::io;
 use std::io::Read;
 use terms_bytes::answer::Refusal;
@@ -25,11 +25,9 @@ fn print_list(rt: &impl Print, list: &[u8], n: usize) -> io::Result<()> {
 
 fn print_apart(rt: &impl Print, answer: Result<Choice, Refusal>, area: &[u8]) -> io::Result<()> {
     match answer {
-        Ok(choice) => match choice {
-            Choice::Unsettled => println!(rt; "unsettled 0"),
-            Choice::NoChoice => println!(rt; "none 0"),
-            Choice::Length(n) => print_list(rt, area, n),
-        },
+        Ok(Choice::Unsettled) => println!(rt; "unsettled 0"),
+        Ok(Choice::NoChoice) => println!(rt; "none 0"),
+        Ok(Choice::Length(n)) => print_list(rt, area, n),
         Err(refusal) => println!(rt; "refused {}", refusal.number()),
     }
 }
@@ -51,5 +49,8 @@ fn main(rt: HostRuntime) -> io::Result<()> {
     let mut input = Vec::new(rt.alloc());
     rt.reader().take(MOST_INPUT).read_to_end(&mut input)?;
     let mut work = [0u8; WORK_BYTES];
-    for_each_question(&input, |question| write_answer(&rt, question, &mut work))
+    for k in 0..get(&input, 0) as usize {
+        write_answer(&rt, question_at(&input, k), &mut work)?;
+    }
+    Ok(())
 }

@@ -2,9 +2,10 @@
 // in two bytes, as the fields of a question do. No more than 65,536 bytes are read.
 #![tactic(auto)]
 
-use questions::{MOST_INPUT, for_each_question};
+use questions::{MOST_INPUT, question_at};
 use std::io;
 use std::io::Read;
+use terms_bytes::bytes::get;
 use terms_checks::check::check;
 
 fn write_answer(rt: &impl Print, question: &[u8]) -> io::Result<()> {
@@ -17,5 +18,8 @@ fn write_answer(rt: &impl Print, question: &[u8]) -> io::Result<()> {
 fn main(rt: HostRuntime) -> io::Result<()> {
     let mut input = Vec::new(rt.alloc());
     rt.reader().take(MOST_INPUT).read_to_end(&mut input)?;
-    for_each_question(&input, |question| write_answer(&rt, question))
+    for k in 0..get(&input, 0) as usize {
+        write_answer(&rt, question_at(&input, k))?;
+    }
+    Ok(())
 }

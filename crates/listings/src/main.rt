@@ -3,7 +3,7 @@
 // than 65,536 bytes are read.
 #![tactic(auto)]
 
-use questions::{MOST_INPUT, for_each_question};
+use questions::{MOST_INPUT, question_at};
 use std::io;
 use std::io::Read;
 use steps_entries::limits::{MOST_STEPS, STEP_BYTES};
@@ -49,13 +49,11 @@ fn write_steps(rt: &impl Print, input: &[u8]) -> io::Result<()> {
         &mut area,
     );
     match answer {
-        Ok(listed) => match listed {
-            Some(n) => {
-                println!(rt; "steps {n}")?;
-                print_steps(rt, &area, n)
-            }
-            None => println!(rt; "unsettled 0"),
-        },
+        Ok(Some(n)) => {
+            println!(rt; "steps {n}")?;
+            print_steps(rt, &area, n)
+        }
+        Ok(None) => println!(rt; "unsettled 0"),
         Err(refusal) => println!(rt; "refused {}", refusal.number()),
     }
 }
@@ -63,5 +61,8 @@ fn write_steps(rt: &impl Print, input: &[u8]) -> io::Result<()> {
 fn main(rt: HostRuntime) -> io::Result<()> {
     let mut input = Vec::new(rt.alloc());
     rt.reader().take(MOST_INPUT).read_to_end(&mut input)?;
-    for_each_question(&input, |question| write_steps(&rt, question))
+    for k in 0..get(&input, 0) as usize {
+        write_steps(&rt, question_at(&input, k))?;
+    }
+    Ok(())
 }

@@ -2,24 +2,22 @@
 // question do.
 #![tactic(auto)]
 
-use std::io;
-use terms_bytes::bytes::get;
+ghost use Rattle.std.specs.Prelude.{◌≡◌};
+ghost use Rattle.terms_bytes.specs.FieldPlaces.{field_at};
+ghost use Rattle.questions.specs.Questions.{question_place};
+
 use terms_bytes::frame::{after_field, field_at};
 
 // No more of standard input is read.
 pub const MOST_INPUT: u64 = 65536;
 
-// Calls `answer` with one question after the other.
-pub fn for_each_question<F: FnMut(&[u8]) -> io::Result<()>>(
-    input: &[u8],
-    mut answer: F,
-) -> io::Result<()>
-    requires { F.IsAlwaysCallable answer }
+// Question `k` of the input, from 0; nothing where it runs past the end.
+pub fn question_at(input: &[u8], k: usize) -> &[u8]
+    ensures { result.now ≡ field_at input.now (question_place input.now k) }
 {
     let mut at = 1;
-    for _ in 0..get(input, 0) {
-        answer(field_at(input, at))?;
+    for i in 0..k {
         at = after_field(input, at);
     }
-    Ok(())
+    field_at(input, at)
 }

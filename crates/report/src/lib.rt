@@ -7,11 +7,9 @@ use verdict_judge::judge::Verdict;
 
 pub fn print_verdict(rt: &impl Print, judged: Result<Verdict, Refusal>) -> io::Result<()> {
     match judged {
-        Ok(verdict) => match verdict {
-            Verdict::Unsettled => println!(rt; "unsettled 0"),
-            Verdict::Same(n) => println!(rt; "same {n}"),
-            Verdict::Different(n) => println!(rt; "different {n}"),
-        },
+        Ok(Verdict::Unsettled) => println!(rt; "unsettled 0"),
+        Ok(Verdict::Same(n)) => println!(rt; "same {n}"),
+        Ok(Verdict::Different(n)) => println!(rt; "different {n}"),
         Err(refusal) => println!(rt; "refused {}", refusal.number()),
     }
 }
