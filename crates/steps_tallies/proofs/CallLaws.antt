@@ -17,9 +17,9 @@ use Rattle.terms.proofs.Answers.{Every}
 use Rattle.terms.proofs.WellFormed.{WellFormed, accepted_well_formed}
 use Rattle.steps_tallies.specs.Candidates.{candidates}
 use Rattle.steps_tallies.proofs.CandidateForms.{candidates-call}
-use Rattle.std.specs.Prelude.{Some, None}
+use Rattle.std.specs.Prelude.{Ok, Err}
 use Rattle.steps_tallies.specs.declared.bodies.Opening.{Opening}
-use Rattle.steps_tallies.specs.Bodies.{AritiesIs, BodyIs, MayOpenIs, OpeningIs, Unopened, CallIs}
+use Rattle.steps_tallies.specs.Bodies.{AritiesIs, BodyIs, MayOpenIs, CalledIs, OpeningIs, Unopened, CallIs}
 use Rattle.terms.specs.Question.{body_of}
 use Rattle.steps.proofs.QuestionDefinitions.{body_at}
 
@@ -62,13 +62,18 @@ module _ (question : List ℕ) (q : Question) (ok : check_of question ≡ result
 -- A call that may be opened, and one that may not.
 module _ (question s : List ℕ) (at calls : ℕ) (arities body : List ℕ) (k n place : ℕ) (may : Bool) (ar : AritiesIs question arities) (B : BodyIs question k body)
     (ek : k ≡ get_or s (at + 1) 0) (en : n ≡ get_or arities k 0) (there : place ≡ field_place question k) (M : MayOpenIs calls k n (length body) may) where
-  opening_is : may ≡ true → OpeningIs question s at calls (record { definition = k; arity = n; end = at + 2 + n; place = place })
+  called_is : CalledIs question s at (record { definition = k; arity = n; end = at + 2 + n; place = place })
   unfolding AritiesIs
-  opening_is t = record {
+  called_is = record {
     definition = ek;
     arity = λ q ok. en ∙ ap (λ (l : List ℕ). get_or l k 0) (ar q ok);
     end = refl;
     place = there;
+  }
+
+  opening_is : may ≡ true → OpeningIs question s at calls (record { definition = k; arity = n; end = at + 2 + n; place = place })
+  opening_is t = record {
+    called = called_is;
     may = let m = M.may t in (m.0, m.1, subst (λ (l : List ℕ). length l ≤ longest_term) B.piece m.2, m.3);
   }
 
@@ -83,16 +88,18 @@ module _ (question s : List ℕ) (at calls : ℕ) (arities body : List ℕ) (k n
           let h : k < length q.arities = omega arith in
           absurd (M.not t (omega arith) (omega (arith, few_parameters question q ok k)) (omega (arith, ap length (B.is q ok h), body-size question q ok k)) (omega (arith, (accepted_well_formed question q ok).definitions)))
 
-  pub call_opened : may ≡ true → (o : Opening) → o ≡ record { definition = k; arity = n; end = at + 2 + n; place = place } → CallIs question s at calls (Some o)
+  pub call_opened : may ≡ true → (o : Opening) → o ≡ record { definition = k; arity = n; end = at + 2 + n; place = place } → CallIs question s at calls (Ok o)
   call_opened t o e = record {
-    some = λ p h.
+    ok = λ p h.
         let z : ◌≡◌ {A = Opening} o p = cc in
         subst (OpeningIs question s at calls) (sym e ∙ z) (opening_is t);
-    none = λ h. let z : ◌≡◌ {A = ℕ} 0 1 = cc in absurd (omega arith);
+    err = λ p h. let z : ◌≡◌ {A = ℕ} 0 1 = cc in absurd (omega arith);
   }
 
-  pub call_closed : may ≡ false → CallIs question s at calls None
-  call_closed t = record {
-    some = λ p h. let z : ◌≡◌ {A = ℕ} 0 1 = cc in absurd (omega arith);
-    none = λ h. unopened t;
+  pub call_closed : may ≡ false → (o : Opening) → o ≡ record { definition = k; arity = n; end = at + 2 + n; place = place } → CallIs question s at calls (Err o)
+  call_closed t o e = record {
+    ok = λ p h. let z : ◌≡◌ {A = ℕ} 0 1 = cc in absurd (omega arith);
+    err = λ p h.
+        let z : ◌≡◌ {A = Opening} o p = cc in
+        (subst (CalledIs question s at) (sym e ∙ z) called_is, unopened t);
   }

@@ -30,7 +30,7 @@ fn may_open(calls: usize, definition: usize, arity: usize, size: usize) -> bool
     0 < calls && definition < MOST_DEFINITIONS && arity <= GREATEST_ARITY && size <= LONGEST_TERM
 }
 
-// A call that may be opened: its definition and how many names it has, where it ends, and where the field of its body begins.
+// A call: its definition and how many names it has, where it ends, and where the field of its body begins.
 #[derive(Clone, Copy)]
 pub struct Opening {
     pub definition: usize,
@@ -39,14 +39,14 @@ pub struct Opening {
     pub place: usize,
 }
 
-// The call at `at`, where so many calls may be opened one within the other, if it may be opened.
+// The call at `at`, where so many calls may be opened one within the other: `Ok` if it may be opened, `Err` if not.
 pub fn call_at(
     question: &[u8],
     bodies: &[u32],
     src: &[u8],
     at: usize,
     calls: usize,
-) -> Option<Opening>
+) -> Result<Opening, Opening>
     requires { (at < length src.now) × BodiesTallied question.now bodies.now }
     ensures { CallIs question.now src.now at calls result }
 {
@@ -54,13 +54,14 @@ pub fn call_at(
     let n = get(arities_of(question), k) as usize;
     let place = place_of(question, bodies, k);
     let body = body_at(question, place);
-    if !may_open(calls, k, n, body.len()) {
-        return None;
-    }
-    Some(Opening {
+    let call = Opening {
         definition: k,
         arity: n,
         end: at + 2 + n,
         place,
-    })
+    };
+    if !may_open(calls, k, n, body.len()) {
+        return Err(call);
+    }
+    Ok(call)
 }

@@ -10,7 +10,7 @@ returns-then-not-may_open c =
     let a = c.args in
     call_closed a.question.now a.src.now a.at a.calls c.arities_of.result.now c.body_at-body.result.now c.get-k.result
     c.get-n.result c.place_of-place.result c.may_open.result c.arities_of.ensures (c.body_at-body.ensures _ c.place_of-place.ensures)
-    c.get-k.ensures c.get-n.ensures c.place_of-place.ensures c.may_open.ensures c.if-not-may_open.true
+    c.get-k.ensures c.get-n.ensures c.place_of-place.ensures c.may_open.ensures c.if-not-may_open.true _ refl
 
 pub returns : goal.returns
 returns c =
