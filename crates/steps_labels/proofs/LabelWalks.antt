@@ -300,7 +300,7 @@ module _ (question s : List ℕ) (at i : ℕ) (t : Bool) (args : List ℕ) (inne
         → NthIs question s at i t args inner depth calls r
     calling f = record {
       is = λ q free D σ own P rest ok few has scope st.
-          at_call question s at D calls t i g o.definition o.arity O.definition O.arity (Shows q σ r) q free P rest ok scope st
+          at_call question s at D calls t i g o.definition o.arity O.called.definition O.called.arity (Shows q σ r) q free P rest ok scope st
           (λ xs m a k names st. f q free D σ own xs rest ok few has m a k names st);
     }
 
@@ -309,8 +309,8 @@ module _ (question s : List ℕ) (at i : ℕ) (t : Bool) (args : List ℕ) (inne
     unfolding encode
     nth_cut h = record {
       is = λ q free D σ own P rest ok few has scope st.
-          at_call question s at D calls t i g o.definition o.arity O.definition O.arity (λ (P : Term). at + length (encode D P) ≤ length s → Shows q σ r P)
-          q free P rest ok scope st (λ xs m a k names st whole. absurd (omega (arith, O.end, length-map xs (name_byte D)))) (stands s at D P rest st).1;
+          at_call question s at D calls t i g o.definition o.arity O.called.definition O.called.arity (λ (P : Term). at + length (encode D P) ≤ length s → Shows q σ r P)
+          q free P rest ok scope st (λ xs m a k names st whole. absurd (omega (arith, O.called.end, length-map xs (name_byte D)))) (stands s at D P rest st).1;
     }
 
     pub nth_called : 0 < calls → calls ≤ 1 → (bytes : List ℕ) → BodyIs question o.definition bytes → (given : List ℕ) → ArgumentsIs s (at + 2) o.arity args inner depth given

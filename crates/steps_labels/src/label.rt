@@ -247,7 +247,9 @@ fn nth_call(
     let at = scope.at;
     let depth = scope.depth;
     let calls = scope.calls;
-    let o = call_at(question, bodies, src, at, calls)?;
+    let Ok(o) = call_at(question, bodies, src, at, calls) else {
+        return None;
+    };
     if src.len() < o.end {
         return None;
     }

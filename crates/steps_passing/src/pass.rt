@@ -187,7 +187,7 @@ fn pass_call(
     requires { (at < length src.now) × (8 < get_or src.now at 0) × (length src.now ≤ longest_term) × (binders ≤ at + greatest_arity) × (calls ≤ 1) × BodiesTallied question.now bodies.now }
     ensures { PassIs question.now src.now at binders calls false i result }
 {
-    let Some(o) = call_at(question, bodies, src, at, calls) else {
+    let Ok(o) = call_at(question, bodies, src, at, calls) else {
         return silent();
     };
     let n = o.arity;

@@ -402,7 +402,7 @@ module _ (question s : List ℕ) (at D : ℕ) (names : List ℕ) (task : Task) (
         → (r : ℕ) (out' : List ℕ) → WriteIs question bytes 0 o.arity given t out put r out' → WriteIs question s at D names task out put r out'
     write-opened bytes B once c z t e given C r out' R₀ = record {
       on = R₀.on;
-      is = λ low q free σ P rest bs top ok few scope st K shallow. at_call question s at D task.calls task.silently task.number g o.definition o.arity O.definition O.arity
+      is = λ low q free σ P rest bs top ok few scope st K shallow. at_call question s at D task.calls task.silently task.number g o.definition o.arity O.called.definition O.called.arity
           (λ (P : Term). Asks names task (body_of q.bodies) free D σ P bs top → Writes low out put bs r out') q free P rest ok scope st
           (λ xs m a l scoped st K.
           let body = body_of q.bodies in

@@ -45,7 +45,7 @@ fn open_call(
     requires { (at < length src.now) × (8 < get_or src.now at 0) × (length src.now ≤ longest_term) × (row < size) × (size ≤ most_calls) × (length table.old ≡ table_bytes) × BodiesTallied question.now bodies.now }
     ensures { ReachTermIs question.now src.now at row table.old size table.new result }
 {
-    let Some(o) = call_at(question, bodies, src, at, 1) else {
+    let Ok(o) = call_at(question, bodies, src, at, 1) else {
         return Some(size);
     };
     let k = o.definition;

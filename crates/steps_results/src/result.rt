@@ -194,7 +194,7 @@ fn write_call(
     let at = cursor.at;
     let binders = cursor.binders;
     let put = cursor.put;
-    let Some(o) = call_at(question, bodies, src, at, task.calls) else {
+    let Ok(o) = call_at(question, bodies, src, at, task.calls) else {
         return out.len() + 1;
     };
     let n = o.arity;

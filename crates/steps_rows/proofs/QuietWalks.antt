@@ -133,7 +133,7 @@ module _ (question s : List ℕ) (at calls : ℕ) where
             let k = o.definition in
             let m = o.arity in
             let more : calls ≡ suc (calls - 1) = omega arith in
-            at_call question s at D calls true 0 g k m O.definition O.arity (Shows q σ) q free P rest ok scope st
+            at_call question s at D calls true 0 g k m O.called.definition O.called.arity (Shows q σ) q free P rest ok scope st
             (λ xs e a j names st.
             subst Unconditional (sym (opened-candidates question q ok k calls (calls - 1) once more true (map σ xs)))
             (X.is q 0 m (params σ xs) (own_body calls (params σ xs) once) (body k) [] t ok

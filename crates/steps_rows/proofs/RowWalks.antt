@@ -451,8 +451,8 @@ module _ (question s : List ℕ) (root at : ℕ) (asked : Bool) (args : List ℕ
       inside = m;
       kept = kept-all n rows;
       is = λ q free D σ own P rest before ok few has scope st _.
-          at_call question s at D calls false 0 g o.definition o.arity O.definition O.arity (λ (P : Term). at + length (encode D P) ≤ length s → Shows before q σ n rows P)
-          q free P rest ok scope st (λ xs m a k names st whole. absurd (omega (arith, O.end, length-map xs (name_byte D)))) (stands s at D P rest st).1;
+          at_call question s at D calls false 0 g o.definition o.arity O.called.definition O.called.arity (λ (P : Term). at + length (encode D P) ≤ length s → Shows before q σ n rows P)
+          q free P rest ok scope st (λ xs m a k names st whole. absurd (omega (arith, O.called.end, length-map xs (name_byte D)))) (stands s at D P rest st).1;
     }
 
     pub scan_called : 0 < calls → calls ≤ 1 → (bytes : List ℕ) → BodyIs question o.definition bytes → (given : List ℕ) → ArgumentsIs s (at + 2) o.arity args inner depth given
@@ -467,7 +467,7 @@ module _ (question s : List ℕ) (root at : ℕ) (asked : Bool) (args : List ℕ
           let k = o.definition in
           let m = o.arity in
           let more : calls ≡ suc (calls - 1) = omega arith in
-          at_call question s at D calls false 0 g k m O.definition O.arity (Shows before q σ r rows') q free P rest ok scope st
+          at_call question s at D calls false 0 g k m O.called.definition O.called.arity (Shows before q σ r rows') q free P rest ok scope st
           (λ xs e a j names st.
           subst (λ (l : List Candidate). n + length l ≤ most_rows → Has before r rows' l) (sym (opened-candidates question q ok k calls (calls - 1) once more false (map σ xs)))
           (λ h.

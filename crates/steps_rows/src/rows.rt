@@ -263,7 +263,7 @@ fn scan_call(
     let depth = scope.depth;
     let calls = scope.calls;
     let n = branch.row;
-    let Some(o) = call_at(question, bodies, src, at, calls) else {
+    let Ok(o) = call_at(question, bodies, src, at, calls) else {
         return n;
     };
     if src.len() < o.end {
@@ -421,7 +421,7 @@ fn unconditional_call(question: &[u8], bodies: &[u32], src: &[u8], at: usize, ca
     requires { (at < length src.now) × (8 < get_or src.now at 0) × (calls ≤ 1) × BodiesTallied question.now bodies.now }
     ensures { UnconditionalIs question.now src.now at calls result }
 {
-    let Some(o) = call_at(question, bodies, src, at, calls) else {
+    let Ok(o) = call_at(question, bodies, src, at, calls) else {
         return true;
     };
     let body = body_at(question, o.place);

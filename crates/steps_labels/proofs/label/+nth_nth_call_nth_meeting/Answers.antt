@@ -160,50 +160,50 @@ nth-returns t c =
     c.if-t-lt-MATCH.false c.if-t-gt-RESTRICTION.false (S.one c.in_default.is c.if-src-b.false)) R.are (rw c.past.ensures at
     c.nth-label.ensures))
 
-pub nth_call-returns-in_err-o : goal.nth_call-returns-in_err-o
-nth_call-returns-in_err-o t c =
+pub nth_call-returns-in_default : goal.nth_call-returns-in_default
+nth_call-returns-in_default t c =
     let a = c.args in
     nth_closed a.question.now a.src.now a.scope.at a.i a.silent a.args.now a.scope.inner a.scope.depth a.scope.calls
-    c.requires.1 (c.call_at.ensures.none c.in_err-o.was) _
+    c.requires.1 ((c.call_at.ensures.err _ c.in_default.is).1) _
 
 pub nth_call-returns-then-src-o : goal.nth_call-returns-then-src-o
 nth_call-returns-then-src-o t c =
     let a = c.args in
     nth_cut a.question.now a.src.now a.scope.at a.i a.silent a.args.now a.scope.inner a.scope.depth a.scope.calls
-    c.requires.1 c.in_ok-o.o (c.call_at.ensures.some _ c.in_ok-o.was) _ c.if-src-o.true
+    c.requires.1 c.in-Ok.o (c.call_at.ensures.ok _ c.in-Ok.is) _ c.if-src-o.true
 
 pub nth_call-arguments-given-requires : goal.nth_call-arguments-given-requires
 nth_call-arguments-given-requires t c =
-    let m = (c.call_at.ensures.some _ c.in_ok-o.was).may in
+    let m = (c.call_at.ensures.ok _ c.in-Ok.is).may in
     let w = c.requires.2.room in
-    (omega (arith, c.if-src-o.false, (c.call_at.ensures.some _ c.in_ok-o.was).end), m.1, c.requires.2.outer, omega arith)
+    (omega (arith, c.if-src-o.false, (c.call_at.ensures.ok _ c.in-Ok.is).called.end), m.1, c.requires.2.outer, omega arith)
 
 pub nth_call-body_tally-within-requires : goal.nth_call-body_tally-within-requires
 nth_call-body_tally-within-requires t c =
-    (((c.call_at.ensures.some _ c.in_ok-o.was).may).3, c.requires.3.size)
+    (((c.call_at.ensures.ok _ c.in-Ok.is).may).3, c.requires.3.size)
 
 pub nth_call-overflow_sub-left : goal.nth_call-overflow_sub-left
 nth_call-overflow_sub-left t c =
-    let m = (c.call_at.ensures.some _ c.in_ok-o.was).may in
+    let m = (c.call_at.ensures.ok _ c.in-Ok.is).may in
     omega (arith, m)
 
 pub nth_call-nth-requires : goal.nth_call-nth-requires
 nth_call-nth-requires t c =
     let a = c.args in
-    let m = (c.call_at.ensures.some _ c.in_ok-o.was).may in
+    let m = (c.call_at.ensures.ok _ c.in-Ok.is).may in
     let b : length c.body_at-body.result.now ≤ longest_term = omega (
       arith,
       m,
-      ap length (c.body_at-body.ensures c.in_ok-o.o.definition
-          (c.call_at.ensures.some _ c.in_ok-o.was).place).piece,
+      ap length (c.body_at-body.ensures c.in-Ok.o.definition
+          (c.call_at.ensures.ok _ c.in-Ok.is).called.place).piece,
     ) in (
       weight_body a.scope.calls (length a.src.now) a.scope.at (length c.body_at-body.result.now) t 2 c.decreases m.0 b,
       (
         room_body
             a.src.now a.scope.at a.scope.inner a.scope.depth a.scope.calls c.body_at-body.result.now c.requires.2 m.0 b,
-        called_tally a.question.now a.bodies.now a.src.now a.scope.at a.scope.calls c.requires.3 c.in_ok-o.o
-            (c.call_at.ensures.some _ c.in_ok-o.was) c.requires.2.once c.body_at-body.result.now (c.body_at-body.ensures
-            c.in_ok-o.o.definition (c.call_at.ensures.some _ c.in_ok-o.was).place) c.body_tally-within.result.now c.body_tally-within.ensures _ refl,
+        called_tally a.question.now a.bodies.now a.src.now a.scope.at a.scope.calls c.requires.3 c.in-Ok.o
+            (c.call_at.ensures.ok _ c.in-Ok.is) c.requires.2.once c.body_at-body.result.now (c.body_at-body.ensures
+            c.in-Ok.o.definition (c.call_at.ensures.ok _ c.in-Ok.is).called.place) c.body_tally-within.result.now c.body_tally-within.ensures _ refl,
         c.requires.3,
       ),
     )
@@ -211,10 +211,10 @@ nth_call-nth-requires t c =
 pub nth_call-returns : goal.nth_call-returns
 nth_call-returns t c =
     let a = c.args in
-    let m = (c.call_at.ensures.some _ c.in_ok-o.was).may in
+    let m = (c.call_at.ensures.ok _ c.in-Ok.is).may in
     nth_called a.question.now a.src.now a.scope.at a.i a.silent a.args.now a.scope.inner a.scope.depth a.scope.calls
-    c.requires.1 c.in_ok-o.o (c.call_at.ensures.some _ c.in_ok-o.was) _ m.0 c.requires.2.once c.body_at-body.result.now (c.body_at-body.ensures
-    c.in_ok-o.o.definition (c.call_at.ensures.some _ c.in_ok-o.was).place) c.arguments-given.result c.arguments-given.ensures c.nth.ensures
+    c.requires.1 c.in-Ok.o (c.call_at.ensures.ok _ c.in-Ok.is) _ m.0 c.requires.2.once c.body_at-body.result.now (c.body_at-body.ensures
+    c.in-Ok.o.definition (c.call_at.ensures.ok _ c.in-Ok.is).called.place) c.arguments-given.result c.arguments-given.ensures c.nth.ensures
 
 pub nth_meeting-returns-then-n-eq0 : goal.nth_meeting-returns-then-n-eq0
 nth_meeting-returns-then-n-eq0 t c =

@@ -100,41 +100,41 @@ pub pass_call-returns-in_default : goal.pass_call-returns-in_default
 pass_call-returns-in_default t c =
     let a = c.args in
     rw c.silent.ensures (pass_closed a.question.now a.src.now a.at a.binders a.calls false a.i c.requires.1
-    (c.call_at.ensures.none c.in_default.is))
+    ((c.call_at.ensures.err _ c.in_default.is).1))
 
 pub pass_call-body_tally-numbers-requires : goal.pass_call-body_tally-numbers-requires
 pass_call-body_tally-numbers-requires t c =
-    (((c.call_at.ensures.some _ c.in-Some.is).may).3, c.requires.5.size)
+    (((c.call_at.ensures.ok _ c.in-Ok.is).may).3, c.requires.5.size)
 
 pub pass_call-overflow_sub-calls : goal.pass_call-overflow_sub-calls
 pass_call-overflow_sub-calls t c =
-    let m = (c.call_at.ensures.some _ c.in-Some.is).may in
+    let m = (c.call_at.ensures.ok _ c.in-Ok.is).may in
     omega (arith, m)
 
 pub pass_call-pass-p-requires : goal.pass_call-pass-p-requires
 pass_call-pass-p-requires t c =
     let a = c.args in
-    let m = (c.call_at.ensures.some _ c.in-Some.is).may in (
+    let m = (c.call_at.ensures.ok _ c.in-Ok.is).may in (
       omega (
         arith,
         c.decreases,
         c.requires.0,
         m,
-        ap length (c.body_at-body.ensures c.in-Some.o.definition
-            (c.call_at.ensures.some _ c.in-Some.is).place).piece,
+        ap length (c.body_at-body.ensures c.in-Ok.o.definition
+            (c.call_at.ensures.ok _ c.in-Ok.is).called.place).piece,
       ),
       (
         omega (
           arith,
           m,
-          ap length (c.body_at-body.ensures c.in-Some.o.definition
-              (c.call_at.ensures.some _ c.in-Some.is).place).piece,
+          ap length (c.body_at-body.ensures c.in-Ok.o.definition
+              (c.call_at.ensures.ok _ c.in-Ok.is).called.place).piece,
         ),
         omega (arith, m),
         omega (arith, c.requires.4),
         called_tally a.question.now a.bodies.now
-            a.src.now a.at a.calls c.requires.5 c.in-Some.o (c.call_at.ensures.some _ c.in-Some.is) c.requires.4
-            c.body_at-body.result.now (c.body_at-body.ensures c.in-Some.o.definition (c.call_at.ensures.some _ c.in-Some.is).place) c.body_tally-numbers.result.now
+            a.src.now a.at a.calls c.requires.5 c.in-Ok.o (c.call_at.ensures.ok _ c.in-Ok.is) c.requires.4
+            c.body_at-body.result.now (c.body_at-body.ensures c.in-Ok.o.definition (c.call_at.ensures.ok _ c.in-Ok.is).called.place) c.body_tally-numbers.result.now
             c.body_tally-numbers.ensures _ refl,
         c.requires.5,
       ),
@@ -150,10 +150,10 @@ pass_call-returned-requires t c =
 pub pass_call-returns : goal.pass_call-returns
 pass_call-returns t c =
     let a = c.args in
-    let m = (c.call_at.ensures.some _ c.in-Some.is).may in
+    let m = (c.call_at.ensures.ok _ c.in-Ok.is).may in
     rw c.returned.ensures (pass_opened a.question.now a.src.now a.at a.binders a.calls false a.i c.requires.1
-    c.in-Some.o.definition c.in-Some.o.arity (c.call_at.ensures.some _ c.in-Some.is).definition (c.call_at.ensures.some _ c.in-Some.is).arity
-    c.body_at-body.result.now (c.body_at-body.ensures c.in-Some.o.definition (c.call_at.ensures.some _ c.in-Some.is).place) (omega (
+    c.in-Ok.o.definition c.in-Ok.o.arity (c.call_at.ensures.ok _ c.in-Ok.is).called.definition (c.call_at.ensures.ok _ c.in-Ok.is).called.arity
+    c.body_at-body.result.now (c.body_at-body.ensures c.in-Ok.o.definition (c.call_at.ensures.ok _ c.in-Ok.is).called.place) (omega (
       arith,
       c.requires.0,
       c.requires.2,

@@ -16,12 +16,12 @@ pub open_call-returns-in_default : goal.open_call-returns-in_default
 open_call-returns-in_default t c =
     let a = c.args in
     reach_closed a.question.now a.src.now a.at a.row a.table.now a.size (get_or a.src.now (a.at + 1) 0)
-    refl c.requires.1 c.requires.4 (λ q ok l. let z = c.call_at.ensures.none c.in_default.is q ok l in omega arith)
+    refl c.requires.1 c.requires.4 (λ q ok l. let z = (c.call_at.ensures.err _ c.in_default.is).1 q ok l in omega arith)
 
 pub open_call-called_names-names-requires : goal.open_call-called_names-names-requires
 open_call-called_names-names-requires t c = (
   omega (arith, c.requires.0, c.requires.2),
-  ((c.call_at.ensures.some _ c.in-Some.is).may).1,
+  ((c.call_at.ensures.ok _ c.in-Ok.is).may).1,
   omega (
     arith,
     c.requires.3,
@@ -31,32 +31,32 @@ open_call-called_names-names-requires t c = (
 
 pub open_call-is_listed-requires : goal.open_call-is_listed-requires
 open_call-is_listed-requires t c =
-    (c.requires.4, ((c.call_at.ensures.some _ c.in-Some.is).may).1)
+    (c.requires.4, ((c.call_at.ensures.ok _ c.in-Ok.is).may).1)
 
 pub open_call-returns-then-is_listed : goal.open_call-returns-then-is_listed
 open_call-returns-then-is_listed t c =
     let a = c.args in
-    reach_listed a.question.now a.src.now a.at a.row a.table.now a.size c.in-Some.o.definition
-    (c.call_at.ensures.some _ c.in-Some.is).definition c.in-Some.o.arity c.called_names-names.result (λ q ok. (c.call_at.ensures.some _ c.in-Some.is).arity q ok)
-    c.called_names-names.ensures c.requires.1 c.requires.4 (subst (ListedIs a.table.now a.size c.in-Some.o.definition
-    c.called_names-names.result c.in-Some.o.arity) c.if-is_listed.true c.is_listed.ensures)
+    reach_listed a.question.now a.src.now a.at a.row a.table.now a.size c.in-Ok.o.definition
+    (c.call_at.ensures.ok _ c.in-Ok.is).called.definition c.in-Ok.o.arity c.called_names-names.result (λ q ok. (c.call_at.ensures.ok _ c.in-Ok.is).called.arity q ok)
+    c.called_names-names.ensures c.requires.1 c.requires.4 (subst (ListedIs a.table.now a.size c.in-Ok.o.definition
+    c.called_names-names.result c.in-Ok.o.arity) c.if-is_listed.true c.is_listed.ensures)
 
 pub open_call-returns-then-size-ge-MOST_CALLS : goal.open_call-returns-then-size-ge-MOST_CALLS
 open_call-returns-then-size-ge-MOST_CALLS t c =
     let a = c.args in
-    reach_full a.question.now a.src.now a.at a.row a.table.now a.size c.in-Some.o.definition
-    (c.call_at.ensures.some _ c.in-Some.is).definition c.in-Some.o.arity c.called_names-names.result (λ q ok. (c.call_at.ensures.some _ c.in-Some.is).arity q ok)
-    c.called_names-names.ensures c.requires.1 c.requires.4 (subst (ListedIs a.table.now a.size c.in-Some.o.definition
-    c.called_names-names.result c.in-Some.o.arity) c.if-is_listed.false c.is_listed.ensures) c.if-size-ge-MOST_CALLS.true
+    reach_full a.question.now a.src.now a.at a.row a.table.now a.size c.in-Ok.o.definition
+    (c.call_at.ensures.ok _ c.in-Ok.is).called.definition c.in-Ok.o.arity c.called_names-names.result (λ q ok. (c.call_at.ensures.ok _ c.in-Ok.is).called.arity q ok)
+    c.called_names-names.ensures c.requires.1 c.requires.4 (subst (ListedIs a.table.now a.size c.in-Ok.o.definition
+    c.called_names-names.result c.in-Ok.o.arity) c.if-is_listed.false c.is_listed.ensures) c.if-size-ge-MOST_CALLS.true
 
 pub open_call-overflow_cast-k : goal.open_call-overflow_cast-k
 open_call-overflow_cast-k t c =
-    let m = (c.call_at.ensures.some _ c.in-Some.is).may in
+    let m = (c.call_at.ensures.ok _ c.in-Ok.is).may in
     omega (arith, m)
 
 pub open_call-put_call-requires : goal.open_call-put_call-requires
 open_call-put_call-requires t c =
-    let m = (c.call_at.ensures.some _ c.in-Some.is).may in let l : length
+    let m = (c.call_at.ensures.ok _ c.in-Ok.is).may in let l : length
     c.called_names-names.result ≡ 8 = search rules in (
       c.if-size-ge-MOST_CALLS.false,
       c.requires.5,
@@ -66,13 +66,13 @@ open_call-put_call-requires t c =
 
 pub open_call-body_tally-numbers-requires : goal.open_call-body_tally-numbers-requires
 open_call-body_tally-numbers-requires t c =
-    (((c.call_at.ensures.some _ c.in-Some.is).may).3, c.requires.6.size)
+    (((c.call_at.ensures.ok _ c.in-Ok.is).may).3, c.requires.6.size)
 
 pub open_call-reach_term-requires : goal.open_call-reach_term-requires
 open_call-reach_term-requires t c =
     let a = c.args in
-    let m = (c.call_at.ensures.some _ c.in-Some.is).may in
-    let b = ap length (c.body_at-body.ensures c.in-Some.o.definition (c.call_at.ensures.some _ c.in-Some.is).place).piece in (
+    let m = (c.call_at.ensures.ok _ c.in-Ok.is).may in
+    let b = ap length (c.body_at-body.ensures c.in-Ok.o.definition (c.call_at.ensures.ok _ c.in-Ok.is).called.place).piece in (
       omega (arith, c.decreases, c.if-size-ge-MOST_CALLS.false, m, b),
       (
         omega (arith, m, b),
@@ -80,9 +80,9 @@ open_call-reach_term-requires t c =
         omega (arith, c.if-size-ge-MOST_CALLS.false),
         c.put_call.auto.table ∙
             c.requires.5,
-        called_tally a.question.now a.bodies.now a.src.now a.at 1 c.requires.6 c.in-Some.o
-            (c.call_at.ensures.some _ c.in-Some.is) (omega arith) c.body_at-body.result.now (c.body_at-body.ensures
-            c.in-Some.o.definition (c.call_at.ensures.some _ c.in-Some.is).place) c.body_tally-numbers.result.now c.body_tally-numbers.ensures 0 (omega arith),
+        called_tally a.question.now a.bodies.now a.src.now a.at 1 c.requires.6 c.in-Ok.o
+            (c.call_at.ensures.ok _ c.in-Ok.is) (omega arith) c.body_at-body.result.now (c.body_at-body.ensures
+            c.in-Ok.o.definition (c.call_at.ensures.ok _ c.in-Ok.is).called.place) c.body_tally-numbers.result.now c.body_tally-numbers.ensures 0 (omega arith),
         c.requires.6,
       ),
     )
@@ -91,14 +91,14 @@ pub open_call-returns : goal.open_call-returns
 open_call-returns t c =
     let l : length c.called_names-names.result ≡ 8 = search rules in
     let a = c.args in
-    let k = c.in-Some.o.definition in
-    let O = (c.call_at.ensures.some _ c.in-Some.is) in
+    let k = c.in-Ok.o.definition in
+    let O = (c.call_at.ensures.ok _ c.in-Ok.is) in
     let m = O.may in
-    reach_opened a.question.now a.src.now a.at a.row a.table.now a.size k O.definition c.in-Some.o.arity
-    c.called_names-names.result (λ q ok. O.arity q ok) c.called_names-names.ensures c.requires.1 c.requires.4
-    (subst (ListedIs a.table.now a.size k c.called_names-names.result c.in-Some.o.arity) c.if-is_listed.false
+    reach_opened a.question.now a.src.now a.at a.row a.table.now a.size k O.called.definition c.in-Ok.o.arity
+    c.called_names-names.result (λ q ok. O.called.arity q ok) c.called_names-names.ensures c.requires.1 c.requires.4
+    (subst (ListedIs a.table.now a.size k c.called_names-names.result c.in-Ok.o.arity) c.if-is_listed.false
     c.is_listed.ensures) c.if-size-ge-MOST_CALLS.false c.requires.5 m.1 (omega (arith, m.1, l)) c.body_at-body.result.now
-    (c.body_at-body.ensures k O.place) _ c.put_call.ensures _ _ c.reach_term.ensures
+    (c.body_at-body.ensures k O.called.place) _ c.put_call.ensures _ _ c.reach_term.ensures
 
 pub reach_term-returns-then-src-at : goal.reach_term-returns-then-src-at
 reach_term-returns-then-src-at t c =

@@ -233,14 +233,14 @@ pub write_call-returns-in_default : goal.write_call-returns-in_default
 write_call-returns-in_default t c =
     let a = c.args in
     write_closed a.question.now a.src.now a.cursor.at a.cursor.binders a.names.now a.task c.requires.2 a.out.now
-    a.cursor.put c.requires.1 (c.call_at.ensures.none c.in_default.is) _ _ (omega (arith, c.requires.6))
+    a.cursor.put c.requires.1 ((c.call_at.ensures.err _ c.in_default.is).1) _ _ (omega (arith, c.requires.6))
 
 pub write_call-enter-inner-requires : goal.write_call-enter-inner-requires
-write_call-enter-inner-requires t c = let m = (c.call_at.ensures.some _ c.in-Some.is).may in m.0
+write_call-enter-inner-requires t c = let m = (c.call_at.ensures.ok _ c.in-Ok.is).may in m.0
 
 pub write_call-body_tally-numbers-requires : goal.write_call-body_tally-numbers-requires
 write_call-body_tally-numbers-requires t c =
-    (((c.call_at.ensures.some _ c.in-Some.is).may).3, c.requires.7.size)
+    (((c.call_at.ensures.ok _ c.in-Ok.is).may).3, c.requires.7.size)
 
 pub write_call-overflow_add-at : goal.write_call-overflow_add-at
 write_call-overflow_add-at t c =
@@ -248,19 +248,19 @@ write_call-overflow_add-at t c =
 
 pub write_call-called-given-requires : goal.write_call-called-given-requires
 write_call-called-given-requires t c =
-    let m = (c.call_at.ensures.some _ c.in-Some.is).may in
+    let m = (c.call_at.ensures.ok _ c.in-Ok.is).may in
     (m.1, omega (arith, c.requires.0, c.requires.4, c.requires.5), omega (arith, c.requires.0, c.requires.4))
 
 pub write_call-write-requires : goal.write_call-write-requires
 write_call-write-requires t c =
     let a =
     c.args in let m =
-    (c.call_at.ensures.some _ c.in-Some.is).may in let k : c.enter-inner.result.calls ≡
+    (c.call_at.ensures.ok _ c.in-Ok.is).may in let k : c.enter-inner.result.calls ≡
     a.task.calls - 1 = ap (λ (t : Task). t.calls) c.enter-inner.ensures in let l :
     c.enter-inner.result.levels ≡ a.task.levels = ap (λ (t : Task). t.levels)
     c.enter-inner.ensures in let b = ap length (c.body_at-body.ensures
-    c.in-Some.o.definition
-    (c.call_at.ensures.some _ c.in-Some.is).place).piece in (
+    c.in-Ok.o.definition
+    (c.call_at.ensures.ok _ c.in-Ok.is).called.place).piece in (
       omega (arith, c.decreases, c.requires.0, m, k, b),
       (
         omega (arith, m, b),
@@ -270,11 +270,11 @@ write_call-write-requires t c =
         (omega (arith, l, c.requires.6), c.requires.6.1),
         called_tally
             a.question.now a.bodies.now a.src.now a.cursor.at a.task.calls c.requires.7
-            c.in-Some.o
-            (c.call_at.ensures.some _ c.in-Some.is) c.requires.3 c.body_at-body.result.now
+            c.in-Ok.o
+            (c.call_at.ensures.ok _ c.in-Ok.is) c.requires.3 c.body_at-body.result.now
             (c.body_at-body.ensures
-            c.in-Some.o.definition
-            (c.call_at.ensures.some _ c.in-Some.is).place) c.body_tally-numbers.result.now
+            c.in-Ok.o.definition
+            (c.call_at.ensures.ok _ c.in-Ok.is).called.place) c.body_tally-numbers.result.now
             c.body_tally-numbers.ensures _ k,
         c.requires.7,
       ),
@@ -283,10 +283,10 @@ write_call-write-requires t c =
 pub write_call-returns : goal.write_call-returns
 write_call-returns t c =
     let a = c.args in
-    let m = (c.call_at.ensures.some _ c.in-Some.is).may in
+    let m = (c.call_at.ensures.ok _ c.in-Ok.is).may in
     write-opened a.question.now a.src.now a.cursor.at a.cursor.binders a.names.now a.task c.requires.2 a.out.now
-    a.cursor.put c.requires.1 c.in-Some.o (c.call_at.ensures.some _ c.in-Some.is) c.body_at-body.result.now (c.body_at-body.ensures
-    c.in-Some.o.definition (c.call_at.ensures.some _ c.in-Some.is).place) c.requires.3 (a.task.calls - 1) (omega (arith, m)) c.enter-inner.result
+    a.cursor.put c.requires.1 c.in-Ok.o (c.call_at.ensures.ok _ c.in-Ok.is) c.body_at-body.result.now (c.body_at-body.ensures
+    c.in-Ok.o.definition (c.call_at.ensures.ok _ c.in-Ok.is).called.place) c.requires.3 (a.task.calls - 1) (omega (arith, m)) c.enter-inner.result
     c.enter-inner.ensures c.called-given.result c.called-given.ensures c.write.result _ c.write.ensures.0
 
 pub write_parallel-plan_of-plan-requires : goal.write_parallel-plan_of-plan-requires

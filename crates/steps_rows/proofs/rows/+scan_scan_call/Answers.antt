@@ -219,49 +219,49 @@ scan-returns t c =
 pub scan_call-returns-in_default : goal.scan_call-returns-in_default
 scan_call-returns-in_default t c =
     let a = c.args in scan_closed a.question.now a.src.now a.branch.root a.scope.at a.branch.asked a.args.now
-    a.scope.inner a.scope.depth a.scope.calls a.branch.row a.rows.now c.requires.1 (c.call_at.ensures.none c.in_default.is)
+    a.scope.inner a.scope.depth a.scope.calls a.branch.row a.rows.now c.requires.1 ((c.call_at.ensures.err _ c.in_default.is).1)
     c.requires.4.0
 
 pub scan_call-returns-then-src-o : goal.scan_call-returns-then-src-o
 scan_call-returns-then-src-o t c =
     let a = c.args in scan_cut a.question.now a.src.now a.branch.root a.scope.at a.branch.asked a.args.now
-    a.scope.inner a.scope.depth a.scope.calls a.branch.row a.rows.now c.requires.1 c.in-Some.o (c.call_at.ensures.some _ c.in-Some.is)
+    a.scope.inner a.scope.depth a.scope.calls a.branch.row a.rows.now c.requires.1 c.in-Ok.o (c.call_at.ensures.ok _ c.in-Ok.is)
     c.requires.4.0 c.if-src-o.true
 
 pub scan_call-arguments-given-requires : goal.scan_call-arguments-given-requires
 scan_call-arguments-given-requires t c =
     let a = c.args in
-    let m = (c.call_at.ensures.some _ c.in-Some.is).may in
+    let m = (c.call_at.ensures.ok _ c.in-Ok.is).may in
     let w = c.requires.2.room in
-    (omega (arith, c.if-src-o.false, (c.call_at.ensures.some _ c.in-Some.is).end), m.1, c.requires.2.outer, omega arith)
+    (omega (arith, c.if-src-o.false, (c.call_at.ensures.ok _ c.in-Ok.is).called.end), m.1, c.requires.2.outer, omega arith)
 
 pub scan_call-body_tally-within-requires : goal.scan_call-body_tally-within-requires
 scan_call-body_tally-within-requires t c =
-    let m = (c.call_at.ensures.some _ c.in-Some.is).may in
+    let m = (c.call_at.ensures.ok _ c.in-Ok.is).may in
     (m.3, c.requires.3.size)
 
 pub scan_call-overflow_sub-left : goal.scan_call-overflow_sub-left
 scan_call-overflow_sub-left t c =
-    let m = (c.call_at.ensures.some _ c.in-Some.is).may in
+    let m = (c.call_at.ensures.ok _ c.in-Ok.is).may in
     omega (arith, m)
 
 pub scan_call-scan-requires : goal.scan_call-scan-requires
 scan_call-scan-requires t c =
     let a = c.args in
-    let m = (c.call_at.ensures.some _ c.in-Some.is).may in
+    let m = (c.call_at.ensures.ok _ c.in-Ok.is).may in
     let b : length c.body_at-body.result.now ≤ longest_term = omega (
       arith,
       m,
-      ap length (c.body_at-body.ensures c.in-Some.o.definition
-          (c.call_at.ensures.some _ c.in-Some.is).place).piece,
+      ap length (c.body_at-body.ensures c.in-Ok.o.definition
+          (c.call_at.ensures.ok _ c.in-Ok.is).called.place).piece,
     ) in (
       weight_body a.scope.calls (length a.src.now) a.scope.at (length c.body_at-body.result.now) t 2 c.decreases m.0 b,
       (
         room_body
             a.src.now a.scope.at a.scope.inner a.scope.depth a.scope.calls c.body_at-body.result.now c.requires.2 m.0 b,
         called_tally
-            a.question.now a.bodies.now a.src.now a.scope.at a.scope.calls c.requires.3 c.in-Some.o (c.call_at.ensures.some _ c.in-Some.is) c.requires.2.once c.body_at-body.result.now (c.body_at-body.ensures c.in-Some.o.definition
-            (c.call_at.ensures.some _ c.in-Some.is).place) c.body_tally-within.result.now c.body_tally-within.ensures _ refl,
+            a.question.now a.bodies.now a.src.now a.scope.at a.scope.calls c.requires.3 c.in-Ok.o (c.call_at.ensures.ok _ c.in-Ok.is) c.requires.2.once c.body_at-body.result.now (c.body_at-body.ensures c.in-Ok.o.definition
+            (c.call_at.ensures.ok _ c.in-Ok.is).called.place) c.body_tally-within.result.now c.body_tally-within.ensures _ refl,
         c.requires.3,
         c.requires.4,
       ),
@@ -269,8 +269,8 @@ scan_call-scan-requires t c =
 
 pub scan_call-returns : goal.scan_call-returns
 scan_call-returns t c =
-    let a = c.args in let m = (c.call_at.ensures.some _ c.in-Some.is).may in scan_called
+    let a = c.args in let m = (c.call_at.ensures.ok _ c.in-Ok.is).may in scan_called
     a.question.now a.src.now a.branch.root a.scope.at a.branch.asked a.args.now a.scope.inner a.scope.depth a.scope.calls
-    a.branch.row a.rows.now c.requires.1 c.in-Some.o (c.call_at.ensures.some _ c.in-Some.is) m.0 c.requires.2.once c.body_at-body.result.now (c.body_at-body.ensures
-    c.in-Some.o.definition (c.call_at.ensures.some _ c.in-Some.is).place) c.arguments-given.result c.arguments-given.ensures _ _
+    a.branch.row a.rows.now c.requires.1 c.in-Ok.o (c.call_at.ensures.ok _ c.in-Ok.is) m.0 c.requires.2.once c.body_at-body.result.now (c.body_at-body.ensures
+    c.in-Ok.o.definition (c.call_at.ensures.ok _ c.in-Ok.is).called.place) c.arguments-given.result c.arguments-given.ensures _ _
     c.scan.ensures

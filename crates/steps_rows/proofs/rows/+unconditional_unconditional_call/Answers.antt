@@ -107,34 +107,34 @@ unconditional-returns t c =
 pub unconditional_call-returns-in_default : goal.unconditional_call-returns-in_default
 unconditional_call-returns-in_default t c =
     let a = c.args in
-    unconditional_closed a.question.now a.src.now a.at a.calls _ c.requires.1 (c.call_at.ensures.none c.in_default.is)
+    unconditional_closed a.question.now a.src.now a.at a.calls _ c.requires.1 ((c.call_at.ensures.err _ c.in_default.is).1)
 
 pub unconditional_call-body_tally-within-requires : goal.unconditional_call-body_tally-within-requires
 unconditional_call-body_tally-within-requires t c =
-    let m = (c.call_at.ensures.some _ c.in-Some.is).may in
+    let m = (c.call_at.ensures.ok _ c.in-Ok.is).may in
     (m.3, c.requires.3.size)
 
 pub unconditional_call-overflow_sub-calls : goal.unconditional_call-overflow_sub-calls
 unconditional_call-overflow_sub-calls t c =
-    let m = (c.call_at.ensures.some _ c.in-Some.is).may in
+    let m = (c.call_at.ensures.ok _ c.in-Ok.is).may in
     omega (arith, m)
 
 pub unconditional_call-unconditional-requires : goal.unconditional_call-unconditional-requires
 unconditional_call-unconditional-requires t c =
     let a = c.args in
-    let m = (c.call_at.ensures.some _ c.in-Some.is).may in
+    let m = (c.call_at.ensures.ok _ c.in-Ok.is).may in
     let b : length c.body_at-body.result.now ≤ longest_term = omega (
       arith,
       m,
-      ap length (c.body_at-body.ensures c.in-Some.o.definition
-          (c.call_at.ensures.some _ c.in-Some.is).place).piece,
+      ap length (c.body_at-body.ensures c.in-Ok.o.definition
+          (c.call_at.ensures.ok _ c.in-Ok.is).called.place).piece,
     ) in (
       weight_body a.calls (length a.src.now) a.at (length c.body_at-body.result.now) t 2 c.decreases m.0 b,
       (
         b,
         omega (arith, c.requires.2),
-        called_tally a.question.now a.bodies.now a.src.now a.at a.calls c.requires.3 c.in-Some.o (c.call_at.ensures.some _ c.in-Some.is) c.requires.2 c.body_at-body.result.now (c.body_at-body.ensures c.in-Some.o.definition
-            (c.call_at.ensures.some _ c.in-Some.is).place) c.body_tally-within.result.now c.body_tally-within.ensures _ refl,
+        called_tally a.question.now a.bodies.now a.src.now a.at a.calls c.requires.3 c.in-Ok.o (c.call_at.ensures.ok _ c.in-Ok.is) c.requires.2 c.body_at-body.result.now (c.body_at-body.ensures c.in-Ok.o.definition
+            (c.call_at.ensures.ok _ c.in-Ok.is).called.place) c.body_tally-within.result.now c.body_tally-within.ensures _ refl,
         c.requires.3,
       ),
     )
@@ -142,6 +142,6 @@ unconditional_call-unconditional-requires t c =
 pub unconditional_call-returns : goal.unconditional_call-returns
 unconditional_call-returns t c =
     let a = c.args in
-    let m = (c.call_at.ensures.some _ c.in-Some.is).may in
-    unconditional-called a.question.now a.src.now a.at a.calls _ c.requires.1 c.in-Some.o (c.call_at.ensures.some _ c.in-Some.is) m.0 c.requires.2
-    c.body_at-body.result.now (c.body_at-body.ensures c.in-Some.o.definition (c.call_at.ensures.some _ c.in-Some.is).place) c.unconditional.ensures
+    let m = (c.call_at.ensures.ok _ c.in-Ok.is).may in
+    unconditional-called a.question.now a.src.now a.at a.calls _ c.requires.1 c.in-Ok.o (c.call_at.ensures.ok _ c.in-Ok.is) m.0 c.requires.2
+    c.body_at-body.result.now (c.body_at-body.ensures c.in-Ok.o.definition (c.call_at.ensures.ok _ c.in-Ok.is).called.place) c.unconditional.ensures
