@@ -5,7 +5,7 @@ use mathlib.Core.Logic.{inl, inr}
 use mathlib.Core.Path.{◌≡◌, refl, sym, ap, ◌∙◌, subst}
 use native.Mathlib.Decide.{ℕ_discrete}
 use native.Mathlib.Omega.{arith}
-use Rattle.std.specs.Prelude.{Option, Some, None, is_some}
+use Rattle.std.specs.Prelude.{Option, Some, None, Ok, Err, is_some}
 use Prim.Native.Nat.{ℕ, zero, suc, ◌+◌, ◌-◌, ◌*◌, ◌<◌, ◌≤◌}
 use lib.Dec.{ltb}
 use lib.ListN.{get_or, take}
@@ -37,11 +37,11 @@ use Rattle.field_growth.proofs.KeysDiffer.{slot_key}
 use Rattle.verdict.specs.Verdict.{all_found}
 use Rattle.verdict.proofs.Rounds.{true_not_false}
 use Rattle.verdict_notes.specs.Notes.{Has, Few, Numbers, Within, WithIs}
-use Rattle.verdict_answers.specs.Striking.{left_of, left_at, LeftIs, counted, lot_of, some_of, asked, CountsIs, AskedIs, StepAndReply, NumberIn, LotLeftIs}
+use Rattle.verdict_answers.specs.Striking.{left_of, left_at, LeftIs, counted, lot_of, some_of, asked, CountsIs, AskedIs, StepAndReply, NumberIn, relied_in, LotLeftIs}
 use Rattle.verdict_notes.specs.declared.relied.Relied.{Relied}
 use Rattle.verdict_answers.proofs.Demands.{all_left, one_gone}
 use Rattle.verdict_answers.proofs.LeftLaws.{left-found, left-test, left-slot}
-use Rattle.verdict_answers.proofs.Sweeping.{none_not_some, same_some, within_itself, within_then}
+use Rattle.verdict_answers.proofs.Sweeping.{err_not_ok, same_ok, within_itself, within_then}
 
 -- The names of a run.
 pub names_in : (n k y : ℕ) → n ≤ y → y < n + k → y ∈ names_from n k
@@ -234,43 +234,43 @@ module _ (arities : List ℕ) (capacity : ℕ) (work : List ℕ) (count : ℕ) (
             (λ f c a i. (j, omega (arith, l.within j e, c.side.number), w.has f, (name_is name key x k l c a i).there j e));
       }
 
-      pub lot-fails : from ≤ name → name < to → b ≡ true → (t : Bool) → AnswersIs area at others place t → t ≡ true → x ≡ None
-          → LotLeftIs arities capacity work count free apart second area at others place from to before None
-      unfolding AnswersIs CountsIs
-      lot-fails g h on t q p e = record {
+      pub lot-fails : from ≤ name → name < to → b ≡ true → (t : Bool) → AnswersIs area at others place t → t ≡ true → x ≡ None → Numbers before
+          → LotLeftIs arities capacity work count free apart second area at others place from to before (Err before)
+      unfolding AnswersIs CountsIs relied_in
+      lot-fails g h on t q p e m = record {
         is = λ c.
             let a : Answers c = sym (q c.step c.reply c.entry c.entry₂) ∙ p in
             let i : name ∈ lot c = in_lot from to (names c) c.step name g h (sym (n c.side.names c.step c.side.names_free c.entry) ∙ on) in
             sym (rw a (one_gone (left c) (map (reached c) (lot c)) (reached c name) (∈-map (reached c) name (lot c) i)
             (sym (name_is name key x k l c a i).is ∙ ap is_some e)));
-        numbers = λ s z. none_not_some s z;
-        more = λ s z. none_not_some s z;
-        relies = λ s z. none_not_some s z;
+        numbers = m;
+        more = within_itself before;
+        relies = λ s z. err_not_ok before s z;
       }
 
   module _ (t : Bool) (q : AnswersIs area at others place t) where
-    pub lot-none : (before : Relied) → t ≡ false
-        → LotLeftIs arities capacity work count free apart second area at others place from to before None
-    unfolding AnswersIs
-    lot-none before e = record {
+    pub lot-none : (before : Relied) → t ≡ false → Numbers before
+        → LotLeftIs arities capacity work count free apart second area at others place from to before (Err before)
+    unfolding AnswersIs relied_in
+    lot-none before e m = record {
       is = λ c. ap (λ b. b && all_found (left c) (map (reached c) (lot c))) (sym e ∙ q c.step c.reply c.entry c.entry₂);
-      numbers = λ s z. none_not_some s z;
-      more = λ s z. none_not_some s z;
-      relies = λ s z. none_not_some s z;
+      numbers = m;
+      more = within_itself before;
+      relies = λ s z. err_not_ok before s z;
     }
 
     pub lot-all : (before r : Relied) (name : ℕ) → t ≡ true → to ≤ name → LotSwept before r name
-        → LotLeftIs arities capacity work count free apart second area at others place from to before (Some r)
-    unfolding AnswersIs
+        → LotLeftIs arities capacity work count free apart second area at others place from to before (Ok r)
+    unfolding AnswersIs relied_in
     lot-all before r name e h s = record {
       is = λ c.
           let a : Answers c = answers_is c in
           sym (rw a (all_left (left c) (map (reached c) (lot c)) (λ u i.
           let (y, j, d) = map-∈ (reached c) u (lot c) i in
           subst (λ u. found (left c) u ≡ true) (sym d) (s.found_all y (below c y j) c a j))));
-      numbers = λ u z. same_some Numbers r u z s.numbers;
-      more = λ u z. same_some (Within before) r u z s.more;
-      relies = λ u z. same_some (λ u. Few u → (c : Both) (y : ℕ) → y ∈ lot c → NumberIn (Has u) c.side.known (reached c y)) r u z
+      numbers = s.numbers;
+      more = s.more;
+      relies = λ u z. same_ok (λ u. Few u → (c : Both) (y : ℕ) → y ∈ lot c → NumberIn (Has u) c.side.known (reached c y)) r u z
           (λ f c y i. s.relies y (below c y i) f c (answers_is c) i);
     }
       where

@@ -4,7 +4,7 @@ use mathlib.Core.List.{List, [], ◌∷◌, map}
 use mathlib.Core.Logic.{inl, inr}
 use mathlib.Core.Path.{◌≡◌, refl, sym, ap, ◌∙◌, subst}
 use native.Mathlib.Omega.{arith}
-use Rattle.std.specs.Prelude.{Option, Some, None}
+use Rattle.std.specs.Prelude.{Result, Ok, Err}
 use Prim.Native.Nat.{ℕ, ◌+◌, ◌-◌, ◌<◌, ◌≤◌}
 use lib.Dec.{ltb}
 use borrow.Author.Tests.{lt-ltb, le-ltb}
@@ -197,7 +197,7 @@ module _ (arities : List ℕ) (capacity : ℕ) (work : List ℕ) (count : ℕ) (
       let k = ∈-number s p.steps i in
       subst (λ s. s.object < name_count) (sym (k.2 s)) (p.mine.objects k.0 s (omega (arith, k.1, p.mine.number)))
 
-  module _ (manner : Manner) (r : Option Relied) where
+  module _ (manner : Manner) (r : Result Relied Relied) where
     pub answered-openly : manner ≡ Open → RunAnsweredIs name_count (name_count + 1) arities capacity work count free apart second area n others m before r
         → SideAnsweredIs (manner_of manner) arities capacity work count free apart second area n others m before r
     unfolding manner_of differs ReliesOn
@@ -232,23 +232,24 @@ module _ (arities : List ℕ) (capacity : ℕ) (work : List ℕ) (count : ℕ) (
   pub early_none : Numbers before → EarlySwept before 0
   early_none = swept_none {C = Named} work (λ p. p.known) for_name before
 
-  module _ (r : Relied) (name : ℕ) (b : name < name_count) (a : Option Relied)
+  module _ (r : Relied) (name : ℕ) (b : name < name_count) (a : Result Relied Relied)
       (h : RunAnsweredIs name (name + 1) arities capacity work count free apart second area n others m r a) where
     this : AnsweredIs Named work (λ p. p.known) (for_name name) r a
     this = subst (λ d. AnsweredIs (Side d arities capacity work count free apart second area n others m) work (λ p. p.known)
         (λ p. run_demands d name (name + 1) second (free_from p.names 0 name_count) p.pairs p.steps p.replies) r a) (lt-ltb name name_count b) h
 
-    pub early_more : (s : Relied) → a ≡ Some s → EarlySwept r name → EarlySwept s (name + 1)
+    pub early_more : (s : Relied) → a ≡ Ok s → EarlySwept r name → EarlySwept s (name + 1)
     early_more s = swept_more {C = Named} work (λ p. p.known) for_name before r name a s this
 
-    pub early_fails : a ≡ None → SideAnsweredIs (manner_of Early) arities capacity work count free apart second area n others m before None
+    pub early_fails : (x : Relied) → a ≡ Err x → EarlySwept r name
+        → SideAnsweredIs (manner_of Early) arities capacity work count free apart second area n others m before (Err x)
     unfolding manner_of differs
-    early_fails = swept_fails {C = Named} work (λ p. p.known) for_name
+    early_fails x = swept_fails {C = Named} work (λ p. p.known) for_name
         (λ p. side_demands (named early) second (free_from p.names 0 name_count) p.pairs p.steps p.replies) before r name
-        (λ p. of_early second p.names p.pairs p.replies p.steps (small_objects p) name b) a this
+        (λ p. of_early second p.names p.pairs p.replies p.steps (small_objects p) name b) a x this
 
   pub early_all : (r : Relied) (name : ℕ) → name_count ≤ name → EarlySwept r name
-      → SideAnsweredIs (manner_of Early) arities capacity work count free apart second area n others m before (Some r)
+      → SideAnsweredIs (manner_of Early) arities capacity work count free apart second area n others m before (Ok r)
   unfolding manner_of differs
   early_all r name h = swept_all {C = Named} work (λ p. p.known) for_name
       (λ p. side_demands (named early) second (free_from p.names 0 name_count) p.pairs p.steps p.replies) before r name

@@ -4,7 +4,7 @@ use mathlib.Core.List.{List, [], ◌∷◌, map}
 use mathlib.Core.Logic.{inl}
 use mathlib.Core.Path.{◌≡◌, refl, sym, ap, ◌∙◌, subst}
 use native.Mathlib.Omega.{arith}
-use Rattle.std.specs.Prelude.{Option, Some, None, is_some}
+use Rattle.std.specs.Prelude.{Result, Ok, Err, is_ok}
 use Prim.Native.Nat.{ℕ, ◌+◌, ◌*◌, ◌<◌, ◌≤◌}
 use lib.Dec.{ltb}
 use lib.ListN.{get_or}
@@ -22,10 +22,10 @@ use Rattle.field.proofs.Selections.{∈-select, select-∈}
 use Rattle.field_successors.specs.Leading.{leading}
 use Rattle.verdict.specs.Verdict.{all_found, answered, all_answered}
 use Rattle.verdict_notes.specs.Notes.{Has, Few, Numbers}
-use Rattle.verdict_answers.specs.Striking.{left_of, lot_of, some_of, asked, demanded, run_demands, AskedIs, Side, NameRun, StepAndReply, LotLeftIs, NumberIn, SomeAnswer, ReliesOn, AnsweredIs, RunAnsweredIs}
+use Rattle.verdict_answers.specs.Striking.{left_of, lot_of, some_of, asked, demanded, run_demands, AskedIs, Side, NameRun, StepAndReply, LotLeftIs, NumberIn, relied_in, SomeAnswer, ReliesOn, AnsweredIs, RunAnsweredIs}
 use Rattle.verdict_notes.specs.declared.relied.Relied.{Relied}
 use Rattle.verdict_answers.proofs.Demands.{one_answers, none_answers}
-use Rattle.verdict_answers.proofs.Sweeping.{none_not_some, Swept, swept_none, swept_skips, swept_more, swept_fails, swept_all}
+use Rattle.verdict_answers.proofs.Sweeping.{err_not_ok, within_itself, Swept, swept_none, swept_skips, swept_more, swept_fails, swept_all}
 
 abbrev no_step : ListedStep
 no_step = record { classes = []; kind = 0; channel = 0; object = 0; result = nil }
@@ -137,52 +137,55 @@ module _ (from to : ℕ) (arities : List ℕ) (capacity : ℕ) (work : List ℕ)
     of_step_lem : (p : These) → of_step k p ≡ wanted p k ∷ []
     of_step_lem p = ap (λ b. cond b (wanted p k ∷ []) []) (may p)
 
-    module _ (run : NameRun differ from to) (l : ℕ) (g : l < m) (r : Relied) (x : Option Relied)
+    module _ (run : NameRun differ from to) (l : ℕ) (g : l < m) (r : Relied) (x : Result Relied Relied)
         (lot : LotLeftIs arities capacity work count free apart second area (step_bytes * k) others (step_bytes * l) from to r x) where
-      answers_too : (p : These) → is_some x ≡ true → (answers name_count (step p k) (reply p l) ≡ true) × (all_found (left_of work p.known) (reached p k l) ≡ true)
+      answers_too : (p : These) → is_ok x ≡ true → (answers name_count (step p k) (reply p l) ≡ true) × (all_found (left_of work p.known) (reached p k l) ≡ true)
       unfolding both
       answers_too p e =
           both_true (answers name_count (step p k) (reply p l)) (all_found (left_of work p.known) (reached p k l)) (sym (lot.is (both p k h (may p) run l g)) ∙ e)
 
-      step-answered : (s : Relied) → x ≡ Some s → AnsweredIs These work known (of_step k) r x
+      step-answered : (s : Relied) → x ≡ Ok s → AnsweredIs These work known (of_step k) r x
       unfolding ReliesOn all_answered both
       step-answered s e = record {
-        is = λ p. ap is_some e ∙ sym (ap (all_answered (left_of work p.known)) (of_step_lem p)
-            ∙ rw (one_answers (left_of work p.known) (wanted p k) (reached p k l) (reply_in p k h (may p) l g (answers_too p (ap is_some e)).0) (answers_too p (ap is_some e)).1) refl);
+        is = λ p. ap is_ok e ∙ sym (ap (all_answered (left_of work p.known)) (of_step_lem p)
+            ∙ rw (one_answers (left_of work p.known) (wanted p k) (reached p k l) (reply_in p k h (may p) l g (answers_too p (ap is_ok e)).0) (answers_too p (ap is_ok e)).1) refl);
         numbers = lot.numbers;
         more = lot.more;
         relies = λ u q f p w i. relies u p q f w (subst (λ ds. w ∈ ds) (of_step_lem p) i);
       }
         where
-          relies : (u : Relied) (p : These) → x ≡ Some u → Few u → (w : List (List Situation)) → w ∈ (wanted p k ∷ []) → SomeAnswer (NumberIn (Has u) p.known) w
+          relies : (u : Relied) (p : These) → x ≡ Ok u → Few u → (w : List (List Situation)) → w ∈ (wanted p k ∷ []) → SomeAnswer (NumberIn (Has u) p.known) w
           relies u p q f w (mathlib.Core.Logic.inr x'') = elim x'' [ ]
           relies u p q f w (inl d) = subst (SomeAnswer (NumberIn (Has u) p.known)) (sym d) (
             reached p k l,
-            reply_in p k h (may p) l g (answers_too p (ap is_some e)).0,
+            reply_in p k h (may p) l g (answers_too p (ap is_ok e)).0,
             λ t i.
                 let (y, j, c) = map-∈ (leading second (names p) p.pairs (step p k) (reply p l)) t (lot_of from to (names p) (step p k)) i in
                 subst (NumberIn (Has u) p.known) (sym c) (lot.relies u q f (both p k h (may p) run l g) y j),
           )
 
-      pub reply-answers : (before r₀ s : Relied) → r ≡ r₀ → x ≡ Some s → SideSwept before r₀ k → SideSwept before s (k + 1)
+      pub reply-answers : (before r₀ s : Relied) → r ≡ r₀ → x ≡ Ok s → SideSwept before r₀ k → SideSwept before s (k + 1)
       reply-answers before r₀ s same e swept = swept_more work known of_step before r k x s (step-answered s e) e (subst (λ r. SideSwept before r k) (sym same) swept)
 
-      pub reply-fails : x ≡ None → ReplyFails k l
+      pub reply-fails : (s : Relied) → x ≡ Err s → ReplyFails k l
       unfolding both
-      reply-fails e p q t =
-          ap (λ t. t && all_found (left_of work p.known) (reached p k l)) (sym t) ∙ sym (lot.is (both p k h (may p) run l g)) ∙ ap is_some e
+      reply-fails s e p q t =
+          ap (λ t. t && all_found (left_of work p.known) (reached p k l)) (sym t) ∙ sym (lot.is (both p k h (may p) run l g)) ∙ ap is_ok e
 
-    pub step-fails : (before : Relied) (j : ℕ) → m ≤ j → ((l : ℕ) → l < j → ReplyFails k l)
-        → RunAnsweredIs from to arities capacity work count free apart second area n others m before None
-    unfolding all_answered run_demands
-    step-fails before j g so =
-        swept_fails work known of_step all_demands before before k one None (record {
+    pub step-fails : (before r r₀ : Relied) (j : ℕ) → r ≡ r₀ → m ≤ j → ((l : ℕ) → l < j → ReplyFails k l) → SideSwept before r₀ k
+        → RunAnsweredIs from to arities capacity work count free apart second area n others m before (Err r)
+    unfolding all_answered run_demands relied_in
+    step-fails before r r₀ j same g so s₀ =
+        swept_fails work known of_step all_demands before r k one (Err r) r (record {
           is = λ p. sym (ap (all_answered (left_of work p.known)) (of_step_lem p) ∙ rw (none_left p k h (may p) j g so) refl);
-          numbers = λ s q. none_not_some s q;
-          more = λ s q. none_not_some s q;
-          relies = λ s q. none_not_some s q;
-        }) refl
+          numbers = s.numbers;
+          more = within_itself r;
+          relies = λ u q. err_not_ok r u q;
+        }) refl s
       where
+        s : SideSwept before r k
+        s = subst (λ r. SideSwept before r k) (sym same) s₀
+
         one : (p : These) (w : List (List Situation)) → w ∈ of_step k p → w ∈ all_demands p
         one p w i = only (subst (λ ds. w ∈ ds) (of_step_lem p) i)
           where
@@ -193,7 +196,7 @@ module _ (from to : ℕ) (arities : List ℕ) (capacity : ℕ) (work : List ℕ)
                 (∈-select (asked differ from to (names p) p.pairs) (step p k) p.steps (step_there p k h (may p)) (may p)))
 
   pub side_all : (before r : Relied) (i : ℕ) → n ≤ i → SideSwept before r i
-      → RunAnsweredIs from to arities capacity work count free apart second area n others m before (Some r)
+      → RunAnsweredIs from to arities capacity work count free apart second area n others m before (Ok r)
   unfolding run_demands
   side_all before r i h = swept_all work known of_step all_demands before r i from_step
     where

@@ -3,7 +3,7 @@ use mathlib.Core.Bool.{Bool, true, false}
 use mathlib.Core.List.{List, []}
 use mathlib.Core.Path.{◌≡◌, refl, sym, ap, ◌∙◌, subst}
 use native.Mathlib.Omega.{arith}
-use Rattle.std.specs.Prelude.{Option, Some, None, is_some}
+use Rattle.std.specs.Prelude.{Result, Ok, Err, is_ok}
 use Prim.Native.Nat.{ℕ, ◌+◌, ◌<◌}
 use borrow.Author.Count.{below_more}
 use Rattle.calculus.specs.Lists.{◌∈◌}
@@ -11,16 +11,24 @@ use Rattle.field.specs.Situation.{Situation}
 use Rattle.verdict.specs.Verdict.{all_answered}
 use Rattle.verdict.proofs.Rounds.{true_not_false}
 use Rattle.verdict_notes.specs.Notes.{Has, Few, Numbers, Within}
-use Rattle.verdict_answers.specs.Striking.{left_of, NumberIn, SomeAnswer, ReliesOn, AnsweredIs}
+use Rattle.verdict_answers.specs.Striking.{left_of, NumberIn, relied_in, SomeAnswer, ReliesOn, AnsweredIs}
 use Rattle.verdict_notes.specs.declared.relied.Relied.{Relied}
 use Rattle.verdict_answers.proofs.Demands.{each-answered, member-answered, fewer_answered, same-answered}
 
--- nothing is said of what is not there, and what is there is one
-pub none_not_some : {A : Type 0} (s : Relied) → ◌≡◌ {A = Option Relied} None (Some s) → A
-none_not_some s q = let z : ◌≡◌ {A = ℕ} 0 1 = cc in absurd (omega arith)
+-- what is relied on, where a result is known
+pub in_ok : (P : Relied → Type 0) {r : Result Relied Relied} {s : Relied} → r ≡ Ok s → P (relied_in r) → P s
+unfolding relied_in
+in_ok P e = subst (λ r. P (relied_in r)) e
 
-pub same_some : (P : Relied → Type 0) (r s : Relied) → ◌≡◌ {A = Option Relied} (Some r) (Some s) → P r → P s
-same_some P r s q = let z : r ≡ s = cc in subst P z
+pub in_err : (P : Relied → Type 0) {r : Result Relied Relied} {s : Relied} → r ≡ Err s → P (relied_in r) → P (relied_in (Err s))
+in_err P e = subst (λ r. P (relied_in r)) e
+
+-- an `Err` is no `Ok`, and an `Ok` is of one
+pub err_not_ok : {A : Type 0} (r s : Relied) → ◌≡◌ {A = Result Relied Relied} (Err r) (Ok s) → A
+err_not_ok r s q = let z : ◌≡◌ {A = ℕ} 0 1 = cc in absurd (omega arith)
+
+pub same_ok : (P : Relied → Type 0) (r s : Relied) → ◌≡◌ {A = Result Relied Relied} (Ok r) (Ok s) → P r → P s
+same_ok P r s q = let z : r ≡ s = cc in subst P z
 
 pub within_itself : (r : Relied) → Within r r
 within_itself r = record { few = λ f. f; has = λ f j x. x }
@@ -35,7 +43,7 @@ relies_more known ds w f a m i = let (l, j, x) = a m i in (l, j, λ t k. let (n,
 module _ {C : Type 0} (work : List ℕ) (known : C → List Situation) where
   -- the same demands in another order
   pub same-demands : (ds es : C → List (List (List Situation))) → ((c : C) (m : List (List Situation)) → m ∈ ds c → m ∈ es c)
-      → ((c : C) (m : List (List Situation)) → m ∈ es c → m ∈ ds c) → (before : Relied) (r : Option Relied) → AnsweredIs C work known ds before r → AnsweredIs C work known es before r
+      → ((c : C) (m : List (List Situation)) → m ∈ es c → m ∈ ds c) → (before : Relied) (r : Result Relied Relied) → AnsweredIs C work known ds before r → AnsweredIs C work known es before r
   unfolding ReliesOn
   same-demands ds es to from before r a = record {
     is = λ c. a.is c ∙ same-answered (left_of work (known c)) (ds c) (es c) (to c) (from c);
@@ -46,17 +54,17 @@ module _ {C : Type 0} (work : List ℕ) (known : C → List Situation) where
 
   -- two lots of demands
   pub demands_fail : (ds es : C → List (List (List Situation))) → ((c : C) (m : List (List Situation)) → m ∈ ds c → m ∈ es c)
-      → (before first : Relied) (r : Option Relied) → AnsweredIs C work known ds before r → r ≡ None → AnsweredIs C work known es first None
-  demands_fail ds es to before first r a e = record {
+      → (before : Relied) (r : Result Relied Relied) (x : Relied) → AnsweredIs C work known ds before r → r ≡ Err x → AnsweredIs C work known es before (Err x)
+  demands_fail ds es to before r x a e = record {
     is = λ c. sym (fails c (all_answered (left_of work (known c)) (es c)) refl);
-    numbers = λ s q. none_not_some s q;
-    more = λ s q. none_not_some s q;
-    relies = λ s q. none_not_some s q;
+    numbers = in_err Numbers e a.numbers;
+    more = in_err (Within before) e a.more;
+    relies = λ s q. err_not_ok x s q;
   }
     where
       fails : (c : C) (b : Bool) → all_answered (left_of work (known c)) (es c) ≡ b → all_answered (left_of work (known c)) (es c) ≡ false
       fails c false q = q
-      fails c true q = true_not_false (fewer_answered (left_of work (known c)) (es c) (ds c) (to c) q) (sym (a.is c) ∙ ap is_some e)
+      fails c true q = true_not_false (fewer_answered (left_of work (known c)) (es c) (ds c) (to c) q) (sym (a.is c) ∙ ap is_ok e)
 
   -- those of the numbers below i are answered
   module _ (D : ℕ → C → List (List (List Situation))) where
@@ -83,30 +91,33 @@ module _ {C : Type 0} (work : List ℕ) (known : C → List Situation) where
       relies = below_more _ i s.relies (λ f c m j. absurd (subst (λ ds. m ∈ ds) (e c) j));
     }
 
-    pub swept_more : (before r : Relied) (i : ℕ) (a : Option Relied) (t : Relied) → AnsweredIs C work known (D i) r a → a ≡ Some t → Swept before r i → Swept before t (i + 1)
+    pub swept_more : (before r : Relied) (i : ℕ) (a : Result Relied Relied) (t : Relied) → AnsweredIs C work known (D i) r a → a ≡ Ok t → Swept before r i → Swept before t (i + 1)
     swept_more before r i a t h e s =
-        let more = h.more t e in
+        let more : Within r t = in_ok (Within r) e h.more in
         record {
-          every_answer = below_more _ i s.every_answer (λ c. sym (h.is c) ∙ ap is_some e);
-          numbers = h.numbers t e;
+          every_answer = below_more _ i s.every_answer (λ c. sym (h.is c) ∙ ap is_ok e);
+          numbers = in_ok Numbers e h.numbers;
           more = within_then s.more more;
           relies = below_more _ i (λ k b f c. relies_more (known c) (D k c) more f (s.relies k b (more.few f) c)) (h.relies t e);
         }
 
     module _ (ds : C → List (List (List Situation))) where
-      pub swept_fails : (before r : Relied) (i : ℕ) → ((c : C) (m : List (List Situation)) → m ∈ D i c → m ∈ ds c) → (a : Option Relied) → AnsweredIs C work known (D i) r a → a ≡ None
-          → AnsweredIs C work known ds before None
-      swept_fails before r i to a h e = demands_fail (D i) ds to r before a h e
+      pub swept_fails : (before r : Relied) (i : ℕ) → ((c : C) (m : List (List Situation)) → m ∈ D i c → m ∈ ds c) → (a : Result Relied Relied) (x : Relied) → AnsweredIs C work known (D i) r a → a ≡ Err x
+          → Swept before r i → AnsweredIs C work known ds before (Err x)
+      unfolding relied_in
+      swept_fails before r i to a x h e s =
+          let d = demands_fail (D i) ds to r a x h e in
+          record { is = d.is; numbers = d.numbers; more = within_then s.more d.more; relies = d.relies }
 
       pub swept_all : (before r : Relied) (i : ℕ) → ((c : C) (m : List (List Situation)) → m ∈ ds c → (k : ℕ) × (k < i) × (m ∈ D k c)) → Swept before r i
-          → AnsweredIs C work known ds before (Some r)
-      unfolding ReliesOn
+          → AnsweredIs C work known ds before (Ok r)
+      unfolding relied_in ReliesOn
       swept_all before r i from s = record {
         is = λ c. sym (each-answered (left_of work (known c)) (ds c) (λ m j.
             let (k, b, x) = from c m j in
             member-answered (left_of work (known c)) (D k c) (s.every_answer k b c) m x));
-        numbers = λ t q. same_some Numbers r t q s.numbers;
-        more = λ t q. same_some (Within before) r t q s.more;
-        relies = λ t q. same_some (λ t. Few t → (c : C) (m : List (List Situation)) → m ∈ ds c → SomeAnswer (NumberIn (Has t) (known c)) m) r t q
+        numbers = s.numbers;
+        more = s.more;
+        relies = λ t q. same_ok (λ t. Few t → (c : C) (m : List (List Situation)) → m ∈ ds c → SomeAnswer (NumberIn (Has t) (known c)) m) r t q
             (λ f c m j. let (k, b, x) = from c m j in s.relies k b f c m x);
       }

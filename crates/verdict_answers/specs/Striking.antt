@@ -1,6 +1,6 @@
 -- Strike-out in the work area (document 01, "The field and the verdict", and request 2026-02): which situations are left, and what the code promises
 -- of them, in each manner of judging.
-use Rattle.std.specs.Prelude.{Bool, true, false, cond, ◌&&◌, ◌||◌, List, [], ◌∷◌, map, ◌≡◌, ℕ, zero, suc, ◌+◌, ◌-◌, ◌*◌, ◌<◌, ◌≤◌, eqb, ltb, length, get_or, set, take, Option, Some, None, is_some}
+use Rattle.std.specs.Prelude.{Bool, true, false, cond, ◌&&◌, ◌||◌, List, [], ◌∷◌, map, ◌≡◌, ℕ, zero, suc, ◌+◌, ◌-◌, ◌*◌, ◌<◌, ◌≤◌, eqb, ltb, length, get_or, set, take, Option, Some, None, Result, Ok, Err, is_ok}
 use Rattle.calculus.specs.Cond.{Pairs}
 use Rattle.calculus.specs.Distinction.{Irr, among}
 use Rattle.terms.specs.Answer.{result}
@@ -171,15 +171,21 @@ pub record StepAndReply (arities : List ℕ) (capacity : ℕ) (work : List ℕ) 
 abbrev pub NumberIn : (ℕ → Type 0) → List Situation → Situation → Type 0
 NumberIn H known t = (j : ℕ) × (j < length known) × H j × ((d : Situation) → get_or known j d ≡ t)
 
--- What is relied on, where the reply answers the step and every situation that it leads to is left: it has those, too.
-pub record LotLeftIs (arities : List ℕ) (capacity : ℕ) (work : List ℕ) (count : ℕ) (free apart : List ℕ) (second : Bool) (area : List ℕ) (at : ℕ) (others : List ℕ) (place from to : ℕ) (before : Relied) (r : Option Relied) : Type 0 where
+-- What is relied on, of `Ok` and of `Err`.
+unfoldable pub relied_in : Result Relied Relied → Relied
+relied_in (Ok r) = r
+relied_in (Err r) = r
+
+-- What is relied on beside what was before, in any case; it is `Ok` where the reply answers the step and every situation that it leads to is left, and
+-- then has those, too.
+pub record LotLeftIs (arities : List ℕ) (capacity : ℕ) (work : List ℕ) (count : ℕ) (free apart : List ℕ) (second : Bool) (area : List ℕ) (at : ℕ) (others : List ℕ) (place from to : ℕ) (before : Relied) (r : Result Relied Relied) : Type 0 where
   pub is : (c : StepAndReply arities capacity work count free apart second area at others place from to)
       → (let F = free_from c.side.names 0 name_count in
-      is_some r ≡ (answers name_count c.step c.reply
+      is_ok r ≡ (answers name_count c.step c.reply
       && all_found (left_of work c.side.known) (map (leading second F c.side.pairs c.step c.reply) (lot_of from to F c.step))))
-  pub numbers : (s : Relied) → r ≡ Some s → Numbers s
-  pub more : (s : Relied) → r ≡ Some s → Within before s
-  pub relies : (s : Relied) → r ≡ Some s → Few s → (c : StepAndReply arities capacity work count free apart second area at others place from to)
+  pub numbers : Numbers (relied_in r)
+  pub more : Within before (relied_in r)
+  pub relies : (s : Relied) → r ≡ Ok s → Few s → (c : StepAndReply arities capacity work count free apart second area at others place from to)
       → (let F = free_from c.side.names 0 name_count in
       (y : ℕ) → y ∈ lot_of from to F c.step → NumberIn (Has s) c.side.known (leading second F c.side.pairs c.step c.reply y))
 
@@ -191,20 +197,20 @@ SomeAnswer X m = (l : List Situation) × (l ∈ m) × ((t : Situation) → t ∈
 unfoldable pub ReliesOn : (ℕ → Type 0) → List Situation → List (List (List Situation)) → Type 0
 ReliesOn H known ms = (m : List (List Situation)) → m ∈ ms → SomeAnswer (NumberIn H known) m
 
--- What is relied on beside what was before, where those left answer each demand.
-pub record AnsweredIs (C : Type 0) (work : List ℕ) (known : C → List Situation) (demands : C → List (List (List Situation))) (before : Relied) (r : Option Relied) : Type 0 where
-  pub is : (c : C) → is_some r ≡ all_answered (left_of work (known c)) (demands c)
-  pub numbers : (s : Relied) → r ≡ Some s → Numbers s
-  pub more : (s : Relied) → r ≡ Some s → Within before s
-  pub relies : (s : Relied) → r ≡ Some s → Few s → (c : C) → ReliesOn (Has s) (known c) (demands c)
+-- What is relied on beside what was before, in any case; it is `Ok` where those left answer each demand, and then is enough for that.
+pub record AnsweredIs (C : Type 0) (work : List ℕ) (known : C → List Situation) (demands : C → List (List (List Situation))) (before : Relied) (r : Result Relied Relied) : Type 0 where
+  pub is : (c : C) → is_ok r ≡ all_answered (left_of work (known c)) (demands c)
+  pub numbers : Numbers (relied_in r)
+  pub more : Within before (relied_in r)
+  pub relies : (s : Relied) → r ≡ Ok s → Few s → (c : C) → ReliesOn (Has s) (known c) (demands c)
 
 -- the demands of a run of names, and those of one side
-abbrev pub RunAnsweredIs : ℕ → ℕ → List ℕ → ℕ → List ℕ → ℕ → List ℕ → List ℕ → Bool → List ℕ → ℕ → List ℕ → ℕ → Relied → Option Relied → Type 0
+abbrev pub RunAnsweredIs : ℕ → ℕ → List ℕ → ℕ → List ℕ → ℕ → List ℕ → List ℕ → Bool → List ℕ → ℕ → List ℕ → ℕ → Relied → Result Relied Relied → Type 0
 RunAnsweredIs from to arities capacity work count free apart second area n others m before r =
     AnsweredIs (Side (ltb from name_count) arities capacity work count free apart second area n others m) work (λ p. p.known)
     (λ p. run_demands (ltb from name_count) from to second (free_from p.names 0 name_count) p.pairs p.steps p.replies) before r
 
-abbrev pub SideAnsweredIs : Manner → List ℕ → ℕ → List ℕ → ℕ → List ℕ → List ℕ → Bool → List ℕ → ℕ → List ℕ → ℕ → Relied → Option Relied → Type 0
+abbrev pub SideAnsweredIs : Manner → List ℕ → ℕ → List ℕ → ℕ → List ℕ → List ℕ → Bool → List ℕ → ℕ → List ℕ → ℕ → Relied → Result Relied Relied → Type 0
 SideAnsweredIs manner arities capacity work count free apart second area n others m before r =
     AnsweredIs (Side (differs manner) arities capacity work count free apart second area n others m) work (λ p. p.known)
     (λ p. side_demands manner second (free_from p.names 0 name_count) p.pairs p.steps p.replies) before r
@@ -264,10 +270,10 @@ Relies manner question capacity work count i H =
     (f : FieldIn manner question capacity work count) (d : Situation) (ms : List (List Situation)) → LeadsTo f i d ms
     → ReliesOn H f.known (demands_at manner f.read (get_or f.known i d) ms)
 
-pub record ExaminedIs (manner : Manner) (question : List ℕ) (capacity : ℕ) (work : List ℕ) (count i : ℕ) (r : Option Relied) : Type 0 where
-  pub is : AllAnsweredIs manner question capacity work count i (is_some r)
-  pub numbers : (s : Relied) → r ≡ Some s → Numbers s
-  pub relies : (s : Relied) → r ≡ Some s → Few s → Relies manner question capacity work count i (Has s)
+pub record ExaminedIs (manner : Manner) (question : List ℕ) (capacity : ℕ) (work : List ℕ) (count i : ℕ) (r : Result Relied Relied) : Type 0 where
+  pub is : AllAnsweredIs manner question capacity work count i (is_ok r)
+  pub numbers : Numbers (relied_in r)
+  pub relies : (s : Relied) → r ≡ Ok s → Few s → Relies manner question capacity work count i (Has s)
 
 -- What is noted is enough for each situation to rely on.
 unfoldable pub AllNoted : Manner → List ℕ → ℕ → List ℕ → ℕ → Type 0

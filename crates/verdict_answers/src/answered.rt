@@ -99,7 +99,7 @@ fn is_asked(
 }
 
 // What is relied on, where the reply answers the step and leads to a situation that is left for every name of the run that counts: those situations
-// beside what was relied on before.
+// beside what was relied on before; else `Err` with what was relied on before.
 fn lot_left(
     arities: &[u8],
     work: &[u8],
@@ -109,14 +109,14 @@ fn lot_left(
     others: &[u8],
     pair: StepReply,
     before: Relied,
-) -> Option<Relied>
+) -> Result<Relied, Relied>
     requires { Slots work.now pair.run.side.search × (pair.at + step_bytes ≤ length area.now) × (pair.place + step_bytes ≤ length others.now) × OfNames pair.run × Numbers before }
     ensures { LotLeftIs arities.now pair.run.side.search.capacity work.now pair.run.side.search.count free.now apart pair.run.side.second area.now pair.at others.now pair.place pair.run.from pair.run.to before result }
 {
     let at = pair.at;
     let place = pair.place;
     if !answers(area, at, others, place) {
-        return None;
+        return Err(before);
     }
     let run = pair.run;
     let from = run.from;
@@ -138,14 +138,16 @@ fn lot_left(
             name,
         };
         let key = successor(arities, free, &apart, area, others, answer);
-        let slot = find_left(work, capacity, count, &key)?;
+        let Some(slot) = find_left(work, capacity, count, &key) else {
+            return Err(before);
+        };
         relied = relied_with(relied, slot);
     }
-    Some(relied)
+    Ok(relied)
 }
 
 // What is relied on beside what was before, where each step of one side that is asked for the run of names has an answer that leads to situations that
-// are left.
+// are left; else `Err` with what was relied on when a step had none.
 fn run_answered(
     arities: &[u8],
     work: &[u8],
@@ -155,7 +157,7 @@ fn run_answered(
     others: &[u8],
     run: SideRun,
     before: Relied,
-) -> Option<Relied>
+) -> Result<Relied, Relied>
     requires { SideIn work.now area.now others.now run.side × OfNames run × Numbers before }
     ensures { RunAnsweredIs run.from run.to arities.now run.side.search.capacity work.now run.side.search.count free.now apart run.side.second area.now run.side.steps others.now run.side.replies before result }
 {
@@ -174,17 +176,18 @@ fn run_answered(
             let place = STEP_BYTES * j;
             let pair = StepReply { run, at, place };
             let lot = lot_left(arities, work, free, apart, area, others, pair, relied);
-            if let Some(more) = lot {
+            if let Ok(more) = lot {
                 relied = more;
                 continue 'steps;
             }
         }
-        return None;
+        return Err(relied);
     }
-    Some(relied)
+    Ok(relied)
 }
 
-// What is relied on, where those left answer each demand of one side early: each name has answers of its own.
+// What is relied on beside what was before, where those left answer each demand of one side early, each name by answers of its own; else `Err` with what
+// was relied on when a demand was not answered.
 fn side_early(
     arities: &[u8],
     work: &[u8],
@@ -194,7 +197,7 @@ fn side_early(
     others: &[u8],
     side: SideLists,
     before: Relied,
-) -> Option<Relied>
+) -> Result<Relied, Relied>
     requires { SideIn work.now area.now others.now side × Numbers before }
     ensures { SideAnsweredIs (manner_of Early) arities.now side.search.capacity work.now side.search.count free.now apart side.second area.now side.steps others.now side.replies before result }
 {
@@ -208,10 +211,11 @@ fn side_early(
         };
         relied = run_answered(arities, work, free, apart, area, others, run, relied)?;
     }
-    Some(relied)
+    Ok(relied)
 }
 
-// What is relied on, where those left answer each demand of one side: openly a run that is behind the names, late one of all names, for which one answer must do.
+// What is relied on beside what was before, where those left answer each demand of one side: openly a run that is behind the names, late one of all names,
+// for which one answer must do; else `Err` with what was relied on when a demand was not answered.
 pub fn side_answered(
     arities: &[u8],
     work: &[u8],
@@ -221,7 +225,7 @@ pub fn side_answered(
     others: &[u8],
     side: SideLists,
     before: Relied,
-) -> Option<Relied>
+) -> Result<Relied, Relied>
     requires { SideIn work.now area.now others.now side × Numbers before }
     ensures { SideAnsweredIs (manner_of side.search.manner) arities.now side.search.capacity work.now side.search.count free.now apart side.second area.now side.steps others.now side.replies before result }
 {

@@ -19,12 +19,13 @@ use Rattle.field_pairs.specs.Slot.{slot_bytes, struck_at, key_bytes, head_byte, 
 use Rattle.field_slots.proofs.ChainLaws.{key_flag, keeps_key, chained_kept}
 use Rattle.field_slots.proofs.NotedLaws.{note_flag}
 use Rattle.field_exploration.proofs.Below.{situation-kept}
-use Rattle.verdict_notes.specs.Notes.{NotedIn, Has, NoteIs, ClearsNotes, ReliesOnLeftIs, SoleStruckIs}
+use Rattle.verdict_notes.specs.Notes.{NotedIn, Has, Numbers, NoteIs, ClearsNotes, ReliesOnLeftIs, SoleStruckIs}
 use Rattle.verdict_answers.specs.Striking.{living, left_of, Standing, SomeAnswer, ReliesOn, demands_at, FieldIn, Searching, SurvivesIs, Relies, ExaminedIs, AllNoted, AllSole, NotesHold}
-use Rattle.std.specs.Prelude.{Option, Some}
+use Rattle.std.specs.Prelude.{Result, Ok}
 use Rattle.verdict_notes.specs.declared.relied.Relied.{Relied}
 use Rattle.verdict_answers.proofs.LeftLaws.{left-found}
 use Rattle.verdict_answers.proofs.Marks.{marks-kept}
+use Rattle.verdict_answers.proofs.Sweeping.{in_ok}
 use Rattle.verdict_answers.proofs.DemandedMoves.{move_demanded}
 use Rattle.verdict_answers.proofs.Demands.{all-answer, one_fails}
 use Rattle.verdict.specs.Verdict.{Manner, all_answered}
@@ -104,7 +105,7 @@ module _ (manner : Manner) (question : List ℕ) (capacity count : ℕ) where
   notes_struck true v i n = noted_struck v i n
   notes_struck false v i n = sole_struck v i n
 
-  pub noted_one : (v u : List ℕ) (i : ℕ) (r : Option Relied) (s : Relied) → ExaminedIs manner question capacity v count i r → r ≡ Some s → NoteIs v i s u
+  pub noted_one : (v u : List ℕ) (i : ℕ) (r : Result Relied Relied) (s : Relied) → ExaminedIs manner question capacity v count i r → r ≡ Ok s → NoteIs v i s u
       → AllNoted manner question capacity v count → AllNoted manner question capacity u count
   unfolding AllNoted Has NotedIn
   noted_one v u i r s x e note n j h = go (ℕ_discrete j i)
@@ -113,7 +114,7 @@ module _ (manner : Manner) (question : List ℕ) (capacity count : ℕ) where
       same = spare_same v u note.spare
 
       has : (k : ℕ) → Has s k → NotedIn u i k
-      has k (l, g, f) = let m = x.numbers s e in (l, omega (arith, m.used), note.here l (omega (arith, m.used)) ∙ f)
+      has k (l, g, f) = let m : Numbers s = in_ok Numbers e x.numbers in (l, omega (arith, m.used), note.here l (omega (arith, m.used)) ∙ f)
 
       own : 0 < note_at u i 0 → Relies manner question capacity u count i (NotedIn u i)
       own g = relies_kept i (Has s) (NotedIn u i) same has (x.relies s e (omega (arith, note.here 0 (omega arith))))

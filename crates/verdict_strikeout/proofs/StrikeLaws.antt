@@ -5,7 +5,7 @@ use mathlib.Core.Logic.{◌⊎◌, inl, inr}
 use mathlib.Core.Path.{◌≡◌, refl, sym, ap, ◌∙◌, subst}
 use native.Mathlib.Decide.{ℕ_discrete, dec_lt}
 use native.Mathlib.Omega.{arith}
-use Rattle.std.specs.Prelude.{Option, Some, None, is_some}
+use Rattle.std.specs.Prelude.{Option, Some, None, Result, Ok, Err, is_ok}
 use Prim.Native.Nat.{ℕ, ◌+◌, ◌-◌, ◌*◌, ◌/◌, ◌<◌, ◌≤◌}
 use lib.ListN.{length, get_or, set, drop, replicate, length-set, length-map, length-replicate, get_or-replicate, get_or-map}
 use lib.Seq.{drop-set-lt, get_or-set_other, ext_get_or}
@@ -213,23 +213,23 @@ module _ (manner : Manner) (question : List ℕ) (capacity count : ℕ) where
         noted = n;
       }
 
-      pub survivor_noted : (r : Option Relied) (noted : Relied) (v : List ℕ) → i < count → ExaminedIs manner question capacity work count i r → r ≡ Some noted
+      pub survivor_noted : (r : Result Relied Relied) (noted : Relied) (v : List ℕ) → i < count → ExaminedIs manner question capacity work count i r → r ≡ Ok noted
           → NoteIs work i noted v
           → StrikesOne examine manner question capacity work count i false v
       unfolding NotesHold
       survivor_noted r noted v h s e t = record {
         struck = λ q. true_not_false q refl;
-        kept = λ q. (spare_more work v h t.spare, λ x z. subst (SurvivesIs manner question capacity work count i) (ap is_some e) (answered_survives manner question capacity work count i (is_some r) s.is));
+        kept = λ q. (spare_more work v h t.spare, λ x z. subst (SurvivesIs manner question capacity work count i) (ap is_ok e) (answered_survives manner question capacity work count i (is_ok r) s.is));
         noted = subst (λ b. NotesHold b manner question capacity v count) (sym on) (noted_one manner question capacity count work v i r noted s e t relied);
       }
         where
           spare_more : (work v : List ℕ) → i < count → SpareOnly (i + 1) work v → SpareOnly count work v
           spare_more work v h c = record { len = c.len; slots = c.slots; rest = λ k g. c.rest k (omega arith) }
 
-    pub one_strikes : (r : Option Relied) → get_or work (struck_at i) 0 ≡ 0 → ExaminedIs manner question capacity work count i r → r ≡ None
+    pub one_strikes : (r : Result Relied Relied) (failing : Relied) → get_or work (struck_at i) 0 ≡ 0 → ExaminedIs manner question capacity work count i r → r ≡ Err failing
         → StrikesOne examine manner question capacity work count i true (set work (struck_at i) 1)
-    one_strikes r z s e = record {
-      struck = λ q. (z, subst (SurvivesIs manner question capacity work count i) (ap is_some e) (answered_survives manner question capacity work count i (is_some r) s.is), refl);
+    one_strikes r failing z s e = record {
+      struck = λ q. (z, subst (SurvivesIs manner question capacity work count i) (ap is_ok e) (answered_survives manner question capacity work count i (is_ok r) s.is), refl);
       kept = λ q. true_not_false refl q;
       noted = notes_struck manner question capacity count examine work i n;
     }

@@ -92,7 +92,7 @@ fn strike_one(
     let answered = survives(
         question, bodies, work, tallies, rows, firsts, seconds, candidate,
     );
-    if let Some(relied) = answered {
+    if let Ok(relied) = answered {
         note(work, i, relied);
         return false;
     }

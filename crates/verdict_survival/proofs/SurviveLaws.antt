@@ -4,8 +4,8 @@ use mathlib.Core.List.{List, ◌++◌, map, map-append}
 use mathlib.Core.Logic.{⊎_elim}
 use mathlib.Core.Path.{◌≡◌, sym, ap, ap₂, ◌∙◌, subst}
 use native.Mathlib.Omega.{arith}
-use Rattle.std.specs.Prelude.{Option, Some, None, is_some}
-use Rattle.verdict_answers.proofs.Sweeping.{none_not_some}
+use Rattle.std.specs.Prelude.{Some, None, Result, Ok, Err, is_ok}
+use Rattle.verdict_answers.proofs.Sweeping.{in_ok, in_err, err_not_ok}
 use Prim.Native.Nat.{ℕ, ◌*◌, ◌<◌}
 use lib.ListN.{get_or}
 use Rattle.calculus.specs.Free.{fn}
@@ -25,8 +25,8 @@ use Rattle.field_taking_up.specs.Below.{ListAt}
 use Rattle.field_taking_up.specs.TakingUp.{SidesListed, ListsAre, TakenAs, TakesUp}
 use Rattle.field_taking_up.specs.declared.taking.TakenUp.{TakenUp}
 use Rattle.field.proofs.Members.{get_d_∈}
-use Rattle.verdict_notes.specs.Notes.{Has, Few}
-use Rattle.verdict_answers.specs.Striking.{left_of, side_demands, Side, ReliesOn, SideAnsweredIs, demands_at, FieldIn, LeadsTo, AllAnsweredIs, Relies, ExaminedIs}
+use Rattle.verdict_notes.specs.Notes.{Has, Few, Numbers, Within}
+use Rattle.verdict_answers.specs.Striking.{left_of, relied_in, side_demands, Side, ReliesOn, SideAnsweredIs, demands_at, FieldIn, LeadsTo, AllAnsweredIs, Relies, ExaminedIs}
 use Rattle.verdict_notes.specs.declared.relied.Relied.{Relied}
 use Rattle.verdict.specs.Received.{named_demands, sides_demand}
 use Rattle.verdict.specs.Verdict.{Manner, openly, named, differs, demands_of, all_answered}
@@ -131,9 +131,9 @@ module _ (manner : Manner) (question : List ℕ) (capacity : ℕ) (work : List �
           → all_answered left (demands_at manner f.read here ms) ≡ (all_answered left (demands_of_side false l.ps l.qs) && all_answered left (demands_of_side true l.qs l.ps))
       both_sides left = ap (all_answered left) both_demand ∙ all_both left (demands_of_side false l.ps l.qs) (demands_of_side true l.qs l.ps)
 
-  pub past_limit_lem : r.lists ≡ None → ExaminedIs manner question capacity work count i None
-  unfolding AllAnsweredIs ListsAre differs
-  past_limit_lem e = record { is = survives; numbers = λ s q. none_not_some s q; relies = λ s q. none_not_some s q }
+  pub past_limit_lem : r.lists ≡ None → (relied : Relied) → Numbers relied → ExaminedIs manner question capacity work count i (Err relied)
+  unfolding AllAnsweredIs ListsAre differs relied_in
+  past_limit_lem e relied n = record { is = survives; numbers = n; relies = λ s q. err_not_ok relied s q }
     where
       survives : (f : FieldIn manner question capacity work count) (d : Situation) (ms : List (List Situation)) → LeadsTo f i d ms
           → false ≡ all_answered (left_of work f.known) (demands_at manner f.read (get_or f.known i d) ms)
@@ -141,15 +141,15 @@ module _ (manner : Manner) (question : List ℕ) (capacity : ℕ) (work : List �
           let p = subst (λ k. ListsAre f.read (get_or f.known i d) k firsts seconds) e (taken f d).lists (differs manner) in
           let z : ◌≡◌ {A = ℕ} 0 1 = cc in absurd (omega arith)
 
-  module _ (n m : ℕ) (e : r.lists ≡ Some (n, m)) (arities : List ℕ) (a : AritiesIs question arities) (before : Relied) (first : Option Relied)
+  module _ (n m : ℕ) (e : r.lists ≡ Some (n, m)) (arities : List ℕ) (a : AritiesIs question arities) (before : Relied) (first : Result Relied Relied)
       (h : SideAnsweredIs manner arities capacity work count r.free r.apart false firsts n seconds m before first) where
     sides : (f : FieldIn manner question capacity work count) (d : Situation) → SidesListed f.read (get_or f.known i d) n m firsts seconds
     unfolding ListsAre
     sides f d = subst (λ k. ListsAre f.read (get_or f.known i d) k firsts seconds) e (taken f d).lists
 
-    pub first-fails : first ≡ None → ExaminedIs manner question capacity work count i None
+    pub first-fails : (relied : Relied) → first ≡ Err relied → ExaminedIs manner question capacity work count i (Err relied)
     unfolding AllAnsweredIs first_side sides moves differs
-    first-fails q = record { is = survives; numbers = λ s q. none_not_some s q; relies = λ s q. none_not_some s q }
+    first-fails relied q = record { is = survives; numbers = in_err Numbers q h.numbers; relies = λ s q. err_not_ok relied s q }
       where
         survives : (f : FieldIn manner question capacity work count) (d : Situation) (ms : List (List Situation)) → LeadsTo f i d ms
             → false ≡ all_answered (left_of work f.known) (demands_at manner f.read (get_or f.known i d) ms)
@@ -157,26 +157,26 @@ module _ (manner : Manner) (question : List ℕ) (capacity : ℕ) (work : List �
             let l = sides f d in
             let x = h.is (first_side f d arities a n m l ms g) in
             sym (both_sides f d arities a n m l ms g (left_of work f.known)
-            ∙ ap (λ b. b && all_answered (left_of work f.known) (demands_of_side f d arities a n m l ms g true l.qs l.ps)) (sym x ∙ ap is_some q))
+            ∙ ap (λ b. b && all_answered (left_of work f.known) (demands_of_side f d arities a n m l ms g true l.qs l.ps)) (sym x ∙ ap is_ok q))
 
-    pub second_decides : (second : Option Relied) (relied : Relied) → first ≡ Some relied
+    pub second_decides : (second : Result Relied Relied) (relied : Relied) → first ≡ Ok relied
         → SideAnsweredIs manner arities capacity work count r.free r.apart true seconds m firsts n relied second
         → ExaminedIs manner question capacity work count i second
     unfolding AllAnsweredIs Relies ReliesOn first_side sides second_side differs
     second_decides second relied q k = record { is = survives; numbers = k.numbers; relies = relies }
       where
         survives : (f : FieldIn manner question capacity work count) (d : Situation) (ms : List (List Situation)) → LeadsTo f i d ms
-            → is_some second ≡ all_answered (left_of work f.known) (demands_at manner f.read (get_or f.known i d) ms)
+            → is_ok second ≡ all_answered (left_of work f.known) (demands_at manner f.read (get_or f.known i d) ms)
         survives f d ms g =
             let l = sides f d in
             let x = h.is (first_side f d arities a n m l ms g) in
             let y = k.is (second_side f d arities a n m l ms g) in
-            sym (both_sides f d arities a n m l ms g (left_of work f.known) ∙ ap₂ ◌&&◌ (sym x ∙ ap is_some q) (sym y))
+            sym (both_sides f d arities a n m l ms g (left_of work f.known) ∙ ap₂ ◌&&◌ (sym x ∙ ap is_ok q) (sym y))
 
-        relies : (s : Relied) → second ≡ Some s → Few s → Relies manner question capacity work count i (Has s)
+        relies : (s : Relied) → second ≡ Ok s → Few s → Relies manner question capacity work count i (Has s)
         relies s t few f d ms g w o =
             let l = sides f d in
-            let more = k.more s t in
+            let more : Within relied s = in_ok (Within relied) t k.more in
             ⊎_elim
             (λ o.
             let (v, b, x) = h.relies relied q (more.few few) (first_side f d arities a n m l ms g) w o in

@@ -17,7 +17,8 @@ pub struct Candidate {
     pub i: usize,
 }
 
-// What a situation relies on, if those left answer each demand on it; the two areas have the lists of the one before, `tallies` and `rows` are for the lister.
+// What a situation relies on, if those left answer each demand on it, else `Err` with what was relied on when one was not answered. The two areas have the
+// lists of the situation before, `tallies` and `rows` are for the lister.
 pub fn survives(
     question: &[u8],
     bodies: &[u32],
@@ -27,7 +28,7 @@ pub fn survives(
     firsts: &mut [u8],
     seconds: &mut [u8],
     candidate: Candidate,
-) -> Option<Relied>
+) -> Result<Relied, Relied>
     requires { (candidate.i < candidate.search.count) × Slots work.now candidate.search × Listing question.now bodies.now tallies.old rows.old firsts.old seconds.old }
     ensures { ExaminedIs (manner_of candidate.search.manner) question.now candidate.search.capacity work.now candidate.search.count candidate.i result × Labelled question.now firsts.new × Labelled question.now seconds.new }
 {
@@ -48,7 +49,9 @@ pub fn survives(
     let lists = taken.lists;
     let none = relied_none(i);
     // no situation of an explored field is past a limit
-    let (n, m) = lists?;
+    let Some((n, m)) = lists else {
+        return Err(none);
+    };
     let arities = arities_of(question);
     let first_side = SideLists {
         search,

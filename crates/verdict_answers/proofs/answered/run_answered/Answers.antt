@@ -32,19 +32,19 @@ lot_left-lot-requires c = (
 pub steps-preserved : goal.steps-preserved
 steps-preserved c =
     reply-answers _ _ _ _ _ _ _ _ _ _ _ _ _ _ _ (omega arith) c.is_asked.ensures (c.if-not-is_asked.false) c.requires.1.2 _
-    (omega arith) _ _ c.lot_left-lot.ensures _ _ _ c.loop-j.invariant.0 c.in-Some.is c.steps.invariant
+    (omega arith) _ _ c.lot_left-lot.ensures _ _ _ c.loop-j.invariant.0 c.in-Ok.is c.steps.invariant
 
 pub loop-j-preserved : goal.loop-j-preserved
 loop-j-preserved c = (
   c.loop-j.invariant.0,
   below_more _ _ c.loop-j.invariant.1 (reply-fails _ _ _ _ _ _ _ _ _ _ _ _ _ c.steps.i _ (omega arith)
-      c.is_asked.ensures (c.if-not-is_asked.false) c.requires.1.2 c.loop-j.j (omega arith) _ _ c.lot_left-lot.ensures c.in_default.is),
+      c.is_asked.ensures (c.if-not-is_asked.false) c.requires.1.2 c.loop-j.j (omega arith) _ _ c.lot_left-lot.ensures _ c.in_default.is),
 )
 
 pub returns-in-steps : goal.returns-in-steps
 returns-in-steps c =
-    step-fails _ _ _ _ _ _ _ _ _ _ _ _ _ c.steps.i _ (omega arith) c.is_asked.ensures (c.if-not-is_asked.false) _ _
-    (omega arith) c.loop-j.invariant.1
+    step-fails _ _ _ _ _ _ _ _ _ _ _ _ _ c.steps.i _ (omega arith) c.is_asked.ensures (c.if-not-is_asked.false) _ _ _ _
+    c.loop-j.invariant.0 (omega arith) c.loop-j.invariant.1 c.steps.invariant
 
 pub returns : goal.returns
 returns c =

@@ -1,5 +1,6 @@
 use Rattle.verdict_answers.proofs.RunLaws.{early_run, early_none, early_more, early_fails, early_all}
 use native.Mathlib.Omega.{arith}
+use Rattle.std.proofs.lemmas.Result.{err_from_is_err_and}
 use Rattle.verdict_answers.proofs.answered.side_early.Goals as goal
 
 pub loop-name-init : goal.loop-name-init
@@ -11,7 +12,8 @@ run_answered-requires c =
 
 pub returns-in_err-relied : goal.returns-in_err-relied
 returns-in_err-relied c =
-    rw c.from_residual.ensures (early_fails _ _ _ _ _ _ _ _ _ _ _ _ _ _ (omega arith) _ c.run_answered.ensures c.in_err-relied.was)
+    let e = err_from_is_err_and c.from_residual.result c.from_residual.ensures.1 in
+    rw (e.1, e.2) (early_fails _ _ _ _ _ _ _ _ _ _ _ _ _ _ (omega arith) _ c.run_answered.ensures _ c.in_err-relied.was c.loop-name.invariant)
 
 pub loop-name-preserved : goal.loop-name-preserved
 loop-name-preserved c =

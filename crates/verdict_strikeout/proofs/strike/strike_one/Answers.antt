@@ -1,5 +1,7 @@
 use native.Mathlib.Omega.{arith}
+use Rattle.verdict_notes.specs.Notes.{Numbers}
 use Rattle.verdict_notes.proofs.NoteLaws.{left_zero}
+use Rattle.verdict_answers.proofs.Sweeping.{in_ok}
 use Rattle.verdict_strikeout.proofs.StrikeLaws.{gone_kept, sole_strikes, relying_kept, equal_stays, survivor_noted, one_strikes}
 use Rattle.verdict_strikeout.proofs.strike.strike_one.Goals as goal
 
@@ -42,11 +44,11 @@ survives-answered-requires c =
 
 pub note-requires : goal.note-requires
 note-requires c =
-    (omega (arith, c.requires.0, c.requires.1.1, c.requires.1.3), c.survives-answered.ensures.0.numbers _ c.in-Some.is)
+    (omega (arith, c.requires.0, c.requires.1.1, c.requires.1.3), in_ok Numbers c.in-Ok.is c.survives-answered.ensures.0.numbers)
 
-pub returns-in-Some : goal.returns-in-Some
-returns-in-Some c = (
-  survivor_noted _ _ _ _ _ _ c.requires.3 (c.if-not-examine.false) _ _ _ c.requires.0 c.survives-answered.ensures.0 c.in-Some.is
+pub returns-in-Ok : goal.returns-in-Ok
+returns-in-Ok c = (
+  survivor_noted _ _ _ _ _ _ c.requires.3 (c.if-not-examine.false) _ _ _ c.requires.0 c.survives-answered.ensures.0 c.in-Ok.is
       c.note.ensures,
   c.survives-answered.ensures.1,
   c.survives-answered.ensures.2,
@@ -58,7 +60,7 @@ strike-requires c =
 
 pub returns : goal.returns
 returns c = (
-  rw c.strike.ensures (one_strikes _ _ _ _ _ _ c.requires.3 _ (left_zero _ _ _ c.left_at.ensures (c.if-not-left_at.false)) c.survives-answered.ensures.0 c.in_default.is),
+  rw c.strike.ensures (one_strikes _ _ _ _ _ _ c.requires.3 _ _ (left_zero _ _ _ c.left_at.ensures (c.if-not-left_at.false)) c.survives-answered.ensures.0 c.in_default.is),
   c.survives-answered.ensures.1,
   c.survives-answered.ensures.2,
 )

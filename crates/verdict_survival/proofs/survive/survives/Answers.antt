@@ -1,4 +1,7 @@
 use native.Mathlib.Omega.{arith}
+use Rattle.std.proofs.lemmas.Result.{err_from_is_err_and}
+use Rattle.verdict_notes.specs.Notes.{Numbers}
+use Rattle.verdict_answers.proofs.Sweeping.{in_ok}
 use Rattle.verdict_survival.proofs.SurviveLaws.{past_limit_lem, first-fails, second_decides}
 use borrow.Author.Rules.{rules}
 use Rattle.verdict_survival.proofs.survive.survives.Goals as goal
@@ -13,18 +16,19 @@ relied_none-none-requires c =
 
 pub side_answered-requires : goal.side_answered-requires
 side_answered-requires c =
-    let few = c.take_up-taken.ensures.0.few _ _ c.in_ok-n.was in (
+    let few = c.take_up-taken.ensures.0.few _ _ c.in-Some.is in (
       (c.requires.1, omega (arith, few.0, c.take_up-taken.ensures.1.room), omega (arith, few.1, c.take_up-taken.ensures.2.room)),
       c.relied_none-none.ensures,
     )
 
 pub returns-in_err-relied : goal.returns-in_err-relied
-returns-in_err-relied c = (
-  rw c.from_residual-in_err-relied.ensures (first-fails _ _ _ _ _ _ c.requires.0 _ _ _ c.take_up-taken.ensures.0 _ _ c.in_ok-n.was _ c.arities_of-arities.ensures _ _
-      c.side_answered.ensures c.in_err-relied.was),
-  c.take_up-taken.ensures.1,
-  c.take_up-taken.ensures.2,
-)
+returns-in_err-relied c =
+    let e = err_from_is_err_and c.from_residual.result c.from_residual.ensures.1 in (
+      rw (e.1, e.2) (first-fails _ _ _ _ _ _ c.requires.0 _ _ _ c.take_up-taken.ensures.0 _ _ c.in-Some.is _ c.arities_of-arities.ensures _ _
+          c.side_answered.ensures _ c.in_err-relied.was),
+      c.take_up-taken.ensures.1,
+      c.take_up-taken.ensures.2,
+    )
 
 pub slice_bounds-side_answered-end : goal.slice_bounds-side_answered-end
 slice_bounds-side_answered-end c =
@@ -33,21 +37,21 @@ slice_bounds-side_answered-end c =
 
 pub side_answered-requires-2 : goal.side_answered-requires-2
 side_answered-requires-2 c =
-    let few = c.take_up-taken.ensures.0.few _ _ c.in_ok-n.was in (
+    let few = c.take_up-taken.ensures.0.few _ _ c.in-Some.is in (
       (c.requires.1, omega (arith, few.1, c.take_up-taken.ensures.2.room), omega (arith, few.0, c.take_up-taken.ensures.1.room)),
-      c.side_answered.ensures.numbers _ c.in_ok-relied.was,
+      in_ok Numbers c.in_ok-relied.was c.side_answered.ensures.numbers,
     )
 
-pub returns-in_err-n : goal.returns-in_err-n
-returns-in_err-n c = (
-  rw c.from_residual.ensures (past_limit_lem _ _ _ _ _ _ c.requires.0 _ _ _ c.take_up-taken.ensures.0 c.in_err-n.was),
+pub returns-in_default : goal.returns-in_default
+returns-in_default c = (
+  past_limit_lem _ _ _ _ _ _ c.requires.0 _ _ _ c.take_up-taken.ensures.0 c.in_default.is _ c.relied_none-none.ensures,
   c.take_up-taken.ensures.1,
   c.take_up-taken.ensures.2,
 )
 
 pub returns : goal.returns
 returns c = (
-  second_decides _ _ _ _ _ _ c.requires.0 _ _ _ c.take_up-taken.ensures.0 _ _ c.in_ok-n.was _ c.arities_of-arities.ensures _ _
+  second_decides _ _ _ _ _ _ c.requires.0 _ _ _ c.take_up-taken.ensures.0 _ _ c.in-Some.is _ c.arities_of-arities.ensures _ _
       c.side_answered.ensures _ _ c.in_ok-relied.was c.side_answered-2.ensures,
   c.take_up-taken.ensures.1,
   c.take_up-taken.ensures.2,
